@@ -1,5 +1,5 @@
 -- What contracts see of the ids: their fields, their order and their text.
-use Rattle.std.specs.Prelude.{ℕ, Bool, List, [], ◌∷◌, ◌++◌, nat_eq, ◌&&◌}
+use Rattle.std.specs.Prelude.{ℕ, ◌<◌, ◌≤◌, ◌^◌, Bool, List, [], ◌∷◌, ◌++◌, nat_eq, ◌&&◌}
 use Rattle.std.specs.Fmt.{decimal}
 use Rattle.std.specs.declared.cmp.Ordering.{Ordering}
 use Rattle.std.specs.Ordering.{nat_cmp, ordering_then}
@@ -35,3 +35,10 @@ text_of_address a = decimal a.node ++ 46 ∷ [] ++ decimal a.incarnation
 -- `7@3.1`
 abbrev pub text_of_view_id : ViewId → List ℕ
 text_of_view_id v = decimal v.counter ++ 64 ∷ [] ++ text_of_address v.creator
+
+-- the addresses that a program can hold: a node from 1 to 65535 and an incarnation from 1 to 4294967295
+pub record IsAddress (a : Address) : Type 0 where
+  pub node : 1 ≤ a.node
+  pub node_fits : a.node < 2 ^ 16
+  pub incarnation : 1 ≤ a.incarnation
+  pub incarnation_fits : a.incarnation < 2 ^ 32

@@ -1,0 +1,123 @@
+ghost use Rattle.std.specs.Prelude.{◌≡◌, ◌==◌, [], length};
+
+use crate::Bytes;
+use address::{Address, ViewId};
+use std::alloc::Global;
+use std::marker::Model;
+use view::{Addresses, View};
+
+/// A message as its sender knows it: its number among those it sent in the view, from 1, and its payload.
+#[derive(Debug, Drop)]
+pub struct Numbered {
+    pub number: u64,
+    pub payload: Bytes,
+}
+
+/// A message as all know it: who sent it, its number among those sent by that member in the view, its payload.
+#[derive(Debug, Drop)]
+pub struct Message {
+    pub sender: Address,
+    pub number: u64,
+    pub payload: Bytes,
+}
+
+/// A member sends a message in its view.
+#[derive(Debug, Drop)]
+pub struct Sending {
+    pub member: Address,
+    pub view: ViewId,
+    pub message: Numbered,
+}
+
+/// A member is told a message that was sent in its view.
+#[derive(Debug, Drop)]
+pub struct Delivery {
+    pub member: Address,
+    pub view: ViewId,
+    pub message: Message,
+}
+
+/// A member is told a view: from which it comes, who comes from there with it (itself among them), its own messages of the
+/// old view that were not delivered to it, and the coordinator's state where it comes from elsewhere than the coordinator.
+#[derive(Debug, Drop)]
+pub struct Install {
+    pub member: Address,
+    pub previous: Option<ViewId>,
+    pub view: View,
+    pub together: Addresses,
+    pub handed_back: HandedBack,
+    pub given: Option<Bytes>,
+}
+
+/// What happens to a member of a group (docs/GUARANTEES.md, "Traces").
+#[derive(Debug, Drop)]
+pub enum Happening {
+    /// It begins to run.
+    Started(Address),
+    /// It sends a message.
+    Sent(Sending),
+    /// It is told a message.
+    Delivered(Delivery),
+    /// It may send nothing until its next view.
+    Blocked(Address),
+    /// It is told a view.
+    Installed(Install),
+    /// It has left.
+    Left(Address),
+    /// It has crashed.
+    Crashed(Address),
+}
+
+/// The messages that are handed back to their sender, which contracts see as their list.
+#[derive(Debug, Drop)]
+pub struct HandedBack {
+    items: Vec<Numbered>,
+}
+
+impl Model for HandedBack {
+    ghost use Rattle.std.specs.Prelude.{List};
+    ghost use Rattle.trace_props.specs.declared.happening.Numbered.{Numbered};
+
+    ghost Value = { List Numbered };
+
+    ghost view = { λ h. h.items.items };
+}
+
+impl HandedBack {
+    /// Nothing handed back. Takes no memory.
+    pub fn nothing(alloc: Global) -> HandedBack
+        ensures { result ≡ [] }
+    {
+        HandedBack {
+            items: Vec::new(alloc),
+        }
+    }
+
+    /// The messages of a vector. Takes no memory.
+    pub fn from_vec(items: Vec<Numbered>) -> HandedBack
+        ensures { result ≡ items.items }
+    {
+        HandedBack { items }
+    }
+
+    /// The vector of its messages. Takes no memory.
+    pub fn into_vec(self) -> Vec<Numbered>
+        ensures { result.items ≡ self }
+    {
+        self.items
+    }
+
+    /// Its messages in order.
+    pub fn as_slice(&self) -> &[Numbered]
+        ensures { result.now ≡ self.now }
+    {
+        self.items.as_slice()
+    }
+
+    /// Whether nothing is handed back.
+    pub fn is_empty(&self) -> bool
+        ensures { result ≡ (length self.now == 0) }
+    {
+        self.items.is_empty()
+    }
+}

@@ -1,0 +1,10 @@
+//! Traces: what happened to the members of a group, and what such a list of happenings promises.
+#![tactic(auto)]
+
+mod bytes;
+mod happening;
+mod trace;
+
+pub use bytes::Bytes;
+pub use happening::{Delivery, HandedBack, Happening, Install, Message, Numbered, Sending};
+pub use trace::Trace;
