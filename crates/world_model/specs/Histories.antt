@@ -1,0 +1,64 @@
+-- A world's history, and what it says of a node.
+use Rattle.std.specs.Prelude.{◌≡◌, ℕ, Bool, true, false, ◌&&◌, ◌∷◌, [], ◌++◌, Option, None, Some, List, fold, nat_eq, length, not, if◌then◌else◌}
+use Rattle.std.specs.Option.{option_and_then, option_map_or}
+use Rattle.std.specs.List.{zip}
+use Rattle.address.specs.Ids.{Address}
+use Rattle.trace_props.specs.declared.happening.Happening.{Happening}
+use Rattle.trace_props.specs.declared.happening.Happening.TheVariants.{Started, Sent, Delivered, Blocked, Installed, Left, Crashed}
+use Rattle.trace_props.specs.Observed.{has_ended}
+use Rattle.world_model.specs.declared.WorldEvent.{WorldEvent}
+use Rattle.world_model.specs.declared.WorldEvent.TheVariants.{Start, Create, Send, Leave, Crash}
+use Rattle.world_model.specs.declared.Answer.{Answer}
+use Rattle.world_model.specs.declared.Answer.TheVariants.{Done, Refused}
+use Rattle.world_model.specs.declared.Answer.TheVariants as answer
+use Rattle.world_model.specs.declared.Reply.{Reply}
+
+-- the events carried out, the reply to each, and what happened
+pub record History : Type 0 where
+  pub events : List WorldEvent
+  pub replies : List Reply
+  pub trace : List Happening
+
+abbrev pub last_after : ℕ → Option Address → Happening → Option Address
+last_after n last (Started p) = if nat_eq p.node n then Some p else last
+last_after n last (Sent s) = last
+last_after n last (Delivered d) = last
+last_after n last (Blocked p) = last
+last_after n last (Installed i) = last
+last_after n last (Left p) = last
+last_after n last (Crashed p) = last
+
+-- a node's last member: the last that started there
+abbrev pub last_of : ℕ → List Happening → Option Address
+last_of n t = fold (last_after n) None t
+
+-- a node's running member: its last, unless that one has ended
+abbrev pub running : ℕ → List Happening → Option Address
+running n t = option_and_then (λ p. if has_ended p t then None else Some p) (last_of n t)
+
+abbrev pub is_done : Answer → Bool
+is_done Done = true
+is_done (answer.Sent n) = false
+is_done (Refused r) = false
+
+abbrev pub connected_after : ℕ → Bool → WorldEvent × Reply → Bool
+connected_after n c (Start m, r) = if nat_eq m n && is_done r.answer then false else c
+connected_after n c (Create m, r) = if nat_eq m n && is_done r.answer then true else c
+connected_after n c (Send m x, r) = c
+connected_after n c (Leave m, r) = c
+connected_after n c (Crash m, r) = c
+
+-- whether a create of the node was answered Done since the node's last start
+abbrev pub is_connected : ℕ → History → Bool
+is_connected n h = fold (connected_after n) false (zip h.events h.replies)
+
+-- the history after one more event, its answer, and what happened in its step
+abbrev pub after : History → WorldEvent → Answer → List Happening → History
+after h event a stretch = record {
+  events = h.events ++ event ∷ [];
+  replies = h.replies ++ record { answer = a; place = length (h.trace ++ stretch) } ∷ [];
+  trace = h.trace ++ stretch }
+
+-- the history at the beginning
+abbrev pub no_history : History
+no_history = record { events = []; replies = []; trace = [] }
