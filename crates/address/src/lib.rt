@@ -93,6 +93,29 @@ impl Address {
         Some(Address { node, incarnation })
     }
 
+    /// The address of a node's first incarnation.
+    pub fn first_at(node: Node) -> Address
+        ensures { result ≡ record { node = node; incarnation = 1 } }
+    {
+        Address {
+            node,
+            incarnation: 1,
+        }
+    }
+
+    /// The address of the node's next incarnation; `None` after 4294967295.
+    pub fn next_incarnation(self) -> Option<Address>
+        ensures { SomeIff result (self.incarnation + 1 < 2 ^ 32) (record { node = self.node; incarnation = self.incarnation + 1 }) }
+    {
+        if self.incarnation == u32::MAX {
+            return None;
+        }
+        Some(Address {
+            node: self.node,
+            incarnation: self.incarnation + 1,
+        })
+    }
+
     /// Its node.
     pub fn node(self) -> Node
         ensures { result ≡ self.node }

@@ -1,7 +1,7 @@
 //! Views: an id and its members, the creator first.
 #![tactic(auto)]
 
-ghost use Rattle.std.specs.Prelude.{◌≡◌, None, Some, slice_get, MatchOption};
+ghost use Rattle.std.specs.Prelude.{◌≡◌, None, Some, slice_get, MatchOption, IfOk, ◌∷◌, []};
 ghost use Rattle.view.specs.Members.{stands_in, rank_of};
 ghost use Rattle.view.specs.View.{view_refusal, error_number};
 
@@ -10,6 +10,7 @@ mod addresses;
 pub use addresses::Addresses;
 
 use address::{Address, ViewId};
+use std::alloc::{AllocError, Global};
 use std::marker::Model;
 
 /// The most members that a view may have.
@@ -80,6 +81,14 @@ impl View {
         if members.first() != Some(id.creator()) {
             return Err(ViewError::NotFirst);
         }
+        Ok(View { id, members })
+    }
+
+    /// The view of its creator alone. Takes no memory beside the list's.
+    pub fn alone(alloc: Global, id: ViewId) -> Result<View, AllocError>
+        ensures { IfOk result (λ v. v ≡ record { id = id; members = id.creator ∷ [] }) }
+    {
+        let members = Addresses::alone(alloc, id.creator())?;
         Ok(View { id, members })
     }
 

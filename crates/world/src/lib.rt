@@ -1,0 +1,4 @@
+//! A world of members: it carries out events one after another and records what happened.
+#![tactic(auto)]
+
+mod seat;
