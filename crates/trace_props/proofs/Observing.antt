@@ -1,21 +1,16 @@
 -- What one more happening changes of what a trace says of a member.
-use Rattle.std.proofs.Common.{◌≡◌, ℕ, suc, zero, ◌+◌, Bool, true, false, ◌&&◌, ◌||◌, cond, List, [], ◌∷◌, ◌++◌, length, Option, Some, None, fold, filter_map, find, nat_eq, sym, refl, ap, ◌∙◌, subst, ◌⊎◌, inl, inr, arith, if◌then◌else◌}
+use Rattle.std.proofs.Common.{◌≡◌, ℕ, Bool, true, false, ◌&&◌, ◌||◌, List, [], ◌∷◌, ◌++◌, Option, Some, None, filter_map, nat_eq, sym, refl, ap, ◌∙◌, subst}
 use Rattle.std.specs.List.{list_any, cons_option}
-use Rattle.std.specs.Option.{option_or}
-use Rattle.std.proofs.lemmas.Bool.{and_parts, and_from, and_left, and_right, and_cases, or_right, or_left, eqb-true, eq-eqb, both_ways, cond-true, cond-false, cases_Bool}
+use Rattle.std.proofs.lemmas.Bool.{and_parts, and_from, and_left, and_right, or_right, or_left, eqb-true, eq-eqb, cond-true, cond-false}
 use Rattle.std.proofs.lemmas.List.{append-nil}
 use Rattle.std.proofs.lemmas.List.Sums.{fold-append}
-use Rattle.std.proofs.lemmas.List.Folds.{list_any-append, find-append}
+use Rattle.std.proofs.lemmas.List.Folds.{list_any-append}
 use Rattle.std.proofs.lemmas.List.Elements.{filter_map-append}
 use Rattle.address.specs.Ids.{Address, ViewId, same_address, same_view_id}
 use Rattle.trace_props.specs.declared.happening.Happening.{Happening}
 use Rattle.trace_props.specs.declared.happening.Happening.TheVariants.{Started, Sent, Delivered, Blocked, Installed, Left, Crashed}
-use Rattle.trace_props.specs.declared.happening.Numbered.{Numbered}
-use Rattle.trace_props.specs.declared.happening.Message.{Message}
 use Rattle.trace_props.specs.declared.happening.Install.{Install}
-use Rattle.trace_props.specs.declared.happening.Delivery.{Delivery}
-use Rattle.trace_props.specs.declared.happening.Sending.{Sending}
-use Rattle.trace_props.specs.Observed.{member_of, is_start, is_end, has_started, has_ended, view_after, current_view, block_after, is_blocked, told, delivered_in, said, sent_in, numbered, own_by, own, install_of, installs_in, entry_of, first_install}
+use Rattle.trace_props.specs.Observed.{member_of, is_start, is_end, has_started, has_ended, view_after, current_view, block_after, is_blocked}
 
 -- ADDRESSES AND VIEW IDS
 

@@ -1,5 +1,5 @@
 -- What one more happening changes of the messages that a member was told or sent, and of the installs.
-use Rattle.std.proofs.Common.{◌≡◌, ℕ, suc, zero, ◌+◌, Bool, true, false, ◌&&◌, ◌||◌, cond, List, [], ◌∷◌, ◌++◌, length, Option, Some, None, fold, filter_map, find, sym, refl, ap, ◌∙◌, subst, slice_get, if◌then◌else◌}
+use Rattle.std.proofs.Common.{◌≡◌, ℕ, suc, zero, Bool, true, false, ◌&&◌, cond, List, [], ◌∷◌, ◌++◌, Option, Some, None, filter_map, find, sym, refl, ap, ◌∙◌, subst, slice_get}
 use Rattle.std.specs.Option.{option_or}
 use Rattle.std.specs.List.{cons_option}
 use Rattle.std.proofs.lemmas.List.Elements.{filter_map-append}
@@ -9,12 +9,11 @@ use Rattle.std.proofs.lemmas.Option.{none-some, same_Some}
 use Rattle.address.specs.Ids.{Address, ViewId, same_address, same_view_id}
 use Rattle.trace_props.specs.declared.happening.Happening.{Happening}
 use Rattle.trace_props.specs.declared.happening.Happening.TheVariants.{Started, Sent, Delivered, Blocked, Installed, Left, Crashed}
-use Rattle.trace_props.specs.declared.happening.Numbered.{Numbered}
 use Rattle.trace_props.specs.declared.happening.Message.{Message}
 use Rattle.trace_props.specs.declared.happening.Install.{Install}
 use Rattle.trace_props.specs.declared.happening.Delivery.{Delivery}
 use Rattle.trace_props.specs.declared.happening.Sending.{Sending}
-use Rattle.trace_props.specs.Observed.{member_of, told, delivered_in, said, sent_in, numbered, own_by, own, install_of, installs_in, entry_of, first_install}
+use Rattle.trace_props.specs.Observed.{member_of, told, delivered_in, said, sent_in, numbered, own_by, own, install_of, installs_in}
 use Rattle.trace_props.proofs.Observing.{same_address-true, same_address-refl, same_view_id-true, same_view_id-refl, filter_map-still, filter_map-more}
 
 -- WHAT A MEMBER WAS TOLD
