@@ -1,0 +1,5 @@
+pub mod Places
+pub mod Observing
+pub mod Telling
+pub mod Installs
+pub mod Following

@@ -1,5 +1,5 @@
 -- What may follow a trace, rule by rule: the condition on the next happening under which the rule still holds.
-use Rattle.std.specs.Prelude.{◌≡◌, ℕ, ◌+◌, Bool, false, Option, None, Some, List, length, slice_get}
+use Rattle.std.specs.Prelude.{◌≡◌, ◌+◌, false, Some, List, length, slice_get}
 use Rattle.std.specs.Option.{ForSome}
 use Rattle.address.specs.Ids.{same_address}
 use Rattle.trace_props.specs.declared.happening.Happening.{Happening}

@@ -1,10 +1,9 @@
 -- The rules of a trace that speak of happenings and messages alone. docs/GUARANTEES.md says each in words.
-use Rattle.std.specs.Prelude.{◌≡◌, ℕ, ◌+◌, ◌↔◌, Bool, true, false, Option, None, Some, List, [], ◌∷◌, ◌++◌, length, slice_get, take, IsSome, MatchOption}
+use Rattle.std.specs.Prelude.{◌≡◌, ℕ, ◌+◌, ◌↔◌, true, false, Some, List, [], ◌++◌, slice_get, IsSome, MatchOption}
 use Rattle.std.specs.Option.{ForSome}
 use Rattle.std.specs.List.{Contains}
-use Rattle.std.specs.declared.cmp.Ordering.{Ordering}
 use Rattle.std.specs.declared.cmp.Ordering.TheVariants.{Less}
-use Rattle.address.specs.Ids.{Address, ViewId, same_address, same_view_id, view_id_cmp}
+use Rattle.address.specs.Ids.{Address, ViewId, view_id_cmp}
 use Rattle.view.specs.Members.{stands_in}
 use Rattle.trace_props.specs.declared.happening.Happening.{Happening}
 use Rattle.trace_props.specs.declared.happening.Happening.TheVariants.{Started, Sent, Delivered, Blocked, Installed, Left, Crashed}

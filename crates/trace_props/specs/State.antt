@@ -1,6 +1,6 @@
 -- The state of a member's receiver, and the rule on the states with which views are entered.
-use Rattle.std.specs.Prelude.{◌≡◌, ℕ, ◌+◌, Bool, ◌&&◌, false, Option, None, Some, List, [], ◌∷◌, ◌++◌, fold, take, IsSome, position, unwrap_or, if◌then◌else◌}
-use Rattle.std.specs.Option.{ForSome, IsSomeAnd, option_and_then}
+use Rattle.std.specs.Prelude.{◌≡◌, ℕ, ◌+◌, Bool, ◌&&◌, false, Option, Some, List, [], ◌∷◌, ◌++◌, fold, take, IsSome, position, unwrap_or, if◌then◌else◌}
+use Rattle.std.specs.Option.{ForSome, option_and_then}
 use Rattle.address.specs.Ids.{Address, ViewId, same_address, same_view_id}
 use Rattle.trace_props.specs.declared.happening.Happening.{Happening}
 use Rattle.trace_props.specs.declared.happening.Happening.TheVariants.{Started, Sent, Delivered, Blocked, Installed, Left, Crashed}
