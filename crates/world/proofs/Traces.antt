@@ -1,0 +1,126 @@
+-- What every trace of lone members keeps, one happening further.
+use Rattle.std.proofs.Common.{◌≡◌, ℕ, ◌+◌, ◌≤◌, Bool, true, false, Option, Some, None, List, [], ◌∷◌, ◌++◌, nat_eq, sym, refl, ap, ◌∙◌, subst, cond, arith}
+use Rattle.std.specs.Option.{option_map_or}
+use Rattle.std.proofs.lemmas.Bool.{cond-true, cond-false, eq-eqb, eqb-true}
+use Rattle.std.proofs.lemmas.List.Sums.{fold-append}
+use Rattle.address.specs.Ids.{Address, same_address}
+use Rattle.trace_props.specs.declared.happening.Happening.{Happening}
+use Rattle.trace_props.specs.declared.happening.Happening.TheVariants.{Started, Sent, Delivered, Blocked, Installed, Left, Crashed}
+use Rattle.trace_props.specs.Observed.{member_of, is_start, has_started}
+use Rattle.trace_props.specs.Rules.{MayStand}
+use Rattle.trace_props.specs.Following.{MayFollow}
+use Rattle.trace_props.proofs.Observing.{same_address-true, has_started-other, has_started-still, has_started-now, has_started-stays}
+use Rattle.trace_props.proofs.Following.{well_ordered-push, well_ordered-nil}
+use Rattle.world_model.specs.Histories.{last_of, last_after}
+use Rattle.world.specs.Invariant.{IsFresh, IsTrace, top_of}
+use Rattle.world.proofs.Sights.{SameSight, IsOwnInstall, sight-apart, IsFresh-seen}
+
+-- the newest happening changes a node's last member
+pub last_of-push : (n : ℕ) (t : List Happening) (h : Happening) → last_of n (t ++ h ∷ []) ≡ last_after n (last_of n t) h
+last_of-push n t h = fold-append (last_after n) None t (h ∷ [])
+
+-- only a start does
+pub last_of-still : (n : ℕ) (t : List Happening) (h : Happening) → is_start h ≡ false → last_of n (t ++ h ∷ []) ≡ last_of n t
+last_of-still n t (Started p) e = absurd (let bad : true ≡ false = e in cc)
+last_of-still n t (Sent s) e = last_of-push n t (Sent s)
+last_of-still n t (Delivered d) e = last_of-push n t (Delivered d)
+last_of-still n t (Blocked p) e = last_of-push n t (Blocked p)
+last_of-still n t (Installed i) e = last_of-push n t (Installed i)
+last_of-still n t (Left p) e = last_of-push n t (Left p)
+last_of-still n t (Crashed p) e = last_of-push n t (Crashed p)
+
+-- and that at its own node
+pub last_of-other : (n : ℕ) (t : List Happening) (h : Happening) → nat_eq (member_of h).node n ≡ false → last_of n (t ++ h ∷ []) ≡ last_of n t
+last_of-other n t (Started p) e = last_of-push n t (Started p) ∙ cond-false (nat_eq p.node n) (Some p) (last_of n t) e
+last_of-other n t (Sent s) e = last_of-push n t (Sent s)
+last_of-other n t (Delivered d) e = last_of-push n t (Delivered d)
+last_of-other n t (Blocked p) e = last_of-push n t (Blocked p)
+last_of-other n t (Installed i) e = last_of-push n t (Installed i)
+last_of-other n t (Left p) e = last_of-push n t (Left p)
+last_of-other n t (Crashed p) e = last_of-push n t (Crashed p)
+
+pub last_of-now : (p : Address) (t : List Happening) → last_of p.node (t ++ Started p ∷ []) ≡ Some p
+last_of-now p t = last_of-push p.node t (Started p) ∙ cond-true (nat_eq p.node p.node) (Some p) (last_of p.node t) (eq-eqb p.node p.node refl)
+
+-- who starts has the greatest incarnation of its node
+abbrev pub IsNextStart : List Happening → Happening → Type 0
+IsNextStart t (Started p) = top_of p.node t ≤ p.incarnation
+IsNextStart t (Sent s) = Unit {0}
+IsNextStart t (Delivered d) = Unit {0}
+IsNextStart t (Blocked p) = Unit {0}
+IsNextStart t (Installed i) = Unit {0}
+IsNextStart t (Left p) = Unit {0}
+IsNextStart t (Crashed p) = Unit {0}
+
+-- to whom something happens has started
+pub started-after : (t : List Happening) (h : Happening) → MayStand t h → has_started (member_of h) (t ++ h ∷ []) ≡ true
+started-after t (Started p) m = has_started-now p t
+started-after t (Sent s) m = has_started-stays s.member t (Sent s ∷ []) m.0.started
+started-after t (Delivered d) m = has_started-stays d.member t (Delivered d ∷ []) m.0.started
+started-after t (Blocked p) m = has_started-stays p t (Blocked p ∷ []) m.0.started
+started-after t (Installed i) m = has_started-stays i.member t (Installed i ∷ []) m.started
+started-after t (Left p) m = has_started-stays p t (Left p ∷ []) m.started
+started-after t (Crashed p) m = has_started-stays p t (Crashed p ∷ []) m.started
+
+-- a start of p, seen from an address r of the same node or another
+starts-now : (t : List Happening) (p r : Address) → ((r : Address) → has_started r t ≡ true → r.incarnation ≤ top_of r.node t) → top_of p.node t ≤ p.incarnation
+    → (b : Bool) → nat_eq p.node r.node ≡ b → (same : Bool) → same_address p r ≡ same → has_started r (t ++ Started p ∷ []) ≡ true → r.incarnation ≤ top_of r.node (t ++ Started p ∷ [])
+starts-now t p r before next b e true s now =
+    let is : p ≡ r = same_address-true p r s in
+    let last : last_of r.node (t ++ Started p ∷ []) ≡ Some r = subst (λ (x : Address). last_of x.node (t ++ Started p ∷ []) ≡ Some x) is (last_of-now p t) in
+    let eq : top_of r.node (t ++ Started p ∷ []) ≡ r.incarnation = ap (λ o. option_map_or (λ (x : Address). x.incarnation) o 0) last in
+    omega arith
+starts-now t p r before next true e false s now =
+    let was : has_started r t ≡ true = sym (has_started-other r t (Started p) s) ∙ now in
+    let low : r.incarnation ≤ top_of r.node t = before r was in
+    let node : p.node ≡ r.node = eqb-true p.node r.node e in
+    let mid : top_of r.node t ≤ p.incarnation = subst (λ (n : ℕ). top_of n t ≤ p.incarnation) node next in
+    let last : last_of r.node (t ++ Started p ∷ []) ≡ Some p = last_of-push r.node t (Started p) ∙ cond-true (nat_eq p.node r.node) (Some p) (last_of r.node t) e in
+    let eq : top_of r.node (t ++ Started p ∷ []) ≡ p.incarnation = ap (λ o. option_map_or (λ (x : Address). x.incarnation) o 0) last in
+    omega arith
+starts-now t p r before next false e false s now =
+    let was : has_started r t ≡ true = sym (has_started-other r t (Started p) s) ∙ now in
+    let low : r.incarnation ≤ top_of r.node t = before r was in
+    let eq : top_of r.node (t ++ Started p ∷ []) ≡ top_of r.node t = ap (λ o. option_map_or (λ (x : Address). x.incarnation) o 0) (last_of-other r.node t (Started p) e) in
+    omega arith
+
+starts-still : (t : List Happening) (h : Happening) (r : Address) → ((r : Address) → has_started r t ≡ true → r.incarnation ≤ top_of r.node t) → is_start h ≡ false
+    → has_started r (t ++ h ∷ []) ≡ true → r.incarnation ≤ top_of r.node (t ++ h ∷ [])
+starts-still t h r before e now =
+    let low : r.incarnation ≤ top_of r.node t = before r (sym (has_started-still r t h e) ∙ now) in
+    let eq : top_of r.node (t ++ h ∷ []) ≡ top_of r.node t = ap (λ o. option_map_or (λ (x : Address). x.incarnation) o 0) (last_of-still r.node t h e) in
+    omega arith
+
+starts-push : (t : List Happening) (h : Happening) → ((r : Address) → has_started r t ≡ true → r.incarnation ≤ top_of r.node t) → IsNextStart t h
+    → (r : Address) → has_started r (t ++ h ∷ []) ≡ true → r.incarnation ≤ top_of r.node (t ++ h ∷ [])
+starts-push t (Started p) before next r now = starts-now t p r before next (nat_eq p.node r.node) refl (same_address p r) refl now
+starts-push t (Sent s) before next r now = starts-still t (Sent s) r before refl now
+starts-push t (Delivered d) before next r now = starts-still t (Delivered d) r before refl now
+starts-push t (Blocked p) before next r now = starts-still t (Blocked p) r before refl now
+starts-push t (Installed i) before next r now = starts-still t (Installed i) r before refl now
+starts-push t (Left p) before next r now = starts-still t (Left p) r before refl now
+starts-push t (Crashed p) before next r now = starts-still t (Crashed p) r before refl now
+
+-- who has not started by now is fresh
+fresh-push : (t : List Happening) (h : Happening) (p : Address) → ((p : Address) → has_started p t ≡ false → IsFresh p t) → MayStand t h → IsOwnInstall h
+    → (b : Bool) → same_address (member_of h) p ≡ b → has_started p (t ++ h ∷ []) ≡ false → IsFresh p (t ++ h ∷ [])
+fresh-push t h p before may own true e now =
+    let is : member_of h ≡ p = same_address-true (member_of h) p e in
+    let started : has_started p (t ++ h ∷ []) ≡ true = subst (λ (x : Address). has_started x (t ++ h ∷ []) ≡ true) is (started-after t h may) in
+    absurd (let bad : true ≡ false = sym started ∙ now in cc)
+fresh-push t h p before may own false e now =
+    IsFresh-seen p t (t ++ h ∷ []) (sight-apart p t h e own) (before p (sym (has_started-other p t h e) ∙ now))
+
+-- all of it, one happening further
+pub trace-push : (t : List Happening) (h : Happening) → IsTrace t → MayFollow t h → IsOwnInstall h → IsNextStart t h → IsTrace (t ++ h ∷ [])
+trace-push t h i may own next = record {
+  ordered = well_ordered-push t h i.ordered may;
+  starts = λ r now. starts-push t h i.starts next r now;
+  fresh = λ p now. fresh-push t h p i.fresh may.placed own (same_address (member_of h) p) refl now }
+
+-- and of nothing
+pub trace-nil : IsTrace []
+trace-nil = record {
+  ordered = well_ordered-nil;
+  starts = λ p now. absurd (let bad : false ≡ true = now in cc);
+  fresh = λ p now. record { view = refl; free = refl; said = refl; heard = refl; first = refl } }
