@@ -1,2 +1,5 @@
 pub mod Sights
 pub mod Traces
+pub mod Turning
+pub mod Starting
+pub mod Ending

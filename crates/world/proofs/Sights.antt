@@ -73,7 +73,7 @@ sight-apart p t h e o = record {
   said = sent_in-other p (first_view p) t h e; heard = delivered_in-other p (first_view p) t h e; first = first-apart p t h e o }
 
 pub IsFresh-seen : (p : Address) (t u : List Happening) → SameSight p t u → IsFresh p t → IsFresh p u
-IsFresh-seen p t u s f = record { view = s.view ∙ f.view; free = s.blocked ∙ f.free; said = s.said ∙ f.said; heard = s.heard ∙ f.heard; first = s.first ∙ f.first }
+IsFresh-seen p t u s f = record { going = s.ended ∙ f.going; view = s.view ∙ f.view; free = s.blocked ∙ f.free; said = s.said ∙ f.said; heard = s.heard ∙ f.heard; first = s.first ∙ f.first }
 
 pub IsAlone-seen : (p : Address) (k : ℕ) (t u : List Happening) → SameSight p t u → IsAlone p k t → IsAlone p k u
 IsAlone-seen p k t u s f = record {

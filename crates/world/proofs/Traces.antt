@@ -123,4 +123,4 @@ pub trace-nil : IsTrace []
 trace-nil = record {
   ordered = well_ordered-nil;
   starts = λ p now. absurd (let bad : false ≡ true = now in cc);
-  fresh = λ p now. record { view = refl; free = refl; said = refl; heard = refl; first = refl } }
+  fresh = λ p now. record { going = refl; view = refl; free = refl; said = refl; heard = refl; first = refl } }

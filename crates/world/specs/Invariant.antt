@@ -17,6 +17,7 @@ use Rattle.world.specs.Turns.{is_idle}
 
 -- nothing happened yet to an address but its start
 pub record IsFresh (p : Address) (t : List Happening) : Type 0 where
+  pub going : has_ended p t ≡ false
   pub view : current_view p t ≡ None
   pub free : is_blocked p t ≡ false
   pub said : sent_in p (first_view p) t ≡ []

@@ -19,6 +19,14 @@ pub record History : Type 0 where
   pub replies : List Reply
   pub trace : List Happening
 
+-- the node of an event
+abbrev pub node_of : WorldEvent → ℕ
+node_of (Start n) = n
+node_of (Create n) = n
+node_of (Send n payload) = n
+node_of (Leave n) = n
+node_of (Crash n) = n
+
 abbrev pub last_after : ℕ → Option Address → Happening → Option Address
 last_after n last (Started p) = if nat_eq p.node n then Some p else last
 last_after n last (Sent s) = last
@@ -41,12 +49,16 @@ is_done Done = true
 is_done (answer.Sent n) = false
 is_done (Refused r) = false
 
+-- whether an answer leaves a node's member connected
+abbrev pub connects_after : ℕ → Bool → WorldEvent → Answer → Bool
+connects_after n c (Start m) a = if nat_eq m n && is_done a then false else c
+connects_after n c (Create m) a = if nat_eq m n && is_done a then true else c
+connects_after n c (Send m x) a = c
+connects_after n c (Leave m) a = c
+connects_after n c (Crash m) a = c
+
 abbrev pub connected_after : ℕ → Bool → WorldEvent × Reply → Bool
-connected_after n c (Start m, r) = if nat_eq m n && is_done r.answer then false else c
-connected_after n c (Create m, r) = if nat_eq m n && is_done r.answer then true else c
-connected_after n c (Send m x, r) = c
-connected_after n c (Leave m, r) = c
-connected_after n c (Crash m, r) = c
+connected_after n c row = connects_after n c row.0 row.1.answer
 
 -- whether a create of the node was answered Done since the node's last start
 abbrev pub is_connected : ℕ → History → Bool
