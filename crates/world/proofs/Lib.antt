@@ -3,3 +3,5 @@ pub mod Traces
 pub mod Turning
 pub mod Starting
 pub mod Ending
+pub mod Creating
+pub mod Sending
