@@ -5,3 +5,4 @@ pub mod Starting
 pub mod Ending
 pub mod Creating
 pub mod Sending
+pub mod Acting

@@ -1,5 +1,5 @@
 -- What each event does to the seat of its node and adds to the trace: local, exact, and without a word on the history.
-use Rattle.std.specs.Prelude.{◌≡◌, ℕ, ◌+◌, ◌<◌, ◌≤◌, ◌^◌, Bool, true, false, ◌∷◌, [], ◌++◌, List, length, nat_lt, nat_eq, Result, Ok, Err, MatchBool}
+use Rattle.std.specs.Prelude.{◌≡◌, ℕ, ◌+◌, ◌<◌, ◌≤◌, ◌^◌, Bool, true, false, ◌∷◌, [], ◌++◌, List, length, nat_lt, nat_eq, Result, Ok, Err, MatchBool, Option, None, Some, IsSomeAnd, unwrap_or}
 use Rattle.address.specs.Ids.{Address}
 use Rattle.state_transfer.specs.declared.TheConstants.{PAYLOAD}
 use Rattle.trace_props.specs.declared.happening.Happening.{Happening}
@@ -14,6 +14,7 @@ use Rattle.world_model.specs.declared.Refusal.{Refusal}
 use Rattle.world_model.specs.declared.Refusal.TheVariants.{NotConnected, Blocked, Busy, TooLong, AlreadyConnected, Closed, Memory, Exhausted}
 use Rattle.world_model.specs.declared.WorldEvent.{WorldEvent}
 use Rattle.world_model.specs.declared.WorldEvent.TheVariants.{Start, Create, Send, Leave, Crash}
+use Rattle.world_model.specs.Histories.{starts}
 use Rattle.world_model.specs.Faithful.{lone_install, first_view}
 use Rattle.world.specs.declared.seat.Stage.{Stage}
 use Rattle.world.specs.declared.seat.Stage.TheVariants.{Idle, Alone}
@@ -128,3 +129,18 @@ Acts opening apply (Create n) old t a new t' = CreateGives old t a new t'
 Acts opening apply (Send n payload) old t a new t' = SendGives apply payload old t a new t'
 Acts opening apply (Leave n) old t a new t' = LeaveGives old t a new t'
 Acts opening apply (Crash n) old t a new t' = CrashGives old t a new t'
+
+-- a node without a seat gets a vacant one
+abbrev pub KeepsSeat : {R : Type 0} → Option (Seat R) → Option (Seat R) → Type 0
+KeepsSeat None new = new ≡ Some Vacant
+KeepsSeat (Some s) new = new ≡ Some s
+
+-- an event at its node, which may have no seat
+abbrev pub ActsAt : {R : Type 0} → R → (R → Address → List ℕ → R) → WorldEvent → Option (Seat R) → List Happening → Answer → Option (Seat R) → List Happening → Type 0
+ActsAt opening apply e None t a new t' = (a ≡ Refused NotConnected) × (new ≡ None) × (t' ≡ t)
+ActsAt opening apply e (Some s) t a new t' = IsSomeAnd new (λ s'. Acts opening apply e s t a s' t')
+
+-- a start finds a seat, which was vacant if it is new
+abbrev pub CarriesOut : {R : Type 0} → R → (R → Address → List ℕ → R) → WorldEvent → Option (Seat R) → List Happening → Answer → Option (Seat R) → List Happening → Type 0
+CarriesOut opening apply e o t a new t' =
+    MatchBool (starts e) (ActsAt opening apply e (Some (unwrap_or o Vacant)) t a new t') (ActsAt opening apply e o t a new t')

@@ -1,4 +1,168 @@
 //! A world of members: it carries out events one after another and records what happened.
 #![tactic(auto)]
 
+ghost use Rattle.std.specs.Prelude.{◌≡◌, ◌≤◌, ◌++◌, ◌∷◌, [], ℕ, true, false, nat_eq, length, take, is_some, IfOk, OnOk, OnErr, vec_len, vec_capacity};
+ghost use Rattle.std.specs.Ordering.{nat_cmp};
+ghost use Rattle.std.specs.BTreeMap.{get};
+ghost use Rattle.trace_props.specs.Places.{EachPlace};
+ghost use Rattle.trace_props.specs.Synchrony.{IsWellOrdered};
+ghost use Rattle.world_model.specs.Histories.{no_history};
+ghost use Rattle.world_model.specs.Faithful.{IsFaithful};
+ghost use Rattle.world.specs.Turns.{ActsAt, KeepsSeat, CarriesOut};
+
 mod seat;
+
+use crate::seat::Seat;
+use address::Node;
+use state_transfer::Receiver;
+use std::alloc::{AllocError, Global};
+use std::collections::BTreeMap;
+use std::marker::Model;
+use trace_props::{Happening, Trace};
+use world_model::{Answer, Refusal, Reply, WorldEvent};
+
+/// How many places of the trace are reserved before each step.
+pub const STEP_PLACES: usize = 40;
+
+/// A world of members, one at a node at a time, each with its receiver (docs/GUARANTEES.md, "The world").
+#[derive(Drop)]
+pub struct World<R: Receiver> {
+    alloc: Global,
+    seats: BTreeMap<Node, Seat<R>>,
+    events: Vec<WorldEvent>,
+    replies: Vec<Reply>,
+    trace: Trace,
+}
+
+impl<R: Receiver> Model for World<R> {
+    ghost use Rattle.std.specs.Ordering.{nat_cmp};
+    ghost use Rattle.std.specs.BTreeMap.{get};
+    ghost use Rattle.world_model.specs.Histories.{History};
+    ghost use Rattle.world.specs.Invariant.{IsWorld};
+
+    ghost Value = { History };
+
+    ghost view = { λ w. record { events = w.events.items; replies = w.replies.items; trace = w.trace.happenings } };
+
+    ghost invariant = { λ w. IsWorld (get nat_cmp w.seats) (record { events = w.events.items; replies = w.replies.items; trace = w.trace.happenings }) };
+}
+
+/// Makes a seat for a node, where it has none yet.
+fn keep_seat<R: Receiver>(seats: &mut BTreeMap<Node, Seat<R>>, node: Node) -> Result<(), AllocError>
+    ensures kept { OnOk result (KeepsSeat (get nat_cmp seats.old node) (get nat_cmp seats.new node)) }
+    ensures others { (m : ℕ) → nat_eq node m ≡ false → get nat_cmp seats.new m ≡ get nat_cmp seats.old m }
+    ensures err { OnErr result (get nat_cmp seats.new node ≡ get nat_cmp seats.old node) }
+{
+    if !seats.contains_key(&node) {
+        seats.insert(node, Seat::Vacant)?;
+    }
+    Ok(())
+}
+
+/// Carries out an event at the seat of its node. Without a seat the node was never started: 1.
+fn act_at<R: Receiver>(alloc: Global, seats: &mut BTreeMap<Node, Seat<R>>, trace: &mut Trace, node: Node, event: &WorldEvent) -> Answer
+    requires room { 2 ≤ trace.old.room }
+    ensures acts { ActsAt R.opening_state R.apply event.now (get nat_cmp seats.old node) trace.old.happenings result (get nat_cmp seats.new node) trace.new.happenings }
+    ensures others { (m : ℕ) → nat_eq node m ≡ false → get nat_cmp seats.new m ≡ get nat_cmp seats.old m }
+{
+    match seats.get_mut(&node) {
+        Some(seat) => seat::act(alloc, seat, trace, event),
+        None => Answer::Refused(Refusal::NotConnected),
+    }
+}
+
+/// Carries out an event: for a start a seat is kept first, which memory may refuse: then nothing is carried out.
+fn carry_out<R: Receiver>(alloc: Global, seats: &mut BTreeMap<Node, Seat<R>>, trace: &mut Trace, node: Node, event: &WorldEvent) -> Result<Answer, AllocError>
+    requires room { 2 ≤ trace.old.room }
+    ensures ok { IfOk result (λ a. CarriesOut R.opening_state R.apply event.now (get nat_cmp seats.old node) trace.old.happenings a (get nat_cmp seats.new node) trace.new.happenings) }
+    ensures others { (m : ℕ) → nat_eq node m ≡ false → get nat_cmp seats.new m ≡ get nat_cmp seats.old m }
+    ensures err { OnErr result (get nat_cmp seats.new node ≡ get nat_cmp seats.old node) }
+    ensures err_trace { OnErr result (trace.new.happenings ≡ trace.old.happenings) }
+{
+    if event.is_start() {
+        keep_seat(seats, node)?;
+        Ok(act_at(alloc, seats, trace, node, event))
+    } else {
+        Ok(act_at(alloc, seats, trace, node, event))
+    }
+}
+
+impl<R: Receiver> World<R> {
+    /// A world in which nothing happened. Takes no memory.
+    pub fn new(alloc: Global) -> World<R>
+        ensures { result ≡ no_history }
+    {
+        World {
+            alloc,
+            seats: BTreeMap::new(alloc),
+            events: Vec::new(alloc),
+            replies: Vec::new(alloc),
+            trace: Trace::new(alloc),
+        }
+    }
+
+    /// Carries out one event. On refusal of the places of a step nothing has changed.
+    fn step(&mut self, event: &WorldEvent) -> Result<(), AllocError>
+        ensures ok { OnOk result (self.new.events ≡ self.old.events ++ event.now ∷ []) }
+        ensures err { OnErr result (self.new ≡ self.old) }
+    {
+        let alloc = self.alloc;
+        let event = event.copied(alloc)?;
+        self.trace.reserve(STEP_PLACES)?;
+        self.replies.reserve(1)?;
+        self.events.reserve(1)?;
+        let node = event.node();
+        let answer = carry_out(alloc, &mut self.seats, &mut self.trace, node, &event)?;
+        let place = self.trace.len();
+        self.replies.push_reserved(Reply { answer, place });
+        self.events.push_reserved(event);
+        Ok(())
+    }
+
+    /// What the history of every world keeps.
+    fn kept(&self)
+        ensures faithful { IsFaithful self.now }
+        ensures ordered { EachPlace IsWellOrdered self.now.trace }
+    {
+        let _ = &self.trace;
+    }
+
+    /// Carries out events in order, from where the world stands. Answers an error (7) where the places of a step are
+    /// refused: then the events before it are carried out, and all stands as before that step.
+    pub fn run(&mut self, events: &[WorldEvent]) -> Result<(), AllocError>
+        ensures all { OnOk result (self.new.events ≡ self.old.events ++ events.now) }
+        ensures some { (k : ℕ) × (self.new.events ≡ self.old.events ++ take k events.now) }
+        ensures faithful { IsFaithful self.new }
+        ensures ordered { EachPlace IsWellOrdered self.new.trace }
+    {
+        for event in events {
+            if let Err(refused) = self.step(event) {
+                self.kept();
+                return Err(refused);
+            }
+        }
+        self.kept();
+        Ok(())
+    }
+
+    /// The events carried out, in order.
+    pub fn events(&self) -> &[WorldEvent]
+        ensures { result.now ≡ self.now.events }
+    {
+        self.events.as_slice()
+    }
+
+    /// The reply to each event carried out, in order.
+    pub fn replies(&self) -> &[Reply]
+        ensures { result.now ≡ self.now.replies }
+    {
+        self.replies.as_slice()
+    }
+
+    /// What happened.
+    pub fn trace(&self) -> &Trace
+        ensures { result.now.happenings ≡ self.now.trace }
+    {
+        &self.trace
+    }
+}

@@ -27,6 +27,14 @@ node_of (Send n payload) = n
 node_of (Leave n) = n
 node_of (Crash n) = n
 
+-- whether an event starts a member
+abbrev pub starts : WorldEvent → Bool
+starts (Start n) = true
+starts (Create n) = false
+starts (Send n payload) = false
+starts (Leave n) = false
+starts (Crash n) = false
+
 abbrev pub last_after : ℕ → Option Address → Happening → Option Address
 last_after n last (Started p) = if nat_eq p.node n then Some p else last
 last_after n last (Sent s) = last

@@ -1,10 +1,12 @@
 //! What a world of members can be told and what it answers, and when its history is faithful to that.
 #![tactic(auto)]
 
-ghost use Rattle.std.specs.Prelude.{◌≡◌};
+ghost use Rattle.std.specs.Prelude.{◌≡◌, IfOk};
 ghost use Rattle.world_model.specs.Refusals.{number_of};
+ghost use Rattle.world_model.specs.Histories.{node_of, starts};
 
 use address::Node;
+use std::alloc::{AllocError, Global};
 use trace_props::Bytes;
 
 /// The most own messages that a member may have sent and not been told yet.
@@ -26,6 +28,47 @@ pub enum WorldEvent {
     Leave(Node),
     /// The node's member crashes.
     Crash(Node),
+}
+
+impl WorldEvent {
+    /// The node whose member the event concerns.
+    pub fn node(&self) -> Node
+        ensures { result ≡ node_of self.now }
+    {
+        match self {
+            WorldEvent::Start(node) => *node,
+            WorldEvent::Create(node) => *node,
+            WorldEvent::Send(node, _) => *node,
+            WorldEvent::Leave(node) => *node,
+            WorldEvent::Crash(node) => *node,
+        }
+    }
+
+    /// Whether it starts a member.
+    pub fn is_start(&self) -> bool
+        ensures { result ≡ starts self.now }
+    {
+        match self {
+            WorldEvent::Start(_) => true,
+            WorldEvent::Create(_) => false,
+            WorldEvent::Send(_, _) => false,
+            WorldEvent::Leave(_) => false,
+            WorldEvent::Crash(_) => false,
+        }
+    }
+
+    /// A copy of it.
+    pub fn copied(&self, alloc: Global) -> Result<WorldEvent, AllocError>
+        ensures { IfOk result (λ e. e ≡ self.now) }
+    {
+        match self {
+            WorldEvent::Start(node) => Ok(WorldEvent::Start(*node)),
+            WorldEvent::Create(node) => Ok(WorldEvent::Create(*node)),
+            WorldEvent::Send(node, payload) => Ok(WorldEvent::Send(*node, payload.copied(alloc)?)),
+            WorldEvent::Leave(node) => Ok(WorldEvent::Leave(*node)),
+            WorldEvent::Crash(node) => Ok(WorldEvent::Crash(*node)),
+        }
+    }
 }
 
 /// Why an event is refused.
