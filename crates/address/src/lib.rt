@@ -242,3 +242,6 @@ pub fn next_after(last: &ViewId, creator: Address) -> Result<ViewId, Exhausted>
         creator,
     })
 }
+
+#[cfg(test)]
+mod tests;

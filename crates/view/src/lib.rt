@@ -129,3 +129,6 @@ impl View {
         &self.members
     }
 }
+
+#[cfg(test)]
+mod tests;

@@ -1,0 +1,3 @@
+pub mod Silence
+pub mod Outcomes
+pub mod Words

@@ -1,0 +1,69 @@
+-- What a command writes, and with which exit status it ends.
+use Rattle.std.specs.Prelude.{◌≡◌, ℕ, List, [], ◌∷◌, ◌++◌, Option, Result, Ok, Err, take, codes, IfSome}
+use Rattle.std.specs.List.{concat}
+use Rattle.std.specs.Fmt.{decimal}
+use Rattle.std.specs.Io.KnownBytes.{Appends}
+use Rattle.trace_props.specs.Places.{EachPlace}
+use Rattle.trace_props.specs.Synchrony.{IsWellOrdered}
+use Rattle.world_model.specs.declared.WorldEvent.{WorldEvent}
+use Rattle.world_model.specs.Histories.{History}
+use Rattle.world_model.specs.Faithful.{IsFaithful}
+use Rattle.vsync_text.specs.declared.script.Script.{Script}
+use Rattle.vsync_text.specs.declared.fault.Fault.{Fault}
+use Rattle.vsync_text.specs.declared.fault.Unread.TheVariants as unread
+use Rattle.vsync_text.specs.Script.{script_of, fault_number}
+use Rattle.vsync_text.specs.Runs.{lines_of_run, text_of_run}
+use Rattle.vsync_cli.specs.declared.status.Status.{Status}
+use Rattle.vsync_cli.specs.declared.status.Status.TheVariants.{Done, Usage, Refused, Memory, Outside}
+
+abbrev pub status_code : Status → ℕ
+status_code Done = 0
+status_code Usage = 2
+status_code Refused = 3
+status_code Memory = 4
+status_code Outside = 5
+
+-- the line that ends a text for want of memory
+abbrev pub memory_line : List ℕ
+memory_line = codes "# memory\n"
+
+-- the line for an input's first fault
+abbrev pub fault_line : ℕ → ℕ → List ℕ
+fault_line line number = codes "fault " ++ decimal line ++ 32 ∷ [] ++ decimal number ++ 10 ∷ []
+
+-- a writer took a text whole, and the command ends with this status; or the writer failed, and took a beginning of it
+pub data Ends (old new : Option (List ℕ)) (text : List ℕ) (status : Status) : Status → Type 0 where
+  Whole : Appends old new text → Ends old new text status status
+  Cut : (count : ℕ) → Appends old new (take count text) → Ends old new text status Outside
+
+-- a world carried out exactly these events: its history is faithful and well ordered at every place
+pub record Ran (events : List WorldEvent) (h : History) : Type 0 where
+  pub faithful : IsFaithful h
+  pub ordered : EachPlace IsWellOrdered h.trace
+  pub carried : h.events ≡ events
+
+-- the texts of a script's run: all of it; or, where memory was refused outside a member's step, whole lines of a beginning
+-- and `# memory`
+pub data IsRunText (script : Script) : Status → List ℕ → Type 0 where
+  All : (h : History) → Ran script.events h → IsRunText script Done (text_of_run script.lines h.replies h.trace)
+  Part : (h : History) (events lines : ℕ) → Ran (take events script.events) h
+    → IsRunText script Memory (concat (take lines (lines_of_run script.lines h.replies h.trace)) ++ memory_line)
+
+-- the texts of a script's bytes: of its run; its first fault; or `# memory` alone, before it is read whole
+pub data IsScriptText (bytes : List ℕ) : Status → List ℕ → Type 0 where
+  Runs : (script : Script) (status : Status) (text : List ℕ) → script_of bytes ≡ Ok script → IsRunText script status text → IsScriptText bytes status text
+  Faulty : (line : ℕ) (fault : Fault) → script_of bytes ≡ Err (unread.Fault line fault) → IsScriptText bytes Refused (fault_line line (fault_number fault))
+  Unread : IsScriptText bytes Memory memory_line
+
+-- how writing the text of something ends: with that text and its status; or the writer failed and took a beginning of it
+pub record Written (Says : Status → List ℕ → Type 0) (old new : Option (List ℕ)) (status : Status) : Type 0 where
+  pub meant : Status
+  pub text : List ℕ
+  pub says : Says meant text
+  pub ends : Ends old new text meant status
+
+-- a script is run from a reader to a writer
+pub data RunsScript (left old new : Option (List ℕ)) : Status → Type 0 where
+  -- the reader failed: nothing is written
+  ReaderFails : Appends old new [] → RunsScript left old new Outside
+  Answers : (bytes : List ℕ) (status : Status) → IfSome left (λ all. bytes ≡ all) → Written (IsScriptText bytes) old new status → RunsScript left old new status

@@ -1,0 +1,70 @@
+use crate::{Invocation, Silent, Status, command, run_script};
+use clap::Error;
+use clap::error::ErrorKind;
+use std::io::Read;
+use std::rt::{Env, Files};
+use std::{env, fs, io};
+
+/// Says on the standard error why the program ends with status 5.
+fn complain<R: Eprint>(rt: &R, what: &str, path: &str) -> Status {
+    let _ = eprintln!(rt; "vsync: {what} {path}");
+    Status::Outside
+}
+
+/// Runs a script from a reader, to the standard output.
+fn world<R: Print + AllocGlobal, I: Read>(rt: &R, reader: &mut I) -> Status {
+    let mut output = io::writer(rt);
+    run_script::<Silent, I, _>(rt.alloc(), reader, &mut output)
+}
+
+/// Runs `vsync world PATH`.
+fn world_at<R: Files + Input + Print + Eprint + AllocGlobal>(rt: &R, path: &str) -> Status {
+    if path == "-" {
+        let mut input = rt.reader();
+        return world(rt, &mut input);
+    }
+    match fs::open(rt, path) {
+        Ok(file) => {
+            let mut file = file;
+            let status = world(rt, &mut file);
+            if status == Status::Outside {
+                return complain(rt, "a read or a write failed:", path);
+            }
+            status
+        }
+        Err(_) => complain(rt, "cannot open", path),
+    }
+}
+
+/// Prints what clap says of words that are no command, or the help that was asked for.
+fn explain<R: Print + Eprint>(rt: &R, error: Error) -> Status {
+    if error.kind() == ErrorKind::OutOfMemory {
+        let _ = println!(rt; "# memory");
+        return Status::Memory;
+    }
+    let printed = error.print(rt);
+    if printed.is_err() {
+        return Status::Outside;
+    }
+    if error.use_stderr() { Status::Usage } else { Status::Done }
+}
+
+/// The program `vsync`: does what its words ask for, and answers the exit status (docs/FORMATS.md).
+pub fn program<R: Env + Files + Input + Print + Eprint + AllocGlobal>(rt: &R) -> Status {
+    let mut words = Vec::new(rt.alloc());
+    match env::args(rt) {
+        Ok(all) => {
+            for word in all {
+                if words.push(word).is_err() {
+                    let _ = println!(rt; "# memory");
+                    return Status::Memory;
+                }
+            }
+        }
+        Err(_) => return complain(rt, "cannot read", "the words of the command line"),
+    }
+    match command(rt.alloc(), words.as_slice()) {
+        Ok(Invocation::World(path)) => world_at(rt, path),
+        Err(error) => explain(rt, error),
+    }
+}
