@@ -1,0 +1,105 @@
+ghost use Rattle.std.specs.Prelude.{◌≡◌, ◌<◌, ◌≤◌, ◌^◌, ◌∷◌, IfSome, SomeIff, None, Some, length, nat_le, MatchResult, if◌then◌else◌};
+ghost use Rattle.std.specs.Option.{option_copied};
+ghost use Rattle.vsync_text.specs.Lines.{lines_of, field_of, behind_field};
+ghost use Rattle.vsync_text.specs.Numbers.{is_plain, has_plain_front, value_of, number_in};
+ghost use Rattle.vsync_text.specs.Script.{node_field};
+
+use crate::Fault;
+use address::Node;
+
+/// The first line of a text that is not empty, and what stands behind its line feed.
+pub(crate) fn first_line(text: &[u8]) -> (&[u8], &[u8])
+    requires { 0 < length text.now }
+    ensures lines { lines_of text.now ≡ result.0.now ∷ lines_of result.1.now }
+    ensures shorter { length result.1.now < length text.now }
+{
+    match text.iter().position(|b| *b == b'\n') {
+        None => text.split_at(text.len()),
+        Some(end) => {
+            let (line, rest) = text.split_at(end);
+            let (_, rest) = rest.split_at(1);
+            (line, rest)
+        }
+    }
+}
+
+/// The field at the front of a text, and what stands behind the space that follows it.
+pub(crate) fn first_field(text: &[u8]) -> (&[u8], Option<&[u8]>)
+    ensures field { result.0.now ≡ field_of text.now }
+    ensures rest { option_copied result.1 ≡ behind_field text.now }
+{
+    match text.iter().position(|b| *b == b' ') {
+        None => (text, None),
+        Some(end) => {
+            let (field, rest) = text.split_at(end);
+            let (_, rest) = rest.split_at(1);
+            (field, Some(rest))
+        }
+    }
+}
+
+/// Whether a field has decimal digits alone, without leading zeros.
+fn is_plain(field: &[u8]) -> bool
+    ensures { result ≡ is_plain field.now }
+{
+    has_plain_front(field) && field.iter().all(|b| b.is_ascii_digit())
+}
+
+fn has_plain_front(field: &[u8]) -> bool
+    ensures { result ≡ has_plain_front field.now }
+{
+    match field.split_first() {
+        None => false,
+        Some((first, rest)) => rest.is_empty() || *first != b'0',
+    }
+}
+
+/// The number that digits spell, if it is at most `high`.
+fn value_of(digits: &[u8], high: u64) -> Option<u64>
+    ensures { result ≡ (if nat_le (value_of digits.now) high then Some (value_of digits.now) else None) }
+{
+    let mut value: u64 = 0;
+    for digit in digits {
+        let next = u128::from(value) * 10 + u128::from(digit.saturating_sub(b'0'));
+        if next > u128::from(high) {
+            return None;
+        }
+        value = next as u64;
+    }
+    Some(value)
+}
+
+/// The number from `low` to `high` that a field spells, in decimal without leading zeros.
+pub(crate) fn number_in(low: u64, high: u64, field: &[u8]) -> Option<u64>
+    ensures { result ≡ number_in low high field.now }
+{
+    if !is_plain(field) {
+        return None;
+    }
+    let value = value_of(field, high)?;
+    if value < low {
+        return None;
+    }
+    Some(value)
+}
+
+/// The next field as a node, and what is left behind it.
+pub(crate) fn node_field(rest: Option<&[u8]>) -> Result<(Node, Option<&[u8]>), Fault>
+    ensures {
+        MatchResult result
+            (λ read. node_field (option_copied rest.entry) ≡ Ok (read.0, option_copied read.1))
+            (λ f. node_field (option_copied rest.entry) ≡ Err f)
+    }
+{
+    let Some(text) = rest else {
+        return Err(Fault::MissingField);
+    };
+    let (field, rest) = first_field(text);
+    match number_in(1, 65535, field) {
+        None => Err(Fault::BadNumber),
+        Some(number) => match Node::new(number as u16) {
+            None => Err(Fault::BadNumber),
+            Some(node) => Ok((node, rest)),
+        },
+    }
+}
