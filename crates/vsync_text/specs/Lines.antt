@@ -1,7 +1,6 @@
 -- The lines of a text, and the fields of a line.
-use Rattle.std.specs.Prelude.{ℕ, ◌+◌, Bool, List, [], ◌∷◌, Option, nat_eq, drop, position, if◌then◌else◌}
-use Rattle.std.specs.List.{before_first}
-use Rattle.std.specs.Option.{option_map}
+use Rattle.std.specs.Prelude.{ℕ, Bool, List, [], ◌∷◌, Option, None, Some, nat_eq, drop, if◌then◌else◌}
+use Rattle.std.specs.List.{before_first, position_or_len}
 
 -- a byte before the first of some lines
 abbrev pub in_front : ℕ → List (List ℕ) → List (List ℕ)
@@ -20,6 +19,11 @@ is_space b = nat_eq b 32
 abbrev pub field_of : List ℕ → List ℕ
 field_of text = before_first is_space text
 
+-- the text behind its first byte, if it has one
+abbrev pub behind : List ℕ → Option (List ℕ)
+behind [] = None
+behind (b ∷ bs) = Some bs
+
 -- the text behind the first space, if there is one
 abbrev pub behind_field : List ℕ → Option (List ℕ)
-behind_field text = option_map (λ k. drop (k + 1) text) (position is_space text)
+behind_field text = behind (drop (position_or_len is_space text) text)

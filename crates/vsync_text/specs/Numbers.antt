@@ -1,6 +1,7 @@
 -- Numbers as a text spells them.
-use Rattle.std.specs.Prelude.{ℕ, ◌+◌, ◌-◌, ◌*◌, Bool, true, false, ◌&&◌, List, [], ◌∷◌, Option, None, Some, nat_eq, nat_le, not, is_ascii_digit, if◌then◌else◌}
+use Rattle.std.specs.Prelude.{ℕ, ◌+◌, ◌-◌, ◌*◌, Bool, true, false, ◌&&◌, List, [], ◌∷◌, Option, None, Some, nat_eq, nat_le, not, if◌then◌else◌}
 use Rattle.std.specs.List.{list_all}
+use Rattle.std.specs.Char.{is_ascii_digit}
 
 -- the number that digits go on with
 abbrev pub value_after : ℕ → List ℕ → ℕ

@@ -1,5 +1,7 @@
-ghost use Rattle.std.specs.Prelude.{◌≡◌, MatchResult};
+ghost use Rattle.std.specs.Prelude.{◌≡◌, Some, MatchOption, MatchResult};
 ghost use Rattle.std.specs.Option.{option_copied};
+ghost use Rattle.vsync_text.specs.declared.line.Unheard.TheVariants as unheard;
+ghost use Rattle.vsync_text.specs.declared.fault.Fault.TheVariants.{MissingField};
 ghost use Rattle.vsync_text.specs.Script.{node_field, only, sent, word_of, event_of, told, is_skipped, reading_of, IsUnheard};
 
 use crate::field::{first_field, node_field};
@@ -55,17 +57,29 @@ fn lone_node(rest: Option<&[u8]>) -> Result<Node, Unheard>
     }
 }
 
+/// The payload of an event: the rest of its line.
+fn payload(alloc: Global, rest: Option<&[u8]>) -> Result<Bytes, Unheard>
+    ensures { MatchResult result (λ bytes. option_copied rest.entry ≡ Some bytes) (λ u. MatchOption (option_copied rest.entry) (u ≡ unheard.Fault MissingField) (λ text. u ≡ unheard.Memory)) }
+{
+    let Some(text) = rest else {
+        return Err(Unheard::Fault(Fault::MissingField));
+    };
+    match Bytes::from_slice(alloc, text) {
+        Err(_) => Err(Unheard::Memory),
+        Ok(bytes) => Ok(bytes),
+    }
+}
+
 /// The event of `send N TEXT`.
 fn sent(alloc: Global, rest: Option<&[u8]>) -> Result<WorldEvent, Unheard>
     ensures { MatchResult result (λ e. sent (node_field (option_copied rest.entry)) ≡ Ok e) (IsUnheard (sent (node_field (option_copied rest.entry)))) }
 {
     match node_field(rest) {
         Err(fault) => Err(Unheard::Fault(fault)),
-        Ok((_, None)) => Err(Unheard::Fault(Fault::MissingField)),
-        Ok((node, Some(text))) => match Bytes::from_slice(alloc, text) {
-            Err(_) => Err(Unheard::Memory),
-            Ok(payload) => Ok(WorldEvent::Send(node, payload)),
-        },
+        Ok((node, behind)) => {
+            let bytes = payload(alloc, behind)?;
+            Ok(WorldEvent::Send(node, bytes))
+        }
     }
 }
 
