@@ -34,7 +34,7 @@ value_grows n (d ∷ ds) = omega (arith, value_grows (10 * n + (d - 48)) ds)
 pub value_beyond : (digits : List ℕ) (n i high : ℕ) → i < length digits → value_of digits ≡ value_after n (drop i digits)
     → high < 10 * n + (get_or digits i 0 - 48) → nat_le (value_of digits) high ≡ false
 value_beyond digits n i high inside goes beyond =
-    let far : 10 * n + (get_or digits i 0 - 48) ≤ value_after (10 * n + (get_or digits i 0 - 48)) (drop (i + 1) digits) = value_grows _ _ in
+    let far : 10 * n + (get_or digits i 0 - 48) ≤ value_after (10 * n + (get_or digits i 0 - 48)) (drop (i + 1) digits) = value_grows (10 * n + (get_or digits i 0 - 48)) (drop (i + 1) digits) in
     let all : value_of digits ≡ value_after (10 * n + (get_or digits i 0 - 48)) (drop (i + 1) digits) = rw goes (rw (drop-cons digits i 0 inside) (rw add-one refl)) in
     lt-leb (value_of digits) high (omega arith)
 
