@@ -4,9 +4,16 @@
 mod fault;
 mod field;
 mod line;
+mod run;
 mod script;
+mod append;
+mod buffered;
+mod trace_line;
 
+pub use buffered::put_all;
 pub use fault::{Fault, Unread};
+pub use trace_line::{append_happening, append_refusal};
+pub use run::{write_run, Printed};
 pub use script::{read_script, Script};
 
 /// The most bytes that a line of a script may have, without its line feed.
