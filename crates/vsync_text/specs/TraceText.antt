@@ -5,6 +5,8 @@ use Rattle.std.specs.Fmt.{decimal}
 use Rattle.address.specs.Ids.{Address, ViewId, text_of_address, text_of_view_id}
 use Rattle.trace_props.specs.declared.happening.Happening.{Happening}
 use Rattle.trace_props.specs.declared.happening.Happening.TheVariants.{Started, Sent, Delivered, Blocked, Installed, Left, Crashed}
+use Rattle.trace_props.specs.declared.happening.Sending.{Sending}
+use Rattle.trace_props.specs.declared.happening.Delivery.{Delivery}
 use Rattle.trace_props.specs.declared.happening.Install.{Install}
 use Rattle.trace_props.specs.declared.happening.Numbered.{Numbered}
 
@@ -67,19 +69,38 @@ install_view i =
 abbrev pub install_rest : Install → List ℕ
 install_rest i = field (text_of_addresses i.together) ++ field (text_of_handed_back i.handed_back) ++ field (text_of_given i.given)
 
+abbrev pub sending_fields : Sending → List ℕ
+sending_fields s =
+    field (text_of_address s.member) ++ field (text_of_view_id s.view) ++ field (decimal s.message.number)
+    ++ field (text_of_payload s.message.payload)
+
+abbrev pub delivery_fields : Delivery → List ℕ
+delivery_fields d =
+    field (text_of_address d.member) ++ field (text_of_view_id d.view) ++ field (text_of_address d.message.sender)
+    ++ field (decimal d.message.number) ++ field (text_of_payload d.message.payload)
+
+-- the word with which the line of a happening begins
+abbrev pub happening_word : Happening → List ℕ
+happening_word (Started p) = codes "started"
+happening_word (Sent s) = codes "sent"
+happening_word (Delivered d) = codes "delivered"
+happening_word (Blocked p) = codes "blocked"
+happening_word (Installed i) = codes "installed"
+happening_word (Left p) = codes "left"
+happening_word (Crashed p) = codes "crashed"
+
+abbrev pub fields_of : Happening → List ℕ
+fields_of (Started p) = field (text_of_address p)
+fields_of (Sent s) = sending_fields s
+fields_of (Delivered d) = delivery_fields d
+fields_of (Blocked p) = field (text_of_address p)
+fields_of (Installed i) = install_view i ++ install_rest i
+fields_of (Left p) = field (text_of_address p)
+fields_of (Crashed p) = field (text_of_address p)
+
 -- the line of a happening, with its line feed
 abbrev pub line_of : Happening → List ℕ
-line_of (Started p) = line_with (codes "started") (field (text_of_address p))
-line_of (Sent s) = line_with (codes "sent")
-    (field (text_of_address s.member) ++ field (text_of_view_id s.view) ++ field (decimal s.message.number)
-      ++ field (text_of_payload s.message.payload))
-line_of (Delivered d) = line_with (codes "delivered")
-    (field (text_of_address d.member) ++ field (text_of_view_id d.view) ++ field (text_of_address d.message.sender)
-      ++ field (decimal d.message.number) ++ field (text_of_payload d.message.payload))
-line_of (Blocked p) = line_with (codes "blocked") (field (text_of_address p))
-line_of (Installed i) = line_with (codes "installed") (install_view i ++ install_rest i)
-line_of (Left p) = line_with (codes "left") (field (text_of_address p))
-line_of (Crashed p) = line_with (codes "crashed") (field (text_of_address p))
+line_of h = line_with (happening_word h) (fields_of h)
 
 -- a text goes on from another
 pub record GoesOnFrom (old new : List ℕ) : Type 0 where

@@ -67,16 +67,25 @@ fn settle_piece<W: Write>(writer: &mut W, buffer: &mut Vec<u8>) -> Result<(), Un
     settle(writer, buffer)
 }
 
+/// Writes what the buffer holds, where memory was refused for more, and says why no more was written.
+fn give_up<W: Write>(writer: &mut W, buffer: &mut Vec<u8>) -> Unwritten
+    ensures { Writes (W.contents writer.old) (W.contents writer.new) buffer.old.items buffer.new.items (Err result) [] }
+{
+    match settle(writer, buffer) {
+        Err(why) => why,
+        Ok(()) => Unwritten::Memory,
+    }
+}
+
 /// Writes the line of a happening.
 pub(crate) fn write_happening<W: Write>(writer: &mut W, buffer: &mut Vec<u8>, happening: &Happening) -> Result<(), Unwritten>
     ensures { Writes (W.contents writer.old) (W.contents writer.new) buffer.old.items buffer.new.items result (line_of happening.now ∷ []) }
 {
     settle_piece(writer, buffer)?;
-    if append_happening(buffer, happening).is_ok() {
-        return Ok(());
+    match append_happening(buffer, happening) {
+        Ok(()) => Ok(()),
+        Err(_) => Err(give_up(writer, buffer)),
     }
-    settle(writer, buffer)?;
-    Err(Unwritten::Memory)
 }
 
 /// Writes the refusal of the event of a line.
@@ -84,9 +93,8 @@ pub(crate) fn write_refusal<W: Write>(writer: &mut W, buffer: &mut Vec<u8>, line
     ensures { Writes (W.contents writer.old) (W.contents writer.new) buffer.old.items buffer.new.items result (refusal_line line number ∷ []) }
 {
     settle_piece(writer, buffer)?;
-    if append_refusal(buffer, line, number).is_ok() {
-        return Ok(());
+    match append_refusal(buffer, line, number) {
+        Ok(()) => Ok(()),
+        Err(_) => Err(give_up(writer, buffer)),
     }
-    settle(writer, buffer)?;
-    Err(Unwritten::Memory)
 }

@@ -1,51 +1,32 @@
 ghost use Rattle.std.specs.Prelude.{◌≡◌, ◌++◌, OnOk, OnErr};
-ghost use Rattle.std.specs.Fmt.{decimal};
-ghost use Rattle.address.specs.Ids.{text_of_address, text_of_view_id};
-ghost use Rattle.trace_props.specs.declared.happening.Happening.TheVariants.{Sent, Delivered, Installed};
-ghost use Rattle.vsync_text.specs.TraceText.{GoesOnFrom, field, text_of_payload, text_of_previous, text_of_addresses, text_of_handed_back, text_of_given, line_with, line_of, install_view, install_rest};
+ghost use Rattle.vsync_text.specs.TraceText.{GoesOnFrom, sending_fields, delivery_fields, install_view, install_rest, happening_word, fields_of, line_of};
 ghost use Rattle.vsync_text.specs.Runs.{refusal_line};
 
 use crate::append::{put, put_address, put_addresses, put_given, put_handed_back, put_number, put_payload, put_previous, put_view_id};
-use address::Address;
 use std::alloc::AllocError;
 use trace_props::{Delivery, Happening, Install, Sending};
 
-/// Appends a line of a word and an address.
 #[tactic(auto, using(crate::proofs::Appending::goes_on))]
-fn put_at_address(out: &mut Vec<u8>, word: &[u8], address: &Address) -> Result<(), AllocError>
-    ensures text { OnOk result (out.new.items ≡ out.old.items ++ line_with word.now (field (text_of_address address.now))) }
+fn put_sending_fields(out: &mut Vec<u8>, sending: &Sending) -> Result<(), AllocError>
+    ensures text { OnOk result (out.new.items ≡ out.old.items ++ sending_fields sending.now) }
     ensures kept { GoesOnFrom out.old.items out.new.items }
 {
-    put(out, word)?;
-    put_address(out, b' ', address)?;
-    put(out, b"\n")
-}
-
-#[tactic(auto, using(crate::proofs::Appending::goes_on))]
-fn put_sending(out: &mut Vec<u8>, sending: &Sending) -> Result<(), AllocError>
-    ensures text { OnOk result (out.new.items ≡ out.old.items ++ line_of (Sent sending.now)) }
-    ensures kept { GoesOnFrom out.old.items out.new.items }
-{
-    put(out, b"sent")?;
     put_address(out, b' ', &sending.member)?;
     put_view_id(out, b' ', &sending.view)?;
     put_number(out, b' ', sending.message.number)?;
-    put_payload(out, b' ', sending.message.payload.as_slice())?;
-    put(out, b"\n")
+    put_payload(out, b' ', sending.message.payload.as_slice())
 }
 
 #[tactic(auto, using(crate::proofs::Appending::goes_on))]
-fn put_delivery(out: &mut Vec<u8>, delivery: &Delivery) -> Result<(), AllocError>
-    ensures text { OnOk result (out.new.items ≡ out.old.items ++ line_of (Delivered delivery.now)) }
+fn put_delivery_fields(out: &mut Vec<u8>, delivery: &Delivery) -> Result<(), AllocError>
+    ensures text { OnOk result (out.new.items ≡ out.old.items ++ delivery_fields delivery.now) }
     ensures kept { GoesOnFrom out.old.items out.new.items }
 {
-    put(out, b"delivered")?;
     put_address(out, b' ', &delivery.member)?;
     put_view_id(out, b' ', &delivery.view)?;
     put_address(out, b' ', &delivery.message.sender)?;
     put_number(out, b' ', delivery.message.number)?;
-    put_payload(out, b' ', delivery.message.payload.as_slice())?;
-    put(out, b"\n")
+    put_payload(out, b' ', delivery.message.payload.as_slice())
 }
 
 /// Appends which view a member installs, and from which it comes.
@@ -75,30 +56,55 @@ fn put_install_rest(out: &mut Vec<u8>, install: &Install) -> Result<(), AllocErr
 }
 
 #[tactic(auto, using(crate::proofs::Appending::goes_on))]
-fn put_install(out: &mut Vec<u8>, install: &Install) -> Result<(), AllocError>
-    ensures text { OnOk result (out.new.items ≡ out.old.items ++ line_of (Installed install.now)) }
+fn put_install_fields(out: &mut Vec<u8>, install: &Install) -> Result<(), AllocError>
+    ensures text { OnOk result (out.new.items ≡ out.old.items ++ (install_view install.now ++ install_rest install.now)) }
     ensures kept { GoesOnFrom out.old.items out.new.items }
 {
-    put(out, b"installed")?;
     put_install_view(out, install)?;
-    put_install_rest(out, install)?;
-    put(out, b"\n")
+    put_install_rest(out, install)
+}
+
+/// Appends the fields of a happening, each behind a space.
+fn put_fields(out: &mut Vec<u8>, happening: &Happening) -> Result<(), AllocError>
+    ensures text { OnOk result (out.new.items ≡ out.old.items ++ fields_of happening.now) }
+    ensures kept { GoesOnFrom out.old.items out.new.items }
+{
+    match happening {
+        Happening::Started(member) => put_address(out, b' ', member),
+        Happening::Sent(sending) => put_sending_fields(out, sending),
+        Happening::Delivered(delivery) => put_delivery_fields(out, delivery),
+        Happening::Blocked(member) => put_address(out, b' ', member),
+        Happening::Installed(install) => put_install_fields(out, install),
+        Happening::Left(member) => put_address(out, b' ', member),
+        Happening::Crashed(member) => put_address(out, b' ', member),
+    }
+}
+
+/// Appends the word with which the line of a happening begins.
+fn put_word(out: &mut Vec<u8>, happening: &Happening) -> Result<(), AllocError>
+    ensures text { OnOk result (out.new.items ≡ out.old.items ++ happening_word happening.now) }
+    ensures kept { GoesOnFrom out.old.items out.new.items }
+{
+    match happening {
+        Happening::Started(_) => put(out, b"started"),
+        Happening::Sent(_) => put(out, b"sent"),
+        Happening::Delivered(_) => put(out, b"delivered"),
+        Happening::Blocked(_) => put(out, b"blocked"),
+        Happening::Installed(_) => put(out, b"installed"),
+        Happening::Left(_) => put(out, b"left"),
+        Happening::Crashed(_) => put(out, b"crashed"),
+    }
 }
 
 /// Appends the line of a happening or a part of it.
+#[tactic(auto, using(crate::proofs::Appending::goes_on))]
 fn put_happening(out: &mut Vec<u8>, happening: &Happening) -> Result<(), AllocError>
     ensures text { OnOk result (out.new.items ≡ out.old.items ++ line_of happening.now) }
     ensures kept { GoesOnFrom out.old.items out.new.items }
 {
-    match happening {
-        Happening::Started(member) => put_at_address(out, b"started", member),
-        Happening::Sent(sending) => put_sending(out, sending),
-        Happening::Delivered(delivery) => put_delivery(out, delivery),
-        Happening::Blocked(member) => put_at_address(out, b"blocked", member),
-        Happening::Installed(install) => put_install(out, install),
-        Happening::Left(member) => put_at_address(out, b"left", member),
-        Happening::Crashed(member) => put_at_address(out, b"crashed", member),
-    }
+    put_word(out, happening)?;
+    put_fields(out, happening)?;
+    put(out, b"\n")
 }
 
 /// Appends the refusal of the event of a line or a part of it.
