@@ -21,7 +21,7 @@ pub until_first : (p : ℕ → Bool) (xs : List ℕ) (r : Option ℕ) → r ≡ 
     → MatchOption r (length xs ≡ position_or_len p xs) (λ k. k ≡ position_or_len p xs)
 until_first p xs r e =
     first_is (nat_lt (position_or_len p xs) (length xs)) (position_or_len p xs) (length xs) r e
-      (λ f. omega (arith, prefix_len-le-length (λ x. not (p x)) xs, ltb-false _ _ f))
+    (λ f. omega (arith, prefix_len-le-length (λ x. not (p x)) xs, ltb-false _ _ f))
 
 pub nowhere : (p : ℕ → Bool) (xs : List ℕ) → None ≡ position p xs → length xs ≡ position_or_len p xs
 nowhere p xs e = until_first p xs None e
@@ -48,7 +48,7 @@ tail_of (b ∷ bs) = bs
 
 front_step : (b p : ℕ) (xs : List ℕ) (t : Bool) → lines_of xs ≡ take p xs ∷ lines_of (tail_of (drop p xs))
     → (if t then [] ∷ lines_of xs else in_front b (lines_of xs))
-      ≡ take (cond (not t) (1 + p) 0) (b ∷ xs) ∷ lines_of (tail_of (drop (cond (not t) (1 + p) 0) (b ∷ xs)))
+    ≡ take (cond (not t) (1 + p) 0) (b ∷ xs) ∷ lines_of (tail_of (drop (cond (not t) (1 + p) 0) (b ∷ xs)))
 front_step b p xs true h = refl
 front_step b p xs false h =
     let e : 1 + p ≡ suc p = omega arith in
@@ -87,8 +87,8 @@ event_first s k e None events = rw (append_assoc, append_assoc) refl
 join_step : (s : Script) (k : ℕ) (line : List ℕ) (lines : List (List ℕ)) (said : Result (Option WorldEvent) Fault)
     → ((t : Script) → going_on t (k + 1) lines ≡ with_front t (said_from (k + 1) lines))
     → then_on (λ t. going_on t (k + 1) lines) (after_line s k said)
-      ≡ with_front s (unless_fault (slice_get (cons_option (fault_in k said) (faults_of (enumerate_from (k + 1) lines))) 0)
-          (cons_option (event_in k said) (events_of (enumerate_from (k + 1) lines))))
+    ≡ with_front s (unless_fault (slice_get (cons_option (fault_in k said) (faults_of (enumerate_from (k + 1) lines))) 0)
+    (cons_option (event_in k said) (events_of (enumerate_from (k + 1) lines))))
 join_step s k line lines (Ok None) h = h s
 join_step s k line lines (Ok (Some e)) h = h (with_event s k e) ∙ event_first s k e _ _
 join_step s k line lines (Err f) h = refl

@@ -15,11 +15,15 @@ use Rattle.vsync_text.specs.TraceText.{field, line_with, line_of}
 abbrev pub refusal_line : ℕ → ℕ → List ℕ
 refusal_line line number = line_with (codes "# refused") (field (decimal line) ++ field (decimal number))
 
--- what stands at the place of a reply to the event of a line: the refusal, unless it is that memory was refused
+-- the refusal of the event of a line, unless it is that memory was refused
+abbrev pub refused_lines : ℕ → Refusal → List (List ℕ)
+refused_lines line r = if nat_eq (number_of r) (number_of Memory) then [] else refusal_line line (number_of r) ∷ []
+
+-- what stands at the place of a reply to the event of a line
 abbrev pub answer_lines : ℕ → Answer → List (List ℕ)
 answer_lines line Done = []
 answer_lines line (Sent n) = []
-answer_lines line (Refused r) = if nat_eq (number_of r) (number_of Memory) then [] else refusal_line line (number_of r) ∷ []
+answer_lines line (Refused r) = refused_lines line r
 
 -- the happenings from one place up to another
 abbrev pub stretch : ℕ → ℕ → List Happening → List Happening

@@ -34,7 +34,11 @@ pub(crate) fn put_number(out: &mut Vec<u8>, before: u8, number: u64) -> Result<(
 
 /// Appends an address.
 #[tactic(auto, using(crate::proofs::Appending::goes_on))]
-pub(crate) fn put_address(out: &mut Vec<u8>, before: u8, address: &Address) -> Result<(), AllocError>
+pub(crate) fn put_address(
+    out: &mut Vec<u8>,
+    before: u8,
+    address: &Address,
+) -> Result<(), AllocError>
     ensures text { OnOk result (out.new.items ≡ out.old.items ++ before ∷ text_of_address address.now) }
     ensures kept { GoesOnFrom out.old.items out.new.items }
 {
@@ -54,7 +58,11 @@ pub(crate) fn put_view_id(out: &mut Vec<u8>, before: u8, view: &ViewId) -> Resul
 
 /// Appends the view id, or `-`.
 #[tactic(auto, using(crate::proofs::Appending::goes_on))]
-pub(crate) fn put_previous(out: &mut Vec<u8>, before: u8, view: Option<&ViewId>) -> Result<(), AllocError>
+pub(crate) fn put_previous(
+    out: &mut Vec<u8>,
+    before: u8,
+    view: Option<&ViewId>,
+) -> Result<(), AllocError>
     ensures text { OnOk result (out.new.items ≡ out.old.items ++ before ∷ text_of_previous (option_copied view.entry)) }
     ensures kept { GoesOnFrom out.old.items out.new.items }
 {
@@ -104,7 +112,11 @@ pub(crate) fn put_payload(out: &mut Vec<u8>, before: u8, payload: &[u8]) -> Resu
 
 /// Appends a given state, `-` for none.
 #[tactic(auto, using(crate::proofs::Appending::goes_on))]
-pub(crate) fn put_given(out: &mut Vec<u8>, before: u8, given: Option<&[u8]>) -> Result<(), AllocError>
+pub(crate) fn put_given(
+    out: &mut Vec<u8>,
+    before: u8,
+    given: Option<&[u8]>,
+) -> Result<(), AllocError>
     ensures text { OnOk result (out.new.items ≡ out.old.items ++ before ∷ text_of_given (option_copied given.entry)) }
     ensures kept { GoesOnFrom out.old.items out.new.items }
 {
@@ -131,7 +143,11 @@ fn put_more_addresses(out: &mut Vec<u8>, members: &[Address]) -> Result<(), Allo
 
 /// Appends addresses, joined by commas.
 #[tactic(auto, using(crate::proofs::Appending::goes_on))]
-pub(crate) fn put_addresses(out: &mut Vec<u8>, before: u8, members: &[Address]) -> Result<(), AllocError>
+pub(crate) fn put_addresses(
+    out: &mut Vec<u8>,
+    before: u8,
+    members: &[Address],
+) -> Result<(), AllocError>
     ensures text { OnOk result (out.new.items ≡ out.old.items ++ before ∷ text_of_addresses members.now) }
     ensures kept { GoesOnFrom out.old.items out.new.items }
 {
@@ -169,7 +185,11 @@ fn put_more_numbered(out: &mut Vec<u8>, messages: &[Numbered]) -> Result<(), All
 
 /// Appends messages that were handed back, joined by commas, `-` for none.
 #[tactic(auto, using(crate::proofs::Appending::goes_on))]
-pub(crate) fn put_handed_back(out: &mut Vec<u8>, before: u8, messages: &[Numbered]) -> Result<(), AllocError>
+pub(crate) fn put_handed_back(
+    out: &mut Vec<u8>,
+    before: u8,
+    messages: &[Numbered],
+) -> Result<(), AllocError>
     ensures text { OnOk result (out.new.items ≡ out.old.items ++ before ∷ text_of_handed_back messages.now) }
     ensures kept { GoesOnFrom out.old.items out.new.items }
 {

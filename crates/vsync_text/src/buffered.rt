@@ -23,6 +23,7 @@ pub(crate) enum Unwritten {
     Failed,
 }
 
+#[tactic(auto, using(crate::proofs::Writing::took_more))]
 /// Writes all bytes.
 ///
 /// # Errors
@@ -77,22 +78,37 @@ fn give_up<W: Write>(writer: &mut W, buffer: &mut Vec<u8>) -> Unwritten
     }
 }
 
+#[tactic(auto, using(crate::proofs::Writing::stops_at_once, crate::proofs::Writing::stops_after, crate::proofs::Writing::went_held))]
 /// Writes the line of a happening.
-pub(crate) fn write_happening<W: Write>(writer: &mut W, buffer: &mut Vec<u8>, happening: &Happening) -> Result<(), Unwritten>
+pub(crate) fn write_happening<W: Write>(
+    writer: &mut W,
+    buffer: &mut Vec<u8>,
+    happening: &Happening,
+) -> Result<(), Unwritten>
     ensures { Writes (W.contents writer.old) (W.contents writer.new) buffer.old.items buffer.new.items result (line_of happening.now ∷ []) }
 {
-    settle_piece(writer, buffer)?;
+    if let Err(why) = settle_piece(writer, buffer) {
+        return Err(why);
+    }
     match append_happening(buffer, happening) {
         Ok(()) => Ok(()),
         Err(_) => Err(give_up(writer, buffer)),
     }
 }
 
+#[tactic(auto, using(crate::proofs::Writing::stops_at_once, crate::proofs::Writing::stops_after, crate::proofs::Writing::went_held))]
 /// Writes the refusal of the event of a line.
-pub(crate) fn write_refusal<W: Write>(writer: &mut W, buffer: &mut Vec<u8>, line: u64, number: u8) -> Result<(), Unwritten>
+pub(crate) fn write_refusal<W: Write>(
+    writer: &mut W,
+    buffer: &mut Vec<u8>,
+    line: u64,
+    number: u8,
+) -> Result<(), Unwritten>
     ensures { Writes (W.contents writer.old) (W.contents writer.new) buffer.old.items buffer.new.items result (refusal_line line number ∷ []) }
 {
-    settle_piece(writer, buffer)?;
+    if let Err(why) = settle_piece(writer, buffer) {
+        return Err(why);
+    }
     match append_refusal(buffer, line, number) {
         Ok(()) => Ok(()),
         Err(_) => Err(give_up(writer, buffer)),

@@ -108,11 +108,9 @@ pub(crate) fn number_in(low: u64, high: u64, field: &[u8]) -> Option<u64>
 
 /// The next field as a node, and what is left behind it.
 pub(crate) fn node_field(rest: Option<&[u8]>) -> Result<(Node, Option<&[u8]>), Fault>
-    ensures {
-        MatchResult result
-            (λ read. node_field (option_copied rest.entry) ≡ Ok (read.0, option_copied read.1))
-            (λ f. node_field (option_copied rest.entry) ≡ Err f)
-    }
+    ensures { MatchResult result
+        (λ read. node_field (option_copied rest.entry) ≡ Ok (read.0, option_copied read.1))
+        (λ f. node_field (option_copied rest.entry) ≡ Err f) }
 {
     let Some(text) = rest else {
         return Err(Fault::MissingField);

@@ -1,9 +1,9 @@
 ghost use Rattle.std.specs.Prelude.{◌≡◌, [], OnOk, MatchResult};
 ghost use Rattle.vsync_text.specs.Script.{script_of, reading_of, with_event, HasRead, IsUnread};
 
-use crate::field::first_line;
-use crate::line::{read_line, Unheard};
 use crate::Unread;
+use crate::field::first_line;
+use crate::line::{Unheard, read_line};
 use std::alloc::{AllocError, Global};
 use std::marker::Model;
 use world_model::WorldEvent;
@@ -53,7 +53,10 @@ impl Script {
         ensures { HasRead self.old number (reading_of line.now) result self.new }
     {
         match read_line(alloc, line) {
-            Err(Unheard::Fault(fault)) => Err(Unread::Fault { line: number, fault }),
+            Err(Unheard::Fault(fault)) => Err(Unread::Fault {
+                line: number,
+                fault,
+            }),
             Err(Unheard::Memory) => Err(Unread::Memory),
             Ok(None) => Ok(()),
             Ok(Some(event)) => match self.add(number, event) {

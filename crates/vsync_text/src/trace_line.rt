@@ -2,7 +2,10 @@ ghost use Rattle.std.specs.Prelude.{◌≡◌, ◌++◌, OnOk, OnErr};
 ghost use Rattle.vsync_text.specs.TraceText.{GoesOnFrom, sending_fields, delivery_fields, install_view, install_rest, happening_word, fields_of, line_of};
 ghost use Rattle.vsync_text.specs.Runs.{refusal_line};
 
-use crate::append::{put, put_address, put_addresses, put_given, put_handed_back, put_number, put_payload, put_previous, put_view_id};
+use crate::append::{
+    put, put_address, put_addresses, put_given, put_handed_back, put_number, put_payload,
+    put_previous, put_view_id,
+};
 use std::alloc::AllocError;
 use trace_props::{Delivery, Happening, Install, Sending};
 
