@@ -168,7 +168,7 @@ all_taken a b c l text w s = rw (← w.whole) (appends_then a b c w.written l w.
 pub beginning_taken : (a b c : Option (List ℕ)) (l text : List ℕ) → Went a b [] l text → TookBeginning b c l → (n : ℕ) × Appends a c (take n text)
 beginning_taken a b c l text w s =
     let part : take (length w.written + s.count) text ≡ w.written ++ take s.count l =
-      ap (take (length w.written + s.count)) (sym w.whole) ∙ take-append-add w.written l s.count in
+    ap (take (length w.written + s.count)) (sym w.whole) ∙ take-append-add w.written l s.count in
     (length w.written + s.count, rw part (appends_then a b c w.written (take s.count l) w.appended s.appended))
 
 pub lines_taken : (a b : Option (List ℕ)) (lines : List (List ℕ)) → TookLines a b [] lines → (n : ℕ) × Appends a b (concat (take n lines))

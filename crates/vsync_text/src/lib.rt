@@ -18,3 +18,6 @@ pub use trace_line::{append_happening, append_refusal};
 
 /// The most bytes that a line of a script may have, without its line feed.
 pub const SCRIPT_LINE: usize = 4096;
+
+#[cfg(test)]
+mod tests;

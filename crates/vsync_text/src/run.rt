@@ -57,7 +57,12 @@ fn write_happenings<W: Write>(
 }
 
 /// Writes the refusal of the event of a line, unless it is that memory was refused.
-fn write_refused<W: Write>(writer: &mut W, buffer: &mut Vec<u8>, line: u64, refusal: Refusal) -> Result<(), Unwritten>
+fn write_refused<W: Write>(
+    writer: &mut W,
+    buffer: &mut Vec<u8>,
+    line: u64,
+    refusal: Refusal,
+) -> Result<(), Unwritten>
     ensures { Writes (W.contents writer.old) (W.contents writer.new) buffer.old.items buffer.new.items result (refused_lines line refusal) }
 {
     let number = refusal.number();
@@ -68,7 +73,12 @@ fn write_refused<W: Write>(writer: &mut W, buffer: &mut Vec<u8>, line: u64, refu
 }
 
 /// Writes what stands at the place of a reply to the event of a line.
-fn write_answer<W: Write>(writer: &mut W, buffer: &mut Vec<u8>, line: u64, answer: Answer) -> Result<(), Unwritten>
+fn write_answer<W: Write>(
+    writer: &mut W,
+    buffer: &mut Vec<u8>,
+    line: u64,
+    answer: Answer,
+) -> Result<(), Unwritten>
     ensures { Writes (W.contents writer.old) (W.contents writer.new) buffer.old.items buffer.new.items result (answer_lines line answer) }
 {
     match answer {
