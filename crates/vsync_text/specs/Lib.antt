@@ -1,0 +1,6 @@
+pub mod Lines
+pub mod Numbers
+pub mod Script
+pub mod TraceText
+pub mod Runs
+pub mod Writing

@@ -1,0 +1,203 @@
+//! Texts of ids, payloads and lists, appended to a buffer. Each comes behind one byte that separates it from what stands before.
+//! Where memory is refused, a part may have been appended.
+
+ghost use Rattle.std.specs.Prelude.{◌≡◌, ◌<◌, ◌++◌, ◌∷◌, [], flat_map, OnOk};
+ghost use Rattle.std.specs.Option.{option_copied};
+ghost use Rattle.std.specs.Fmt.{decimal};
+ghost use Rattle.address.specs.Ids.{text_of_address, text_of_view_id};
+ghost use Rattle.vsync_text.specs.TraceText.{GoesOnFrom, hex_digit, hex_of, hex_of_byte, text_of_payload, text_of_previous, text_of_addresses, text_of_numbered, text_of_handed_back, text_of_given};
+
+use address::{Address, ViewId};
+use itoa::Buffer;
+use std::alloc::AllocError;
+use trace_props::Numbered;
+
+/// Appends bytes.
+#[tactic(auto, using(crate::proofs::Appending::at_once, crate::proofs::Appending::same))]
+pub(crate) fn put(out: &mut Vec<u8>, bytes: &[u8]) -> Result<(), AllocError>
+    ensures text { OnOk result (out.new.items ≡ out.old.items ++ bytes.now) }
+    ensures kept { GoesOnFrom out.old.items out.new.items }
+{
+    out.extend_from_slice(bytes)
+}
+
+/// Appends a number.
+#[tactic(auto, using(crate::proofs::Appending::goes_on))]
+pub(crate) fn put_number(out: &mut Vec<u8>, before: u8, number: u64) -> Result<(), AllocError>
+    ensures text { OnOk result (out.new.items ≡ out.old.items ++ before ∷ decimal number) }
+    ensures kept { GoesOnFrom out.old.items out.new.items }
+{
+    let mut buffer = Buffer::new();
+    put(out, &[before])?;
+    put(out, buffer.format(number).as_bytes())
+}
+
+/// Appends an address.
+#[tactic(auto, using(crate::proofs::Appending::goes_on))]
+pub(crate) fn put_address(
+    out: &mut Vec<u8>,
+    before: u8,
+    address: &Address,
+) -> Result<(), AllocError>
+    ensures text { OnOk result (out.new.items ≡ out.old.items ++ before ∷ text_of_address address.now) }
+    ensures kept { GoesOnFrom out.old.items out.new.items }
+{
+    put_number(out, before, u64::from(address.node().number()))?;
+    put_number(out, b'.', u64::from(address.incarnation()))
+}
+
+/// Appends a view id.
+#[tactic(auto, using(crate::proofs::Appending::goes_on))]
+pub(crate) fn put_view_id(out: &mut Vec<u8>, before: u8, view: &ViewId) -> Result<(), AllocError>
+    ensures text { OnOk result (out.new.items ≡ out.old.items ++ before ∷ text_of_view_id view.now) }
+    ensures kept { GoesOnFrom out.old.items out.new.items }
+{
+    put_number(out, before, view.counter())?;
+    put_address(out, b'@', &view.creator())
+}
+
+/// Appends the view id, or `-`.
+#[tactic(auto, using(crate::proofs::Appending::goes_on))]
+pub(crate) fn put_previous(
+    out: &mut Vec<u8>,
+    before: u8,
+    view: Option<&ViewId>,
+) -> Result<(), AllocError>
+    ensures text { OnOk result (out.new.items ≡ out.old.items ++ before ∷ text_of_previous (option_copied view.entry)) }
+    ensures kept { GoesOnFrom out.old.items out.new.items }
+{
+    match view {
+        None => put(out, &[before, b'-']),
+        Some(view) => put_view_id(out, before, view),
+    }
+}
+
+/// The digit of a number below 16.
+fn hex_digit(number: u8) -> u8
+    requires { number < 16 }
+    ensures { result ≡ hex_digit number }
+{
+    if number < 10 {
+        b'0' + number
+    } else {
+        b'a' - 10 + number
+    }
+}
+
+/// Appends bytes in hexadecimal, with no byte before them.
+#[tactic(auto, using(crate::proofs::Appending::goes_on, crate::proofs::Appending::stays))]
+pub(crate) fn put_hex(out: &mut Vec<u8>, bytes: &[u8]) -> Result<(), AllocError>
+    ensures text { OnOk result (out.new.items ≡ out.old.items ++ hex_of bytes.now) }
+    ensures kept { GoesOnFrom out.old.items out.new.items }
+{
+    for byte in bytes {
+        put(out, &[hex_digit(*byte / 16), hex_digit(*byte % 16)])?;
+    }
+    Ok(())
+}
+
+/// Appends a payload, `-` for none.
+#[tactic(auto, using(crate::proofs::Appending::goes_on))]
+pub(crate) fn put_payload(out: &mut Vec<u8>, before: u8, payload: &[u8]) -> Result<(), AllocError>
+    ensures text { OnOk result (out.new.items ≡ out.old.items ++ before ∷ text_of_payload payload.now) }
+    ensures kept { GoesOnFrom out.old.items out.new.items }
+{
+    put(out, &[before])?;
+    if payload.is_empty() {
+        put(out, b"-")
+    } else {
+        put_hex(out, payload)
+    }
+}
+
+/// Appends a given state, `-` for none.
+#[tactic(auto, using(crate::proofs::Appending::goes_on))]
+pub(crate) fn put_given(
+    out: &mut Vec<u8>,
+    before: u8,
+    given: Option<&[u8]>,
+) -> Result<(), AllocError>
+    ensures text { OnOk result (out.new.items ≡ out.old.items ++ before ∷ text_of_given (option_copied given.entry)) }
+    ensures kept { GoesOnFrom out.old.items out.new.items }
+{
+    match given {
+        None => put(out, &[before, b'-']),
+        Some(state) => {
+            put(out, &[before, b'='])?;
+            put_hex(out, state)
+        }
+    }
+}
+
+/// Appends addresses, each behind a comma.
+#[tactic(auto, using(crate::proofs::Appending::goes_on, crate::proofs::Appending::stays))]
+fn put_more_addresses(out: &mut Vec<u8>, members: &[Address]) -> Result<(), AllocError>
+    ensures text { OnOk result (out.new.items ≡ out.old.items ++ flat_map (λ p. 44 ∷ text_of_address p) members.now) }
+    ensures kept { GoesOnFrom out.old.items out.new.items }
+{
+    for member in members {
+        put_address(out, b',', member)?;
+    }
+    Ok(())
+}
+
+/// Appends addresses, joined by commas.
+#[tactic(auto, using(crate::proofs::Appending::goes_on))]
+pub(crate) fn put_addresses(
+    out: &mut Vec<u8>,
+    before: u8,
+    members: &[Address],
+) -> Result<(), AllocError>
+    ensures text { OnOk result (out.new.items ≡ out.old.items ++ before ∷ text_of_addresses members.now) }
+    ensures kept { GoesOnFrom out.old.items out.new.items }
+{
+    match members.split_first() {
+        None => put(out, &[before]),
+        Some((first, more)) => {
+            put_address(out, before, first)?;
+            put_more_addresses(out, more)
+        }
+    }
+}
+
+/// Appends a message that was handed back: its number and its payload.
+#[tactic(auto, using(crate::proofs::Appending::goes_on))]
+fn put_numbered(out: &mut Vec<u8>, before: u8, message: &Numbered) -> Result<(), AllocError>
+    ensures text { OnOk result (out.new.items ≡ out.old.items ++ before ∷ text_of_numbered message.now) }
+    ensures kept { GoesOnFrom out.old.items out.new.items }
+{
+    put_number(out, before, message.number)?;
+    put(out, b":")?;
+    put_hex(out, message.payload.as_slice())
+}
+
+/// Appends messages, each behind a comma.
+#[tactic(auto, using(crate::proofs::Appending::goes_on, crate::proofs::Appending::stays))]
+fn put_more_numbered(out: &mut Vec<u8>, messages: &[Numbered]) -> Result<(), AllocError>
+    ensures text { OnOk result (out.new.items ≡ out.old.items ++ flat_map (λ m. 44 ∷ text_of_numbered m) messages.now) }
+    ensures kept { GoesOnFrom out.old.items out.new.items }
+{
+    for message in messages {
+        put_numbered(out, b',', message)?;
+    }
+    Ok(())
+}
+
+/// Appends messages that were handed back, joined by commas, `-` for none.
+#[tactic(auto, using(crate::proofs::Appending::goes_on))]
+pub(crate) fn put_handed_back(
+    out: &mut Vec<u8>,
+    before: u8,
+    messages: &[Numbered],
+) -> Result<(), AllocError>
+    ensures text { OnOk result (out.new.items ≡ out.old.items ++ before ∷ text_of_handed_back messages.now) }
+    ensures kept { GoesOnFrom out.old.items out.new.items }
+{
+    match messages.split_first() {
+        None => put(out, &[before, b'-']),
+        Some((first, more)) => {
+            put_numbered(out, before, first)?;
+            put_more_numbered(out, more)
+        }
+    }
+}

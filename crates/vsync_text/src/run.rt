@@ -1,0 +1,165 @@
+ghost use Rattle.std.specs.Prelude.{◌≡◌, take, drop, map};
+ghost use Rattle.vsync_text.specs.TraceText.{line_of};
+ghost use Rattle.vsync_text.specs.Runs.{stretch, refused_lines, answer_lines, event_lines, lines_from, lines_of_run};
+ghost use Rattle.vsync_text.specs.Writing.{Writes, Prints};
+
+use crate::buffered::{PIECE, Unwritten, settle, write_happening, write_refusal};
+use std::alloc::Global;
+use std::io::Write;
+use trace_props::Happening;
+use world_model::{Answer, Refusal, Reply};
+
+/// How the writing of a run ended.
+#[derive(Clone, Copy, Debug, PartialEq, Eq)]
+pub enum Printed {
+    /// The writer took all of its text.
+    All,
+    /// Memory was refused: the writer took whole lines of a beginning.
+    Memory,
+    /// The writer failed: it took a beginning of the text.
+    Failed,
+}
+
+/// The happenings from one place up to another, as far as there are any.
+fn stretch(from: usize, to: usize, happenings: &[Happening]) -> &[Happening]
+    ensures { result.now ≡ stretch from to happenings.now }
+{
+    if from >= to || happenings.len() <= from {
+        let (none, _) = happenings.split_at(0);
+        return none;
+    }
+    let (_, rest) = happenings.split_at(from);
+    let count = to - from;
+    if rest.len() <= count {
+        return rest;
+    }
+    let (these, _) = rest.split_at(count);
+    these
+}
+
+#[tactic(auto, using(crate::proofs::Writing::begins, crate::proofs::Writing::goes, crate::proofs::Writing::stops, crate::proofs::Writing::ends))]
+/// Writes the lines of happenings.
+fn write_happenings<W: Write>(
+    writer: &mut W,
+    buffer: &mut Vec<u8>,
+    happenings: &[Happening],
+) -> Result<(), Unwritten>
+    ensures { Writes (W.contents writer.old) (W.contents writer.new) buffer.old.items buffer.new.items result (map line_of happenings.now) }
+{
+    let mut rest = happenings;
+    while let Some((happening, later)) = rest.split_first() {
+        if let Err(why) = write_happening(writer, buffer, happening) {
+            return Err(why);
+        }
+        rest = later;
+    }
+    Ok(())
+}
+
+/// Writes the refusal of the event of a line, unless it is that memory was refused.
+fn write_refused<W: Write>(
+    writer: &mut W,
+    buffer: &mut Vec<u8>,
+    line: u64,
+    refusal: Refusal,
+) -> Result<(), Unwritten>
+    ensures { Writes (W.contents writer.old) (W.contents writer.new) buffer.old.items buffer.new.items result (refused_lines line refusal) }
+{
+    let number = refusal.number();
+    if number == Refusal::Memory.number() {
+        return Ok(());
+    }
+    write_refusal(writer, buffer, line, number)
+}
+
+/// Writes what stands at the place of a reply to the event of a line.
+fn write_answer<W: Write>(
+    writer: &mut W,
+    buffer: &mut Vec<u8>,
+    line: u64,
+    answer: Answer,
+) -> Result<(), Unwritten>
+    ensures { Writes (W.contents writer.old) (W.contents writer.new) buffer.old.items buffer.new.items result (answer_lines line answer) }
+{
+    match answer {
+        Answer::Done => Ok(()),
+        Answer::Sent(_) => Ok(()),
+        Answer::Refused(refusal) => write_refused(writer, buffer, line, refusal),
+    }
+}
+
+#[tactic(auto, using(crate::proofs::Writing::writes_then, crate::proofs::Writing::writes_stops))]
+/// Writes the lines of one event.
+fn write_event<W: Write>(
+    writer: &mut W,
+    buffer: &mut Vec<u8>,
+    from: usize,
+    line: u64,
+    reply: &Reply,
+    happenings: &[Happening],
+) -> Result<(), Unwritten>
+    ensures { Writes (W.contents writer.old) (W.contents writer.new) buffer.old.items buffer.new.items result (event_lines from line reply.now happenings.now) }
+{
+    if let Err(why) = write_happenings(writer, buffer, stretch(from, reply.place, happenings)) {
+        return Err(why);
+    }
+    write_answer(writer, buffer, line, reply.answer)
+}
+
+#[tactic(auto, using(crate::proofs::Writing::begins, crate::proofs::Writing::goes, crate::proofs::Writing::stops, crate::proofs::Writing::ends))]
+/// Writes the lines of all events.
+fn write_events<W: Write>(
+    writer: &mut W,
+    buffer: &mut Vec<u8>,
+    lines: &[u64],
+    replies: &[Reply],
+    happenings: &[Happening],
+) -> Result<(), Unwritten>
+    ensures { Writes (W.contents writer.old) (W.contents writer.new) buffer.old.items buffer.new.items result (lines_of_run lines.now replies.now happenings.now) }
+{
+    let mut from = 0;
+    let mut lines = lines;
+    let mut replies = replies;
+    while let Some((line, later_lines)) = lines.split_first() {
+        let Some((reply, later)) = replies.split_first() else {
+            return Ok(());
+        };
+        if let Err(why) = write_event(writer, buffer, from, *line, reply, happenings) {
+            return Err(why);
+        }
+        from = reply.place;
+        lines = later_lines;
+        replies = later;
+    }
+    Ok(())
+}
+
+#[tactic(auto, using(crate::proofs::Writing::all_taken, crate::proofs::Writing::beginning_taken, crate::proofs::Writing::lines_taken, crate::proofs::Writing::text_taken, crate::proofs::Writing::nothing_taken))]
+/// Writes the text of a run: for each reply in order, the lines of the happenings from the place of the reply before it up
+/// to its own, and then, where the event is refused for another reason than memory, `# refused LINE NUMBER` with the
+/// event's line number. `lines` are the line numbers of the events, in their order. The text goes out in pieces through one buffer.
+///
+/// It says how the writing ended: all of it was taken; memory was refused, and the writer took whole lines of a beginning;
+/// or the writer failed, and took a beginning.
+pub fn write_run<W: Write>(
+    alloc: Global,
+    writer: &mut W,
+    lines: &[u64],
+    replies: &[Reply],
+    happenings: &[Happening],
+) -> Printed
+    ensures { Prints (W.contents writer.old) (W.contents writer.new) result (lines_of_run lines.now replies.now happenings.now) }
+{
+    let Ok(mut buffer) = Vec::with_capacity(alloc, 2 * PIECE) else {
+        return Printed::Memory;
+    };
+    match write_events(writer, &mut buffer, lines, replies, happenings) {
+        Err(Unwritten::Memory) => Printed::Memory,
+        Err(Unwritten::Failed) => Printed::Failed,
+        Ok(()) => match settle(writer, &mut buffer) {
+            Err(Unwritten::Memory) => Printed::Memory,
+            Err(Unwritten::Failed) => Printed::Failed,
+            Ok(()) => Printed::All,
+        },
+    }
+}
