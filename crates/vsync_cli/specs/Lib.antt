@@ -1,3 +1,1 @@
-pub mod Silence
-pub mod Outcomes
 pub mod Words

@@ -1,7 +1,7 @@
 -- What a command names.
 use Rattle.std.specs.Prelude.{ℕ, List}
-use Rattle.vsync_cli.specs.declared.command.Invocation.{Invocation}
-use Rattle.vsync_cli.specs.declared.command.Invocation.TheVariants.{World}
+use Rattle.vsync_cli.specs.declared.words.Invocation.{Invocation}
+use Rattle.vsync_cli.specs.declared.words.Invocation.TheVariants.{World}
 
 -- the path of its input
 abbrev pub input_of : Invocation → List ℕ

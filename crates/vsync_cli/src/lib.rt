@@ -1,14 +1,9 @@
-//! The programs of the channel as functions over readers and writers, and their command line.
+//! The command line of the program: what its words ask for, and doing that.
 #![tactic(auto)]
 
-mod command;
-mod program;
-mod run_script;
-mod silent;
-mod status;
+mod programs;
+mod words;
 
-pub use command::{Invocation, command};
-pub use program::program;
-pub use run_script::run_script;
-pub use silent::Silent;
-pub use status::Status;
+pub use programs::program;
+pub use vsync_runs::{Silent, Status, run_script};
+pub use words::{Invocation, command};

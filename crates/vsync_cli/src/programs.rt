@@ -1,4 +1,5 @@
-use crate::{Invocation, Silent, Status, command, run_script};
+use crate::{Invocation, command};
+use vsync_runs::{Silent, Status, run_script};
 use clap::Error;
 use clap::error::ErrorKind;
 use std::io::Read;

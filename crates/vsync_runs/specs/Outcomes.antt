@@ -1,5 +1,5 @@
 -- What a command writes, and with which exit status it ends.
-use Rattle.std.specs.Prelude.{◌≡◌, ℕ, List, [], ◌∷◌, ◌++◌, Option, Result, Ok, Err, take, codes, IfSome}
+use Rattle.std.specs.Prelude.{◌≡◌, ℕ, List, [], ◌∷◌, ◌++◌, Option, Result, Ok, Err, take, codes, IfSome, Bool, true}
 use Rattle.std.specs.List.{concat}
 use Rattle.std.specs.Fmt.{decimal}
 use Rattle.std.specs.Io.KnownBytes.{Appends}
@@ -10,11 +10,10 @@ use Rattle.world_model.specs.Histories.{History}
 use Rattle.world_model.specs.Faithful.{IsFaithful}
 use Rattle.vsync_text.specs.declared.script.Script.{Script}
 use Rattle.vsync_text.specs.declared.fault.Fault.{Fault}
-use Rattle.vsync_text.specs.declared.fault.Unread.TheVariants as unread
 use Rattle.vsync_text.specs.Script.{script_of, fault_number}
 use Rattle.vsync_text.specs.Runs.{lines_of_run, text_of_run}
-use Rattle.vsync_cli.specs.declared.status.Status.{Status}
-use Rattle.vsync_cli.specs.declared.status.Status.TheVariants.{Done, Usage, Refused, Memory, Outside}
+use Rattle.vsync_runs.specs.declared.status.Status.{Status}
+use Rattle.vsync_runs.specs.declared.status.Status.TheVariants.{Done, Usage, Refused, Memory, Outside}
 
 abbrev pub status_code : Status → ℕ
 status_code Done = 0
@@ -29,7 +28,7 @@ memory_line = codes "# memory\n"
 
 -- the line for an input's first fault
 abbrev pub fault_line : ℕ → ℕ → List ℕ
-fault_line line number = codes "fault " ++ decimal line ++ 32 ∷ [] ++ decimal number ++ 10 ∷ []
+fault_line line number = codes "fault " ++ (decimal line ++ 32 ∷ (decimal number ++ 10 ∷ []))
 
 -- a writer took a text whole, and the command ends with this status; or the writer failed, and took a beginning of it
 pub data Ends (old new : Option (List ℕ)) (text : List ℕ) (status : Status) : Status → Type 0 where
@@ -42,6 +41,12 @@ pub record Ran (events : List WorldEvent) (h : History) : Type 0 where
   pub ordered : EachPlace IsWellOrdered h.trace
   pub carried : h.events ≡ events
 
+-- the texts of a world's history, whose events stand in these lines: all of it, where all was run; or whole lines of a
+-- beginning and `# memory`
+pub data IsWorldText (lines : List ℕ) (h : History) (ran : Bool) : Status → List ℕ → Type 0 where
+  Told : ran ≡ true → IsWorldText lines h ran Done (text_of_run lines h.replies h.trace)
+  Untold : (count : ℕ) → IsWorldText lines h ran Memory (concat (take count (lines_of_run lines h.replies h.trace)) ++ memory_line)
+
 -- the texts of a script's run: all of it; or, where memory was refused outside a member's step, whole lines of a beginning
 -- and `# memory`
 pub data IsRunText (script : Script) : Status → List ℕ → Type 0 where
@@ -49,10 +54,16 @@ pub data IsRunText (script : Script) : Status → List ℕ → Type 0 where
   Part : (h : History) (events lines : ℕ) → Ran (take events script.events) h
     → IsRunText script Memory (concat (take lines (lines_of_run script.lines h.replies h.trace)) ++ memory_line)
 
+-- the texts of an input's first fault: its line; or `# memory`, where memory is refused
+pub data IsFaultText (line number : ℕ) : Status → List ℕ → Type 0 where
+  Told : IsFaultText line number Refused (fault_line line number)
+  Untold : IsFaultText line number Memory memory_line
+
 -- the texts of a script's bytes: of its run; its first fault; or `# memory` alone, before it is read whole
 pub data IsScriptText (bytes : List ℕ) : Status → List ℕ → Type 0 where
   Runs : (script : Script) (status : Status) (text : List ℕ) → script_of bytes ≡ Ok script → IsRunText script status text → IsScriptText bytes status text
-  Faulty : (line : ℕ) (fault : Fault) → script_of bytes ≡ Err (unread.Fault line fault) → IsScriptText bytes Refused (fault_line line (fault_number fault))
+  Faulty : (line : ℕ) (fault : Fault) (status : Status) (text : List ℕ) → script_of bytes ≡ Err (record { line = line; fault = fault })
+    → IsFaultText line (fault_number fault) status text → IsScriptText bytes status text
   Unread : IsScriptText bytes Memory memory_line
 
 -- how writing the text of something ends: with that text and its status; or the writer failed and took a beginning of it

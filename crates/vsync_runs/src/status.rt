@@ -1,5 +1,5 @@
 ghost use Rattle.std.specs.Prelude.{◌≡◌};
-ghost use Rattle.vsync_cli.specs.Outcomes.{status_code};
+ghost use Rattle.vsync_runs.specs.Outcomes.{status_code};
 
 /// How a command ended (docs/FORMATS.md, "Exit statuses").
 #[derive(Clone, Copy, Debug, PartialEq, Eq)]

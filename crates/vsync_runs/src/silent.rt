@@ -10,7 +10,7 @@ pub struct Silent;
 impl Receiver for Silent {
     ghost use Rattle.std.specs.Prelude.{[]};
     ghost use Rattle.std.proofs.Common.{refl, lit≤};
-    ghost use Rattle.vsync_cli.specs.Silence.{silence, silent_decode};
+    ghost use Rattle.vsync_runs.specs.Silence.{silence, silent_decode};
 
     ghost opening_state = { silence };
 

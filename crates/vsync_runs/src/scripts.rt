@@ -1,5 +1,5 @@
-ghost use Rattle.std.specs.Prelude.{◌≡◌, IfOk, IfSome, codes};
-ghost use Rattle.vsync_cli.specs.Outcomes.{Ends, Written, IsRunText, IsScriptText, RunsScript, memory_line, fault_line};
+ghost use Rattle.std.specs.Prelude.{◌≡◌, IfOk, IfSome};
+ghost use Rattle.vsync_runs.specs.Outcomes.{Ends, Written, IsRunText, IsFaultText, IsWorldText, RunsScript, memory_line};
 ghost use Rattle.vsync_text.specs.Script.{fault_number};
 
 use crate::Status;
@@ -60,7 +60,7 @@ fn end_in_memory<W: Write>(writer: &mut W) -> Status
 
 /// Writes a script's first fault.
 fn end_in_fault<W: Write>(alloc: Global, writer: &mut W, line: u64, fault: Fault) -> Status
-    ensures { EndsInFault (W.contents writer.old) (W.contents writer.new) line (fault_number fault) result }
+    ensures { Written (IsFaultText line (fault_number fault)) (W.contents writer.old) (W.contents writer.new) result }
 {
     let number = fault.number();
     match format!(in alloc; "fault {line} {number}\n") {
@@ -69,20 +69,31 @@ fn end_in_fault<W: Write>(alloc: Global, writer: &mut W, line: u64, fault: Fault
     }
 }
 
+/// Writes what happened in a world that ran events of these lines: all of it, or with `# memory` at its end where
+/// the world could not run them all.
+fn tell<R: Receiver, W: Write>(alloc: Global, world: &World<R>, ran: bool, lines: &[u64], writer: &mut W) -> Status
+    ensures { Written (IsWorldText lines.now world.now ran) (W.contents writer.old) (W.contents writer.new) result }
+{
+    match write_run(alloc, writer, lines, world.replies(), world.trace().happenings()) {
+        Printed::Failed => Status::Outside,
+        Printed::Memory => end_in_memory(writer),
+        Printed::All => {
+            if ran {
+                end_with(writer, b"", Status::Done)
+            } else {
+                end_in_memory(writer)
+            }
+        }
+    }
+}
+
 /// Runs a script's events in a world, and writes what happened.
 fn play<R: Receiver, W: Write>(alloc: Global, script: &Script, writer: &mut W) -> Status
     ensures { Written (IsRunText script.now) (W.contents writer.old) (W.contents writer.new) result }
 {
     let mut world = World::<R>::new(alloc);
-    let ran = world.run(script.events());
-    match write_run(alloc, writer, script.lines(), world.replies(), world.trace().happenings()) {
-        Printed::Failed => Status::Outside,
-        Printed::Memory => end_in_memory(writer),
-        Printed::All => match ran {
-            Ok(()) => end_with(writer, b"", Status::Done),
-            Err(_) => end_in_memory(writer),
-        },
-    }
+    let ran = world.run(script.events()).is_ok();
+    tell(alloc, &world, ran, script.lines(), writer)
 }
 
 /// Runs a script from a reader in a world whose receivers are `R`, and writes what happened to a writer: the text of the trace

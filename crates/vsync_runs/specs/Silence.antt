@@ -1,6 +1,6 @@
 -- The state of a receiver that keeps nothing.
 use Rattle.std.specs.Prelude.{ℕ, List, [], ◌∷◌, Option, Some, None}
-use Rattle.vsync_cli.specs.declared.silent.Silent.{Silent}
+use Rattle.vsync_runs.specs.declared.silent.Silent.{Silent}
 
 abbrev pub silence : Silent
 silence = record { }

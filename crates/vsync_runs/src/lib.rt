@@ -1,0 +1,10 @@
+//! What the commands of the program do, as functions over a reader and a writer.
+#![tactic(auto)]
+
+mod scripts;
+mod silent;
+mod status;
+
+pub use scripts::run_script;
+pub use silent::Silent;
+pub use status::Status;
