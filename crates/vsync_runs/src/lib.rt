@@ -8,3 +8,6 @@ mod status;
 pub use scripts::run_script;
 pub use silent::Silent;
 pub use status::Status;
+
+#[cfg(test)]
+mod tests;

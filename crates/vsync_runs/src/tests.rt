@@ -1,0 +1,99 @@
+use crate::{Silent, Status, run_script};
+use std::alloc::{AllocError, Global};
+use std::io::{self, Read, Write};
+
+/// What a script prints, with its exit status at the end as a digit.
+fn printed(alloc: Global, script: &[u8]) -> Result<Vec<u8>, AllocError> {
+    let mut reader = script;
+    let mut output = Vec::new(alloc);
+    let status = run_script::<Silent, &[u8], Vec<u8>>(alloc, &mut reader, &mut output);
+    output.push(b'0' + status.code())?;
+    Ok(output)
+}
+
+fn prints(alloc: Global, script: &[u8], wanted: &[u8]) -> bool {
+    match printed(alloc, script) {
+        Ok(output) => output.as_slice() == wanted,
+        Err(_) => false,
+    }
+}
+
+#[test]
+fn an_empty_script_prints_nothing(rt: HostRuntime) {
+    assert!(rt; prints(rt.alloc(), b"", b"0"));
+    assert!(rt; prints(rt.alloc(), b"\n# nothing\n", b"0"));
+}
+
+#[test]
+fn a_group_of_one(rt: HostRuntime) {
+    let wanted = b"started 1.1\ninstalled 1.1 - 1@1.1 1.1 1.1 - -\nsent 1.1 1@1.1 1 6869\ndelivered 1.1 1@1.1 1.1 1 6869\n0";
+    assert!(rt; prints(rt.alloc(), b"start 1\ncreate 1\nsend 1 hi\n", wanted));
+    assert!(rt; prints(rt.alloc(), b"start 1\ncreate 1\nsend 1 hi", wanted));
+}
+
+#[test]
+fn a_send_without_a_view(rt: HostRuntime) {
+    assert!(rt; prints(rt.alloc(), b"start 1\nsend 1 hi\n", b"started 1.1\n# refused 2 1\n0"));
+}
+
+#[test]
+fn a_restart(rt: HostRuntime) {
+    let wanted = b"started 1.1\ncrashed 1.1\nstarted 1.2\n# refused 4 5\ninstalled 1.2 - 1@1.2 1.2 1.2 - -\n0";
+    assert!(rt; prints(rt.alloc(), b"start 1\ncrash 1\nstart 1\nstart 1\ncreate 1\n", wanted));
+}
+
+#[test]
+fn a_first_fault(rt: HostRuntime) {
+    assert!(rt; prints(rt.alloc(), b"start 1\ncreate 0\nfly 1\n", b"fault 2 41\n3"));
+    assert!(rt; prints(rt.alloc(), b"start 1\n\nfly 1\n", b"fault 3 40\n3"));
+    assert!(rt; prints(rt.alloc(), b"start\n", b"fault 1 42\n3"));
+}
+
+/// A reader that gives a few bytes and then fails.
+#[derive(Drop)]
+struct Failing(u8);
+
+impl Read for Failing {
+    fn read(&mut self, buf: &mut [u8]) -> io::Result<usize> {
+        if self.0 == 0 || buf.is_empty() {
+            return Err(io::Error::from(io::ErrorKind::Other));
+        }
+        self.0 -= 1;
+        buf[0] = b'\n';
+        Ok(1)
+    }
+}
+
+#[test]
+fn a_failing_reader_writes_nothing(rt: HostRuntime) {
+    let mut output = Vec::new(rt.alloc());
+    let status = run_script::<Silent, Failing, Vec<u8>>(rt.alloc(), &mut Failing(3), &mut output);
+    assert_eq!(rt; status, Status::Outside);
+    assert_eq!(rt; output.len(), 0);
+}
+
+/// A writer that takes so many bytes and then fails.
+#[derive(Drop)]
+struct Full(usize);
+
+impl Write for Full {
+    fn write(&mut self, buf: &[u8]) -> io::Result<usize> {
+        if self.0 == 0 {
+            return Err(io::Error::from(io::ErrorKind::Other));
+        }
+        let taken = buf.len().min(self.0);
+        self.0 -= taken;
+        Ok(taken)
+    }
+
+    fn flush(&mut self) -> io::Result<()> {
+        Ok(())
+    }
+}
+
+#[test]
+fn a_failing_writer_ends_outside(rt: HostRuntime) {
+    let mut reader = b"start 1\ncreate 1\n".as_slice();
+    let status = run_script::<Silent, &[u8], Full>(rt.alloc(), &mut reader, &mut Full(20));
+    assert_eq!(rt; status, Status::Outside);
+}
