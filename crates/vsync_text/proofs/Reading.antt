@@ -1,5 +1,5 @@
 -- How a text is read: line by line, and each line on to what was read before it.
-use Rattle.std.proofs.Common.{◌≡◌, ℕ, ◌+◌, ◌<◌, ◌≤◌, Bool, true, false, List, [], ◌∷◌, ◌++◌, Option, None, Some, Result, Ok, Err, length, take, drop, nat_eq, nat_lt, cond, not, map, slice_get, refl, sym, ◌∙◌, ap, arith, append_assoc, append-nil, suc, ◌-◌, ◌*◌, nat_le, get_or, if◌then◌else◌, ltb-false, add-one, drop-cons}
+use Rattle.std.proofs.Common.{◌≡◌, ℕ, ◌+◌, ◌<◌, ◌≤◌, Bool, true, false, List, [], ◌∷◌, ◌++◌, Option, None, Some, Result, Ok, Err, length, take, drop, nat_eq, nat_lt, cond, not, slice_get, refl, sym, ◌∙◌, ap, arith, append_assoc, append-nil, suc, ◌-◌, ◌*◌, nat_le, get_or, if◌then◌else◌, ltb-false, add-one, drop-cons}
 use Rattle.std.proofs.lemmas.Bool.{lt-leb}
 use Rattle.std.specs.Prelude.{position, MatchOption}
 use Rattle.std.specs.List.{position_or_len, enumerate_from, cons_option}

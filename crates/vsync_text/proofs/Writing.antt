@@ -10,7 +10,7 @@ use Rattle.world_model.specs.declared.Reply.{Reply}
 use Rattle.world_model.specs.declared.Refusal.{Refusal}
 use Rattle.world_model.specs.Refusals.{number_of}
 use Rattle.vsync_text.specs.Runs.{lines_from, event_lines, refusal_line, refused_lines}
-use Rattle.vsync_text.specs.Writing.{Went, TookBeginning, TookLines, Writes, Settles}
+use Rattle.vsync_text.specs.Writing.{Went, TookBeginning, TookLines, Writes}
 
 pub appends_nothing : (a : Option (List ℕ)) → Appends a a []
 appends_nothing None = tt

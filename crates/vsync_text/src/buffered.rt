@@ -23,12 +23,12 @@ pub(crate) enum Unwritten {
     Failed,
 }
 
-#[tactic(auto, using(crate::proofs::Writing::took_more))]
 /// Writes all bytes.
 ///
 /// # Errors
 ///
 /// The writer's own error, or `WriteZero` where it takes no more bytes. Then it took a beginning of them.
+#[tactic(auto, using(crate::proofs::Writing::took_more))]
 pub fn put_all<W: Write>(writer: &mut W, bytes: &[u8]) -> io::Result<()>
     ensures ok { OnOk result (Appends (W.contents writer.old) (W.contents writer.new) bytes.now) }
     ensures err { OnErr result ((count : ℕ) × Appends (W.contents writer.old) (W.contents writer.new) (take count bytes.now)) }
@@ -78,8 +78,8 @@ fn give_up<W: Write>(writer: &mut W, buffer: &mut Vec<u8>) -> Unwritten
     }
 }
 
-#[tactic(auto, using(crate::proofs::Writing::stops_at_once, crate::proofs::Writing::stops_after, crate::proofs::Writing::went_held))]
 /// Writes the line of a happening.
+#[tactic(auto, using(crate::proofs::Writing::stops_at_once, crate::proofs::Writing::stops_after, crate::proofs::Writing::went_held))]
 pub(crate) fn write_happening<W: Write>(
     writer: &mut W,
     buffer: &mut Vec<u8>,
@@ -96,8 +96,8 @@ pub(crate) fn write_happening<W: Write>(
     }
 }
 
-#[tactic(auto, using(crate::proofs::Writing::stops_at_once, crate::proofs::Writing::stops_after, crate::proofs::Writing::went_held))]
 /// Writes the refusal of the event of a line.
+#[tactic(auto, using(crate::proofs::Writing::stops_at_once, crate::proofs::Writing::stops_after, crate::proofs::Writing::went_held))]
 pub(crate) fn write_refusal<W: Write>(
     writer: &mut W,
     buffer: &mut Vec<u8>,

@@ -76,8 +76,8 @@ fn has_plain_front(field: &[u8]) -> bool
     }
 }
 
-#[tactic(auto, using(crate::proofs::Reading::value_beyond))]
 /// The number that digits spell, if it is at most `high`.
+#[tactic(auto, using(crate::proofs::Reading::value_beyond))]
 fn value_of(digits: &[u8], high: u64) -> Option<u64>
     ensures { result ≡ (if nat_le (value_of digits.now) high then Some (value_of digits.now) else None) }
 {

@@ -37,8 +37,8 @@ fn stretch(from: usize, to: usize, happenings: &[Happening]) -> &[Happening]
     these
 }
 
-#[tactic(auto, using(crate::proofs::Writing::begins, crate::proofs::Writing::goes, crate::proofs::Writing::stops, crate::proofs::Writing::ends))]
 /// Writes the lines of happenings.
+#[tactic(auto, using(crate::proofs::Writing::begins, crate::proofs::Writing::goes, crate::proofs::Writing::stops, crate::proofs::Writing::ends))]
 fn write_happenings<W: Write>(
     writer: &mut W,
     buffer: &mut Vec<u8>,
@@ -88,8 +88,8 @@ fn write_answer<W: Write>(
     }
 }
 
-#[tactic(auto, using(crate::proofs::Writing::writes_then, crate::proofs::Writing::writes_stops))]
 /// Writes the lines of one event.
+#[tactic(auto, using(crate::proofs::Writing::writes_then, crate::proofs::Writing::writes_stops))]
 fn write_event<W: Write>(
     writer: &mut W,
     buffer: &mut Vec<u8>,
@@ -106,8 +106,8 @@ fn write_event<W: Write>(
     write_answer(writer, buffer, line, reply.answer)
 }
 
-#[tactic(auto, using(crate::proofs::Writing::begins, crate::proofs::Writing::goes, crate::proofs::Writing::stops, crate::proofs::Writing::ends))]
 /// Writes the lines of all events.
+#[tactic(auto, using(crate::proofs::Writing::begins, crate::proofs::Writing::goes, crate::proofs::Writing::stops, crate::proofs::Writing::ends))]
 fn write_events<W: Write>(
     writer: &mut W,
     buffer: &mut Vec<u8>,
@@ -134,13 +134,13 @@ fn write_events<W: Write>(
     Ok(())
 }
 
-#[tactic(auto, using(crate::proofs::Writing::all_taken, crate::proofs::Writing::beginning_taken, crate::proofs::Writing::lines_taken, crate::proofs::Writing::text_taken, crate::proofs::Writing::nothing_taken))]
 /// Writes the text of a run: for each reply in order, the lines of the happenings from the place of the reply before it up
 /// to its own, and then, where the event is refused for another reason than memory, `# refused LINE NUMBER` with the
 /// event's line number. `lines` are the line numbers of the events, in their order. The text goes out in pieces through one buffer.
 ///
 /// It says how the writing ended: all of it was taken; memory was refused, and the writer took whole lines of a beginning;
 /// or the writer failed, and took a beginning.
+#[tactic(auto, using(crate::proofs::Writing::all_taken, crate::proofs::Writing::beginning_taken, crate::proofs::Writing::lines_taken, crate::proofs::Writing::text_taken, crate::proofs::Writing::nothing_taken))]
 pub fn write_run<W: Write>(
     alloc: Global,
     writer: &mut W,

@@ -93,7 +93,7 @@ fn payloads_and_lines_keep_their_bytes(rt: HostRuntime) -> Result<(), Fail> {
         _ => return Err(Fail::from("a send")),
     }
     let mut text = Vec::from_slice(rt.alloc(), b"send 1 ")?;
-    while text.len() < SCRIPT_LINE {
+    for _ in 7..SCRIPT_LINE {
         text.push(b'a')?;
     }
     assert_eq!(rt; reading(rt.alloc(), text.as_slice())?.as_str(), "1:send 1;");
