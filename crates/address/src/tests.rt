@@ -15,7 +15,10 @@ fn addresses_are_made_in_range(rt: HostRuntime) -> Result<(), Fail> {
     assert_eq!(rt; last.node(), node);
     assert_eq!(rt; last.incarnation(), 4_294_967_295);
     assert_eq!(rt; last.next_incarnation(), None);
-    assert_eq!(rt; Address::first_at(node).next_incarnation(), Address::new(node, 2));
+    assert_eq!(rt;
+        Address::first_at(node).next_incarnation(),
+        Address::new(node, 2)
+    );
     Ok(())
 }
 

@@ -57,11 +57,9 @@ pub trait Receiver: Drop + Sized {
 
     /// Takes the state that bytes stand for, and says whether they stand for one. On false its state is as before.
     fn set_state(&mut self, state: &[u8]) -> Result<bool, AllocError>
-        ensures {
-            IfOk result (λ taken. MatchOption (decode state.now)
-                ((taken ≡ false) × (self.new ≡ self.old))
-                (λ s. (taken ≡ true) × (self.new ≡ s)))
-        };
+        ensures { IfOk result (λ taken. MatchOption (decode state.now)
+            ((taken ≡ false) × (self.new ≡ self.old))
+            (λ s. (taken ≡ true) × (self.new ≡ s))) };
 
     ghost opens: { is_state opening_state };
 

@@ -7,9 +7,8 @@ ghost use Rattle.view.specs.View.{view_refusal, error_number};
 
 mod addresses;
 
-pub use addresses::Addresses;
-
 use address::{Address, ViewId};
+pub use addresses::Addresses;
 use std::alloc::{AllocError, Global};
 use std::marker::Model;
 

@@ -1,10 +1,10 @@
 use crate::{Invocation, command};
-use vsync_runs::{Silent, Status, run_script};
 use clap::Error;
 use clap::error::ErrorKind;
 use std::io::Read;
 use std::rt::{Env, Files};
 use std::{env, fs, io};
+use vsync_runs::{Silent, Status, run_script};
 
 /// Says on the standard error why the program ends with status 5.
 fn complain<R: Eprint>(rt: &R, what: &str, path: &str) -> Status {
@@ -18,20 +18,24 @@ fn world<R: Print + AllocGlobal, I: Read>(rt: &R, reader: &mut I) -> Status {
     run_script::<Silent, I, _>(rt.alloc(), reader, &mut output)
 }
 
+/// What a command's status says where it ended outside, on the standard error.
+fn told<R: Eprint>(rt: &R, status: Status, path: &str) -> Status {
+    if status == Status::Outside {
+        return complain(rt, "a read or a write failed:", path);
+    }
+    status
+}
+
 /// Runs `vsync world PATH`.
 fn world_at<R: Files + Input + Print + Eprint + AllocGlobal>(rt: &R, path: &str) -> Status {
     if path == "-" {
         let mut input = rt.reader();
-        return world(rt, &mut input);
+        return told(rt, world(rt, &mut input), "the standard input or output");
     }
     match fs::open(rt, path) {
         Ok(file) => {
             let mut file = file;
-            let status = world(rt, &mut file);
-            if status == Status::Outside {
-                return complain(rt, "a read or a write failed:", path);
-            }
-            status
+            told(rt, world(rt, &mut file), path)
         }
         Err(_) => complain(rt, "cannot open", path),
     }
@@ -47,7 +51,11 @@ fn explain<R: Print + Eprint>(rt: &R, error: Error) -> Status {
     if printed.is_err() {
         return Status::Outside;
     }
-    if error.use_stderr() { Status::Usage } else { Status::Done }
+    if error.use_stderr() {
+        Status::Usage
+    } else {
+        Status::Done
+    }
 }
 
 /// The program `vsync`: does what its words ask for, and answers the exit status (docs/FORMATS.md).

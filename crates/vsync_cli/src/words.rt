@@ -19,12 +19,18 @@ fn grammar<'a>(alloc: Global) -> Result<clap::Command<'a>, AllocError> {
         .help("The script's path, or - for the standard input");
     let world = clap::Command::new(alloc, "world")
         .about("Runs a script of members in a world, and prints the trace of what happened")
-        .after_help("The script has a line for each event: start N, create N, send N TEXT, leave N, crash N.\nIt prints a line for each happening, and `# refused LINE NUMBER` for each event that is refused.\n\nExample:\n  vsync world examples/hello.script")
+        .after_help(
+            "The script has a line for each event: start N, create N, send N TEXT, leave N, crash N.\nIt prints a line for each happening, and `# refused LINE NUMBER` for each event that is refused.\n\nExample:\n  vsync world examples/hello.script",
+        )
         .arg(script)?;
     let program = clap::Command::new(alloc, "vsync")
         .bin_name("vsync")?
-        .about("A virtually synchronous group channel, proved. Without words it runs `vsync world -`")
-        .after_help("Exit status: 0 done, 2 usage, 3 the input is refused, 4 memory, 5 a file or the output failed.")
+        .about(
+            "A virtually synchronous group channel, proved. Without words it runs `vsync world -`",
+        )
+        .after_help(
+            "Exit status: 0 done, 2 usage, 3 the input is refused, 4 memory, 5 a file or the output failed.",
+        )
         .subcommand_required(true)
         .subcommand(world)?;
     Ok(program)

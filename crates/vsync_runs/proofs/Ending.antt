@@ -57,7 +57,7 @@ beginning-of n xs ys (inr le) = (length xs, take_all n xs le ∙ sym (take-appen
 all-lines : (lines : List ℕ) (h : History) (ran : Bool) → IsWorldText lines h ran Memory (concat (lines_of_run lines h.replies h.trace) ++ memory_line)
 all-lines lines h ran =
     subst (λ (l : List (List ℕ)). IsWorldText lines h ran Memory (concat l ++ memory_line)) (take_all (length (lines_of_run lines h.replies h.trace)) (lines_of_run lines h.replies h.trace) (omega arith))
-      (Untold (length (lines_of_run lines h.replies h.trace)))
+    (Untold (length (lines_of_run lines h.replies h.trace)))
 
 -- the writer failed within the lines
 pub tells-failed : (lines : List ℕ) (h : History) (ran : Bool) (a b : Option (List ℕ)) (n : ℕ) → Appends a b (take n (concat (lines_of_run lines h.replies h.trace))) → Written (IsWorldText lines h ran) a b Outside
@@ -70,22 +70,31 @@ tells-failed lines h ran a b n f =
 pub tells-some : (lines : List ℕ) (h : History) (ran : Bool) (a b c : Option (List ℕ)) (status : Status) (n : ℕ)
     → Appends a b (concat (take n (lines_of_run lines h.replies h.trace))) → Ends b c memory_line Memory status → Written (IsWorldText lines h ran) a c status
 tells-some lines h ran a b c status n f e = record {
-  meant = Memory; text = concat (take n (lines_of_run lines h.replies h.trace)) ++ memory_line; says = Untold n;
-  ends = ends-then a b c (concat (take n (lines_of_run lines h.replies h.trace))) memory_line Memory status f e }
+  meant = Memory;
+  text = concat (take n (lines_of_run lines h.replies h.trace)) ++ memory_line;
+  says = Untold n;
+  ends = ends-then a b c (concat (take n (lines_of_run lines h.replies h.trace))) memory_line Memory status f e;
+}
 
 -- memory was refused within the run
 pub tells-part : (lines : List ℕ) (h : History) (ran : Bool) (a b c : Option (List ℕ)) (status : Status)
     → Appends a b (concat (lines_of_run lines h.replies h.trace)) → Ends b c memory_line Memory status → Written (IsWorldText lines h ran) a c status
 tells-part lines h ran a b c status f e = record {
-  meant = Memory; text = concat (lines_of_run lines h.replies h.trace) ++ memory_line; says = all-lines lines h ran;
-  ends = ends-then a b c (concat (lines_of_run lines h.replies h.trace)) memory_line Memory status f e }
+  meant = Memory;
+  text = concat (lines_of_run lines h.replies h.trace) ++ memory_line;
+  says = all-lines lines h ran;
+  ends = ends-then a b c (concat (lines_of_run lines h.replies h.trace)) memory_line Memory status f e;
+}
 
 -- all is told
 pub tells-all : (lines : List ℕ) (h : History) (ran : Bool) (a b c : Option (List ℕ)) (status : Status) → ran ≡ true
     → Appends a b (concat (lines_of_run lines h.replies h.trace)) → Ends b c [] Done status → Written (IsWorldText lines h ran) a c status
 tells-all lines h ran a b c status all f e = record {
-  meant = Done; text = concat (lines_of_run lines h.replies h.trace); says = Told all;
-  ends = subst (λ l. Ends a c l Done status) (append-nil (concat (lines_of_run lines h.replies h.trace))) (ends-then a b c (concat (lines_of_run lines h.replies h.trace)) [] Done status f e) }
+  meant = Done;
+  text = concat (lines_of_run lines h.replies h.trace);
+  says = Told all;
+  ends = subst (λ l. Ends a c l Done status) (append-nil (concat (lines_of_run lines h.replies h.trace))) (ends-then a b c (concat (lines_of_run lines h.replies h.trace)) [] Done status f e);
+}
 
 -- a text of one kind is one of another
 pub written-as : (P Q : Status → List ℕ → Type 0) (a b : Option (List ℕ)) (status : Status) → ((s : Status) (t : List ℕ) → P s t → Q s t) → Written P a b status → Written Q a b status
@@ -102,7 +111,7 @@ pub told-as : (lines : List ℕ) (h : History) (ran : Bool) (replies : List Repl
     → Written (IsWorldText lines (record { events = h.events; replies = replies; trace = trace }) ran) a b status → Written (IsWorldText lines h ran) a b status
 told-as lines h ran replies trace a b status r t w =
     subst (λ (x : List Happening). Written (IsWorldText lines (record { events = h.events; replies = h.replies; trace = x }) ran) a b status) t
-      (subst (λ (y : List Reply). Written (IsWorldText lines (record { events = h.events; replies = y; trace = trace }) ran) a b status) r w)
+    (subst (λ (y : List Reply). Written (IsWorldText lines (record { events = h.events; replies = y; trace = trace }) ran) a b status) r w)
 
 -- nothing is appended
 pub appends-none : (a : Option (List ℕ)) → Appends a a []
@@ -140,7 +149,7 @@ pub played : {A E : Type 0} (script : Script) (lines : List ℕ) (given : List W
     → Written (IsWorldText lines h ran) a b status → Written (IsRunText script) a b status
 played script lines given old h ran r k a b status same all empty faithful ordered some whole is w =
     written-as (IsWorldText script.lines h ran) (IsRunText script) a b status
-      (λ s t says. run-text script h ran k faithful ordered
-        (some ∙ ap (λ (o : History). o.events ++ take k given) empty ∙ ap (λ (g : List WorldEvent). take k g) all)
-        (λ yes-ran. on-ok r (h.events ≡ old.events ++ given) ran whole is yes-ran ∙ ap (λ (o : History). o.events ++ given) empty ∙ all) s t says)
-      (subst (λ (l : List ℕ). Written (IsWorldText l h ran) a b status) same w)
+    (λ s t says. run-text script h ran k faithful ordered
+    (some ∙ ap (λ (o : History). o.events ++ take k given) empty ∙ ap (λ (g : List WorldEvent). take k g) all)
+    (λ yes-ran. on-ok r (h.events ≡ old.events ++ given) ran whole is yes-ran ∙ ap (λ (o : History). o.events ++ given) empty ∙ all) s t says)
+    (subst (λ (l : List ℕ). Written (IsWorldText l h ran) a b status) same w)

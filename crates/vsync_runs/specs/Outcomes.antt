@@ -52,7 +52,7 @@ pub data IsWorldText (lines : List ℕ) (h : History) (ran : Bool) : Status → 
 pub data IsRunText (script : Script) : Status → List ℕ → Type 0 where
   All : (h : History) → Ran script.events h → IsRunText script Done (text_of_run script.lines h.replies h.trace)
   Part : (h : History) (events lines : ℕ) → Ran (take events script.events) h
-    → IsRunText script Memory (concat (take lines (lines_of_run script.lines h.replies h.trace)) ++ memory_line)
+      → IsRunText script Memory (concat (take lines (lines_of_run script.lines h.replies h.trace)) ++ memory_line)
 
 -- the texts of an input's first fault: its line; or `# memory`, where memory is refused
 pub data IsFaultText (line number : ℕ) : Status → List ℕ → Type 0 where
@@ -63,7 +63,7 @@ pub data IsFaultText (line number : ℕ) : Status → List ℕ → Type 0 where
 pub data IsScriptText (bytes : List ℕ) : Status → List ℕ → Type 0 where
   Runs : (script : Script) (status : Status) (text : List ℕ) → script_of bytes ≡ Ok script → IsRunText script status text → IsScriptText bytes status text
   Faulty : (line : ℕ) (fault : Fault) (status : Status) (text : List ℕ) → script_of bytes ≡ Err (record { line = line; fault = fault })
-    → IsFaultText line (fault_number fault) status text → IsScriptText bytes status text
+      → IsFaultText line (fault_number fault) status text → IsScriptText bytes status text
   Unread : IsScriptText bytes Memory memory_line
 
 -- how writing the text of something ends: with that text and its status; or the writer failed and took a beginning of it

@@ -3,7 +3,7 @@ use Rattle.std.specs.Prelude.{ℕ, List, [], ◌∷◌, Option, Some, None}
 use Rattle.vsync_runs.specs.declared.silent.Silent.{Silent}
 
 abbrev pub silence : Silent
-silence = record { }
+silence = record {}
 
 -- no bytes stand for it
 abbrev pub silent_decode : List ℕ → Option Silent

@@ -71,10 +71,17 @@ fn end_in_fault<W: Write>(alloc: Global, writer: &mut W, line: u64, fault: Fault
 
 /// Writes what happened in a world that ran events of these lines: all of it, or with `# memory` at its end where
 /// the world could not run them all.
-fn tell<R: Receiver, W: Write>(alloc: Global, world: &World<R>, ran: bool, lines: &[u64], writer: &mut W) -> Status
+fn tell<R: Receiver, W: Write>(
+    alloc: Global,
+    world: &World<R>,
+    ran: bool,
+    lines: &[u64],
+    writer: &mut W,
+) -> Status
     ensures { Written (IsWorldText lines.now world.now ran) (W.contents writer.old) (W.contents writer.new) result }
 {
-    match write_run(alloc, writer, lines, world.replies(), world.trace().happenings()) {
+    let happenings = world.trace().happenings();
+    match write_run(alloc, writer, lines, world.replies(), happenings) {
         Printed::Failed => Status::Outside,
         Printed::Memory => end_in_memory(writer),
         Printed::All => {
@@ -98,7 +105,11 @@ fn play<R: Receiver, W: Write>(alloc: Global, script: &Script, writer: &mut W) -
 
 /// Runs a script from a reader in a world whose receivers are `R`, and writes what happened to a writer: the text of the trace
 /// with each refused event in its place, or the script's first fault (docs/FORMATS.md). Answers the exit status.
-pub fn run_script<R: Receiver, I: Read, W: Write>(alloc: Global, reader: &mut I, writer: &mut W) -> Status
+pub fn run_script<R: Receiver, I: Read, W: Write>(
+    alloc: Global,
+    reader: &mut I,
+    writer: &mut W,
+) -> Status
     ensures { RunsScript (I.remaining reader.old) (W.contents writer.old) (W.contents writer.new) result }
 {
     let bytes = match read_all(alloc, reader) {

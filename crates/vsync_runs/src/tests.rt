@@ -26,20 +26,34 @@ fn an_empty_script_prints_nothing(rt: HostRuntime) {
 
 #[test]
 fn a_group_of_one(rt: HostRuntime) {
-    let wanted = b"started 1.1\ninstalled 1.1 - 1@1.1 1.1 1.1 - -\nsent 1.1 1@1.1 1 6869\ndelivered 1.1 1@1.1 1.1 1 6869\n0";
+    let wanted =
+        b"started 1.1\ninstalled 1.1 - 1@1.1 1.1 1.1 - -\nsent 1.1 1@1.1 1 6869\ndelivered 1.1 1@1.1 1.1 1 6869\n0";
     assert!(rt; prints(rt.alloc(), b"start 1\ncreate 1\nsend 1 hi\n", wanted));
     assert!(rt; prints(rt.alloc(), b"start 1\ncreate 1\nsend 1 hi", wanted));
 }
 
 #[test]
 fn a_send_without_a_view(rt: HostRuntime) {
-    assert!(rt; prints(rt.alloc(), b"start 1\nsend 1 hi\n", b"started 1.1\n# refused 2 1\n0"));
+    assert!(rt;
+        prints(
+            rt.alloc(),
+            b"start 1\nsend 1 hi\n",
+            b"started 1.1\n# refused 2 1\n0"
+        )
+    );
 }
 
 #[test]
 fn a_restart(rt: HostRuntime) {
-    let wanted = b"started 1.1\ncrashed 1.1\nstarted 1.2\n# refused 4 5\ninstalled 1.2 - 1@1.2 1.2 1.2 - -\n0";
-    assert!(rt; prints(rt.alloc(), b"start 1\ncrash 1\nstart 1\nstart 1\ncreate 1\n", wanted));
+    let wanted =
+        b"started 1.1\ncrashed 1.1\nstarted 1.2\n# refused 4 5\ninstalled 1.2 - 1@1.2 1.2 1.2 - -\n0";
+    assert!(rt;
+        prints(
+            rt.alloc(),
+            b"start 1\ncrash 1\nstart 1\nstart 1\ncreate 1\n",
+            wanted
+        )
+    );
 }
 
 #[test]

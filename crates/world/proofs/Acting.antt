@@ -40,8 +40,11 @@ world-turns opening apply at new h e a t w g others =
 -- a world whose seats stand where they stood keeps what it kept
 pub world-same : {R : Type 0} (at new : ℕ → Option (Seat R)) (h : History) → ((m : ℕ) → seat_at (new m) ≡ seat_at (at m)) → IsWorld at h → IsWorld new h
 world-same at new h same w = record {
-  faithful = w.faithful; paired = w.paired; trace = w.trace;
-  seats = λ n. subst (λ s. IsSeatOf n (last_of n h.trace) (is_connected n h) h.trace s) (sym (same n)) (w.seats n) }
+  faithful = w.faithful;
+  paired = w.paired;
+  trace = w.trace;
+  seats = λ n. subst (λ s. IsSeatOf n (last_of n h.trace) (is_connected n h) h.trace s) (sym (same n)) (w.seats n);
+}
 
 -- without a seat every event but a start is refused as at a vacant one
 vacant-acts : {R : Type 0} (opening : R) (apply : R → Address → List ℕ → R) (e : WorldEvent) (t : List Happening) (a : Answer) (t' : List Happening) → starts e ≡ false
@@ -74,8 +77,8 @@ pub carried-turns : {R : Type 0} (opening : R) (apply : R → Address → List �
     → IsWorld new (record { events = h.events ++ e ∷ []; replies = h.replies ++ record { answer = a; place = length t } ∷ []; trace = t })
 carried-turns opening apply at new h e n a t w node g others =
     world-turns opening apply at new h e a t w
-      (subst (λ (m : ℕ). Acts opening apply e (seat_at (at m)) h.trace a (seat_at (new m)) t) node (carried-acts opening apply e (at n) h.trace a (new n) t (starts e) refl g))
-      (λ m o. others m (subst (λ (x : ℕ). nat_eq x m ≡ false) (sym node) o))
+    (subst (λ (m : ℕ). Acts opening apply e (seat_at (at m)) h.trace a (seat_at (new m)) t) node (carried-acts opening apply e (at n) h.trace a (new n) t (starts e) refl g))
+    (λ m o. others m (subst (λ (x : ℕ). nat_eq x m ≡ false) (sym node) o))
 
 same-seat : {R : Type 0} (at new : ℕ → Option (Seat R)) (n : ℕ) → new n ≡ at n → ((m : ℕ) → nat_eq n m ≡ false → new m ≡ at m) → (m : ℕ) (b : Bool) → nat_eq n m ≡ b → seat_at (new m) ≡ seat_at (at m)
 same-seat at new n here others m true b = ap seat_at (subst (λ (k : ℕ). new k ≡ at k) (eqb-true n m b) here)

@@ -30,7 +30,9 @@ may-install : (p : Address) (c : Bool) (t : List Happening) → IsMember p Idle 
 may-install p c t m = record {
   placed = record { started = m.started; going = m.going };
   views = (record { inside = or_left (same_address p p) false (same_address-refl p); previous = sym m.at.view; rises = λ v e. absurd (none-some v e) }, λ f e. absurd (none-some f (sym m.at.first ∙ e)));
-  messages = tt; order = tt }
+  messages = tt;
+  order = tt;
+}
 
 -- after it the member is alone, and has sent nothing
 alone-now : (p : Address) (c : Bool) (t : List Happening) → IsMember p Idle c t → IsAlone p 0 (t ++ Installed (lone_install p) ∷ [])
@@ -46,14 +48,18 @@ create-at n h m Done new t i k g =
     let idle : IsMember m.address Idle (is_connected n h) h.trace = subst (λ s. IsMember m.address s (is_connected n h) h.trace) g.0 k.2 in
     let off : is_connected m.address.node h ≡ false = subst (λ (x : ℕ). is_connected x h ≡ false) (sym k.1) idle.joined in
     rw (g.1, g.2) (turn-one h (Create n) Done (Installed (lone_install m.address)) (Running (record { address = m.address; stage = Alone 0; receiver = m.receiver })) i
-      (record { node = k.1; follows = may-install m.address (is_connected n h) h.trace idle; own = refl; next = tt })
-      (rw (k.0, k.2.going, off) (inl (refl, refl)))
-      tt
-      (last_of-still n h.trace (Installed (lone_install m.address)) refl ∙ k.0, k.1, record {
+    (record { node = k.1; follows = may-install m.address (is_connected n h) h.trace idle; own = refl; next = tt })
+    (rw (k.0, k.2.going, off) (inl (refl, refl)))
+    tt (
+      last_of-still n h.trace (Installed (lone_install m.address)) refl ∙ k.0,
+      k.1,
+      record {
         started = has_started-stays m.address h.trace (Installed (lone_install m.address) ∷ []) k.2.started;
         going = has_ended-still m.address h.trace (Installed (lone_install m.address)) refl ∙ k.2.going;
         joined = cond-true (nat_eq n n && true) true (is_connected n h) (and_from (nat_eq n n) true (eq-eqb n n refl) refl);
-        at = alone-now m.address (is_connected n h) h.trace idle }))
+        at = alone-now m.address (is_connected n h) h.trace idle;
+      },
+    ))
 create-at n h m (Sent j) new t i k g = absurd g
 create-at n h m (Refused AlreadyConnected) new t i k g =
     let on : is_connected m.address.node h ≡ true = subst (λ (x : ℕ). is_connected x h ≡ true) (sym k.1) (k.2.joined ∙ ap not g.0) in

@@ -40,7 +40,11 @@ told_trace p k x t = sent_trace p k x t ++ Delivered (delivery p (k + 1) x) ∷ 
 
 may-send : (p : Address) (k : ℕ) (x : List ℕ) (c : Bool) (t : List Happening) → IsMember p (Alone k) c t → MayFollow t (happening.Sent (sending p (k + 1) x))
 may-send p k x c t m = record {
-  placed = (record { started = m.started; going = m.going }, m.at.view, m.at.free); views = tt; messages = ap (λ n. n + 1) (sym m.at.count); order = tt }
+  placed = (record { started = m.started; going = m.going }, m.at.view, m.at.free);
+  views = tt;
+  messages = ap (λ n. n + 1) (sym m.at.count);
+  order = tt;
+}
 
 -- what is sent after it
 sent-now : (p : Address) (k : ℕ) (x : List ℕ) (t : List Happening) → sent_in p (first_view p) (sent_trace p k x t) ≡ sent_in p (first_view p) t ++ (sending p (k + 1) x).message ∷ []
@@ -55,12 +59,17 @@ may-tell p k x c t m =
     let mine : own p (delivered_in p (first_view p) u) ≡ sent_in p (first_view p) t = ap (own p) (told-before p k x t) ∙ m.at.heard in
     let count : length (own p (delivered_in p (first_view p) u)) ≡ length (sent_in p (first_view p) t) = ap length mine in
     record {
-      placed = (record { started = has_started-stays p t (happening.Sent (sending p (k + 1) x) ∷ []) m.started; going = has_ended-still p t (happening.Sent (sending p (k + 1) x)) refl ∙ m.going },
-        current_view-push p t (happening.Sent (sending p (k + 1) x)) ∙ m.at.view);
+      placed = (
+        record { started = has_started-stays p t (happening.Sent (sending p (k + 1) x) ∷ []) m.started; going = has_ended-still p t (happening.Sent (sending p (k + 1) x)) refl ∙ m.going },
+        current_view-push p t (happening.Sent (sending p (k + 1) x)) ∙ m.at.view,
+      );
       views = tt;
-      messages = (ap (λ n. n + 1) (sym (count ∙ m.at.count)),
-        rw count (ap (λ l. slice_get l (length (sent_in p (first_view p) t))) (sent-now p k x t) ∙ slice_get-last (sent_in p (first_view p) t) (sending p (k + 1) x).message));
-      order = λ e. absurd (let bad : true ≡ false = sym (same_address-refl p) ∙ e in cc) }
+      messages = (
+        ap (λ n. n + 1) (sym (count ∙ m.at.count)),
+        rw count (ap (λ l. slice_get l (length (sent_in p (first_view p) t))) (sent-now p k x t) ∙ slice_get-last (sent_in p (first_view p) t) (sending p (k + 1) x).message),
+      );
+      order = λ e. absurd (let bad : true ≡ false = sym (same_address-refl p) ∙ e in cc);
+    }
 
 -- the member is alone as before, with one message more
 alone-more : (p : Address) (k : ℕ) (x : List ℕ) (c : Bool) (t : List Happening) → IsMember p (Alone k) c t → IsAlone p (k + 1) (told_trace p k x t)
@@ -71,12 +80,13 @@ alone-more p k x c t m =
     let u = sent_trace p k x t in
     let said : sent_in p v (told_trace p k x t) ≡ sent_in p v t ++ (sending p (k + 1) x).message ∷ [] = sent_in-still p v u d refl ∙ sent-now p k x t in
     let heard : delivered_in p v (told_trace p k x t) ≡ delivered_in p v t ++ (delivery p (k + 1) x).message ∷ [] =
-      delivered_in-hit p v u (delivery p (k + 1) x) (told_to-at (delivery p (k + 1) x)) ∙ ap (λ l. l ++ (delivery p (k + 1) x).message ∷ []) (told-before p k x t) in
+    delivered_in-hit p v u (delivery p (k + 1) x) (told_to-at (delivery p (k + 1) x)) ∙ ap (λ l. l ++ (delivery p (k + 1) x).message ∷ []) (told-before p k x t) in
     record {
       view = current_view-push p u d ∙ current_view-push p t s ∙ m.at.view;
       free = is_blocked-push p u d ∙ is_blocked-push p t s ∙ m.at.free;
       heard = ap (own p) heard ∙ own-hit p (delivered_in p v t) (delivery p (k + 1) x).message (same_address-refl p) ∙ ap (λ l. l ++ (sending p (k + 1) x).message ∷ []) m.at.heard ∙ sym said;
-      count = ap length said ∙ length-append (sent_in p v t) ((sending p (k + 1) x).message ∷ []) ∙ ap (λ n. n + 1) m.at.count }
+      count = ap length said ∙ length-append (sent_in p v t) ((sending p (k + 1) x).message ∷ []) ∙ ap (λ n. n + 1) m.at.count;
+    }
 
 -- nothing is outstanding at a lone member
 none-out : (p : Address) (k : ℕ) (c : Bool) (t : List Happening) → IsMember p (Alone k) c t → nat_le OUTSTANDING (outstanding p (first_view p) t) ≡ false
@@ -91,10 +101,12 @@ told-promptly : (p : Address) (j : ℕ) (x : List ℕ) (t : List Happening) (o :
     → Contains (happening.Sent (sending p (j + 1) x) ∷ Delivered (delivery p (j + 1) x) ∷ []) (Delivered (record { member = q; view = v; message = record { sender = q; number = j + 1; payload = x } }))
 told-promptly p j x t o is at q last v view =
     let same : p ≡ q = same_Some p q (sym is ∙ last) in
-    let own_view : first_view p ≡ v = same_Some (first_view p) v (sym at ∙ ap (λ (y : Address). current_view y t) same ∙ view) in
-    (1, lit< tt,
+    let own_view : first_view p ≡ v = same_Some (first_view p) v (sym at ∙ ap (λ (y : Address). current_view y t) same ∙ view) in (
+      1,
+      lit< tt,
       ap (λ (y : Address). Delivered (record { member = y; view = first_view p; message = record { sender = y; number = j + 1; payload = x } })) same
-        ∙ ap (λ (w : ViewId). Delivered (record { member = q; view = w; message = record { sender = q; number = j + 1; payload = x } })) own_view)
+          ∙ ap (λ (w : ViewId). Delivered (record { member = q; view = w; message = record { sender = q; number = j + 1; payload = x } })) own_view,
+    )
 
 send-alone : {R : Type 0} (apply : R → Address → List ℕ → R) (x : List ℕ) (n : ℕ) (h : History) (m : Member R) (j : ℕ) (a : Answer) (new : Seat R) (t : List Happening) → IsTrace h.trace
     → IsSeatOf n (last_of n h.trace) (is_connected n h) h.trace (Running m) → IsMember m.address (Alone j) (is_connected n h) h.trace → SendIn apply x (Alone j) m h.trace a new t → Turn h (Send n x) a t new
@@ -104,17 +116,24 @@ send-alone apply x n h m j (Sent b) new t i k f g =
     let long : nat_lt PAYLOAD (length x) ≡ false = le-ltb PAYLOAD (length x) g.0 in
     let few : nat_lt (length (sent_in p (first_view p) h.trace)) (2 ^ 62) ≡ true = lt-ltb (length (sent_in p (first_view p) h.trace)) (2 ^ 62) (let low : j < 2 ^ 62 = g.1 in rw f.at.count low) in
     rw (g.2, g.3, g.4) (turn-two h (Send n x) (Sent (j + 1)) (happening.Sent (sending p (j + 1) x)) (Delivered (delivery p (j + 1) x)) (Running (record { address = p; stage = Alone (j + 1); receiver = apply m.receiver p x })) i
-      (record { node = k.1; follows = may-send p j x (is_connected n h) h.trace f; own = tt; next = tt })
-      (record { node = k.1; follows = may-tell p j x (is_connected n h) h.trace f; own = tt; next = tt })
-      (rw (k.0, f.going, f.at.view, long, f.at.free, none-out p j (is_connected n h) h.trace f, few)
-        (inl (record { number = ap (λ c. Sent (c + 1)) (sym f.at.count);
-          first = ap (λ c. happening.Sent (sending p (c + 1) x) ∷ Delivered (delivery p (j + 1) x) ∷ []) (sym f.at.count); quiet = and_from (same_address p p && true) true (and_from (same_address p p) true (same_address-refl p) refl) refl })))
-      (λ q last v view first short. told-promptly p j x h.trace (last_of n h.trace) k.0 f.at.view q last v view)
-      (last_of-still n (sent_trace p j x h.trace) (Delivered (delivery p (j + 1) x)) refl ∙ last_of-still n h.trace (happening.Sent (sending p (j + 1) x)) refl ∙ k.0, k.1, record {
+    (record { node = k.1; follows = may-send p j x (is_connected n h) h.trace f; own = tt; next = tt })
+    (record { node = k.1; follows = may-tell p j x (is_connected n h) h.trace f; own = tt; next = tt })
+    (rw (k.0, f.going, f.at.view, long, f.at.free, none-out p j (is_connected n h) h.trace f, few)
+    (inl (record {
+      number = ap (λ c. Sent (c + 1)) (sym f.at.count);
+      first = ap (λ c. happening.Sent (sending p (c + 1) x) ∷ Delivered (delivery p (j + 1) x) ∷ []) (sym f.at.count);
+      quiet = and_from (same_address p p && true) true (and_from (same_address p p) true (same_address-refl p) refl) refl;
+    })))
+    (λ q last v view first short. told-promptly p j x h.trace (last_of n h.trace) k.0 f.at.view q last v view) (
+      last_of-still n (sent_trace p j x h.trace) (Delivered (delivery p (j + 1) x)) refl ∙ last_of-still n h.trace (happening.Sent (sending p (j + 1) x)) refl ∙ k.0,
+      k.1,
+      record {
         started = has_started-stays p (sent_trace p j x h.trace) (Delivered (delivery p (j + 1) x) ∷ []) (has_started-stays p h.trace (happening.Sent (sending p (j + 1) x) ∷ []) f.started);
         going = has_ended-still p (sent_trace p j x h.trace) (Delivered (delivery p (j + 1) x)) refl ∙ has_ended-still p h.trace (happening.Sent (sending p (j + 1) x)) refl ∙ f.going;
         joined = f.joined;
-        at = alone-more p j x (is_connected n h) h.trace f }))
+        at = alone-more p j x (is_connected n h) h.trace f;
+      },
+    ))
 send-alone apply x n h m j (Refused TooLong) new t i k f g =
     let long : nat_lt PAYLOAD (length x) ≡ true = lt-ltb PAYLOAD (length x) g.0 in
     rw (g.1, g.2) (turn-stays h (Send n x) TooLong (Running m) i k (rw (k.0, f.going, f.at.view, long) (refl, refl)))
@@ -128,7 +147,7 @@ send-alone apply x n h m j (Refused Memory) new t i k f g =
     let long : nat_lt PAYLOAD (length x) ≡ false = le-ltb PAYLOAD (length x) g.0 in
     let few : nat_lt (length (sent_in p (first_view p) h.trace)) (2 ^ 62) ≡ true = lt-ltb (length (sent_in p (first_view p) h.trace)) (2 ^ 62) (rw f.at.count g.1) in
     rw (g.2, g.3) (turn-crash h (Send n x) (Refused Memory) p (Alone j) (is_connected n h) i k.1 k.0 f
-      (rw (k.0, f.going, f.at.view, long, f.at.free, none-out p j (is_connected n h) h.trace f, few) (inr (refl, refl))) tt)
+    (rw (k.0, f.going, f.at.view, long, f.at.free, none-out p j (is_connected n h) h.trace f, few) (inr (refl, refl))) tt)
 send-alone apply x n h m j (Refused NotConnected) new t i k f g = absurd g
 send-alone apply x n h m j (Refused Blocked) new t i k f g = absurd g
 send-alone apply x n h m j (Refused Busy) new t i k f g = absurd g

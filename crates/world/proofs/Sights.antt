@@ -29,8 +29,14 @@ sight-same p t = record { started = refl; ended = refl; view = refl; blocked = r
 
 pub sight-then : (p : Address) (t u w : List Happening) → SameSight p t u → SameSight p u w → SameSight p t w
 sight-then p t u w a b = record {
-  started = b.started ∙ a.started; ended = b.ended ∙ a.ended; view = b.view ∙ a.view; blocked = b.blocked ∙ a.blocked;
-  said = b.said ∙ a.said; heard = b.heard ∙ a.heard; first = b.first ∙ a.first }
+  started = b.started ∙ a.started;
+  ended = b.ended ∙ a.ended;
+  view = b.view ∙ a.view;
+  blocked = b.blocked ∙ a.blocked;
+  said = b.said ∙ a.said;
+  heard = b.heard ∙ a.heard;
+  first = b.first ∙ a.first;
+}
 
 -- who installs a view made it
 abbrev pub IsOwnInstall : Happening → Type 0
@@ -61,24 +67,33 @@ first-apart p t (Blocked q) e o = register-still (λ i. same_view_id i.view.id (
 first-apart p t (Installed i) e o =
     let test : same_view_id i.view.id (first_view p) ≡ false = other-view i p o e (same_view_id i.view.id (first_view p)) refl in
     register-push (λ f. same_view_id f.view.id (first_view p)) t i
-      ∙ ap (λ c. option_or (first_install (first_view p) t) c) (cond-false (same_view_id i.view.id (first_view p)) (Some i) None test)
-      ∙ option_or-none (first_install (first_view p) t)
+    ∙ ap (λ c. option_or (first_install (first_view p) t) c) (cond-false (same_view_id i.view.id (first_view p)) (Some i) None test)
+    ∙ option_or-none (first_install (first_view p) t)
 first-apart p t (Left q) e o = register-still (λ i. same_view_id i.view.id (first_view p)) t (Left q) refl
 first-apart p t (Crashed q) e o = register-still (λ i. same_view_id i.view.id (first_view p)) t (Crashed q) refl
 
 -- what happens to one member changes nothing that is said of another
 pub sight-apart : (p : Address) (t : List Happening) (h : Happening) → same_address (member_of h) p ≡ false → IsOwnInstall h → SameSight p t (t ++ h ∷ [])
 sight-apart p t h e o = record {
-  started = has_started-other p t h e; ended = has_ended-other p t h e; view = current_view-other p t h e; blocked = is_blocked-other p t h e;
-  said = sent_in-other p (first_view p) t h e; heard = delivered_in-other p (first_view p) t h e; first = first-apart p t h e o }
+  started = has_started-other p t h e;
+  ended = has_ended-other p t h e;
+  view = current_view-other p t h e;
+  blocked = is_blocked-other p t h e;
+  said = sent_in-other p (first_view p) t h e;
+  heard = delivered_in-other p (first_view p) t h e;
+  first = first-apart p t h e o;
+}
 
 pub IsFresh-seen : (p : Address) (t u : List Happening) → SameSight p t u → IsFresh p t → IsFresh p u
 IsFresh-seen p t u s f = record { going = s.ended ∙ f.going; view = s.view ∙ f.view; free = s.blocked ∙ f.free; said = s.said ∙ f.said; heard = s.heard ∙ f.heard; first = s.first ∙ f.first }
 
 pub IsAlone-seen : (p : Address) (k : ℕ) (t u : List Happening) → SameSight p t u → IsAlone p k t → IsAlone p k u
 IsAlone-seen p k t u s f = record {
-  view = s.view ∙ f.view; free = s.blocked ∙ f.free;
-  heard = ap (own p) s.heard ∙ f.heard ∙ sym s.said; count = ap length s.said ∙ f.count }
+  view = s.view ∙ f.view;
+  free = s.blocked ∙ f.free;
+  heard = ap (own p) s.heard ∙ f.heard ∙ sym s.said;
+  count = ap length s.said ∙ f.count;
+}
 
 pub IsAtStage-seen : (p : Address) (stage : Stage) (t u : List Happening) → SameSight p t u → IsAtStage p stage t → IsAtStage p stage u
 IsAtStage-seen p Idle t u s f = IsFresh-seen p t u s f

@@ -37,7 +37,8 @@ fresh-start q t f = record {
   free = is_blocked-push q t (Started q) ∙ f.free;
   said = sent_in-still q (first_view q) t (Started q) refl ∙ f.said;
   heard = delivered_in-still q (first_view q) t (Started q) refl ∙ f.heard;
-  first = register-still (λ i. same_view_id i.view.id (first_view q)) t (Started q) refl ∙ f.first }
+  first = register-still (λ i. same_view_id i.view.id (first_view q)) t (Started q) refl ∙ f.first;
+}
 
 last-now : (q : Address) (n : ℕ) (t : List Happening) → q.node ≡ n → last_of n (t ++ Started q ∷ []) ≡ Some q
 last-now q n t e = last_of-push n t (Started q) ∙ cond-true (nat_eq q.node n) (Some q) (last_of n t) (eq-eqb q.node n e)
@@ -49,21 +50,26 @@ begins-turns opening n h q Done new t i node above done memory g =
     let none : has_started q h.trace ≡ false = unstarted q h.trace i (subst (λ (m : ℕ). top_of m h.trace < q.incarnation) (sym node) above) (has_started q h.trace) refl in
     let fresh : IsFresh q (h.trace ++ Started q ∷ []) = fresh-start q h.trace (i.fresh q none) in
     rw (g.0, g.1) (turn-one h (Start n) Done (Started q) (Running (record { address = q; stage = Idle; receiver = opening })) i
-      (record { node = node; follows = record { placed = none; views = tt; messages = tt; order = tt }; own = tt; next = let low : top_of q.node h.trace < q.incarnation = subst (λ (m : ℕ). top_of m h.trace < q.incarnation) (sym node) above in omega arith })
-      done tt
-      (last-now q n h.trace node, node, record {
-        started = has_started-now q h.trace; going = fresh.going;
+    (record { node = node; follows = record { placed = none; views = tt; messages = tt; order = tt }; own = tt; next = let low : top_of q.node h.trace < q.incarnation = subst (λ (m : ℕ). top_of m h.trace < q.incarnation) (sym node) above in omega arith })
+    done tt (
+      last-now q n h.trace node,
+      node,
+      record {
+        started = has_started-now q h.trace;
+        going = fresh.going;
         joined = cond-true (nat_eq n n && true) false (is_connected n h) (and_from (nat_eq n n) true (eq-eqb n n refl) refl);
-        at = fresh }))
+        at = fresh;
+      },
+    ))
 begins-turns opening n h q (Sent k) new t i node above done memory g = absurd g
 begins-turns {R} opening n h q (Refused Memory) new t i node above done memory g =
     let none : has_started q h.trace ≡ false = unstarted q h.trace i (subst (λ (m : ℕ). top_of m h.trace < q.incarnation) (sym node) above) (has_started q h.trace) refl in
     let fresh : IsFresh q (h.trace ++ Started q ∷ []) = fresh-start q h.trace (i.fresh q none) in
     rw (g.0, g.1) (turn-two {R = R} h (Start n) (Refused Memory) (Started q) (Crashed q) (Ended q) i
-      (record { node = node; follows = record { placed = none; views = tt; messages = tt; order = tt }; own = tt; next = let low : top_of q.node h.trace < q.incarnation = subst (λ (m : ℕ). top_of m h.trace < q.incarnation) (sym node) above in omega arith })
-      (record { node = node; follows = record { placed = record { started = has_started-now q h.trace; going = fresh.going }; views = tt; messages = tt; order = tt }; own = tt; next = tt })
-      memory tt
-      (last_of-still n (h.trace ++ Started q ∷ []) (Crashed q) refl ∙ last-now q n h.trace node, node, has_ended-now (h.trace ++ Started q ∷ []) (Crashed q) refl))
+    (record { node = node; follows = record { placed = none; views = tt; messages = tt; order = tt }; own = tt; next = let low : top_of q.node h.trace < q.incarnation = subst (λ (m : ℕ). top_of m h.trace < q.incarnation) (sym node) above in omega arith })
+    (record { node = node; follows = record { placed = record { started = has_started-now q h.trace; going = fresh.going }; views = tt; messages = tt; order = tt }; own = tt; next = tt })
+    memory tt
+    (last_of-still n (h.trace ++ Started q ∷ []) (Crashed q) refl ∙ last-now q n h.trace node, node, has_ended-now (h.trace ++ Started q ∷ []) (Crashed q) refl))
 begins-turns opening n h q (Refused NotConnected) new t i node above done memory g = absurd g
 begins-turns opening n h q (Refused Blocked) new t i node above done memory g = absurd g
 begins-turns opening n h q (Refused Busy) new t i node above done memory g = absurd g
@@ -82,9 +88,9 @@ after-ended {R} opening n h p a new t i k true e g =
     let top : top_of n h.trace ≡ p.incarnation = top-at n h.trace (Some p) k.0 in
     let begins : Begins opening (record { node = p.node; incarnation = p.incarnation + 1 }) h.trace a new t = rw e at g in
     begins-turns opening n h (record { node = p.node; incarnation = p.incarnation + 1 }) a new t i k.1 (omega arith)
-      (rw (k.0, k.2, e) (inl (refl, ap (λ (m : ℕ). Started (record { node = m; incarnation = p.incarnation + 1 }) ∷ []) k.1)))
-      (rw (k.0, k.2, e) (inr (refl, ap (λ (m : ℕ). Started (record { node = m; incarnation = p.incarnation + 1 }) ∷ Crashed (record { node = m; incarnation = p.incarnation + 1 }) ∷ []) k.1)))
-      begins
+    (rw (k.0, k.2, e) (inl (refl, ap (λ (m : ℕ). Started (record { node = m; incarnation = p.incarnation + 1 }) ∷ []) k.1)))
+    (rw (k.0, k.2, e) (inr (refl, ap (λ (m : ℕ). Started (record { node = m; incarnation = p.incarnation + 1 }) ∷ Crashed (record { node = m; incarnation = p.incarnation + 1 }) ∷ []) k.1)))
+    begins
 after-ended {R} opening n h p a new t i k false e g =
     let stays : (a ≡ Refused Exhausted) × (new ≡ Ended p) × (t ≡ h.trace) = rw e at g in
     rw (stays.0, stays.1, stays.2) (turn-stays {R = R} h (Start n) Exhausted (Ended p) i k (rw (k.0, k.2, e) (refl, refl)))

@@ -116,11 +116,13 @@ pub trace-push : (t : List Happening) (h : Happening) → IsTrace t → MayFollo
 trace-push t h i may own next = record {
   ordered = well_ordered-push t h i.ordered may;
   starts = λ r now. starts-push t h i.starts next r now;
-  fresh = λ p now. fresh-push t h p i.fresh may.placed own (same_address (member_of h) p) refl now }
+  fresh = λ p now. fresh-push t h p i.fresh may.placed own (same_address (member_of h) p) refl now;
+}
 
 -- and of nothing
 pub trace-nil : IsTrace []
 trace-nil = record {
   ordered = well_ordered-nil;
   starts = λ p now. absurd (let bad : false ≡ true = now in cc);
-  fresh = λ p now. record { going = refl; view = refl; free = refl; said = refl; heard = refl; first = refl } }
+  fresh = λ p now. record { going = refl; view = refl; free = refl; said = refl; heard = refl; first = refl };
+}

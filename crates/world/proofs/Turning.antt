@@ -77,7 +77,7 @@ seat-turned at new h e a t w turn others m true b =
     subst (λ (n : ℕ). IsSeatOf n (last_of n t) (connects_after n (is_connected n h) e a) t (seat_at (new n))) (eqb-true (node_of e) m b) turn.seat
 seat-turned at new h e a t w turn others m false b =
     rw (others m b, turn.lasts m b, connects_after-other m (is_connected m h) e a b)
-      (seat-kept m (last_of m h.trace) (is_connected m h) h.trace t (seat_at (at m)) (λ p same. turn.sights p (other-node (node_of e) m p b same)) (w.seats m))
+    (seat-kept m (last_of m h.trace) (is_connected m h) h.trace t (seat_at (at m)) (λ p same. turn.sights p (other-node (node_of e) m p b same)) (w.seats m))
 
 -- with that, the world keeps what every world keeps
 pub turned : {R : Type 0} (at new : ℕ → Option (Seat R)) (h : History) (e : WorldEvent) (a : Answer) (t : List Happening) → IsWorld at h → Turn h e a t (seat_at (new (node_of e)))
@@ -89,14 +89,18 @@ turned at new h e a t w turn others =
       paired = length-append h.events (e ∷ []) ∙ ap (λ n. n + 1) w.paired ∙ sym (length-append h.replies (record { answer = a; place = length (h.trace ++ turn.stretch) } ∷ []));
       trace = subst IsTrace turn.is turn.trace;
       seats = λ m. rw (is_connected-push m h e a turn.stretch w.paired)
-        (subst (λ (u : List Happening). IsSeatOf m (last_of m u) (connects_after m (is_connected m h) e a) u (seat_at (new m))) turn.is (seat-turned at new h e a t w turn others m (nat_eq (node_of e) m) refl)) } in
+          (subst (λ (u : List Happening). IsSeatOf m (last_of m u) (connects_after m (is_connected m h) e a) u (seat_at (new m))) turn.is (seat-turned at new h e a t w turn others m (nat_eq (node_of e) m) refl));
+    } in
     subst (λ (u : List Happening). IsWorld new (record { events = h.events ++ e ∷ []; replies = h.replies ++ record { answer = a; place = length u } ∷ []; trace = u })) (sym turn.is) next
 
 -- and a world where nothing happened keeps it
 pub no_world : {R : Type 0} (at : ℕ → Option (Seat R)) → ((n : ℕ) → at n ≡ None) → IsTrace [] → IsWorld at no_history
 no_world at none start = record {
-  faithful = Nothing; paired = refl; trace = start;
-  seats = λ n. subst (λ o. IsSeatOf n None false [] (seat_at o)) (sym (none n)) refl }
+  faithful = Nothing;
+  paired = refl;
+  trace = start;
+  seats = λ n. subst (λ o. IsSeatOf n None false [] (seat_at o)) (sym (none n)) refl;
+}
 
 -- a refused event leaves who is connected
 refused-connects : (n : ℕ) (c : Bool) (e : WorldEvent) (r : Refusal) → connects_after n c e (Refused r) ≡ c
@@ -117,9 +121,15 @@ refused-prompt t (Crash m) r s = tt
 pub turn-stays : {R : Type 0} (h : History) (e : WorldEvent) (r : Refusal) (s : Seat R) → IsTrace h.trace
     → IsSeatOf (node_of e) (last_of (node_of e) h.trace) (is_connected (node_of e) h) h.trace s → Answers h e (Refused r) [] → Turn h e (Refused r) h.trace s
 turn-stays h e r s i k answers = record {
-  stretch = []; is = sym (append-nil h.trace); answers = answers; prompt = refused-prompt h.trace e r []; trace = i;
-  lasts = λ m o. refl; sights = λ p o. sight-same p h.trace;
-  seat = rw (refused-connects (node_of e) (is_connected (node_of e) h) e r) k }
+  stretch = [];
+  is = sym (append-nil h.trace);
+  answers = answers;
+  prompt = refused-prompt h.trace e r [];
+  trace = i;
+  lasts = λ m o. refl;
+  sights = λ p o. sight-same p h.trace;
+  seat = rw (refused-connects (node_of e) (is_connected (node_of e) h) e r) k;
+}
 
 -- members of two nodes are two
 apart : (q p : Address) (n : ℕ) → q.node ≡ n → nat_eq n p.node ≡ false → same_address q p ≡ false
@@ -144,8 +154,15 @@ pub turn-one : {R : Type 0} (h : History) (e : WorldEvent) (a : Answer) (x : Hap
     → IsSeatOf (node_of e) (last_of (node_of e) (h.trace ++ x ∷ [])) (connects_after (node_of e) (is_connected (node_of e) h) e a) (h.trace ++ x ∷ []) new
     → Turn h e a (h.trace ++ x ∷ []) new
 turn-one h e a x new i may answers prompt seat = record {
-  stretch = x ∷ []; is = refl; answers = answers; prompt = prompt; trace = trace-push h.trace x i may.follows may.own may.next;
-  lasts = λ m o. last-one (node_of e) m h.trace x may o; sights = λ p o. sight-one (node_of e) p h.trace x may o; seat = seat }
+  stretch = x ∷ [];
+  is = refl;
+  answers = answers;
+  prompt = prompt;
+  trace = trace-push h.trace x i may.follows may.own may.next;
+  lasts = λ m o. last-one (node_of e) m h.trace x may o;
+  sights = λ p o. sight-one (node_of e) p h.trace x may o;
+  seat = seat;
+}
 
 -- an event with two
 pub turn-two : {R : Type 0} (h : History) (e : WorldEvent) (a : Answer) (x y : Happening) (new : Seat R) → IsTrace h.trace → MayHappen (node_of e) h.trace x → MayHappen (node_of e) (h.trace ++ x ∷ []) y
@@ -153,26 +170,30 @@ pub turn-two : {R : Type 0} (h : History) (e : WorldEvent) (a : Answer) (x y : H
     → IsSeatOf (node_of e) (last_of (node_of e) (h.trace ++ x ∷ [] ++ y ∷ [])) (connects_after (node_of e) (is_connected (node_of e) h) e a) (h.trace ++ x ∷ [] ++ y ∷ []) new
     → Turn h e a (h.trace ++ x ∷ [] ++ y ∷ []) new
 turn-two h e a x y new i may then answers prompt seat = record {
-  stretch = x ∷ y ∷ []; is = append_assoc h.trace (x ∷ []) (y ∷ []); answers = answers; prompt = prompt;
+  stretch = x ∷ y ∷ [];
+  is = append_assoc h.trace (x ∷ []) (y ∷ []);
+  answers = answers;
+  prompt = prompt;
   trace = trace-push (h.trace ++ x ∷ []) y (trace-push h.trace x i may.follows may.own may.next) then.follows then.own then.next;
   lasts = λ m o. last-one (node_of e) m (h.trace ++ x ∷ []) y then o ∙ last-one (node_of e) m h.trace x may o;
   sights = λ p o. sight-then p h.trace (h.trace ++ x ∷ []) (h.trace ++ x ∷ [] ++ y ∷ []) (sight-one (node_of e) p h.trace x may o) (sight-one (node_of e) p (h.trace ++ x ∷ []) y then o);
-  seat = seat }
+  seat = seat;
+}
 
 -- a crash of a running member, after which its seat is empty
 pub turn-crash : {R : Type 0} (h : History) (e : WorldEvent) (a : Answer) (p : Address) (stage : Stage) (c : Bool) → IsTrace h.trace → p.node ≡ node_of e → last_of (node_of e) h.trace ≡ Some p
     → IsMember p stage c h.trace → Answers h e a (Crashed p ∷ []) → SendsPromptly h.trace e a (Crashed p ∷ []) → Turn {R = R} h e a (h.trace ++ Crashed p ∷ []) (Ended p)
 turn-crash {R} h e a p stage c i node last m answers prompt =
     turn-one {R = R} h e a (Crashed p) (Ended p) i
-      (record { node = node; follows = record { placed = record { started = m.started; going = m.going }; views = tt; messages = tt; order = tt }; own = tt; next = tt })
-      answers prompt
-      (last_of-still (node_of e) h.trace (Crashed p) refl ∙ last, node, has_ended-now h.trace (Crashed p) refl)
+    (record { node = node; follows = record { placed = record { started = m.started; going = m.going }; views = tt; messages = tt; order = tt }; own = tt; next = tt })
+    answers prompt
+    (last_of-still (node_of e) h.trace (Crashed p) refl ∙ last, node, has_ended-now h.trace (Crashed p) refl)
 
 -- a leave, likewise
 pub turn-leave : {R : Type 0} (h : History) (e : WorldEvent) (a : Answer) (p : Address) (stage : Stage) (c : Bool) → IsTrace h.trace → p.node ≡ node_of e → last_of (node_of e) h.trace ≡ Some p
     → IsMember p stage c h.trace → Answers h e a (Left p ∷ []) → SendsPromptly h.trace e a (Left p ∷ []) → Turn {R = R} h e a (h.trace ++ Left p ∷ []) (Ended p)
 turn-leave {R} h e a p stage c i node last m answers prompt =
     turn-one {R = R} h e a (Left p) (Ended p) i
-      (record { node = node; follows = record { placed = record { started = m.started; going = m.going }; views = tt; messages = tt; order = tt }; own = tt; next = tt })
-      answers prompt
-      (last_of-still (node_of e) h.trace (Left p) refl ∙ last, node, has_ended-now h.trace (Left p) refl)
+    (record { node = node; follows = record { placed = record { started = m.started; going = m.going }; views = tt; messages = tt; order = tt }; own = tt; next = tt })
+    answers prompt
+    (last_of-still (node_of e) h.trace (Left p) refl ∙ last, node, has_ended-now h.trace (Left p) refl)

@@ -73,8 +73,8 @@ abbrev pub StartGives : {R : Type 0} → R → ℕ → Seat R → List Happening
 StartGives opening n Vacant t a new t' = Begins opening (record { node = n; incarnation = 1 }) t a new t'
 StartGives opening n (Ended p) t a new t' =
     MatchBool (nat_lt (p.incarnation + 1) (2 ^ 32))
-      (Begins opening (record { node = p.node; incarnation = p.incarnation + 1 }) t a new t')
-      (Stays Exhausted (Ended p) t a new t')
+    (Begins opening (record { node = p.node; incarnation = p.incarnation + 1 }) t a new t')
+    (Stays Exhausted (Ended p) t a new t')
 StartGives opening n (Running m) t a new t' = Stays AlreadyConnected (Running m) t a new t'
 
 abbrev pub CreateAt : {R : Type 0} → Member R → List Happening → Answer → Seat R → List Happening → Type 0

@@ -60,7 +60,13 @@ fn keep_seat<R: Receiver>(seats: &mut BTreeMap<Node, Seat<R>>, node: Node) -> Re
 }
 
 /// Carries out an event at the seat of its node. Without a seat the node was never started: 1.
-fn act_at<R: Receiver>(alloc: Global, seats: &mut BTreeMap<Node, Seat<R>>, trace: &mut Trace, node: Node, event: &WorldEvent) -> Answer
+fn act_at<R: Receiver>(
+    alloc: Global,
+    seats: &mut BTreeMap<Node, Seat<R>>,
+    trace: &mut Trace,
+    node: Node,
+    event: &WorldEvent,
+) -> Answer
     requires room { 2 ≤ trace.old.room }
     ensures acts { ActsAt R.opening_state R.apply event.now (get nat_cmp seats.old node) trace.old.happenings result (get nat_cmp seats.new node) trace.new.happenings }
     ensures others { (m : ℕ) → nat_eq node m ≡ false → get nat_cmp seats.new m ≡ get nat_cmp seats.old m }
@@ -72,7 +78,13 @@ fn act_at<R: Receiver>(alloc: Global, seats: &mut BTreeMap<Node, Seat<R>>, trace
 }
 
 /// Carries out an event: for a start a seat is kept first, which memory may refuse: then nothing is carried out.
-fn carry_out<R: Receiver>(alloc: Global, seats: &mut BTreeMap<Node, Seat<R>>, trace: &mut Trace, node: Node, event: &WorldEvent) -> Result<Answer, AllocError>
+fn carry_out<R: Receiver>(
+    alloc: Global,
+    seats: &mut BTreeMap<Node, Seat<R>>,
+    trace: &mut Trace,
+    node: Node,
+    event: &WorldEvent,
+) -> Result<Answer, AllocError>
     requires room { 2 ≤ trace.old.room }
     ensures ok { IfOk result (λ a. CarriesOut R.opening_state R.apply event.now (get nat_cmp seats.old node) trace.old.happenings a (get nat_cmp seats.new node) trace.new.happenings) }
     ensures others { (m : ℕ) → nat_eq node m ≡ false → get nat_cmp seats.new m ≡ get nat_cmp seats.old m }

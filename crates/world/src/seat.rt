@@ -7,7 +7,9 @@ ghost use Rattle.world_model.specs.Faithful.{lone_install};
 use address::{Address, GREATEST_NUMBER, Node, ViewId};
 use state_transfer::{PAYLOAD, Receiver};
 use std::alloc::{AllocError, Global};
-use trace_props::{Bytes, Delivery, HandedBack, Happening, Install, Message, Numbered, Sending, Trace};
+use trace_props::{
+    Bytes, Delivery, HandedBack, Happening, Install, Message, Numbered, Sending, Trace,
+};
 use view::{Addresses, View};
 use world_model::{Answer, Refusal, WorldEvent};
 
@@ -98,7 +100,12 @@ impl<R: Receiver> Member<R> {
 }
 
 /// What happens where a lone member sends: it sends the message, and is told it.
-fn said(alloc: Global, member: Address, number: u64, payload: &[u8]) -> Result<(Sending, Delivery), AllocError>
+fn said(
+    alloc: Global,
+    member: Address,
+    number: u64,
+    payload: &[u8],
+) -> Result<(Sending, Delivery), AllocError>
     ensures { IfOk result (λ s. s ≡ (sending member number payload.now, delivery member number payload.now)) }
 {
     let sent = Bytes::from_slice(alloc, payload)?;
@@ -143,7 +150,12 @@ fn start<R: Receiver>(alloc: Global, seat: &mut Seat<R>, trace: &mut Trace, node
     started(alloc, seat, trace, next)
 }
 
-fn started<R: Receiver>(alloc: Global, seat: &mut Seat<R>, trace: &mut Trace, address: Address) -> Answer
+fn started<R: Receiver>(
+    alloc: Global,
+    seat: &mut Seat<R>,
+    trace: &mut Trace,
+    address: Address,
+) -> Answer
     requires room { 2 ≤ trace.old.room }
     ensures { Begins R.opening_state address trace.old.happenings result seat.new trace.new.happenings }
 {
@@ -254,7 +266,12 @@ fn crash<R: Receiver>(seat: &mut Seat<R>, trace: &mut Trace) -> Answer
 }
 
 /// Carries out an event at the seat of its node.
-pub fn act<R: Receiver>(alloc: Global, seat: &mut Seat<R>, trace: &mut Trace, event: &WorldEvent) -> Answer
+pub fn act<R: Receiver>(
+    alloc: Global,
+    seat: &mut Seat<R>,
+    trace: &mut Trace,
+    event: &WorldEvent,
+) -> Answer
     requires room { 2 ≤ trace.old.room }
     ensures { Acts R.opening_state R.apply event.now seat.old trace.old.happenings result seat.new trace.new.happenings }
 {

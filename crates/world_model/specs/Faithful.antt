@@ -41,9 +41,9 @@ abbrev pub AnswersStart : ℕ → History → Answer → List Happening → Type
 AnswersStart n h a stretch =
     MatchBool (runs_at n h.trace) (Refuses AlreadyConnected a stretch)
     (MatchBool (nat_lt (next_member n h.trace).incarnation (2 ^ 32))
-      (((a ≡ Done) × (stretch ≡ Started (next_member n h.trace) ∷ []))
-        ⊎ ((a ≡ Refused Memory) × (stretch ≡ Started (next_member n h.trace) ∷ Crashed (next_member n h.trace) ∷ [])))
-      (Refuses Exhausted a stretch))
+    (((a ≡ Done) × (stretch ≡ Started (next_member n h.trace) ∷ []))
+    ⊎ ((a ≡ Refused Memory) × (stretch ≡ Started (next_member n h.trace) ∷ Crashed (next_member n h.trace) ∷ [])))
+    (Refuses Exhausted a stretch))
 
 -- ALL OTHER EVENTS
 
@@ -59,8 +59,13 @@ first_view p = record { counter = 1; creator = p }
 
 abbrev pub lone_install : Address → Install
 lone_install p = record {
-  member = p; previous = None; view = record { id = first_view p; members = p ∷ [] };
-  together = p ∷ []; handed_back = []; given = None }
+  member = p;
+  previous = None;
+  view = record { id = first_view p; members = p ∷ [] };
+  together = p ∷ [];
+  handed_back = [];
+  given = None;
+}
 
 -- refused where a create of the member was answered Done before; else it installs the view of itself alone
 abbrev pub AnswersCreate : Address → History → Answer → List Happening → Type 0
@@ -99,8 +104,8 @@ AnswersSend payload p h a stretch =
     (MatchBool (is_blocked p h.trace) (Refuses refusal.Blocked a stretch)
     (MatchBool (nat_le OUTSTANDING (outstanding p v h.trace)) (Refuses Busy a stretch)
     (MatchBool (nat_lt (length (sent_in p v h.trace)) (2 ^ 62))
-      (SendsNext p v payload h.trace a stretch ⊎ Fails p a stretch)
-      (Refuses Exhausted a stretch)))))
+    (SendsNext p v payload h.trace a stretch ⊎ Fails p a stretch)
+    (Refuses Exhausted a stretch)))))
 
 abbrev pub AnswersLeave : Address → Answer → List Happening → Type 0
 AnswersLeave p a stretch = (a ≡ Done) × (stretch ≡ Left p ∷ []) ⊎ Fails p a stretch
@@ -121,8 +126,8 @@ Answers h (Crash n) a stretch = AtMember n h a stretch (λ p. AnswersCrash p a s
 abbrev pub IsPrompt : ℕ → List ℕ → List Happening → Answer → List Happening → Type 0
 IsPrompt n payload t (answer.Sent k) stretch =
     ForSome (last_of n t) (λ p. ForSome (current_view p t) (λ v.
-      same_address p v.creator ≡ true → length (delivered_in p v t) < REACH
-      → Contains stretch (Delivered (record { member = p; view = v; message = record { sender = p; number = k; payload = payload } }))))
+    same_address p v.creator ≡ true → length (delivered_in p v t) < REACH
+    → Contains stretch (Delivered (record { member = p; view = v; message = record { sender = p; number = k; payload = payload } }))))
 IsPrompt n payload t Done stretch = Unit {0}
 IsPrompt n payload t (Refused r) stretch = Unit {0}
 
@@ -137,4 +142,4 @@ SendsPromptly t (Crash n) a stretch = Unit {0}
 pub data IsFaithful : History → Type 0 where
   Nothing : IsFaithful no_history
   Next : (h : History) (event : WorldEvent) (a : Answer) (stretch : List Happening) → IsFaithful h → Answers h event a stretch
-    → SendsPromptly h.trace event a stretch → IsFaithful (after h event a stretch)
+      → SendsPromptly h.trace event a stretch → IsFaithful (after h event a stretch)

@@ -77,7 +77,8 @@ abbrev pub after : History → WorldEvent → Answer → List Happening → Hist
 after h event a stretch = record {
   events = h.events ++ event ∷ [];
   replies = h.replies ++ record { answer = a; place = length (h.trace ++ stretch) } ∷ [];
-  trace = h.trace ++ stretch }
+  trace = h.trace ++ stretch;
+}
 
 -- the history at the beginning
 abbrev pub no_history : History

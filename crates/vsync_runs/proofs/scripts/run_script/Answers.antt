@@ -17,7 +17,7 @@ returns-in-Ok-read_script g c =
 pub returns-in-Err-Fault : goal.returns-in-Err-Fault
 returns-in-Err-Fault g c =
     fault-text _ _ _ c.in-Ok.bytes.items c.in-Err-Fault.line c.in-Err-Fault.fault _ c.in-Ok.ensures
-      (ap script_of (sym c.as_slice.ensures.value) ∙ rw c.in-Err-Fault.field-0-is at c.in-Err-Fault.ensures) c.end_in_fault.ensures
+    (ap script_of (sym c.as_slice.ensures.value) ∙ rw c.in-Err-Fault.field-0-is at c.in-Err-Fault.ensures) c.end_in_fault.ensures
 
 pub returns : goal.returns
 returns g c = unread-text _ _ _ _ c.end_in_memory-in-Err-Memory-read_script.ensures

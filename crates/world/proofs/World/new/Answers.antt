@@ -10,4 +10,4 @@ use Rattle.world.proofs.World.new.Goals as goal
 pub invariant_of-result : goal.invariant_of-result
 invariant_of-result g c =
     rw (c.new-2.ensures.items, c.new-3.ensures.items, c.new-4.ensures)
-      (no_world (get nat_cmp c.new.result) (λ n. ap (lookup (is_at (nat_cmp n))) c.new.ensures.empty) trace-nil)
+    (no_world (get nat_cmp c.new.result) (λ n. ap (lookup (is_at (nat_cmp n))) c.new.ensures.empty) trace-nil)
