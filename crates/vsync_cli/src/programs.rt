@@ -12,6 +12,22 @@ fn complain<R: Eprint>(rt: &R, what: &str, path: &str) -> Status {
     Status::Outside
 }
 
+/// Ends for want of memory.
+fn without_memory<R: Print>(rt: &R) -> Status {
+    if println!(rt; "# memory").is_err() {
+        return Status::Outside;
+    }
+    Status::Memory
+}
+
+/// Says why the outside answered an error: for want of memory, or it failed.
+fn failed<R: Print + Eprint>(rt: &R, error: &io::Error, what: &str, path: &str) -> Status {
+    if error.kind() == io::ErrorKind::OutOfMemory {
+        return without_memory(rt);
+    }
+    complain(rt, what, path)
+}
+
 /// Runs a script from a reader, to the standard output.
 fn world<R: Print + AllocGlobal, I: Read>(rt: &R, reader: &mut I) -> Status {
     let mut output = io::writer(rt);
@@ -37,15 +53,14 @@ fn world_at<R: Files + Input + Print + Eprint + AllocGlobal>(rt: &R, path: &str)
             let mut file = file;
             told(rt, world(rt, &mut file), path)
         }
-        Err(_) => complain(rt, "cannot open", path),
+        Err(error) => failed(rt, &error, "cannot open", path),
     }
 }
 
 /// Prints what clap says of words that are no command, or the help that was asked for.
 fn explain<R: Print + Eprint>(rt: &R, error: Error) -> Status {
     if error.kind() == ErrorKind::OutOfMemory {
-        let _ = println!(rt; "# memory");
-        return Status::Memory;
+        return without_memory(rt);
     }
     let printed = error.print(rt);
     if printed.is_err() {
@@ -65,12 +80,13 @@ pub fn program<R: Env + Files + Input + Print + Eprint + AllocGlobal>(rt: &R) ->
         Ok(all) => {
             for word in all {
                 if words.push(word).is_err() {
-                    let _ = println!(rt; "# memory");
-                    return Status::Memory;
+                    return without_memory(rt);
                 }
             }
         }
-        Err(_) => return complain(rt, "cannot read", "the words of the command line"),
+        Err(error) => {
+            return failed(rt, &error, "cannot read", "the words of the command line");
+        }
     }
     match command(rt.alloc(), words.as_slice()) {
         Ok(Invocation::World(path)) => world_at(rt, path),
