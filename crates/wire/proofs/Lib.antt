@@ -1,0 +1,4 @@
+pub mod Bytes
+pub mod FieldLaws
+pub mod ListLaws
+pub mod MemberLaws
