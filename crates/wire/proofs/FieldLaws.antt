@@ -39,6 +39,13 @@ pub both_true : (a b : Bool) → (a && b) ≡ true → (a ≡ true) × (b ≡ tr
 both_true true b e = (refl, e)
 both_true false b e = absurd cc
 
+-- a fact along an equation, in either direction; with its ends written out, which keeps terms small
+pub along : {A : Type 0} (P : A → Type 0) (x y : A) → x ≡ y → P x → P y
+along P x y e p = subst P e p
+
+pub back : {A : Type 0} (P : A → Type 0) (x y : A) → x ≡ y → P y → P x
+back P x y e p = subst P (sym e) p
+
 -- what a reader took from the front
 pub record Takes (bytes text rest : List ℕ) : Type 0 where
   pub parts : bytes ≡ text ++ rest

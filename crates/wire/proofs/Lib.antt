@@ -2,3 +2,5 @@ pub mod Bytes
 pub mod FieldLaws
 pub mod ListLaws
 pub mod MemberLaws
+pub mod ReportLaws
+pub mod InstallLaws

@@ -102,11 +102,10 @@ abbrev pub held_bytes : List (ℕ × Entry) → List ℕ
 held_bytes held = big_bytes 1 (length held) ++ flat_map placed_bytes held
 
 abbrev pub filled_bytes : ViewId → Report → List ℕ
-filled_bytes previous r =
-    big_bytes 1 1 ++ view_id_bytes previous ++ number_bytes r.stable ++ number_bytes r.delivered ++ held_bytes r.held
+filled_bytes previous r = view_id_bytes previous ++ number_bytes r.stable ++ number_bytes r.delivered ++ held_bytes r.held
 
 abbrev pub report_bytes : Report → List ℕ
-report_bytes r = option_map_or (λ v. filled_bytes v r) r.previous (big_bytes 1 0)
+report_bytes r = option_map_or (λ v. big_bytes 1 1 ++ filled_bytes v r) r.previous (big_bytes 1 0)
 
 -- n entries, the places of which are above the last
 unfoldable pub held_at : ℕ → ℕ → ℕ → ℕ → List ℕ → Read (List (ℕ × Entry))
@@ -156,10 +155,14 @@ items_bytes items = big_bytes 1 (length items) ++ flat_map entry_bytes items
 
 abbrev pub state_bytes : Option (List ℕ) → List ℕ
 state_bytes None = big_bytes 1 0
-state_bytes (Some s) = big_bytes 1 1 ++ big_bytes 4 (length s) ++ s
+state_bytes (Some s) = big_bytes 1 1 ++ (big_bytes 4 (length s) ++ s)
+
+-- what is given to the one that is told
+abbrev pub given_bytes : Install → List ℕ
+given_bytes i = number_bytes i.base ++ items_bytes i.items ++ state_bytes i.state
 
 abbrev pub install_bytes : Install → List ℕ
-install_bytes i = view_bytes i.view ++ addresses_bytes i.together ++ number_bytes i.base ++ items_bytes i.items ++ state_bytes i.state
+install_bytes i = view_bytes i.view ++ addresses_bytes i.together ++ given_bytes i
 
 -- how many entries there are: above the window is a wrong length, past the greatest number a wrong value
 unfoldable pub items_count_at : ℕ → List ℕ → Read ℕ
@@ -175,13 +178,17 @@ state_at bytes = do
     state ← bytes_at len.0 len.1
     Ok (Some state.0, state.1)
 
+unfoldable pub given_at : View → List Address → List ℕ → Read Install
+given_at view together bytes = do
+  base ← number_at 8 0 GREATEST_NUMBER Value bytes
+  count ← items_count_at base.0 base.1
+  items ← list_at entry_at count.0 count.1
+  state ← state_at items.1
+  Ok (record { view = view; together = together; base = base.0; items = items.0; state = state.0 }, state.1)
+
 unfoldable pub install_at : List ℕ → Read Install
 install_at bytes = do
   view ← view_at bytes
   len ← number_at 1 1 MEMBERS Length view.1
   together ← together_at len.0 view.0.members [] len.1
-  base ← number_at 8 0 GREATEST_NUMBER Value together.1
-  count ← items_count_at base.0 base.1
-  items ← list_at entry_at count.0 count.1
-  state ← state_at items.1
-  Ok (record { view = view.0; together = together.0; base = base.0; items = items.0; state = state.0 }, state.1)
+  given_at view.0 together.0 together.1

@@ -119,7 +119,7 @@ fn items_count_at(base: u64, from: &mut Reader<'_>) -> Result<u8, WireError>
     Ok(count)
 }
 
-#[tactic(auto, unfolding(crate::specs::Lists::install_at))]
+#[tactic(auto, unfolding(crate::specs::Lists::install_at, crate::specs::Lists::given_at))]
 pub(crate) fn install_at<'a>(from: &mut Reader<'a>) -> Result<Install<'a>, WireError>
     ensures { Gives (λ x. (x, from.new)) result (install_at from.old) }
 {
