@@ -4,3 +4,4 @@ pub mod ListLaws
 pub mod MemberLaws
 pub mod ReportLaws
 pub mod InstallLaws
+pub mod BodyLaws
