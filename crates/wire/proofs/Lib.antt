@@ -5,3 +5,4 @@ pub mod MemberLaws
 pub mod ReportLaws
 pub mod InstallLaws
 pub mod BodyLaws
+pub mod PacketLaws

@@ -9,7 +9,7 @@ use Rattle.wire.specs.declared.error.WireError.TheVariants.{NotOurs, Version, Ki
 use Rattle.wire.specs.declared.packet.Body.{Body}
 use Rattle.wire.specs.declared.packet.Body.TheVariants as bodies
 use Rattle.wire.specs.declared.packet.Packet.{Packet}
-use Rattle.wire.specs.Texts.{is_group_name, group_at}
+use Rattle.wire.specs.Texts.{is_group_name, group_bytes, group_at}
 use Rattle.wire.specs.Reading.{Read, ◌>>=◌, bytes_at, number_at}
 use Rattle.wire.specs.Fields.{IsAddress, IsNumber, IsCount, IsViewId, IsEntry, address_bytes, number_bytes, view_id_bytes, payload_bytes, entry_bytes, address_at, view_id_at, payload_at, entry_at}
 use Rattle.wire.specs.Lists.{IsView, IsReport, IsInstall, view_bytes, report_bytes, install_bytes, view_at, report_at, install_at}
@@ -154,11 +154,13 @@ pub record IsPacket (p : Packet) : Type 0 where
   pub destination : IsAddress p.destination
   pub body : IsBody p.body
 
+-- what every packet begins with, and its kind
+abbrev pub front_bytes : ℕ → List ℕ
+front_bytes kind = big_bytes 2 MAGIC ++ big_bytes 1 VERSION ++ big_bytes 1 kind
+
 -- what stands before the body
 abbrev pub header_bytes : Packet → List ℕ
-header_bytes p =
-    big_bytes 2 MAGIC ++ big_bytes 1 VERSION ++ big_bytes 1 (kind_of p.body) ++ big_bytes 1 (length p.group) ++ p.group
-    ++ address_bytes p.source ++ address_bytes p.destination
+header_bytes p = front_bytes (kind_of p.body) ++ group_bytes p.group ++ address_bytes p.source ++ address_bytes p.destination
 
 -- the one spelling of a packet
 abbrev pub spelling : Packet → List ℕ
@@ -168,12 +170,16 @@ spelling p = header_bytes p ++ body_bytes p.body
 abbrev pub Spells : Packet → List ℕ → Type 0
 Spells p bytes = IsPacket p × (bytes ≡ spelling p)
 
+unfoldable pub front_at : List ℕ → Read ℕ
+front_at bytes = do
+  magic ← number_at 2 MAGIC MAGIC NotOurs bytes
+  version ← number_at 1 VERSION VERSION Version magic.1
+  number_at 1 1 KINDS Kind version.1
+
 -- a packet at the front of some bytes
 unfoldable pub packet_at : List ℕ → Read Packet
 packet_at bytes = do
-  magic ← number_at 2 MAGIC MAGIC NotOurs bytes
-  version ← number_at 1 VERSION VERSION Version magic.1
-  kind ← number_at 1 1 KINDS Kind version.1
+  kind ← front_at bytes
   group ← group_at kind.1
   source ← address_at group.1
   destination ← address_at source.1

@@ -1,6 +1,7 @@
 -- The name of a group: its length in a byte, and so many letters, digits, '-' and '_'.
-use Rattle.std.specs.Prelude.{ℕ, Bool, List, length, nat_le, ◌==◌, ◌&&◌, ◌||◌, Ok, Err, if◌then◌else◌}
+use Rattle.std.specs.Prelude.{ℕ, Bool, List, ◌++◌, length, nat_le, ◌==◌, ◌&&◌, ◌||◌, Ok, Err, if◌then◌else◌}
 use Rattle.std.specs.List.{list_all}
+use Rattle.byteorder.specs.Endian.{big_bytes}
 use Rattle.wire.specs.declared.limits.TheConstants.{GROUP_NAME}
 use Rattle.wire.specs.declared.error.WireError.TheVariants.{Length, Value}
 use Rattle.wire.specs.Reading.{Read, ◌>>=◌, bytes_at, number_at}
@@ -12,6 +13,9 @@ is_name_byte b =
 
 abbrev pub is_group_name : List ℕ → Bool
 is_group_name name = nat_le 1 (length name) && nat_le (length name) GROUP_NAME && list_all is_name_byte name
+
+abbrev pub group_bytes : List ℕ → List ℕ
+group_bytes name = big_bytes 1 (length name) ++ name
 
 unfoldable pub group_at : List ℕ → Read (List ℕ)
 group_at bytes = do

@@ -3,7 +3,7 @@
 ghost use Rattle.std.specs.Prelude.{◌≡◌, Ok};
 ghost use Rattle.wire.specs.Reading.{Gives};
 ghost use Rattle.wire.specs.declared.packet.Packet.{Packet as PacketValue};
-ghost use Rattle.wire.specs.Packets.{redirect_at, forward_at, order_at, nak_at, ack_at, status_at, flush_at, behind_at, reported_at, installed_at, merge_at, body_at, packet_at, packet_of, Spells, wire_refusal};
+ghost use Rattle.wire.specs.Packets.{redirect_at, forward_at, order_at, nak_at, ack_at, status_at, flush_at, behind_at, reported_at, installed_at, merge_at, body_at, front_at, packet_at, packet_of, Spells, wire_refusal};
 
 use crate::entries::entry_at;
 use crate::error::WireError;
@@ -148,13 +148,21 @@ fn body_at<'a>(kind: u8, from: &mut Reader<'a>) -> Result<Body<'a>, WireError>
     }
 }
 
+// What every packet begins with: the kind is answered.
+#[tactic(auto, unfolding(crate::specs::Packets::front_at))]
+fn front_at(from: &mut Reader<'_>) -> Result<u8, WireError>
+    ensures { Gives (λ x. (x, from.new)) result (front_at from.old) }
+{
+    let _ = from.u16(MAGIC, MAGIC, WireError::NotOurs)?;
+    let _ = from.u8(VERSION, VERSION, WireError::Version)?;
+    from.u8(1, KINDS, WireError::Kind)
+}
+
 #[tactic(auto, unfolding(crate::specs::Packets::packet_at))]
 fn packet_at<'a>(from: &mut Reader<'a>) -> Result<Packet<'a>, WireError>
     ensures { Gives (λ x. (x, from.new)) result (packet_at from.old) }
 {
-    let _ = from.u16(MAGIC, MAGIC, WireError::NotOurs)?;
-    let _ = from.u8(VERSION, VERSION, WireError::Version)?;
-    let kind = from.u8(1, KINDS, WireError::Kind)?;
+    let kind = front_at(from)?;
     let group = group_at(from)?;
     let source = from.address()?;
     let destination = from.address()?;
