@@ -6,3 +6,5 @@ pub mod ReportLaws
 pub mod InstallLaws
 pub mod BodyLaws
 pub mod PacketLaws
+pub mod Sizes
+pub mod OneSpelling
