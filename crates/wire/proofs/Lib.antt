@@ -8,3 +8,4 @@ pub mod BodyLaws
 pub mod PacketLaws
 pub mod Sizes
 pub mod OneSpelling
+pub mod Loops

@@ -1,10 +1,10 @@
-ghost use Rattle.std.specs.Prelude.{◌≡◌, ◌≤◌, ◌++◌, [], true, Some, ℕ, List, length, option_to_list};
+ghost use Rattle.std.specs.Prelude.{◌≡◌, ◌≤◌, ◌++◌, [], true, Some, ℕ, List, length, option_to_list, IfOk, IfNone};
 ghost use Rattle.std.specs.Option.{SomeIff};
 ghost use Rattle.std.specs.List.{flat_map, AllByRecursion};
 ghost use Rattle.wire.specs.Values.{Entry as EntryValue};
 ghost use Rattle.wire.specs.Reading.{Gives, rest_of, listed, is_whole, list_at};
 ghost use Rattle.wire.specs.Fields.{payload_at, entry_at, placed_at, IsEntry, IsPlaced, entry_bytes, placed_bytes};
-ghost use Rattle.wire.specs.Lists.{held_at, highest_next};
+ghost use Rattle.wire.specs.Lists.{are_held, held_at, highest_next};
 
 use crate::error::WireError;
 use crate::fields::Reader;
@@ -110,6 +110,7 @@ fn pass_items(count: u8, from: &mut Reader<'_>) -> Result<(), WireError>
 
 impl<'a> Items<'a> {
     /// No entry.
+    #[tactic(auto, unfolding(crate::specs::Reading::list_at))]
     pub fn none() -> Items<'a>
         ensures { result ≡ [] }
     {
@@ -139,7 +140,8 @@ impl<'a> Items<'a> {
 
     /// How many entries there are.
     pub fn len(&self) -> usize
-        ensures { result ≡ length self.now }
+        ensures count { result ≡ length self.now }
+        ensures few { result ≤ 255 }
     {
         self.count as usize
     }
@@ -156,7 +158,8 @@ impl<'a> Items<'a> {
 
     /// Takes the first entry off; `None` where none is left.
     pub fn take_first(&mut self) -> Option<Entry<'a>>
-        ensures { self.old ≡ option_to_list result ++ self.new }
+        ensures first { self.old ≡ option_to_list result ++ self.new }
+        ensures end { IfNone result (self.old ≡ []) }
     {
         if self.count == 0 {
             return None;
@@ -168,14 +171,15 @@ impl<'a> Items<'a> {
                 self.bytes = from.rest();
                 Some(entry)
             }
-            Err(_) => None,
+            Err(_) => unreachable!(),
         }
     }
 }
 
 // So many entries at the front.
 pub(crate) fn items_at<'a>(count: u8, from: &mut Reader<'a>) -> Result<Items<'a>, WireError>
-    ensures { Gives (λ x. (x, from.new)) result (list_at entry_at count from.old) }
+    ensures gives { Gives (λ x. (x, from.new)) result (list_at entry_at count from.old) }
+    ensures count { IfOk result (λ x. length x ≡ count) }
 {
     let bytes = from.rest();
     pass_items(count, from)?;
@@ -253,6 +257,7 @@ fn pass_held(stable: u64, delivered: u64, count: u8, from: &mut Reader<'_>) -> R
 
 impl<'a> Held<'a> {
     /// No entry.
+    #[tactic(auto, unfolding(crate::specs::Reading::list_at))]
     pub fn none() -> Held<'a>
         ensures { result ≡ [] }
     {
@@ -282,7 +287,8 @@ impl<'a> Held<'a> {
 
     /// How many entries there are.
     pub fn len(&self) -> usize
-        ensures { result ≡ length self.now }
+        ensures count { result ≡ length self.now }
+        ensures few { result ≤ 255 }
     {
         self.count as usize
     }
@@ -299,7 +305,8 @@ impl<'a> Held<'a> {
 
     /// Takes the first entry off, with its place; `None` where none is left.
     pub fn take_first(&mut self) -> Option<(Number, Entry<'a>)>
-        ensures { self.old ≡ option_to_list result ++ self.new }
+        ensures first { self.old ≡ option_to_list result ++ self.new }
+        ensures end { IfNone result (self.old ≡ []) }
     {
         if self.count == 0 {
             return None;
@@ -311,7 +318,7 @@ impl<'a> Held<'a> {
                 self.bytes = from.rest();
                 Some(placed)
             }
-            Err(_) => None,
+            Err(_) => unreachable!(),
         }
     }
 }
@@ -320,7 +327,9 @@ impl<'a> Held<'a> {
 pub(crate) fn held_at<'a>(stable: u64, delivered: u64, count: u8, from: &mut Reader<'a>) -> Result<Held<'a>, WireError>
     requires count { delivered ≤ GREATEST_NUMBER }
     requires near { stable ≤ GREATEST_NUMBER }
-    ensures { Gives (λ x. (x, from.new)) result (held_at stable delivered stable count from.old) }
+    ensures gives { Gives (λ x. (x, from.new)) result (held_at stable delivered stable count from.old) }
+    ensures count { IfOk result (λ x. length x ≡ count) }
+    ensures rising { IfOk result (λ x. are_held stable delivered stable x ≡ true) }
 {
     let bytes = from.rest();
     pass_held(stable, delivered, count, from)?;

@@ -1,4 +1,4 @@
-ghost use Rattle.std.specs.Prelude.{◌≡◌, ◌≤◌, ◌+◌, true, length, option_map};
+ghost use Rattle.std.specs.Prelude.{◌≡◌, ◌≤◌, ◌+◌, true, length, option_map, IfOk};
 ghost use Rattle.std.specs.Option.{SomeIff};
 ghost use Rattle.wire.specs.Reading.{Gives};
 ghost use Rattle.wire.specs.Lists.{is_in_order, is_install, items_count_at, install_at};
@@ -56,9 +56,12 @@ impl<'a> Install<'a> {
     pub fn new(view: Roster, together: Members, base: Count, items: Items<'a>, state: Option<State<'a>>) -> Option<Install<'a>>
         ensures { SomeIff result (is_install (record { view = view; together = together; base = base; items = items.entry; state = state.entry }) ≡ true) (record { view = view; together = together; base = base; items = items.entry; state = state.entry }) }
     {
-        let some = together.len() >= 1 && is_in_order(together.as_slice(), view.members().as_slice());
-        let few = items.len() <= WINDOW && base.get() + items.len() as u64 <= GREATEST_NUMBER;
-        if !(some && few) {
+        let fits = 1 <= together.len()
+            && together.len() <= MEMBERS
+            && is_in_order(together.as_slice(), view.members().as_slice())
+            && items.len() <= WINDOW
+            && base.get() + items.len() as u64 <= GREATEST_NUMBER;
+        if !fits {
             return None;
         }
         Some(Install {
@@ -110,7 +113,9 @@ impl<'a> Install<'a> {
 #[tactic(auto, unfolding(crate::specs::Lists::items_count_at))]
 fn items_count_at(base: u64, from: &mut Reader<'_>) -> Result<u8, WireError>
     requires { base ≤ GREATEST_NUMBER }
-    ensures { Gives (λ x. (x, from.new)) result (items_count_at base from.old) }
+    ensures gives { Gives (λ x. (x, from.new)) result (items_count_at base from.old) }
+    ensures few { IfOk result (λ x. x ≤ WINDOW) }
+    ensures small { IfOk result (λ x. base + x ≤ GREATEST_NUMBER) }
 {
     let count = from.u8(0, WINDOW as u8, WireError::Length)?;
     if base + count as u64 > GREATEST_NUMBER {

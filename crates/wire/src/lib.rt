@@ -13,6 +13,7 @@ mod packet;
 mod reading;
 mod report;
 mod text;
+mod writing;
 
 pub use entries::{Entry, Held, Items};
 pub use error::WireError;
@@ -24,3 +25,4 @@ pub use packet::{Body, Packet};
 pub use reading::decode;
 pub use report::Report;
 pub use text::{GroupName, Payload, State};
+pub use writing::put_entry;

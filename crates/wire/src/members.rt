@@ -1,9 +1,9 @@
-ghost use Rattle.std.specs.Prelude.{◌≡◌, ◌<◌, ◌≤◌, ◌++◌, ◌∷◌, [], None, length, option_map};
+ghost use Rattle.std.specs.Prelude.{◌≡◌, ◌<◌, ◌≤◌, ◌++◌, ◌∷◌, [], true, None, length, option_map, IfOk};
 ghost use Rattle.std.specs.Option.{SomeIff};
 ghost use Rattle.view.specs.View.{view_refusal};
 ghost use Rattle.view.specs.Members.{stands_in};
 ghost use Rattle.wire.specs.Reading.{Gives};
-ghost use Rattle.wire.specs.Lists.{may_follow, members_at, view_at, rest_after, together_at};
+ghost use Rattle.wire.specs.Lists.{may_follow, members_at, view_at, rest_after, is_in_order, together_at};
 
 use crate::error::WireError;
 use crate::fields::Reader;
@@ -158,7 +158,8 @@ impl Roster {
 
 fn members_at(id: ViewId, count: u8, from: &mut Reader<'_>) -> Result<Members, WireError>
     requires { count ≤ MEMBERS }
-    ensures { Gives (λ x. (x, from.new)) result (members_at id count [] from.old) }
+    ensures gives { Gives (λ x. (x, from.new)) result (members_at id count [] from.old) }
+    ensures sound { 1 ≤ count → IfOk result (λ x. view_refusal id x ≡ None) }
 {
     let mut members = Members::none(id.creator());
     for _ in 0..count {
@@ -199,7 +200,9 @@ pub(crate) fn rest_after<'a>(address: &Address, members: &'a [Address]) -> Optio
 
 pub(crate) fn together_at(count: u8, roster: &Roster, from: &mut Reader<'_>) -> Result<Members, WireError>
     requires { count ≤ MEMBERS }
-    ensures { Gives (λ x. (x, from.new)) result (together_at count roster.now.members [] from.old) }
+    ensures gives { Gives (λ x. (x, from.new)) result (together_at count roster.now.members [] from.old) }
+    ensures count { IfOk result (λ x. length x ≡ count) }
+    ensures ordered { IfOk result (λ x. is_in_order x roster.now.members ≡ true) }
 {
     let mut together = Members::none(roster.id().creator());
     let mut left = roster.members().as_slice();

@@ -1,4 +1,4 @@
-ghost use Rattle.std.specs.Prelude.{◌≡◌, ◌≤◌, ◌+◌, true, None, Some, length, min};
+ghost use Rattle.std.specs.Prelude.{◌≡◌, ◌≤◌, ◌+◌, true, None, Some, length, min, IfOk};
 ghost use Rattle.std.specs.Option.{SomeIff};
 ghost use Rattle.wire.specs.Values.{nothing_reported};
 ghost use Rattle.wire.specs.Reading.{Gives};
@@ -50,6 +50,16 @@ fn are_held(stable: Count, delivered: Count, held: &Held<'_>) -> bool
     true
 }
 
+// Whether counts and entries are those of a report of a view.
+fn is_filled(stable: Count, delivered: Count, held: &Held<'_>) -> bool
+    ensures { result ≡ is_filled (record { previous = None; stable = stable; delivered = delivered; held = held.now }) }
+{
+    let highest = (stable.get() + WINDOW as u64).min(GREATEST_NUMBER);
+    let near = stable.get() <= delivered.get() && delivered.get() <= highest;
+    let enough = delivered.get() <= stable.get() + held.len() as u64;
+    near && held.len() <= WINDOW && enough && are_held(stable, delivered, held)
+}
+
 impl<'a> Report<'a> {
     /// The report of a member that comes from no view.
     pub fn nothing() -> Report<'a>
@@ -69,9 +79,7 @@ impl<'a> Report<'a> {
     pub fn new(previous: ViewId, stable: Count, delivered: Count, held: Held<'a>) -> Option<Report<'a>>
         ensures { SomeIff result (is_filled (record { previous = Some previous; stable = stable; delivered = delivered; held = held.entry }) ≡ true) (record { previous = Some previous; stable = stable; delivered = delivered; held = held.entry }) }
     {
-        let near = stable.get() <= delivered.get() && delivered.get() <= stable.get() + WINDOW as u64;
-        let enough = held.len() <= WINDOW && delivered.get() <= stable.get() + held.len() as u64;
-        if !(near && enough && are_held(stable, delivered, &held)) {
+        if !is_filled(stable, delivered, &held) {
             return None;
         }
         Some(Report {
@@ -115,7 +123,9 @@ impl<'a> Report<'a> {
 #[tactic(auto, unfolding(crate::specs::Lists::held_count_at))]
 fn held_count_at(stable: u64, delivered: u64, from: &mut Reader<'_>) -> Result<u8, WireError>
     requires { stable ≤ GREATEST_NUMBER }
-    ensures { Gives (λ x. (x, from.new)) result (held_count_at stable delivered from.old) }
+    ensures gives { Gives (λ x. (x, from.new)) result (held_count_at stable delivered from.old) }
+    ensures few { IfOk result (λ x. x ≤ WINDOW) }
+    ensures enough { IfOk result (λ x. delivered ≤ stable + x) }
 {
     let count = from.u8(0, WINDOW as u8, WireError::Length)?;
     if delivered > stable + count as u64 {

@@ -1,4 +1,5 @@
 ghost use Rattle.std.specs.Prelude.{◌≡◌, ◌≤◌, length, true};
+ghost use Rattle.std.specs.List.{list_all};
 ghost use Rattle.std.specs.Option.{SomeIff};
 ghost use Rattle.wire.specs.Texts.{is_name_byte, is_group_name};
 ghost use Rattle.wire.specs.Reading.{Gives};
@@ -34,13 +35,24 @@ fn is_name_byte(byte: u8) -> bool
     matches!(byte, b'a'..=b'z' | b'A'..=b'Z' | b'0'..=b'9' | b'-' | b'_')
 }
 
+fn is_plain(bytes: &[u8]) -> bool
+    ensures { result ≡ list_all is_name_byte bytes.now }
+{
+    bytes.iter().all(|byte| is_name_byte(*byte))
+}
+
+fn is_group_name(bytes: &[u8]) -> bool
+    ensures { result ≡ is_group_name bytes.now }
+{
+    1 <= bytes.len() && bytes.len() <= GROUP_NAME && is_plain(bytes)
+}
+
 impl<'a> GroupName<'a> {
     /// The name of these bytes; `None` where they are no name of a group.
     pub fn new(bytes: &'a [u8]) -> Option<GroupName<'a>>
         ensures { SomeIff result (is_group_name bytes.now ≡ true) bytes.now }
     {
-        let fits = !bytes.is_empty() && bytes.len() <= GROUP_NAME;
-        if !(fits && bytes.iter().all(|byte| is_name_byte(*byte))) {
+        if !is_group_name(bytes) {
             return None;
         }
         Some(GroupName { bytes })
@@ -129,16 +141,16 @@ impl<'a> State<'a> {
     }
 }
 
-#[tactic(auto, unfolding(crate::specs::Texts::group_at))]
+#[tactic(auto, using(crate::proofs::PacketLaws::name_is), unfolding(crate::specs::Texts::group_at))]
 pub(crate) fn group_at<'a>(from: &mut Reader<'a>) -> Result<GroupName<'a>, WireError>
     ensures { Gives (λ x. (x, from.new)) result (group_at from.old) }
 {
     let len = from.u8(1, GROUP_NAME as u8, WireError::Length)?;
-    let name = from.bytes(len as usize)?;
-    match GroupName::new(name) {
-        Some(name) => Ok(name),
-        None => Err(WireError::Value),
+    let bytes = from.bytes(len as usize)?;
+    if !is_plain(bytes) {
+        return Err(WireError::Value);
     }
+    Ok(GroupName { bytes })
 }
 
 #[tactic(auto, unfolding(crate::specs::Fields::payload_at))]
