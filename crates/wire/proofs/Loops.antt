@@ -61,6 +61,11 @@ whole_ok (Err d) e = absurd cc
 pub whole_count : {A : Type 0} (read : List ℕ → Read A) (n : ℕ) (bytes : List ℕ) → is_whole (list_at read n bytes) ≡ true → length (listed (list_at read n bytes)) ≡ n
 whole_count read n bytes e = list_count read n bytes (listed (list_at read n bytes), []) (whole_ok (list_at read n bytes) e)
 
+-- no value
+pub list_empty : {A : Type 0} (read : List ℕ → Read A) (n : ℕ) (bytes : List ℕ) → n ≡ 0 → listed (list_at read n bytes) ≡ []
+unfolding list_at
+list_empty read n bytes e = rw (e) refl
+
 -- its first value, and what is left
 abbrev pub Stepped : {A : Type 0} → (List ℕ → Read A) → ℕ → List ℕ → A → List ℕ → Type 0
 Stepped read n bytes x rest = (listed (list_at read n bytes) ≡ x ∷ listed (list_at read (n - 1) rest)) × (is_whole (list_at read (n - 1) rest) ≡ true)
@@ -88,6 +93,34 @@ list_not_err read (suc n) bytes d some h e =
 pub record Fronted {A : Type 0} (read : List ℕ → Read A) (n : ℕ) (bytes rest : List ℕ) (values : List A) : Type 0 where
   pub behind : length rest ≤ length bytes
   pub front : list_at read n (take (length bytes - length rest) bytes) ≡ Ok (values, [])
+
+-- such a front is whole, and its values are those of the list
+pub fronted_values : {A : Type 0} (read : List ℕ → Read A) (n : ℕ) (bytes rest front : List ℕ) (values : List A) → Fronted read n bytes rest values → front ≡ take (length bytes - length rest) bytes
+    → (is_whole (list_at read n front) ≡ true) × (listed (list_at read n front) ≡ values)
+fronted_values {A = A} read n bytes rest front values f e =
+    let r : list_at read n front ≡ Ok (values, []) = ap (list_at read n) e ∙ f.front in
+    (ap is_whole r, ap listed r)
+
+-- a list that is spelled so is whole
+pub spelled_whole : {A : Type 0} (read : List ℕ → Read A) (spell : A → List ℕ) (Fits : A → Type 0) → IsPart read spell Fits → (n : ℕ) (bytes : List ℕ) (values : List A) → AllByRecursion Fits values → length values ≡ n → bytes ≡ flat_map spell values
+    → list_at read n bytes ≡ Ok (values, [])
+spelled_whole read spell Fits part n bytes values fits count e =
+    ap (list_at read n) (e ∙ sym (append-nil (flat_map spell values))) ∙ ap (λ (k : ℕ). list_at read k (flat_map spell values ++ [])) (sym count) ∙ list_again read spell Fits part values [] fits
+
+-- what such a list leaves behind it is nothing
+pub rest_nothing : {A : Type 0} (r : Read (List A)) (values : List A) (rest : List ℕ) → r ≡ Ok (values, []) → rest_of r ≡ Ok rest → rest ≡ []
+rest_nothing r values rest e h = sym (ok_is [] rest (sym (ap rest_of e) ∙ h))
+
+pub rest_no_error : {A : Type 0} (r : Read (List A)) (values : List A) (d : WireError) → r ≡ Ok (values, []) → rest_of r ≡ Err d → ⊥
+rest_no_error r values d e h = let f : (let t : Result (List ℕ) WireError = Ok [] in t) ≡ Err d = sym (ap rest_of e) ∙ h in cc
+
+-- what lies in lent bytes is spelled there
+pub whole_text : {A : Type 0} (read : List ℕ → Read A) (spell : A → List ℕ) (Fits : A → Type 0) → IsPart read spell Fits → (n : ℕ) (bytes : List ℕ) → IsBytes bytes → is_whole (list_at read n bytes) ≡ true
+    → (bytes ≡ flat_map spell (listed (list_at read n bytes))) × AllByRecursion Fits (listed (list_at read n bytes))
+whole_text read spell Fits part n bytes fits e =
+    let values = listed (list_at read n bytes) in
+    let t = list_takes read spell Fits part n bytes values [] fits (whole_ok (list_at read n bytes) e) in
+    (t.0.parts ∙ append-nil (flat_map spell values), t.2)
 
 rest_ok : {A : Type 0} (r : Read (List A)) (rest : List ℕ) → rest_of r ≡ Ok rest → (xs : List A) × (r ≡ Ok (xs, rest))
 rest_ok (Ok x) rest e = (x.0, ap (λ (t : List ℕ). Ok (x.0, t)) (ok_is x.1 rest e))

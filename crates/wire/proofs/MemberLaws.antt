@@ -1,11 +1,12 @@
 -- The laws of a view's members, and of those who go together.
-use Rattle.std.proofs.Common.{◌≡◌, ℕ, zero, suc, ◌+◌, ◌<◌, ◌≤◌, Bool, true, false, cond, ltb, leb, eqb, ◌&&◌, ◌||◌, List, [], ◌∷◌, ◌++◌, length, Option, Some, None, Result, Ok, Err, refl, sym, ap, subst, ◌∙◌, append_assoc, arith}
+use Rattle.std.proofs.Common.{◌≡◌, ℕ, zero, suc, ◌+◌, ◌<◌, ◌≤◌, Bool, true, false, cond, ltb, leb, eqb, ◌&&◌, ◌||◌, List, [], ◌∷◌, ◌++◌, length, get_or, take, drop, Option, Some, None, Result, Ok, Err, refl, sym, ap, subst, ◌∙◌, append_assoc, arith}
 use Rattle.std.specs.Prelude.{not}
 use Rattle.std.specs.List.{flat_map, AllByRecursion, list_any}
 use Rattle.std.specs.Option.{option_map_or}
 use Rattle.std.proofs.lemmas.Bool.{ltb-false, le-ltb, leb-true, le-leb, eqb-true}
 use Rattle.std.proofs.lemmas.Bool.Decides.{nat_tests}
-use Rattle.std.proofs.lemmas.List.{length-append, append-nil}
+use Rattle.std.proofs.lemmas.List.{length-append, append-nil, take-append-drop}
+use Rattle.std.proofs.Math.Seq.{drop-cons}
 use Rattle.std.proofs.lemmas.List.Folds.{list_any-append}
 use Rattle.byteorder.specs.Endian.{big_bytes}
 use Rattle.address.specs.Ids.{Address, ViewId, same_address}
@@ -67,6 +68,12 @@ distinct_apart (x ∷ xs) a ys h =
 pub sound_next : (id : ViewId) (before : List Address) (a : Address) (others : List Address) → Sound id (before ++ a ∷ others) → may_follow id before a ≡ true
 sound_next id [] a others h = h.0
 sound_next id (b ∷ before) a others h = ap not (distinct_apart (b ∷ before) a others h.1)
+
+-- at each place of sound members
+pub sound_at : (id : ViewId) (members : List Address) (i : ℕ) (a : Address) → i < length members → a ≡ get_or members i a → Sound id members → may_follow id (take i members) a ≡ true
+sound_at id members i a lt is h =
+    let parts : members ≡ take i members ++ a ∷ drop (suc i) members = sym (take-append-drop i members) ∙ ap (λ (t : List Address). take i members ++ t) (drop-cons members i a lt ∙ ap (λ (x : Address). x ∷ drop (suc i) members) (sym is)) in
+    sound_next id (take i members) a (drop (suc i) members) (subst (λ (m : List Address). Sound id m) parts h)
 
 -- the tests of a view, one after the other
 none_of : (a b c d : Bool) → cond a (Some Empty) (cond b (Some TooMany) (cond c (Some Repeated) (cond d (Some NotFirst) None))) ≡ None → (b ≡ false) × (c ≡ false) × (d ≡ false)

@@ -1,4 +1,4 @@
-ghost use Rattle.std.specs.Prelude.{◌≡◌, ◌≤◌, ◌++◌, [], true, Some, ℕ, List, length, option_to_list, IfOk, IfNone};
+ghost use Rattle.std.specs.Prelude.{◌≡◌, ◌≤◌, ◌++◌, [], true, Some, Ok, ℕ, List, length, option_to_list, IfOk, IfNone};
 ghost use Rattle.std.specs.Option.{SomeIff};
 ghost use Rattle.std.specs.List.{flat_map, AllByRecursion};
 ghost use Rattle.wire.specs.Values.{Entry as EntryValue};
@@ -176,6 +176,18 @@ impl<'a> Items<'a> {
     }
 }
 
+// The entries before the rest of some bytes.
+fn items_before<'a>(count: u8, bytes: &'a [u8], rest: &[u8]) -> Items<'a>
+    requires { rest_of (list_at entry_at count bytes.now) ≡ Ok rest.now }
+    ensures { list_at entry_at count bytes.now ≡ Ok (result, rest.now) }
+{
+    let (front, _) = bytes.split_at(bytes.len() - rest.len());
+    Items {
+        count,
+        bytes: front,
+    }
+}
+
 // So many entries at the front.
 pub(crate) fn items_at<'a>(count: u8, from: &mut Reader<'a>) -> Result<Items<'a>, WireError>
     ensures gives { Gives (λ x. (x, from.new)) result (list_at entry_at count from.old) }
@@ -183,8 +195,7 @@ pub(crate) fn items_at<'a>(count: u8, from: &mut Reader<'a>) -> Result<Items<'a>
 {
     let bytes = from.rest();
     pass_items(count, from)?;
-    let (bytes, _) = bytes.split_at(bytes.len() - from.rest().len());
-    Ok(Items { count, bytes })
+    Ok(items_before(count, bytes, from.rest()))
 }
 
 /// The entries of a REPORT in lent bytes, spelled one behind the other, each with its place in the view's
@@ -323,6 +334,21 @@ impl<'a> Held<'a> {
     }
 }
 
+// A report's entries before the rest of some bytes.
+fn held_before<'a>(stable: u64, delivered: u64, count: u8, bytes: &'a [u8], rest: &[u8]) -> Held<'a>
+    requires small { delivered ≤ GREATEST_NUMBER }
+    requires read { rest_of (held_at stable delivered stable count bytes.now) ≡ Ok rest.now }
+    ensures gives { held_at stable delivered stable count bytes.now ≡ Ok (result, rest.now) }
+    ensures count { length result ≡ count }
+    ensures rising { are_held stable delivered stable result ≡ true }
+{
+    let (front, _) = bytes.split_at(bytes.len() - rest.len());
+    Held {
+        count,
+        bytes: front,
+    }
+}
+
 // A report's entries at the front.
 pub(crate) fn held_at<'a>(stable: u64, delivered: u64, count: u8, from: &mut Reader<'a>) -> Result<Held<'a>, WireError>
     requires count { delivered ≤ GREATEST_NUMBER }
@@ -333,6 +359,5 @@ pub(crate) fn held_at<'a>(stable: u64, delivered: u64, count: u8, from: &mut Rea
 {
     let bytes = from.rest();
     pass_held(stable, delivered, count, from)?;
-    let (bytes, _) = bytes.split_at(bytes.len() - from.rest().len());
-    Ok(Held { count, bytes })
+    Ok(held_before(stable, delivered, count, bytes, from.rest()))
 }

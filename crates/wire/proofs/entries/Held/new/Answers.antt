@@ -1,20 +1,23 @@
-use Rattle.std.proofs.Common.{rules, ◌≡◌, ◌≤◌, ◌++◌, [], true, Some, ℕ, List, length, option_to_list, IfOk, IfNone, ◌+◌, ◌-◌, ◌*◌, ◌<◌, ◌/◌, ◌%◌, Bool, false, nat_eq, nat_lt, ◌∷◌, slice_index_or, slice_set, bit_and, bit_or, Fits, w8, w32, w64, Bor, MutBor}
-use Rattle.std.specs.Option.{SomeIff}
-use Rattle.std.specs.List.{flat_map, AllByRecursion}
-use Rattle.wire.specs.Values.{Entry as EntryValue}
-use Rattle.wire.specs.Reading.{Gives, rest_of, listed, is_whole, list_at}
-use Rattle.wire.specs.Fields.{payload_at, entry_at, placed_at, IsEntry, IsPlaced, entry_bytes, placed_bytes}
-use Rattle.wire.specs.Lists.{are_held, held_at, highest_next}
+use Rattle.std.proofs.Common.{◌≡◌, List, ℕ, [], length, Some, Ok, Err, true, false, eqb, sym, ap, subst, ◌∙◌}
+use Rattle.wire.specs.Reading.{list_at, listed, rest_of}
+use Rattle.wire.specs.Fields.{IsPlaced, placed_bytes, placed_at}
+use Rattle.wire.proofs.FieldLaws.{placed_part}
+use Rattle.wire.proofs.Loops.{spelled_whole, rest_nothing, rest_no_error}
 use Rattle.wire.proofs.entries.Held.new.Goals as goal
 
--- src/entries.rt:280:21
 pub returns-then-not-is_empty-clause-spelled : goal.returns-then-not-is_empty-clause-spelled
-returns-then-not-is_empty-clause-spelled c = ?
+returns-then-not-is_empty-clause-spelled c = λ values fits count e.
+    let whole = spelled_whole placed_at placed_bytes IsPlaced placed_part c.args.count c.new-ahead.result values fits count (c.new-ahead.ensures ∙ e) in
+    let nothing : c.rest.result.now ≡ [] = c.rest.ensures ∙ rest_nothing (list_at placed_at c.args.count c.new-ahead.result) values c.pass_placed.new.from whole c.in-Ok.ensures in
+    let f : false ≡ true = c.if-not-is_empty.ensures ∙ ap (λ (t : List ℕ). eqb (length t) 0) nothing in
+    absurd (let g : false ≡ true = f in cc)
 
--- src/entries.rt:272:5
 pub returns-else-not-is_empty-clause-spelled : goal.returns-else-not-is_empty-clause-spelled
-returns-else-not-is_empty-clause-spelled c = ?
+returns-else-not-is_empty-clause-spelled c = λ values fits count e.
+    let whole = spelled_whole placed_at placed_bytes IsPlaced placed_part c.args.count c.args.bytes.now values fits count e in
+    ap (λ r. Some (listed r)) whole
 
--- src/entries.rt:272:5
 pub returns-in-Err-clause-spelled : goal.returns-in-Err-clause-spelled
-returns-in-Err-clause-spelled c = ?
+returns-in-Err-clause-spelled c = λ values fits count e.
+    let whole = spelled_whole placed_at placed_bytes IsPlaced placed_part c.args.count c.new-ahead.result values fits count (c.new-ahead.ensures ∙ e) in
+    absurd (rest_no_error (list_at placed_at c.args.count c.new-ahead.result) values c.in-Err.field-0 whole c.in-Err.ensures)

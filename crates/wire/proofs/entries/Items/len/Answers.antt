@@ -1,12 +1,7 @@
-use Rattle.std.proofs.Common.{rules, ◌≡◌, ◌≤◌, ◌++◌, [], true, Some, ℕ, List, length, option_to_list, IfOk, IfNone, ◌+◌, ◌-◌, ◌*◌, ◌<◌, ◌/◌, ◌%◌, Bool, false, nat_eq, nat_lt, ◌∷◌, slice_index_or, slice_set, bit_and, bit_or, Fits, w8, w32, w64, Bor, MutBor}
-use Rattle.std.specs.Option.{SomeIff}
-use Rattle.std.specs.List.{flat_map, AllByRecursion}
-use Rattle.wire.specs.Values.{Entry as EntryValue}
-use Rattle.wire.specs.Reading.{Gives, rest_of, listed, is_whole, list_at}
-use Rattle.wire.specs.Fields.{payload_at, entry_at, placed_at, IsEntry, IsPlaced, entry_bytes, placed_bytes}
-use Rattle.wire.specs.Lists.{are_held, held_at, highest_next}
+use Rattle.std.proofs.Common.{length, sym, ap, ◌∙◌}
+use Rattle.wire.specs.Fields.{entry_at}
+use Rattle.wire.proofs.Loops.{whole_count}
 use Rattle.wire.proofs.entries.Items.len.Goals as goal
 
--- src/entries.rt:142:5
 pub returns-clause-count : goal.returns-clause-count
-returns-clause-count c = ?
+returns-clause-count c = sym (whole_count entry_at c.self.inside.count c.self.inside.bytes.now c.self.invariant) ∙ ap length c.self.view_is

@@ -1,11 +1,6 @@
-use Rattle.std.proofs.Common.{rules, ◌≡◌, ◌<◌, ◌≤◌, ◌++◌, ◌∷◌, [], true, None, length, option_map, IfOk, ℕ, ◌+◌, ◌-◌, ◌*◌, ◌/◌, ◌%◌, Bool, false, nat_eq, nat_lt, List, slice_index_or, slice_set, bit_and, bit_or, Fits, w8, w32, w64, Bor, MutBor}
-use Rattle.std.specs.Option.{SomeIff}
-use Rattle.view.specs.View.{view_refusal}
-use Rattle.view.specs.Members.{stands_in}
-use Rattle.wire.specs.Reading.{Gives}
-use Rattle.wire.specs.Lists.{may_follow, members_at, view_at, rest_after, is_in_order, together_at}
+use Rattle.std.proofs.Common.{length, sym, ap, ◌∙◌, arith}
+use Rattle.std.proofs.lemmas.List.{length-take}
 use Rattle.wire.proofs.members.Members.len.Goals as goal
 
--- src/members.rt:78:5
 pub returns-clause-count : goal.returns-clause-count
-returns-clause-count c = ?
+returns-clause-count c = omega (arith, length-take c.self.inside.count c.self.inside.items, ap length c.self.view_is, c.self.invariant)
