@@ -5,7 +5,7 @@ use Rattle.std.specs.List.{flat_map, AllByRecursion, list_any}
 use Rattle.std.specs.Option.{option_map_or}
 use Rattle.std.proofs.lemmas.Bool.{ltb-false, le-ltb, leb-true, le-leb, eqb-true}
 use Rattle.std.proofs.lemmas.Bool.Decides.{nat_tests}
-use Rattle.std.proofs.lemmas.List.{length-append, append-nil, take-append-drop}
+use Rattle.std.proofs.lemmas.List.{length-append, append-nil, take-append-drop, take_more}
 use Rattle.std.proofs.Math.Seq.{drop-cons}
 use Rattle.std.proofs.lemmas.List.Folds.{list_any-append}
 use Rattle.byteorder.specs.Endian.{big_bytes}
@@ -68,6 +68,10 @@ distinct_apart (x ∷ xs) a ys h =
 pub sound_next : (id : ViewId) (before : List Address) (a : Address) (others : List Address) → Sound id (before ++ a ∷ others) → may_follow id before a ≡ true
 sound_next id [] a others h = h.0
 sound_next id (b ∷ before) a others h = ap not (distinct_apart (b ∷ before) a others h.1)
+
+-- one more member
+pub take_one : (members : List Address) (i : ℕ) (a : Address) → i < length members → a ≡ get_or members i a → take (i + 1) members ≡ take i members ++ a ∷ []
+take_one members i a lt is = take_more members i a lt ∙ ap (λ (x : Address). take i members ++ x ∷ []) (sym is)
 
 -- at each place of sound members
 pub sound_at : (id : ViewId) (members : List Address) (i : ℕ) (a : Address) → i < length members → a ≡ get_or members i a → Sound id members → may_follow id (take i members) a ≡ true

@@ -179,7 +179,8 @@ impl<'a> Items<'a> {
 // The entries before the rest of some bytes.
 fn items_before<'a>(count: u8, bytes: &'a [u8], rest: &[u8]) -> Items<'a>
     requires { rest_of (list_at entry_at count bytes.now) ≡ Ok rest.now }
-    ensures { list_at entry_at count bytes.now ≡ Ok (result, rest.now) }
+    ensures gives { list_at entry_at count bytes.now ≡ Ok (result, rest.now) }
+    ensures count { length result ≡ count }
 {
     let (front, _) = bytes.split_at(bytes.len() - rest.len());
     Items {

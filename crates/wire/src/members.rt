@@ -79,7 +79,7 @@ impl Members {
         ensures count { result ≡ length self.now }
         ensures few { result ≤ MEMBERS }
     {
-        self.count
+        self.as_slice().len()
     }
 }
 
