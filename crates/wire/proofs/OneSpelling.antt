@@ -1,5 +1,6 @@
 -- The law of the grammar: what bytes spell, one packet, one spelling, and none begins another.
 use Rattle.std.proofs.Common.{◌≡◌, ℕ, ◌+◌, ◌<◌, ◌≤◌, Bool, true, false, cond, ltb, eqb, List, [], ◌∷◌, ◌++◌, length, Option, Some, None, Result, Ok, Err, refl, sym, ap, subst, ◌∙◌, arith}
+use Rattle.std.specs.Prelude.{IfOk, IfErr}
 use Rattle.std.proofs.lemmas.Bool.{ltb-false, le-ltb, eqb-true}
 use Rattle.std.proofs.lemmas.List.{append-nil, nil_from_length}
 use Rattle.wire.specs.declared.limits.TheConstants.{DATAGRAM}
@@ -7,7 +8,7 @@ use Rattle.wire.specs.declared.error.WireError.{WireError}
 use Rattle.wire.specs.declared.error.WireError.TheVariants.{Length, Trailing}
 use Rattle.wire.specs.declared.packet.Packet.{Packet}
 use Rattle.wire.specs.Reading.{Read, ◌>>=◌}
-use Rattle.wire.specs.Packets.{IsPacket, spelling, Spells, packet_at, packet_of}
+use Rattle.wire.specs.Packets.{IsPacket, spelling, Spells, packet_at, packet_of, error_in, wire_refusal}
 use Rattle.wire.proofs.Bytes.{IsBytes}
 use Rattle.wire.proofs.FieldLaws.{bind_ok, test_ok, ok_is, along, Takes}
 use Rattle.wire.proofs.PacketLaws.{packet_takes, packet_again}
@@ -56,3 +57,11 @@ none_begins p q bytes more s t =
 
 pub one_packet : (p q : Packet) (bytes : List ℕ) → Spells p bytes → Spells q bytes → p ≡ q
 one_packet p q bytes s t = ok_is p q (sym (spelled_read bytes p s) ∙ spelled_read bytes q t)
+
+pub found_of : (bytes : List ℕ) (r : Result Packet WireError) → IsBytes bytes → r ≡ packet_of bytes → IfOk r (λ p. Spells p bytes)
+found_of bytes (Ok p) fits e = read_spells bytes p fits (sym e)
+found_of bytes (Err d) fits e = tt
+
+pub refused_of : (bytes : List ℕ) (r : Result Packet WireError) → r ≡ packet_of bytes → IfErr r (λ e. wire_refusal bytes ≡ Some e)
+refused_of bytes (Ok p) e = tt
+refused_of bytes (Err d) e = ap error_in (sym e)

@@ -1,9 +1,10 @@
-ghost use Rattle.std.specs.Prelude.{◌≡◌, ◌≤◌, ◌++◌, [], true, Some, Ok, ℕ, List, length, option_to_list, IfOk, IfNone};
+ghost use Rattle.std.specs.Prelude.{◌≡◌, ◌≤◌, ◌+◌, ◌*◌, ◌++◌, [], true, Some, Ok, ℕ, List, length, option_to_list, IfOk, IfNone};
 ghost use Rattle.std.specs.Option.{SomeIff};
 ghost use Rattle.std.specs.List.{flat_map, AllByRecursion};
 ghost use Rattle.wire.specs.Values.{Entry as EntryValue};
 ghost use Rattle.wire.specs.Reading.{Gives, rest_of, listed, is_whole, list_at};
 ghost use Rattle.wire.specs.Fields.{payload_at, entry_at, placed_at, IsEntry, IsPlaced, entry_bytes, placed_bytes};
+ghost use Rattle.wire.specs.declared.limits.TheConstants.{PAYLOAD};
 ghost use Rattle.wire.specs.Lists.{are_held, held_at, highest_next};
 
 use crate::error::WireError;
@@ -108,6 +109,16 @@ fn pass_items(count: u8, from: &mut Reader<'_>) -> Result<(), WireError>
     Ok(())
 }
 
+// What lies in lent bytes that are whole.
+fn items_text(count: u8, bytes: &[u8]) -> &[u8]
+    requires { is_whole (list_at entry_at count bytes.now) ≡ true }
+    ensures text { result.now ≡ flat_map entry_bytes (listed (list_at entry_at count bytes.now)) }
+    ensures fits { AllByRecursion IsEntry (listed (list_at entry_at count bytes.now)) }
+    ensures short { length result.now ≤ (16 + PAYLOAD) * length (listed (list_at entry_at count bytes.now)) }
+{
+    bytes
+}
+
 impl<'a> Items<'a> {
     /// No entry.
     #[tactic(auto, unfolding(crate::specs::Reading::list_at))]
@@ -144,6 +155,15 @@ impl<'a> Items<'a> {
         ensures few { result ≤ 255 }
     {
         self.count as usize
+    }
+
+    // Their spellings, one behind the other.
+    pub(crate) fn text(&self) -> &'a [u8]
+        ensures text { result.now ≡ flat_map entry_bytes self.now }
+        ensures fits { AllByRecursion IsEntry self.now }
+        ensures short { length result.now ≤ (16 + PAYLOAD) * length self.now }
+    {
+        items_text(self.count, self.bytes)
     }
 
     /// The same entries once more.
@@ -267,6 +287,16 @@ fn pass_held(stable: u64, delivered: u64, count: u8, from: &mut Reader<'_>) -> R
     Ok(())
 }
 
+// What lies in lent bytes that are whole.
+fn held_text(count: u8, bytes: &[u8]) -> &[u8]
+    requires { is_whole (list_at placed_at count bytes.now) ≡ true }
+    ensures text { result.now ≡ flat_map placed_bytes (listed (list_at placed_at count bytes.now)) }
+    ensures fits { AllByRecursion IsPlaced (listed (list_at placed_at count bytes.now)) }
+    ensures short { length result.now ≤ (24 + PAYLOAD) * length (listed (list_at placed_at count bytes.now)) }
+{
+    bytes
+}
+
 impl<'a> Held<'a> {
     /// No entry.
     #[tactic(auto, unfolding(crate::specs::Reading::list_at))]
@@ -303,6 +333,15 @@ impl<'a> Held<'a> {
         ensures few { result ≤ 255 }
     {
         self.count as usize
+    }
+
+    // Their spellings, one behind the other.
+    pub(crate) fn text(&self) -> &'a [u8]
+        ensures text { result.now ≡ flat_map placed_bytes self.now }
+        ensures fits { AllByRecursion IsPlaced self.now }
+        ensures short { length result.now ≤ (24 + PAYLOAD) * length self.now }
+    {
+        held_text(self.count, self.bytes)
     }
 
     /// The same entries once more.

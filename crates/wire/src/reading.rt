@@ -1,6 +1,6 @@
 //! Packets from bytes.
 
-ghost use Rattle.std.specs.Prelude.{◌≡◌, Ok};
+ghost use Rattle.std.specs.Prelude.{◌≡◌, Ok, Some, IfOk, IfErr};
 ghost use Rattle.wire.specs.Reading.{Gives};
 ghost use Rattle.wire.specs.declared.packet.Packet.{Packet as PacketValue};
 ghost use Rattle.wire.specs.Packets.{redirect_at, forward_at, order_at, nak_at, ack_at, status_at, flush_at, behind_at, reported_at, installed_at, merge_at, body_at, front_at, packet_at, packet_of, Spells, wire_refusal};
@@ -192,6 +192,12 @@ fn whole(bytes: &[u8]) -> Result<Packet<'_>, WireError>
 
 /// The packet that these bytes spell, or the refusal of the first field that fails. Takes no memory.
 pub fn decode(bytes: &[u8]) -> Result<Packet<'_>, WireError>
+    // A packet is answered only where the bytes spell it,
+    ensures found { IfOk result (λ p. Spells p bytes.now) }
+    // and wherever they spell one;
+    ensures only { (p : PacketValue) → Spells p bytes.now → result ≡ Ok p }
+    // else the grammar's refusal of them.
+    ensures refused { IfErr result (λ e. wire_refusal bytes.now ≡ Some e) }
     ensures exact { result ≡ packet_of bytes.now }
 {
     whole(bytes)
