@@ -1,10 +1,9 @@
-ghost use Rattle.std.specs.Prelude.{◌≡◌, ◌≤◌, ◌+◌, ◌*◌, ◌++◌, [], true, Some, Ok, ℕ, List, length, option_to_list, IfOk, IfNone};
+ghost use Rattle.std.specs.Prelude.{◌≡◌, ◌<◌, ◌≤◌, ◌^◌, ◌++◌, [], true, Some, Ok, ℕ, List, length, option_to_list, IfOk, IfNone};
 ghost use Rattle.std.specs.Option.{SomeIff};
 ghost use Rattle.std.specs.List.{flat_map, AllByRecursion};
 ghost use Rattle.wire.specs.Values.{Entry as EntryValue};
 ghost use Rattle.wire.specs.Reading.{Gives, rest_of, listed, is_whole, list_at};
 ghost use Rattle.wire.specs.Fields.{payload_at, entry_at, placed_at, IsEntry, IsPlaced, entry_bytes, placed_bytes};
-ghost use Rattle.wire.specs.declared.limits.TheConstants.{PAYLOAD};
 ghost use Rattle.wire.specs.Lists.{are_held, held_at, highest_next};
 
 use crate::error::WireError;
@@ -114,7 +113,7 @@ fn items_text(count: u8, bytes: &[u8]) -> &[u8]
     requires { is_whole (list_at entry_at count bytes.now) ≡ true }
     ensures text { result.now ≡ flat_map entry_bytes (listed (list_at entry_at count bytes.now)) }
     ensures fits { AllByRecursion IsEntry (listed (list_at entry_at count bytes.now)) }
-    ensures short { length result.now ≤ (16 + PAYLOAD) * length (listed (list_at entry_at count bytes.now)) }
+    ensures short { length result.now < 2 ^ 18 }
 {
     bytes
 }
@@ -161,7 +160,7 @@ impl<'a> Items<'a> {
     pub(crate) fn text(&self) -> &'a [u8]
         ensures text { result.now ≡ flat_map entry_bytes self.now }
         ensures fits { AllByRecursion IsEntry self.now }
-        ensures short { length result.now ≤ (16 + PAYLOAD) * length self.now }
+        ensures short { length result.now < 2 ^ 18 }
     {
         items_text(self.count, self.bytes)
     }
@@ -292,7 +291,7 @@ fn held_text(count: u8, bytes: &[u8]) -> &[u8]
     requires { is_whole (list_at placed_at count bytes.now) ≡ true }
     ensures text { result.now ≡ flat_map placed_bytes (listed (list_at placed_at count bytes.now)) }
     ensures fits { AllByRecursion IsPlaced (listed (list_at placed_at count bytes.now)) }
-    ensures short { length result.now ≤ (24 + PAYLOAD) * length (listed (list_at placed_at count bytes.now)) }
+    ensures short { length result.now < 2 ^ 18 }
 {
     bytes
 }
@@ -339,7 +338,7 @@ impl<'a> Held<'a> {
     pub(crate) fn text(&self) -> &'a [u8]
         ensures text { result.now ≡ flat_map placed_bytes self.now }
         ensures fits { AllByRecursion IsPlaced self.now }
-        ensures short { length result.now ≤ (24 + PAYLOAD) * length self.now }
+        ensures short { length result.now < 2 ^ 18 }
     {
         held_text(self.count, self.bytes)
     }

@@ -1,6 +1,6 @@
 //! Packets as bytes. What grows is grown once, before the first byte is put.
 
-ghost use Rattle.std.specs.Prelude.{◌≡◌, ◌≤◌, ◌+◌, ◌++◌, ◌<◌, ◌^◌, true, length, vec_len, vec_capacity, IfSome, OnOk, OnErr};
+ghost use Rattle.std.specs.Prelude.{◌≡◌, ◌≤◌, ◌+◌, ◌*◌, ◌++◌, ◌<◌, ◌^◌, true, length, vec_len, vec_capacity, IfSome, OnOk, OnErr};
 ghost use Rattle.std.specs.List.{flat_map, AllByRecursion};
 ghost use Rattle.byteorder.specs.Endian.{big_bytes};
 ghost use Rattle.wire.specs.Fields.{IsAddress, IsViewId, IsNumber, IsEntry, IsPlaced, address_bytes, view_id_bytes, number_bytes, payload_bytes, entry_bytes};
@@ -10,7 +10,7 @@ ghost use Rattle.view.specs.declared.TheConstants.{MEMBERS};
 ghost use Rattle.wire.specs.declared.limits.TheConstants.{PAYLOAD, STATE};
 ghost use Rattle.wire.specs.Packets.{IsBody, Spells, front_bytes, header_bytes, body_bytes, spelling, listed_bytes};
 
-use crate::entries::{Entry, Held};
+use crate::entries::{Entry, Held, Items};
 use crate::install::Install;
 use crate::members::Roster;
 use crate::numbers::Number;
@@ -382,17 +382,32 @@ fn state_len(state: &Option<State<'_>>) -> usize
     }
 }
 
+fn view_len(view: &Roster) -> usize
+    ensures size { result ≡ length (view_bytes view.now) }
+    ensures few { result ≤ 15 + 6 * MEMBERS }
+{
+    15 + 6 * view.members().len()
+}
+
+fn items_len(items: &Items<'_>) -> usize
+    ensures size { result ≡ length (flat_map entry_bytes items.now) }
+    ensures few { result < 2 ^ 18 }
+{
+    items.text().len()
+}
+
 fn install_len(install: &Install<'_>) -> usize
     ensures size { result ≡ length (install_bytes install.now) }
-    ensures few { result < 2 ^ 20 }
+    ensures few { result < 2 ^ 19 }
 {
-    let addresses = install.view().members().len() + install.together().len();
-    25 + 6 * addresses + install.items().text().len() + state_len(install.state())
+    let view = view_len(install.view());
+    let together = 6 * install.together().len();
+    10 + view + together + items_len(&install.items()) + state_len(install.state())
 }
 
 fn report_len(report: &Report<'_>) -> usize
     ensures size { result ≡ length (report_bytes report.now) }
-    ensures few { result < 2 ^ 20 }
+    ensures few { result < 2 ^ 19 }
 {
     match report.previous() {
         None => 1,
@@ -414,11 +429,11 @@ fn body_len(body: &Body<'_>) -> usize
         Body::Nak { .. } => 30,
         Body::Ack { .. } => 22,
         Body::Status { .. } => 30,
-        Body::Flush(proposal) => 15 + 6 * proposal.members().len(),
+        Body::Flush(proposal) => view_len(proposal),
         Body::Behind { .. } => 22,
         Body::Report { report, .. } => 14 + report_len(report),
         Body::Install(install) => install_len(install),
-        Body::Merge(view) => 15 + 6 * view.members().len(),
+        Body::Merge(view) => view_len(view),
     }
 }
 
