@@ -27,7 +27,7 @@ within low high n = (low ≤ n) × (n ≤ high)
 pub eight_part : (low high : ℕ) → high ≤ GREATEST_NUMBER → IsPart (number_at 8 low high Value) number_bytes (within low high)
 eight_part low high small = record {
   takes = λ bytes x rest fits e. let t = number_takes 8 wide8 low high Value bytes x rest fits e in (t.0, (t.1, t.2));
-  again = λ x rest is. eight_again low high x rest is.0 is.1 small
+  again = λ x rest is. eight_again low high x rest is.0 is.1 small;
 }
 
 -- what a body of a kind took
@@ -120,7 +120,7 @@ status_takes bytes found fits e =
     let v = number_takes 8 wide8 (b.0.0 - WINDOW) b.0.0 Value b.0.1 c.0.0 c.0.1 u.0.rest_fits c.1 in
     let one = Takes-then bytes (view_id_bytes a.0.0) a.0.1 (number_bytes b.0.0) b.0.1 t.0 u.0 in
     along (Took 8 bytes) (bodies.Status a.0.0 (progress_of b.0.0 c.0.0), c.0.1) found (ok_is (bodies.Status a.0.0 (progress_of b.0.0 c.0.0), c.0.1) found c.2)
-        (record { takes = Takes-then bytes (view_id_bytes a.0.0 ++ number_bytes b.0.0) b.0.1 (number_bytes c.0.0) c.0.1 one v.0; is = (t.1, u.2, v.2, near_of b.0.0 c.0.0 v.1); kind_is = refl })
+    (record { takes = Takes-then bytes (view_id_bytes a.0.0 ++ number_bytes b.0.0) b.0.1 (number_bytes c.0.0) c.0.1 one v.0; is = (t.1, u.2, v.2, near_of b.0.0 c.0.0 v.1); kind_is = refl })
 
 flush_takes : (bytes : List ℕ) (found : Body × List ℕ) → IsBytes bytes → flush_at bytes ≡ Ok found → Took 9 bytes found
 unfolding flush_at
@@ -182,74 +182,74 @@ from_13 kind bytes found fits k e = let t = merge_takes bytes found fits e in re
 from_12 : (kind : ℕ) (bytes : List ℕ) (found : Body × List ℕ) → IsBytes bytes → 12 ≤ kind → kind ≤ 13 → cond (eqb kind 12) (installed_at bytes) (merge_at bytes) ≡ Ok found → Took kind bytes found
 from_12 kind bytes found fits some few e =
     first_of (eqb kind 12) (installed_at bytes) (merge_at bytes) found (Took kind bytes found)
-        (λ t r. as_kind kind 12 bytes found t (installed_takes bytes found fits r))
-        (λ t r. from_13 kind bytes found fits (at_13 kind some few t) r) e
+    (λ t r. as_kind kind 12 bytes found t (installed_takes bytes found fits r))
+    (λ t r. from_13 kind bytes found fits (at_13 kind some few t) r) e
 
 from_11 : (kind : ℕ) (bytes : List ℕ) (found : Body × List ℕ) → IsBytes bytes → 11 ≤ kind → kind ≤ 13 → cond (eqb kind 11) (reported_at bytes) (cond (eqb kind 12) (installed_at bytes) (merge_at bytes)) ≡ Ok found → Took kind bytes found
 from_11 kind bytes found fits some few e =
     first_of (eqb kind 11) (reported_at bytes) (cond (eqb kind 12) (installed_at bytes) (merge_at bytes)) found (Took kind bytes found)
-        (λ t r. as_kind kind 11 bytes found t (reported_takes bytes found fits r))
-        (λ t r. from_12 kind bytes found fits (past kind 11 some t) few r) e
+    (λ t r. as_kind kind 11 bytes found t (reported_takes bytes found fits r))
+    (λ t r. from_12 kind bytes found fits (past kind 11 some t) few r) e
 
 from_10 : (kind : ℕ) (bytes : List ℕ) (found : Body × List ℕ) → IsBytes bytes → 10 ≤ kind → kind ≤ 13 → cond (eqb kind 10) (behind_at bytes) (cond (eqb kind 11) (reported_at bytes) (cond (eqb kind 12) (installed_at bytes) (merge_at bytes))) ≡ Ok found → Took kind bytes found
 from_10 kind bytes found fits some few e =
     first_of (eqb kind 10) (behind_at bytes) (cond (eqb kind 11) (reported_at bytes) (cond (eqb kind 12) (installed_at bytes) (merge_at bytes))) found (Took kind bytes found)
-        (λ t r. as_kind kind 10 bytes found t (behind_takes bytes found fits r))
-        (λ t r. from_11 kind bytes found fits (past kind 10 some t) few r) e
+    (λ t r. as_kind kind 10 bytes found t (behind_takes bytes found fits r))
+    (λ t r. from_11 kind bytes found fits (past kind 10 some t) few r) e
 
 from_9 : (kind : ℕ) (bytes : List ℕ) (found : Body × List ℕ) → IsBytes bytes → 9 ≤ kind → kind ≤ 13 → cond (eqb kind 9) (flush_at bytes) (cond (eqb kind 10) (behind_at bytes) (cond (eqb kind 11) (reported_at bytes) (cond (eqb kind 12) (installed_at bytes) (merge_at bytes)))) ≡ Ok found → Took kind bytes found
 from_9 kind bytes found fits some few e =
     first_of (eqb kind 9) (flush_at bytes) (cond (eqb kind 10) (behind_at bytes) (cond (eqb kind 11) (reported_at bytes) (cond (eqb kind 12) (installed_at bytes) (merge_at bytes)))) found (Took kind bytes found)
-        (λ t r. as_kind kind 9 bytes found t (flush_takes bytes found fits r))
-        (λ t r. from_10 kind bytes found fits (past kind 9 some t) few r) e
+    (λ t r. as_kind kind 9 bytes found t (flush_takes bytes found fits r))
+    (λ t r. from_10 kind bytes found fits (past kind 9 some t) few r) e
 
 from_8 : (kind : ℕ) (bytes : List ℕ) (found : Body × List ℕ) → IsBytes bytes → 8 ≤ kind → kind ≤ 13 → cond (eqb kind 8) (status_at bytes) (cond (eqb kind 9) (flush_at bytes) (cond (eqb kind 10) (behind_at bytes) (cond (eqb kind 11) (reported_at bytes) (cond (eqb kind 12) (installed_at bytes) (merge_at bytes))))) ≡ Ok found → Took kind bytes found
 from_8 kind bytes found fits some few e =
     first_of (eqb kind 8) (status_at bytes) (cond (eqb kind 9) (flush_at bytes) (cond (eqb kind 10) (behind_at bytes) (cond (eqb kind 11) (reported_at bytes) (cond (eqb kind 12) (installed_at bytes) (merge_at bytes))))) found (Took kind bytes found)
-        (λ t r. as_kind kind 8 bytes found t (status_takes bytes found fits r))
-        (λ t r. from_9 kind bytes found fits (past kind 8 some t) few r) e
+    (λ t r. as_kind kind 8 bytes found t (status_takes bytes found fits r))
+    (λ t r. from_9 kind bytes found fits (past kind 8 some t) few r) e
 
 from_7 : (kind : ℕ) (bytes : List ℕ) (found : Body × List ℕ) → IsBytes bytes → 7 ≤ kind → kind ≤ 13 → cond (eqb kind 7) (ack_at bytes) (cond (eqb kind 8) (status_at bytes) (cond (eqb kind 9) (flush_at bytes) (cond (eqb kind 10) (behind_at bytes) (cond (eqb kind 11) (reported_at bytes) (cond (eqb kind 12) (installed_at bytes) (merge_at bytes)))))) ≡ Ok found → Took kind bytes found
 from_7 kind bytes found fits some few e =
     first_of (eqb kind 7) (ack_at bytes) (cond (eqb kind 8) (status_at bytes) (cond (eqb kind 9) (flush_at bytes) (cond (eqb kind 10) (behind_at bytes) (cond (eqb kind 11) (reported_at bytes) (cond (eqb kind 12) (installed_at bytes) (merge_at bytes)))))) found (Took kind bytes found)
-        (λ t r. as_kind kind 7 bytes found t (ack_takes bytes found fits r))
-        (λ t r. from_8 kind bytes found fits (past kind 7 some t) few r) e
+    (λ t r. as_kind kind 7 bytes found t (ack_takes bytes found fits r))
+    (λ t r. from_8 kind bytes found fits (past kind 7 some t) few r) e
 
 from_6 : (kind : ℕ) (bytes : List ℕ) (found : Body × List ℕ) → IsBytes bytes → 6 ≤ kind → kind ≤ 13 → cond (eqb kind 6) (nak_at bytes) (cond (eqb kind 7) (ack_at bytes) (cond (eqb kind 8) (status_at bytes) (cond (eqb kind 9) (flush_at bytes) (cond (eqb kind 10) (behind_at bytes) (cond (eqb kind 11) (reported_at bytes) (cond (eqb kind 12) (installed_at bytes) (merge_at bytes))))))) ≡ Ok found → Took kind bytes found
 from_6 kind bytes found fits some few e =
     first_of (eqb kind 6) (nak_at bytes) (cond (eqb kind 7) (ack_at bytes) (cond (eqb kind 8) (status_at bytes) (cond (eqb kind 9) (flush_at bytes) (cond (eqb kind 10) (behind_at bytes) (cond (eqb kind 11) (reported_at bytes) (cond (eqb kind 12) (installed_at bytes) (merge_at bytes))))))) found (Took kind bytes found)
-        (λ t r. as_kind kind 6 bytes found t (nak_takes bytes found fits r))
-        (λ t r. from_7 kind bytes found fits (past kind 6 some t) few r) e
+    (λ t r. as_kind kind 6 bytes found t (nak_takes bytes found fits r))
+    (λ t r. from_7 kind bytes found fits (past kind 6 some t) few r) e
 
 from_5 : (kind : ℕ) (bytes : List ℕ) (found : Body × List ℕ) → IsBytes bytes → 5 ≤ kind → kind ≤ 13 → cond (eqb kind 5) (order_at bytes) (cond (eqb kind 6) (nak_at bytes) (cond (eqb kind 7) (ack_at bytes) (cond (eqb kind 8) (status_at bytes) (cond (eqb kind 9) (flush_at bytes) (cond (eqb kind 10) (behind_at bytes) (cond (eqb kind 11) (reported_at bytes) (cond (eqb kind 12) (installed_at bytes) (merge_at bytes)))))))) ≡ Ok found → Took kind bytes found
 from_5 kind bytes found fits some few e =
     first_of (eqb kind 5) (order_at bytes) (cond (eqb kind 6) (nak_at bytes) (cond (eqb kind 7) (ack_at bytes) (cond (eqb kind 8) (status_at bytes) (cond (eqb kind 9) (flush_at bytes) (cond (eqb kind 10) (behind_at bytes) (cond (eqb kind 11) (reported_at bytes) (cond (eqb kind 12) (installed_at bytes) (merge_at bytes)))))))) found (Took kind bytes found)
-        (λ t r. as_kind kind 5 bytes found t (order_takes bytes found fits r))
-        (λ t r. from_6 kind bytes found fits (past kind 5 some t) few r) e
+    (λ t r. as_kind kind 5 bytes found t (order_takes bytes found fits r))
+    (λ t r. from_6 kind bytes found fits (past kind 5 some t) few r) e
 
 from_4 : (kind : ℕ) (bytes : List ℕ) (found : Body × List ℕ) → IsBytes bytes → 4 ≤ kind → kind ≤ 13 → cond (eqb kind 4) (forward_at bytes) (cond (eqb kind 5) (order_at bytes) (cond (eqb kind 6) (nak_at bytes) (cond (eqb kind 7) (ack_at bytes) (cond (eqb kind 8) (status_at bytes) (cond (eqb kind 9) (flush_at bytes) (cond (eqb kind 10) (behind_at bytes) (cond (eqb kind 11) (reported_at bytes) (cond (eqb kind 12) (installed_at bytes) (merge_at bytes))))))))) ≡ Ok found → Took kind bytes found
 from_4 kind bytes found fits some few e =
     first_of (eqb kind 4) (forward_at bytes) (cond (eqb kind 5) (order_at bytes) (cond (eqb kind 6) (nak_at bytes) (cond (eqb kind 7) (ack_at bytes) (cond (eqb kind 8) (status_at bytes) (cond (eqb kind 9) (flush_at bytes) (cond (eqb kind 10) (behind_at bytes) (cond (eqb kind 11) (reported_at bytes) (cond (eqb kind 12) (installed_at bytes) (merge_at bytes))))))))) found (Took kind bytes found)
-        (λ t r. as_kind kind 4 bytes found t (forward_takes bytes found fits r))
-        (λ t r. from_5 kind bytes found fits (past kind 4 some t) few r) e
+    (λ t r. as_kind kind 4 bytes found t (forward_takes bytes found fits r))
+    (λ t r. from_5 kind bytes found fits (past kind 4 some t) few r) e
 
 from_3 : (kind : ℕ) (bytes : List ℕ) (found : Body × List ℕ) → IsBytes bytes → 3 ≤ kind → kind ≤ 13 → cond (eqb kind 3) (Ok (bodies.Leave, bytes)) (cond (eqb kind 4) (forward_at bytes) (cond (eqb kind 5) (order_at bytes) (cond (eqb kind 6) (nak_at bytes) (cond (eqb kind 7) (ack_at bytes) (cond (eqb kind 8) (status_at bytes) (cond (eqb kind 9) (flush_at bytes) (cond (eqb kind 10) (behind_at bytes) (cond (eqb kind 11) (reported_at bytes) (cond (eqb kind 12) (installed_at bytes) (merge_at bytes)))))))))) ≡ Ok found → Took kind bytes found
 from_3 kind bytes found fits some few e =
     first_of (eqb kind 3) (Ok (bodies.Leave, bytes)) (cond (eqb kind 4) (forward_at bytes) (cond (eqb kind 5) (order_at bytes) (cond (eqb kind 6) (nak_at bytes) (cond (eqb kind 7) (ack_at bytes) (cond (eqb kind 8) (status_at bytes) (cond (eqb kind 9) (flush_at bytes) (cond (eqb kind 10) (behind_at bytes) (cond (eqb kind 11) (reported_at bytes) (cond (eqb kind 12) (installed_at bytes) (merge_at bytes)))))))))) found (Took kind bytes found)
-        (λ t r. as_kind kind 3 bytes found t (leave_takes bytes found fits (ok_is (bodies.Leave, bytes) found r)))
-        (λ t r. from_4 kind bytes found fits (past kind 3 some t) few r) e
+    (λ t r. as_kind kind 3 bytes found t (leave_takes bytes found fits (ok_is (bodies.Leave, bytes) found r)))
+    (λ t r. from_4 kind bytes found fits (past kind 3 some t) few r) e
 
 from_2 : (kind : ℕ) (bytes : List ℕ) (found : Body × List ℕ) → IsBytes bytes → 2 ≤ kind → kind ≤ 13 → cond (eqb kind 2) (redirect_at bytes) (cond (eqb kind 3) (Ok (bodies.Leave, bytes)) (cond (eqb kind 4) (forward_at bytes) (cond (eqb kind 5) (order_at bytes) (cond (eqb kind 6) (nak_at bytes) (cond (eqb kind 7) (ack_at bytes) (cond (eqb kind 8) (status_at bytes) (cond (eqb kind 9) (flush_at bytes) (cond (eqb kind 10) (behind_at bytes) (cond (eqb kind 11) (reported_at bytes) (cond (eqb kind 12) (installed_at bytes) (merge_at bytes))))))))))) ≡ Ok found → Took kind bytes found
 from_2 kind bytes found fits some few e =
     first_of (eqb kind 2) (redirect_at bytes) (cond (eqb kind 3) (Ok (bodies.Leave, bytes)) (cond (eqb kind 4) (forward_at bytes) (cond (eqb kind 5) (order_at bytes) (cond (eqb kind 6) (nak_at bytes) (cond (eqb kind 7) (ack_at bytes) (cond (eqb kind 8) (status_at bytes) (cond (eqb kind 9) (flush_at bytes) (cond (eqb kind 10) (behind_at bytes) (cond (eqb kind 11) (reported_at bytes) (cond (eqb kind 12) (installed_at bytes) (merge_at bytes))))))))))) found (Took kind bytes found)
-        (λ t r. as_kind kind 2 bytes found t (redirect_takes bytes found fits r))
-        (λ t r. from_3 kind bytes found fits (past kind 2 some t) few r) e
+    (λ t r. as_kind kind 2 bytes found t (redirect_takes bytes found fits r))
+    (λ t r. from_3 kind bytes found fits (past kind 2 some t) few r) e
 
 from_1 : (kind : ℕ) (bytes : List ℕ) (found : Body × List ℕ) → IsBytes bytes → 1 ≤ kind → kind ≤ 13 → cond (eqb kind 1) (Ok (bodies.Join, bytes)) (cond (eqb kind 2) (redirect_at bytes) (cond (eqb kind 3) (Ok (bodies.Leave, bytes)) (cond (eqb kind 4) (forward_at bytes) (cond (eqb kind 5) (order_at bytes) (cond (eqb kind 6) (nak_at bytes) (cond (eqb kind 7) (ack_at bytes) (cond (eqb kind 8) (status_at bytes) (cond (eqb kind 9) (flush_at bytes) (cond (eqb kind 10) (behind_at bytes) (cond (eqb kind 11) (reported_at bytes) (cond (eqb kind 12) (installed_at bytes) (merge_at bytes)))))))))))) ≡ Ok found → Took kind bytes found
 from_1 kind bytes found fits some few e =
     first_of (eqb kind 1) (Ok (bodies.Join, bytes)) (cond (eqb kind 2) (redirect_at bytes) (cond (eqb kind 3) (Ok (bodies.Leave, bytes)) (cond (eqb kind 4) (forward_at bytes) (cond (eqb kind 5) (order_at bytes) (cond (eqb kind 6) (nak_at bytes) (cond (eqb kind 7) (ack_at bytes) (cond (eqb kind 8) (status_at bytes) (cond (eqb kind 9) (flush_at bytes) (cond (eqb kind 10) (behind_at bytes) (cond (eqb kind 11) (reported_at bytes) (cond (eqb kind 12) (installed_at bytes) (merge_at bytes)))))))))))) found (Took kind bytes found)
-        (λ t r. as_kind kind 1 bytes found t (join_takes bytes found fits (ok_is (bodies.Join, bytes) found r)))
-        (λ t r. from_2 kind bytes found fits (past kind 1 some t) few r) e
+    (λ t r. as_kind kind 1 bytes found t (join_takes bytes found fits (ok_is (bodies.Join, bytes) found r)))
+    (λ t r. from_2 kind bytes found fits (past kind 1 some t) few r) e
 
 pub body_takes : (kind : ℕ) (bytes : List ℕ) (found : Body × List ℕ) → IsBytes bytes → 1 ≤ kind → kind ≤ 13 → body_at kind bytes ≡ Ok found → Took kind bytes found
 unfolding body_at

@@ -62,7 +62,7 @@ bytes_takes n bytes front rest fits e =
     let g = guard_ok (ltb (length bytes) n) Short (take n bytes, drop n bytes) (front, rest) e in
     let long : n ≤ length bytes = ltb-false _ _ g.0 in
     let whole : Takes bytes (take n bytes) (drop n bytes) × IsBytes (take n bytes) × (length (take n bytes) ≡ n) =
-        (record { parts = sym (take-append-drop n bytes); rest_fits = IsBytes-drop n bytes fits }, IsBytes-take n bytes fits, omega (arith, length-take n bytes)) in
+    (record { parts = sym (take-append-drop n bytes); rest_fits = IsBytes-drop n bytes fits }, IsBytes-take n bytes fits, omega (arith, length-take n bytes)) in
     subst (λ (p : List ℕ × List ℕ). Takes bytes p.0 p.1 × IsBytes p.0 × (length p.0 ≡ n)) g.1 whole
 
 pub bytes_again : (n : ℕ) (front rest : List ℕ) → length front ≡ n → bytes_at n (front ++ rest) ≡ Ok (front, rest)
@@ -144,7 +144,7 @@ view_id_takes bytes v rest fits e =
     let u = address_takes a.0.1 b.0.0 b.0.1 t.0.rest_fits b.1 in
     let made : ViewId = record { counter = a.0.0; creator = b.0.0 } in
     subst (λ (p : ViewId × List ℕ). Takes bytes (view_id_bytes p.0) p.1 × IsViewId p.0) (ok_is (made, b.0.1) (v, rest) b.2)
-        (Takes-then _ _ _ _ _ t.0 u.0, record { counter = (t.1, t.2); creator = u.1 })
+    (Takes-then _ _ _ _ _ t.0 u.0, record { counter = (t.1, t.2); creator = u.1 })
 
 -- a number of eight bytes, read again
 pub eight_again : (low high : ℕ) (x : ℕ) (rest : List ℕ) → low ≤ x → x ≤ high → high ≤ GREATEST_NUMBER → number_at 8 low high Value (number_bytes x ++ rest) ≡ Ok (x, rest)
@@ -193,13 +193,13 @@ entry_takes bytes m rest fits e =
     let made : Entry = record { sender = a.0.0; number = b.0.0; payload = c.0.0 } in
     let tuv = Takes-then bytes (address_bytes a.0.0 ++ number_bytes b.0.0) b.0.1 (payload_bytes c.0.0) c.0.1 (Takes-then bytes (address_bytes a.0.0) a.0.1 (number_bytes b.0.0) b.0.1 t.0 u.0) v.0 in
     subst (λ (p : Entry × List ℕ). Takes bytes (entry_bytes p.0) p.1 × IsEntry p.0) (ok_is (made, c.0.1) (m, rest) c.2)
-        (tuv, record { sender = t.1; number = (u.1, u.2); payload = v.1 })
+    (tuv, record { sender = t.1; number = (u.1, u.2); payload = v.1 })
 
 entry_again : (m : Entry) (rest : List ℕ) → IsEntry m → entry_at (entry_bytes m ++ rest) ≡ Ok (m, rest)
 unfolding entry_at
 entry_again m rest fits =
     let regrouped : entry_bytes m ++ rest ≡ address_bytes m.sender ++ (number_bytes m.number ++ (payload_bytes m.payload ++ rest)) =
-        append_assoc (address_bytes m.sender ++ number_bytes m.number) (payload_bytes m.payload) rest ∙ append_assoc (address_bytes m.sender) (number_bytes m.number) (payload_bytes m.payload ++ rest) in
+    append_assoc (address_bytes m.sender ++ number_bytes m.number) (payload_bytes m.payload) rest ∙ append_assoc (address_bytes m.sender) (number_bytes m.number) (payload_bytes m.payload ++ rest) in
     ap entry_at regrouped
     ∙ rw (address_again m.sender (number_bytes m.number ++ (payload_bytes m.payload ++ rest)) fits.sender, eight_again 1 GREATEST_NUMBER m.number (payload_bytes m.payload ++ rest) fits.number.0 fits.number.1 (omega arith), payload_again m.payload rest fits.payload) refl
 
@@ -215,7 +215,7 @@ placed_takes bytes h rest fits e =
     let u = entry_takes a.0.1 b.0.0 b.0.1 t.0.rest_fits b.1 in
     let made : ℕ × Entry = (a.0.0, b.0.0) in
     subst (λ (p : (ℕ × Entry) × List ℕ). Takes bytes (placed_bytes p.0) p.1 × IsPlaced p.0) (ok_is (made, b.0.1) (h, rest) b.2)
-        (Takes-then _ _ _ _ _ t.0 u.0, record { place = (t.1, t.2); entry = u.1 })
+    (Takes-then _ _ _ _ _ t.0 u.0, record { place = (t.1, t.2); entry = u.1 })
 
 placed_again : (h : ℕ × Entry) (rest : List ℕ) → IsPlaced h → placed_at (placed_bytes h ++ rest) ≡ Ok (h, rest)
 unfolding placed_at

@@ -40,13 +40,14 @@ filled_report : (bytes : List ℕ) (flag : ℕ) (after : List ℕ) (r : Report) 
     → (v : ViewId) × (r.previous ≡ Some v) × Takes after (filled_bytes v r) rest × IsViewId v × AllByRecursion IsPlaced r.held × Filled r → Takes bytes (report_bytes r) rest × IsReport r
 filled_report bytes flag after r rest one t f =
     let flagged : Takes bytes (big_bytes 1 1) after = subst (λ (n : ℕ). Takes bytes (big_bytes 1 n) after) one t in
-    let all = Takes-then bytes (big_bytes 1 1) after (filled_bytes f.0 r) rest flagged f.2 in
-    (subst (λ (o : Option ViewId). Takes bytes (option_map_or (λ v. big_bytes 1 1 ++ filled_bytes v r) o (big_bytes 1 0)) rest) (sym f.1) all,
-    record {
-      previous = subst (λ (o : Option ViewId). IfSome o IsViewId) (sym f.1) f.3;
-      entries = f.4;
-      rules = subst (λ (o : Option ViewId). option_map_or (λ _. is_filled r) o (is_nothing r) ≡ true) (sym f.1) (rules-filled r f.5)
-    })
+    let all = Takes-then bytes (big_bytes 1 1) after (filled_bytes f.0 r) rest flagged f.2 in (
+      subst (λ (o : Option ViewId). Takes bytes (option_map_or (λ v. big_bytes 1 1 ++ filled_bytes v r) o (big_bytes 1 0)) rest) (sym f.1) all,
+      record {
+        previous = subst (λ (o : Option ViewId). IfSome o IsViewId) (sym f.1) f.3;
+        entries = f.4;
+        rules = subst (λ (o : Option ViewId). option_map_or (λ _. is_filled r) o (is_nothing r) ≡ true) (sym f.1) (rules-filled r f.5);
+      },
+    )
 
 no_entries : (held : List (ℕ × Entry)) → eqb (length held) 0 ≡ true → held ≡ []
 no_entries held e = nil_from_length held (eqb-true _ _ e)
@@ -59,10 +60,10 @@ none_again r rest named rules =
     let u = both_true (eqb r.stable 0) (eqb r.delivered 0) t.0 in
     let text : report_bytes r ≡ big_bytes 1 0 = ap (λ (o : Option ViewId). option_map_or (λ v. big_bytes 1 1 ++ filled_bytes v r) o (big_bytes 1 0)) named in
     let is : nothing_reported ≡ r =
-        ap (λ (o : Option ViewId). record { previous = o; stable = 0; delivered = 0; held = [] }) (sym named)
-        ∙ ap (λ (n : ℕ). record { previous = r.previous; stable = n; delivered = 0; held = [] }) (sym (eqb-true _ _ u.0))
-        ∙ ap (λ (n : ℕ). record { previous = r.previous; stable = r.stable; delivered = n; held = [] }) (sym (eqb-true _ _ u.1))
-        ∙ ap (λ (h : List (ℕ × Entry)). record { previous = r.previous; stable = r.stable; delivered = r.delivered; held = h }) (sym (no_entries r.held t.1)) in
+    ap (λ (o : Option ViewId). record { previous = o; stable = 0; delivered = 0; held = [] }) (sym named)
+    ∙ ap (λ (n : ℕ). record { previous = r.previous; stable = n; delivered = 0; held = [] }) (sym (eqb-true _ _ u.0))
+    ∙ ap (λ (n : ℕ). record { previous = r.previous; stable = r.stable; delivered = n; held = [] }) (sym (eqb-true _ _ u.1))
+    ∙ ap (λ (h : List (ℕ × Entry)). record { previous = r.previous; stable = r.stable; delivered = r.delivered; held = h }) (sym (no_entries r.held t.1)) in
     ap (λ (x : List ℕ). report_at (x ++ rest)) text
     ∙ rw (number_again 1 0 1 Value 0 rest (omega arith) (omega arith) (omega arith)) (ap (λ (x : Report). Ok (x, rest)) is)
 
@@ -82,9 +83,9 @@ report_takes bytes r rest fits e =
     let t = number_takes 1 wide1 0 1 Value bytes a.0.0 a.0.1 fits a.1 in
     elim (chosen (eqb a.0.0 0) (Ok (nothing_reported, a.0.1)) (filled_at a.0.1) (r, rest) a.2) [
       | inl none ↦
-        let zero_flag : a.0.0 ≡ 0 = eqb-true _ _ none.0 in
-        subst (λ (p : Report × List ℕ). Takes bytes (report_bytes p.0) p.1 × IsReport p.0) (ok_is (nothing_reported, a.0.1) (r, rest) none.1)
-            (subst (λ (n : ℕ). Takes bytes (big_bytes 1 n) a.0.1) zero_flag t.0, record { previous = tt; entries = tt; rules = refl })
+          let zero_flag : a.0.0 ≡ 0 = eqb-true _ _ none.0 in
+          subst (λ (p : Report × List ℕ). Takes bytes (report_bytes p.0) p.1 × IsReport p.0) (ok_is (nothing_reported, a.0.1) (r, rest) none.1)
+          (subst (λ (n : ℕ). Takes bytes (big_bytes 1 n) a.0.1) zero_flag t.0, record { previous = tt; entries = tt; rules = refl })
       | inr some ↦ filled_report bytes a.0.0 a.0.1 r rest (flag_one a.0.0 t.2 some.0) t.0 (filled_takes a.0.1 r rest t.0.rest_fits some.1)
     ]
 
@@ -110,19 +111,19 @@ state_takes bytes o rest fits e =
     let t = number_takes 1 wide1 0 1 Value bytes a.0.0 a.0.1 fits a.1 in
     elim (chosen (eqb a.0.0 0) (Ok (None, a.0.1)) (some_at a.0.1) (o, rest) a.2) [
       | inl none ↦
-        let zero_flag : a.0.0 ≡ 0 = eqb-true _ _ none.0 in
-        subst (λ (p : Option (List ℕ) × List ℕ). Takes bytes (state_bytes p.0) p.1 × IsState p.0) (ok_is (None, a.0.1) (o, rest) none.1)
-            (subst (λ (n : ℕ). Takes bytes (big_bytes 1 n) a.0.1) zero_flag t.0, tt)
+          let zero_flag : a.0.0 ≡ 0 = eqb-true _ _ none.0 in
+          subst (λ (p : Option (List ℕ) × List ℕ). Takes bytes (state_bytes p.0) p.1 × IsState p.0) (ok_is (None, a.0.1) (o, rest) none.1)
+          (subst (λ (n : ℕ). Takes bytes (big_bytes 1 n) a.0.1) zero_flag t.0, tt)
       | inr some ↦
-        let one_flag : a.0.0 ≡ 1 = flag_one a.0.0 t.2 some.0 in
-        let b = bind_ok (number_at 4 0 STATE Length a.0.1) (λ len. bytes_at len.0 len.1 >>= λ state. Ok (Some state.0, state.1)) (o, rest) some.1 in
-        let c = bind_ok (bytes_at b.0.0 b.0.1) (λ state. Ok (Some state.0, state.1)) (o, rest) b.2 in
-        let u = number_takes 4 wide4 0 STATE Length a.0.1 b.0.0 b.0.1 t.0.rest_fits b.1 in
-        let v = bytes_takes b.0.0 b.0.1 c.0.0 c.0.1 u.0.rest_fits c.1 in
-        let sized : Takes a.0.1 (big_bytes 4 (length c.0.0) ++ c.0.0) c.0.1 = subst (λ (n : ℕ). Takes a.0.1 (big_bytes 4 n ++ c.0.0) c.0.1) (sym v.2) (Takes-then a.0.1 (big_bytes 4 b.0.0) b.0.1 c.0.0 c.0.1 u.0 v.0) in
-        let flagged : Takes bytes (big_bytes 1 1) a.0.1 = subst (λ (n : ℕ). Takes bytes (big_bytes 1 n) a.0.1) one_flag t.0 in
-        subst (λ (p : Option (List ℕ) × List ℕ). Takes bytes (state_bytes p.0) p.1 × IsState p.0) (ok_is (Some c.0.0, c.0.1) (o, rest) c.2)
-            (Takes-then bytes (big_bytes 1 1) a.0.1 (big_bytes 4 (length c.0.0) ++ c.0.0) c.0.1 flagged sized, omega (arith, v.2, u.2))
+          let one_flag : a.0.0 ≡ 1 = flag_one a.0.0 t.2 some.0 in
+          let b = bind_ok (number_at 4 0 STATE Length a.0.1) (λ len. bytes_at len.0 len.1 >>= λ state. Ok (Some state.0, state.1)) (o, rest) some.1 in
+          let c = bind_ok (bytes_at b.0.0 b.0.1) (λ state. Ok (Some state.0, state.1)) (o, rest) b.2 in
+          let u = number_takes 4 wide4 0 STATE Length a.0.1 b.0.0 b.0.1 t.0.rest_fits b.1 in
+          let v = bytes_takes b.0.0 b.0.1 c.0.0 c.0.1 u.0.rest_fits c.1 in
+          let sized : Takes a.0.1 (big_bytes 4 (length c.0.0) ++ c.0.0) c.0.1 = subst (λ (n : ℕ). Takes a.0.1 (big_bytes 4 n ++ c.0.0) c.0.1) (sym v.2) (Takes-then a.0.1 (big_bytes 4 b.0.0) b.0.1 c.0.0 c.0.1 u.0 v.0) in
+          let flagged : Takes bytes (big_bytes 1 1) a.0.1 = subst (λ (n : ℕ). Takes bytes (big_bytes 1 n) a.0.1) one_flag t.0 in
+          subst (λ (p : Option (List ℕ) × List ℕ). Takes bytes (state_bytes p.0) p.1 × IsState p.0) (ok_is (Some c.0.0, c.0.1) (o, rest) c.2)
+          (Takes-then bytes (big_bytes 1 1) a.0.1 (big_bytes 4 (length c.0.0) ++ c.0.0) c.0.1 flagged sized, omega (arith, v.2, u.2))
     ]
 
 state_again : (o : Option (List ℕ)) (rest : List ℕ) → IsState o → state_at (state_bytes o ++ rest) ≡ Ok (o, rest)
@@ -130,7 +131,7 @@ unfolding state_at
 state_again None rest fits = rw (number_again 1 0 1 Value 0 rest (omega arith) (omega arith) (omega arith)) refl
 state_again (Some s) rest fits =
     let regrouped : state_bytes (Some s) ++ rest ≡ big_bytes 1 1 ++ (big_bytes 4 (length s) ++ (s ++ rest)) =
-        append_assoc (big_bytes 1 1) (big_bytes 4 (length s) ++ s) rest ∙ ap (λ (x : List ℕ). big_bytes 1 1 ++ x) (append_assoc (big_bytes 4 (length s)) s rest) in
+    append_assoc (big_bytes 1 1) (big_bytes 4 (length s) ++ s) rest ∙ ap (λ (x : List ℕ). big_bytes 1 1 ++ x) (append_assoc (big_bytes 4 (length s)) s rest) in
     ap state_at regrouped
     ∙ rw (number_again 1 0 1 Value 1 (big_bytes 4 (length s) ++ (s ++ rest)) (omega arith) (omega arith) (omega arith), number_again 4 0 STATE Length (length s) (s ++ rest) (omega arith) (omega arith) fits, bytes_again (length s) s rest refl) refl
 
@@ -189,7 +190,7 @@ given_of view together bytes base b1 n b2 items b3 state b4 t u near small v cou
       items = fitting;
       near = omega arith;
       small = omega arith;
-      state = is
+      state = is;
     }
 
 given_takes : (view : View) (together : List Address) (bytes : List ℕ) (i : Install) (rest : List ℕ) → IsBytes bytes → given_at view together bytes ≡ Ok (i, rest) → Given view together bytes i rest
@@ -204,7 +205,7 @@ given_takes view together bytes i rest fits e =
     let y = list_takes entry_at entry_bytes IsEntry entry_part f.0.0 f.0.1 g.0.0 g.0.1 x.0.rest_fits g.1 in
     let z = state_part.takes g.0.1 h.0.0 h.0.1 y.0.rest_fits h.1 in
     along (λ (p : Install × List ℕ). Given view together bytes p.0 p.1) (install_of view together d.0.0 g.0.0 h.0.0, h.0.1) (i, rest) (ok_is (install_of view together d.0.0 g.0.0 h.0.0, h.0.1) (i, rest) h.2)
-        (given_of view together bytes d.0.0 d.0.1 f.0.0 f.0.1 g.0.0 g.0.1 h.0.0 h.0.1 w.0 x.0 x.1 x.2 y.0 y.1 y.2 z.0 z.1)
+    (given_of view together bytes d.0.0 d.0.1 f.0.0 f.0.1 g.0.0 g.0.1 h.0.0 h.0.1 w.0 x.0 x.1 x.2 y.0 y.1 y.2 z.0 z.1)
 
 install_of_parts : (bytes : List ℕ) (view : View) (b1 : List ℕ) (n : ℕ) (b2 : List ℕ) (together : List Address) (b3 : List ℕ) (i : Install) (b4 : List ℕ)
     → Takes bytes (view_bytes view) b1 → IsView view → Takes b1 (big_bytes 1 n) b2 → (1 ≤ n) → (n ≤ MEMBERS) → Ordered view.members [] n b2 (together, b3) → Given view together b3 i b4
@@ -218,16 +219,17 @@ install_of_parts bytes view b1 n b2 together b3 i b4 t is u some few o g =
     let viewed : Takes bytes (view_bytes i.view) b1 = back (λ (v : View). Takes bytes (view_bytes v) b1) i.view view g.same_view t in
     let one = Takes-then bytes (view_bytes i.view) b1 (addresses_bytes i.together) b3 viewed sized in
     let ordered : is_in_order i.together i.view.members ≡ true =
-        back (λ (m : List Address). is_in_order m i.view.members ≡ true) i.together new whole (back (λ (v : View). is_in_order new v.members ≡ true) i.view view g.same_view o.ordered) in
-    let placed : Placed i = record { some = omega arith; few = omega arith; ordered = ordered; near = g.near; small = g.small } in
-    (Takes-then bytes (view_bytes i.view ++ addresses_bytes i.together) b3 (given_bytes i) b4 one g.takes,
-    record {
-      view = back (λ (v : View). IsView v) i.view view g.same_view is;
-      together = back (λ (m : List Address). AllByRecursion IsAddress m) i.together new whole o.listed.fits;
-      items = g.items;
-      state = g.state;
-      rules = rules-placed i placed
-    })
+    back (λ (m : List Address). is_in_order m i.view.members ≡ true) i.together new whole (back (λ (v : View). is_in_order new v.members ≡ true) i.view view g.same_view o.ordered) in
+    let placed : Placed i = record { some = omega arith; few = omega arith; ordered = ordered; near = g.near; small = g.small } in (
+      Takes-then bytes (view_bytes i.view ++ addresses_bytes i.together) b3 (given_bytes i) b4 one g.takes,
+      record {
+        view = back (λ (v : View). IsView v) i.view view g.same_view is;
+        together = back (λ (m : List Address). AllByRecursion IsAddress m) i.together new whole o.listed.fits;
+        items = g.items;
+        state = g.state;
+        rules = rules-placed i placed;
+      },
+    )
 
 install_takes : (bytes : List ℕ) (i : Install) (rest : List ℕ) → IsBytes bytes → install_at bytes ≡ Ok (i, rest) → Takes bytes (install_bytes i) rest × IsInstall i
 unfolding install_at
@@ -249,14 +251,16 @@ given_again i rest fits =
     let e5 = flat_map entry_bytes i.items ++ e6 in
     let e4 = big_bytes 1 (length i.items) ++ e5 in
     let regrouped : given_bytes i ++ rest ≡ number_bytes i.base ++ e4 =
-        append_assoc (number_bytes i.base ++ items_bytes i.items) (state_bytes i.state) rest
-        ∙ append_assoc (number_bytes i.base) (items_bytes i.items) e6
-        ∙ ap (λ (x : List ℕ). number_bytes i.base ++ x) (append_assoc (big_bytes 1 (length i.items)) (flat_map entry_bytes i.items) e6) in
+    append_assoc (number_bytes i.base ++ items_bytes i.items) (state_bytes i.state) rest
+    ∙ append_assoc (number_bytes i.base) (items_bytes i.items) e6
+    ∙ ap (λ (x : List ℕ). number_bytes i.base ++ x) (append_assoc (big_bytes 1 (length i.items)) (flat_map entry_bytes i.items) e6) in
     ap (given_at i.view i.together) regrouped
-    ∙ rw (eight_again 0 GREATEST_NUMBER i.base e4 (omega arith) (omega (arith, p.small)) (omega arith),
-        items_count_again i.base (length i.items) e5 p.near p.small,
-        list_again entry_at entry_bytes IsEntry entry_part i.items e6 fits.items,
-        state_part.again i.state rest fits.state) refl
+    ∙ rw (
+      eight_again 0 GREATEST_NUMBER i.base e4 (omega arith) (omega (arith, p.small)) (omega arith),
+      items_count_again i.base (length i.items) e5 p.near p.small,
+      list_again entry_at entry_bytes IsEntry entry_part i.items e6 fits.items,
+      state_part.again i.state rest fits.state,
+    ) refl
 
 install_again : (i : Install) (rest : List ℕ) → IsInstall i → install_at (install_bytes i ++ rest) ≡ Ok (i, rest)
 unfolding install_at
@@ -266,12 +270,15 @@ install_again i rest fits =
     let e2 = flat_map address_bytes i.together ++ e3 in
     let e1 = big_bytes 1 (length i.together) ++ e2 in
     let regrouped : install_bytes i ++ rest ≡ view_bytes i.view ++ e1 =
-        append_assoc (view_bytes i.view ++ addresses_bytes i.together) (given_bytes i) rest
-        ∙ append_assoc (view_bytes i.view) (addresses_bytes i.together) e3
-        ∙ ap (λ (x : List ℕ). view_bytes i.view ++ x) (append_assoc (big_bytes 1 (length i.together)) (flat_map address_bytes i.together) e3) in
+    append_assoc (view_bytes i.view ++ addresses_bytes i.together) (given_bytes i) rest
+    ∙ append_assoc (view_bytes i.view) (addresses_bytes i.together) e3
+    ∙ ap (λ (x : List ℕ). view_bytes i.view ++ x) (append_assoc (big_bytes 1 (length i.together)) (flat_map address_bytes i.together) e3) in
     ap install_at regrouped
-    ∙ rw (view_part.again i.view e1 fits.view, number_again 1 1 MEMBERS Length (length i.together) e2 (omega (arith, p.few)) p.some p.few,
-        together_again i.view.members [] i.together e3 fits.together p.ordered) (given_again i rest fits)
+    ∙ rw (
+      view_part.again i.view e1 fits.view,
+      number_again 1 1 MEMBERS Length (length i.together) e2 (omega (arith, p.few)) p.some p.few,
+      together_again i.view.members [] i.together e3 fits.together p.ordered,
+    ) (given_again i rest fits)
 
 pub install_part : IsPart install_at install_bytes IsInstall
 install_part = record { takes = install_takes; again = install_again }

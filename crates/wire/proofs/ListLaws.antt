@@ -69,7 +69,7 @@ held_takes stable delivered last (suc n) bytes held rest small fits e =
     let is : IsPlaced (place, b.0.0) = record { place = (omega (arith, t.1), in_range); entry = u.1 } in
     let rises : are_held stable delivered last ((place, b.0.0) ∷ c.0.0) ≡ true = rw (le-leb (last + 1) place t.1, le-leb place (highest_next stable delivered last) t.2) v.3 in
     subst (λ (p : List (ℕ × Entry) × List ℕ). Takes bytes (flat_map placed_bytes p.0) p.1 × (length p.0 ≡ suc n) × AllByRecursion IsPlaced p.0 × (are_held stable delivered last p.0 ≡ true)) (ok_is ((place, b.0.0) ∷ c.0.0, c.0.1) (held, rest) c.2)
-        (all, ap suc v.1, (is, v.2), rises)
+    (all, ap suc v.1, (is, v.2), rises)
 
 pub held_again : (stable delivered last : ℕ) (held : List (ℕ × Entry)) (rest : List ℕ) → delivered ≤ GREATEST_NUMBER → AllByRecursion IsPlaced held → are_held stable delivered last held ≡ true
     → held_at stable delivered last (length held) (flat_map placed_bytes held ++ rest) ≡ Ok (held, rest)
@@ -80,6 +80,6 @@ held_again stable delivered last (h ∷ held) rest small fits rises =
     let range = both_true (leb (last + 1) h.0) (leb h.0 (highest_next stable delivered last)) tests.0 in
     let left = flat_map placed_bytes held ++ rest in
     let regrouped : flat_map placed_bytes (h ∷ held) ++ rest ≡ number_bytes h.0 ++ (entry_bytes h.1 ++ left) =
-        append_assoc (placed_bytes h) (flat_map placed_bytes held) rest ∙ append_assoc (number_bytes h.0) (entry_bytes h.1) left in
+    append_assoc (placed_bytes h) (flat_map placed_bytes held) rest ∙ append_assoc (number_bytes h.0) (entry_bytes h.1) left in
     ap (held_at stable delivered last (suc (length held))) regrouped
     ∙ rw (eight_again (last + 1) (highest_next stable delivered last) h.0 (entry_bytes h.1 ++ left) (leb-true _ _ range.0) (leb-true _ _ range.1) (highest_next-le stable delivered last small), entry_part.again h.1 left fits.0.entry, held_again stable delivered h.0 held rest small fits.1 tests.1) refl

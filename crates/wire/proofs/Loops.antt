@@ -26,9 +26,9 @@ list_goes_on read count i bytes x rest total lt h so_far =
     let k : count - i ≡ suc (count - (i + 1)) = omega arith in
     let one : rest_of (list_at read (count - i) bytes) ≡ rest_of (list_at read (count - (i + 1)) rest) = rw (k, h) (passed x (list_at read (count - (i + 1)) rest)) in
     sym one ∙ so_far where
-  passed : {A : Type 0} (x : A) (r : Read (List A)) → rest_of (r >>= λ others. Ok (x ∷ others.0, others.1)) ≡ rest_of r
-  passed x (Ok y) = refl
-  passed x (Err e) = refl
+      passed : {A : Type 0} (x : A) (r : Read (List A)) → rest_of (r >>= λ others. Ok (x ∷ others.0, others.1)) ≡ rest_of r
+      passed x (Ok y) = refl
+      passed x (Err e) = refl
 
 pub list_ends : {A : Type 0} (read : List ℕ → Read A) (count i : ℕ) (bytes : List ℕ) (e : WireError) (total : Result (List ℕ) WireError) → i < count → read bytes ≡ Err e
     → rest_of (list_at read (count - i) bytes) ≡ total → total ≡ Err e
@@ -77,10 +77,10 @@ list_first {A = A} read (suc n) bytes x rest some h e =
     let step : list_at read (suc n) bytes ≡ (list_at read n rest >>= λ others. Ok (x ∷ others.0, others.1)) = rw (h) refl in
     let k : suc n - 1 ≡ n = omega arith in
     back (λ (m : ℕ). (listed (list_at read (suc n) bytes) ≡ x ∷ listed (list_at read m rest)) × (is_whole (list_at read m rest) ≡ true)) (suc n - 1) n k
-        (by_rest x (list_at read n rest) (list_at read (suc n) bytes) step e) where
-  by_rest : {A : Type 0} (x : A) (r whole : Read (List A)) → whole ≡ (r >>= λ others. Ok (x ∷ others.0, others.1)) → is_whole whole ≡ true → (listed whole ≡ x ∷ listed r) × (is_whole r ≡ true)
-  by_rest x (Ok y) whole step e = (ap listed step, ap is_whole (sym step) ∙ e)
-  by_rest x (Err d) whole step e = absurd (let f : false ≡ true = ap is_whole (sym step) ∙ e in cc)
+    (by_rest x (list_at read n rest) (list_at read (suc n) bytes) step e) where
+      by_rest : {A : Type 0} (x : A) (r whole : Read (List A)) → whole ≡ (r >>= λ others. Ok (x ∷ others.0, others.1)) → is_whole whole ≡ true → (listed whole ≡ x ∷ listed r) × (is_whole r ≡ true)
+      by_rest x (Ok y) whole step e = (ap listed step, ap is_whole (sym step) ∙ e)
+      by_rest x (Err d) whole step e = absurd (let f : false ≡ true = ap is_whole (sym step) ∙ e in cc)
 
 pub list_not_err : {A : Type 0} (read : List ℕ → Read A) (n : ℕ) (bytes : List ℕ) (d : WireError) → 1 ≤ n → read bytes ≡ Err d → is_whole (list_at read n bytes) ≡ true → ⊥
 unfolding list_at
@@ -134,7 +134,7 @@ fronted read spell Fits part n bytes rest values t count fits =
     let front : take (length bytes - length rest) bytes ≡ text = rw (size, t.parts) (take_at text rest (length text) refl) in
     record {
       behind = omega arith;
-      front = ap (list_at read n) (front ∙ sym (append-nil text)) ∙ ap (λ (k : ℕ). list_at read k (text ++ [])) (sym count) ∙ list_again read spell Fits part values [] fits
+      front = ap (list_at read n) (front ∙ sym (append-nil text)) ∙ ap (λ (k : ℕ). list_at read k (text ++ [])) (sym count) ∙ list_again read spell Fits part values [] fits;
     }
 
 pub list_front : {A : Type 0} (read : List ℕ → Read A) (spell : A → List ℕ) (Fits : A → Type 0) → IsPart read spell Fits → (n : ℕ) (bytes rest : List ℕ) → IsBytes bytes → rest_of (list_at read n bytes) ≡ Ok rest
@@ -154,9 +154,9 @@ held_goes_on stable delivered last count i bytes place mid m rest total lt h g s
     let k : count - i ≡ suc (count - (i + 1)) = omega arith in
     let one : rest_of (held_at stable delivered last (count - i) bytes) ≡ rest_of (held_at stable delivered place (count - (i + 1)) rest) = rw (k, h, g) (passed (place, m) (held_at stable delivered place (count - (i + 1)) rest)) in
     sym one ∙ so_far where
-  passed : {A : Type 0} (x : A) (r : Read (List A)) → rest_of (r >>= λ others. Ok (x ∷ others.0, others.1)) ≡ rest_of r
-  passed x (Ok y) = refl
-  passed x (Err e) = refl
+      passed : {A : Type 0} (x : A) (r : Read (List A)) → rest_of (r >>= λ others. Ok (x ∷ others.0, others.1)) ≡ rest_of r
+      passed x (Ok y) = refl
+      passed x (Err e) = refl
 
 pub held_no_place : (stable delivered last count i : ℕ) (bytes : List ℕ) (e : WireError) (total : Result (List ℕ) WireError) → i < count → number_at 8 (last + 1) (highest_next stable delivered last) Value bytes ≡ Err e
     → rest_of (held_at stable delivered last (count - i) bytes) ≡ total → total ≡ Err e
@@ -280,5 +280,5 @@ together_ordered (suc n) left before bytes found e =
       new = a.0.0 ∷ o.new;
       whole = o.whole ∙ append_assoc before (a.0.0 ∷ []) o.new;
       count = ap suc o.count;
-      ordered = ap (λ (r : Option (List Address)). option_map_or (is_in_order o.new) r false) g.1 ∙ o.ordered
+      ordered = ap (λ (r : Option (List Address)). option_map_or (is_in_order o.new) r false) g.1 ∙ o.ordered;
     }

@@ -125,7 +125,7 @@ one_listed before a n bytes after found t is l = record {
   whole = l.whole ∙ append_assoc before (a ∷ []) l.new;
   takes = Takes-then bytes (address_bytes a) after (flat_map address_bytes l.new) found.1 t l.takes;
   count = ap suc l.count;
-  fits = (is, l.fits)
+  fits = (is, l.fits);
 }
 
 pub members_take : (id : ViewId) (n : ℕ) (before : List Address) (bytes : List ℕ) (found : List Address × List ℕ) → IsBytes bytes → members_at id n before bytes ≡ Ok found → Listed before n bytes found
@@ -172,12 +172,12 @@ view_takes bytes v rest fits e =
     let w : Takes b.0.1 (flat_map address_bytes members) c.0.1 = subst (λ (m : List Address). Takes b.0.1 (flat_map address_bytes m) c.0.1) (sym l.whole) l.takes in
     let uw : Takes a.0.1 (addresses_bytes members) c.0.1 = subst (λ (n : ℕ). Takes a.0.1 (big_bytes 1 n ++ flat_map address_bytes members) c.0.1) (sym len) (Takes-then a.0.1 (big_bytes 1 b.0.0) b.0.1 (flat_map address_bytes members) c.0.1 u.0 w) in
     let is : IsView made = record {
-        id = t.1;
-        members = subst (λ (m : List Address). AllByRecursion IsAddress m) (sym l.whole) l.fits;
-        sound = view_sound a.0.0 members (omega (arith, len, u.1)) (omega (arith, len, u.2)) (members_sound a.0.0 b.0.0 [] b.0.1 c.0 tt c.1)
+      id = t.1;
+      members = subst (λ (m : List Address). AllByRecursion IsAddress m) (sym l.whole) l.fits;
+      sound = view_sound a.0.0 members (omega (arith, len, u.1)) (omega (arith, len, u.2)) (members_sound a.0.0 b.0.0 [] b.0.1 c.0 tt c.1);
     } in
     subst (λ (p : View × List ℕ). Takes bytes (view_bytes p.0) p.1 × IsView p.0) (ok_is (made, c.0.1) (v, rest) c.2)
-        (Takes-then bytes (view_id_bytes a.0.0) a.0.1 (addresses_bytes members) c.0.1 t.0 uw, is)
+    (Takes-then bytes (view_id_bytes a.0.0) a.0.1 (addresses_bytes members) c.0.1 t.0 uw, is)
 
 view_again : (v : View) (rest : List ℕ) → IsView v → view_at (view_bytes v ++ rest) ≡ Ok (v, rest)
 unfolding view_at
@@ -185,7 +185,7 @@ view_again v rest fits =
     let s = sound_view v.id v.members fits.sound in
     let left = flat_map address_bytes v.members ++ rest in
     let regrouped : view_bytes v ++ rest ≡ view_id_bytes v.id ++ (big_bytes 1 (length v.members) ++ left) =
-        append_assoc (view_id_bytes v.id) (addresses_bytes v.members) rest ∙ ap (λ (x : List ℕ). view_id_bytes v.id ++ x) (append_assoc (big_bytes 1 (length v.members)) (flat_map address_bytes v.members) rest) in
+    append_assoc (view_id_bytes v.id) (addresses_bytes v.members) rest ∙ ap (λ (x : List ℕ). view_id_bytes v.id ++ x) (append_assoc (big_bytes 1 (length v.members)) (flat_map address_bytes v.members) rest) in
     ap view_at regrouped
     ∙ rw (view_id_part.again v.id (big_bytes 1 (length v.members) ++ left) fits.id, number_again 1 1 MEMBERS Length (length v.members) left (omega (arith, s.1)) s.0 s.1, members_again v.id [] v.members rest fits.members s.2) refl
 

@@ -47,7 +47,7 @@ group_takes bytes name rest fits e =
     let u = bytes_takes a.0.0 a.0.1 b.0.0 b.0.1 t.0.rest_fits b.1 in
     let sized : Takes bytes (group_bytes b.0.0) b.0.1 = back (λ (n : ℕ). Takes bytes (big_bytes 1 n ++ b.0.0) b.0.1) (length b.0.0) a.0.0 u.2 (Takes-then bytes (big_bytes 1 a.0.0) a.0.1 b.0.0 b.0.1 t.0 u.0) in
     along (λ (p : List ℕ × List ℕ). Takes bytes (group_bytes p.0) p.1 × (is_group_name p.0 ≡ true)) (b.0.0, b.0.1) (name, rest) (ok_is b.0 (name, rest) g.1)
-        (sized, name_is b.0.0 (omega (arith, u.2, t.1)) (omega (arith, u.2, t.2)) g.0)
+    (sized, name_is b.0.0 (omega (arith, u.2, t.1)) (omega (arith, u.2, t.2)) g.0)
 
 group_again : (name rest : List ℕ) → is_group_name name ≡ true → group_at (group_bytes name ++ rest) ≡ Ok (name, rest)
 unfolding group_at
@@ -120,7 +120,7 @@ packet_takes bytes p rest fits e =
     let w = address_part.takes c.0.1 d.0.0 d.0.1 v.0.rest_fits d.1 in
     let x = body_takes a.0.0 d.0.1 f.0 w.0.rest_fits t.1.0 t.1.1 f.1 in
     along (λ (r : Packet × List ℕ). Takes bytes (spelling r.0) r.1 × IsPacket r.0) (packet_from b.0.0 c.0.0 d.0.0 f.0.0, f.0.1) (p, rest) (ok_is (packet_from b.0.0 c.0.0 d.0.0 f.0.0, f.0.1) (p, rest) f.2)
-        (packet_joined bytes a.0.0 a.0.1 b.0.0 b.0.1 c.0.0 c.0.1 d.0.0 d.0.1 f.0 t.0 u.0 v.0 w.0 x, record { group = u.1; source = v.1; destination = w.1; body = x.is })
+    (packet_joined bytes a.0.0 a.0.1 b.0.0 b.0.1 c.0.0 c.0.1 d.0.0 d.0.1 f.0 t.0 u.0 v.0 w.0 x, record { group = u.1; source = v.1; destination = w.1; body = x.is })
 
 kind_fits : (b : Body) → IsKind (kind_of b)
 kind_fits bodies.Join = (omega arith, omega arith)
@@ -146,9 +146,9 @@ packet_again p rest is =
     let e2 = address_bytes p.source ++ e3 in
     let e1 = group_bytes p.group ++ e2 in
     let regrouped : spelling p ++ rest ≡ front ++ e1 =
-        append_assoc (header_bytes p) (body_bytes p.body) rest
-        ∙ append_assoc (front ++ group_bytes p.group ++ address_bytes p.source) (address_bytes p.destination) e4
-        ∙ append_assoc (front ++ group_bytes p.group) (address_bytes p.source) e3
-        ∙ append_assoc front (group_bytes p.group) e2 in
+    append_assoc (header_bytes p) (body_bytes p.body) rest
+    ∙ append_assoc (front ++ group_bytes p.group ++ address_bytes p.source) (address_bytes p.destination) e4
+    ∙ append_assoc (front ++ group_bytes p.group) (address_bytes p.source) e3
+    ∙ append_assoc front (group_bytes p.group) e2 in
     ap packet_at regrouped
     ∙ rw (front_again (kind_of p.body) e1 (kind_fits p.body), group_again p.group e2 is.group, address_part.again p.source e3 is.source, address_part.again p.destination e4 is.destination, body_again p.body rest is.body) refl

@@ -102,7 +102,7 @@ filled_takes bytes r rest fits e =
     let made : Report = report_of a.0.0 s d held in
     let is : Filled made = record { stable = v.1; near = v.2; few = omega (arith, x.1, w.1); enough = omega (arith, x.1, w.2); rising = x.3 } in
     subst (λ (p : Report × List ℕ). (v : ViewId) × (p.0.previous ≡ Some v) × Takes bytes (view_id_bytes v ++ number_bytes p.0.stable ++ number_bytes p.0.delivered ++ held_bytes p.0.held) p.1 × IsViewId v × AllByRecursion IsPlaced p.0.held × Filled p.0)
-        (ok_is (made, g.0.1) (r, rest) g.2) (a.0.0, refl, all, t.1, x.2, is)
+    (ok_is (made, g.0.1) (r, rest) g.2) (a.0.0, refl, all, t.1, x.2, is)
 
 pub filled_again : (v : ViewId) (r : Report) (rest : List ℕ) → r.previous ≡ Some v → IsViewId v → AllByRecursion IsPlaced r.held → Filled r
     → filled_at ((view_id_bytes v ++ number_bytes r.stable ++ number_bytes r.delivered ++ held_bytes r.held) ++ rest) ≡ Ok (r, rest)
@@ -113,13 +113,16 @@ filled_again v r rest named fits placed f =
     let e2 = number_bytes r.delivered ++ e3 in
     let e1 = number_bytes r.stable ++ e2 in
     let regrouped : (view_id_bytes v ++ number_bytes r.stable ++ number_bytes r.delivered ++ held_bytes r.held) ++ rest ≡ view_id_bytes v ++ e1 =
-        append_assoc (view_id_bytes v ++ number_bytes r.stable ++ number_bytes r.delivered) (held_bytes r.held) rest
-        ∙ ap (λ (x : List ℕ). (view_id_bytes v ++ number_bytes r.stable ++ number_bytes r.delivered) ++ x) (append_assoc (big_bytes 1 (length r.held)) (flat_map placed_bytes r.held) rest)
-        ∙ append_assoc (view_id_bytes v ++ number_bytes r.stable) (number_bytes r.delivered) e3
-        ∙ append_assoc (view_id_bytes v) (number_bytes r.stable) e2 in
+    append_assoc (view_id_bytes v ++ number_bytes r.stable ++ number_bytes r.delivered) (held_bytes r.held) rest
+    ∙ ap (λ (x : List ℕ). (view_id_bytes v ++ number_bytes r.stable ++ number_bytes r.delivered) ++ x) (append_assoc (big_bytes 1 (length r.held)) (flat_map placed_bytes r.held) rest)
+    ∙ append_assoc (view_id_bytes v ++ number_bytes r.stable) (number_bytes r.delivered) e3
+    ∙ append_assoc (view_id_bytes v) (number_bytes r.stable) e2 in
     ap filled_at regrouped
-    ∙ rw (view_id_part.again v e1 fits, eight_again 0 GREATEST_NUMBER r.stable e2 (omega arith) (omega (arith, f.stable, f.near)) (omega arith),
-        eight_again r.stable (min (r.stable + WINDOW) GREATEST_NUMBER) r.delivered e3 f.stable f.near (omega arith),
-        held_count_again r.stable r.delivered (length r.held) e4 f.few f.enough,
-        held_again r.stable r.delivered r.stable r.held rest (omega (arith, f.near)) placed f.rising)
-        (ap (λ (o : Option ViewId). Ok (record { previous = o; stable = r.stable; delivered = r.delivered; held = r.held }, rest)) (sym named))
+    ∙ rw (
+      view_id_part.again v e1 fits,
+      eight_again 0 GREATEST_NUMBER r.stable e2 (omega arith) (omega (arith, f.stable, f.near)) (omega arith),
+      eight_again r.stable (min (r.stable + WINDOW) GREATEST_NUMBER) r.delivered e3 f.stable f.near (omega arith),
+      held_count_again r.stable r.delivered (length r.held) e4 f.few f.enough,
+      held_again r.stable r.delivered r.stable r.held rest (omega (arith, f.near)) placed f.rising,
+    )
+    (ap (λ (o : Option ViewId). Ok (record { previous = o; stable = r.stable; delivered = r.delivered; held = r.held }, rest)) (sym named))

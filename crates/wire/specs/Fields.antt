@@ -27,8 +27,8 @@ unfoldable pub address_at : List ℕ → Read Address
 address_at bytes = do
   front ← bytes_at 6 bytes
   if nat_le 1 (node_in front.0) && nat_le 1 (incarnation_in front.0)
-    then Ok (record { node = node_in front.0; incarnation = incarnation_in front.0 }, front.1)
-    else Err Value
+      then Ok (record { node = node_in front.0; incarnation = incarnation_in front.0 }, front.1)
+      else Err Value
 
 -- ---- a number: 1 to the greatest, in eight bytes; and a count, which may be 0
 

@@ -6,11 +6,11 @@ ghost use Rattle.wire.specs.Reading.{Gives, rest_of, listed, is_whole, list_at};
 ghost use Rattle.wire.specs.Fields.{payload_at, entry_at, placed_at, IsEntry, IsPlaced, entry_bytes, placed_bytes};
 ghost use Rattle.wire.specs.Lists.{are_held, held_at, highest_next};
 
+use crate::WINDOW;
 use crate::error::WireError;
 use crate::fields::Reader;
 use crate::numbers::{Number, number_at};
 use crate::text::{Payload, payload_at};
-use crate::WINDOW;
 use address::{Address, GREATEST_NUMBER};
 use std::marker::Model;
 
@@ -389,7 +389,12 @@ fn held_before<'a>(stable: u64, delivered: u64, count: u8, bytes: &'a [u8], rest
 }
 
 // A report's entries at the front.
-pub(crate) fn held_at<'a>(stable: u64, delivered: u64, count: u8, from: &mut Reader<'a>) -> Result<Held<'a>, WireError>
+pub(crate) fn held_at<'a>(
+    stable: u64,
+    delivered: u64,
+    count: u8,
+    from: &mut Reader<'a>,
+) -> Result<Held<'a>, WireError>
     requires count { delivered ≤ GREATEST_NUMBER }
     requires near { stable ≤ GREATEST_NUMBER }
     ensures gives { Gives (λ x. (x, from.new)) result (held_at stable delivered stable count from.old) }

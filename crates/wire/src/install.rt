@@ -3,13 +3,13 @@ ghost use Rattle.std.specs.Option.{SomeIff};
 ghost use Rattle.wire.specs.Reading.{Gives};
 ghost use Rattle.wire.specs.Lists.{is_in_order, is_install, items_count_at, install_at};
 
+use crate::WINDOW;
 use crate::entries::{Items, items_at};
 use crate::error::WireError;
 use crate::fields::Reader;
 use crate::members::{Members, Roster, rest_after, together_at, view_at};
 use crate::numbers::{Count, count_at};
 use crate::text::{State, state_at};
-use crate::WINDOW;
 use address::{Address, GREATEST_NUMBER};
 use std::marker::Model;
 use view::MEMBERS;
@@ -53,7 +53,13 @@ fn is_in_order(together: &[Address], members: &[Address]) -> bool
 impl<'a> Install<'a> {
     /// The install of a view. `None` where it is none: nobody goes together, or they are not some of the
     /// members in their order, or there are more entries than the window has, or they pass the greatest number.
-    pub fn new(view: Roster, together: Members, base: Count, items: Items<'a>, state: Option<State<'a>>) -> Option<Install<'a>>
+    pub fn new(
+        view: Roster,
+        together: Members,
+        base: Count,
+        items: Items<'a>,
+        state: Option<State<'a>>,
+    ) -> Option<Install<'a>>
         ensures { SomeIff result (is_install (record { view = view; together = together; base = base; items = items.entry; state = state.entry }) ≡ true) (record { view = view; together = together; base = base; items = items.entry; state = state.entry }) }
     {
         let fits = 1 <= together.len()

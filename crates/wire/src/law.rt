@@ -10,5 +10,4 @@ pub fn one_spelling()
     ensures begins { (p q : PacketValue) (bytes more : List ℕ) → Spells p bytes → Spells q (bytes ++ more) → more ≡ [] }
     // What is spelled is what the bytes are read as.
     ensures read { (p : PacketValue) (bytes : List ℕ) → Spells p bytes → packet_of bytes ≡ Ok p }
-{
-}
+{}

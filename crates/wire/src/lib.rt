@@ -6,10 +6,10 @@ mod entries;
 mod error;
 mod fields;
 mod install;
+mod law;
 mod limits;
 mod members;
 mod numbers;
-mod law;
 mod packet;
 mod reading;
 mod report;
@@ -28,3 +28,6 @@ pub use reading::decode;
 pub use report::Report;
 pub use text::{GroupName, Payload, State};
 pub use writing::{encode, put_entry};
+
+#[cfg(test)]
+mod tests;

@@ -198,7 +198,11 @@ pub(crate) fn rest_after<'a>(address: &Address, members: &'a [Address]) -> Optio
     }
 }
 
-pub(crate) fn together_at(count: u8, roster: &Roster, from: &mut Reader<'_>) -> Result<Members, WireError>
+pub(crate) fn together_at(
+    count: u8,
+    roster: &Roster,
+    from: &mut Reader<'_>,
+) -> Result<Members, WireError>
     requires { count ≤ MEMBERS }
     ensures gives { Gives (λ x. (x, from.new)) result (together_at count roster.now.members [] from.old) }
     ensures count { IfOk result (λ x. length x ≡ count) }

@@ -3,9 +3,9 @@ ghost use Rattle.std.specs.Option.{SomeIff};
 ghost use Rattle.wire.specs.declared.error.WireError.TheVariants.{Value};
 ghost use Rattle.wire.specs.Reading.{Gives, number_at as value_at};
 
+use crate::WINDOW;
 use crate::error::WireError;
 use crate::fields::Reader;
-use crate::WINDOW;
 use address::GREATEST_NUMBER;
 use std::marker::Model;
 

@@ -31,15 +31,27 @@ pub enum Body<'a> {
         entry: Entry<'a>,
     },
     /// 6 NAK: these places are missing.
-    Nak { view: ViewId, missing: Missing },
+    Nak {
+        view: ViewId,
+        missing: Missing,
+    },
     /// 7 ACK: so many are delivered.
-    Ack { view: ViewId, delivered: Count },
+    Ack {
+        view: ViewId,
+        delivered: Count,
+    },
     /// 8 STATUS: how far the order has come.
-    Status { view: ViewId, progress: Progress },
+    Status {
+        view: ViewId,
+        progress: Progress,
+    },
     /// 9 FLUSH: stop for this view.
     Flush(Roster),
     /// 10 BEHIND: your proposal is too old.
-    Behind { proposal: ViewId, counter: Number },
+    Behind {
+        proposal: ViewId,
+        counter: Number,
+    },
     /// 11 REPORT: what I have, for this proposal.
     Report {
         proposal: ViewId,

@@ -4,11 +4,11 @@ ghost use Rattle.wire.specs.Values.{nothing_reported};
 ghost use Rattle.wire.specs.Reading.{Gives};
 ghost use Rattle.wire.specs.Lists.{are_held, is_filled, is_report, held_count_at, filled_at, report_at};
 
+use crate::WINDOW;
 use crate::entries::{Held, held_at, highest_next};
 use crate::error::WireError;
 use crate::fields::Reader;
 use crate::numbers::{Count, count_at};
-use crate::WINDOW;
 use address::{GREATEST_NUMBER, ViewId};
 use std::marker::Model;
 
@@ -76,7 +76,12 @@ impl<'a> Report<'a> {
     /// The report of a member of a view. `None` where the counts are no report's (the stable one is above the
     /// delivered one, or more than the window below it), or the entries are none: their places must rise from
     /// the stable count, by one up to the delivered count, and lie within the window.
-    pub fn new(previous: ViewId, stable: Count, delivered: Count, held: Held<'a>) -> Option<Report<'a>>
+    pub fn new(
+        previous: ViewId,
+        stable: Count,
+        delivered: Count,
+        held: Held<'a>,
+    ) -> Option<Report<'a>>
         ensures { SomeIff result (is_filled (record { previous = Some previous; stable = stable; delivered = delivered; held = held.entry }) ≡ true) (record { previous = Some previous; stable = stable; delivered = delivered; held = held.entry }) }
     {
         if !is_filled(stable, delivered, &held) {

@@ -114,7 +114,11 @@ fn put_entry_text(entry: &Entry<'_>, out: &mut Vec<u8>)
 
 /// Appends an entry's spelling to the vector: for a REPORT with its place in the order before it, for an
 /// INSTALL without. On refusal the vector's items are as they were.
-pub fn put_entry(place: Option<Number>, entry: &Entry<'_>, out: &mut Vec<u8>) -> Result<(), AllocError>
+pub fn put_entry(
+    place: Option<Number>,
+    entry: &Entry<'_>,
+    out: &mut Vec<u8>,
+) -> Result<(), AllocError>
     ensures ok { OnOk result (out.new.items ≡ out.old.items ++ listed_bytes place entry.now) }
     ensures err { OnErr result (out.new.items ≡ out.old.items) }
     ensures entry { OnOk result (IsEntry entry.now) }
@@ -167,7 +171,12 @@ fn put_counts(previous: ViewId, report: &Report<'_>, out: &mut Vec<u8>)
     ensures room { vec_capacity out.old ≤ vec_capacity out.new }
     ensures fits { IsViewId previous }
 {
-    put_numbers(previous, report.stable().get(), report.delivered().get(), out);
+    put_numbers(
+        previous,
+        report.stable().get(),
+        report.delivered().get(),
+        out,
+    );
 }
 
 fn put_held(held: &Held<'_>, out: &mut Vec<u8>)
@@ -327,7 +336,12 @@ fn put_body(body: &Body<'_>, out: &mut Vec<u8>)
         }
         Body::Ack { view, delivered } => put_number(*view, delivered.get(), out),
         Body::Status { view, progress } => {
-            put_numbers(*view, progress.highest().get(), progress.stable().get(), out);
+            put_numbers(
+                *view,
+                progress.highest().get(),
+                progress.stable().get(),
+                out,
+            );
         }
         Body::Flush(proposal) => put_view(proposal, out),
         Body::Behind { proposal, counter } => put_number(*proposal, counter.get(), out),

@@ -24,7 +24,7 @@ loop-preserved c =
     let e = subst (λ (h : ℕ). number_at 8 (c.loop.last + 1) h Value c.loop.from ≡ Ok (c.in_ok-last.last, c.u64.new.self)) c.highest_next-highest.ensures c.in_ok-last.ensures.gives in
     record {
       read = held_goes_on c.args.stable c.args.delivered c.loop.last c.args.count c.loop.counter c.loop.from c.in_ok-last.last c.u64.new.self c.in_ok-entry_at.field-0 c.entry_at.new.from (rest_of (held_at c.args.stable c.args.delivered c.args.stable c.args.count c.args.from.now)) c.loop-test.true e c.in_ok-entry_at.ensures c.loop.invariant.read;
-      small = omega (arith, c.in_ok-last.ensures.in_range, c.highest_next-highest.ensures, highest_next-le c.args.stable c.args.delivered c.loop.last c.requires.count)
+      small = omega (arith, c.in_ok-last.ensures.in_range, c.highest_next-highest.ensures, highest_next-le c.args.stable c.args.delivered c.loop.last c.requires.count);
     }
 
 pub returns : goal.returns

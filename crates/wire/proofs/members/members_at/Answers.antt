@@ -25,7 +25,7 @@ loop-preserved c =
     record {
       read = rw (c.push.ensures) (members_go_on c.args.id c.args.count c.loop.counter c.loop.members c.loop.from a c.address.new.self (members_at c.args.id c.args.count [] c.args.from.now) c.loop-test.true c.in_ok-address.ensures ok c.loop.invariant.read);
       count = rw (c.push.ensures) (omega (arith, length-append {A = Address}));
-      sound = rw (c.push.ensures) (sound_push c.args.id c.loop.members a c.loop.invariant.sound ok)
+      sound = rw (c.push.ensures) (sound_push c.args.id c.loop.members a c.loop.invariant.sound ok);
     }
 
 pub returns-clause-gives : goal.returns-clause-gives

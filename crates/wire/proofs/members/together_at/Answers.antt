@@ -20,7 +20,7 @@ pub loop-preserved : goal.loop-preserved
 loop-preserved c =
     record {
       read = rw (c.push.ensures) (together_goes_on c.args.count c.loop.counter c.loop.left.now c.loop.together c.loop.from c.in_ok-address.address c.address.new.self c.in-Some.others.now (together_at c.args.count c.args.roster.now.members [] c.args.from.now) c.loop-test.true c.in_ok-address.ensures (sym c.in-Some.ensures) c.loop.invariant.read);
-      count = rw (c.push.ensures) (omega (arith, length-append {A = Address}))
+      count = rw (c.push.ensures) (omega (arith, length-append {A = Address}));
     }
 
 pub returns-clause-gives : goal.returns-clause-gives
