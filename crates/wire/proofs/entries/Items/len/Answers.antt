@@ -1,0 +1,7 @@
+use Rattle.std.proofs.Common.{length, sym, ap, ◌∙◌}
+use Rattle.wire.specs.Fields.{entry_at}
+use Rattle.wire.proofs.Loops.{whole_count}
+use Rattle.wire.proofs.entries.Items.len.Goals as goal
+
+pub returns-clause-count : goal.returns-clause-count
+returns-clause-count c = sym (whole_count entry_at c.self.inside.count c.self.inside.bytes.now c.self.invariant) ∙ ap length c.self.view_is

@@ -1,0 +1,33 @@
+//! Packets and their bytes: each packet has one spelling, and any bytes are a packet's spelling or
+//! refused with the first field that fails (docs/WIRE.md).
+#![tactic(auto)]
+
+mod entries;
+mod error;
+mod fields;
+mod install;
+mod law;
+mod limits;
+mod members;
+mod numbers;
+mod packet;
+mod reading;
+mod report;
+mod text;
+mod writing;
+
+pub use entries::{Entry, Held, Items};
+pub use error::WireError;
+pub use install::Install;
+pub use law::one_spelling;
+pub use limits::{DATAGRAM, GROUP_NAME, KINDS, MAGIC, PAYLOAD, STATE, VERSION, WINDOW};
+pub use members::{Members, Roster};
+pub use numbers::{Count, Missing, Number, Progress};
+pub use packet::{Body, Packet};
+pub use reading::decode;
+pub use report::Report;
+pub use text::{GroupName, Payload, State};
+pub use writing::{encode, put_entry};
+
+#[cfg(test)]
+mod tests;
