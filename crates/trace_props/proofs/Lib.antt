@@ -3,3 +3,4 @@ pub mod Observing
 pub mod Telling
 pub mod Installs
 pub mod Following
+pub mod Needed
