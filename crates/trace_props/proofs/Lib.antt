@@ -4,3 +4,4 @@ pub mod Telling
 pub mod Installs
 pub mod Following
 pub mod Needed
+pub mod Standing
