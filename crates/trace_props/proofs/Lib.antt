@@ -5,3 +5,5 @@ pub mod Installs
 pub mod Following
 pub mod Needed
 pub mod Standing
+pub mod Meeting
+pub mod Knowing

@@ -5,3 +5,4 @@ pub mod Rules
 pub mod State
 pub mod Synchrony
 pub mod Following
+pub mod Agreeing
