@@ -7,3 +7,5 @@ pub mod Needed
 pub mod Standing
 pub mod Meeting
 pub mod Knowing
+pub mod Handing
+pub mod Entering
