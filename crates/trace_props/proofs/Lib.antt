@@ -9,3 +9,4 @@ pub mod Meeting
 pub mod Knowing
 pub mod Handing
 pub mod Entering
+pub mod Seats

@@ -6,3 +6,4 @@ pub mod State
 pub mod Synchrony
 pub mod Following
 pub mod Agreeing
+pub mod Known

@@ -3,6 +3,7 @@
 
 mod bytes;
 mod happening;
+mod known;
 mod trace;
 
 pub use bytes::Bytes;
