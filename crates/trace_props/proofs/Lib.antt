@@ -10,3 +10,5 @@ pub mod Knowing
 pub mod Handing
 pub mod Entering
 pub mod Seats
+pub mod Stands
+pub mod Noting

@@ -7,7 +7,7 @@ use Rattle.std.proofs.lemmas.Bool.Decides.{nat_tests}
 use Rattle.std.proofs.lemmas.Bool.{and_parts, cond-true, cond-false}
 use Rattle.std.proofs.lemmas.Option.{slice_get_read, slice_get-map}
 use Rattle.address.specs.Ids.{Address, ViewId, address_cmp, view_id_cmp, same_address, same_view_id}
-use Rattle.trace_props.specs.declared.known.lists.Seat.{Seat}
+use Rattle.trace_props.specs.declared.known.seat.Seat.{Seat}
 use Rattle.trace_props.specs.Known.{seat_cmp, same_seat, listed}
 use Rattle.trace_props.proofs.Observing.{same_address-true, same_view_id-true}
 
@@ -16,7 +16,7 @@ is_eq-nat : (a b : ℕ) → is_eq (nat_cmp a b) ≡ nat_eq a b
 is_eq-nat a b = grind (arith, nat_tests)
 
 -- two comparisons one after the other are equal exactly if both are
-is_eq-then : (a b : Ordering) → is_eq (ordering_then a b) ≡ (is_eq a && is_eq b)
+pub is_eq-then : (a b : Ordering) → is_eq (ordering_then a b) ≡ (is_eq a && is_eq b)
 is_eq-then Less b = refl
 is_eq-then Equal b = refl
 is_eq-then Greater b = refl

@@ -1,1 +1,5 @@
+//! What a checker keeps of the happenings so far.
 mod lists;
+mod notes;
+mod seat;
+mod standing;

@@ -1,19 +1,12 @@
 ghost use Rattle.std.specs.Prelude.{◌≡◌, ◌++◌, ◌∷◌, [], if◌then◌else◌, OnOk, length, slice_get, None};
 ghost use Rattle.std.specs.Option.{option_copied};
 ghost use Rattle.std.specs.BTreeMap.{get};
-ghost use Rattle.trace_props.specs.declared.known.lists.Seat.{Seat};
+ghost use Rattle.trace_props.specs.declared.known.seat.Seat.{Seat};
 ghost use Rattle.trace_props.specs.Known.{same_seat, seat_cmp, listed};
 
-use address::{Address, ViewId};
+use super::seat::Seat;
 use std::alloc::{AllocError, Global};
 use std::collections::BTreeMap;
-
-/// A member in a view.
-#[derive(Clone, Copy, Debug, PartialEq, Eq, PartialOrd, Ord)]
-pub struct Seat {
-    pub view: ViewId,
-    pub member: Address,
-}
 
 /// A list for each member in each view, empty at first. Contracts see it as a function.
 #[derive(Drop)]
