@@ -266,21 +266,30 @@ no-first m t h e r = registers-still is_of m t h (sym e) r
 pub no-way : (m : Way → Option (Bor Install)) (t : List Happening) (h : Happening) → None ≡ install_of h → KnowsWays m t → KnowsWays m (t ++ h ∷ [])
 no-way m t h e r = registers-still (λ (k : Way) j. goes k.from k.to j) m t h (sym e) r
 
--- one that installs
-pub an-entry : (m n : Seat → Option (Bor Install)) (t : List Happening) (h : Happening) (i : Bor Install) → Some i.now ≡ install_of h
-    → MatchBool (is_some (m (seat_of_install i.now))) ((k : Seat) → n k ≡ m k) ((k : Seat) → n k ≡ cond (is_eq (seat_cmp (seat_of_install i.now) k)) (Some i) (m k))
+-- one that installs; v is the view's id
+pub an-entry : (m n : Seat → Option (Bor Install)) (t : List Happening) (h : Happening) (i : Bor Install) (v : ViewId) → Some i.now ≡ install_of h → v ≡ i.now.view.id
+    → MatchBool (is_some (m (record { view = v; member = i.now.member }))) ((k : Seat) → n k ≡ m k) ((k : Seat) → n k ≡ cond (is_eq (seat_cmp (record { view = v; member = i.now.member }) k)) (Some i) (m k))
     → KnowsEntries m t → KnowsEntries n (t ++ h ∷ [])
-an-entry m n t h i e updates r = subst (λ (x : Happening). KnowsEntries n (t ++ x ∷ [])) (sym (install_of-some h i.now (sym e))) (entry-noted m n t i updates r)
+an-entry m n t h i v e same updates r =
+    subst (λ (x : Happening). KnowsEntries n (t ++ x ∷ [])) (sym (install_of-some h i.now (sym e)))
+      (entry-noted m n t i
+        (subst (λ (x : ViewId). MatchBool (is_some (m (record { view = x; member = i.now.member }))) ((k : Seat) → n k ≡ m k) ((k : Seat) → n k ≡ cond (is_eq (seat_cmp (record { view = x; member = i.now.member }) k)) (Some i) (m k))) same updates) r)
 
-pub a-first : (m n : ViewId → Option (Bor Install)) (t : List Happening) (h : Happening) (i : Bor Install) → Some i.now ≡ install_of h
-    → MatchBool (is_some (m i.now.view.id)) ((k : ViewId) → n k ≡ m k) ((k : ViewId) → n k ≡ cond (is_eq (view_id_cmp i.now.view.id k)) (Some i) (m k))
+pub a-first : (m n : ViewId → Option (Bor Install)) (t : List Happening) (h : Happening) (i : Bor Install) (v : ViewId) → Some i.now ≡ install_of h → v ≡ i.now.view.id
+    → MatchBool (is_some (m v)) ((k : ViewId) → n k ≡ m k) ((k : ViewId) → n k ≡ cond (is_eq (view_id_cmp v k)) (Some i) (m k))
     → KnowsFirsts m t → KnowsFirsts n (t ++ h ∷ [])
-a-first m n t h i e updates r = subst (λ (x : Happening). KnowsFirsts n (t ++ x ∷ [])) (sym (install_of-some h i.now (sym e))) (first-noted m n t i updates r)
+a-first m n t h i v e same updates r =
+    subst (λ (x : Happening). KnowsFirsts n (t ++ x ∷ [])) (sym (install_of-some h i.now (sym e)))
+      (first-noted m n t i
+        (subst (λ (x : ViewId). MatchBool (is_some (m x)) ((k : ViewId) → n k ≡ m k) ((k : ViewId) → n k ≡ cond (is_eq (view_id_cmp x k)) (Some i) (m k))) same updates) r)
 
-pub a-way : (m n : Way → Option (Bor Install)) (t : List Happening) (h : Happening) (i : Bor Install) (v : ViewId) → Some i.now ≡ install_of h → i.now.previous ≡ Some v
-    → MatchBool (is_some (m (way_of v i.now))) ((k : Way) → n k ≡ m k) ((k : Way) → n k ≡ cond (is_eq (way_cmp (way_of v i.now) k)) (Some i) (m k))
+pub a-way : (m n : Way → Option (Bor Install)) (t : List Happening) (h : Happening) (i : Bor Install) (u v : ViewId) → Some i.now ≡ install_of h → i.now.previous ≡ Some u → v ≡ i.now.view.id
+    → MatchBool (is_some (m (record { from = u; to = v }))) ((k : Way) → n k ≡ m k) ((k : Way) → n k ≡ cond (is_eq (way_cmp (record { from = u; to = v }) k)) (Some i) (m k))
     → KnowsWays m t → KnowsWays n (t ++ h ∷ [])
-a-way m n t h i v e came updates r = subst (λ (x : Happening). KnowsWays n (t ++ x ∷ [])) (sym (install_of-some h i.now (sym e))) (way-noted m n t i v came updates r)
+a-way m n t h i u v e came same updates r =
+    subst (λ (x : Happening). KnowsWays n (t ++ x ∷ [])) (sym (install_of-some h i.now (sym e)))
+      (way-noted m n t i u came
+        (subst (λ (x : ViewId). MatchBool (is_some (m (record { from = u; to = x }))) ((k : Way) → n k ≡ m k) ((k : Way) → n k ≡ cond (is_eq (way_cmp (record { from = u; to = x }) k)) (Some i) (m k))) same updates) r)
 
 pub no-way-from : (m : Way → Option (Bor Install)) (t : List Happening) (h : Happening) (i : Bor Install) → Some i.now ≡ install_of h → i.now.previous ≡ None → KnowsWays m t → KnowsWays m (t ++ h ∷ [])
 no-way-from m t h i e none r = subst (λ (x : Happening). KnowsWays m (t ++ x ∷ [])) (sym (install_of-some h i.now (sym e))) (way-none m t i.now none r)
