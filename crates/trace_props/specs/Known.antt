@@ -114,3 +114,20 @@ delivery_of (Blocked p) = None
 delivery_of (Installed i) = None
 delivery_of (Left p) = None
 delivery_of (Crashed p) = None
+
+-- ALL OF IT
+
+-- all that is kept says what the trace says
+pub record KnowsPast {Y Z : Type 0} (standings : Address → Option Standing) (sent : Seat → Option (Vec (Bor Numbered) Y)) (told : Seat → Option (Vec (Bor Message) Z)) (last : Pair → Option ℕ)
+    (entries : Seat → Option (Bor Install)) (firsts : ViewId → Option (Bor Install)) (ways : Way → Option (Bor Install)) (t : List Happening) : Type 0 where
+  pub standings_known : KnowsStandings standings t
+  pub sent_known : KnowsSent sent t
+  pub told_known : KnowsTold told t
+  pub last_known : KnowsLast last t
+  pub entries_known : KnowsEntries entries t
+  pub firsts_known : KnowsFirsts firsts t
+  pub ways_known : KnowsWays ways t
+
+-- what references point to
+abbrev pub pointed : {T : Type 0} → List (Bor T) → List T
+pointed items = map (λ b. b.now) items

@@ -1,5 +1,6 @@
 //! What a checker keeps of the happenings so far.
 mod lists;
 mod notes;
+mod past;
 mod seat;
 mod standing;
