@@ -12,3 +12,4 @@ pub mod Entering
 pub mod Seats
 pub mod Stands
 pub mod Noting
+pub mod Deciding

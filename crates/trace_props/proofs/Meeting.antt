@@ -26,11 +26,11 @@ pub same-length : (t : List Happening) (p q : Address) (v : ViewId) → HasOneOr
 same-length t p q v order e = order p v ∙ ap (λ n. take n (delivered_in v.creator v t)) e ∙ sym (order q v)
 
 -- an install from a view is from that view by the test
-is_view-from : (v : ViewId) (o : Option ViewId) → o ≡ Some v → is_view v o ≡ true
+pub is_view-from : (v : ViewId) (o : Option ViewId) → o ≡ Some v → is_view v o ≡ true
 is_view-from v None e = absurd (none-some v e)
 is_view-from v (Some u) e = same_view_id-from u v (same_Some u v e)
 
-is_view-true : (v : ViewId) (o : Option ViewId) → is_view v o ≡ true → o ≡ Some v
+pub is_view-true : (v : ViewId) (o : Option ViewId) → is_view v o ≡ true → o ≡ Some v
 is_view-true v None e = absurd (true≢false (sym e))
 is_view-true v (Some u) e = ap Some (same_view_id-true u v e)
 

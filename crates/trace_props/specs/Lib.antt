@@ -7,3 +7,4 @@ pub mod Synchrony
 pub mod Following
 pub mod Agreeing
 pub mod Known
+pub mod Judged

@@ -4,3 +4,6 @@ mod notes;
 mod past;
 mod seat;
 mod standing;
+
+pub use past::Past;
+pub use standing::{member, Standing};

@@ -3,6 +3,7 @@
 
 mod bytes;
 mod happening;
+mod judge;
 mod known;
 mod trace;
 
