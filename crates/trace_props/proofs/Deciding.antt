@@ -167,3 +167,11 @@ pub order-decides : (t : List Happening) (d : Delivery)
 order-decides t d =
     else-decides (same_address d.member d.view.creator) (is_message (slice_get (delivered_in d.view.creator d.view t) (length (delivered_in d.member d.view t))) d.message)
       (message-decides (slice_get (delivered_in d.view.creator d.view t) (length (delivered_in d.member d.view t))) d.message)
+
+-- where the member is not the first one, the test asks what that one was told
+pub order-else : (t : List Happening) (d : Delivery) (a b : Address) (e r : Bool) → a ≡ d.view.creator → b ≡ d.view.creator → e ≡ same_address d.member a → e ≡ false
+    → r ≡ is_message (slice_get (delivered_in b d.view t) (length (delivered_in d.member d.view t))) d.message
+    → r ≡ (same_address d.member d.view.creator || is_message (slice_get (delivered_in d.view.creator d.view t) (length (delivered_in d.member d.view t))) d.message)
+order-else t d a b e r first too test apart is =
+    is ∙ ap (λ x. is_message (slice_get (delivered_in x d.view t) (length (delivered_in d.member d.view t))) d.message) too
+      ∙ ap (λ x. x || is_message (slice_get (delivered_in d.view.creator d.view t) (length (delivered_in d.member d.view t))) d.message) (sym apart ∙ test ∙ ap (same_address d.member) first)

@@ -61,3 +61,41 @@ is_numbered (Some n) m = nat_eq n.number m.number && bytes_eq n.payload m.payloa
 abbrev pub is_message : Option Message → Message → Bool
 is_message None m = false
 is_message (Some n) m = same_address n.sender m.sender && nat_eq n.number m.number && bytes_eq n.payload m.payload
+
+-- SAME NEXT VIEW
+
+-- as many messages as the first who went the same way, if there is one
+abbrev pub is_level : Option Install → ViewId → Address → List Happening → Bool
+is_level None v p t = true
+is_level (Some f) v p t = nat_eq (length (delivered_in f.member v t)) (length (delivered_in p v t))
+
+abbrev pub meets : Option ViewId → Install → List Happening → Bool
+meets None i t = true
+meets (Some v) i t = is_level (first_from v i.view.id t) v i.member t
+
+-- TOGETHER
+
+abbrev pub lies_within : List Address → List Address → Bool
+lies_within ps qs = list_all (λ q. stands_in q qs) ps
+
+abbrev pub inside_first : Option Install → List Address → Bool
+inside_first None together = true
+inside_first (Some f) together = lies_within together f.view.members
+
+abbrev pub inside_previous : Option ViewId → List Address → List Happening → Bool
+inside_previous None together t = true
+inside_previous (Some v) together t = inside_first (first_install v t) together
+
+-- both or neither
+abbrev pub alike : Bool → Bool → Bool
+alike true b = b
+alike false b = not b
+
+abbrev pub know_each_other : Option Install → Install → Bool
+know_each_other None i = true
+know_each_other (Some f) i = alike (stands_in f.member i.together) (same_previous f.previous i.previous) && alike (stands_in i.member f.together) (same_previous i.previous f.previous)
+
+abbrev pub knows_all : List Happening → Install → Bool
+knows_all t i =
+    lies_within i.together i.view.members && inside_previous i.previous i.together t && stands_in i.member i.together
+    && list_all (λ q. know_each_other (entry_of q i.view.id t) i) i.view.members

@@ -1,4 +1,5 @@
 //! The rules on the next happening, as tests against what is known of the past.
+mod agree;
 mod messages;
 mod placed;
 mod views;
