@@ -48,7 +48,7 @@ not-decides a = ((λ e. not-true a e), (λ e. not_from_false a e))
 unit-decides : Decides true (Unit {0})
 unit-decides = ((λ e. tt), (λ x. refl))
 
-nat_eq-decides : (a b : ℕ) → Decides (nat_eq a b) (a ≡ b)
+pub nat_eq-decides : (a b : ℕ) → Decides (nat_eq a b) (a ≡ b)
 nat_eq-decides a b = ((λ e. eqb-true a b e), (λ e. eq-eqb a b e))
 
 is_view-decides : (v : ViewId) (o : Option ViewId) → Decides (is_view v o) (o ≡ Some v)
@@ -64,7 +64,7 @@ runs-decides p t = same-decides (has_started p t && not (has_ended p t)) (and-de
     (λ x. record { started = x.0; going = x.1 }) (λ r. (r.started, r.going))
 
 -- three tests together
-and3-decides : {P Q R : Type 0} (a b c : Bool) → Decides a P → Decides b Q → Decides c R → Decides (a && b && c) (P × Q × R)
+pub and3-decides : {P Q R : Type 0} (a b c : Bool) → Decides a P → Decides b Q → Decides c R → Decides (a && b && c) (P × Q × R)
 and3-decides a b c p q r = same-decides (a && b && c) (and-decides (a && b) c (and-decides a b p q) r) (λ x. (x.0.0, x.0.1, x.1)) (λ x. ((x.0, x.1), x.2))
 
 -- the test decides whether a happening may stand

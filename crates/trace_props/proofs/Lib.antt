@@ -13,3 +13,4 @@ pub mod Seats
 pub mod Stands
 pub mod Noting
 pub mod Deciding
+pub mod Agreed

@@ -99,3 +99,9 @@ abbrev pub knows_all : List Happening → Install → Bool
 knows_all t i =
     lies_within i.together i.view.members && inside_previous i.previous i.together t && stands_in i.member i.together
     && list_all (λ q. know_each_other (entry_of q i.view.id t) i) i.view.members
+
+-- HANDED BACK
+
+abbrev pub are_equal : Option Numbered → Numbered → Bool
+are_equal None m = false
+are_equal (Some n) m = nat_eq n.number m.number && bytes_eq n.payload m.payload

@@ -2,4 +2,5 @@
 mod agree;
 mod messages;
 mod placed;
+mod rest;
 mod views;
