@@ -86,11 +86,11 @@ entry_state-new opening apply decode v t h e =
     entry-cond opening apply decode v t h false = refl
 
 -- nothing is known of a state of entry that no place has
-entry_state-none : {S : Type 0} (opening : S) (apply : S → Address → List ℕ → S) (decode : List ℕ → Option S) (v : ViewId) (t : List Happening)
+pub entry_state-none : {S : Type 0} (opening : S) (apply : S → Address → List ℕ → S) (decode : List ℕ → Option S) (v : ViewId) (t : List Happening)
     → position_from (installs v.creator v) 0 t ≡ None → entry_state opening apply decode v t ≡ None
 entry_state-none opening apply decode v t e = ap (entry_at opening apply decode v t) (position_from-zero (installs v.creator v) t ∙ e)
 
-entry_state-some : {S : Type 0} (opening : S) (apply : S → Address → List ℕ → S) (decode : List ℕ → Option S) (v : ViewId) (t : List Happening) (k : ℕ)
+pub entry_state-some : {S : Type 0} (opening : S) (apply : S → Address → List ℕ → S) (decode : List ℕ → Option S) (v : ViewId) (t : List Happening) (k : ℕ)
     → position_from (installs v.creator v) 0 t ≡ Some k → entry_state opening apply decode v t ≡ Some (state_of opening apply decode v.creator (take (k + 1) t))
 entry_state-some opening apply decode v t k e = ap (entry_at opening apply decode v t) (position_from-zero (installs v.creator v) t ∙ e)
 

@@ -14,3 +14,5 @@ pub mod Stands
 pub mod Noting
 pub mod Deciding
 pub mod Agreed
+pub mod Copying
+pub mod Installing

@@ -8,3 +8,4 @@ pub mod Following
 pub mod Agreeing
 pub mod Known
 pub mod Judged
+pub mod Copies

@@ -4,6 +4,7 @@ mod notes;
 mod past;
 mod seat;
 mod standing;
+mod states;
 
 pub use past::Past;
 pub use standing::{member, Standing};
