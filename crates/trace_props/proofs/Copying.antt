@@ -135,3 +135,21 @@ taken-is decode is_state decodes (Some g) s a = given-is decode is_state decodes
 -- equal bytes are of equal states
 pub same-bytes : {S : Type 0} (decode : List ℕ → Option S) (encode : S → List ℕ) (is_state : S → Type 0) (reads_back : (s : S) → is_state s → decode (encode s) ≡ Some s) (s x : S) → is_state s → is_state x → encode s ≡ encode x → s ≡ x
 same-bytes decode encode is_state reads_back s x a b e = same_Some s x (sym (reads_back s a) ∙ ap decode e ∙ reads_back x b)
+
+-- a change at one member after none
+pub changed-after : {S : Type 0} (m k n : Address → S) (p : Address) (f : S → S) → ((q : Address) → k q ≡ m q) → ((q : Address) → n q ≡ cond (same_address p q) (f (k p)) (k q))
+    → (q : Address) → n q ≡ cond (same_address p q) (f (m p)) (m q)
+changed-after m k n p f same after q = after q ∙ ap (λ x. cond (same_address p q) (f x) (k q)) (same p) ∙ ap (λ x. cond (same_address p q) (f (m p)) x) (same q)
+
+-- a message whose payload was lent is applied
+pub message-heard : {S : Type 0} (opening : S) (apply : S → Address → List ℕ → S) (decode : List ℕ → Option S) (encode : S → List ℕ) (is_state : S → Type 0)
+    (applies : (s : S) (from : Address) (payload : List ℕ) → is_state s → IsAddress from → length payload ≤ PAYLOAD → is_state (apply s from payload))
+    (m k n : Address → Option S) (e : ViewId → Option (List ℕ)) (t : List Happening) (d : Delivery) (payload : List ℕ) → IsAddress d.message.sender → length d.message.payload ≤ PAYLOAD → payload ≡ d.message.payload
+    → ((q : Address) → unwrap_or (k q) opening ≡ unwrap_or (m q) opening)
+    → ((q : Address) → unwrap_or (n q) opening ≡ cond (same_address d.member q) (apply (unwrap_or (k d.member) opening) d.message.sender payload) (unwrap_or (k q) opening))
+    → KnowsStates opening apply decode encode is_state m e t → KnowsStates opening apply decode encode is_state n e (t ++ Delivered d ∷ [])
+message-heard opening apply decode encode is_state applies m k n e t d payload from short lent same updates r =
+    message-known opening apply decode encode is_state applies m n e t d from short
+      (changed-after (λ q. unwrap_or (m q) opening) (λ q. unwrap_or (k q) opening) (λ q. unwrap_or (n q) opening) d.member (λ s. apply s d.message.sender d.message.payload) same
+        (λ q. updates q ∙ ap (λ x. cond (same_address d.member q) (apply (unwrap_or (k d.member) opening) d.message.sender x) (unwrap_or (k q) opening)) lent))
+      r

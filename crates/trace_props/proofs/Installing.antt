@@ -7,8 +7,13 @@ use Rattle.std.proofs.lemmas.Option.{none-some, same_Some}
 use Rattle.std.proofs.lemmas.Slice.Eq.{bytes_eq-Decides}
 use Rattle.address.specs.Ids.{Address, ViewId, same_address, same_view_id}
 use Rattle.trace_props.specs.declared.happening.Happening.{Happening}
-use Rattle.trace_props.specs.declared.happening.Happening.TheVariants.{Installed}
+use Rattle.trace_props.specs.declared.happening.Happening.TheVariants.{Delivered, Installed}
 use Rattle.trace_props.specs.declared.happening.Install.{Install}
+use Rattle.trace_props.specs.declared.happening.Delivery.{Delivery}
+use Rattle.trace_props.specs.Observed.{install_of}
+use Rattle.trace_props.specs.Known.{delivery_of}
+use Rattle.trace_props.proofs.Telling.{install_of-some}
+use Rattle.trace_props.proofs.Noting.{delivery-is}
 use Rattle.trace_props.specs.State.{state_of, installs, entry_state}
 use Rattle.trace_props.specs.Agreeing.{MayEnter}
 use Rattle.trace_props.specs.Copies.{KnowsStates, EntersWith}
@@ -132,3 +137,14 @@ module _ {S : Type 0} (opening : S) (apply : S → Address → List ℕ → S) (
       let states = has-states m n e t i updates r in
       entered-by m n e f t i bytes first ok (entry_state opening apply decode i.view.id t) refl r states given (is ∙ ap encode (states.known i.member)) test
         (subst (λ (o : Option (List ℕ)). MatchOption o ((ok ≡ first) × ((w : ViewId) → f w ≡ cond (first && same_view_id i.view.id w) (Some bytes) (e w))) (λ x. (ok ≡ bytes_eq x bytes) × ((w : ViewId) → f w ≡ e w))) (r.entering_known i.view.id) enters)
+
+-- what holds of an install holds of the happening that installs it
+pub of-install : (P : Happening → Type 0) (h : Happening) (i : Install) → Some i ≡ install_of h → P (Installed i) → P h
+of-install P h i e p = subst P (sym (install_of-some h i (sym e))) p
+
+-- a message that is told keeps the rule on states
+pub of-delivery : {S : Type 0} (opening : S) (apply : S → Address → List ℕ → S) (decode : List ℕ → Option S) (P : List Happening → Type 0) (t : List Happening) (h : Happening) (d : Delivery) → Some d ≡ delivery_of h
+    → P (t ++ Delivered d ∷ []) → MayEnter opening apply decode t h × P (t ++ h ∷ [])
+of-delivery opening apply decode P t h d e p =
+    let same = sym (delivery-is h d (sym e)) in
+    (subst (λ (x : Happening). MayEnter opening apply decode t x) same tt, subst (λ (x : Happening). P (t ++ x ∷ [])) same p)

@@ -16,3 +16,4 @@ pub mod Deciding
 pub mod Agreed
 pub mod Copying
 pub mod Installing
+pub mod Ruling

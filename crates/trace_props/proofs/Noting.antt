@@ -190,7 +190,7 @@ way-none m t i none r k =
 -- BY WHAT A HAPPENING TELLS
 
 -- a happening that gives a message sends it
-sending-is : (h : Happening) (s : Sending) → sending_of h ≡ Some s → h ≡ Sent s
+pub sending-is : (h : Happening) (s : Sending) → sending_of h ≡ Some s → h ≡ Sent s
 sending-is (Started q) s e = absurd (none-some s e)
 sending-is (Sent x) s e = ap Sent (same_Some x s e)
 sending-is (Delivered d) s e = absurd (none-some s e)
@@ -209,7 +209,7 @@ sending-none (Left q) e p v = refl
 sending-none (Crashed q) e p v = refl
 
 -- a happening that gives a delivery tells it
-delivery-is : (h : Happening) (d : Delivery) → delivery_of h ≡ Some d → h ≡ Delivered d
+pub delivery-is : (h : Happening) (d : Delivery) → delivery_of h ≡ Some d → h ≡ Delivered d
 delivery-is (Started q) s e = absurd (none-some s e)
 delivery-is (Sent x) s e = absurd (none-some s e)
 delivery-is (Delivered x) s e = ap Delivered (same_Some x s e)

@@ -9,3 +9,4 @@ pub mod Agreeing
 pub mod Known
 pub mod Judged
 pub mod Copies
+pub mod Verdicts

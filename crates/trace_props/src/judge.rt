@@ -3,4 +3,7 @@ mod agree;
 mod messages;
 mod placed;
 mod rest;
+mod rules;
 mod views;
+
+pub use rules::broken_rule;

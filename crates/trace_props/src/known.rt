@@ -6,5 +6,7 @@ mod seat;
 mod standing;
 mod states;
 
+pub use notes::{delivery_in, install_in, sending_in};
 pub use past::Past;
 pub use standing::{member, Standing};
+pub use states::States;

@@ -6,7 +6,9 @@ mod happening;
 mod judge;
 mod known;
 mod trace;
+mod verdict;
 
 pub use bytes::Bytes;
 pub use happening::{Delivery, HandedBack, Happening, Install, Message, Numbered, Sending};
 pub use trace::Trace;
+pub use verdict::{Rule, Verdict};
