@@ -17,3 +17,4 @@ pub mod Agreed
 pub mod Copying
 pub mod Installing
 pub mod Ruling
+pub mod Judging

@@ -63,3 +63,24 @@ May StateOfEntry t h = Unit {0}
 abbrev pub MayEach : List Rule → List Happening → Happening → Type 0
 MayEach [] t h = Unit {0}
 MayEach (r ∷ rs) t h = May r t h × MayEach rs t h
+
+-- the condition for each rule
+abbrev pub MayRule : {S : Type 0} → S → (S → Address → List ℕ → S) → (List ℕ → Option S) → Rule → List Happening → Happening → Type 0
+MayRule opening apply decode WellPlaced t h = MayStand t h
+MayRule opening apply decode RisingViews t h = MayRise t h
+MayRule opening apply decode SoundMessages t h = MayCarry t h
+MayRule opening apply decode OneOrder t h = MayOrder t h
+MayRule opening apply decode SameNext t h = MayMeet t h
+MayRule opening apply decode Together t h = MayKnow t h
+MayRule opening apply decode HandedBack t h = MayHandBack t h
+MayRule opening apply decode StateOfEntry t h = MayEnter opening apply decode t h
+
+-- the rule's condition fails, and those of all rules before it do not
+pub record BreaksNext {S : Type 0} (opening : S) (apply : S → Address → List ℕ → S) (decode : List ℕ → Option S) (rule : Rule) (t : List Happening) (h : Happening) : Type 0 where
+  pub lesser : MayEach (rules_before rule) t h
+  pub broken : MayRule opening apply decode rule t h → ⊥
+
+-- all conditions
+pub record GoesOn {S : Type 0} (opening : S) (apply : S → Address → List ℕ → S) (decode : List ℕ → Option S) (t : List Happening) (h : Happening) : Type 0 where
+  pub seven : MayEach (rules_before StateOfEntry) t h
+  pub enters : MayEnter opening apply decode t h
