@@ -1,5 +1,5 @@
 -- All eight rules, one happening further: they go on, or break first there.
-use Rattle.std.proofs.Common.{◌≡◌, ◌↔◌, ℕ, ◌+◌, ◌<◌, ◌≤◌, suc, List, [], ◌∷◌, ◌++◌, length, take, Option, Some, None, slice_get, sym, refl, ap, ◌∙◌, subst, take-take, add-one, arith}
+use Rattle.std.proofs.Common.{◌≡◌, ◌↔◌, ℕ, ◌+◌, ◌<◌, ◌≤◌, suc, List, [], ◌∷◌, ◌++◌, length, take, Option, Some, None, slice_get, sym, refl, ap, ◌∙◌, subst, take-take, take_all, MatchOption, add-one, arith}
 use Rattle.std.proofs.lemmas.Option.{none-some, slice_get_within}
 use Rattle.address.specs.Ids.{Address}
 use Rattle.trace_props.specs.declared.happening.Happening.{Happening}
@@ -164,3 +164,31 @@ module _ {S : Type 0} (opening : S) (apply : S → Address → List ℕ → S) (
   pub verdict-exact : (t : List Happening) (v : Verdict) → IsVerdict opening apply decode t v → (v ≡ Holds) ↔ IsVirtuallySynchronous opening apply decode t
   verdict-exact t Holds r = ((λ e. r), (λ x. refl))
   verdict-exact t (Breaks rule place) b = ((λ e. absurd (cc)), (λ x. absurd (broken-not t rule place b x)))
+
+  -- WHAT A CHECKER'S STEP SAYS
+
+  -- a rule that the step names breaks first
+  pub step-broken : (t : List Happening) (i : ℕ) (h : Happening) (past : List Happening) (o : Option Rule) (rule : Rule) (K : Type 0) → slice_get t i ≡ Some h → past ≡ take i t → IsVirtuallySynchronous opening apply decode (take i t)
+      → o ≡ Some rule → MatchOption o K (λ r. BreaksNext opening apply decode r past h) → BreaksFirst opening apply decode t rule (i + 1)
+  step-broken t i h past o rule K e so_far r is m =
+      breaks-first t i h rule e r
+        (subst (λ (s : List Happening). BreaksNext opening apply decode rule s h) so_far (subst (λ (x : Option Rule). MatchOption x K (λ r. BreaksNext opening apply decode r past h)) is m))
+
+  -- where it names none, all goes on
+  pub step-on : (past : List Happening) (h : Happening) (o : Option Rule) (K : Type 0) → o ≡ None → MatchOption o (GoesOn opening apply decode past h × K) (λ r. BreaksNext opening apply decode r past h) → GoesOn opening apply decode past h × K
+  step-on past h o K is m = subst (λ (x : Option Rule). MatchOption x (GoesOn opening apply decode past h × K) (λ r. BreaksNext opening apply decode r past h)) is m
+
+  -- and the happenings so far are one more
+  pub so_far-next : (t : List Happening) (i : ℕ) (h : Happening) (past next : List Happening) → slice_get t i ≡ Some h → past ≡ take i t → next ≡ past ++ h ∷ [] → next ≡ take (i + 1) t
+  so_far-next t i h past next e so_far is = is ∙ ap (λ s. s ++ h ∷ []) so_far ∙ sym (one-further t i h e)
+
+  pub holds-next : (t : List Happening) (i : ℕ) (h : Happening) (past : List Happening) → slice_get t i ≡ Some h → past ≡ take i t → IsVirtuallySynchronous opening apply decode (take i t) → GoesOn opening apply decode past h
+      → IsVirtuallySynchronous opening apply decode (take (i + 1) t)
+  holds-next t i h past e so_far r m = synchronous-next t i h e r (subst (λ (s : List Happening). GoesOn opening apply decode s h) so_far m)
+
+  pub known-next : (K : List Happening → Type 0) (t : List Happening) (i : ℕ) (h : Happening) (past : List Happening) → slice_get t i ≡ Some h → past ≡ take i t → K (past ++ h ∷ []) → K (take (i + 1) t)
+  known-next K t i h past e so_far k = subst K (ap (λ s. s ++ h ∷ []) so_far ∙ sym (one-further t i h e)) k
+
+  -- at the end all rules hold of the whole trace
+  pub holds-all : (t : List Happening) (i : ℕ) → length t ≤ i → IsVirtuallySynchronous opening apply decode (take i t) → IsVirtuallySynchronous opening apply decode t
+  holds-all t i l r = subst (λ (s : List Happening). IsVirtuallySynchronous opening apply decode s) (take_all i t l) r

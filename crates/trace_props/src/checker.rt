@@ -2,7 +2,7 @@ ghost use Rattle.std.specs.Prelude.{◌≡◌, ◌↔◌, ◌++◌, ◌∷◌, [
 ghost use Rattle.std.specs.BTreeMap.{get};
 ghost use Rattle.address.specs.Ids.{address_cmp, view_id_cmp};
 ghost use Rattle.trace_props.specs.declared.verdict.Verdict.TheVariants.{Holds};
-ghost use Rattle.trace_props.specs.Recorded.{IsShort};
+ghost use Rattle.trace_props.specs.Recorded.{IsShort, IsRecordable};
 ghost use Rattle.trace_props.specs.Synchrony.{IsVirtuallySynchronous};
 ghost use Rattle.trace_props.specs.Copies.{KnowsStates};
 ghost use Rattle.trace_props.specs.Verdicts.{IsVerdict, GoesOn, BreaksNext};
@@ -36,20 +36,33 @@ fn judge<R: Receiver>(alloc: Global, past: &Past, states: &mut States<R>, happen
     }
 }
 
+// The verdict on happenings whose payloads are short.
+fn check_all<R: Receiver>(alloc: Global, happenings: &[Happening]) -> Result<Verdict, AllocError>
+    requires short { IsRecordable happenings.now }
+    ensures { IfOk result (λ v. IsVerdict R.opening_state R.apply R.decode happenings.now v) }
+{
+    let mut past = Past::new(alloc);
+    let mut states: States<R> = States::new(alloc);
+    for (index, happening) in happenings.iter().enumerate() {
+        match judge(alloc, &past, &mut states, happening)? {
+            Some(rule) => {
+                let place = index as u64 + 1;
+                return Ok(Verdict::Breaks { rule, place });
+            }
+            None => {
+                past = past.note(alloc, happening)?;
+            }
+        }
+    }
+    Ok(Verdict::Holds)
+}
+
 /// Whether a trace is virtually synchronous for the receiver, or else which rule breaks first and where.
 /// Reads the trace once; what a happening costs grows by no more than the look-up in a map.
 pub fn check<R: Receiver>(alloc: Global, trace: &Trace) -> Result<Verdict, AllocError>
     ensures verdict { IfOk result (λ v. IsVerdict R.opening_state R.apply R.decode trace.now.happenings v) }
     ensures exact { IfOk result (λ v. (v ≡ Holds) ↔ IsVirtuallySynchronous R.opening_state R.apply R.decode trace.now.happenings) }
 {
-    let mut past = Past::new(alloc);
-    let mut states: States<R> = States::new(alloc);
-    for (index, happening) in trace.happenings().iter().enumerate() {
-        if let Some(rule) = judge(alloc, &past, &mut states, happening)? {
-            let place = index as u64 + 1;
-            return Ok(Verdict::Breaks { rule, place });
-        }
-        past = past.note(alloc, happening)?;
-    }
-    Ok(Verdict::Holds)
+    let verdict = check_all::<R>(alloc, trace.happenings())?;
+    Ok(verdict)
 }
