@@ -1,12 +1,12 @@
 -- The tests decide the conditions on the next happening: the rules on members that go from view to view.
-use Rattle.std.proofs.Common.{◌≡◌, ◌↔◌, ℕ, ◌+◌, ◌-◌, ◌<◌, ◌≤◌, suc, zero, Bool, true, false, ◌&&◌, ◌||◌, not, List, [], ◌∷◌, ◌++◌, length, drop, Option, Some, None, slice_get, nat_eq, sym, refl, ap, ◌∙◌, subst, below_more, length-drop, arith}
+use Rattle.std.proofs.Common.{◌≡◌, ◌↔◌, ℕ, ◌+◌, ◌-◌, ◌<◌, ◌≤◌, suc, zero, Bool, true, false, ◌&&◌, ◌||◌, not, List, [], ◌∷◌, length, drop, Option, Some, None, slice_get, nat_eq, sym, refl, ap, ◌∙◌, subst, below_more, length-drop, arith}
 use Rattle.std.specs.Bool.{Decides}
 use Rattle.std.specs.List.{list_all}
 use Rattle.std.specs.Str.{bytes_eq}
 use Rattle.std.proofs.lemmas.Slice.Eq.{bytes_eq-Decides}
 use Rattle.trace_props.specs.declared.happening.Numbered.{Numbered}
 use Rattle.std.specs.Option.{ForSome}
-use Rattle.std.proofs.lemmas.Bool.{and_from, and_parts, or_cases, or_left, or_right, true≢false, not-true, not_from_false}
+use Rattle.std.proofs.lemmas.Bool.{and_from, and_parts, or_left, or_right, true≢false, not-true}
 use Rattle.std.proofs.lemmas.Option.{none-some, same_Some}
 use Rattle.address.specs.Ids.{Address, ViewId, same_address}
 use Rattle.view.specs.Members.{stands_in}
@@ -15,7 +15,7 @@ use Rattle.trace_props.specs.declared.happening.Happening.TheVariants.{Installed
 use Rattle.trace_props.specs.declared.happening.Install.{Install}
 use Rattle.trace_props.specs.Observed.{delivered_in, entry_of, first_install}
 use Rattle.trace_props.specs.Rules.{LiesWithin}
-use Rattle.trace_props.specs.Agreeing.{first_from, MayMeet, KnowEachOther, KnowsAll, MayKnow}
+use Rattle.trace_props.specs.Agreeing.{first_from, MayMeet, KnowEachOther, MayKnow}
 use Rattle.trace_props.specs.Judged.{same_previous, is_level, meets, lies_within, inside_first, inside_previous, alike, know_each_other, knows_all, are_equal}
 use Rattle.trace_props.proofs.Observing.{same_address-true, same_address-refl}
 use Rattle.trace_props.proofs.Deciding.{and-decides, and3-decides, same-decides, nat_eq-decides, previous-decides}
@@ -63,7 +63,7 @@ all-from : (test : Address → Bool) (P : Address → Type 0) → ((q : Address)
 all-from test P d [] f = refl
 all-from test P d (p ∷ ms) f =
     and_from (test p) (list_all test ms) ((d p).1 (f p (or_left (same_address p p) (stands_in p ms) (same_address-refl p))))
-      (all-from test P d ms (λ q s. f q (or_right (same_address q p) (stands_in q ms) s)))
+    (all-from test P d ms (λ q s. f q (or_right (same_address q p) (stands_in q ms) s)))
 
 all-decides : (test : Address → Bool) (P : Address → Type 0) → ((q : Address) → Decides (test q) (P q)) → (ms : List Address) → Decides (list_all test ms) ((q : Address) → stands_in q ms ≡ true → P q)
 all-decides test P d ms = (all-true test P d ms, all-from test P d ms)
@@ -82,9 +82,10 @@ inside_previous-decides (Some v) ps t = one-decides (inside_first (first_install
 -- both or neither
 alike-decides : {P Q : Type 0} (a b : Bool) → Decides a P → Decides b Q → Decides (alike a b) (P ↔ Q)
 alike-decides true b p q = ((λ e. ((λ x. q.0 e), (λ y. p.0 refl))), (λ f. q.1 (f.0 (p.0 refl))))
-alike-decides false b p q =
-    ( (λ e. ((λ x. absurd (true≢false (sym (p.1 x)))), (λ y. absurd (true≢false (sym (q.1 y) ∙ not-true b e)))))
-    , (λ f. neither b (λ e. true≢false (sym (p.1 (f.1 (q.0 e)))))) )
+alike-decides false b p q = (
+  (λ e. ((λ x. absurd (true≢false (sym (p.1 x)))), (λ y. absurd (true≢false (sym (q.1 y) ∙ not-true b e))))),
+  (λ f. neither b (λ e. true≢false (sym (p.1 (f.1 (q.0 e)))))),
+)
   where
     neither : (b : Bool) → (b ≡ true → ⊥) → not b ≡ true
     neither true g = absurd (g refl)
@@ -97,23 +98,23 @@ know-decides : (o : Option Install) (i : Install) → Decides (know_each_other o
 know-decides None i = none-decides (KnowEachOther i)
 know-decides (Some f) i =
     one-decides (know_each_other (Some f) i) f (KnowEachOther i)
-      (same-decides (know_each_other (Some f) i)
-        (and-decides (alike (stands_in f.member i.together) (same_previous f.previous i.previous)) (alike (stands_in i.member f.together) (same_previous i.previous f.previous))
-          (alike-decides (stands_in f.member i.together) (same_previous f.previous i.previous) (stands-decides f.member i.together) (previous-decides f.previous i.previous))
-          (alike-decides (stands_in i.member f.together) (same_previous i.previous f.previous) (stands-decides i.member f.together) (previous-decides i.previous f.previous)))
-        (λ x. record { knows = x.0; known = x.1 })
-        (λ r. (r.knows, r.known)))
+    (same-decides (know_each_other (Some f) i)
+    (and-decides (alike (stands_in f.member i.together) (same_previous f.previous i.previous)) (alike (stands_in i.member f.together) (same_previous i.previous f.previous))
+    (alike-decides (stands_in f.member i.together) (same_previous f.previous i.previous) (stands-decides f.member i.together) (previous-decides f.previous i.previous))
+    (alike-decides (stands_in i.member f.together) (same_previous i.previous f.previous) (stands-decides i.member f.together) (previous-decides i.previous f.previous)))
+    (λ x. record { knows = x.0; known = x.1 })
+    (λ r. (r.knows, r.known)))
 
 -- the test decides whether an install may know
 pub knows-decides : (t : List Happening) (i : Install) → Decides (knows_all t i) (MayKnow t (Installed i))
 knows-decides t i =
     same-decides (knows_all t i)
-      (and-decides (lies_within i.together i.view.members && inside_previous i.previous i.together t && stands_in i.member i.together) (list_all (λ q. know_each_other (entry_of q i.view.id t) i) i.view.members)
-        (and3-decides (lies_within i.together i.view.members) (inside_previous i.previous i.together t) (stands_in i.member i.together)
-          (within-decides i.together i.view.members) (inside_previous-decides i.previous i.together t) (stands-decides i.member i.together))
-        (all-decides (λ q. know_each_other (entry_of q i.view.id t) i) (λ q. ForSome (entry_of q i.view.id t) (KnowEachOther i)) (λ q. know-decides (entry_of q i.view.id t) i) i.view.members))
-      (λ x. record { inside = x.0.0; before = x.0.1; itself = x.0.2; others = x.1 })
-      (λ r. ((r.inside, r.before, r.itself), r.others))
+    (and-decides (lies_within i.together i.view.members && inside_previous i.previous i.together t && stands_in i.member i.together) (list_all (λ q. know_each_other (entry_of q i.view.id t) i) i.view.members)
+    (and3-decides (lies_within i.together i.view.members) (inside_previous i.previous i.together t) (stands_in i.member i.together)
+    (within-decides i.together i.view.members) (inside_previous-decides i.previous i.together t) (stands-decides i.member i.together))
+    (all-decides (λ q. know_each_other (entry_of q i.view.id t) i) (λ q. ForSome (entry_of q i.view.id t) (KnowEachOther i)) (λ q. know-decides (entry_of q i.view.id t) i) i.view.members))
+    (λ x. record { inside = x.0.0; before = x.0.1; itself = x.0.2; others = x.1 })
+    (λ r. ((r.inside, r.before, r.itself), r.others))
 
 -- HANDED BACK
 
@@ -136,9 +137,9 @@ equal-decides : (o : Option Numbered) (m : Numbered) → Decides (are_equal o m)
 equal-decides None m = ((λ e. absurd (true≢false (sym e))), (λ e. absurd (none-some m e)))
 equal-decides (Some n) m =
     same-decides (nat_eq n.number m.number && bytes_eq n.payload m.payload)
-      (and-decides (nat_eq n.number m.number) (bytes_eq n.payload m.payload) (nat_eq-decides n.number m.number) (bytes_eq-Decides n.payload m.payload))
-      (λ x. ap {B = Option Numbered} (λ (a : ℕ). Some (record { number = a; payload = n.payload })) x.0 ∙ ap {B = Option Numbered} (λ (a : List ℕ). Some (record { number = m.number; payload = a })) x.1)
-      (λ e. let same = same_Some n m e in (ap (λ y. y.number) same, ap (λ y. y.payload) same))
+    (and-decides (nat_eq n.number m.number) (bytes_eq n.payload m.payload) (nat_eq-decides n.number m.number) (bytes_eq-Decides n.payload m.payload))
+    (λ x. ap {B = Option Numbered} (λ (a : ℕ). Some (record { number = a; payload = n.payload })) x.0 ∙ ap {B = Option Numbered} (λ (a : List ℕ). Some (record { number = m.number; payload = a })) x.1)
+    (λ e. let same = same_Some n m e in (ap (λ y. y.number) same, ap (λ y. y.payload) same))
 
 -- one message that is another than what was sent there
 pub rest-differs : (ms sent : List Numbered) (start k : ℕ) (m : Numbered) (b : Bool) → slice_get ms k ≡ Some m → b ≡ are_equal (slice_get sent (start + k)) m → b ≡ false → ms ≡ drop start sent → false ≡ true

@@ -1,13 +1,10 @@
 -- The states that are kept, one happening further.
-use Rattle.std.proofs.Common.{◌≡◌, ℕ, ◌+◌, ◌≤◌, Bool, true, false, ◌&&◌, cond, List, [], ◌∷◌, ◌++◌, length, take, Option, Some, None, is_some, IsSome, unwrap_or, option_map, option_and_then, MatchOption, MatchBool, sym, refl, ap, ◌∙◌, subst}
-use Rattle.std.specs.Bool.{Decides}
-use Rattle.std.specs.Option.{ForSome, option_or}
+use Rattle.std.proofs.Common.{◌≡◌, ℕ, ◌≤◌, Bool, true, false, cond, List, [], ◌∷◌, ◌++◌, length, Option, Some, None, unwrap_or, option_map, option_and_then, sym, refl, ap, ◌∙◌, subst}
+use Rattle.std.specs.Option.{option_or}
 use Rattle.std.specs.List.{position_from}
-use Rattle.std.specs.Str.{bytes_eq}
-use Rattle.std.proofs.lemmas.Bool.{cond-true, cond-false, and_from, and_parts, true≢false}
+use Rattle.std.proofs.lemmas.Bool.{cond-true, cond-false}
 use Rattle.std.proofs.lemmas.Option.{none-some, same_Some}
-use Rattle.std.proofs.lemmas.Slice.Eq.{bytes_eq-Decides}
-use Rattle.address.specs.Ids.{Address, ViewId, IsAddress, same_address, same_view_id}
+use Rattle.address.specs.Ids.{Address, ViewId, IsAddress, same_address}
 use Rattle.state_transfer.specs.declared.TheConstants.{PAYLOAD}
 use Rattle.trace_props.specs.declared.happening.Happening.{Happening}
 use Rattle.trace_props.specs.declared.happening.Happening.TheVariants.{Started, Sent, Delivered, Blocked, Installed, Left, Crashed}
@@ -17,8 +14,8 @@ use Rattle.trace_props.specs.Observed.{install_of}
 use Rattle.trace_props.specs.State.{state_after, state_of, installs, entry_state}
 use Rattle.trace_props.specs.Agreeing.{MayEnter}
 use Rattle.trace_props.specs.Known.{delivery_of}
-use Rattle.trace_props.specs.Copies.{KnowsStates, EntersWith}
-use Rattle.trace_props.proofs.Observing.{same_address-true, same_address-from, same_address-refl, same_view_id-true, same_view_id-refl}
+use Rattle.trace_props.specs.Copies.{KnowsStates}
+use Rattle.trace_props.proofs.Observing.{same_address-true}
 use Rattle.trace_props.proofs.Entering.{state_of-push, entry_state-stays, entry_state-new, entry_state-none, entry_state-some}
 
 -- THE STATE OF ENTRY
@@ -28,11 +25,11 @@ entry-by : {S : Type 0} (opening : S) (apply : S → Address → List ℕ → S)
     → entry_state opening apply decode v (t ++ h ∷ []) ≡ option_or (entry_state opening apply decode v t) (cond (installs v.creator v h) (Some (state_of opening apply decode v.creator (t ++ h ∷ []))) None)
 entry-by opening apply decode v t h None e =
     entry_state-new opening apply decode v t h e
-      ∙ ap (λ o. option_or o (cond (installs v.creator v h) (Some (state_of opening apply decode v.creator (t ++ h ∷ []))) None)) (sym (entry_state-none opening apply decode v t e))
+    ∙ ap (λ o. option_or o (cond (installs v.creator v h) (Some (state_of opening apply decode v.creator (t ++ h ∷ []))) None)) (sym (entry_state-none opening apply decode v t e))
 entry-by opening apply decode v t h (Some k) e =
     entry_state-stays opening apply decode v t (h ∷ []) k e
-      ∙ entry_state-some opening apply decode v t k e
-      ∙ ap (λ o. option_or o (cond (installs v.creator v h) (Some (state_of opening apply decode v.creator (t ++ h ∷ []))) None)) (sym (entry_state-some opening apply decode v t k e))
+    ∙ entry_state-some opening apply decode v t k e
+    ∙ ap (λ o. option_or o (cond (installs v.creator v h) (Some (state_of opening apply decode v.creator (t ++ h ∷ []))) None)) (sym (entry_state-some opening apply decode v t k e))
 
 -- the first install of a view by its first member makes the state of entry
 pub entry_state-push : {S : Type 0} (opening : S) (apply : S → Address → List ℕ → S) (decode : List ℕ → Option S) (v : ViewId) (t : List Happening) (h : Happening)
@@ -48,8 +45,8 @@ entry_state-still : {S : Type 0} (opening : S) (apply : S → Address → List �
     → installs v.creator v h ≡ false → entry_state opening apply decode v (t ++ h ∷ []) ≡ entry_state opening apply decode v t
 entry_state-still opening apply decode v t h e =
     entry_state-push opening apply decode v t h
-      ∙ ap (λ b. option_or (entry_state opening apply decode v t) (cond b (Some (state_of opening apply decode v.creator (t ++ h ∷ []))) None)) e
-      ∙ or-none (entry_state opening apply decode v t)
+    ∙ ap (λ b. option_or (entry_state opening apply decode v t) (cond b (Some (state_of opening apply decode v.creator (t ++ h ∷ []))) None)) e
+    ∙ or-none (entry_state opening apply decode v t)
 
 -- WHERE NO STATE CHANGES
 
@@ -85,11 +82,11 @@ told-state : {S : Type 0} (opening : S) (apply : S → Address → List ℕ → 
     → cond b (apply (unwrap_or (m d.member) opening) d.message.sender d.message.payload) (unwrap_or (m q) opening) ≡ state_of opening apply decode q (t ++ Delivered d ∷ [])
 told-state opening apply decode m t d q true same r =
     ap (λ s. apply s d.message.sender d.message.payload) (r d.member ∙ ap (λ p. state_of opening apply decode p t) (same_address-true d.member q same))
-      ∙ sym (cond-true (same_address d.member q) (apply (state_of opening apply decode q t) d.message.sender d.message.payload) (state_of opening apply decode q t) same)
-      ∙ sym (state_of-push opening apply decode q t (Delivered d))
+    ∙ sym (cond-true (same_address d.member q) (apply (state_of opening apply decode q t) d.message.sender d.message.payload) (state_of opening apply decode q t) same)
+    ∙ sym (state_of-push opening apply decode q t (Delivered d))
 told-state opening apply decode m t d q false apart r =
     r q ∙ sym (cond-false (same_address d.member q) (apply (state_of opening apply decode q t) d.message.sender d.message.payload) (state_of opening apply decode q t) apart)
-      ∙ sym (state_of-push opening apply decode q t (Delivered d))
+    ∙ sym (state_of-push opening apply decode q t (Delivered d))
 
 pub told-is : {S : Type 0} (is_state : S → Type 0) (s x : S) (b : Bool) → is_state x → is_state s → is_state (cond b x s)
 told-is is_state s x true a c = a
@@ -104,7 +101,7 @@ pub message-known : {S : Type 0} (opening : S) (apply : S → Address → List �
 message-known opening apply decode encode is_state applies m n e t d from short updates r = record {
   states_known = λ q. updates q ∙ told-state opening apply decode m t d q (same_address d.member q) refl r.states_known;
   are_states = λ q. subst is_state (sym (state_of-push opening apply decode q t (Delivered d)))
-    (told-is is_state (state_of opening apply decode q t) (apply (state_of opening apply decode q t) d.message.sender d.message.payload) (same_address d.member q)
+      (told-is is_state (state_of opening apply decode q t) (apply (state_of opening apply decode q t) d.message.sender d.message.payload) (same_address d.member q)
       (applies (state_of opening apply decode q t) d.message.sender d.message.payload (r.are_states q) from short) (r.are_states q));
   entering_known = λ v. r.entering_known v ∙ ap (option_map encode) (sym (entry_state-still opening apply decode v t (Delivered d) refl));
   are_entered = λ v s x. r.are_entered v s (sym (entry_state-still opening apply decode v t (Delivered d) refl) ∙ x);
@@ -118,11 +115,11 @@ pub taken-state : {S : Type 0} (opening : S) (apply : S → Address → List ℕ
     → cond b (unwrap_or (option_and_then decode i.given) (unwrap_or (m i.member) opening)) (unwrap_or (m q) opening) ≡ state_of opening apply decode q (t ++ Installed i ∷ [])
 taken-state opening apply decode m t i q true same r =
     ap (λ s. unwrap_or (option_and_then decode i.given) s) (r i.member ∙ ap (λ p. state_of opening apply decode p t) (same_address-true i.member q same))
-      ∙ sym (cond-true (same_address i.member q) (unwrap_or (option_and_then decode i.given) (state_of opening apply decode q t)) (state_of opening apply decode q t) same)
-      ∙ sym (state_of-push opening apply decode q t (Installed i))
+    ∙ sym (cond-true (same_address i.member q) (unwrap_or (option_and_then decode i.given) (state_of opening apply decode q t)) (state_of opening apply decode q t) same)
+    ∙ sym (state_of-push opening apply decode q t (Installed i))
 taken-state opening apply decode m t i q false apart r =
     r q ∙ sym (cond-false (same_address i.member q) (unwrap_or (option_and_then decode i.given) (state_of opening apply decode q t)) (state_of opening apply decode q t) apart)
-      ∙ sym (state_of-push opening apply decode q t (Installed i))
+    ∙ sym (state_of-push opening apply decode q t (Installed i))
 
 given-is : {S : Type 0} (decode : List ℕ → Option S) (is_state : S → Type 0) (decodes : (bytes : List ℕ) (s : S) → decode bytes ≡ Some s → is_state s) (given : List ℕ) (o : Option S) (s : S) → decode given ≡ o → is_state s → is_state (unwrap_or o s)
 given-is decode is_state decodes given None s e a = a
@@ -150,6 +147,6 @@ pub message-heard : {S : Type 0} (opening : S) (apply : S → Address → List �
     → KnowsStates opening apply decode encode is_state m e t → KnowsStates opening apply decode encode is_state n e (t ++ Delivered d ∷ [])
 message-heard opening apply decode encode is_state applies m k n e t d payload from short lent same updates r =
     message-known opening apply decode encode is_state applies m n e t d from short
-      (changed-after (λ q. unwrap_or (m q) opening) (λ q. unwrap_or (k q) opening) (λ q. unwrap_or (n q) opening) d.member (λ s. apply s d.message.sender d.message.payload) same
-        (λ q. updates q ∙ ap (λ x. cond (same_address d.member q) (apply (unwrap_or (k d.member) opening) d.message.sender x) (unwrap_or (k q) opening)) lent))
-      r
+    (changed-after (λ q. unwrap_or (m q) opening) (λ q. unwrap_or (k q) opening) (λ q. unwrap_or (n q) opening) d.member (λ s. apply s d.message.sender d.message.payload) same
+    (λ q. updates q ∙ ap (λ x. cond (same_address d.member q) (apply (unwrap_or (k d.member) opening) d.message.sender x) (unwrap_or (k q) opening)) lent))
+    r

@@ -1,15 +1,15 @@
 -- The tests decide the conditions on the next happening: the rules that speak of one view at a time.
-use Rattle.std.proofs.Common.{◌≡◌, ℕ, ◌+◌, Bool, true, false, ◌&&◌, ◌||◌, not, List, [], ◌∷◌, ◌++◌, length, Option, Some, None, is_some, IsSome, slice_get, nat_eq, is_lt, sym, refl, ap, ◌∙◌, subst, eq-eqb, eqb-true, le_refl}
+use Rattle.std.proofs.Common.{◌≡◌, ℕ, ◌+◌, Bool, true, false, ◌&&◌, ◌||◌, not, List, length, Option, Some, None, is_some, slice_get, nat_eq, is_lt, sym, refl, ap, ◌∙◌, subst, eq-eqb, eqb-true}
 use Rattle.std.specs.Bool.{Decides}
 use Rattle.std.specs.Option.{ForSome}
 use Rattle.std.specs.Str.{bytes_eq}
 use Rattle.std.specs.Cmp.Lexicographic.{pointwise}
 use Rattle.std.specs.declared.cmp.Ordering.{Ordering}
 use Rattle.std.specs.declared.cmp.Ordering.TheVariants.{Less, Equal, Greater}
-use Rattle.std.proofs.lemmas.Bool.{and_from, and_parts, or_cases, or_left, or_right, true≢false, not_from_false, not-true}
+use Rattle.std.proofs.lemmas.Bool.{and_from, and_parts, true≢false, not_from_false, not-true}
 use Rattle.std.proofs.lemmas.Option.{none-some, same_Some}
 use Rattle.std.proofs.lemmas.Slice.Eq.{slice_eq-Decides, bytes_eq-Decides}
-use Rattle.address.specs.Ids.{Address, ViewId, same_address, same_view_id, view_id_cmp}
+use Rattle.address.specs.Ids.{Address, ViewId, same_address, view_id_cmp}
 use Rattle.view.specs.Members.{stands_in}
 use Rattle.trace_props.specs.declared.happening.Happening.{Happening}
 use Rattle.trace_props.specs.declared.happening.Happening.TheVariants.{Started, Sent, Delivered, Blocked, Installed, Left, Crashed}
@@ -19,12 +19,12 @@ use Rattle.trace_props.specs.declared.happening.Install.{Install}
 use Rattle.trace_props.specs.declared.happening.Delivery.{Delivery}
 use Rattle.trace_props.specs.declared.happening.Sending.{Sending}
 use Rattle.trace_props.specs.Observed.{member_of, has_started, has_ended, current_view, is_blocked, delivered_in, sent_in, own, numbered, first_install}
-use Rattle.trace_props.specs.Rules.{IsRunning, MayStand, EntersAbove, IsBelow}
+use Rattle.trace_props.specs.Rules.{IsRunning, MayStand, IsBelow}
 use Rattle.trace_props.specs.Following.{MayRise, MayCarry, MayOrder}
 use Rattle.trace_props.specs.Agreeing.{is_view}
 use Rattle.trace_props.specs.Known.{standing_of}
 use Rattle.trace_props.specs.Judged.{runs, stands, same_previous, is_below, has_members, rises, is_numbered, is_message}
-use Rattle.trace_props.proofs.Observing.{same_address-true, same_address-refl, same_address-from, same_view_id-true, same_view_id-from}
+use Rattle.trace_props.proofs.Observing.{same_address-true, same_address-from, same_view_id-true, same_view_id-from}
 use Rattle.trace_props.proofs.Meeting.{is_view-from, is_view-true}
 
 -- TESTS
@@ -104,12 +104,12 @@ members-decides (Some g) ms = same-decides (pointwise same_address g.view.member
 pub rises-decides : (t : List Happening) (i : Install) → Decides (rises (current_view i.member t) (first_install i.view.id t) i) (MayRise t (Installed i))
 rises-decides t i =
     same-decides (rises (current_view i.member t) (first_install i.view.id t) i)
-      (and-decides (stands_in i.member i.view.members && same_previous i.previous (current_view i.member t) && is_below i.previous i.view.id) (has_members (first_install i.view.id t) i.view.members)
-        (and3-decides (stands_in i.member i.view.members) (same_previous i.previous (current_view i.member t)) (is_below i.previous i.view.id)
-          (true-decides (stands_in i.member i.view.members)) (previous-decides i.previous (current_view i.member t)) (below-decides i.previous i.view.id))
-        (members-decides (first_install i.view.id t) i.view.members))
-      (λ x. (record { inside = x.0.0; previous = x.0.1; rises = x.0.2 }, x.1))
-      (λ m. ((m.0.inside, m.0.previous, m.0.rises), m.1))
+    (and-decides (stands_in i.member i.view.members && same_previous i.previous (current_view i.member t) && is_below i.previous i.view.id) (has_members (first_install i.view.id t) i.view.members)
+    (and3-decides (stands_in i.member i.view.members) (same_previous i.previous (current_view i.member t)) (is_below i.previous i.view.id)
+    (true-decides (stands_in i.member i.view.members)) (previous-decides i.previous (current_view i.member t)) (below-decides i.previous i.view.id))
+    (members-decides (first_install i.view.id t) i.view.members))
+    (λ x. (record { inside = x.0.0; previous = x.0.1; rises = x.0.2 }, x.1))
+    (λ m. ((m.0.inside, m.0.previous, m.0.rises), m.1))
 
 -- SOUND MESSAGES
 
@@ -121,9 +121,9 @@ numbered-decides : (o : Option Numbered) (m : Message) → Decides (is_numbered 
 numbered-decides None m = ((λ e. absurd (true≢false (sym e))), (λ e. absurd (none-some (numbered m) e)))
 numbered-decides (Some n) m =
     same-decides (nat_eq n.number m.number && bytes_eq n.payload m.payload)
-      (and-decides (nat_eq n.number m.number) (bytes_eq n.payload m.payload) (nat_eq-decides n.number m.number) (bytes_eq-Decides n.payload m.payload))
-      (λ x. ap Some (numbered-same n m x.0 x.1))
-      (λ e. let same = same_Some n (numbered m) e in (ap (λ y. y.number) same, ap (λ y. y.payload) same))
+    (and-decides (nat_eq n.number m.number) (bytes_eq n.payload m.payload) (nat_eq-decides n.number m.number) (bytes_eq-Decides n.payload m.payload))
+    (λ x. ap Some (numbered-same n m x.0 x.1))
+    (λ e. let same = same_Some n (numbered m) e in (ap (λ y. y.number) same, ap (λ y. y.payload) same))
 
 -- the test decides whether a message may be sent
 pub send-decides : (t : List Happening) (s : Sending) → Decides (nat_eq s.message.number (length (sent_in s.member s.view t) + 1)) (MayCarry t (Sent s))
@@ -132,29 +132,29 @@ send-decides t s = nat_eq-decides s.message.number (length (sent_in s.member s.v
 -- the test decides whether a message may be told
 pub tell-decides : (t : List Happening) (d : Delivery)
     → Decides
-        (nat_eq d.message.number (length (own d.message.sender (delivered_in d.member d.view t)) + 1)
-          && is_numbered (slice_get (sent_in d.message.sender d.view t) (length (own d.message.sender (delivered_in d.member d.view t)))) d.message)
-        (MayCarry t (Delivered d))
+    (nat_eq d.message.number (length (own d.message.sender (delivered_in d.member d.view t)) + 1)
+    && is_numbered (slice_get (sent_in d.message.sender d.view t) (length (own d.message.sender (delivered_in d.member d.view t)))) d.message)
+    (MayCarry t (Delivered d))
 tell-decides t d =
     and-decides (nat_eq d.message.number (length (own d.message.sender (delivered_in d.member d.view t)) + 1)) (is_numbered (slice_get (sent_in d.message.sender d.view t) (length (own d.message.sender (delivered_in d.member d.view t)))) d.message)
-      (nat_eq-decides d.message.number (length (own d.message.sender (delivered_in d.member d.view t)) + 1))
-      (numbered-decides (slice_get (sent_in d.message.sender d.view t) (length (own d.message.sender (delivered_in d.member d.view t)))) d.message)
+    (nat_eq-decides d.message.number (length (own d.message.sender (delivered_in d.member d.view t)) + 1))
+    (numbered-decides (slice_get (sent_in d.message.sender d.view t) (length (own d.message.sender (delivered_in d.member d.view t)))) d.message)
 
 -- ONE ORDER
 
 message-same : (n m : Message) → n.sender ≡ m.sender → n.number ≡ m.number → n.payload ≡ m.payload → n ≡ m
 message-same n m a b c =
     ap {B = Message} (λ (x : Address). record { sender = x; number = n.number; payload = n.payload }) a
-      ∙ ap {B = Message} (λ (x : ℕ). record { sender = m.sender; number = x; payload = n.payload }) b
-      ∙ ap {B = Message} (λ (x : List ℕ). record { sender = m.sender; number = m.number; payload = x }) c
+    ∙ ap {B = Message} (λ (x : ℕ). record { sender = m.sender; number = x; payload = n.payload }) b
+    ∙ ap {B = Message} (λ (x : List ℕ). record { sender = m.sender; number = m.number; payload = x }) c
 
 message-decides : (o : Option Message) (m : Message) → Decides (is_message o m) (o ≡ Some m)
 message-decides None m = ((λ e. absurd (true≢false (sym e))), (λ e. absurd (none-some m e)))
 message-decides (Some n) m =
     same-decides (same_address n.sender m.sender && nat_eq n.number m.number && bytes_eq n.payload m.payload)
-      (and3-decides (same_address n.sender m.sender) (nat_eq n.number m.number) (bytes_eq n.payload m.payload) (same_address-decides n.sender m.sender) (nat_eq-decides n.number m.number) (bytes_eq-Decides n.payload m.payload))
-      (λ x. ap Some (message-same n m x.0 x.1 x.2))
-      (λ e. let same = same_Some n m e in (ap (λ y. y.sender) same, ap (λ y. y.number) same, ap (λ y. y.payload) same))
+    (and3-decides (same_address n.sender m.sender) (nat_eq n.number m.number) (bytes_eq n.payload m.payload) (same_address-decides n.sender m.sender) (nat_eq-decides n.number m.number) (bytes_eq-Decides n.payload m.payload))
+    (λ x. ap Some (message-same n m x.0 x.1 x.2))
+    (λ e. let same = same_Some n m e in (ap (λ y. y.sender) same, ap (λ y. y.number) same, ap (λ y. y.payload) same))
 
 -- a test that is asked where another fails
 else-decides : {P : Type 0} (a b : Bool) → Decides b P → Decides (a || b) (a ≡ false → P)
@@ -166,7 +166,7 @@ pub order-decides : (t : List Happening) (d : Delivery)
     → Decides (same_address d.member d.view.creator || is_message (slice_get (delivered_in d.view.creator d.view t) (length (delivered_in d.member d.view t))) d.message) (MayOrder t (Delivered d))
 order-decides t d =
     else-decides (same_address d.member d.view.creator) (is_message (slice_get (delivered_in d.view.creator d.view t) (length (delivered_in d.member d.view t))) d.message)
-      (message-decides (slice_get (delivered_in d.view.creator d.view t) (length (delivered_in d.member d.view t))) d.message)
+    (message-decides (slice_get (delivered_in d.view.creator d.view t) (length (delivered_in d.member d.view t))) d.message)
 
 -- where the member is not the first one, the test asks what that one was told
 pub order-else : (t : List Happening) (d : Delivery) (a b : Address) (e r : Bool) → a ≡ d.view.creator → b ≡ d.view.creator → e ≡ same_address d.member a → e ≡ false
@@ -174,4 +174,4 @@ pub order-else : (t : List Happening) (d : Delivery) (a b : Address) (e r : Bool
     → r ≡ (same_address d.member d.view.creator || is_message (slice_get (delivered_in d.view.creator d.view t) (length (delivered_in d.member d.view t))) d.message)
 order-else t d a b e r first too test apart is =
     is ∙ ap (λ x. is_message (slice_get (delivered_in x d.view t) (length (delivered_in d.member d.view t))) d.message) too
-      ∙ ap (λ x. x || is_message (slice_get (delivered_in d.view.creator d.view t) (length (delivered_in d.member d.view t))) d.message) (sym apart ∙ test ∙ ap (same_address d.member) first)
+    ∙ ap (λ x. x || is_message (slice_get (delivered_in d.view.creator d.view t) (length (delivered_in d.member d.view t))) d.message) (sym apart ∙ test ∙ ap (same_address d.member) first)

@@ -1,8 +1,7 @@
 -- State of entry: it goes one happening further exactly when who enters is the view's first member, or has the state with which that one entered.
-use Rattle.std.proofs.Common.{◌≡◌, ℕ, ◌+◌, ◌<◌, ◌≤◌, Bool, true, false, ◌&&◌, cond, List, [], ◌∷◌, ◌++◌, length, take, Option, Some, None, IsSome, MatchOption, position, option_and_then, fold, unwrap_or, sym, refl, ap, ◌∙◌, subst, arith}
+use Rattle.std.proofs.Common.{◌≡◌, ℕ, ◌+◌, ◌<◌, Bool, true, false, ◌&&◌, cond, List, [], ◌∷◌, ◌++◌, length, take, Option, Some, None, MatchOption, option_and_then, sym, refl, ap, ◌∙◌, subst, arith}
 use Rattle.std.specs.List.{position_from}
-use Rattle.std.specs.Option.{ForSome}
-use Rattle.std.proofs.lemmas.Bool.{cond-true, cond-false, and_from, and_left, true≢false}
+use Rattle.std.proofs.lemmas.Bool.{cond-true, cond-false, and_from}
 use Rattle.std.proofs.lemmas.List.{take-append-le, take_all, length_push}
 use Rattle.std.proofs.lemmas.List.Sums.{fold-append}
 use Rattle.std.proofs.lemmas.Iterator.Adapters.{position_from-zero}
@@ -68,8 +67,8 @@ entry_state-stays opening apply decode v t u k e =
     let at = place-found (installs v.creator v) 0 t k e in
     let within : k < 0 + length t = at.within in
     ap (entry_at opening apply decode v (t ++ u)) (position_from-zero (installs v.creator v) (t ++ u) ∙ at.stays u)
-      ∙ ap (λ l. Some (state_of opening apply decode v.creator l)) (take-append-le (k + 1) t u (omega arith))
-      ∙ sym (ap (entry_at opening apply decode v t) (position_from-zero (installs v.creator v) t ∙ e))
+    ∙ ap (λ l. Some (state_of opening apply decode v.creator l)) (take-append-le (k + 1) t u (omega arith))
+    ∙ sym (ap (entry_at opening apply decode v t) (position_from-zero (installs v.creator v) t ∙ e))
 
 -- where there is none, the newest happening is the entry or there still is none
 pub entry_state-new : {S : Type 0} (opening : S) (apply : S → Address → List ℕ → S) (decode : List ℕ → Option S) (v : ViewId) (t : List Happening) (h : Happening)
@@ -77,7 +76,7 @@ pub entry_state-new : {S : Type 0} (opening : S) (apply : S → Address → List
     → entry_state opening apply decode v (t ++ h ∷ []) ≡ cond (installs v.creator v h) (Some (state_of opening apply decode v.creator (t ++ h ∷ []))) None
 entry_state-new opening apply decode v t h e =
     ap (entry_at opening apply decode v (t ++ h ∷ [])) (position_from-zero (installs v.creator v) (t ++ h ∷ []) ∙ none-found (installs v.creator v) 0 t h e)
-      ∙ entry-cond opening apply decode v t h (installs v.creator v h)
+    ∙ entry-cond opening apply decode v t h (installs v.creator v h)
   where
     entry-cond : {S : Type 0} (opening : S) (apply : S → Address → List ℕ → S) (decode : List ℕ → Option S) (v : ViewId) (t : List Happening) (h : Happening) (b : Bool)
         → entry_at opening apply decode v (t ++ h ∷ []) (cond b (Some (0 + length t)) None) ≡ cond b (Some (state_of opening apply decode v.creator (t ++ h ∷ []))) None
@@ -99,8 +98,8 @@ entry_state-some opening apply decode v t k e = ap (entry_at opening apply decod
 abbrev EntryMatches : {S : Type 0} → S → (S → Address → List ℕ → S) → (List ℕ → Option S) → List Happening → Install → Type 0
 EntryMatches opening apply decode t i =
     MatchOption (entry_state opening apply decode i.view.id t)
-        (same_address i.member i.view.id.creator ≡ true)
-        (λ s. s ≡ state_of opening apply decode i.member (t ++ Installed i ∷ []))
+    (same_address i.member i.view.id.creator ≡ true)
+    (λ s. s ≡ state_of opening apply decode i.member (t ++ Installed i ∷ []))
 
 abbrev EntryEquals : {S : Type 0} → S → (S → Address → List ℕ → S) → (List ℕ → Option S) → List Happening → Install → Type 0
 EntryEquals opening apply decode t i =
@@ -111,13 +110,13 @@ matches-equals : {S : Type 0} (opening : S) (apply : S → Address → List ℕ 
 matches-equals {S} opening apply decode t i None e m =
     let first : same_address i.member i.view.id.creator ≡ true = subst (λ (o : Option S). MatchOption o (same_address i.member i.view.id.creator ≡ true) (λ s. s ≡ state_of opening apply decode i.member (t ++ Installed i ∷ []))) (entry_state-none opening apply decode i.view.id t e) m in
     entry_state-new opening apply decode i.view.id t (Installed i) e
-      ∙ cond-true (installs i.view.id.creator i.view.id (Installed i)) (Some (state_of opening apply decode i.view.id.creator (t ++ Installed i ∷ []))) None
-          (and_from (same_address i.member i.view.id.creator) (same_view_id i.view.id i.view.id) first (same_view_id-refl i.view.id))
-      ∙ ap (λ p. Some (state_of opening apply decode p (t ++ Installed i ∷ []))) (sym (same_address-true i.member i.view.id.creator first))
+    ∙ cond-true (installs i.view.id.creator i.view.id (Installed i)) (Some (state_of opening apply decode i.view.id.creator (t ++ Installed i ∷ []))) None
+    (and_from (same_address i.member i.view.id.creator) (same_view_id i.view.id i.view.id) first (same_view_id-refl i.view.id))
+    ∙ ap (λ p. Some (state_of opening apply decode p (t ++ Installed i ∷ []))) (sym (same_address-true i.member i.view.id.creator first))
 matches-equals {S} opening apply decode t i (Some k) e m =
     entry_state-stays opening apply decode i.view.id t (Installed i ∷ []) k e
-      ∙ entry_state-some opening apply decode i.view.id t k e
-      ∙ ap Some (subst (λ (o : Option S). MatchOption o (same_address i.member i.view.id.creator ≡ true) (λ s. s ≡ state_of opening apply decode i.member (t ++ Installed i ∷ []))) (entry_state-some opening apply decode i.view.id t k e) m)
+    ∙ entry_state-some opening apply decode i.view.id t k e
+    ∙ ap Some (subst (λ (o : Option S). MatchOption o (same_address i.member i.view.id.creator ≡ true) (λ s. s ≡ state_of opening apply decode i.member (t ++ Installed i ∷ []))) (entry_state-some opening apply decode i.view.id t k e) m)
 
 first-test : {S : Type 0} (x : S) (y : S) (a b : Bool) → cond (a && b) (Some x) None ≡ Some y → a ≡ true
 first-test x y true b e = refl
@@ -127,12 +126,12 @@ equals-matches : {S : Type 0} (opening : S) (apply : S → Address → List ℕ 
     → position_from (installs i.view.id.creator i.view.id) 0 t ≡ o → EntryEquals opening apply decode t i → EntryMatches opening apply decode t i
 equals-matches {S} opening apply decode t i None e m =
     subst (λ (o : Option S). MatchOption o (same_address i.member i.view.id.creator ≡ true) (λ s. s ≡ state_of opening apply decode i.member (t ++ Installed i ∷ []))) (sym (entry_state-none opening apply decode i.view.id t e))
-      (first-test (state_of opening apply decode i.view.id.creator (t ++ Installed i ∷ [])) (state_of opening apply decode i.member (t ++ Installed i ∷ []))
-        (same_address i.member i.view.id.creator) (same_view_id i.view.id i.view.id) (sym (entry_state-new opening apply decode i.view.id t (Installed i) e) ∙ m))
+    (first-test (state_of opening apply decode i.view.id.creator (t ++ Installed i ∷ [])) (state_of opening apply decode i.member (t ++ Installed i ∷ []))
+    (same_address i.member i.view.id.creator) (same_view_id i.view.id i.view.id) (sym (entry_state-new opening apply decode i.view.id t (Installed i) e) ∙ m))
 equals-matches {S} opening apply decode t i (Some k) e m =
     subst (λ (o : Option S). MatchOption o (same_address i.member i.view.id.creator ≡ true) (λ s. s ≡ state_of opening apply decode i.member (t ++ Installed i ∷ []))) (sym (entry_state-some opening apply decode i.view.id t k e))
-      (same_Some (state_of opening apply decode i.view.id.creator (take (k + 1) t)) (state_of opening apply decode i.member (t ++ Installed i ∷ []))
-        (sym (entry_state-some opening apply decode i.view.id t k e) ∙ sym (entry_state-stays opening apply decode i.view.id t (Installed i ∷ []) k e) ∙ m))
+    (same_Some (state_of opening apply decode i.view.id.creator (take (k + 1) t)) (state_of opening apply decode i.member (t ++ Installed i ∷ []))
+    (sym (entry_state-some opening apply decode i.view.id t k e) ∙ sym (entry_state-stays opening apply decode i.view.id t (Installed i ∷ []) k e) ∙ m))
 
 -- who may enter enters alike
 alike-from : {S : Type 0} (opening : S) (apply : S → Address → List ℕ → S) (decode : List ℕ → Option S) (t : List Happening) (h : Happening) → MayEnter opening apply decode t h → EntersAlike opening apply decode t h

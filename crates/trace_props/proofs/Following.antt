@@ -77,7 +77,7 @@ numbers-sent t s p v false e r m = subst IsNumbered (sym (sent_in-miss p v t s e
 numbers-sent t s p v true e r m =
     let same = said_by-true p v s e in
     subst IsNumbered (sym (sent_in-hit p v t s e))
-      (IsNumbered-push (sent_in p v t) s.message (r.numbers p v) (m ∙ ap (λ q. length (sent_in q s.view t) + 1) same.0 ∙ ap (λ w. length (sent_in p w t) + 1) same.1))
+    (IsNumbered-push (sent_in p v t) s.message (r.numbers p v) (m ∙ ap (λ q. length (sent_in q s.view t) + 1) same.0 ∙ ap (λ w. length (sent_in p w t) + 1) same.1))
 
 numbers-push : (t : List Happening) (h : Happening) → HasSoundMessages t → MayCarry t h → (p : Address) (v : ViewId) → IsNumbered (sent_in p v (t ++ h ∷ []))
 numbers-push t (Started q) r m p v = numbers-still t (Started q) p v r refl
@@ -107,17 +107,17 @@ sent-from t (Crashed p) m = tt
 pub IsOnce-push : (ms : List Message) (m : Message) → IsOnce ms → ((j : ℕ) (a : Message) → slice_get ms j ≡ Some a → a.sender ≡ m.sender → a.number ≡ m.number → ⊥) → IsOnce (ms ++ m ∷ [])
 IsOnce-push ms m once new j k a b x y same number =
     ⊎_elim
-      (λ (old : slice_get ms j ≡ Some a).
-        ⊎_elim
-          (λ (too : slice_get ms k ≡ Some b). once j k a b old too same number)
-          (λ (c : (k ≡ length ms) × (m ≡ b)). absurd (new j a old (same ∙ ap (λ z. z.sender) (sym c.1)) (number ∙ ap (λ z. z.number) (sym c.1))))
-          (slice_get-push ms m k b y))
-      (λ (c : (j ≡ length ms) × (m ≡ a)).
-        ⊎_elim
-          (λ (old : slice_get ms k ≡ Some b). absurd (new k b old (sym same ∙ ap (λ z. z.sender) (sym c.1)) (sym number ∙ ap (λ z. z.number) (sym c.1))))
-          (λ (d : (k ≡ length ms) × (m ≡ b)). c.0 ∙ sym d.0)
-          (slice_get-push ms m k b y))
-      (slice_get-push ms m j a x)
+    (λ (old : slice_get ms j ≡ Some a).
+    ⊎_elim
+    (λ (too : slice_get ms k ≡ Some b). once j k a b old too same number)
+    (λ (c : (k ≡ length ms) × (m ≡ b)). absurd (new j a old (same ∙ ap (λ z. z.sender) (sym c.1)) (number ∙ ap (λ z. z.number) (sym c.1))))
+    (slice_get-push ms m k b y))
+    (λ (c : (j ≡ length ms) × (m ≡ a)).
+    ⊎_elim
+    (λ (old : slice_get ms k ≡ Some b). absurd (new k b old (sym same ∙ ap (λ z. z.sender) (sym c.1)) (sym number ∙ ap (λ z. z.number) (sym c.1))))
+    (λ (d : (k ≡ length ms) × (m ≡ b)). c.0 ∙ sym d.0)
+    (slice_get-push ms m k b y))
+    (slice_get-push ms m j a x)
 
 -- a message that was told has a number up to the count of its sender's messages that were told
 pub told-number : (t : List Happening) (p : Address) (v : ViewId) → HasSoundMessages t → (j : ℕ) (a : Message) → slice_get (delivered_in p v t) j ≡ Some a → a.number ≤ length (own a.sender (delivered_in p v t))
@@ -144,9 +144,9 @@ once-told t d p v false e r m = subst IsOnce (sym (delivered_in-miss p v t d e))
 once-told t d p v true e r m =
     let same = told_to-true p v d e in
     subst (λ (q : Address). IsOnce (delivered_in q v (t ++ Delivered d ∷ []))) same.0
-      (subst (λ (w : ViewId). IsOnce (delivered_in d.member w (t ++ Delivered d ∷ []))) same.1
-        (subst IsOnce (sym (delivered_in-hit d.member d.view t d (told_to-at d)))
-          (IsOnce-push (delivered_in d.member d.view t) d.message (r.once d.member d.view) (told-fresh t d r m))))
+    (subst (λ (w : ViewId). IsOnce (delivered_in d.member w (t ++ Delivered d ∷ []))) same.1
+    (subst IsOnce (sym (delivered_in-hit d.member d.view t d (told_to-at d)))
+    (IsOnce-push (delivered_in d.member d.view t) d.message (r.once d.member d.view) (told-fresh t d r m))))
 
 once-push : (t : List Happening) (h : Happening) → HasSoundMessages t → MayCarry t h → (p : Address) (v : ViewId) → IsOnce (delivered_in p v (t ++ h ∷ []))
 once-push t (Started q) r m p v = once-still t (Started q) p v r refl
@@ -161,8 +161,8 @@ once-push t (Crashed q) r m p v = once-still t (Crashed q) p v r refl
 turn-still : (t : List Happening) (h : Happening) (p q : Address) (v : ViewId) → HasSoundMessages t → told p v h ≡ None → IsBeginningOf (own q (delivered_in p v (t ++ h ∷ []))) (sent_in q v (t ++ h ∷ []))
 turn-still t h p q v r e =
     subst (λ (ms : List Message). IsBeginningOf (own q ms) (sent_in q v (t ++ h ∷ []))) (sym (delivered_in-still p v t h e))
-      (subst (λ (ns : List Numbered). IsBeginningOf (own q (delivered_in p v t)) ns) (sym (filter_map-append (said q v) t (h ∷ [])))
-        (IsBeginningOf-grow (own q (delivered_in p v t)) (sent_in q v t) (filter_map (said q v) (h ∷ [])) (r.in_turn p q v)))
+    (subst (λ (ns : List Numbered). IsBeginningOf (own q (delivered_in p v t)) ns) (sym (filter_map-append (said q v) t (h ∷ [])))
+    (IsBeginningOf-grow (own q (delivered_in p v t)) (sent_in q v t) (filter_map (said q v) (h ∷ [])) (r.in_turn p q v)))
 
 -- who is told a message goes on with its sender's next
 turn-hit : (t : List Happening) (d : Delivery) (q : Address) (b : Bool) → same_address d.message.sender q ≡ b → HasSoundMessages t → MayCarry t (Delivered d)
@@ -170,21 +170,21 @@ turn-hit : (t : List Happening) (d : Delivery) (q : Address) (b : Bool) → same
 turn-hit t d q false e r m = subst (λ (ns : List Numbered). IsBeginningOf ns (sent_in q d.view t)) (sym (own-miss q (delivered_in d.member d.view t) d.message e)) (r.in_turn d.member q d.view)
 turn-hit t d q true e r m =
     subst (λ (ns : List Numbered). IsBeginningOf ns (sent_in q d.view t)) (sym (own-hit q (delivered_in d.member d.view t) d.message e))
-      (IsBeginningOf-next (own q (delivered_in d.member d.view t)) (sent_in q d.view t) (numbered d.message) (r.in_turn d.member q d.view)
-        (subst (λ (x : Address). slice_get (sent_in x d.view t) (length (own x (delivered_in d.member d.view t))) ≡ Some (numbered d.message)) (same_address-true d.message.sender q e) m.1))
+    (IsBeginningOf-next (own q (delivered_in d.member d.view t)) (sent_in q d.view t) (numbered d.message) (r.in_turn d.member q d.view)
+    (subst (λ (x : Address). slice_get (sent_in x d.view t) (length (own x (delivered_in d.member d.view t))) ≡ Some (numbered d.message)) (same_address-true d.message.sender q e) m.1))
 
 turn-told : (t : List Happening) (d : Delivery) (p q : Address) (v : ViewId) (b : Bool) → told_to p v d ≡ b → HasSoundMessages t → MayCarry t (Delivered d)
     → IsBeginningOf (own q (delivered_in p v (t ++ Delivered d ∷ []))) (sent_in q v (t ++ Delivered d ∷ []))
 turn-told t d p q v false e r m =
     subst (λ (ms : List Message). IsBeginningOf (own q ms) (sent_in q v (t ++ Delivered d ∷ []))) (sym (delivered_in-miss p v t d e))
-      (subst (λ (ns : List Numbered). IsBeginningOf (own q (delivered_in p v t)) ns) (sym (sent_in-still q v t (Delivered d) refl)) (r.in_turn p q v))
+    (subst (λ (ns : List Numbered). IsBeginningOf (own q (delivered_in p v t)) ns) (sym (sent_in-still q v t (Delivered d) refl)) (r.in_turn p q v))
 turn-told t d p q v true e r m =
     let same = told_to-true p v d e in
     subst (λ (x : Address). IsBeginningOf (own q (delivered_in x v (t ++ Delivered d ∷ []))) (sent_in q v (t ++ Delivered d ∷ []))) same.0
-      (subst (λ (w : ViewId). IsBeginningOf (own q (delivered_in d.member w (t ++ Delivered d ∷ []))) (sent_in q w (t ++ Delivered d ∷ []))) same.1
-        (subst (λ (ms : List Message). IsBeginningOf (own q ms) (sent_in q d.view (t ++ Delivered d ∷ []))) (sym (delivered_in-hit d.member d.view t d (told_to-at d)))
-          (subst (λ (ns : List Numbered). IsBeginningOf (own q (delivered_in d.member d.view t ++ d.message ∷ [])) ns) (sym (sent_in-still q d.view t (Delivered d) refl))
-            (turn-hit t d q (same_address d.message.sender q) refl r m))))
+    (subst (λ (w : ViewId). IsBeginningOf (own q (delivered_in d.member w (t ++ Delivered d ∷ []))) (sent_in q w (t ++ Delivered d ∷ []))) same.1
+    (subst (λ (ms : List Message). IsBeginningOf (own q ms) (sent_in q d.view (t ++ Delivered d ∷ []))) (sym (delivered_in-hit d.member d.view t d (told_to-at d)))
+    (subst (λ (ns : List Numbered). IsBeginningOf (own q (delivered_in d.member d.view t ++ d.message ∷ [])) ns) (sym (sent_in-still q d.view t (Delivered d) refl))
+    (turn-hit t d q (same_address d.message.sender q) refl r m))))
 
 turn-push : (t : List Happening) (h : Happening) → HasSoundMessages t → MayCarry t h → (p q : Address) (v : ViewId) → IsBeginningOf (own q (delivered_in p v (t ++ h ∷ []))) (sent_in q v (t ++ h ∷ []))
 turn-push t (Started x) r m p q v = turn-still t (Started x) p q v r refl
@@ -210,31 +210,31 @@ messages-push t h r m = record {
 order-still : (t : List Happening) (h : Happening) (p : Address) (v : ViewId) → HasOneOrder t → told p v h ≡ None → IsBeginningOf (delivered_in p v (t ++ h ∷ [])) (delivered_in v.creator v (t ++ h ∷ []))
 order-still t h p v r e =
     subst (λ (ms : List Message). IsBeginningOf ms (delivered_in v.creator v (t ++ h ∷ []))) (sym (delivered_in-still p v t h e))
-      (subst (λ (ns : List Message). IsBeginningOf (delivered_in p v t) ns) (sym (filter_map-append (told v.creator v) t (h ∷ [])))
-        (IsBeginningOf-grow (delivered_in p v t) (delivered_in v.creator v t) (filter_map (told v.creator v) (h ∷ [])) (r p v)))
+    (subst (λ (ns : List Message). IsBeginningOf (delivered_in p v t) ns) (sym (filter_map-append (told v.creator v) t (h ∷ [])))
+    (IsBeginningOf-grow (delivered_in p v t) (delivered_in v.creator v t) (filter_map (told v.creator v) (h ∷ [])) (r p v)))
 
 -- the first member goes before, all others are told the next of what it was told
 order-hit : (t : List Happening) (d : Delivery) (b : Bool) → same_address d.member d.view.creator ≡ b → HasOneOrder t → MayOrder t (Delivered d)
     → IsBeginningOf (delivered_in d.member d.view (t ++ Delivered d ∷ [])) (delivered_in d.view.creator d.view (t ++ Delivered d ∷ []))
 order-hit t d true e r m =
     subst (λ (x : Address). IsBeginningOf (delivered_in d.member d.view (t ++ Delivered d ∷ [])) (delivered_in x d.view (t ++ Delivered d ∷ []))) (same_address-true d.member d.view.creator e)
-      (IsBeginningOf-same (delivered_in d.member d.view (t ++ Delivered d ∷ [])))
+    (IsBeginningOf-same (delivered_in d.member d.view (t ++ Delivered d ∷ [])))
 order-hit t d false e r m =
     subst (λ (ms : List Message). IsBeginningOf ms (delivered_in d.view.creator d.view (t ++ Delivered d ∷ []))) (sym (delivered_in-hit d.member d.view t d (told_to-at d)))
-      (subst (λ (ns : List Message). IsBeginningOf (delivered_in d.member d.view t ++ d.message ∷ []) ns) (sym (delivered_in-miss d.view.creator d.view t d (and_left (same_address d.member d.view.creator) (same_view_id d.view d.view) e)))
-        (IsBeginningOf-next (delivered_in d.member d.view t) (delivered_in d.view.creator d.view t) d.message (r d.member d.view) (m e)))
+    (subst (λ (ns : List Message). IsBeginningOf (delivered_in d.member d.view t ++ d.message ∷ []) ns) (sym (delivered_in-miss d.view.creator d.view t d (and_left (same_address d.member d.view.creator) (same_view_id d.view d.view) e)))
+    (IsBeginningOf-next (delivered_in d.member d.view t) (delivered_in d.view.creator d.view t) d.message (r d.member d.view) (m e)))
 
 order-told : (t : List Happening) (d : Delivery) (p : Address) (v : ViewId) (b : Bool) → told_to p v d ≡ b → HasOneOrder t → MayOrder t (Delivered d)
     → IsBeginningOf (delivered_in p v (t ++ Delivered d ∷ [])) (delivered_in v.creator v (t ++ Delivered d ∷ []))
 order-told t d p v false e r m =
     subst (λ (ms : List Message). IsBeginningOf ms (delivered_in v.creator v (t ++ Delivered d ∷ []))) (sym (delivered_in-miss p v t d e))
-      (subst (λ (ns : List Message). IsBeginningOf (delivered_in p v t) ns) (sym (filter_map-append (told v.creator v) t (Delivered d ∷ [])))
-        (IsBeginningOf-grow (delivered_in p v t) (delivered_in v.creator v t) (filter_map (told v.creator v) (Delivered d ∷ [])) (r p v)))
+    (subst (λ (ns : List Message). IsBeginningOf (delivered_in p v t) ns) (sym (filter_map-append (told v.creator v) t (Delivered d ∷ [])))
+    (IsBeginningOf-grow (delivered_in p v t) (delivered_in v.creator v t) (filter_map (told v.creator v) (Delivered d ∷ [])) (r p v)))
 order-told t d p v true e r m =
     let same = told_to-true p v d e in
     subst (λ (x : Address). IsBeginningOf (delivered_in x v (t ++ Delivered d ∷ [])) (delivered_in v.creator v (t ++ Delivered d ∷ []))) same.0
-      (subst (λ (w : ViewId). IsBeginningOf (delivered_in d.member w (t ++ Delivered d ∷ [])) (delivered_in w.creator w (t ++ Delivered d ∷ []))) same.1
-        (order-hit t d (same_address d.member d.view.creator) refl r m))
+    (subst (λ (w : ViewId). IsBeginningOf (delivered_in d.member w (t ++ Delivered d ∷ [])) (delivered_in w.creator w (t ++ Delivered d ∷ []))) same.1
+    (order-hit t d (same_address d.member d.view.creator) refl r m))
 
 -- one order goes one happening further
 pub order-push : (t : List Happening) (h : Happening) → HasOneOrder t → MayOrder t h → HasOneOrder (t ++ h ∷ [])

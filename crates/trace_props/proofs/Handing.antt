@@ -1,7 +1,7 @@
 -- Handed back: what is handed back is what was sent past the count of the own messages that were told.
-use Rattle.std.proofs.Common.{◌≡◌, ℕ, List, [], ◌∷◌, ◌++◌, length, take, drop, Option, Some, None, MatchOption, sym, refl, ap, ◌∙◌}
+use Rattle.std.proofs.Common.{◌≡◌, List, [], ◌∷◌, ◌++◌, length, drop, Option, Some, None, MatchOption, sym, refl, ap, ◌∙◌}
 use Rattle.std.proofs.lemmas.List.{take-append-drop, drop_at}
-use Rattle.address.specs.Ids.{Address, ViewId}
+use Rattle.address.specs.Ids.{ViewId}
 use Rattle.trace_props.specs.declared.happening.Happening.{Happening}
 use Rattle.trace_props.specs.declared.happening.Happening.TheVariants.{Started, Sent, Delivered, Blocked, Installed, Left, Crashed}
 use Rattle.trace_props.specs.declared.happening.Install.{Install}
@@ -16,8 +16,8 @@ gives-from-rest : (t : List Happening) (i : Install) (o : Option ViewId) → Has
 gives-from-rest t i None r m = m
 gives-from-rest t i (Some v) r m =
     sym (take-append-drop (length (own i.member (delivered_in i.member v t))) (sent_in i.member v t))
-      ∙ ap (λ ms. ms ++ drop (length (own i.member (delivered_in i.member v t))) (sent_in i.member v t)) (sym (r.in_turn i.member i.member v))
-      ∙ ap (λ ms. own i.member (delivered_in i.member v t) ++ ms) (sym m)
+    ∙ ap (λ ms. ms ++ drop (length (own i.member (delivered_in i.member v t))) (sent_in i.member v t)) (sym (r.in_turn i.member i.member v))
+    ∙ ap (λ ms. own i.member (delivered_in i.member v t) ++ ms) (sym m)
 
 rest-from-gives : (t : List Happening) (i : Install) (o : Option ViewId)
     → MatchOption o (i.handed_back ≡ []) (λ v. sent_in i.member v t ≡ own i.member (delivered_in i.member v t) ++ i.handed_back)
@@ -25,7 +25,7 @@ rest-from-gives : (t : List Happening) (i : Install) (o : Option ViewId)
 rest-from-gives t i None m = m
 rest-from-gives t i (Some v) m =
     sym (drop_at (own i.member (delivered_in i.member v t)) i.handed_back (length (own i.member (delivered_in i.member v t))) refl)
-      ∙ ap (drop (length (own i.member (delivered_in i.member v t)))) (sym m)
+    ∙ ap (drop (length (own i.member (delivered_in i.member v t)))) (sym m)
 
 -- the rest of what was sent gives back under sound messages
 gives-from : (t : List Happening) (h : Happening) → HasSoundMessages t → MayHandBack t h → GivesBack t h

@@ -30,15 +30,15 @@ EachInstall-push P Q t i change each new k e s =
 pub EachTwoInstalls-still : (P Q : Install → Install → Type 0) (t : List Happening) (h : Happening) → ((e f : Install) → P e f → Q e f) → install_of h ≡ None → EachTwoInstalls P t → EachTwoInstalls Q (t ++ h ∷ [])
 EachTwoInstalls-still P Q t h change none each j k e f a b =
     EachInstall-still (λ g. P e g) (λ g. Q e g) t h (λ g x. change e g x) none
-      (λ n g c. EachInstall-still (λ y. P y g) (λ y. P y g) t h (λ y x. x) none (λ m y x. each m n y g x c) j e a) k f b
+    (λ n g c. EachInstall-still (λ y. P y g) (λ y. P y g) t h (λ y x. x) none (λ m y x. each m n y g x c) j e a) k f b
 
 -- an install that meets it with each that stands there and with itself keeps it
 pub EachTwoInstalls-push : (P Q : Install → Install → Type 0) (t : List Happening) (i : Install) → ((e f : Install) → P e f → Q e f) → EachTwoInstalls P t
     → EachInstall (λ e. Q e i) t → EachInstall (λ e. Q i e) t → Q i i → EachTwoInstalls Q (t ++ Installed i ∷ [])
 EachTwoInstalls-push P Q t i change each left right new j k e f a b =
     EachInstall-push (λ g. Q e g) (λ g. Q e g) t i (λ g x. x)
-      (λ n g c. EachInstall-push (λ y. P y g) (λ y. Q y g) t i (λ y x. change y g x) (λ m y x. each m n y g x c) (right n g c) j e a)
-      (EachInstall-push (λ y. Q y i) (λ y. Q y i) t i (λ y x. x) left new j e a) k f b
+    (λ n g c. EachInstall-push (λ y. P y g) (λ y. Q y g) t i (λ y x. change y g x) (λ m y x. each m n y g x c) (right n g c) j e a)
+    (EachInstall-push (λ y. Q y i) (λ y. Q y i) t i (λ y x. x) left new j e a) k f b
 
 -- what held of all installs held of those before
 pub EachTwoInstalls-before : (P Q : Install → Install → Type 0) (t u : List Happening) → ((e f : Install) → P e f → Q e f) → EachTwoInstalls P (t ++ u) → EachTwoInstalls Q t

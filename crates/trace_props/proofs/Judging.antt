@@ -1,5 +1,5 @@
 -- All eight rules, one happening further: they go on, or break first there.
-use Rattle.std.proofs.Common.{◌≡◌, ◌↔◌, ℕ, ◌+◌, ◌<◌, ◌≤◌, suc, List, [], ◌∷◌, ◌++◌, length, take, Option, Some, None, slice_get, sym, refl, ap, ◌∙◌, subst, take-take, take_all, MatchOption, add-one, arith}
+use Rattle.std.proofs.Common.{◌≡◌, ◌↔◌, ℕ, ◌+◌, ◌<◌, ◌≤◌, List, [], ◌∷◌, ◌++◌, length, take, Option, Some, None, slice_get, sym, refl, ap, ◌∙◌, subst, take-take, take_all, MatchOption, add-one, arith}
 use Rattle.std.proofs.lemmas.Option.{none-some, slice_get_within}
 use Rattle.address.specs.Ids.{Address}
 use Rattle.trace_props.specs.declared.happening.Happening.{Happening}
@@ -7,13 +7,10 @@ use Rattle.trace_props.specs.declared.verdict.Rule.{Rule}
 use Rattle.trace_props.specs.declared.verdict.Rule.TheVariants.{WellPlaced, RisingViews, SoundMessages, OneOrder, SameNext, Together, HandedBack, StateOfEntry}
 use Rattle.trace_props.specs.declared.verdict.Verdict.{Verdict}
 use Rattle.trace_props.specs.declared.verdict.Verdict.TheVariants.{Holds, Breaks}
-use Rattle.trace_props.specs.Places.{EachPlace}
-use Rattle.trace_props.specs.Rules.{MayStand, IsWellPlaced, HasRisingViews, HasSoundMessages, HasOneOrder, HasSameNext, KnowsTogether, HandsBack, GivesBack, EachTwoInstalls}
-use Rattle.trace_props.specs.State.{EntersWithState, EntersAlike}
-use Rattle.trace_props.specs.Synchrony.{IsWellOrdered, KeepsRules, IsVirtuallySynchronous}
-use Rattle.trace_props.specs.Following.{MayRise, MayCarry, MayOrder}
-use Rattle.trace_props.specs.Agreeing.{MayMeet, MayKnow, MayHandBack, MayEnter}
-use Rattle.trace_props.specs.Verdicts.{KeepsRule, rules_before, KeepsEach, BreaksFirst, IsVerdict, May, MayEach, MayRule, BreaksNext, GoesOn}
+use Rattle.trace_props.specs.Rules.{MayStand, GivesBack}
+use Rattle.trace_props.specs.State.{EntersAlike}
+use Rattle.trace_props.specs.Synchrony.{KeepsRules, IsVirtuallySynchronous}
+use Rattle.trace_props.specs.Verdicts.{KeepsRule, rules_before, KeepsEach, BreaksFirst, IsVerdict, MayEach, MayRule, BreaksNext, GoesOn}
 use Rattle.trace_props.proofs.Places.{EachHappening-nil, EachHappening-push, EachPlace-nil, EachPlace-push, EachPlace-whole, EachPlace-before, take-next}
 use Rattle.trace_props.proofs.Following.{views-push, messages-push, order-push, well_ordered-none}
 use Rattle.trace_props.proofs.Needed.{placed-needed, views-needed, messages-needed, order-needed}
@@ -23,7 +20,6 @@ use Rattle.trace_props.proofs.Handing.{hands-push, hands-needed}
 use Rattle.trace_props.proofs.Entering.{enters-push, enters-needed}
 
 module _ {S : Type 0} (opening : S) (apply : S → Address → List ℕ → S) (decode : List ℕ → Option S) where
-
   abbrev Keeps : List Happening → Type 0
   Keeps t = KeepsRules opening apply decode t
 
@@ -91,8 +87,19 @@ module _ {S : Type 0} (opening : S) (apply : S → Address → List ℕ → S) (
   -- and only there
   pub keeps-needed : (t : List Happening) (h : Happening) → Keeps (t ++ h ∷ []) → GoesOn opening apply decode t h
   keeps-needed t h r = record {
-    seven = (hands-needed t h r.handed_back, (knows-needed t h r.together, (meets-needed t h r.same_next, (order-needed t h r.ordered.order,
-      (messages-needed t h r.ordered.messages, (views-needed t h r.ordered.views, (placed-needed t h r.ordered.placed, tt)))))));
+    seven = (
+      hands-needed t h r.handed_back,
+      (
+        knows-needed t h r.together,
+        (
+          meets-needed t h r.same_next,
+          (
+            order-needed t h r.ordered.order,
+            (messages-needed t h r.ordered.messages, (views-needed t h r.ordered.views, (placed-needed t h r.ordered.placed, tt))),
+          ),
+        ),
+      ),
+    );
     enters = enters-needed opening apply decode t h r.state;
   }
 
@@ -120,9 +127,10 @@ module _ {S : Type 0} (opening : S) (apply : S → Address → List ℕ → S) (
 
   -- it is so one happening further exactly where it was so and all conditions hold
   pub synchronous-exactly : (t : List Happening) (h : Happening) → IsVirtuallySynchronous opening apply decode (t ++ h ∷ []) ↔ (IsVirtuallySynchronous opening apply decode t × GoesOn opening apply decode t h)
-  synchronous-exactly t h =
-      ( (λ r. (EachPlace-before Keeps t h r, keeps-needed t h (EachPlace-whole Keeps (t ++ h ∷ []) r)))
-      , (λ r. synchronous-push t h r.0 r.1) )
+  synchronous-exactly t h = (
+    (λ r. (EachPlace-before Keeps t h r, keeps-needed t h (EachPlace-whole Keeps (t ++ h ∷ []) r))),
+    (λ r. synchronous-push t h r.0 r.1),
+  )
 
   -- THE FIRST BREAK
 
@@ -172,7 +180,7 @@ module _ {S : Type 0} (opening : S) (apply : S → Address → List ℕ → S) (
       → o ≡ Some rule → MatchOption o K (λ r. BreaksNext opening apply decode r past h) → BreaksFirst opening apply decode t rule (i + 1)
   step-broken t i h past o rule K e so_far r is m =
       breaks-first t i h rule e r
-        (subst (λ (s : List Happening). BreaksNext opening apply decode rule s h) so_far (subst (λ (x : Option Rule). MatchOption x K (λ r. BreaksNext opening apply decode r past h)) is m))
+      (subst (λ (s : List Happening). BreaksNext opening apply decode rule s h) so_far (subst (λ (x : Option Rule). MatchOption x K (λ r. BreaksNext opening apply decode r past h)) is m))
 
   -- where it names none, all goes on
   pub step-on : (past : List Happening) (h : Happening) (o : Option Rule) (K : Type 0) → o ≡ None → MatchOption o (GoesOn opening apply decode past h × K) (λ r. BreaksNext opening apply decode r past h) → GoesOn opening apply decode past h × K

@@ -1,17 +1,17 @@
 -- Together: it goes one happening further exactly when who enters knows all that have installed its view.
-use Rattle.std.proofs.Common.{◌≡◌, ◌↔◌, ℕ, ◌+◌, Bool, true, false, List, [], ◌∷◌, ◌++◌, length, take, Option, Some, None, slice_get, sym, refl, ap, ◌∙◌, subst}
-use Rattle.std.proofs.lemmas.Bool.{and_from, and_parts}
-use Rattle.address.specs.Ids.{Address, ViewId, same_address, same_view_id}
+use Rattle.std.proofs.Common.{◌≡◌, ◌↔◌, ℕ, true, List, [], ◌∷◌, ◌++◌, length, take, Some, None, slice_get, sym, refl, ap, ◌∙◌, subst}
+use Rattle.std.proofs.lemmas.Bool.{and_parts}
+use Rattle.address.specs.Ids.{Address, same_address, same_view_id}
 use Rattle.view.specs.Members.{stands_in}
 use Rattle.trace_props.specs.declared.happening.Happening.{Happening}
 use Rattle.trace_props.specs.declared.happening.Happening.TheVariants.{Started, Sent, Delivered, Blocked, Installed, Left, Crashed}
 use Rattle.trace_props.specs.declared.happening.Install.{Install}
-use Rattle.trace_props.specs.Observed.{install_of, entry_of, first_install}
-use Rattle.trace_props.specs.Rules.{EntersAbove, RisesAt, HasRisingViews, EachTwoInstalls, LiesWithin, KnowsTogether}
+use Rattle.trace_props.specs.Observed.{install_of, entry_of}
+use Rattle.trace_props.specs.Rules.{EntersAbove, RisesAt, HasRisingViews, LiesWithin, KnowsTogether}
 use Rattle.trace_props.specs.Agreeing.{KnowEachOther, KnowsAll, MayKnow}
 use Rattle.trace_props.proofs.Places.{EachHappening-last, slice_get-last}
-use Rattle.trace_props.proofs.Observing.{same_address-true, same_view_id-true, same_view_id-from}
-use Rattle.trace_props.proofs.Telling.{enters, is_of, StandsIn, register-stands, register-written}
+use Rattle.trace_props.proofs.Observing.{same_view_id-true, same_view_id-from}
+use Rattle.trace_props.proofs.Telling.{enters, is_of, register-stands, register-written}
 use Rattle.trace_props.proofs.Installs.{EachInstall, EachInstall-still, EachInstall-push, EachTwoInstalls-still, EachTwoInstalls-push, EachTwoInstalls-left, EachTwoInstalls-right, EachTwoInstalls-last}
 use Rattle.trace_props.proofs.Following.{SameMembers}
 use Rattle.trace_props.proofs.Standing.{IsBelow-irreflexive, views-before, came-stands, entered}
@@ -43,7 +43,7 @@ inside-left t i views r k e s came =
     let f : Install = there.install in
     let same : f.view.id ≡ i.view.id = same_view_id-true f.view.id i.view.id (and_parts (same_address f.member e.member) (same_view_id f.view.id i.view.id) there.at.passes).1 in
     subst (λ (ms : List Address). LiesWithin e.together ms) (EachTwoInstalls-left SameMembers t i views.agrees there.at.place f there.at.stands same)
-      (r.within_previous k there.at.place e f s there.at.stands (came ∙ ap Some (sym same)))
+    (r.within_previous k there.at.place e f s there.at.stands (came ∙ ap Some (sym same)))
 
 -- the view from which it comes had the members of its first install
 inside-right : (t : List Happening) (i : Install) → HasRisingViews (t ++ Installed i ∷ []) → KnowsAll t i → EachInstall (λ f. InsideBefore i f) t
@@ -51,7 +51,7 @@ inside-right t i views m k f s came =
     let first = register-written (is_of f.view.id) t k f s (same_view_id-from f.view.id f.view.id refl) in
     let at = register-stands (is_of f.view.id) t first.0 first.1 in
     subst (λ (ms : List Address). LiesWithin i.together ms) ((views-before t (Installed i) views).agrees at.place k first.0 f at.stands s (same_view_id-true first.0.view.id f.view.id at.passes))
-      (m.before f.view.id came first.0 first.1)
+    (m.before f.view.id came first.0 first.1)
 
 -- each who has installed the view is known
 knows-each : (t : List Happening) (i : Install) → HasRisingViews (t ++ Installed i ∷ []) → KnowsAll t i → (k : ℕ) (e : Install) → slice_get t k ≡ Some (Installed e) → e.view.id ≡ i.view.id → KnowEachOther i e
@@ -59,8 +59,8 @@ knows-each t i views m k e s same =
     let before : HasRisingViews t = views-before t (Installed i) views in
     let above : EntersAbove (take k t) e = before.rises k (Installed e) s in
     m.others e.member
-      (ap (stands_in e.member) (sym (EachTwoInstalls-left SameMembers t i views.agrees k e s same)) ∙ above.inside)
-      e (ap (λ v. entry_of e.member v t) (sym same) ∙ entered t before k e s)
+    (ap (stands_in e.member) (sym (EachTwoInstalls-left SameMembers t i views.agrees k e s same)) ∙ above.inside)
+    e (ap (λ v. entry_of e.member v t) (sym same) ∙ entered t before k e s)
 
 knows-install : (t : List Happening) (i : Install) → HasRisingViews (t ++ Installed i ∷ []) → KnowsTogether t → KnowsAll t i → KnowsTogether (t ++ Installed i ∷ [])
 knows-install t i views r m =
@@ -68,11 +68,11 @@ knows-install t i views r m =
     record {
       within_view = EachInstall-push Inside Inside t i (λ e x. x) r.within_view m.inside;
       within_previous = EachTwoInstalls-push InsideBefore InsideBefore t i (λ e f x. x) r.within_previous (inside-left t i views r) (inside-right t i views m)
-        (λ came. absurd (IsBelow-irreflexive i.view.id (above.rises i.view.id came)));
+          (λ came. absurd (IsBelow-irreflexive i.view.id (above.rises i.view.id came)));
       exact = EachTwoInstalls-push Knows Knows t i (λ e f x. x) r.exact
-        (λ k e s same. (knows-each t i views m k e s same).known)
-        (λ k e s same. (knows-each t i views m k e s (sym same)).knows)
-        (λ same. ((λ x. refl), (λ x. m.itself)));
+          (λ k e s same. (knows-each t i views m k e s same).known)
+          (λ k e s same. (knows-each t i views m k e s (sym same)).knows)
+          (λ same. ((λ x. refl), (λ x. m.itself)));
     }
 
 -- together goes one happening further
@@ -90,16 +90,16 @@ knows-all : (t : List Happening) (i : Install) → KnowsTogether (t ++ Installed
 knows-all t i r = record {
   inside = r.within_view (length t) i (slice_get-last t (Installed i));
   before = λ v came f e.
-    let at = register-stands (is_of v) t f e in
-    EachTwoInstalls-right InsideBefore t i r.within_previous at.place f at.stands (came ∙ ap Some (sym (same_view_id-true f.view.id v at.passes)));
+      let at = register-stands (is_of v) t f e in
+      EachTwoInstalls-right InsideBefore t i r.within_previous at.place f at.stands (came ∙ ap Some (sym (same_view_id-true f.view.id v at.passes)));
   itself = (EachTwoInstalls-last Knows t i r.exact refl).1 refl;
   others = λ q stands f e.
-    let at = register-stands (enters q i.view.id) t f e in
-    let same : f.view.id ≡ i.view.id = same_view_id-true f.view.id i.view.id (and_parts (same_address f.member q) (same_view_id f.view.id i.view.id) at.passes).1 in
-    record {
-      knows = EachTwoInstalls-right Knows t i r.exact at.place f at.stands (sym same);
-      known = EachTwoInstalls-left Knows t i r.exact at.place f at.stands same;
-    };
+      let at = register-stands (enters q i.view.id) t f e in
+      let same : f.view.id ≡ i.view.id = same_view_id-true f.view.id i.view.id (and_parts (same_address f.member q) (same_view_id f.view.id i.view.id) at.passes).1 in
+      record {
+        knows = EachTwoInstalls-right Knows t i r.exact at.place f at.stands (sym same);
+        known = EachTwoInstalls-left Knows t i r.exact at.place f at.stands same;
+      };
 }
 
 -- what happens under the rule may know

@@ -1,19 +1,17 @@
 -- Same next view, same list: it goes one happening further exactly when who enters was told as many messages as the first who went the same way.
-use Rattle.std.proofs.Common.{◌≡◌, ℕ, ◌+◌, Bool, true, false, List, [], ◌∷◌, ◌++◌, length, take, Option, Some, None, slice_get, sym, refl, ap, ◌∙◌, subst}
+use Rattle.std.proofs.Common.{◌≡◌, ℕ, Bool, true, false, List, [], ◌∷◌, ◌++◌, length, take, Option, Some, None, slice_get, sym, refl, ap, ◌∙◌}
 use Rattle.std.proofs.lemmas.Bool.{and_from, and_parts, true≢false}
 use Rattle.std.proofs.lemmas.Option.{none-some, same_Some}
-use Rattle.address.specs.Ids.{Address, ViewId, same_address, same_view_id}
+use Rattle.address.specs.Ids.{Address, ViewId, same_view_id}
 use Rattle.trace_props.specs.declared.happening.Happening.{Happening}
 use Rattle.trace_props.specs.declared.happening.Happening.TheVariants.{Started, Sent, Delivered, Blocked, Installed, Left, Crashed}
-use Rattle.trace_props.specs.declared.happening.Message.{Message}
 use Rattle.trace_props.specs.declared.happening.Install.{Install}
 use Rattle.trace_props.specs.declared.happening.Delivery.{Delivery}
-use Rattle.trace_props.specs.Places.{IsBeginningOf}
-use Rattle.trace_props.specs.Observed.{delivered_in, current_view, told, install_of}
-use Rattle.trace_props.specs.Rules.{MayStand, HasRisingViews, HasOneOrder, EachTwoInstalls, HasSameNext}
-use Rattle.trace_props.specs.Agreeing.{is_view, goes, first_from, MayMeet}
-use Rattle.trace_props.proofs.Observing.{same_view_id-true, same_view_id-from, same_view_id-refl}
-use Rattle.trace_props.proofs.Telling.{told_to, told_to-true, delivered_in-still, delivered_in-miss, StandsIn, register-stands, register-written}
+use Rattle.trace_props.specs.Observed.{delivered_in, current_view, install_of}
+use Rattle.trace_props.specs.Rules.{MayStand, HasRisingViews, HasOneOrder, HasSameNext}
+use Rattle.trace_props.specs.Agreeing.{is_view, goes, MayMeet}
+use Rattle.trace_props.proofs.Observing.{same_view_id-true, same_view_id-from}
+use Rattle.trace_props.proofs.Telling.{told_to, told_to-true, delivered_in-still, delivered_in-miss, register-stands, register-written}
 use Rattle.trace_props.proofs.Installs.{EachInstall, EachTwoInstalls-still, EachTwoInstalls-push, EachTwoInstalls-right}
 use Rattle.trace_props.proofs.Standing.{gone}
 
@@ -42,7 +40,7 @@ meets-kept : (t : List Happening) (h : Happening) → install_of h ≡ None
     → HasSameNext t → HasSameNext (t ++ h ∷ [])
 meets-kept t h none same r =
     EachTwoInstalls-still (SameList (t ++ h ∷ [])) (SameList (t ++ h ∷ [])) t h (λ e f x. x) none
-      (λ j k e f a b next v left right. same j e v a left ∙ r j k e f a b next v left right ∙ sym (same k f v b right))
+    (λ j k e f a b next v left right. same j e v a left ∙ r j k e f a b next v left right ∙ sym (same k f v b right))
 
 -- who has gone from a view is told nothing more there
 gone-told : (t : List Happening) (d : Delivery) (b : Bool) (k : ℕ) (e : Install) (v : ViewId) → told_to e.member v d ≡ b → HasRisingViews t → MayStand t (Delivered d)
@@ -61,7 +59,7 @@ meets-old t i order r m k e s next v left right =
     let at = register-stands (goes v i.view.id) t first.0 first.1 in
     let way = and_parts (same_view_id first.0.view.id i.view.id) (is_view v first.0.previous) at.passes in
     r k at.place e first.0 s at.stands (next ∙ sym (same_view_id-true first.0.view.id i.view.id way.0)) v left (is_view-true v first.0.previous way.1)
-      ∙ same-length t first.0.member i.member v order (m v right first.0 first.1)
+    ∙ same-length t first.0.member i.member v order (m v right first.0 first.1)
 
 -- an install changes no list
 list-stays : (t : List Happening) (i e f : Install) → SameList t e f → SameList (t ++ Installed i ∷ []) e f
@@ -76,9 +74,9 @@ list-stayed t i e f x next v left right =
 meets-install : (t : List Happening) (i : Install) → HasOneOrder t → HasSameNext t → MayMeet t (Installed i) → HasSameNext (t ++ Installed i ∷ [])
 meets-install t i order r m =
     EachTwoInstalls-push (SameList t) (SameList (t ++ Installed i ∷ [])) t i (list-stays t i) r
-      (λ k e s. list-stays t i e i (meets-old t i order r m k e s))
-      (λ k e s. list-stays t i i e (λ next v left right. sym (meets-old t i order r m k e s (sym next) v right left)))
-      (λ next v left right. refl)
+    (λ k e s. list-stays t i e i (meets-old t i order r m k e s))
+    (λ k e s. list-stays t i i e (λ next v left right. sym (meets-old t i order r m k e s (sym next) v right left)))
+    (λ next v left right. refl)
 
 -- same next view, same list goes one happening further
 pub meets-push : (t : List Happening) (h : Happening) → HasRisingViews t → HasOneOrder t → MayStand t h → HasSameNext t → MayMeet t h → HasSameNext (t ++ h ∷ [])

@@ -1,8 +1,8 @@
 -- What follows a trace under the first four rules is what may follow: each rule one happening further gives its condition.
-use Rattle.std.proofs.Common.{◌≡◌, ◌↔◌, ℕ, ◌+◌, Bool, true, false, List, [], ◌∷◌, ◌++◌, length, Option, Some, None, slice_get, sym, refl, ap, ◌∙◌, subst}
+use Rattle.std.proofs.Common.{◌≡◌, ◌↔◌, ℕ, ◌+◌, false, List, [], ◌∷◌, ◌++◌, length, Some, slice_get, sym, refl, ap, ◌∙◌, subst}
 use Rattle.std.proofs.lemmas.Bool.{and_left}
 use Rattle.std.specs.Option.{ForSome}
-use Rattle.address.specs.Ids.{Address, ViewId, same_address, same_view_id}
+use Rattle.address.specs.Ids.{same_address, same_view_id}
 use Rattle.trace_props.specs.declared.happening.Happening.{Happening}
 use Rattle.trace_props.specs.declared.happening.Happening.TheVariants.{Started, Sent, Delivered, Blocked, Installed, Left, Crashed}
 use Rattle.trace_props.specs.declared.happening.Numbered.{Numbered}
@@ -12,7 +12,7 @@ use Rattle.trace_props.specs.declared.happening.Delivery.{Delivery}
 use Rattle.trace_props.specs.declared.happening.Sending.{Sending}
 use Rattle.trace_props.specs.Places.{EachPlace, IsBeginningOf}
 use Rattle.trace_props.specs.Observed.{delivered_in, sent_in, numbered, own, first_install}
-use Rattle.trace_props.specs.Rules.{MayStand, IsWellPlaced, RisesAt, EntersAbove, HasRisingViews, HasSoundMessages, HasOneOrder}
+use Rattle.trace_props.specs.Rules.{MayStand, IsWellPlaced, RisesAt, HasRisingViews, HasSoundMessages, HasOneOrder}
 use Rattle.trace_props.specs.Synchrony.{IsWellOrdered}
 use Rattle.trace_props.specs.Following.{MayRise, MayCarry, MayOrder, MayFollow}
 use Rattle.trace_props.proofs.Places.{EachHappening-last, EachPlace-before, EachPlace-whole, IsBeginningOf-last, slice_get-last}
@@ -20,7 +20,7 @@ use Rattle.trace_props.proofs.Observing.{same_view_id-true}
 use Rattle.trace_props.proofs.Telling.{told_to-at, delivered_in-hit, delivered_in-miss, said_by-at, sent_in-still, sent_in-hit, own-hit, is_of, register-stands}
 use Rattle.trace_props.proofs.Observing.{same_address-refl}
 use Rattle.trace_props.proofs.Installs.{EachTwoInstalls-right}
-use Rattle.trace_props.proofs.Following.{SameMembers, views-push, messages-push, order-push, well_ordered-push}
+use Rattle.trace_props.proofs.Following.{SameMembers, well_ordered-push}
 
 -- a happening that is well placed may stand there
 pub placed-needed : (t : List Happening) (h : Happening) → IsWellPlaced (t ++ h ∷ []) → MayStand t h
@@ -46,17 +46,17 @@ views-needed t (Crashed p) r = tt
 sent-needed : (t : List Happening) (s : Sending) → HasSoundMessages (t ++ Sent s ∷ []) → s.message.number ≡ length (sent_in s.member s.view t) + 1
 sent-needed t s r =
     r.numbers s.member s.view (length (sent_in s.member s.view t)) s.message
-      (ap (λ ms. slice_get ms (length (sent_in s.member s.view t))) (sent_in-hit s.member s.view t s (said_by-at s)) ∙ slice_get-last (sent_in s.member s.view t) s.message)
+    (ap (λ ms. slice_get ms (length (sent_in s.member s.view t))) (sent_in-hit s.member s.view t s (said_by-at s)) ∙ slice_get-last (sent_in s.member s.view t) s.message)
 
 -- a message that is told under sound messages is its sender's next
 told-needed : (t : List Happening) (d : Delivery) → HasSoundMessages (t ++ Delivered d ∷ [])
     → slice_get (sent_in d.message.sender d.view t) (length (own d.message.sender (delivered_in d.member d.view t))) ≡ Some (numbered d.message)
 told-needed t d r =
     IsBeginningOf-last (own d.message.sender (delivered_in d.member d.view t)) (sent_in d.message.sender d.view t) (numbered d.message)
-      (subst (λ (ns : List Numbered). IsBeginningOf (own d.message.sender (delivered_in d.member d.view t) ++ numbered d.message ∷ []) ns) (sent_in-still d.message.sender d.view t (Delivered d) refl)
-        (subst (λ (ns : List Numbered). IsBeginningOf ns (sent_in d.message.sender d.view (t ++ Delivered d ∷ [])))
-          (ap (own d.message.sender) (delivered_in-hit d.member d.view t d (told_to-at d)) ∙ own-hit d.message.sender (delivered_in d.member d.view t) d.message (same_address-refl d.message.sender))
-          (r.in_turn d.member d.message.sender d.view)))
+    (subst (λ (ns : List Numbered). IsBeginningOf (own d.message.sender (delivered_in d.member d.view t) ++ numbered d.message ∷ []) ns) (sent_in-still d.message.sender d.view t (Delivered d) refl)
+    (subst (λ (ns : List Numbered). IsBeginningOf ns (sent_in d.message.sender d.view (t ++ Delivered d ∷ [])))
+    (ap (own d.message.sender) (delivered_in-hit d.member d.view t d (told_to-at d)) ∙ own-hit d.message.sender (delivered_in d.member d.view t) d.message (same_address-refl d.message.sender))
+    (r.in_turn d.member d.message.sender d.view)))
 
 -- what happens under sound messages may carry its message
 pub messages-needed : (t : List Happening) (h : Happening) → HasSoundMessages (t ++ h ∷ []) → MayCarry t h
@@ -76,10 +76,10 @@ told-in-order : (t : List Happening) (d : Delivery) → HasOneOrder (t ++ Delive
     → slice_get (delivered_in d.view.creator d.view t) (length (delivered_in d.member d.view t)) ≡ Some d.message
 told-in-order t d r e =
     IsBeginningOf-last (delivered_in d.member d.view t) (delivered_in d.view.creator d.view t) d.message
-      (subst (λ (ns : List Message). IsBeginningOf (delivered_in d.member d.view t ++ d.message ∷ []) ns)
-        (delivered_in-miss d.view.creator d.view t d (and_left (same_address d.member d.view.creator) (same_view_id d.view d.view) e))
-        (subst (λ (ms : List Message). IsBeginningOf ms (delivered_in d.view.creator d.view (t ++ Delivered d ∷ [])))
-          (delivered_in-hit d.member d.view t d (told_to-at d)) (r d.member d.view)))
+    (subst (λ (ns : List Message). IsBeginningOf (delivered_in d.member d.view t ++ d.message ∷ []) ns)
+    (delivered_in-miss d.view.creator d.view t d (and_left (same_address d.member d.view.creator) (same_view_id d.view d.view) e))
+    (subst (λ (ms : List Message). IsBeginningOf ms (delivered_in d.view.creator d.view (t ++ Delivered d ∷ [])))
+    (delivered_in-hit d.member d.view t d (told_to-at d)) (r d.member d.view)))
 
 -- what happens under one order may follow it
 pub order-needed : (t : List Happening) (h : Happening) → HasOneOrder (t ++ h ∷ []) → MayOrder t h
@@ -102,6 +102,7 @@ well_ordered-needed t h r = record {
 
 -- the four rules hold at every place one happening further exactly where they held at every place and it may follow
 pub well_ordered-exactly : (t : List Happening) (h : Happening) → EachPlace IsWellOrdered (t ++ h ∷ []) ↔ (EachPlace IsWellOrdered t × MayFollow t h)
-well_ordered-exactly t h =
-    ( (λ r. (EachPlace-before IsWellOrdered t h r, well_ordered-needed t h (EachPlace-whole IsWellOrdered (t ++ h ∷ []) r)))
-    , (λ r. well_ordered-push t h r.0 r.1) )
+well_ordered-exactly t h = (
+  (λ r. (EachPlace-before IsWellOrdered t h r, well_ordered-needed t h (EachPlace-whole IsWellOrdered (t ++ h ∷ []) r))),
+  (λ r. well_ordered-push t h r.0 r.1),
+)

@@ -1,7 +1,7 @@
 -- What is kept of messages and installs, one happening further.
 use Rattle.std.proofs.Common.{◌≡◌, ℕ, ◌+◌, Bool, true, false, ◌&&◌, cond, List, [], ◌∷◌, ◌++◌, length, Option, Some, None, Vec, Bor, is_some, is_eq, find, unwrap_or, MatchBool, sym, refl, ap, ap₂, ◌∙◌, subst}
 use Rattle.std.specs.Option.{option_or, option_copied}
-use Rattle.std.proofs.lemmas.Bool.{and_from, and_parts, and_left, and_right, cond-true, cond-false, true≢false}
+use Rattle.std.proofs.lemmas.Bool.{and_parts, and_right, true≢false}
 use Rattle.std.proofs.lemmas.List.{length_push}
 use Rattle.std.proofs.lemmas.Option.{none-some, same_Some}
 use Rattle.address.specs.Ids.{Address, ViewId, same_address, same_view_id, view_id_cmp}
@@ -15,12 +15,12 @@ use Rattle.trace_props.specs.declared.happening.Install.{Install}
 use Rattle.trace_props.specs.declared.known.seat.Seat.{Seat}
 use Rattle.trace_props.specs.declared.known.seat.Pair.{Pair}
 use Rattle.trace_props.specs.declared.known.seat.Way.{Way}
-use Rattle.trace_props.specs.Observed.{numbered, told, said, delivered_in, sent_in, own, install_of, installs_in, entry_of, first_install}
+use Rattle.trace_props.specs.Observed.{numbered, told, said, delivered_in, sent_in, own, install_of, installs_in}
 use Rattle.trace_props.specs.Following.{MayCarry}
 use Rattle.trace_props.specs.Agreeing.{is_view, goes, first_from}
-use Rattle.trace_props.specs.Known.{sending_of, delivery_of, listed, seat_cmp, same_seat, pair_cmp, same_pair, way_cmp, same_way, KnowsSent, KnowsTold, KnowsLast, KnowsEntries, KnowsFirsts, KnowsWays}
-use Rattle.trace_props.proofs.Observing.{same_address-true, same_address-refl, same_view_id-true, same_view_id-refl}
-use Rattle.trace_props.proofs.Telling.{told_to, told_to-true, delivered_in-still, delivered_in-hit, delivered_in-miss, said_by, sent_in-still, sent_in-hit, sent_in-miss, own-hit, own-miss, enters, is_of, register-still, register-push, install_of-some}
+use Rattle.trace_props.specs.Known.{sending_of, delivery_of, listed, seat_cmp, same_seat, same_pair, way_cmp, same_way, KnowsSent, KnowsTold, KnowsLast, KnowsEntries, KnowsFirsts, KnowsWays}
+use Rattle.trace_props.proofs.Observing.{same_address-true, same_view_id-true}
+use Rattle.trace_props.proofs.Telling.{told_to, told_to-true, delivered_in-still, delivered_in-hit, delivered_in-miss, sent_in-still, sent_in-hit, sent_in-miss, own-hit, own-miss, enters, is_of, register-still, register-push, install_of-some}
 use Rattle.trace_props.proofs.Seats.{is_eq-then, is_eq-seat, is_eq-view_id, same_seat-true}
 
 and-swap : (a b : Bool) → (a && b) ≡ (b && a)
@@ -75,7 +75,7 @@ number-next : (t : List Happening) (d : Delivery) (p q : Address) (v : ViewId) �
     → d.message.number ≡ length (own q (delivered_in p v t)) + 1
 number-next t d p q v a b c m =
     m.0 ∙ ap (λ x. length (own d.message.sender (delivered_in x d.view t)) + 1) a ∙ ap (λ x. length (own d.message.sender (delivered_in p x t)) + 1) b
-      ∙ ap (λ x. length (own x (delivered_in p v t)) + 1) c
+    ∙ ap (λ x. length (own x (delivered_in p v t)) + 1) c
 
 last-at : (m : Pair → Option ℕ) (t : List Happening) (d : Delivery) (s : Pair) (b c : Bool) → told_to s.seat.member s.seat.view d ≡ b → same_address d.message.sender s.sender ≡ c → MayCarry t (Delivered d) → KnowsLast m t
     → unwrap_or (cond (b && c) (Some d.message.number) (m s)) 0 ≡ length (own s.sender (delivered_in s.seat.member s.seat.view (t ++ Delivered d ∷ [])))
@@ -85,9 +85,9 @@ last-at m t d s true false e f may r =
 last-at m t d s true true e f may r =
     let same = told_to-true s.seat.member s.seat.view d e in
     number-next t d s.seat.member s.sender s.seat.view same.0 same.1 (same_address-true d.message.sender s.sender f) may
-      ∙ sym (length_push (own s.sender (delivered_in s.seat.member s.seat.view t)) (numbered d.message))
-      ∙ ap length (sym (own-hit s.sender (delivered_in s.seat.member s.seat.view t) d.message f))
-      ∙ ap (λ l. length (own s.sender l)) (sym (delivered_in-hit s.seat.member s.seat.view t d e))
+    ∙ sym (length_push (own s.sender (delivered_in s.seat.member s.seat.view t)) (numbered d.message))
+    ∙ ap length (sym (own-hit s.sender (delivered_in s.seat.member s.seat.view t) d.message f))
+    ∙ ap (λ l. length (own s.sender l)) (sym (delivered_in-hit s.seat.member s.seat.view t d e))
 
 -- the number of a message that is told is kept
 pub last-noted : (m n : Pair → Option ℕ) (t : List Happening) (d : Delivery)
@@ -95,7 +95,7 @@ pub last-noted : (m n : Pair → Option ℕ) (t : List Happening) (d : Delivery)
     → MayCarry t (Delivered d) → KnowsLast m t → KnowsLast n (t ++ Delivered d ∷ [])
 last-noted m n t d updates may r s =
     ap (λ o. unwrap_or o 0) (updates s ∙ ap (λ b. cond (b && same_address d.message.sender s.sender) (Some d.message.number) (m s)) (and-swap (same_view_id d.view s.seat.view) (same_address d.member s.seat.member)))
-      ∙ last-at m t d s (told_to s.seat.member s.seat.view d) (same_address d.message.sender s.sender) refl refl may r
+    ∙ last-at m t d s (told_to s.seat.member s.seat.view d) (same_address d.message.sender s.sender) refl refl may r
 
 -- REGISTERS
 
@@ -134,7 +134,7 @@ register-by test equal m n t key i true tests same e updates r k =
     ap option_copied (updates k) ∙ kept-at m key k i.now (test k i.now) (same k) e ∙ ap (λ o. option_or o (cond (test k i.now) (Some i.now) None)) (r k) ∙ sym (register-push (test k) t i.now)
 register-by test equal m n t key i false tests same e updates r k =
     ap option_copied (updates k ∙ ap (λ b. cond b (Some i) (m k)) (tests k)) ∙ written-at m key k i (test k i.now) (same k) e
-      ∙ ap (λ o. option_or o (cond (test k i.now) (Some i.now) None)) (r k) ∙ sym (register-push (test k) t i.now)
+    ∙ ap (λ o. option_or o (cond (test k i.now) (Some i.now) None)) (r k) ∙ sym (register-push (test k) t i.now)
 
 abbrev seat_of_install : Install → Seat
 seat_of_install i = record { view = i.view.id; member = i.member }
@@ -145,9 +145,9 @@ pub entry-noted : (m n : Seat → Option (Bor Install)) (t : List Happening) (i 
     → KnowsEntries m t → KnowsEntries n (t ++ Installed i.now ∷ [])
 entry-noted m n t i updates r =
     register-by (λ (k : Seat) j. enters k.member k.view j) (λ k. is_eq (seat_cmp (seat_of_install i.now) k)) m n t (seat_of_install i.now) i (is_some (m (seat_of_install i.now)))
-      (λ k. is_eq-seat (seat_of_install i.now) k ∙ and-swap (same_view_id i.now.view.id k.view) (same_address i.now.member k.member))
-      (λ k e. sym (same_seat-true (seat_of_install i.now) k (and-swap (same_view_id i.now.view.id k.view) (same_address i.now.member k.member) ∙ e)))
-      refl updates r
+    (λ k. is_eq-seat (seat_of_install i.now) k ∙ and-swap (same_view_id i.now.view.id k.view) (same_address i.now.member k.member))
+    (λ k e. sym (same_seat-true (seat_of_install i.now) k (and-swap (same_view_id i.now.view.id k.view) (same_address i.now.member k.member) ∙ e)))
+    refl updates r
 
 -- the first install of a view is kept
 pub first-noted : (m n : ViewId → Option (Bor Install)) (t : List Happening) (i : Bor Install)
@@ -155,7 +155,7 @@ pub first-noted : (m n : ViewId → Option (Bor Install)) (t : List Happening) (
     → KnowsFirsts m t → KnowsFirsts n (t ++ Installed i.now ∷ [])
 first-noted m n t i updates r =
     register-by is_of (λ k. is_eq (view_id_cmp i.now.view.id k)) m n t i.now.view.id i (is_some (m i.now.view.id))
-      (λ k. is_eq-view_id i.now.view.id k) (λ k e. sym (same_view_id-true i.now.view.id k e)) refl updates r
+    (λ k. is_eq-view_id i.now.view.id k) (λ k e. sym (same_view_id-true i.now.view.id k e)) refl updates r
 
 is_eq-way : (a b : Way) → is_eq (way_cmp a b) ≡ same_way a b
 is_eq-way a b = is_eq-then (view_id_cmp a.from b.from) (view_id_cmp a.to b.to) ∙ ap₂ ◌&&◌ (is_eq-view_id a.from b.from) (is_eq-view_id a.to b.to)
@@ -164,7 +164,7 @@ same_way-true : (a b : Way) → same_way a b ≡ true → a ≡ b
 same_way-true a b e =
     let parts = and_parts (same_view_id a.from b.from) (same_view_id a.to b.to) e in
     ap {B = Way} (λ (v : ViewId). record { from = v; to = a.to }) (same_view_id-true a.from b.from parts.0)
-      ∙ ap {B = Way} (λ (v : ViewId). record { from = b.from; to = v }) (same_view_id-true a.to b.to parts.1)
+    ∙ ap {B = Way} (λ (v : ViewId). record { from = b.from; to = v }) (same_view_id-true a.to b.to parts.1)
 
 abbrev way_of : ViewId → Install → Way
 way_of v i = record { from = v; to = i.view.id }
@@ -178,9 +178,9 @@ pub way-noted : (m n : Way → Option (Bor Install)) (t : List Happening) (i : B
     → KnowsWays m t → KnowsWays n (t ++ Installed i.now ∷ [])
 way-noted m n t i v came updates r =
     register-by (λ (k : Way) j. goes k.from k.to j) (λ k. is_eq (way_cmp (way_of v i.now) k)) m n t (way_of v i.now) i (is_some (m (way_of v i.now)))
-      (λ k. is_eq-way (way_of v i.now) k ∙ way-tests v i.now k came)
-      (λ k e. sym (same_way-true (way_of v i.now) k (way-tests v i.now k came ∙ e)))
-      refl updates r
+    (λ k. is_eq-way (way_of v i.now) k ∙ way-tests v i.now k came)
+    (λ k e. sym (same_way-true (way_of v i.now) k (way-tests v i.now k came ∙ e)))
+    refl updates r
 
 -- an install from nowhere goes no way
 pub way-none : (m : Way → Option (Bor Install)) (t : List Happening) (i : Install) → i.previous ≡ None → KnowsWays m t → KnowsWays m (t ++ Installed i ∷ [])
@@ -254,7 +254,7 @@ pub a-number : (m n : Pair → Option ℕ) (t : List Happening) (h : Happening) 
     → ((s : Pair) → n s ≡ cond (same_pair (pair_of d) s) (Some d.message.number) (m s)) → MayCarry t h → KnowsLast m t → KnowsLast n (t ++ h ∷ [])
 a-number m n t h d e updates may r =
     subst (λ (x : Happening). KnowsLast n (t ++ x ∷ [])) (sym (delivery-is h d (sym e)))
-      (last-noted m n t d updates (subst (λ (x : Happening). MayCarry t x) (delivery-is h d (sym e)) may) r)
+    (last-noted m n t d updates (subst (λ (x : Happening). MayCarry t x) (delivery-is h d (sym e)) may) r)
 
 -- a happening that installs nothing
 pub no-entry : (m : Seat → Option (Bor Install)) (t : List Happening) (h : Happening) → None ≡ install_of h → KnowsEntries m t → KnowsEntries m (t ++ h ∷ [])
@@ -272,24 +272,24 @@ pub an-entry : (m n : Seat → Option (Bor Install)) (t : List Happening) (h : H
     → KnowsEntries m t → KnowsEntries n (t ++ h ∷ [])
 an-entry m n t h i v e same updates r =
     subst (λ (x : Happening). KnowsEntries n (t ++ x ∷ [])) (sym (install_of-some h i.now (sym e)))
-      (entry-noted m n t i
-        (subst (λ (x : ViewId). MatchBool (is_some (m (record { view = x; member = i.now.member }))) ((k : Seat) → n k ≡ m k) ((k : Seat) → n k ≡ cond (is_eq (seat_cmp (record { view = x; member = i.now.member }) k)) (Some i) (m k))) same updates) r)
+    (entry-noted m n t i
+    (subst (λ (x : ViewId). MatchBool (is_some (m (record { view = x; member = i.now.member }))) ((k : Seat) → n k ≡ m k) ((k : Seat) → n k ≡ cond (is_eq (seat_cmp (record { view = x; member = i.now.member }) k)) (Some i) (m k))) same updates) r)
 
 pub a-first : (m n : ViewId → Option (Bor Install)) (t : List Happening) (h : Happening) (i : Bor Install) (v : ViewId) → Some i.now ≡ install_of h → v ≡ i.now.view.id
     → MatchBool (is_some (m v)) ((k : ViewId) → n k ≡ m k) ((k : ViewId) → n k ≡ cond (is_eq (view_id_cmp v k)) (Some i) (m k))
     → KnowsFirsts m t → KnowsFirsts n (t ++ h ∷ [])
 a-first m n t h i v e same updates r =
     subst (λ (x : Happening). KnowsFirsts n (t ++ x ∷ [])) (sym (install_of-some h i.now (sym e)))
-      (first-noted m n t i
-        (subst (λ (x : ViewId). MatchBool (is_some (m x)) ((k : ViewId) → n k ≡ m k) ((k : ViewId) → n k ≡ cond (is_eq (view_id_cmp x k)) (Some i) (m k))) same updates) r)
+    (first-noted m n t i
+    (subst (λ (x : ViewId). MatchBool (is_some (m x)) ((k : ViewId) → n k ≡ m k) ((k : ViewId) → n k ≡ cond (is_eq (view_id_cmp x k)) (Some i) (m k))) same updates) r)
 
 pub a-way : (m n : Way → Option (Bor Install)) (t : List Happening) (h : Happening) (i : Bor Install) (u v : ViewId) → Some i.now ≡ install_of h → i.now.previous ≡ Some u → v ≡ i.now.view.id
     → MatchBool (is_some (m (record { from = u; to = v }))) ((k : Way) → n k ≡ m k) ((k : Way) → n k ≡ cond (is_eq (way_cmp (record { from = u; to = v }) k)) (Some i) (m k))
     → KnowsWays m t → KnowsWays n (t ++ h ∷ [])
 a-way m n t h i u v e came same updates r =
     subst (λ (x : Happening). KnowsWays n (t ++ x ∷ [])) (sym (install_of-some h i.now (sym e)))
-      (way-noted m n t i u came
-        (subst (λ (x : ViewId). MatchBool (is_some (m (record { from = u; to = x }))) ((k : Way) → n k ≡ m k) ((k : Way) → n k ≡ cond (is_eq (way_cmp (record { from = u; to = x }) k)) (Some i) (m k))) same updates) r)
+    (way-noted m n t i u came
+    (subst (λ (x : ViewId). MatchBool (is_some (m (record { from = u; to = x }))) ((k : Way) → n k ≡ m k) ((k : Way) → n k ≡ cond (is_eq (way_cmp (record { from = u; to = x }) k)) (Some i) (m k))) same updates) r)
 
 pub no-way-from : (m : Way → Option (Bor Install)) (t : List Happening) (h : Happening) (i : Bor Install) → Some i.now ≡ install_of h → i.now.previous ≡ None → KnowsWays m t → KnowsWays m (t ++ h ∷ [])
 no-way-from m t h i e none r = subst (λ (x : Happening). KnowsWays m (t ++ x ∷ [])) (sym (install_of-some h i.now (sym e))) (way-none m t i.now none r)

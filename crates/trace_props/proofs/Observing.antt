@@ -22,7 +22,7 @@ pub same_address-true : (a b : Address) → same_address a b ≡ true → a ≡ 
 same_address-true a b e =
     let parts = and_parts (nat_eq a.node b.node) (nat_eq a.incarnation b.incarnation) e in
     ap {B = Address} (λ (x : ℕ). record { node = x; incarnation = a.incarnation }) (eqb-true a.node b.node parts.0)
-      ∙ ap {B = Address} (λ (y : ℕ). record { node = b.node; incarnation = y }) (eqb-true a.incarnation b.incarnation parts.1)
+    ∙ ap {B = Address} (λ (y : ℕ). record { node = b.node; incarnation = y }) (eqb-true a.incarnation b.incarnation parts.1)
 
 -- an address is the same as itself
 pub same_address-refl : (a : Address) → same_address a a ≡ true
@@ -49,7 +49,7 @@ pub same_view_id-true : (v w : ViewId) → same_view_id v w ≡ true → v ≡ w
 same_view_id-true v w e =
     let parts = and_parts (nat_eq v.counter w.counter) (same_address v.creator w.creator) e in
     ap {B = ViewId} (λ (x : ℕ). record { counter = x; creator = v.creator }) (eqb-true v.counter w.counter parts.0)
-      ∙ ap {B = ViewId} (λ (y : Address). record { counter = w.counter; creator = y }) (same_address-true v.creator w.creator parts.1)
+    ∙ ap {B = ViewId} (λ (y : Address). record { counter = w.counter; creator = y }) (same_address-true v.creator w.creator parts.1)
 
 -- a view id is the same as itself
 pub same_view_id-refl : (v : ViewId) → same_view_id v v ≡ true
@@ -174,4 +174,3 @@ is_blocked-now p t = is_blocked-push p t (Blocked p) ∙ cond-true (same_address
 -- an install opens its member
 pub is_blocked-open : (t : List Happening) (i : Install) → is_blocked i.member (t ++ Installed i ∷ []) ≡ false
 is_blocked-open t i = is_blocked-push i.member t (Installed i) ∙ cond-true (same_address i.member i.member) false (is_blocked i.member t) (same_address-refl i.member)
-

@@ -36,9 +36,9 @@ EachHappening-nil Rule k h e = absurd (slice_get-nil k h e)
 pub EachHappening-push : {H : Type 0} (Rule : List H → H → Type 0) (t : List H) (h : H) → EachHappening Rule t → Rule t h → EachHappening Rule (t ++ h ∷ [])
 EachHappening-push {H} Rule t h each new k x e =
     ⊎_elim
-      (λ (a : slice_get t k ≡ Some x). let within : k < length t = slice_get_within t k x a in subst (λ (s : List H). Rule s x) (sym (take-append-le k t (h ∷ []) (omega arith))) (each k x a))
-      (λ (b : (k ≡ length t) × (h ≡ x)). subst (λ (s : List H). Rule s x) (sym (take_at t (h ∷ []) k (sym b.0))) (subst (λ (y : H). Rule t y) b.1 new))
-      (slice_get-push t h k x e)
+    (λ (a : slice_get t k ≡ Some x). let within : k < length t = slice_get_within t k x a in subst (λ (s : List H). Rule s x) (sym (take-append-le k t (h ∷ []) (omega arith))) (each k x a))
+    (λ (b : (k ≡ length t) × (h ≡ x)). subst (λ (s : List H). Rule s x) (sym (take_at t (h ∷ []) k (sym b.0))) (subst (λ (y : H). Rule t y) b.1 new))
+    (slice_get-push t h k x e)
 
 -- it held of all but the last
 pub EachHappening-before : {H : Type 0} (Rule : List H → H → Type 0) (t : List H) (h : H) → EachHappening Rule (t ++ h ∷ []) → EachHappening Rule t
@@ -63,9 +63,9 @@ EachPlace-nil {H} Rule nothing k = subst Rule (sym (take-nil k)) nothing
 pub EachPlace-push : {H : Type 0} (Rule : List H → Type 0) (t : List H) (h : H) → EachPlace Rule t → Rule (t ++ h ∷ []) → EachPlace Rule (t ++ h ∷ [])
 EachPlace-push {H} Rule t h each new k =
     ⊎_elim
-      (λ (l : length t < k). let long : length (t ++ h ∷ []) ≡ length t + 1 = length_push t h in subst Rule (sym (take_all k (t ++ h ∷ []) (omega arith))) new)
-      (λ (l : k ≤ length t). subst Rule (sym (take-append-le k t (h ∷ []) l)) (each k))
-      (cases_lt (length t) k)
+    (λ (l : length t < k). let long : length (t ++ h ∷ []) ≡ length t + 1 = length_push t h in subst Rule (sym (take_all k (t ++ h ∷ []) (omega arith))) new)
+    (λ (l : k ≤ length t). subst Rule (sym (take-append-le k t (h ∷ []) l)) (each k))
+    (cases_lt (length t) k)
 
 -- the whole list is one of its beginnings
 pub EachPlace-whole : {H : Type 0} (Rule : List H → Type 0) (t : List H) → EachPlace Rule t → Rule t
@@ -75,9 +75,9 @@ EachPlace-whole Rule t each = subst Rule (take_all (length t) t (omega arith)) (
 pub EachPlace-before : {H : Type 0} (Rule : List H → Type 0) (t : List H) (h : H) → EachPlace Rule (t ++ h ∷ []) → EachPlace Rule t
 EachPlace-before {H} Rule t h each k =
     ⊎_elim
-      (λ (l : length t < k). subst Rule (take_at t (h ∷ []) (length t) refl ∙ sym (take_all k t (omega arith))) (each (length t)))
-      (λ (l : k ≤ length t). subst Rule (take-append-le k t (h ∷ []) l) (each k))
-      (cases_lt (length t) k)
+    (λ (l : length t < k). subst Rule (take_at t (h ∷ []) (length t) refl ∙ sym (take_all k t (omega arith))) (each (length t)))
+    (λ (l : k ≤ length t). subst Rule (take-append-le k t (h ∷ []) l) (each k))
+    (cases_lt (length t) k)
 
 -- BEGINNINGS
 

@@ -1,5 +1,5 @@
 -- The tests decide the conditions on each happening, whatever it tells.
-use Rattle.std.proofs.Common.{◌≡◌, Bool, true, false, List, Option, Some, None, sym, refl, subst}
+use Rattle.std.proofs.Common.{◌≡◌, Bool, true, List, Some, None, sym, refl, subst}
 use Rattle.std.specs.Bool.{Decides}
 use Rattle.std.proofs.lemmas.Option.{none-some}
 use Rattle.trace_props.specs.declared.happening.Happening.{Happening}

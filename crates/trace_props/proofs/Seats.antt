@@ -1,10 +1,10 @@
 -- Look-ups in the checker's tables by the tests of the definitions.
-use Rattle.std.proofs.Common.{◌≡◌, ℕ, ◌<◌, Bool, true, false, ◌&&◌, cond, List, [], ◌∷◌, ◌++◌, map, length, Option, Some, None, Vec, nat_eq, nat_cmp, is_eq, slice_get, option_map, get_or, sym, refl, ap, ap₂, ◌∙◌, subst, arith, Bor}
+use Rattle.std.proofs.Common.{◌≡◌, ℕ, ◌<◌, Bool, true, false, ◌&&◌, cond, List, [], ◌∷◌, ◌++◌, map, length, Option, Some, None, Vec, nat_eq, nat_cmp, is_eq, slice_get, option_map, get_or, sym, refl, ap, ap₂, ◌∙◌, arith, Bor}
 use Rattle.std.specs.Ordering.{ordering_then}
 use Rattle.std.specs.declared.cmp.Ordering.{Ordering}
 use Rattle.std.specs.declared.cmp.Ordering.TheVariants.{Less, Equal, Greater}
 use Rattle.std.proofs.lemmas.Bool.Decides.{nat_tests}
-use Rattle.std.proofs.lemmas.Bool.{and_parts, cond-true, cond-false}
+use Rattle.std.proofs.lemmas.Bool.{and_parts}
 use Rattle.std.proofs.lemmas.Option.{slice_get_read, slice_get-map}
 use Rattle.address.specs.Ids.{Address, ViewId, address_cmp, view_id_cmp, same_address, same_view_id}
 use Rattle.trace_props.specs.declared.known.seat.Seat.{Seat}
@@ -34,7 +34,7 @@ pub same_seat-true : (a b : Seat) → same_seat a b ≡ true → a ≡ b
 same_seat-true a b e =
     let parts = and_parts (same_view_id a.view b.view) (same_address a.member b.member) e in
     ap {B = Seat} (λ (v : ViewId). record { view = v; member = a.member }) (same_view_id-true a.view b.view parts.0)
-      ∙ ap {B = Seat} (λ (p : Address). record { view = b.view; member = p }) (same_address-true a.member b.member parts.1)
+    ∙ ap {B = Seat} (λ (p : Address). record { view = b.view; member = p }) (same_address-true a.member b.member parts.1)
 
 -- what is read at an index of a list of references
 pub listed-at : {T : Type 0} (xs : List (Bor T)) (n i : ℕ) (x : Bor T) → n ≡ length xs → i < n → x ≡ get_or xs i x → Some x.now ≡ slice_get (map (λ (b : Bor T). b.now) xs) i

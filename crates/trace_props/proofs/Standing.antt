@@ -1,19 +1,19 @@
 -- What rising views make of the installs that stand in a trace: each is its member's only one of its view, a member's
 -- current view is above all that it has left, and the view from which it came it had installed.
-use Rattle.std.proofs.Common.{◌≡◌, ℕ, ◌+◌, Bool, true, false, List, [], ◌∷◌, ◌++◌, length, take, Option, Some, None, slice_get, cond, find, sym, refl, ap, ◌∙◌, subst, ◌⊎◌, inl, inr, ⊎_elim, arith}
-use Rattle.std.specs.Option.{option_or, ForSome}
+use Rattle.std.proofs.Common.{◌≡◌, ℕ, Bool, true, false, List, [], ◌∷◌, ◌++◌, length, take, Option, Some, None, slice_get, cond, sym, refl, ap, ◌∙◌, subst, ◌⊎◌, inl, inr, arith}
+use Rattle.std.specs.Option.{option_or}
 use Rattle.std.proofs.lemmas.Bool.{and_from, and_parts, cond-true, cond-false}
 use Rattle.std.proofs.lemmas.Bool.Decides.{nat_tests}
 use Rattle.std.proofs.lemmas.List.{append-nil, append_assoc}
 use Rattle.std.proofs.lemmas.Option.{none-some, same_Some}
-use Rattle.address.specs.Ids.{Address, ViewId, same_address, same_view_id, view_id_cmp}
+use Rattle.address.specs.Ids.{Address, ViewId, same_address, same_view_id}
 use Rattle.trace_props.specs.declared.happening.Happening.{Happening}
 use Rattle.trace_props.specs.declared.happening.Happening.TheVariants.{Started, Sent, Delivered, Blocked, Installed, Left, Crashed}
 use Rattle.trace_props.specs.declared.happening.Install.{Install}
-use Rattle.trace_props.specs.Observed.{current_view, view_after, install_of, installs_in, entry_of}
+use Rattle.trace_props.specs.Observed.{current_view, view_after, install_of, entry_of}
 use Rattle.trace_props.specs.Rules.{IsBelow, RisesAt, EntersAbove, HasRisingViews}
-use Rattle.trace_props.proofs.Places.{slice_get-push, slice_get-before, slice_get-last, slice_get-take, EachHappening-before, EachHappening-last}
-use Rattle.trace_props.proofs.Observing.{same_address-true, same_address-refl, same_address-from, same_view_id-true, same_view_id-refl, current_view-push, current_view-now, current_view-other}
+use Rattle.trace_props.proofs.Places.{slice_get-before, slice_get-last, slice_get-take, EachHappening-before, EachHappening-last}
+use Rattle.trace_props.proofs.Observing.{same_address-true, same_address-refl, same_view_id-true, same_view_id-refl, current_view-push, current_view-now, current_view-other}
 use Rattle.trace_props.proofs.Telling.{enters, StandsIn, register-stands, register-stays, register-push}
 use Rattle.trace_props.proofs.Installs.{EachInstall, EachInstall-still, EachInstall-push, EachTwoInstalls-before}
 use Rattle.trace_props.proofs.Following.{SameMembers}
@@ -134,8 +134,8 @@ passes-still : (t : List Happening) (h : Happening) → ((p : Address) → view_
 unfolding Passes
 passes-still t h same none r views =
     EachInstall-still (IsPassed t) (IsPassed (t ++ h ∷ [])) t h
-      (λ e x. record { now = x.now; is = current_view-push e.member t h ∙ same e.member ∙ x.is; up_to = x.up_to })
-      none (r (views-before t h views))
+    (λ e x. record { now = x.now; is = current_view-push e.member t h ∙ same e.member ∙ x.is; up_to = x.up_to })
+    none (r (views-before t h views))
 
 passed-on : (t : List Happening) (i e : Install) (b : Bool) → same_address i.member e.member ≡ b → EntersAbove t i → IsPassed t e → IsPassed (t ++ Installed i ∷ []) e
 passed-on t i e false s above x = record { now = x.now; is = current_view-other e.member t (Installed i) s ∙ x.is; up_to = x.up_to }
@@ -155,9 +155,9 @@ passes-push t (Delivered d) r = passes-still t (Delivered d) (λ p. refl) refl r
 passes-push t (Blocked q) r = passes-still t (Blocked q) (λ p. refl) refl r
 passes-push t (Installed i) r = λ views.
     EachInstall-push (IsPassed t) (IsPassed (t ++ Installed i ∷ [])) t i
-      (λ e x. passed-on t i e (same_address i.member e.member) refl (EachHappening-last RisesAt t (Installed i) views.rises) x)
-      (r (views-before t (Installed i) views))
-      (record { now = i.view.id; is = current_view-now t i; up_to = inl refl })
+    (λ e x. passed-on t i e (same_address i.member e.member) refl (EachHappening-last RisesAt t (Installed i) views.rises) x)
+    (r (views-before t (Installed i) views))
+    (record { now = i.view.id; is = current_view-now t i; up_to = inl refl })
 passes-push t (Left q) r = passes-still t (Left q) (λ p. refl) refl r
 passes-push t (Crashed q) r = passes-still t (Crashed q) (λ p. refl) refl r
 
@@ -182,7 +182,7 @@ not-entered t i r above f e =
     let x = passed t r at.place f at.stands in
     let here : current_view i.member t ≡ Some x.now = subst (λ (p : Address). current_view p t ≡ Some x.now) (same_address-true f.member i.member parts.0) x.is in
     IsBelow-irreflexive i.view.id
-      (IsUpTo-below i.view.id x.now i.view.id (subst (λ (w : ViewId). IsUpTo w x.now) (same_view_id-true f.view.id i.view.id parts.1) x.up_to) (above.rises x.now (above.previous ∙ here)))
+    (IsUpTo-below i.view.id x.now i.view.id (subst (λ (w : ViewId). IsUpTo w x.now) (same_view_id-true f.view.id i.view.id parts.1) x.up_to) (above.rises x.now (above.previous ∙ here)))
 
 abbrev IsEntry : List Happening → Install → Type 0
 IsEntry t e = entry_of e.member e.view.id t ≡ Some e
@@ -199,7 +199,7 @@ enters-still t h none r views =
 entry-new : (t : List Happening) (i : Install) (o : Option Install) → entry_of i.member i.view.id t ≡ o → HasRisingViews t → EntersAbove t i → IsEntry (t ++ Installed i ∷ []) i
 entry-new t i None e r above =
     register-push (enters i.member i.view.id) t i ∙ ap (λ o. option_or o (cond (enters i.member i.view.id i) (Some i) None)) e
-      ∙ cond-true (enters i.member i.view.id i) (Some i) None (and_from (same_address i.member i.member) (same_view_id i.view.id i.view.id) (same_address-refl i.member) (same_view_id-refl i.view.id))
+    ∙ cond-true (enters i.member i.view.id i) (Some i) None (and_from (same_address i.member i.member) (same_view_id i.view.id i.view.id) (same_address-refl i.member) (same_view_id-refl i.view.id))
 entry-new t i (Some f) e r above = absurd (not-entered t i r above f e)
 
 enters-push : (t : List Happening) (h : Happening) → Enters t → Enters (t ++ h ∷ [])
@@ -210,8 +210,8 @@ enters-push t (Delivered d) r = enters-still t (Delivered d) refl r
 enters-push t (Blocked q) r = enters-still t (Blocked q) refl r
 enters-push t (Installed i) r = λ views.
     EachInstall-push (IsEntry t) (IsEntry (t ++ Installed i ∷ [])) t i (λ e x. register-stays (enters e.member e.view.id) t (Installed i ∷ []) e x)
-      (r (views-before t (Installed i) views))
-      (entry-new t i (entry_of i.member i.view.id t) refl (views-before t (Installed i) views) (EachHappening-last RisesAt t (Installed i) views.rises))
+    (r (views-before t (Installed i) views))
+    (entry-new t i (entry_of i.member i.view.id t) refl (views-before t (Installed i) views) (EachHappening-last RisesAt t (Installed i) views.rises))
 enters-push t (Left q) r = enters-still t (Left q) refl r
 enters-push t (Crashed q) r = enters-still t (Crashed q) refl r
 

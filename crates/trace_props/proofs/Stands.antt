@@ -1,5 +1,5 @@
 -- How members stand one happening further.
-use Rattle.std.proofs.Common.{◌≡◌, Bool, true, false, cond, List, [], ◌∷◌, ◌++◌, Option, Some, None, sym, refl, ap, ◌∙◌, subst}
+use Rattle.std.proofs.Common.{◌≡◌, Bool, true, false, cond, List, [], ◌∷◌, ◌++◌, Option, Some, sym, refl, ap, ◌∙◌}
 use Rattle.address.specs.Ids.{Address, ViewId, same_address}
 use Rattle.trace_props.specs.declared.happening.Happening.{Happening}
 use Rattle.trace_props.specs.declared.happening.Happening.TheVariants.{Started, Sent, Delivered, Blocked, Installed, Left, Crashed}
@@ -57,6 +57,6 @@ pub standings-noted : (m n : Address → Option Standing) (t : List Happening) (
     → ((q : Address) → n q ≡ cond (same_address p q) (Some s) (m q)) → KnowsStandings m t → KnowsStandings n (t ++ h ∷ [])
 standings-noted m n t h p a s who was next updates r =
     standings-push m n t h
-      (λ q. updates q ∙ ap (λ x. cond (same_address x q) (Some s) (m q)) who
-        ∙ ap (λ x. cond (same_address (member_of h) q) (Some x) (m q)) (next ∙ ap (λ b. standing_after b h) (was ∙ ap (λ x. stood (m x)) who)))
-      r
+    (λ q. updates q ∙ ap (λ x. cond (same_address x q) (Some s) (m q)) who
+    ∙ ap (λ x. cond (same_address (member_of h) q) (Some x) (m q)) (next ∙ ap (λ b. standing_after b h) (was ∙ ap (λ x. stood (m x)) who)))
+    r

@@ -114,7 +114,7 @@ own-hit q messages m e = filter_map-more (own_by q) messages m (numbered m) (con
 own-front : (messages : List Message) (x m : Message) → x ≡ m → slice_get (own m.sender (x ∷ messages)) 0 ≡ Some (numbered m)
 own-front messages x m e =
     subst (λ (y : Message). slice_get (own m.sender (y ∷ messages)) 0 ≡ Some (numbered m)) (sym e)
-      (ap (λ o. slice_get (cons_option o (own m.sender messages)) 0) (cond-true (same_address m.sender m.sender) (Some (numbered m)) None (same_address-refl m.sender)))
+    (ap (λ o. slice_get (cons_option o (own m.sender messages)) 0) (cond-true (same_address m.sender m.sender) (Some (numbered m)) None (same_address-refl m.sender)))
 
 -- one more message in front, of this sender or another
 own-behind : (x : Message) (messages : List Message) (m : Message) (b : Bool) → same_address x.sender m.sender ≡ b → (n : ℕ) × (slice_get (own m.sender messages) n ≡ Some (numbered m)) → (n : ℕ) × (slice_get (own m.sender (x ∷ messages)) n ≡ Some (numbered m))

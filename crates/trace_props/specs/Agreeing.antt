@@ -83,7 +83,7 @@ MayEnter opening apply decode past (Blocked p) = Unit {0}
 MayEnter opening apply decode past (Installed i) =
     ForSome i.given (λ g. IsSome (decode g))
     × MatchOption (entry_state opening apply decode i.view.id past)
-        (same_address i.member i.view.id.creator ≡ true)
-        (λ s. s ≡ state_of opening apply decode i.member (past ++ Installed i ∷ []))
+    (same_address i.member i.view.id.creator ≡ true)
+    (λ s. s ≡ state_of opening apply decode i.member (past ++ Installed i ∷ []))
 MayEnter opening apply decode past (Left p) = Unit {0}
 MayEnter opening apply decode past (Crashed p) = Unit {0}

@@ -1,5 +1,5 @@
 -- What a checker keeps of states: a receiver for each member, and with which state each view was entered.
-use Rattle.std.specs.Prelude.{◌≡◌, ℕ, Bool, Option, None, Some, List, unwrap_or, option_map, MatchOption, cond, ◌&&◌}
+use Rattle.std.specs.Prelude.{◌≡◌, ℕ, Bool, Option, Some, List, unwrap_or, option_map, MatchOption, cond, ◌&&◌}
 use Rattle.std.specs.Str.{bytes_eq}
 use Rattle.address.specs.Ids.{Address, ViewId, same_view_id}
 use Rattle.trace_props.specs.declared.happening.Happening.{Happening}
@@ -17,5 +17,5 @@ pub record KnowsStates {S : Type 0} (opening : S) (apply : S → Address → Lis
 abbrev pub EntersWith : (old new : ViewId → Option (List ℕ)) → ViewId → Bool → List ℕ → Bool → Type 0
 EntersWith old new view first bytes ok =
     MatchOption (old view)
-      ((ok ≡ first) × ((w : ViewId) → new w ≡ cond (first && same_view_id view w) (Some bytes) (old w)))
-      (λ e. (ok ≡ bytes_eq e bytes) × ((w : ViewId) → new w ≡ old w))
+    ((ok ≡ first) × ((w : ViewId) → new w ≡ cond (first && same_view_id view w) (Some bytes) (old w)))
+    (λ e. (ok ≡ bytes_eq e bytes) × ((w : ViewId) → new w ≡ old w))

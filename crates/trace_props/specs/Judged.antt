@@ -1,5 +1,5 @@
 -- The conditions on the next happening as tests, over what is known of the past.
-use Rattle.std.specs.Prelude.{◌≡◌, ℕ, ◌+◌, Bool, true, false, ◌&&◌, ◌||◌, not, Option, None, Some, List, length, nat_eq, slice_get, is_some}
+use Rattle.std.specs.Prelude.{Bool, true, false, ◌&&◌, not, Option, None, Some, List, length, nat_eq, is_some}
 use Rattle.std.specs.List.{list_all}
 use Rattle.std.specs.Ordering.{is_lt}
 use Rattle.std.specs.Str.{bytes_eq}
@@ -12,9 +12,8 @@ use Rattle.trace_props.specs.declared.happening.Numbered.{Numbered}
 use Rattle.trace_props.specs.declared.happening.Message.{Message}
 use Rattle.trace_props.specs.declared.happening.Install.{Install}
 use Rattle.trace_props.specs.declared.known.standing.Standing.{Standing}
-use Rattle.trace_props.specs.Observed.{member_of, current_view, delivered_in, sent_in, own, entry_of, first_install}
+use Rattle.trace_props.specs.Observed.{delivered_in, entry_of, first_install}
 use Rattle.trace_props.specs.Agreeing.{is_view, first_from}
-use Rattle.trace_props.specs.Known.{standing_of}
 
 -- WELL PLACED
 

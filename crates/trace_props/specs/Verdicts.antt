@@ -1,5 +1,5 @@
 -- What a verdict says of a trace: that all rules hold, or which breaks first and where.
-use Rattle.std.specs.Prelude.{◌≡◌, ℕ, ◌<◌, ◌≤◌, List, [], ◌∷◌, Option, length, take}
+use Rattle.std.specs.Prelude.{ℕ, ◌<◌, ◌≤◌, List, [], ◌∷◌, Option, length, take}
 use Rattle.address.specs.Ids.{Address}
 use Rattle.trace_props.specs.declared.happening.Happening.{Happening}
 use Rattle.trace_props.specs.declared.verdict.Rule.{Rule}

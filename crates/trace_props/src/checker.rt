@@ -14,15 +14,18 @@ use state_transfer::Receiver;
 use std::alloc::{AllocError, Global};
 
 // The first rule that the happening breaks after the past; without one the states go on.
-fn judge<R: Receiver>(alloc: Global, past: &Past, states: &mut States<R>, happening: &Happening) -> Result<Option<Rule>, AllocError>
+fn judge<R: Receiver>(
+    alloc: Global,
+    past: &Past,
+    states: &mut States<R>,
+    happening: &Happening,
+) -> Result<Option<Rule>, AllocError>
     requires short { IsShort happening.now }
     requires known { KnowsStates R.opening_state R.apply R.decode R.encode R.is_state (get address_cmp states.old.states) (get view_id_cmp states.old.entering) past.now }
-    ensures {
-        IfOk result (λ broken. MatchOption broken
-            (GoesOn R.opening_state R.apply R.decode past.now happening.now
-                × KnowsStates R.opening_state R.apply R.decode R.encode R.is_state (get address_cmp states.new.states) (get view_id_cmp states.new.entering) (past.now ++ happening.now ∷ []))
-            (λ rule. BreaksNext R.opening_state R.apply R.decode rule past.now happening.now))
-    }
+    ensures { IfOk result (λ broken. MatchOption broken
+        (GoesOn R.opening_state R.apply R.decode past.now happening.now
+        × KnowsStates R.opening_state R.apply R.decode R.encode R.is_state (get address_cmp states.new.states) (get view_id_cmp states.new.entering) (past.now ++ happening.now ∷ []))
+        (λ rule. BreaksNext R.opening_state R.apply R.decode rule past.now happening.now)) }
 {
     match broken_rule(past, happening) {
         Some(rule) => Ok(Some(rule)),

@@ -8,5 +8,5 @@ mod states;
 
 pub use notes::{delivery_in, install_in, sending_in};
 pub use past::Past;
-pub use standing::{member, Standing};
+pub use standing::{Standing, member};
 pub use states::States;

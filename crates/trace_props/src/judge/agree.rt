@@ -5,8 +5,8 @@ ghost use Rattle.trace_props.specs.Observed.{entry_of};
 ghost use Rattle.trace_props.specs.Judged.{is_level, meets, lies_within, inside_first, inside_previous, alike, know_each_other, knows_all};
 
 use super::views::is_same_previous;
-use crate::known::Past;
 use crate::Install;
+use crate::known::Past;
 use address::{Address, ViewId};
 use view::Addresses;
 
@@ -26,7 +26,12 @@ pub fn may_meet(past: &Past, install: &Install) -> bool
 {
     match install.previous {
         None => true,
-        Some(previous) => is_as_far(past, past.way(previous, install.view.id()), previous, install.member),
+        Some(previous) => is_as_far(
+            past,
+            past.way(previous, install.view.id()),
+            previous,
+            install.member,
+        ),
     }
 }
 
@@ -34,7 +39,10 @@ pub fn may_meet(past: &Past, install: &Install) -> bool
 fn are_within(inner: &Addresses, outer: &Addresses) -> bool
     ensures { result ≡ lies_within inner.now outer.now }
 {
-    inner.as_slice().iter().all(|address| outer.contains(address))
+    inner
+        .as_slice()
+        .iter()
+        .all(|address| outer.contains(address))
 }
 
 fn are_within_first(first: Option<&Install>, together: &Addresses) -> bool
@@ -58,11 +66,7 @@ fn are_within_previous(past: &Past, previous: Option<ViewId>, together: &Address
 fn are_alike(one: bool, other: bool) -> bool
     ensures { result ≡ alike one other }
 {
-    if one {
-        other
-    } else {
-        !other
-    }
+    if one { other } else { !other }
 }
 
 fn know(entry: Option<&Install>, install: &Install) -> bool
@@ -71,8 +75,13 @@ fn know(entry: Option<&Install>, install: &Install) -> bool
     match entry {
         None => true,
         Some(entry) => {
-            are_alike(install.together.contains(&entry.member), is_same_previous(entry.previous, install.previous))
-                && are_alike(entry.together.contains(&install.member), is_same_previous(install.previous, entry.previous))
+            are_alike(
+                install.together.contains(&entry.member),
+                is_same_previous(entry.previous, install.previous),
+            ) && are_alike(
+                entry.together.contains(&install.member),
+                is_same_previous(install.previous, entry.previous),
+            )
         }
     }
 }
@@ -81,7 +90,9 @@ fn knows_each(past: &Past, members: &[Address], install: &Install) -> bool
     ensures { result ≡ list_all (λ q. know_each_other (entry_of q install.now.view.id past.now) install.now) members.now }
 {
     let id = install.view.id();
-    members.iter().all(|member| know(past.entry(*member, id), install))
+    members
+        .iter()
+        .all(|member| know(past.entry(*member, id), install))
 }
 
 /// Whether who enters knows all that have installed its view.

@@ -5,8 +5,8 @@ ghost use Rattle.trace_props.specs.Observed.{sent_in, delivered_in, own};
 ghost use Rattle.trace_props.specs.Judged.{is_numbered, is_message};
 
 use crate::known::Past;
-use address::Address;
 use crate::{Delivery, Message, Numbered, Sending};
+use address::Address;
 
 /// Whether a number is the next after a count.
 fn follows(number: u64, count: u64) -> bool
@@ -24,7 +24,8 @@ fn is_same_numbered(sent: Option<&Numbered>, message: &Message) -> bool
 {
     match sent {
         None => false,
-        Some(sent) => sent.number == message.number && sent.payload.as_slice() == message.payload.as_slice(),
+        Some(sent) => sent.number == message.number
+            && sent.payload.as_slice() == message.payload.as_slice(),
     }
 }
 
@@ -33,7 +34,9 @@ fn is_same_message(told: Option<&Message>, message: &Message) -> bool
 {
     match told {
         None => false,
-        Some(told) => told.sender == message.sender && told.number == message.number && told.payload.as_slice() == message.payload.as_slice(),
+        Some(told) => told.sender == message.sender
+            && told.number == message.number
+            && told.payload.as_slice() == message.payload.as_slice(),
     }
 }
 
@@ -41,28 +44,31 @@ fn is_same_message(told: Option<&Message>, message: &Message) -> bool
 pub fn may_send(past: &Past, sending: &Sending) -> bool
     ensures { result ≡ nat_eq sending.now.message.number (length (sent_in sending.now.member sending.now.view past.now) + 1) }
 {
-    follows(sending.message.number, past.sent_count(sending.member, sending.view) as u64)
+    follows(
+        sending.message.number,
+        past.sent_count(sending.member, sending.view) as u64,
+    )
 }
 
 /// Whether a message that is told is its sender's next.
 pub fn may_tell(past: &Past, delivery: &Delivery) -> bool
-    ensures {
-        result
+    ensures { result
         ≡ (nat_eq delivery.now.message.number (length (own delivery.now.message.sender (delivered_in delivery.now.member delivery.now.view past.now)) + 1)
-            && is_numbered (slice_get (sent_in delivery.now.message.sender delivery.now.view past.now) (length (own delivery.now.message.sender (delivered_in delivery.now.member delivery.now.view past.now)))) delivery.now.message)
-    }
+        && is_numbered (slice_get (sent_in delivery.now.message.sender delivery.now.view past.now) (length (own delivery.now.message.sender (delivered_in delivery.now.member delivery.now.view past.now)))) delivery.now.message) }
 {
     let sender = delivery.message.sender;
     let before = past.own_count(delivery.member, sender, delivery.view);
-    follows(delivery.message.number, before) && is_same_numbered(past.sent_at(sender, delivery.view, before as usize), &delivery.message)
+    follows(delivery.message.number, before)
+        && is_same_numbered(
+            past.sent_at(sender, delivery.view, before as usize),
+            &delivery.message,
+        )
 }
 
 // Whether a message that is told is the next that another member was told.
 fn is_next_of(past: &Past, other: Address, delivery: &Delivery) -> bool
-    ensures {
-        result
-        ≡ is_message (slice_get (delivered_in other delivery.now.view past.now) (length (delivered_in delivery.now.member delivery.now.view past.now))) delivery.now.message
-    }
+    ensures { result
+        ≡ is_message (slice_get (delivered_in other delivery.now.view past.now) (length (delivered_in delivery.now.member delivery.now.view past.now))) delivery.now.message }
 {
     let count = past.told_count(delivery.member, delivery.view);
     is_same_message(past.told_at(other, delivery.view, count), &delivery.message)
@@ -70,11 +76,9 @@ fn is_next_of(past: &Past, other: Address, delivery: &Delivery) -> bool
 
 /// Whether a message that is told is the next that the view's first member was told.
 pub fn may_order(past: &Past, delivery: &Delivery) -> bool
-    ensures {
-        result
+    ensures { result
         ≡ (same_address delivery.now.member delivery.now.view.creator
-            || is_message (slice_get (delivered_in delivery.now.view.creator delivery.now.view past.now) (length (delivered_in delivery.now.member delivery.now.view past.now))) delivery.now.message)
-    }
+        || is_message (slice_get (delivered_in delivery.now.view.creator delivery.now.view past.now) (length (delivered_in delivery.now.member delivery.now.view past.now))) delivery.now.message) }
 {
     if delivery.member == delivery.view.creator() {
         true

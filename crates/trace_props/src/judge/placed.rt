@@ -4,8 +4,8 @@ ghost use Rattle.trace_props.specs.Agreeing.{is_view};
 ghost use Rattle.trace_props.specs.Known.{standing_of};
 ghost use Rattle.trace_props.specs.Judged.{runs, stands};
 
-use crate::known::{member, Past, Standing};
 use crate::Happening;
+use crate::known::{Past, Standing, member};
 use address::ViewId;
 
 fn does_run(standing: Standing) -> bool
@@ -30,7 +30,9 @@ pub fn may_stand(past: &Past, happening: &Happening) -> bool
     let standing = past.standing(member(happening));
     match happening {
         Happening::Started(_) => !standing.started,
-        Happening::Sent(sending) => does_run(standing) && is_in(standing.view, sending.view) && !standing.blocked,
+        Happening::Sent(sending) => does_run(standing)
+            && is_in(standing.view, sending.view)
+            && !standing.blocked,
         Happening::Delivered(delivery) => does_run(standing) && is_in(standing.view, delivery.view),
         Happening::Blocked(_) => does_run(standing) && standing.view.is_some() && !standing.blocked,
         Happening::Installed(_) => does_run(standing),

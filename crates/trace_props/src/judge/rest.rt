@@ -15,7 +15,8 @@ fn is_equal(sent: Option<&Numbered>, message: &Numbered) -> bool
 {
     match sent {
         None => false,
-        Some(sent) => sent.number == message.number && sent.payload.as_slice() == message.payload.as_slice(),
+        Some(sent) => sent.number == message.number
+            && sent.payload.as_slice() == message.payload.as_slice(),
     }
 }
 
@@ -43,7 +44,13 @@ pub fn may_hand_back(past: &Past, install: &Install) -> bool
         None => install.handed_back.is_empty(),
         Some(previous) => {
             let told = past.own_count(install.member, install.member, previous);
-            is_rest(past, install.member, previous, told as usize, install.handed_back.as_slice())
+            is_rest(
+                past,
+                install.member,
+                previous,
+                told as usize,
+                install.handed_back.as_slice(),
+            )
         }
     }
 }

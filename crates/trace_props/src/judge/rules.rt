@@ -11,7 +11,7 @@ use super::messages::{may_order, may_send, may_tell};
 use super::placed::may_stand;
 use super::rest::may_hand_back;
 use super::views::may_rise;
-use crate::known::{delivery_in, install_in, sending_in, Past};
+use crate::known::{Past, delivery_in, install_in, sending_in};
 use crate::{Happening, Rule};
 
 fn keeps_placed(past: &Past, happening: &Happening) -> bool
@@ -79,11 +79,9 @@ fn keeps_handed_back(past: &Past, happening: &Happening) -> bool
 
 /// The first rule, but for the one on states, that the happening breaks after the past.
 pub fn broken_rule(past: &Past, happening: &Happening) -> Option<Rule>
-    ensures {
-        MatchOption result
-            (MayEach (rules_before StateOfEntry) past.now happening.now)
-            (λ rule. MayEach (rules_before rule) past.now happening.now × (May rule past.now happening.now → ⊥))
-    }
+    ensures { MatchOption result
+        (MayEach (rules_before StateOfEntry) past.now happening.now)
+        (λ rule. MayEach (rules_before rule) past.now happening.now × (May rule past.now happening.now → ⊥)) }
 {
     if !keeps_placed(past, happening) {
         return Some(Rule::WellPlaced);

@@ -5,8 +5,8 @@ ghost use Rattle.address.specs.Ids.{same_address};
 ghost use Rattle.trace_props.specs.Observed.{current_view, first_install};
 ghost use Rattle.trace_props.specs.Judged.{same_previous, is_below, has_members, rises};
 
-use crate::known::Past;
 use crate::Install;
+use crate::known::Past;
 use address::{Address, ViewId};
 
 /// Whether both are none, or the same view.

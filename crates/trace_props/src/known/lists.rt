@@ -65,7 +65,12 @@ impl<'a, T> Lists<'a, T> {
 }
 
 // Puts a list of one at a seat that has none.
-fn begin<'a, T>(alloc: Global, lists: &mut BTreeMap<Seat, Vec<&'a T>>, seat: Seat, item: &'a T) -> Result<(), AllocError>
+fn begin<'a, T>(
+    alloc: Global,
+    lists: &mut BTreeMap<Seat, Vec<&'a T>>,
+    seat: Seat,
+    item: &'a T,
+) -> Result<(), AllocError>
     requires none { get seat_cmp lists.old seat ≡ None }
     ensures { OnOk result ((other : Seat) → listed (get seat_cmp lists.new other) ≡ (if same_seat seat other then listed (get seat_cmp lists.old other) ++ item.now ∷ [] else listed (get seat_cmp lists.old other))) }
 {

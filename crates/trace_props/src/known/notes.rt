@@ -62,7 +62,11 @@ pub fn install_in<'a>(happening: &'a Happening) -> Option<&'a Install>
 }
 
 /// Keeps a message that is sent.
-pub fn note_sent<'a>(alloc: Global, sent: &mut Lists<'a, Numbered>, happening: &'a Happening) -> Result<(), AllocError>
+pub fn note_sent<'a>(
+    alloc: Global,
+    sent: &mut Lists<'a, Numbered>,
+    happening: &'a Happening,
+) -> Result<(), AllocError>
     ensures { OnOk result ((t : List Happening) → KnowsSent (get seat_cmp sent.old.lists) t → KnowsSent (get seat_cmp sent.new.lists) (t ++ happening.now ∷ [])) }
 {
     match sending_in(happening) {
@@ -79,7 +83,11 @@ pub fn note_sent<'a>(alloc: Global, sent: &mut Lists<'a, Numbered>, happening: &
 }
 
 /// Keeps a message that is told.
-pub fn note_told<'a>(alloc: Global, told: &mut Lists<'a, Message>, happening: &'a Happening) -> Result<(), AllocError>
+pub fn note_told<'a>(
+    alloc: Global,
+    told: &mut Lists<'a, Message>,
+    happening: &'a Happening,
+) -> Result<(), AllocError>
     ensures { OnOk result ((t : List Happening) → KnowsTold (get seat_cmp told.old.lists) t → KnowsTold (get seat_cmp told.new.lists) (t ++ happening.now ∷ [])) }
 {
     match delivery_in(happening) {
@@ -125,12 +133,14 @@ pub fn note_last(last: &mut BTreeMap<Pair, u64>, happening: &Happening) -> Resul
 }
 
 // Keeps an install where none is kept.
-fn write<'a, K: Ord + Copy + Drop>(registers: &mut BTreeMap<K, &'a Install>, key: K, install: &'a Install) -> Result<(), AllocError>
-    ensures {
-        OnOk result (MatchBool (is_some (get K.cmp registers.old key))
-            ((other : K) → get K.cmp registers.new other ≡ get K.cmp registers.old other)
-            ((other : K) → get K.cmp registers.new other ≡ (if is_eq (K.cmp key other) then Some install.entry else get K.cmp registers.old other)))
-    }
+fn write<'a, K: Ord + Copy + Drop>(
+    registers: &mut BTreeMap<K, &'a Install>,
+    key: K,
+    install: &'a Install,
+) -> Result<(), AllocError>
+    ensures { OnOk result (MatchBool (is_some (get K.cmp registers.old key))
+        ((other : K) → get K.cmp registers.new other ≡ get K.cmp registers.old other)
+        ((other : K) → get K.cmp registers.new other ≡ (if is_eq (K.cmp key other) then Some install.entry else get K.cmp registers.old other))) }
 {
     if registers.contains_key(&key) {
         return Ok(());
@@ -140,7 +150,10 @@ fn write<'a, K: Ord + Copy + Drop>(registers: &mut BTreeMap<K, &'a Install>, key
 }
 
 /// Keeps a member's install of a view.
-pub fn note_entry<'a>(entries: &mut BTreeMap<Seat, &'a Install>, happening: &'a Happening) -> Result<(), AllocError>
+pub fn note_entry<'a>(
+    entries: &mut BTreeMap<Seat, &'a Install>,
+    happening: &'a Happening,
+) -> Result<(), AllocError>
     ensures { OnOk result ((t : List Happening) → KnowsEntries (get seat_cmp entries.old) t → KnowsEntries (get seat_cmp entries.new) (t ++ happening.now ∷ [])) }
 {
     match install_in(happening) {
@@ -157,7 +170,10 @@ pub fn note_entry<'a>(entries: &mut BTreeMap<Seat, &'a Install>, happening: &'a 
 }
 
 /// Keeps the first install of a view.
-pub fn note_first<'a>(firsts: &mut BTreeMap<ViewId, &'a Install>, happening: &'a Happening) -> Result<(), AllocError>
+pub fn note_first<'a>(
+    firsts: &mut BTreeMap<ViewId, &'a Install>,
+    happening: &'a Happening,
+) -> Result<(), AllocError>
     ensures { OnOk result ((t : List Happening) → KnowsFirsts (get view_id_cmp firsts.old) t → KnowsFirsts (get view_id_cmp firsts.new) (t ++ happening.now ∷ [])) }
 {
     match install_in(happening) {
@@ -170,7 +186,10 @@ pub fn note_first<'a>(firsts: &mut BTreeMap<ViewId, &'a Install>, happening: &'a
 }
 
 /// Keeps the first install that goes from a view to another.
-pub fn note_way<'a>(ways: &mut BTreeMap<Way, &'a Install>, happening: &'a Happening) -> Result<(), AllocError>
+pub fn note_way<'a>(
+    ways: &mut BTreeMap<Way, &'a Install>,
+    happening: &'a Happening,
+) -> Result<(), AllocError>
     ensures { OnOk result ((t : List Happening) → KnowsWays (get way_cmp ways.old) t → KnowsWays (get way_cmp ways.new) (t ++ happening.now ∷ [])) }
 {
     match install_in(happening) {

@@ -6,10 +6,9 @@ ghost use Rattle.trace_props.specs.Following.{MayCarry};
 ghost use Rattle.trace_props.specs.Known.{standing_of};
 
 use super::lists::Lists;
-use super::notes;
 use super::seat::{Pair, Seat, Way};
-use super::standing;
 use super::standing::Standing;
+use super::{notes, standing};
 use crate::{Happening, Install, Message, Numbered};
 use address::{Address, ViewId};
 use std::alloc::{AllocError, Global};
@@ -40,10 +39,8 @@ impl<'a> Model for Past<'a> {
 
     ghost view = { λ p. pointed p.happenings.items };
 
-    ghost invariant = {
-        λ p. KnowsPast (get address_cmp p.standings) (get seat_cmp p.sent.lists) (get seat_cmp p.told.lists) (get pair_cmp p.last)
-            (get seat_cmp p.entries) (get view_id_cmp p.firsts) (get way_cmp p.ways) (pointed p.happenings.items)
-    };
+    ghost invariant = { λ p. KnowsPast (get address_cmp p.standings) (get seat_cmp p.sent.lists) (get seat_cmp p.told.lists) (get pair_cmp p.last)
+        (get seat_cmp p.entries) (get view_id_cmp p.firsts) (get way_cmp p.ways) (pointed p.happenings.items) };
 }
 
 impl<'a> Past<'a> {

@@ -39,17 +39,29 @@ pub fn after(standing: Standing, happening: &Happening) -> Standing
     ensures { result ≡ standing_after standing happening.now }
 {
     match happening {
-        Happening::Started(_) => Standing { started: true, ..standing },
+        Happening::Started(_) => Standing {
+            started: true,
+            ..standing
+        },
         Happening::Sent(_) => standing,
         Happening::Delivered(_) => standing,
-        Happening::Blocked(_) => Standing { blocked: true, ..standing },
+        Happening::Blocked(_) => Standing {
+            blocked: true,
+            ..standing
+        },
         Happening::Installed(install) => Standing {
             blocked: false,
             view: Some(install.view.id()),
             ..standing
         },
-        Happening::Left(_) => Standing { ended: true, ..standing },
-        Happening::Crashed(_) => Standing { ended: true, ..standing },
+        Happening::Left(_) => Standing {
+            ended: true,
+            ..standing
+        },
+        Happening::Crashed(_) => Standing {
+            ended: true,
+            ..standing
+        },
     }
 }
 
@@ -69,7 +81,10 @@ pub fn member(happening: &Happening) -> Address
 }
 
 /// Keeps how the member stands to whom a happening happens.
-pub fn note_standing(standings: &mut BTreeMap<Address, Standing>, happening: &Happening) -> Result<(), AllocError>
+pub fn note_standing(
+    standings: &mut BTreeMap<Address, Standing>,
+    happening: &Happening,
+) -> Result<(), AllocError>
     ensures { OnOk result ((t : List Happening) → KnowsStandings (get address_cmp standings.old) t → KnowsStandings (get address_cmp standings.new) (t ++ happening.now ∷ [])) }
 {
     let member = member(happening);
@@ -79,14 +94,26 @@ pub fn note_standing(standings: &mut BTreeMap<Address, Standing>, happening: &Ha
 }
 
 // Keeps how a member stands.
-fn keep(standings: &mut BTreeMap<Address, Standing>, member: Address, standing: Standing) -> Result<(), AllocError>
+fn keep(
+    standings: &mut BTreeMap<Address, Standing>,
+    member: Address,
+    standing: Standing,
+) -> Result<(), AllocError>
     ensures { OnOk result ((other : Address) → get address_cmp standings.new other ≡ (if same_address member other then Some standing else get address_cmp standings.old other)) }
 {
     let started = standing.started;
     let ended = standing.ended;
     let blocked = standing.blocked;
     let view: Option<ViewId> = standing.view;
-    match standings.insert(member, Standing { started, ended, blocked, view }) {
+    match standings.insert(
+        member,
+        Standing {
+            started,
+            ended,
+            blocked,
+            view,
+        },
+    ) {
         Ok(_) => Ok(()),
         Err(_) => Err(AllocError),
     }

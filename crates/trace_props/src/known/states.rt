@@ -10,8 +10,8 @@ ghost use Rattle.trace_props.specs.Recorded.{IsShort};
 ghost use Rattle.trace_props.specs.Agreeing.{MayEnter};
 ghost use Rattle.trace_props.specs.Copies.{EntersWith, KnowsStates};
 
-use crate::{Bytes, Delivery, Happening, Install};
 use super::notes::{delivery_in, install_in};
+use crate::{Bytes, Delivery, Happening, Install};
 use address::{Address, ViewId};
 use state_transfer::Receiver;
 use std::alloc::{AllocError, Global};
@@ -25,7 +25,11 @@ pub fn known_address(address: Address)
 }
 
 // Puts a receiver for a member.
-fn put<R: Receiver>(states: &mut BTreeMap<Address, R>, member: Address, state: R) -> Result<(), AllocError>
+fn put<R: Receiver>(
+    states: &mut BTreeMap<Address, R>,
+    member: Address,
+    state: R,
+) -> Result<(), AllocError>
     ensures { OnOk result ((other : Address) → get address_cmp states.new other ≡ (if same_address member other then Some state else get address_cmp states.old other)) }
 {
     states.insert(member, state)?;
@@ -33,7 +37,11 @@ fn put<R: Receiver>(states: &mut BTreeMap<Address, R>, member: Address, state: R
 }
 
 // Puts a receiver in the opening state for a member that has none.
-fn begin<R: Receiver>(alloc: Global, states: &mut BTreeMap<Address, R>, member: Address) -> Result<(), AllocError>
+fn begin<R: Receiver>(
+    alloc: Global,
+    states: &mut BTreeMap<Address, R>,
+    member: Address,
+) -> Result<(), AllocError>
     ensures has { OnOk result (is_some (get address_cmp states.new member) ≡ true) }
     ensures same { OnOk result ((other : Address) → unwrap_or (get address_cmp states.new other) R.opening_state ≡ unwrap_or (get address_cmp states.old other) R.opening_state) }
 {
@@ -45,13 +53,16 @@ fn begin<R: Receiver>(alloc: Global, states: &mut BTreeMap<Address, R>, member: 
 }
 
 // Applies a message at a member that has a receiver.
-fn receive_there<R: Receiver>(states: &mut BTreeMap<Address, R>, member: Address, sender: Address, payload: &[u8]) -> Result<(), AllocError>
+fn receive_there<R: Receiver>(
+    states: &mut BTreeMap<Address, R>,
+    member: Address,
+    sender: Address,
+    payload: &[u8],
+) -> Result<(), AllocError>
     requires has { is_some (get address_cmp states.old member) ≡ true }
     requires short { length payload.now ≤ PAYLOAD }
-    ensures {
-        OnOk result ((other : Address) → unwrap_or (get address_cmp states.new other) R.opening_state
-            ≡ (if same_address member other then R.apply (unwrap_or (get address_cmp states.old member) R.opening_state) sender payload.now else unwrap_or (get address_cmp states.old other) R.opening_state))
-    }
+    ensures { OnOk result ((other : Address) → unwrap_or (get address_cmp states.new other) R.opening_state
+        ≡ (if same_address member other then R.apply (unwrap_or (get address_cmp states.old member) R.opening_state) sender payload.now else unwrap_or (get address_cmp states.old other) R.opening_state)) }
 {
     if let Some(state) = states.get_mut(&member) {
         state.receive(sender, payload)?;
@@ -60,13 +71,15 @@ fn receive_there<R: Receiver>(states: &mut BTreeMap<Address, R>, member: Address
 }
 
 // Takes a given state at a member that has a receiver, if it can be read.
-fn take_there<R: Receiver>(states: &mut BTreeMap<Address, R>, member: Address, given: &[u8]) -> Result<bool, AllocError>
+fn take_there<R: Receiver>(
+    states: &mut BTreeMap<Address, R>,
+    member: Address,
+    given: &[u8],
+) -> Result<bool, AllocError>
     requires has { is_some (get address_cmp states.old member) ≡ true }
     ensures read { IfOk result (λ taken. taken ≡ is_some (R.decode given.now)) }
-    ensures takes {
-        OnOk result ((other : Address) → unwrap_or (get address_cmp states.new other) R.opening_state
-            ≡ (if same_address member other then unwrap_or (R.decode given.now) (unwrap_or (get address_cmp states.old member) R.opening_state) else unwrap_or (get address_cmp states.old other) R.opening_state))
-    }
+    ensures takes { OnOk result ((other : Address) → unwrap_or (get address_cmp states.new other) R.opening_state
+        ≡ (if same_address member other then unwrap_or (R.decode given.now) (unwrap_or (get address_cmp states.old member) R.opening_state) else unwrap_or (get address_cmp states.old other) R.opening_state)) }
 {
     match states.get_mut(&member) {
         Some(state) => state.set_state(given),
@@ -75,7 +88,11 @@ fn take_there<R: Receiver>(states: &mut BTreeMap<Address, R>, member: Address, g
 }
 
 // The bytes of a member's state.
-fn bytes_of<R: Receiver>(alloc: Global, states: &BTreeMap<Address, R>, member: Address) -> Result<Bytes, AllocError>
+fn bytes_of<R: Receiver>(
+    alloc: Global,
+    states: &BTreeMap<Address, R>,
+    member: Address,
+) -> Result<Bytes, AllocError>
     ensures { IfOk result (λ b. b ≡ R.encode (unwrap_or (get address_cmp states.now member) R.opening_state)) }
 {
     let mut bytes = Vec::new(alloc);
@@ -87,7 +104,12 @@ fn bytes_of<R: Receiver>(alloc: Global, states: &BTreeMap<Address, R>, member: A
 }
 
 // Whether a view is entered with the bytes of its entry, which the first member writes.
-fn enter_with(entering: &mut BTreeMap<ViewId, Bytes>, view: ViewId, first: bool, bytes: Bytes) -> Result<bool, AllocError>
+fn enter_with(
+    entering: &mut BTreeMap<ViewId, Bytes>,
+    view: ViewId,
+    first: bool,
+    bytes: Bytes,
+) -> Result<bool, AllocError>
     ensures { IfOk result (λ ok. EntersWith (get view_id_cmp entering.old) (get view_id_cmp entering.new) view first bytes ok) }
 {
     match entering.get(&view) {
@@ -104,12 +126,15 @@ fn enter_with(entering: &mut BTreeMap<ViewId, Bytes>, view: ViewId, first: bool,
 }
 
 // Takes a given state at a member, if there is one and it can be read.
-fn take<R: Receiver>(alloc: Global, states: &mut BTreeMap<Address, R>, member: Address, given: &Option<Bytes>) -> Result<bool, AllocError>
+fn take<R: Receiver>(
+    alloc: Global,
+    states: &mut BTreeMap<Address, R>,
+    member: Address,
+    given: &Option<Bytes>,
+) -> Result<bool, AllocError>
     ensures read { IfOk result (λ taken. Decides taken (ForSome given.now (λ g. IsSome (R.decode g)))) }
-    ensures takes {
-        OnOk result ((other : Address) → unwrap_or (get address_cmp states.new other) R.opening_state
-            ≡ (if same_address member other then unwrap_or (option_and_then R.decode given.now) (unwrap_or (get address_cmp states.old member) R.opening_state) else unwrap_or (get address_cmp states.old other) R.opening_state))
-    }
+    ensures takes { OnOk result ((other : Address) → unwrap_or (get address_cmp states.new other) R.opening_state
+        ≡ (if same_address member other then unwrap_or (option_and_then R.decode given.now) (unwrap_or (get address_cmp states.old member) R.opening_state) else unwrap_or (get address_cmp states.old other) R.opening_state)) }
 {
     match given {
         None => Ok(true),
@@ -128,28 +153,37 @@ pub struct States<R> {
 }
 
 /// Applies a message that is told.
-fn hear<R: Receiver>(alloc: Global, states: &mut States<R>, delivery: &Delivery) -> Result<(), AllocError>
+fn hear<R: Receiver>(
+    alloc: Global,
+    states: &mut States<R>,
+    delivery: &Delivery,
+) -> Result<(), AllocError>
     requires short { length delivery.now.message.payload ≤ PAYLOAD }
-    ensures {
-        OnOk result ((t : List Happening) → KnowsStates R.opening_state R.apply R.decode R.encode R.is_state (get address_cmp states.old.states) (get view_id_cmp states.old.entering) t
-            → KnowsStates R.opening_state R.apply R.decode R.encode R.is_state (get address_cmp states.new.states) (get view_id_cmp states.new.entering) (t ++ Delivered delivery.now ∷ []))
-    }
+    ensures { OnOk result ((t : List Happening) → KnowsStates R.opening_state R.apply R.decode R.encode R.is_state (get address_cmp states.old.states) (get view_id_cmp states.old.entering) t
+        → KnowsStates R.opening_state R.apply R.decode R.encode R.is_state (get address_cmp states.new.states) (get view_id_cmp states.new.entering) (t ++ Delivered delivery.now ∷ [])) }
 {
     known_address(delivery.message.sender);
     begin(alloc, &mut states.states, delivery.member)?;
-    receive_there(&mut states.states, delivery.member, delivery.message.sender, delivery.message.payload.as_slice())?;
+    receive_there(
+        &mut states.states,
+        delivery.member,
+        delivery.message.sender,
+        delivery.message.payload.as_slice(),
+    )?;
     Ok(())
 }
 
 /// Whether an install enters its view alike; takes its state.
-fn enter<R: Receiver>(alloc: Global, states: &mut States<R>, install: &Install) -> Result<bool, AllocError>
-    ensures {
-        IfOk result (λ ok. (t : List Happening) → KnowsStates R.opening_state R.apply R.decode R.encode R.is_state (get address_cmp states.old.states) (get view_id_cmp states.old.entering) t
-            → MatchBool ok
-                (MayEnter R.opening_state R.apply R.decode t (Installed install.now)
-                    × KnowsStates R.opening_state R.apply R.decode R.encode R.is_state (get address_cmp states.new.states) (get view_id_cmp states.new.entering) (t ++ Installed install.now ∷ []))
-                (MayEnter R.opening_state R.apply R.decode t (Installed install.now) → ⊥))
-    }
+fn enter<R: Receiver>(
+    alloc: Global,
+    states: &mut States<R>,
+    install: &Install,
+) -> Result<bool, AllocError>
+    ensures { IfOk result (λ ok. (t : List Happening) → KnowsStates R.opening_state R.apply R.decode R.encode R.is_state (get address_cmp states.old.states) (get view_id_cmp states.old.entering) t
+        → MatchBool ok
+        (MayEnter R.opening_state R.apply R.decode t (Installed install.now)
+        × KnowsStates R.opening_state R.apply R.decode R.encode R.is_state (get address_cmp states.new.states) (get view_id_cmp states.new.entering) (t ++ Installed install.now ∷ []))
+        (MayEnter R.opening_state R.apply R.decode t (Installed install.now) → ⊥)) }
 {
     if !take(alloc, &mut states.states, install.member, &install.given)? {
         return Ok(false);
@@ -175,13 +209,11 @@ impl<R: Receiver> States<R> {
     /// Goes one happening further, and whether it keeps the rule on states.
     pub fn advance(&mut self, alloc: Global, happening: &Happening) -> Result<bool, AllocError>
         requires short { IsShort happening.now }
-        ensures {
-            IfOk result (λ ok. (t : List Happening) → KnowsStates R.opening_state R.apply R.decode R.encode R.is_state (get address_cmp self.old.states) (get view_id_cmp self.old.entering) t
-                → MatchBool ok
-                    (MayEnter R.opening_state R.apply R.decode t happening.now
-                        × KnowsStates R.opening_state R.apply R.decode R.encode R.is_state (get address_cmp self.new.states) (get view_id_cmp self.new.entering) (t ++ happening.now ∷ []))
-                    (MayEnter R.opening_state R.apply R.decode t happening.now → ⊥))
-        }
+        ensures { IfOk result (λ ok. (t : List Happening) → KnowsStates R.opening_state R.apply R.decode R.encode R.is_state (get address_cmp self.old.states) (get view_id_cmp self.old.entering) t
+            → MatchBool ok
+            (MayEnter R.opening_state R.apply R.decode t happening.now
+            × KnowsStates R.opening_state R.apply R.decode R.encode R.is_state (get address_cmp self.new.states) (get view_id_cmp self.new.entering) (t ++ happening.now ∷ []))
+            (MayEnter R.opening_state R.apply R.decode t happening.now → ⊥)) }
     {
         match delivery_in(happening) {
             Some(delivery) => {

@@ -10,5 +10,5 @@ abbrev pub invariant-loop-index : goal.invariant-loop-index
 invariant-loop-index g l = record {
   so_far : l.past ≡ take l.index l.happenings;
   holds : IsVirtuallySynchronous g.R.Receiver.opening_state g.R.Receiver.apply g.R.Receiver.decode (take l.index l.happenings);
-  known : KnowsStates g.R.Receiver.opening_state g.R.Receiver.apply g.R.Receiver.decode g.R.Receiver.encode g.R.Receiver.is_state (get address_cmp l.states.states) (get view_id_cmp l.states.entering) (take l.index l.happenings)
+  known : KnowsStates g.R.Receiver.opening_state g.R.Receiver.apply g.R.Receiver.decode g.R.Receiver.encode g.R.Receiver.is_state (get address_cmp l.states.states) (get view_id_cmp l.states.entering) (take l.index l.happenings);
 }

@@ -1,4 +1,4 @@
-use Rattle.std.proofs.Common.{◌≡◌, ap, ◌∙◌}
+use Rattle.std.proofs.Common.{ap, ◌∙◌}
 use Rattle.std.specs.Prelude.{unwrap_or}
 use Rattle.trace_props.specs.declared.known.seat.Pair.{Pair}
 use Rattle.trace_props.proofs.known.past.Past.own_count.Goals as goal
