@@ -94,7 +94,7 @@ pub IsBeginningOf-grow : {X : Type 0} (xs ys zs : List X) → IsBeginningOf xs y
 IsBeginningOf-grow xs ys zs b = b ∙ sym (take-append-le (length xs) ys zs (IsBeginningOf-length xs ys b))
 
 -- with its next element it is one more element long
-take-next : {X : Type 0} → (n : ℕ) (ys : List X) (y : X) → slice_get ys n ≡ Some y → take (suc n) ys ≡ take n ys ++ y ∷ []
+pub take-next : {X : Type 0} → (n : ℕ) (ys : List X) (y : X) → slice_get ys n ≡ Some y → take (suc n) ys ≡ take n ys ++ y ∷ []
 take-next zero [] y e = absurd (none-some y e)
 take-next (suc n) [] y e = absurd (none-some y e)
 take-next zero (x ∷ ys) y e = ap (λ z. z ∷ []) (same_Some x y e)

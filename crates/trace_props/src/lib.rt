@@ -2,9 +2,18 @@
 #![tactic(auto)]
 
 mod bytes;
+mod checker;
 mod happening;
+mod judge;
+mod known;
 mod trace;
+mod verdict;
 
 pub use bytes::Bytes;
+pub use checker::check;
 pub use happening::{Delivery, HandedBack, Happening, Install, Message, Numbered, Sending};
 pub use trace::Trace;
+pub use verdict::{Rule, Verdict};
+
+#[cfg(test)]
+mod tests;

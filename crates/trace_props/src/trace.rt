@@ -1,5 +1,5 @@
 ghost use Rattle.std.specs.Prelude.{◌≡◌, ◌==◌, ◌+◌, ◌<◌, ◌≤◌, ◌++◌, ◌∷◌, [], length, OnOk, OnErr};
-ghost use Rattle.trace_props.specs.Recorded.{IsShort};
+ghost use Rattle.trace_props.specs.Recorded.{IsShort, IsRecordable};
 
 use crate::Happening;
 use std::alloc::{AllocError, Global};
@@ -53,7 +53,8 @@ impl Trace {
 
     /// What happened, in order.
     pub fn happenings(&self) -> &[Happening]
-        ensures { result.now ≡ self.now.happenings }
+        ensures value { result.now ≡ self.now.happenings }
+        ensures short { IsRecordable result.now }
     {
         self.happenings.as_slice()
     }

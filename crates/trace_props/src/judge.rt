@@ -1,0 +1,9 @@
+//! The rules on the next happening, as tests against what is known of the past.
+mod agree;
+mod messages;
+mod placed;
+mod rest;
+mod rules;
+mod views;
+
+pub use rules::broken_rule;

@@ -1,0 +1,12 @@
+//! What a checker keeps of the happenings so far.
+mod lists;
+mod notes;
+mod past;
+mod seat;
+mod standing;
+mod states;
+
+pub use notes::{delivery_in, install_in, sending_in};
+pub use past::Past;
+pub use standing::{Standing, member};
+pub use states::States;
