@@ -1,9 +1,7 @@
 -- The laws of the bodies, kind by kind.
-use Rattle.std.proofs.Common.{◌≡◌, ℕ, zero, suc, ◌+◌, ◌-◌, ◌^◌, ◌<◌, ◌≤◌, Bool, true, false, cond, leb, eqb, ◌&&◌, List, [], ◌∷◌, ◌++◌, length, Option, Some, None, Result, Ok, Err, refl, sym, ap, subst, ◌∙◌, append_assoc, arith, inl, inr}
-use Rattle.std.specs.Prelude.{◌⊎◌}
+use Rattle.std.proofs.Common.{◌≡◌, ℕ, ◌+◌, ◌-◌, ◌≤◌, Bool, true, false, cond, eqb, List, ◌++◌, length, Result, Ok, refl, sym, ap, ◌∙◌, append_assoc, arith}
 use Rattle.std.proofs.lemmas.Bool.{eqb-true}
 use Rattle.std.proofs.lemmas.Bool.Decides.{nat_tests}
-use Rattle.address.specs.Ids.{Address, ViewId}
 use Rattle.address.specs.declared.TheConstants.{GREATEST_NUMBER}
 use Rattle.wire.specs.declared.limits.TheConstants.{WINDOW, PAYLOAD}
 use Rattle.wire.specs.declared.error.WireError.{WireError}
@@ -12,7 +10,7 @@ use Rattle.wire.specs.declared.packet.Body.{Body}
 use Rattle.wire.specs.declared.packet.Body.TheVariants as bodies
 use Rattle.wire.specs.Values.{Missing, Progress}
 use Rattle.wire.specs.Reading.{Read, ◌>>=◌, number_at}
-use Rattle.wire.specs.Fields.{IsAddress, IsNumber, IsCount, IsViewId, IsEntry, address_bytes, number_bytes, view_id_bytes, payload_bytes, entry_bytes, address_at, view_id_at, payload_at, entry_at}
+use Rattle.wire.specs.Fields.{IsAddress, IsViewId, IsEntry, address_bytes, number_bytes, view_id_bytes, payload_bytes, entry_bytes, address_at, view_id_at, payload_at, entry_at}
 use Rattle.wire.specs.Lists.{IsView, IsReport, IsInstall, view_bytes, report_bytes, install_bytes, view_at, report_at, install_at}
 use Rattle.wire.specs.Packets.{IsBody, kind_of, body_bytes, redirect_at, forward_at, order_at, nak_at, ack_at, status_at, flush_at, behind_at, reported_at, installed_at, merge_at, body_at}
 use Rattle.wire.proofs.Bytes.{IsBytes, wide8}

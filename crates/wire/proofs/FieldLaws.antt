@@ -1,7 +1,7 @@
 -- What a field is read from is its spelling, and its spelling is read as it, whatever follows.
-use Rattle.std.proofs.Common.{◌≡◌, ℕ, zero, suc, ◌+◌, ◌^◌, ◌<◌, ◌≤◌, Bool, true, false, cond, ltb, leb, ◌&&◌, List, [], ◌∷◌, ◌++◌, length, get_or, take, drop, Result, Ok, Err, refl, sym, ap, subst, ◌∙◌, append_assoc, arith}
+use Rattle.std.proofs.Common.{◌≡◌, ℕ, ◌^◌, ◌<◌, ◌≤◌, Bool, true, false, cond, ltb, leb, ◌&&◌, List, ◌++◌, length, take, drop, Result, Ok, Err, refl, sym, ap, subst, ◌∙◌, append_assoc, arith}
 use Rattle.std.proofs.lemmas.Bool.{ltb-false, le-ltb, leb-true, le-leb}
-use Rattle.std.proofs.lemmas.List.{take_at, drop_at, take-append-drop, length-append, length-take, length-drop, append-nil}
+use Rattle.std.proofs.lemmas.List.{take_at, drop_at, take-append-drop, length-append, length-take, length-drop}
 use Rattle.byteorder.specs.Endian.{big_bytes, big_number}
 use Rattle.address.specs.Ids.{Address, ViewId}
 use Rattle.address.specs.declared.TheConstants.{GREATEST_NUMBER}
@@ -10,9 +10,9 @@ use Rattle.wire.specs.declared.error.WireError.{WireError}
 use Rattle.wire.specs.declared.error.WireError.TheVariants.{Short, Length, Value}
 use Rattle.wire.specs.Values.{Entry}
 use Rattle.wire.specs.Reading.{Read, ◌>>=◌, bytes_at, number_at}
-use Rattle.wire.specs.Fields.{IsAddress, IsNumber, IsViewId, IsEntry, IsPlaced, address_bytes, number_bytes, view_id_bytes, payload_bytes, entry_bytes, placed_bytes, node_in, incarnation_in, address_at, view_id_at, payload_at, entry_at, placed_at}
+use Rattle.wire.specs.Fields.{IsAddress, IsViewId, IsEntry, IsPlaced, address_bytes, number_bytes, view_id_bytes, payload_bytes, entry_bytes, placed_bytes, node_in, incarnation_in, address_at, view_id_at, payload_at, entry_at, placed_at}
 use Rattle.byteorder.specs.Numbers.{big_from-lt}
-use Rattle.wire.proofs.Bytes.{IsBytes, IsBytes-drop, IsBytes-take, IsWide, wide1, wide2, wide4, wide8, number_back, length-big_bytes}
+use Rattle.wire.proofs.Bytes.{IsBytes, IsBytes-drop, IsBytes-take, IsWide, wide2, wide4, wide8, number_back, length-big_bytes}
 
 -- the value of a step that did not fail
 pub bind_ok : {A B : Type 0} (r : Result A WireError) (f : A → Result B WireError) (y : B) → (r >>= f) ≡ Ok y → (x : A) × (r ≡ Ok x) × (f x ≡ Ok y)

@@ -1,11 +1,11 @@
 -- The laws of a report with its flag, of a state, and of an install.
-use Rattle.std.proofs.Common.{◌≡◌, ℕ, zero, suc, ◌+◌, ◌^◌, ◌<◌, ◌≤◌, Bool, true, false, cond, leb, eqb, ◌&&◌, List, [], ◌∷◌, ◌++◌, length, Option, Some, None, Result, Ok, Err, refl, sym, ap, subst, ◌∙◌, append_assoc, arith, inl, inr}
+use Rattle.std.proofs.Common.{◌≡◌, ℕ, ◌+◌, ◌≤◌, Bool, true, false, cond, leb, eqb, ◌&&◌, List, [], ◌++◌, length, Option, Some, None, Result, Ok, refl, sym, ap, subst, ◌∙◌, append_assoc, arith, inl, inr}
 use Rattle.std.specs.Prelude.{IfSome, ◌⊎◌}
 use Rattle.std.specs.List.{flat_map, AllByRecursion}
 use Rattle.std.specs.Option.{option_map_or}
-use Rattle.std.proofs.lemmas.Bool.{leb-true, le-leb, eqb-true, eq-eqb}
+use Rattle.std.proofs.lemmas.Bool.{leb-true, le-leb, eqb-true}
 use Rattle.std.proofs.lemmas.Bool.Decides.{nat_tests}
-use Rattle.std.proofs.lemmas.List.{append-nil, nil_from_length}
+use Rattle.std.proofs.lemmas.List.{nil_from_length}
 use Rattle.byteorder.specs.Endian.{big_bytes}
 use Rattle.address.specs.Ids.{Address, ViewId}
 use Rattle.address.specs.declared.TheConstants.{GREATEST_NUMBER}
@@ -15,11 +15,11 @@ use Rattle.wire.specs.declared.limits.TheConstants.{WINDOW, STATE}
 use Rattle.wire.specs.declared.error.WireError.{WireError}
 use Rattle.wire.specs.declared.error.WireError.TheVariants.{Length, Value}
 use Rattle.wire.specs.Values.{Entry, Report, Install, nothing_reported}
-use Rattle.wire.specs.Reading.{Read, ◌>>=◌, bytes_at, number_at, list_at}
+use Rattle.wire.specs.Reading.{◌>>=◌, bytes_at, number_at, list_at}
 use Rattle.wire.specs.Fields.{IsAddress, IsViewId, IsEntry, IsPlaced, address_bytes, number_bytes, entry_bytes, entry_at}
 use Rattle.wire.specs.Lists.{IsReport, IsInstall, is_filled, is_nothing, is_report, filled_bytes, report_bytes, filled_at, report_at, is_in_order, is_install, addresses_bytes, view_bytes, items_bytes, state_bytes, given_bytes, install_bytes, IsView, view_at, together_at, items_count_at, state_at, given_at, install_at}
 use Rattle.wire.proofs.Bytes.{IsBytes, wide1, wide4, wide8}
-use Rattle.wire.proofs.FieldLaws.{bind_ok, ok_is, test_ok, both_true, along, back, Takes, Takes-then, IsPart, entry_part, bytes_takes, bytes_again, number_takes, number_again, eight_again}
+use Rattle.wire.proofs.FieldLaws.{bind_ok, ok_is, both_true, along, back, Takes, Takes-then, IsPart, entry_part, bytes_takes, bytes_again, number_takes, number_again, eight_again}
 use Rattle.wire.proofs.ListLaws.{list_takes, list_again}
 use Rattle.wire.proofs.MemberLaws.{view_part, Ordered, together_take, together_again}
 use Rattle.wire.proofs.ReportLaws.{Filled, filled-rules, rules-filled, filled_takes, filled_again, items_count_takes, items_count_again}

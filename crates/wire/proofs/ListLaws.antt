@@ -1,23 +1,17 @@
 -- The laws of the lists in packets.
-use Rattle.std.proofs.Common.{◌≡◌, ℕ, zero, suc, ◌+◌, ◌-◌, ◌*◌, ◌^◌, ◌<◌, ◌≤◌, Bool, true, false, cond, ltb, leb, eqb, ◌&&◌, List, [], ◌∷◌, ◌++◌, length, Option, Some, None, Result, Ok, Err, refl, sym, ap, subst, ◌∙◌, append_assoc, arith}
-use Rattle.std.specs.Prelude.{min, not}
+use Rattle.std.proofs.Common.{◌≡◌, ℕ, zero, suc, ◌+◌, ◌≤◌, Bool, true, false, cond, ltb, leb, ◌&&◌, List, [], ◌∷◌, ◌++◌, length, Ok, refl, ap, subst, ◌∙◌, append_assoc, arith}
+use Rattle.std.specs.Prelude.{min}
 use Rattle.std.specs.List.{flat_map, AllByRecursion}
-use Rattle.std.specs.Option.{option_map_or}
-use Rattle.std.proofs.lemmas.Bool.{ltb-false, ltb-true, le-ltb, leb-true, le-leb, eqb-true}
-use Rattle.std.proofs.lemmas.List.{length-append, append-nil, nil_from_length}
-use Rattle.std.proofs.lemmas.List.Concat.{flat_map-cons, flat_map-append}
-use Rattle.byteorder.specs.Endian.{big_bytes}
-use Rattle.address.specs.Ids.{Address, ViewId, same_address}
+use Rattle.std.proofs.lemmas.Bool.{ltb-true, leb-true, le-leb}
 use Rattle.address.specs.declared.TheConstants.{GREATEST_NUMBER}
 use Rattle.wire.specs.declared.limits.TheConstants.{WINDOW}
-use Rattle.wire.specs.declared.error.WireError.{WireError}
-use Rattle.wire.specs.declared.error.WireError.TheVariants.{Length, Value}
+use Rattle.wire.specs.declared.error.WireError.TheVariants.{Value}
 use Rattle.wire.specs.Values.{Entry}
 use Rattle.wire.specs.Reading.{Read, ◌>>=◌, number_at, list_at}
-use Rattle.wire.specs.Fields.{IsAddress, IsPlaced, IsEntry, address_bytes, number_bytes, entry_bytes, placed_bytes, address_at, entry_at}
-use Rattle.wire.specs.Lists.{may_follow, members_at, rest_after, is_in_order, together_at, highest_next, are_held, held_at}
+use Rattle.wire.specs.Fields.{IsPlaced, number_bytes, entry_bytes, placed_bytes, entry_at}
+use Rattle.wire.specs.Lists.{highest_next, are_held, held_at}
 use Rattle.wire.proofs.Bytes.{IsBytes, wide8}
-use Rattle.wire.proofs.FieldLaws.{bind_ok, ok_is, test_ok, both_true, Takes, Takes-then, IsPart, address_part, entry_part, number_takes, eight_again}
+use Rattle.wire.proofs.FieldLaws.{bind_ok, ok_is, both_true, Takes, Takes-then, IsPart, entry_part, number_takes, eight_again}
 
 -- ---- so many values, one behind the other
 

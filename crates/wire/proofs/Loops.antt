@@ -1,20 +1,19 @@
 -- What the loops of the readers keep, and what they found.
-use Rattle.std.proofs.Common.{◌≡◌, ℕ, zero, suc, ◌+◌, ◌-◌, ◌<◌, ◌≤◌, Bool, true, false, cond, leb, eqb, ◌&&◌, List, [], ◌∷◌, ◌++◌, length, get_or, take, drop, Option, Some, None, Result, Ok, Err, refl, sym, ap, subst, ◌∙◌, append_assoc, arith}
+use Rattle.std.proofs.Common.{◌≡◌, ℕ, zero, suc, ◌+◌, ◌-◌, ◌<◌, ◌≤◌, true, false, List, [], ◌∷◌, ◌++◌, length, take, Option, Some, None, Result, Ok, Err, refl, sym, ap, ◌∙◌, append_assoc, arith}
 use Rattle.std.specs.List.{flat_map, AllByRecursion}
 use Rattle.std.specs.Option.{option_map_or}
-use Rattle.std.proofs.lemmas.Bool.{leb-true, le-leb, eqb-true}
+use Rattle.std.proofs.lemmas.Bool.{eqb-true}
 use Rattle.std.proofs.lemmas.List.{take_at, length-append, append-nil, nil_from_length}
 use Rattle.address.specs.Ids.{Address, ViewId}
 use Rattle.address.specs.declared.TheConstants.{GREATEST_NUMBER}
 use Rattle.wire.specs.declared.error.WireError.{WireError}
 use Rattle.wire.specs.declared.error.WireError.TheVariants.{Value}
 use Rattle.wire.specs.Values.{Entry}
-use Rattle.wire.specs.Reading.{Read, ◌>>=◌, bytes_at, number_at, list_at, listed, is_whole, rest_of}
-use Rattle.wire.specs.Fields.{IsPlaced, address_bytes, placed_bytes, address_at, entry_at, placed_at}
+use Rattle.wire.specs.Reading.{Read, ◌>>=◌, number_at, list_at, listed, is_whole, rest_of}
+use Rattle.wire.specs.Fields.{IsPlaced, placed_bytes, address_at, entry_at, placed_at}
 use Rattle.wire.specs.Lists.{may_follow, members_at, rest_after, is_in_order, together_at, highest_next, are_held, held_at}
-use Rattle.byteorder.specs.Endian.{big_number}
 use Rattle.wire.proofs.Bytes.{IsBytes}
-use Rattle.wire.proofs.FieldLaws.{bind_ok, ok_is, test_ok, both_true, along, back, Takes, IsPart, placed_part}
+use Rattle.wire.proofs.FieldLaws.{bind_ok, ok_is, along, back, Takes, IsPart, placed_part}
 use Rattle.wire.proofs.ListLaws.{list_takes, list_again, held_takes}
 
 -- ---- so many values, one behind the other

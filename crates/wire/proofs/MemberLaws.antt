@@ -1,11 +1,11 @@
 -- The laws of a view's members, and of those who go together.
-use Rattle.std.proofs.Common.{◌≡◌, ℕ, zero, suc, ◌+◌, ◌<◌, ◌≤◌, Bool, true, false, cond, ltb, leb, eqb, ◌&&◌, ◌||◌, List, [], ◌∷◌, ◌++◌, length, get_or, take, drop, Option, Some, None, Result, Ok, Err, refl, sym, ap, subst, ◌∙◌, append_assoc, arith}
+use Rattle.std.proofs.Common.{◌≡◌, ℕ, zero, suc, ◌+◌, ◌<◌, ◌≤◌, Bool, true, false, cond, ltb, eqb, ◌||◌, List, [], ◌∷◌, ◌++◌, length, get_or, take, drop, Option, Some, None, Result, Ok, Err, refl, sym, ap, subst, ◌∙◌, append_assoc, arith}
 use Rattle.std.specs.Prelude.{not}
-use Rattle.std.specs.List.{flat_map, AllByRecursion, list_any}
+use Rattle.std.specs.List.{flat_map, AllByRecursion}
 use Rattle.std.specs.Option.{option_map_or}
-use Rattle.std.proofs.lemmas.Bool.{ltb-false, le-ltb, leb-true, le-leb, eqb-true}
+use Rattle.std.proofs.lemmas.Bool.{ltb-false, le-ltb}
 use Rattle.std.proofs.lemmas.Bool.Decides.{nat_tests}
-use Rattle.std.proofs.lemmas.List.{length-append, append-nil, take-append-drop, take_more}
+use Rattle.std.proofs.lemmas.List.{append-nil, take-append-drop, take_more}
 use Rattle.std.proofs.Math.Seq.{drop-cons}
 use Rattle.std.proofs.lemmas.List.Folds.{list_any-append}
 use Rattle.byteorder.specs.Endian.{big_bytes}
@@ -13,12 +13,11 @@ use Rattle.address.specs.Ids.{Address, ViewId, same_address}
 use Rattle.view.specs.Members.{View, stands_in, is_distinct}
 use Rattle.view.specs.View.{view_refusal, begins_with}
 use Rattle.view.specs.declared.TheConstants.{MEMBERS}
-use Rattle.view.specs.declared.ViewError.{ViewError}
 use Rattle.view.specs.declared.ViewError.TheVariants.{Empty, TooMany, Repeated, NotFirst}
 use Rattle.wire.specs.declared.error.WireError.{WireError}
 use Rattle.wire.specs.declared.error.WireError.TheVariants.{Length, Value}
-use Rattle.wire.specs.Reading.{Read, ◌>>=◌, number_at}
-use Rattle.wire.specs.Fields.{IsAddress, IsViewId, address_bytes, view_id_bytes, address_at, view_id_at}
+use Rattle.wire.specs.Reading.{◌>>=◌, number_at}
+use Rattle.wire.specs.Fields.{IsAddress, address_bytes, view_id_bytes, address_at, view_id_at}
 use Rattle.wire.specs.Lists.{IsView, addresses_bytes, view_bytes, may_follow, members_at, view_at, rest_after, is_in_order, together_at}
 use Rattle.wire.proofs.Bytes.{IsBytes, wide1}
 use Rattle.wire.proofs.FieldLaws.{bind_ok, ok_is, test_ok, both_true, Takes, Takes-then, IsPart, address_part, view_id_part, number_takes, number_again}

@@ -1,16 +1,16 @@
 -- The law of the grammar: what bytes spell, one packet, one spelling, and none begins another.
-use Rattle.std.proofs.Common.{◌≡◌, ℕ, ◌+◌, ◌<◌, ◌≤◌, Bool, true, false, cond, ltb, eqb, List, [], ◌∷◌, ◌++◌, length, Option, Some, None, Result, Ok, Err, refl, sym, ap, subst, ◌∙◌, arith}
+use Rattle.std.proofs.Common.{◌≡◌, ℕ, Bool, true, false, cond, ltb, eqb, List, [], ◌++◌, length, Some, Result, Ok, Err, refl, sym, ap, ◌∙◌}
 use Rattle.std.specs.Prelude.{IfOk, IfErr}
-use Rattle.std.proofs.lemmas.Bool.{ltb-false, le-ltb, eqb-true}
+use Rattle.std.proofs.lemmas.Bool.{le-ltb, eqb-true}
 use Rattle.std.proofs.lemmas.List.{append-nil, nil_from_length}
 use Rattle.wire.specs.declared.limits.TheConstants.{DATAGRAM}
 use Rattle.wire.specs.declared.error.WireError.{WireError}
 use Rattle.wire.specs.declared.error.WireError.TheVariants.{Length, Trailing}
 use Rattle.wire.specs.declared.packet.Packet.{Packet}
 use Rattle.wire.specs.Reading.{Read, ◌>>=◌}
-use Rattle.wire.specs.Packets.{IsPacket, spelling, Spells, packet_at, packet_of, error_in, wire_refusal}
+use Rattle.wire.specs.Packets.{spelling, Spells, packet_at, packet_of, error_in, wire_refusal}
 use Rattle.wire.proofs.Bytes.{IsBytes}
-use Rattle.wire.proofs.FieldLaws.{bind_ok, test_ok, ok_is, along, Takes}
+use Rattle.wire.proofs.FieldLaws.{bind_ok, test_ok, ok_is}
 use Rattle.wire.proofs.PacketLaws.{packet_takes, packet_again}
 use Rattle.wire.proofs.Sizes.{packet_few}
 

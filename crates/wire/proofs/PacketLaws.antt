@@ -1,23 +1,21 @@
 -- The laws of packets: what is read is spelled so, each packet is read from its spelling, and no spelling
 -- begins another.
-use Rattle.std.proofs.Common.{◌≡◌, ℕ, zero, suc, ◌+◌, ◌*◌, ◌^◌, ◌<◌, ◌≤◌, Bool, true, false, cond, ltb, leb, eqb, ◌&&◌, List, [], ◌∷◌, ◌++◌, length, Option, Some, None, Result, Ok, Err, refl, sym, ap, subst, ◌∙◌, append_assoc, arith}
-use Rattle.std.specs.List.{list_all, flat_map, AllByRecursion}
-use Rattle.std.proofs.lemmas.Bool.{leb-true, le-leb, ltb-false, le-ltb, eqb-true, eq-eqb}
-use Rattle.std.proofs.lemmas.List.{append-nil, length-append, nil_from_length}
+use Rattle.std.proofs.Common.{◌≡◌, ℕ, ◌≤◌, true, cond, leb, ◌&&◌, List, ◌++◌, length, Ok, Err, refl, ap, ◌∙◌, append_assoc, arith}
+use Rattle.std.specs.List.{list_all}
+use Rattle.std.proofs.lemmas.Bool.{leb-true, le-leb}
 use Rattle.byteorder.specs.Endian.{big_bytes}
-use Rattle.address.specs.Ids.{Address, ViewId}
-use Rattle.wire.specs.declared.limits.TheConstants.{DATAGRAM, GROUP_NAME, MAGIC, VERSION, KINDS}
-use Rattle.wire.specs.declared.error.WireError.{WireError}
-use Rattle.wire.specs.declared.error.WireError.TheVariants.{NotOurs, Version, Kind, Length, Value, Trailing}
+use Rattle.address.specs.Ids.{Address}
+use Rattle.wire.specs.declared.limits.TheConstants.{GROUP_NAME, MAGIC, VERSION, KINDS}
+use Rattle.wire.specs.declared.error.WireError.TheVariants.{NotOurs, Version, Kind, Length, Value}
 use Rattle.wire.specs.declared.packet.Body.{Body}
 use Rattle.wire.specs.declared.packet.Body.TheVariants as bodies
 use Rattle.wire.specs.declared.packet.Packet.{Packet}
-use Rattle.wire.specs.Reading.{Read, ◌>>=◌, bytes_at, number_at}
-use Rattle.wire.specs.Fields.{IsAddress, address_bytes, address_at}
+use Rattle.wire.specs.Reading.{◌>>=◌, bytes_at, number_at}
+use Rattle.wire.specs.Fields.{address_bytes, address_at}
 use Rattle.wire.specs.Texts.{is_name_byte, is_group_name, group_bytes, group_at}
-use Rattle.wire.specs.Packets.{IsBody, kind_of, body_bytes, body_at, IsPacket, front_bytes, header_bytes, spelling, Spells, front_at, packet_at, packet_of}
+use Rattle.wire.specs.Packets.{kind_of, body_bytes, body_at, IsPacket, front_bytes, header_bytes, spelling, front_at, packet_at}
 use Rattle.wire.proofs.Bytes.{IsBytes, wide1, wide2}
-use Rattle.wire.proofs.FieldLaws.{bind_ok, ok_is, test_ok, guard_ok, both_true, along, back, Takes, Takes-then, IsPart, address_part, bytes_takes, bytes_again, number_takes, number_again}
+use Rattle.wire.proofs.FieldLaws.{bind_ok, ok_is, test_ok, both_true, along, back, Takes, Takes-then, IsPart, address_part, bytes_takes, bytes_again, number_takes, number_again}
 use Rattle.wire.proofs.BodyLaws.{Took, body_takes, body_again}
 
 -- ---- the name of a group

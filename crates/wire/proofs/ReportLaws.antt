@@ -1,27 +1,20 @@
 -- The laws of a report and of an install.
-use Rattle.std.proofs.Common.{◌≡◌, ℕ, zero, suc, ◌+◌, ◌-◌, ◌^◌, ◌<◌, ◌≤◌, Bool, true, false, cond, ltb, leb, eqb, ◌&&◌, List, [], ◌∷◌, ◌++◌, length, Option, Some, None, Result, Ok, Err, refl, sym, ap, subst, ◌∙◌, append_assoc, arith}
-use Rattle.std.specs.Prelude.{min, IfSome}
+use Rattle.std.proofs.Common.{◌≡◌, ℕ, ◌+◌, ◌≤◌, true, cond, leb, ◌&&◌, List, ◌++◌, length, Option, Some, Ok, Err, refl, sym, ap, subst, ◌∙◌, append_assoc, arith}
+use Rattle.std.specs.Prelude.{min}
 use Rattle.std.specs.List.{flat_map, AllByRecursion}
-use Rattle.std.specs.Option.{option_map_or}
-use Rattle.std.proofs.lemmas.Bool.{leb-true, le-leb, eqb-true, eq-eqb}
-use Rattle.std.proofs.lemmas.Bool.Decides.{nat_tests}
-use Rattle.std.proofs.lemmas.List.{length-append, append-nil, nil_from_length}
+use Rattle.std.proofs.lemmas.Bool.{leb-true, le-leb}
 use Rattle.byteorder.specs.Endian.{big_bytes}
-use Rattle.address.specs.Ids.{Address, ViewId}
+use Rattle.address.specs.Ids.{ViewId}
 use Rattle.address.specs.declared.TheConstants.{GREATEST_NUMBER}
-use Rattle.view.specs.Members.{View}
-use Rattle.view.specs.declared.TheConstants.{MEMBERS}
-use Rattle.wire.specs.declared.limits.TheConstants.{WINDOW, STATE}
-use Rattle.wire.specs.declared.error.WireError.{WireError}
+use Rattle.wire.specs.declared.limits.TheConstants.{WINDOW}
 use Rattle.wire.specs.declared.error.WireError.TheVariants.{Length, Value}
-use Rattle.wire.specs.Values.{Entry, Report, Install, nothing_reported}
-use Rattle.wire.specs.Reading.{Read, ◌>>=◌, bytes_at, number_at, list_at}
-use Rattle.wire.specs.Fields.{IsAddress, IsViewId, IsEntry, IsPlaced, address_bytes, number_bytes, view_id_bytes, entry_bytes, placed_bytes, view_id_at, entry_at}
-use Rattle.wire.specs.Lists.{IsReport, IsInstall, are_held, is_filled, is_nothing, is_report, held_bytes, filled_bytes, report_bytes, held_at, held_count_at, filled_at, report_at, is_in_order, is_install, addresses_bytes, view_bytes, items_bytes, view_at, items_count_at}
-use Rattle.wire.proofs.Bytes.{IsBytes, wide1, wide4, wide8}
-use Rattle.wire.proofs.FieldLaws.{bind_ok, ok_is, test_ok, both_true, Takes, Takes-then, IsPart, view_id_part, entry_part, bytes_takes, bytes_again, number_takes, number_again, eight_again}
-use Rattle.wire.proofs.ListLaws.{list_takes, list_again, held_takes, held_again}
-use Rattle.wire.proofs.MemberLaws.{view_part, together_take, together_again}
+use Rattle.wire.specs.Values.{Entry, Report}
+use Rattle.wire.specs.Reading.{◌>>=◌, number_at}
+use Rattle.wire.specs.Fields.{IsViewId, IsPlaced, number_bytes, view_id_bytes, placed_bytes, view_id_at}
+use Rattle.wire.specs.Lists.{are_held, is_filled, held_bytes, held_at, held_count_at, filled_at, items_count_at}
+use Rattle.wire.proofs.Bytes.{IsBytes, wide1, wide8}
+use Rattle.wire.proofs.FieldLaws.{bind_ok, ok_is, test_ok, both_true, Takes, Takes-then, view_id_part, number_takes, number_again, eight_again}
+use Rattle.wire.proofs.ListLaws.{held_takes, held_again}
 
 -- ---- how many entries there are
 

@@ -1,6 +1,5 @@
 -- How long spellings are.
-use Rattle.std.proofs.Common.{◌≡◌, ℕ, zero, suc, ◌+◌, ◌-◌, ◌*◌, ◌^◌, ◌<◌, ◌≤◌, Bool, true, false, List, [], ◌∷◌, ◌++◌, length, Option, Some, None, refl, sym, ap, subst, ◌∙◌, arith}
-use Rattle.std.specs.Prelude.{IfSome}
+use Rattle.std.proofs.Common.{◌≡◌, ℕ, ◌+◌, ◌-◌, ◌*◌, ◌≤◌, true, List, [], ◌∷◌, ◌++◌, length, Option, Some, None, refl, arith}
 use Rattle.std.specs.List.{flat_map, AllByRecursion}
 use Rattle.std.specs.Option.{option_map_or}
 use Rattle.std.proofs.lemmas.List.{length-append}
@@ -19,7 +18,7 @@ use Rattle.wire.specs.Packets.{IsBody, kind_of, body_bytes, IsPacket, front_byte
 use Rattle.wire.specs.Texts.{group_bytes}
 use Rattle.wire.proofs.MemberLaws.{sound_view}
 use Rattle.wire.proofs.ReportLaws.{Filled, filled-rules}
-use Rattle.wire.proofs.InstallLaws.{IsState, Placed, placed-rules}
+use Rattle.wire.proofs.InstallLaws.{IsState, placed-rules}
 use Rattle.wire.proofs.PacketLaws.{is_name}
 
 pub length-addresses : (addresses : List Address) → length (flat_map address_bytes addresses) ≡ 6 * length addresses

@@ -5,14 +5,14 @@ use Rattle.std.specs.Option.{option_map_or}
 use Rattle.byteorder.specs.Endian.{big_bytes}
 use Rattle.address.specs.Ids.{Address, ViewId, same_address}
 use Rattle.address.specs.declared.TheConstants.{GREATEST_NUMBER}
-use Rattle.view.specs.Members.{View, stands_in, is_distinct}
-use Rattle.view.specs.View.{view_refusal, begins_with}
+use Rattle.view.specs.Members.{View, stands_in}
+use Rattle.view.specs.View.{view_refusal}
 use Rattle.view.specs.declared.TheConstants.{MEMBERS}
 use Rattle.wire.specs.declared.limits.TheConstants.{WINDOW, STATE}
 use Rattle.wire.specs.declared.error.WireError.TheVariants.{Length, Value}
 use Rattle.wire.specs.Values.{Entry, Report, Install, nothing_reported}
 use Rattle.wire.specs.Reading.{Read, ◌>>=◌, bytes_at, number_at, list_at}
-use Rattle.wire.specs.Fields.{IsAddress, IsNumber, IsCount, IsViewId, IsEntry, IsPlaced, address_bytes, number_bytes, view_id_bytes, entry_bytes, placed_bytes, address_at, view_id_at, entry_at}
+use Rattle.wire.specs.Fields.{IsAddress, IsViewId, IsEntry, IsPlaced, address_bytes, number_bytes, view_id_bytes, entry_bytes, placed_bytes, address_at, view_id_at, entry_at}
 
 -- ---- a list of addresses: how many in a byte, and the addresses
 

@@ -1,18 +1,17 @@
 -- The packets: which byte lists spell which packet, and why the others spell none.
-use Rattle.std.specs.Prelude.{◌≡◌, ◌≤◌, ◌+◌, ◌-◌, ℕ, zero, Bool, true, List, [], ◌++◌, length, Option, Some, None, Result, Ok, Err, nat_le, nat_lt, ◌==◌, ◌&&◌, ◌||◌, if◌then◌else◌}
-use Rattle.std.specs.List.{list_all}
+use Rattle.std.specs.Prelude.{◌≡◌, ◌≤◌, ◌+◌, ◌-◌, ℕ, true, List, [], ◌++◌, length, Option, Some, None, Result, Ok, Err, nat_lt, ◌==◌, if◌then◌else◌}
 use Rattle.std.specs.Option.{option_map_or}
 use Rattle.byteorder.specs.Endian.{big_bytes}
 use Rattle.wire.specs.Values.{Entry}
 use Rattle.address.specs.declared.TheConstants.{GREATEST_NUMBER}
-use Rattle.wire.specs.declared.limits.TheConstants.{DATAGRAM, PAYLOAD, WINDOW, VERSION, GROUP_NAME, MAGIC, KINDS}
+use Rattle.wire.specs.declared.limits.TheConstants.{DATAGRAM, PAYLOAD, WINDOW, VERSION, MAGIC, KINDS}
 use Rattle.wire.specs.declared.error.WireError.{WireError}
 use Rattle.wire.specs.declared.error.WireError.TheVariants.{NotOurs, Version, Kind, Length, Value, Trailing}
 use Rattle.wire.specs.declared.packet.Body.{Body}
 use Rattle.wire.specs.declared.packet.Body.TheVariants as bodies
 use Rattle.wire.specs.declared.packet.Packet.{Packet}
 use Rattle.wire.specs.Texts.{is_group_name, group_bytes, group_at}
-use Rattle.wire.specs.Reading.{Read, ◌>>=◌, bytes_at, number_at}
+use Rattle.wire.specs.Reading.{Read, ◌>>=◌, number_at}
 use Rattle.wire.specs.Fields.{IsAddress, IsNumber, IsCount, IsViewId, IsEntry, address_bytes, number_bytes, view_id_bytes, payload_bytes, entry_bytes, placed_bytes, address_at, view_id_at, payload_at, entry_at}
 use Rattle.wire.specs.Lists.{IsView, IsReport, IsInstall, view_bytes, report_bytes, install_bytes, view_at, report_at, install_at}
 

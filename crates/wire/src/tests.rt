@@ -3,8 +3,8 @@ use address::{Address, Node, ViewId};
 use std::alloc::{AllocError, Global};
 use std::test::*;
 
-// One packet of each kind, in the group `world` from 2.1 to 1.1, spelled by hand from the tables of
-// docs/WIRE.md. The first, ninth and twelfth are among the published vectors.
+// One packet of each kind in the group `world`, between 1.1 and 2.1, spelled by hand from the tables of
+// docs/WIRE.md. JOIN, ORDER and FLUSH are vectors of the format.
 const JOIN: &[u8] = b"56530101 05 776f726c64 000200000001 000100000001";
 
 const REDIRECT: &[u8] = b"56530102 05 776f726c64 000200000001 000100000001 000300000002";
@@ -44,7 +44,7 @@ const INSTALL: &[u8] = b"5653010c 05 776f726c64 000100000001 000200000001
 const MERGE: &[u8] = b"5653010d 05 776f726c64 000200000001 000100000001
     0000000000000002 000200000001 02 000200000001 000100000001";
 
-// The two other published vectors.
+// The two other vectors.
 const REPORT_OF_NONE: &[u8] = b"5653010b 05 776f726c64 000200000001 000100000001
     0000000000000002 000100000001 00";
 
@@ -109,7 +109,7 @@ fn number_of(answer: Result<Packet<'_>, WireError>) -> u8 {
     }
 }
 
-// The five published packets, written from their parts.
+// The five vectors, written from their parts.
 #[test]
 fn vectors_are_written(rt: HostRuntime) -> Result<(), Fail> {
     let alloc = rt.alloc();
@@ -155,7 +155,7 @@ fn vectors_are_written(rt: HostRuntime) -> Result<(), Fail> {
     Ok(())
 }
 
-// The lengths of the published packets, and that they and one of each kind are read and written back.
+// The lengths of the vectors, and that one packet of each kind is read and written back.
 #[test]
 fn vectors_are_read(rt: HostRuntime) -> Result<(), Fail> {
     let alloc = rt.alloc();

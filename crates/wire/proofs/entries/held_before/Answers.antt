@@ -1,5 +1,4 @@
-use Rattle.std.proofs.Common.{◌≡◌, ◌≤◌, ◌-◌, ℕ, List, length, Ok, true, sym, ap, ◌∙◌, arith}
-use Rattle.wire.specs.Reading.{listed, list_at}
+use Rattle.std.proofs.Common.{ℕ, List, length, Ok, sym, ap, ◌∙◌, arith}
 use Rattle.wire.specs.Values.{Entry}
 use Rattle.wire.specs.Fields.{placed_at}
 use Rattle.wire.specs.Lists.{are_held}

@@ -1,5 +1,4 @@
-use Rattle.std.proofs.Common.{◌≡◌, ◌≤◌, ◌-◌, ℕ, List, length, Ok, true, sym, ap, ◌∙◌, arith}
-use Rattle.wire.specs.Reading.{listed, list_at}
+use Rattle.std.proofs.Common.{List, length, Ok, sym, ap, ◌∙◌, arith}
 use Rattle.wire.specs.Values.{Entry}
 use Rattle.wire.specs.Fields.{IsEntry, entry_bytes, entry_at}
 use Rattle.wire.proofs.FieldLaws.{entry_part}

@@ -1,8 +1,8 @@
-use Rattle.std.proofs.Common.{◌≡◌, ◌≤◌, ◌+◌, ap, sym, subst, ◌∙◌, Ok, Err, ℕ, arith}
+use Rattle.std.proofs.Common.{◌≡◌, ◌+◌, subst, Ok, Err, ℕ, arith}
 use Rattle.std.proofs.lemmas.Result.{err_from_is_err_and}
 use Rattle.wire.specs.declared.error.WireError.TheVariants.{Value}
 use Rattle.wire.specs.Reading.{number_at, rest_of}
-use Rattle.wire.specs.Lists.{held_at, highest_next}
+use Rattle.wire.specs.Lists.{held_at}
 use Rattle.wire.proofs.ListLaws.{highest_next-le}
 use Rattle.wire.proofs.Loops.{held_goes_on, held_no_place, held_no_entry, held_is_done}
 use Rattle.wire.proofs.entries.pass_held.Goals as goal

@@ -1,10 +1,9 @@
-use Rattle.std.proofs.Common.{◌≡◌, List, [], length, ◌+◌, Option, Some, None, sym, ap, ◌∙◌, arith}
+use Rattle.std.proofs.Common.{List, [], sym, ap, ◌∙◌, arith}
 use Rattle.std.proofs.lemmas.List.{length-append}
-use Rattle.std.specs.Prelude.{option_map}
 use Rattle.std.proofs.lemmas.Result.{err_from_is_err_and}
 use Rattle.address.specs.Ids.{Address}
-use Rattle.wire.specs.Lists.{rest_after, is_in_order, together_at}
-use Rattle.wire.proofs.Loops.{together_goes_on, together_no_address, together_wrong, together_done, together_ordered, InOrder}
+use Rattle.wire.specs.Lists.{is_in_order, together_at}
+use Rattle.wire.proofs.Loops.{together_goes_on, together_no_address, together_wrong, together_done, together_ordered}
 use Rattle.wire.proofs.members.together_at.Goals as goal
 
 pub returns-in_err-address-clause-gives : goal.returns-in_err-address-clause-gives

@@ -1,6 +1,5 @@
-use Rattle.std.proofs.Common.{◌≡◌, Result, Ok, Err, sym, ap, ◌∙◌, arith}
-use Rattle.std.specs.Prelude.{IfOk, IfErr}
-use Rattle.wire.proofs.OneSpelling.{read_spells, spelled_read, found_of, refused_of}
+use Rattle.std.proofs.Common.{◌∙◌, arith}
+use Rattle.wire.proofs.OneSpelling.{spelled_read, found_of, refused_of}
 use Rattle.wire.proofs.reading.decode.Goals as goal
 
 pub returns-clause-found : goal.returns-clause-found

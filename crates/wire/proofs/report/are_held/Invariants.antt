@@ -1,5 +1,4 @@
-use Rattle.std.proofs.Common.{◌≡◌, ◌≤◌, length}
-use Rattle.address.specs.declared.TheConstants.{GREATEST_NUMBER}
+use Rattle.std.proofs.Common.{◌≡◌, length}
 use Rattle.wire.specs.Lists.{are_held}
 use Rattle.wire.proofs.report.are_held.Given as goal
 

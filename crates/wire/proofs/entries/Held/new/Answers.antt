@@ -1,5 +1,5 @@
-use Rattle.std.proofs.Common.{◌≡◌, List, ℕ, [], length, Some, Ok, Err, true, false, eqb, sym, ap, subst, ◌∙◌}
-use Rattle.wire.specs.Reading.{list_at, listed, rest_of}
+use Rattle.std.proofs.Common.{◌≡◌, List, ℕ, [], length, Some, true, false, eqb, ap, ◌∙◌}
+use Rattle.wire.specs.Reading.{list_at, listed}
 use Rattle.wire.specs.Fields.{IsPlaced, placed_bytes, placed_at}
 use Rattle.wire.proofs.FieldLaws.{placed_part}
 use Rattle.wire.proofs.Loops.{spelled_whole, rest_nothing, rest_no_error}

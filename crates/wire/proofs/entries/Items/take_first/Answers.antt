@@ -1,7 +1,7 @@
-use Rattle.std.proofs.Common.{◌≡◌, ◌-◌, ◌≤◌, ◌∷◌, List, ℕ, [], zero, Ok, Err, true, sym, ap, subst, ◌∙◌, arith}
-use Rattle.wire.specs.Reading.{Read, listed, is_whole, list_at}
+use Rattle.std.proofs.Common.{◌≡◌, ◌-◌, ◌∷◌, List, ℕ, Ok, Err, true, sym, ap, subst, ◌∙◌, arith}
+use Rattle.wire.specs.Reading.{listed, is_whole, list_at}
 use Rattle.wire.specs.Fields.{entry_at}
-use Rattle.wire.proofs.Loops.{list_first, list_not_err, list_empty, Stepped}
+use Rattle.wire.proofs.Loops.{list_first, list_not_err, list_empty}
 use Rattle.wire.proofs.entries.Items.take_first.Goals as goal
 
 pub returns-then-self-eq0-clause-end : goal.returns-then-self-eq0-clause-end

@@ -1,4 +1,4 @@
-use Rattle.std.proofs.Common.{◌≡◌, ◌<◌, ◌+◌, ◌++◌, ◌∷◌, List, [], Bool, true, false, length, take, drop, slice_index_or, sym, ap, subst, ◌∙◌, arith}
+use Rattle.std.proofs.Common.{◌≡◌, ◌+◌, ◌++◌, ◌∷◌, List, [], true, false, take, sym, ap, subst, ◌∙◌}
 use Rattle.address.specs.Ids.{Address}
 use Rattle.wire.specs.Lists.{may_follow}
 use Rattle.wire.proofs.MemberLaws.{Sound, sound_view, sound_push, sound_at, take_one}
