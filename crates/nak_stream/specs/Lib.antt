@@ -1,0 +1,3 @@
+pub mod Entries
+pub mod Windows
+pub mod Orders

@@ -1,0 +1,15 @@
+//! The window of a view: the messages that a member holds by their number in the view's one order, and
+//! those of them that it was told (docs/PROTOCOL.md, "Window").
+#![tactic(auto)]
+
+mod entry;
+mod window;
+
+pub use entry::Entry;
+pub use window::Window;
+
+/// How many numbers past the stable count a window takes: 32.
+pub const REACH: u64 = 32;
+
+#[cfg(test)]
+mod tests;

@@ -1,0 +1,184 @@
+ghost use Rattle.std.specs.Prelude.{◌≡◌, ℕ, ◌+◌, ◌≤◌, ◌<◌, IfOk, OnOk, OnErr, IsSome, IsTrue, MatchOption, if◌then◌else◌, is_some};
+ghost use Rattle.std.specs.Option.{option_copied};
+ghost use Rattle.std.specs.Ordering.{nat_cmp};
+ghost use Rattle.std.specs.Map.{keys_of};
+ghost use Rattle.std.specs.List.Sorted.{IsStrictlySortedBy};
+ghost use Rattle.nak_stream.specs.Windows.{WindowModel, empty_window, held_at, held_above, offers, taken, delivering, collected, IsWindow, IsMissing, IsLeastGap, IsGreatestGap};
+
+use crate::{Entry, REACH};
+use address::{Address, GREATEST_NUMBER};
+use std::alloc::{AllocError, Global};
+use std::collections::BTreeMap;
+use std::marker::Model;
+
+/// A window of a view: how many messages are known to be stable, how many were delivered here, and the entries
+/// that are held, each at its number in the view's one order. Numbers run from 1 to 2^62.
+///
+/// The stable count is at most the delivered one. All that is held lies above the stable count and at most 32 above
+/// it, and each number from the stable count to the delivered one is held (docs/PROTOCOL.md, "Window").
+#[derive(Debug, Drop)]
+pub struct Window {
+    alloc: Global,
+    stable: u64,
+    delivered: u64,
+    held: BTreeMap<u64, Entry>,
+}
+
+impl Model for Window {
+    ghost use Rattle.nak_stream.specs.Windows.{WindowModel, IsWindow};
+
+    ghost Value = { WindowModel };
+
+    ghost view = { λ w. record { stable = w.stable; delivered = w.delivered; held = w.held.entries } };
+
+    ghost invariant = { λ w. IsWindow (record { stable = w.stable; delivered = w.delivered; held = w.held.entries }) };
+}
+
+impl Window {
+    /// The window of a new view: nothing is stable, delivered or held.
+    pub fn new(alloc: Global) -> Result<Window, AllocError>
+        ensures { IfOk result (λ w. w ≡ empty_window) }
+    {
+        Ok(Window {
+            alloc,
+            stable: 0,
+            delivered: 0,
+            held: BTreeMap::new(alloc),
+        })
+    }
+
+    /// How many messages are known to be stable, 0 to 2^62: nothing is held up to there.
+    pub fn stable(&self) -> u64
+        ensures { result ≡ self.now.stable }
+    {
+        self.stable
+    }
+
+    /// How many messages were delivered here, 0 to 2^62.
+    pub fn delivered(&self) -> u64
+        ensures { result ≡ self.now.delivered }
+    {
+        self.delivered
+    }
+
+    /// What holds of every window, for proofs: it reads nothing.
+    pub fn kept(&self)
+        ensures { IsWindow self.now }
+    {
+        let _ = &self.stable;
+    }
+
+    /// The entry that is held at a number.
+    pub fn entry(&self, g: u64) -> Option<&Entry>
+        ensures { option_copied result ≡ held_at g self.now.held }
+    {
+        self.held.get(&g)
+    }
+
+    /// Offers the entry of these parts at the number `g`. It is taken, and true is answered, exactly where `g` is above the
+    /// delivered count, at most 32 above the stable count and at most 2^62, and nothing is held there. The payload is copied.
+    /// An error for want of memory comes only where it was to be taken; it leaves the window as it was.
+    pub fn accept(
+        &mut self,
+        g: u64,
+        sender: Address,
+        number: u64,
+        payload: &[u8],
+    ) -> Result<bool, AllocError>
+        ensures answer { IfOk result (λ answer. answer ≡ offers g self.old) }
+        ensures ok { OnOk result (self.new ≡ taken g (record { sender = sender; number = number; payload = payload.now }) self.old) }
+        ensures err { OnErr result (self.new ≡ self.old) }
+        ensures err_only { OnErr result (IsTrue (offers g self.old)) }
+    {
+        if !self.offers(g) {
+            return Ok(false);
+        }
+        let entry = Entry::copy_of(self.alloc, sender, number, payload)?;
+        self.held.insert(g, entry)?;
+        Ok(true)
+    }
+
+    fn offers(&self, g: u64) -> bool
+        ensures { result ≡ offers g self.now }
+    {
+        self.delivered < g
+            && g - self.stable <= REACH
+            && g <= GREATEST_NUMBER
+            && !self.held.contains_key(&g)
+    }
+
+    /// Delivers the next number, where it is held: the delivered count rises by one, and a copy of the entry is answered, which
+    /// stays held until it is collected. `None` where it is not held. An error for want of memory comes only where it was
+    /// to be delivered; it leaves the window as it was.
+    pub fn take_ready(&mut self) -> Result<Option<Entry>, AllocError>
+        ensures answer { IfOk result (λ next. next ≡ held_at (self.old.delivered + 1) self.old.held) }
+        ensures ok { OnOk result (self.new ≡ delivering self.old) }
+        ensures err { OnErr result (self.new ≡ self.old) }
+        ensures err_only { OnErr result (IsSome (held_at (self.old.delivered + 1) self.old.held)) }
+    {
+        match self.held.get(&(self.delivered + 1)) {
+            None => Ok(None),
+            Some(entry) => {
+                let copy = entry.copied(self.alloc)?;
+                self.delivered += 1;
+                Ok(Some(copy))
+            }
+        }
+    }
+
+    /// Raises the stable count to `stable`, or to the delivered count where that is less, and lets go what is held up to it.
+    /// Nothing changes where that is no more than the stable count. Takes no memory.
+    pub fn collect(&mut self, stable: u64)
+        ensures { self.new ≡ collected stable self.old }
+    {
+        let stable = stable.min(self.delivered);
+        if self.stable < stable {
+            let_go(&mut self.held, stable);
+            self.stable = stable;
+        }
+    }
+
+    /// The least and the greatest number that is missing, from the one after the delivered count to `highest`. `None` where none
+    /// is missing. Takes no memory.
+    pub fn gaps(&self, highest: u64) -> Option<(u64, u64)>
+        ensures none { MatchOption result ((g : ℕ) → self.now.delivered < g → g ≤ highest → IsSome (held_at g self.now.held)) (λ ends. IsLeastGap self.now highest ends.0) }
+        ensures greatest { MatchOption result ((g : ℕ) → self.now.delivered < g → g ≤ highest → IsSome (held_at g self.now.held)) (λ ends. IsGreatestGap self.now highest ends.1) }
+    {
+        let least = self.least_gap(highest)?;
+        let greatest = self.greatest_gap(highest)?;
+        Some((least, greatest))
+    }
+
+    fn least_gap(&self, highest: u64) -> Option<u64>
+        ensures { MatchOption result ((g : ℕ) → self.now.delivered < g → g ≤ highest → IsSome (held_at g self.now.held)) (IsLeastGap self.now highest) }
+    {
+        let mut before = self.delivered;
+        while before < highest {
+            if !self.held.contains_key(&(before + 1)) {
+                return Some(before + 1);
+            }
+            before += 1;
+        }
+        None
+    }
+
+    fn greatest_gap(&self, highest: u64) -> Option<u64>
+        ensures { MatchOption result ((g : ℕ) → self.now.delivered < g → g ≤ highest → IsSome (held_at g self.now.held)) (IsGreatestGap self.now highest) }
+    {
+        let mut number = highest;
+        while number > self.delivered {
+            if !self.held.contains_key(&number) {
+                return Some(number);
+            }
+            number -= 1;
+        }
+        None
+    }
+}
+
+fn let_go(held: &mut BTreeMap<u64, Entry>, stable: u64)
+    ensures above { held.new.entries ≡ held_above stable held.old.entries }
+    ensures rising { IsStrictlySortedBy nat_cmp (keys_of held.new.entries) }
+{
+    held.retain(|number, _| stable < *number);
+}
