@@ -132,7 +132,9 @@ fn measure(rt: &HostRuntime, name: &str, bytes: &[u8]) -> anyhow::Result<()> {
     let copying = start.elapsed(rt)?.as_nanos() / 20_000;
 
     let length = bytes.len();
-    println!(rt; "{name}, {length} bytes: decode {reading} ns, encode {writing} ns, memcpy {copying} ns ({kinds})")?;
+    println!(rt;
+        "{name}, {length} bytes: decode {reading} ns, encode {writing} ns, memcpy {copying} ns ({kinds})"
+    )?;
     Ok(())
 }
 
