@@ -1,7 +1,7 @@
 -- The first element of a list that passes a test: found, changed or taken out.
-use Rattle.std.proofs.Common.{◌≡◌, ℕ, zero, suc, ◌<◌, ◌≤◌, Bool, true, false, List, [], ◌∷◌, ◌++◌, Option, Some, None, refl, sym, ap, ◌∙◌, arith, length, get_or, position, cond}
+use Rattle.std.proofs.Common.{◌≡◌, ℕ, zero, suc, ◌<◌, Bool, true, false, List, [], ◌∷◌, Some, None, refl, sym, ap, ◌∙◌, arith, length, get_or, position, cond}
 use Rattle.std.specs.Prelude.{slice_get, slice_set, nat_lt, if◌then◌else◌}
-use Rattle.std.specs.List.{find, remove, list_any, position_or_len}
+use Rattle.std.specs.List.{find, remove, position_or_len}
 use Rattle.std.proofs.lemmas.Bool.Decides.{nat_tests}
 use Rattle.std.proofs.lemmas.Option.{slice_get_read, slice_get_within, get_or_from_slice_get}
 use Rattle.std.proofs.lemmas.List.Quantifiers.{position-Some}
@@ -21,9 +21,9 @@ pub record IsNone {X : Type 0} (test : X → Bool) (xs : List X) : Type 0 where
 pub first-is : {X : Type 0} (test : X → Bool) (xs : List X) (i : ℕ) (x : X) → position test xs ≡ Some i → x ≡ get_or xs i x → IsFirst test xs i x
 first-is test xs i x p e =
     let found = position-Some test xs i x p in record {
-        at = slice_get_read xs (length xs) i x refl found.0 e;
-        passes = ap test e ∙ found.1;
-        before = λ k y l h. ap test (sym (get_or_from_slice_get xs k y x h)) ∙ found.2 k l;
+      at = slice_get_read xs (length xs) i x refl found.0 e;
+      passes = ap test e ∙ found.1;
+      before = λ k y l h. ap test (sym (get_or_from_slice_get xs k y x h)) ∙ found.2 k l;
     }
 
 no-place : (b : Bool) (i : ℕ) → cond b (Some i) None ≡ None → b ≡ false
@@ -33,8 +33,8 @@ no-place false i h = refl
 pub none-is : {X : Type 0} (test : X → Bool) (xs : List X) → position test xs ≡ None → IsNone test xs
 none-is test xs p =
     let past : nat_lt (position_or_len test xs) (length xs) ≡ false = no-place _ _ p in record {
-        fails = λ k y h. let w = slice_get_within xs k y h in let l : k < position_or_len test xs = grind (arith, nat_tests) in
-            ap test (sym (get_or_from_slice_get xs k y y h)) ∙ fails_before_first test xs k y l;
+      fails = λ k y h. let w = slice_get_within xs k y h in let l : k < position_or_len test xs = grind (arith, nat_tests) in
+          ap test (sym (get_or_from_slice_get xs k y y h)) ∙ fails_before_first test xs k y l;
     }
 
 rest-first : {X : Type 0} (test : X → Bool) (y : X) (xs : List X) (i : ℕ) (x : X) → IsFirst test (y ∷ xs) (suc i) x → IsFirst test xs i x

@@ -1,13 +1,13 @@
 -- The queue that is served, and what it gives.
-use Rattle.std.proofs.Common.{◌≡◌, ℕ, zero, suc, ◌+◌, get_or, Ok, Err, Bool, true, false, List, [], ◌∷◌, Option, Some, None, refl, sym, ap, ◌∙◌, arith}
-use Rattle.std.specs.Prelude.{nat_eq, if◌then◌else◌, slice_set, MatchOption, Result, OnOk}
+use Rattle.std.proofs.Common.{◌≡◌, ℕ, zero, suc, ◌+◌, get_or, Ok, Err, Bool, true, List, [], ◌∷◌, Option, Some, None, refl, ap, ◌∙◌, arith}
+use Rattle.std.specs.Prelude.{if◌then◌else◌, slice_set, MatchOption, Result, OnOk}
 use Rattle.std.proofs.lemmas.List.{set-get_or}
-use Rattle.std.specs.List.{find, remove}
+use Rattle.std.specs.List.{remove}
 use Rattle.std.specs.Option.{option_map}
 use Rattle.std.proofs.lemmas.Bool.Decides.{nat_tests}
 use Rattle.nak_stream.specs.Entries.{Entry}
 use Rattle.sequencer.specs.Forwards.{Forward}
-use Rattle.sequencer.specs.Queues.{Queue, follows, has_next, next_of, entry_with, served, first_next, without_first, change_first}
+use Rattle.sequencer.specs.Queues.{Queue, follows, has_next, next_of, entry_with, served, first_next, change_first}
 use Rattle.sequencer.proofs.Firsts.{IsFirst, IsNone, without-at, find-at, change-at}
 
 next-number : (q : Queue) (f : Forward) → follows q f ≡ true → f.number ≡ q.ordered + 1
@@ -18,7 +18,7 @@ pub served-is : (q : Queue) (i : ℕ) (f : Forward) → IsFirst (follows q) q.wa
     → record { sender = q.sender; ordered = f.number; waiting = remove q.waiting i } ≡ served q
 served-is q i f t =
     ap (λ n. record { sender = q.sender; ordered = n; waiting = remove q.waiting i }) (next-number q f t.passes)
-        ∙ ap (λ fs. record { sender = q.sender; ordered = q.ordered + 1; waiting = fs }) (without-at (follows q) q.waiting i f t)
+    ∙ ap (λ fs. record { sender = q.sender; ordered = q.ordered + 1; waiting = fs }) (without-at (follows q) q.waiting i f t)
 
 pub next-is : (q : Queue) (i : ℕ) (f : Forward) → IsFirst (follows q) q.waiting i f → next_of q ≡ Some (entry_with q f)
 next-is q i f t = ap (option_map (entry_with q)) (find-at (follows q) q.waiting i f t)
@@ -31,13 +31,13 @@ first-next-at (p ∷ queues) zero q t =
     ap (λ b. if b then next_of p else first_next queues) (ap has_next e ∙ t.passes) ∙ ap next_of e
 first-next-at (p ∷ queues) (suc i) q t =
     ap (λ b. if b then next_of p else first_next queues) (t.before 0 p (omega arith) refl)
-        ∙ first-next-at queues i q (record { at = t.at; passes = t.passes; before = λ k z l h. t.before (suc k) z (omega arith) h })
+    ∙ first-next-at queues i q (record { at = t.at; passes = t.passes; before = λ k z l h. t.before (suc k) z (omega arith) h })
 
 pub first-next-none : (queues : List Queue) → IsNone has_next queues → first_next queues ≡ None
 first-next-none [] n = refl
 first-next-none (p ∷ queues) n =
     ap (λ b. if b then next_of p else first_next queues) (n.fails 0 p refl)
-        ∙ first-next-none queues (record { fails = λ k z h. n.fails (suc k) z h })
+    ∙ first-next-none queues (record { fails = λ k z h. n.fails (suc k) z h })
 
 -- what becomes of all queues, where the one that has the next message is asked for it
 pub served-at : (r : Option Entry) (queues : List Queue) (i : ℕ) (q left : Queue) → IsFirst has_next queues i q → q ≡ get_or queues i q

@@ -65,7 +65,7 @@ impl Forwards {
         ensures after { MatchResult result (λ _. self.new ≡ pushed payload.items self.old) (λ _. self.new ≡ self.old) }
         ensures refused { MatchResult result (λ _. push_refusal self.old ≡ None) (λ refused. MatchOption (push_refusal self.old) (refused.1 ≡ PushRefusal.Memory) (λ why. refused.1 ≡ why)) }
     {
-        if self.rest.len() == 8 {
+        if self.rest.len() as u64 == OUTSTANDING {
             return Err((payload, PushRefusal::Busy));
         }
         if self.sent == GREATEST_NUMBER {

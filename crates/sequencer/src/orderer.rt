@@ -1,4 +1,4 @@
-ghost use Rattle.std.specs.Prelude.{◌≡◌, ◌+◌, ◌≤◌, ◌^◌, false, map, position, IfOk, OnOk, OnErr, MatchOption};
+ghost use Rattle.std.specs.Prelude.{◌≡◌, ◌+◌, ◌≤◌, ◌^◌, false, map, position, IfOk, OnOk, OnErr, IsTrue, MatchOption};
 ghost use Rattle.std.specs.List.{find};
 ghost use Rattle.std.specs.Option.{option_map, option_map_or};
 ghost use Rattle.sequencer.specs.Queues.{OrdererModel, idle, has_next, is_from, is_taken, forwarded, first_next, change_first, served, takes, offered, may_order, next_ordered, ordering};
@@ -51,12 +51,18 @@ impl Orderer {
     }
 
     /// Offers a sender's message. It is taken, and true is answered, exactly where the sender is a member of the view and the number is not ordered yet, does
-    /// not wait already, and is at most 8 past the sender's ordered ones. The payload is copied. An error for want of memory leaves
-    /// all as it was.
-    pub fn forward(&mut self, sender: &Address, number: u64, payload: &[u8]) -> Result<bool, AllocError>
+    /// not wait already, and is at most 8 past the sender's ordered ones. The payload is copied. An error for want of memory comes only where it was
+    /// to be taken; it leaves all as it was.
+    pub fn forward(
+        &mut self,
+        sender: &Address,
+        number: u64,
+        payload: &[u8],
+    ) -> Result<bool, AllocError>
         ensures answer { IfOk result (λ answer. answer ≡ is_taken sender.now number self.old) }
         ensures ok { OnOk result (self.new ≡ forwarded sender.now number payload.now self.old) }
         ensures err { OnErr result (self.new ≡ self.old) }
+        ensures err_only { OnErr result (IsTrue (is_taken sender.now number self.old)) }
     {
         offer_to(&mut self.queues, self.alloc, sender, number, payload)
     }
@@ -105,10 +111,17 @@ fn first_ready(queues: &[Queue]) -> Option<usize>
 }
 
 /// Offers a message to the queue of its sender.
-fn offer_to(queues: &mut Vec<Queue>, alloc: Global, sender: &Address, number: u64, payload: &[u8]) -> Result<bool, AllocError>
+fn offer_to(
+    queues: &mut Vec<Queue>,
+    alloc: Global,
+    sender: &Address,
+    number: u64,
+    payload: &[u8],
+) -> Result<bool, AllocError>
     ensures answer { IfOk result (λ answer. answer ≡ option_map_or (takes number) (find (is_from sender.now) queues.old.items) false) }
     ensures ok { OnOk result (queues.new.items ≡ change_first (is_from sender.now) (offered number payload.now) queues.old.items) }
     ensures err { OnErr result (queues.new.items ≡ queues.old.items) }
+    ensures err_only { OnErr result (IsTrue (option_map_or (takes number) (find (is_from sender.now) queues.old.items) false)) }
 {
     match rank_of(queues.as_slice(), sender) {
         None => Ok(false),

@@ -1,4 +1,4 @@
-ghost use Rattle.std.specs.Prelude.{◌≡◌, ◌+◌, nat_eq, position, IfOk, OnOk, OnErr, MatchOption};
+ghost use Rattle.std.specs.Prelude.{◌≡◌, ◌+◌, nat_eq, position, IfOk, OnOk, OnErr, IsTrue, MatchOption};
 ghost use Rattle.std.specs.List.{list_any};
 ghost use Rattle.sequencer.specs.Queues.{idle, takes, offered, follows, has_next, next_of, served};
 
@@ -44,15 +44,15 @@ impl Queue {
     fn waits(&self, number: u64) -> bool
         ensures { result ≡ list_any (λ f. nat_eq number f.number) self.now.waiting }
     {
-        self.waiting.iter().any(|forward| number == forward.number())
+        self.waiting
+            .iter()
+            .any(|forward| number == forward.number())
     }
 
     fn takes(&self, number: u64) -> bool
         ensures { result ≡ takes number self.now }
     {
-        self.ordered < number
-            && number - self.ordered <= OUTSTANDING
-            && !self.waits(number)
+        self.ordered < number && number - self.ordered <= OUTSTANDING && !self.waits(number)
     }
 
     /// Takes a copy of the message, where it is new and at most 8 past what was ordered.
@@ -60,6 +60,7 @@ impl Queue {
         ensures answer { IfOk result (λ answer. answer ≡ takes number self.old) }
         ensures ok { OnOk result (self.new ≡ offered number payload.now self.old) }
         ensures err { OnErr result (self.new ≡ self.old) }
+        ensures err_only { OnErr result (IsTrue (takes number self.old)) }
     {
         if !self.takes(number) {
             return Ok(false);

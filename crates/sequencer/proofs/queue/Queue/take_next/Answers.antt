@@ -18,7 +18,7 @@ pub returns-clause-answer : goal.returns-clause-answer
 returns-clause-answer c =
     let w : Queue = record { sender = c.self.inside.sender; ordered = c.self.inside.ordered; waiting = c.self.inside.waiting.items } in
     let p : position (follows w) w.waiting ≡ Some c.in_ok-place.place =
-        ap (λ (q : Queue). position (follows q) q.waiting) c.self.view_is ∙ sym c.next_place.ensures ∙ c.in_ok-place.was in
+    ap (λ (q : Queue). position (follows q) q.waiting) c.self.view_is ∙ sym c.next_place.ensures ∙ c.in_ok-place.was in
     let f : Forward = c.remove-forward.result in
     let t : IsFirst (follows w) w.waiting c.in_ok-place.place f = first-is (follows w) w.waiting c.in_ok-place.place f p c.remove-forward.ensures.value in
     let e : Entry = record { sender = w.sender; number = c.number-number.result; payload = f.payload } in
@@ -30,12 +30,12 @@ pub returns-clause-after : goal.returns-clause-after
 returns-clause-after c =
     let w : Queue = record { sender = c.self.inside.sender; ordered = c.self.inside.ordered; waiting = c.self.inside.waiting.items } in
     let p : position (follows w) w.waiting ≡ Some c.in_ok-place.place =
-        ap (λ (q : Queue). position (follows q) q.waiting) c.self.view_is ∙ sym c.next_place.ensures ∙ c.in_ok-place.was in
+    ap (λ (q : Queue). position (follows q) q.waiting) c.self.view_is ∙ sym c.next_place.ensures ∙ c.in_ok-place.was in
     let f : Forward = c.remove-forward.result in
     let t : IsFirst (follows w) w.waiting c.in_ok-place.place f = first-is (follows w) w.waiting c.in_ok-place.place f p c.remove-forward.ensures.value in
     let left : Queue = record { sender = w.sender; ordered = c.number-number.result; waiting = c.remove-forward.new.self.items } in
     let counted : left ≡ record { sender = w.sender; ordered = f.number; waiting = c.remove-forward.new.self.items } =
-        ap (λ (n : ℕ). record { sender = w.sender; ordered = n; waiting = c.remove-forward.new.self.items }) c.number-number.ensures in
+    ap (λ (n : ℕ). record { sender = w.sender; ordered = n; waiting = c.remove-forward.new.self.items }) c.number-number.ensures in
     let removed : record { sender = w.sender; ordered = f.number; waiting = c.remove-forward.new.self.items } ≡ record { sender = w.sender; ordered = f.number; waiting = remove w.waiting c.in_ok-place.place } =
-        ap (λ (fs : List Forward). record { sender = w.sender; ordered = f.number; waiting = fs }) c.remove-forward.ensures.items in
+    ap (λ (fs : List Forward). record { sender = w.sender; ordered = f.number; waiting = fs }) c.remove-forward.ensures.items in
     counted ∙ removed ∙ served-is w c.in_ok-place.place f t ∙ ap served c.self.view_is
