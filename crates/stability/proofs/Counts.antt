@@ -1,11 +1,11 @@
 -- What a member acknowledged bounds the stable count, and is never lowered.
-use Rattle.std.proofs.Common.{◌≡◌, ℕ, ◌≤◌, Bool, true, false, List, [], ◌∷◌, refl, sym, ap, ◌∙◌, subst, arith, map, max, min, length}
+use Rattle.std.proofs.Common.{◌≡◌, ℕ, ◌≤◌, Bool, true, false, List, [], ◌∷◌, refl, ap, ◌∙◌, subst, arith, map, max, min, length}
 use Rattle.std.specs.Prelude.{◌||◌, nat_eq, if◌then◌else◌}
 use Rattle.std.proofs.lemmas.Bool.Decides.{nat_tests}
 use Rattle.address.specs.Ids.{Address, same_address}
 use Rattle.view.specs.Members.{stands_in}
 use Rattle.stability.specs.declared.Ack.{Ack}
-use Rattle.stability.specs.Counts.{unheard, raised, noted, stable_count, members_of, count_of}
+use Rattle.stability.specs.Counts.{unheard, noted, stable_count, members_of, count_of}
 
 pub members-unheard : (members : List Address) → members_of (map unheard members) ≡ members
 members-unheard [] = refl

@@ -1,5 +1,5 @@
 -- The counts that the members of a view acknowledged, and how many messages are stable by them.
-use Rattle.std.specs.Prelude.{ℕ, Bool, List, [], ◌∷◌, map, max, min, length, nat_eq, if◌then◌else◌}
+use Rattle.std.specs.Prelude.{ℕ, List, [], ◌∷◌, map, max, min, length, nat_eq, if◌then◌else◌}
 use Rattle.address.specs.Ids.{Address, same_address}
 use Rattle.stability.specs.declared.Ack.{Ack}
 

@@ -1,0 +1,42 @@
+-- A member's own messages that were sent in a view and not delivered there.
+use Rattle.std.specs.Prelude.{◌≡◌, ℕ, ◌+◌, ◌-◌, ◌≤◌, ◌^◌, List, [], ◌∷◌, ◌++◌, Option, Some, None, length, drop, nat_eq, slice_get, if◌then◌else◌}
+use Rattle.sequencer.specs.declared.TheConstants.{OUTSTANDING}
+use Rattle.sequencer.specs.declared.forwards.PushRefusal.{PushRefusal}
+use Rattle.sequencer.specs.declared.forwards.PushRefusal.TheVariants.{Busy, Exhausted, Memory}
+
+-- a message on its way into the order: its number among its sender's messages, and its payload
+pub record Forward : Type 0 where
+  pub number : ℕ
+  pub payload : List ℕ
+
+-- how many messages were sent, and those of them that are outstanding, by number
+pub record ForwardsModel : Type 0 where
+  pub sent : ℕ
+  pub rest : List Forward
+
+-- the outstanding ones are the last that were sent, at most 8 of them
+pub record IsForwards (w : ForwardsModel) : Type 0 where
+  pub some : length w.rest ≤ w.sent
+  pub few : length w.rest ≤ OUTSTANDING
+  pub last : w.sent ≤ 2 ^ 62
+  pub numbered : (k : ℕ) (f : Forward) → slice_get w.rest k ≡ Some f → f.number + length w.rest ≡ w.sent + k + 1
+
+abbrev pub no_forwards : ForwardsModel
+no_forwards = record { sent = 0; rest = [] }
+
+-- one more message, under the next number
+abbrev pub pushed : List ℕ → ForwardsModel → ForwardsModel
+pushed x w = record { sent = w.sent + 1; rest = w.rest ++ record { number = w.sent + 1; payload = x } ∷ [] }
+
+-- those with numbers up to n are outstanding no longer
+abbrev pub delivered_to : ℕ → ForwardsModel → ForwardsModel
+delivered_to n w = record { sent = w.sent; rest = drop (n - (w.sent - length w.rest)) w.rest }
+
+-- why one more message is refused, but for want of memory: the first of these that applies
+abbrev pub push_refusal : ForwardsModel → Option PushRefusal
+push_refusal w = if nat_eq (length w.rest) OUTSTANDING then Some Busy else if nat_eq w.sent (2 ^ 62) then Some Exhausted else None
+
+abbrev pub push_number : PushRefusal → ℕ
+push_number Busy = 3
+push_number Exhausted = 8
+push_number Memory = 7

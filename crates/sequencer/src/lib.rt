@@ -1,0 +1,18 @@
+//! The order of a view's messages: a member's own messages that were not delivered yet, and the queues from which the first
+//! member puts all messages into one order (docs/PROTOCOL.md, "Order").
+#![tactic(auto)]
+
+mod forward;
+mod forwards;
+mod orderer;
+mod queue;
+
+pub use forward::Forward;
+pub use forwards::{Forwards, PushRefusal};
+pub use orderer::Orderer;
+
+/// The most messages of one sender that may wait at a time: 8.
+pub const OUTSTANDING: u64 = 8;
+
+#[cfg(test)]
+mod tests;
