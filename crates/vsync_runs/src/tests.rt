@@ -43,6 +43,48 @@ fn a_send_without_a_view(rt: HostRuntime) {
     );
 }
 
+/// A text, a byte so many times, and another text.
+fn around(
+    alloc: Global,
+    before: &[u8],
+    middle: &[u8],
+    times: usize,
+    after: &[u8],
+) -> Result<Vec<u8>, AllocError> {
+    let mut text = Vec::from_slice(alloc, before)?;
+    for _ in 0..times {
+        text.extend_from_slice(middle)?;
+    }
+    text.extend_from_slice(after)?;
+    Ok(text)
+}
+
+/// Whether a payload of 512 bytes is sent, and one of 513 refused.
+fn longest_is_sent(alloc: Global) -> Result<bool, AllocError> {
+    let first = around(
+        alloc,
+        b"start 1\ncreate 1\nsend 1 ",
+        b"a",
+        512,
+        b"\nsend 1 ",
+    )?;
+    let script = around(alloc, first.as_slice(), b"a", 513, b"\n")?;
+    let sent = around(
+        alloc,
+        b"started 1.1\ninstalled 1.1 - 1@1.1 1.1 1.1 - -\nsent 1.1 1@1.1 1 ",
+        b"61",
+        512,
+        b"\ndelivered 1.1 1@1.1 1.1 1 ",
+    )?;
+    let wanted = around(alloc, sent.as_slice(), b"61", 512, b"\n# refused 4 4\n0")?;
+    Ok(prints(alloc, script.as_slice(), wanted.as_slice()))
+}
+
+#[test]
+fn the_longest_payload(rt: HostRuntime) {
+    assert_eq!(rt; longest_is_sent(rt.alloc()), Ok(true));
+}
+
 #[test]
 fn a_restart(rt: HostRuntime) {
     let wanted =
