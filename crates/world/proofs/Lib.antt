@@ -4,5 +4,7 @@ pub mod Turning
 pub mod Starting
 pub mod Ending
 pub mod Creating
+pub mod Joining
 pub mod Sending
+pub mod Packets
 pub mod Acting

@@ -1,7 +1,7 @@
 -- What the trace says of one member stays while things happen to others.
-use Rattle.std.proofs.Common.{◌≡◌, ℕ, Bool, true, false, ◌&&◌, Option, Some, None, List, [], ◌∷◌, ◌++◌, length, nat_eq, sym, refl, ap, ◌∙◌, subst, cond}
+use Rattle.std.proofs.Common.{◌≡◌, ℕ, Bool, true, false, Option, Some, None, List, [], ◌∷◌, ◌++◌, length, sym, refl, ap, ◌∙◌}
 use Rattle.std.specs.Option.{option_or}
-use Rattle.std.proofs.lemmas.Bool.{and_left, cond-false}
+use Rattle.std.proofs.lemmas.Bool.{cond-false}
 use Rattle.address.specs.Ids.{Address, ViewId, same_address, same_view_id}
 use Rattle.trace_props.specs.declared.happening.Happening.{Happening}
 use Rattle.trace_props.specs.declared.happening.Happening.TheVariants.{Started, Sent, Delivered, Blocked, Installed, Left, Crashed}
@@ -10,9 +10,9 @@ use Rattle.trace_props.specs.Observed.{member_of, has_started, has_ended, curren
 use Rattle.trace_props.proofs.Observing.{same_address-from, same_view_id-true, has_started-other, has_ended-other, current_view-other, is_blocked-other}
 use Rattle.trace_props.proofs.Telling.{delivered_in-other, sent_in-other, register-still, register-push}
 use Rattle.world_model.specs.Faithful.{first_view}
-use Rattle.world.specs.Invariant.{IsFresh, IsAlone, IsAtStage, IsMember}
+use Rattle.world.specs.Invariant.{Calls, IsFresh, IsAlone, IsAtStage, IsMember}
 use Rattle.world.specs.declared.seat.Stage.{Stage}
-use Rattle.world.specs.declared.seat.Stage.TheVariants.{Idle, Alone}
+use Rattle.world.specs.declared.seat.Stage.TheVariants.{Idle, Joining, Alone}
 
 -- two traces say the same of a member
 pub record SameSight (p : Address) (t u : List Happening) : Type 0 where
@@ -97,7 +97,8 @@ IsAlone-seen p k t u s f = record {
 
 pub IsAtStage-seen : (p : Address) (stage : Stage) (t u : List Happening) → SameSight p t u → IsAtStage p stage t → IsAtStage p stage u
 IsAtStage-seen p Idle t u s f = IsFresh-seen p t u s f
+IsAtStage-seen p (Joining contact) t u s f = IsFresh-seen p t u s f
 IsAtStage-seen p (Alone k) t u s f = IsAlone-seen p k t u s f
 
-pub IsMember-seen : (p : Address) (stage : Stage) (c : Bool) (t u : List Happening) → SameSight p t u → IsMember p stage c t → IsMember p stage c u
-IsMember-seen p stage c t u s m = record { started = s.started ∙ m.started; going = s.ended ∙ m.going; joined = m.joined; at = IsAtStage-seen p stage t u s m.at }
+pub IsMember-seen : (p : Address) (stage : Stage) (c : Calls) (t u : List Happening) → SameSight p t u → IsMember p stage c t → IsMember p stage c u
+IsMember-seen p stage c t u s m = record { started = s.started ∙ m.started; going = s.ended ∙ m.going; joined = m.joined; asks = m.asks; at = IsAtStage-seen p stage t u s m.at }

@@ -1,28 +1,26 @@
 -- A start keeps what a world keeps.
-use Rattle.std.proofs.Common.{◌≡◌, ℕ, ◌+◌, ◌<◌, ◌≤◌, ◌^◌, Bool, true, false, ◌&&◌, Option, Some, None, List, [], ◌∷◌, ◌++◌, nat_eq, nat_lt, sym, refl, ap, ◌∙◌, subst, cond, arith, inl, inr}
+use Rattle.std.proofs.Common.{◌≡◌, ℕ, ◌+◌, ◌<◌, ◌≤◌, ◌^◌, Bool, true, false, ◌&&◌, Option, Some, None, List, [], ◌∷◌, ◌++◌, nat_eq, nat_lt, sym, refl, ap, ◌∙◌, subst, arith, inl, inr}
 use Rattle.std.specs.Option.{option_map_or}
-use Rattle.std.proofs.lemmas.Bool.{cond-true, cond-false, eq-eqb, and_from, ltb-true, ltb-false}
+use Rattle.std.proofs.lemmas.Bool.{cond-true, eq-eqb, and_from}
 use Rattle.address.specs.Ids.{Address, same_view_id}
 use Rattle.trace_props.specs.declared.happening.Happening.{Happening}
 use Rattle.trace_props.specs.declared.happening.Happening.TheVariants.{Started, Crashed}
-use Rattle.trace_props.specs.Observed.{has_started, has_ended}
-use Rattle.trace_props.proofs.Observing.{has_started-now, has_ended-still, has_ended-now, current_view-push, is_blocked-push, has_started-stays}
+use Rattle.trace_props.specs.Observed.{has_started}
+use Rattle.trace_props.proofs.Observing.{has_started-now, has_ended-still, has_ended-now, current_view-push, is_blocked-push}
 use Rattle.trace_props.proofs.Telling.{delivered_in-still, sent_in-still, register-still}
-use Rattle.world_model.specs.declared.WorldEvent.{WorldEvent}
 use Rattle.world_model.specs.declared.WorldEvent.TheVariants.{Start}
 use Rattle.world_model.specs.declared.Answer.{Answer}
 use Rattle.world_model.specs.declared.Answer.TheVariants.{Done, Sent, Refused}
-use Rattle.world_model.specs.declared.Refusal.{Refusal}
 use Rattle.world_model.specs.declared.Refusal.TheVariants.{NotConnected, Blocked, Busy, TooLong, AlreadyConnected, Closed, Memory, Exhausted}
-use Rattle.world_model.specs.Histories.{History, last_of, is_connected}
-use Rattle.world_model.specs.Faithful.{Answers, first_view, runs_at}
+use Rattle.world_model.specs.Histories.{History, last_of, is_connected, contact_of}
+use Rattle.world_model.specs.Faithful.{Answers, first_view}
 use Rattle.world.specs.declared.seat.Stage.TheVariants.{Idle}
 use Rattle.world.specs.declared.seat.Seat.{Seat}
 use Rattle.world.specs.declared.seat.Seat.TheVariants.{Vacant, Ended, Running}
 use Rattle.world.specs.Turns.{Begins, StartGives}
-use Rattle.world.specs.Invariant.{IsFresh, IsSeatOf, IsTrace, top_of}
+use Rattle.world.specs.Invariant.{calls_of, IsFresh, IsSeatOf, IsTrace, top_of}
 use Rattle.world.proofs.Traces.{last_of-push, last_of-still}
-use Rattle.world.proofs.Turning.{Turn, turn-stays, turn-one, turn-two, MayHappen}
+use Rattle.world.proofs.Turning.{Turn, turn-stays, turn-one, turn-two}
 
 -- an incarnation above all of its node has not started
 unstarted : (q : Address) (t : List Happening) → IsTrace t → top_of q.node t < q.incarnation → (b : Bool) → has_started q t ≡ b → b ≡ false
@@ -58,6 +56,7 @@ begins-turns opening n h q Done new t i node above done memory g =
         started = has_started-now q h.trace;
         going = fresh.going;
         joined = cond-true (nat_eq n n && true) false (is_connected n h) (and_from (nat_eq n n) true (eq-eqb n n refl) refl);
+        asks = cond-true (nat_eq n n && true) None (contact_of n h) (and_from (nat_eq n n) true (eq-eqb n n refl) refl);
         at = fresh;
       },
     ))
@@ -82,7 +81,7 @@ top-at : (n : ℕ) (t : List Happening) (o : Option Address) → last_of n t ≡
 top-at n t o e = ap (λ l. option_map_or (λ (x : Address). x.incarnation) l 0) e
 
 -- after an ended member, by whether there is a next incarnation
-after-ended : {R : Type 0} (opening : R) (n : ℕ) (h : History) (p : Address) (a : Answer) (new : Seat R) (t : List Happening) → IsTrace h.trace → IsSeatOf {R = R} n (last_of n h.trace) (is_connected n h) h.trace (Ended p)
+after-ended : {R : Type 0} (opening : R) (n : ℕ) (h : History) (p : Address) (a : Answer) (new : Seat R) (t : List Happening) → IsTrace h.trace → IsSeatOf {R = R} n (last_of n h.trace) (calls_of n h) h.trace (Ended p)
     → (b : Bool) → nat_lt (p.incarnation + 1) (2 ^ 32) ≡ b → StartGives opening n (Ended p) h.trace a new t → Turn h (Start n) a t new
 after-ended {R} opening n h p a new t i k true e g =
     let top : top_of n h.trace ≡ p.incarnation = top-at n h.trace (Some p) k.0 in
@@ -96,7 +95,7 @@ after-ended {R} opening n h p a new t i k false e g =
     rw (stays.0, stays.1, stays.2) (turn-stays {R = R} h (Start n) Exhausted (Ended p) i k (rw (k.0, k.2, e) (refl, refl)))
 
 -- a start, at any seat
-pub start-turns : {R : Type 0} (opening : R) (n : ℕ) (h : History) (old : Seat R) (a : Answer) (new : Seat R) (t : List Happening) → IsTrace h.trace → IsSeatOf n (last_of n h.trace) (is_connected n h) h.trace old
+pub start-turns : {R : Type 0} (opening : R) (n : ℕ) (h : History) (old : Seat R) (a : Answer) (new : Seat R) (t : List Happening) → IsTrace h.trace → IsSeatOf n (last_of n h.trace) (calls_of n h) h.trace old
     → StartGives opening n old h.trace a new t → Turn h (Start n) a t new
 start-turns opening n h Vacant a new t i k g =
     let top : top_of n h.trace ≡ 0 = top-at n h.trace None k in

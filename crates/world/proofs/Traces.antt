@@ -1,5 +1,5 @@
 -- What every trace of lone members keeps, one happening further.
-use Rattle.std.proofs.Common.{◌≡◌, ℕ, ◌+◌, ◌≤◌, Bool, true, false, Option, Some, None, List, [], ◌∷◌, ◌++◌, nat_eq, sym, refl, ap, ◌∙◌, subst, cond, arith}
+use Rattle.std.proofs.Common.{◌≡◌, ℕ, ◌≤◌, Bool, true, false, Some, None, List, [], ◌∷◌, ◌++◌, nat_eq, sym, refl, ap, ◌∙◌, subst, arith}
 use Rattle.std.specs.Option.{option_map_or}
 use Rattle.std.proofs.lemmas.Bool.{cond-true, cond-false, eq-eqb, eqb-true}
 use Rattle.std.proofs.lemmas.List.Sums.{fold-append}
@@ -13,7 +13,7 @@ use Rattle.trace_props.proofs.Observing.{same_address-true, has_started-other, h
 use Rattle.trace_props.proofs.Following.{well_ordered-push, well_ordered-nil}
 use Rattle.world_model.specs.Histories.{last_of, last_after}
 use Rattle.world.specs.Invariant.{IsFresh, IsTrace, top_of}
-use Rattle.world.proofs.Sights.{SameSight, IsOwnInstall, sight-apart, IsFresh-seen}
+use Rattle.world.proofs.Sights.{IsOwnInstall, sight-apart, IsFresh-seen}
 
 -- the newest happening changes a node's last member
 pub last_of-push : (n : ℕ) (t : List Happening) (h : Happening) → last_of n (t ++ h ∷ []) ≡ last_after n (last_of n t) h

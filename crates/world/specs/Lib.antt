@@ -1,2 +1,3 @@
 pub mod Turns
+pub mod Putting
 pub mod Invariant

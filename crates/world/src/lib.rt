@@ -6,20 +6,27 @@ ghost use Rattle.std.specs.Ordering.{nat_cmp};
 ghost use Rattle.std.specs.BTreeMap.{get};
 ghost use Rattle.trace_props.specs.Places.{EachPlace};
 ghost use Rattle.trace_props.specs.Synchrony.{IsWellOrdered};
-ghost use Rattle.world_model.specs.Histories.{no_history};
+ghost use Rattle.std.specs.Option.{option_copied};
+ghost use Rattle.world_model.specs.Histories.{no_history, target_of};
+ghost use Rattle.world_model.specs.Packets.{packet_numbered};
 ghost use Rattle.world_model.specs.Faithful.{IsFaithful};
-ghost use Rattle.world.specs.Turns.{ActsAt, KeepsSeat, CarriesOut};
+ghost use Rattle.world_model.specs.Steps.{IsStepped};
+ghost use Rattle.world.specs.Turns.{ActsAt, KeepsSeat, CarriesOut, Carries, SameSeats, seat_at, runs_here, heard_by};
+ghost use Rattle.world.specs.Putting.{put_at, put_for};
 
+mod pool;
 mod seat;
 
+use crate::pool::Pool;
 use crate::seat::Seat;
-use address::Node;
+use address::{Address, Node};
 use state_transfer::Receiver;
 use std::alloc::{AllocError, Global};
 use std::collections::BTreeMap;
 use std::marker::Model;
 use trace_props::{Happening, Trace};
-use world_model::{Answer, Refusal, Reply, WorldEvent};
+use wire::{Packet, decode};
+use world_model::{Answer, Refusal, Reply, Target, WorldEvent};
 
 /// How many places of the trace are reserved before each step.
 pub const STEP_PLACES: usize = 40;
@@ -31,6 +38,7 @@ pub struct World<R: Receiver> {
     seats: BTreeMap<Node, Seat<R>>,
     events: Vec<WorldEvent>,
     replies: Vec<Reply>,
+    pool: Pool,
     trace: Trace,
 }
 
@@ -42,9 +50,9 @@ impl<R: Receiver> Model for World<R> {
 
     ghost Value = { History };
 
-    ghost view = { λ w. record { events = w.events.items; replies = w.replies.items; trace = w.trace.happenings } };
+    ghost view = { λ w. record { events = w.events.items; replies = w.replies.items; pool = w.pool; trace = w.trace.happenings } };
 
-    ghost invariant = { λ w. IsWorld (get nat_cmp w.seats) (record { events = w.events.items; replies = w.replies.items; trace = w.trace.happenings }) };
+    ghost invariant = { λ w. IsWorld (get nat_cmp w.seats) (record { events = w.events.items; replies = w.replies.items; pool = w.pool; trace = w.trace.happenings }) };
 }
 
 /// Makes a seat for a node, where it has none yet.
@@ -64,38 +72,99 @@ fn act_at<R: Receiver>(
     alloc: Global,
     seats: &mut BTreeMap<Node, Seat<R>>,
     trace: &mut Trace,
+    pool: &mut Pool,
     node: Node,
     event: &WorldEvent,
 ) -> Answer
     requires room { 2 ≤ trace.old.room }
     ensures acts { ActsAt R.opening_state R.apply event.now (get nat_cmp seats.old node) trace.old.happenings result (get nat_cmp seats.new node) trace.new.happenings }
+    ensures puts { pool.new ≡ pool.old ++ put_at event.now (seat_at (get nat_cmp seats.old node)) result }
     ensures others { (m : ℕ) → nat_eq node m ≡ false → get nat_cmp seats.new m ≡ get nat_cmp seats.old m }
 {
     match seats.get_mut(&node) {
-        Some(seat) => seat::act(alloc, seat, trace, event),
+        Some(seat) => seat::act(alloc, seat, trace, pool, event),
         None => Answer::Refused(Refusal::NotConnected),
     }
 }
 
-/// Carries out an event: for a start a seat is kept first, which memory may refuse: then nothing is carried out.
+/// Carries out an event at its node: for a start a seat is kept first, which memory may refuse: then nothing is carried out.
 fn carry_out<R: Receiver>(
     alloc: Global,
     seats: &mut BTreeMap<Node, Seat<R>>,
     trace: &mut Trace,
+    pool: &mut Pool,
     node: Node,
     event: &WorldEvent,
 ) -> Result<Answer, AllocError>
     requires room { 2 ≤ trace.old.room }
     ensures ok { IfOk result (λ a. CarriesOut R.opening_state R.apply event.now (get nat_cmp seats.old node) trace.old.happenings a (get nat_cmp seats.new node) trace.new.happenings) }
+    ensures puts { IfOk result (λ a. pool.new ≡ pool.old ++ put_at event.now (seat_at (get nat_cmp seats.old node)) a) }
     ensures others { (m : ℕ) → nat_eq node m ≡ false → get nat_cmp seats.new m ≡ get nat_cmp seats.old m }
     ensures err { OnErr result (get nat_cmp seats.new node ≡ get nat_cmp seats.old node) }
     ensures err_trace { OnErr result (trace.new.happenings ≡ trace.old.happenings) }
+    ensures err_pool { OnErr result (pool.new ≡ pool.old) }
 {
     if event.is_start() {
         keep_seat(seats, node)?;
-        Ok(act_at(alloc, seats, trace, node, event))
+        Ok(act_at(alloc, seats, trace, pool, node, event))
     } else {
-        Ok(act_at(alloc, seats, trace, node, event))
+        Ok(act_at(alloc, seats, trace, pool, node, event))
+    }
+}
+
+/// Hands a packet to the member that runs at a node, if one does: says to whom.
+fn hear_at<R: Receiver>(
+    seats: &mut BTreeMap<Node, Seat<R>>,
+    node: Node,
+    packet: &Packet<'_>,
+) -> Option<Address>
+    ensures recipient { result ≡ runs_here (seat_at (get nat_cmp seats.old node)) }
+    ensures here { get nat_cmp seats.new node ≡ get nat_cmp seats.old node }
+    ensures others { (m : ℕ) → nat_eq node m ≡ false → get nat_cmp seats.new m ≡ get nat_cmp seats.old m }
+{
+    match seats.get_mut(&node) {
+        Some(seat) => seat::hear(seat, packet),
+        None => None,
+    }
+}
+
+/// Hands the packet of a number to the running member of its destination's node, if there are both: says to whom.
+fn deliver<R: Receiver>(
+    seats: &mut BTreeMap<Node, Seat<R>>,
+    pool: &Pool,
+    number: u64,
+) -> Option<Address>
+    ensures recipient { result ≡ heard_by (get nat_cmp seats.old) (packet_numbered number pool.now) }
+    ensures seats { SameSeats (get nat_cmp seats.old) (get nat_cmp seats.new) }
+{
+    let bytes = pool.packet(number)?;
+    match decode(bytes) {
+        Ok(packet) => hear_at(seats, packet.destination.node(), &packet),
+        Err(_) => None,
+    }
+}
+
+/// Carries out an event. Memory may be refused for a new seat: then nothing is carried out.
+fn carry<R: Receiver>(
+    alloc: Global,
+    seats: &mut BTreeMap<Node, Seat<R>>,
+    trace: &mut Trace,
+    pool: &mut Pool,
+    event: &WorldEvent,
+) -> Result<Answer, AllocError>
+    requires room { 2 ≤ trace.old.room }
+    ensures ok { IfOk result (λ a. Carries R.opening_state R.apply (target_of event.now) event.now (get nat_cmp seats.old) trace.old.happenings a (get nat_cmp seats.new) trace.new.happenings) }
+    ensures puts { IfOk result (λ a. pool.new ≡ pool.old ++ put_for (target_of event.now) event.now (get nat_cmp seats.old) a) }
+    ensures err { OnErr result (SameSeats (get nat_cmp seats.old) (get nat_cmp seats.new)) }
+    ensures err_trace { OnErr result (trace.new.happenings ≡ trace.old.happenings) }
+    ensures err_pool { OnErr result (pool.new ≡ pool.old) }
+{
+    match event.target() {
+        Target::Member(node) => carry_out(alloc, seats, trace, pool, node, event),
+        Target::Packet(number) => {
+            let _ = deliver(seats, pool, number);
+            Ok(Answer::Done)
+        }
     }
 }
 
@@ -109,6 +178,7 @@ impl<R: Receiver> World<R> {
             seats: BTreeMap::new(alloc),
             events: Vec::new(alloc),
             replies: Vec::new(alloc),
+            pool: Pool::new(alloc),
             trace: Trace::new(alloc),
         }
     }
@@ -123,8 +193,13 @@ impl<R: Receiver> World<R> {
         self.trace.reserve(STEP_PLACES)?;
         self.replies.reserve(1)?;
         self.events.reserve(1)?;
-        let node = event.node();
-        let answer = carry_out(alloc, &mut self.seats, &mut self.trace, node, &event)?;
+        let answer = carry(
+            alloc,
+            &mut self.seats,
+            &mut self.trace,
+            &mut self.pool,
+            &event,
+        )?;
         let place = self.trace.len();
         self.replies.push_reserved(Reply { answer, place });
         self.events.push_reserved(event);
@@ -134,6 +209,7 @@ impl<R: Receiver> World<R> {
     /// What the history of every world keeps.
     fn kept(&self)
         ensures faithful { IsFaithful self.now }
+        ensures stepped { IsStepped self.now }
         ensures ordered { EachPlace IsWellOrdered self.now.trace }
     {
         let _ = &self.trace;
@@ -145,6 +221,7 @@ impl<R: Receiver> World<R> {
         ensures all { OnOk result (self.new.events ≡ self.old.events ++ events.now) }
         ensures some { (k : ℕ) × (self.new.events ≡ self.old.events ++ take k events.now) }
         ensures faithful { IsFaithful self.new }
+        ensures stepped { IsStepped self.new }
         ensures ordered { EachPlace IsWellOrdered self.new.trace }
     {
         for event in events {
@@ -169,6 +246,14 @@ impl<R: Receiver> World<R> {
         ensures { result.now ≡ self.now.replies }
     {
         self.replies.as_slice()
+    }
+
+    /// The packet of a number, from 1, among all that were ever put out, in the order in which they were; None for 0 and where
+    /// so many were not put out.
+    pub fn packet(&self, number: u64) -> Option<&[u8]>
+        ensures { option_copied result ≡ packet_numbered number self.now.pool }
+    {
+        self.pool.packet(number)
     }
 
     /// What happened.

@@ -1,9 +1,11 @@
-//! What runs at a node: nothing yet, nothing any more, or a lone member.
+//! What runs at a node: nothing yet, nothing any more, or a member that is in no view of others.
 
-ghost use Rattle.std.specs.Prelude.{◌≡◌, ◌≤◌, IfOk};
-ghost use Rattle.world.specs.Turns.{Creates, Sends, sending, delivery, Begins, StartGives, CreateGives, SendGives, LeaveGives, CrashGives, Acts};
+ghost use Rattle.std.specs.Prelude.{◌≡◌, ◌≤◌, ◌++◌, Some, IfOk};
+ghost use Rattle.world.specs.Turns.{Creates, Sends, sending, delivery, Begins, StartGives, CreateGives, SendGives, JoinGives, TickGives, LeaveGives, CrashGives, AsksAt, Acts, runs_here};
+ghost use Rattle.world.specs.Putting.{asked_by, asked_at, asked_again, put_where, put_at, join_of};
 ghost use Rattle.world_model.specs.Faithful.{lone_install};
 
+use crate::pool::Pool;
 use address::{Address, GREATEST_NUMBER, Node, ViewId};
 use state_transfer::{PAYLOAD, Receiver};
 use std::alloc::{AllocError, Global};
@@ -11,12 +13,15 @@ use trace_props::{
     Bytes, Delivery, HandedBack, Happening, Install, Message, Numbered, Sending, Trace,
 };
 use view::{Addresses, View};
+use wire::Packet;
 use world_model::{Answer, Refusal, WorldEvent};
 
-/// How far a member has come: it has no view, or it is alone in its first view and has sent so many messages there.
+/// How far a member has come: it has no view, it has none and asks a contact to be let in, or it is alone in its first view
+/// and has sent so many messages there.
 #[derive(Debug, Drop)]
 pub enum Stage {
     Idle,
+    Joining(Address),
     Alone(u64),
 }
 
@@ -58,7 +63,7 @@ impl<R: Receiver> Member<R> {
         ensures { Creates self.old result self.new }
     {
         match self.stage {
-            Stage::Alone(_) => Err(Refusal::AlreadyConnected),
+            Stage::Joining(_) | Stage::Alone(_) => Err(Refusal::AlreadyConnected),
             Stage::Idle => {
                 let Ok(install) = lone_install(alloc, self.address) else {
                     return Err(Refusal::Memory);
@@ -78,7 +83,7 @@ impl<R: Receiver> Member<R> {
         ensures { Sends R.apply payload.now self.old result self.new }
     {
         match self.stage {
-            Stage::Idle => Err(Refusal::NotConnected),
+            Stage::Idle | Stage::Joining(_) => Err(Refusal::NotConnected),
             Stage::Alone(sent) => {
                 if payload.len() > PAYLOAD {
                     return Err(Refusal::TooLong);
@@ -96,6 +101,25 @@ impl<R: Receiver> Member<R> {
                 Ok(said)
             }
         }
+    }
+}
+
+impl<R: Receiver> Member<R> {
+    /// Whom it asks to be let in, while it does.
+    fn contact(&self) -> Option<Address>
+        ensures { result ≡ asked_by self.now.stage }
+    {
+        match self.stage {
+            Stage::Joining(contact) => Some(contact),
+            Stage::Idle | Stage::Alone(_) => None,
+        }
+    }
+
+    /// Hears a packet that is for its node. No kind of packet has a rule yet: each is ignored.
+    pub fn hear(&mut self, packet: &Packet<'_>)
+        ensures { self.new ≡ self.old }
+    {
+        let _ = packet.body.kind();
     }
 }
 
@@ -231,6 +255,77 @@ fn send<R: Receiver>(alloc: Global, seat: &mut Seat<R>, trace: &mut Trace, paylo
     }
 }
 
+/// The member asks its contact to be let in, with a JOIN. Where memory is refused the member has crashed.
+fn ask<R: Receiver>(
+    alloc: Global,
+    seat: &mut Seat<R>,
+    trace: &mut Trace,
+    pool: &mut Pool,
+    address: Address,
+    contact: Address,
+) -> Answer
+    requires room { 2 ≤ trace.old.room }
+    ensures asks { AsksAt address seat.old trace.old.happenings result seat.new trace.new.happenings }
+    ensures puts { pool.new ≡ pool.old ++ put_where result (join_of address (Some contact)) }
+{
+    if pool.put_join(alloc, address, contact).is_err() {
+        *seat = Seat::Ended(address);
+        trace.record(Happening::Crashed(address));
+        return Answer::Refused(Refusal::Memory);
+    }
+    Answer::Done
+}
+
+/// A member of the node asks a contact to be let into its group, and is joining from then on: refused with 1, 5, 6 and 7.
+fn join<R: Receiver>(
+    alloc: Global,
+    seat: &mut Seat<R>,
+    trace: &mut Trace,
+    pool: &mut Pool,
+    contact: Address,
+) -> Answer
+    requires room { 2 ≤ trace.old.room }
+    ensures joins { JoinGives contact seat.old trace.old.happenings result seat.new trace.new.happenings }
+    ensures puts { pool.new ≡ pool.old ++ put_where result (asked_at seat.old (Some contact)) }
+{
+    match seat {
+        Seat::Vacant => Answer::Refused(Refusal::NotConnected),
+        Seat::Ended(_) => Answer::Refused(Refusal::Closed),
+        Seat::Running(member) => {
+            if let Stage::Alone(_) = member.stage {
+                return Answer::Refused(Refusal::AlreadyConnected);
+            }
+            let address = member.address;
+            member.stage = Stage::Joining(contact);
+            ask(alloc, seat, trace, pool, address, contact)
+        }
+    }
+}
+
+/// Time passes for the member of the node: while it is joining, it asks again. Refused with 1, 6 and 7.
+fn tick<R: Receiver>(
+    alloc: Global,
+    seat: &mut Seat<R>,
+    trace: &mut Trace,
+    pool: &mut Pool,
+) -> Answer
+    requires room { 2 ≤ trace.old.room }
+    ensures ticks { TickGives seat.old trace.old.happenings result seat.new trace.new.happenings }
+    ensures puts { pool.new ≡ pool.old ++ put_where result (asked_at seat.old (asked_again seat.old)) }
+{
+    match seat {
+        Seat::Vacant => Answer::Refused(Refusal::NotConnected),
+        Seat::Ended(_) => Answer::Refused(Refusal::Closed),
+        Seat::Running(member) => match member.contact() {
+            None => Answer::Done,
+            Some(contact) => {
+                let address = member.address;
+                ask(alloc, seat, trace, pool, address, contact)
+            }
+        },
+    }
+}
+
 /// The member of the node leaves: refused with 1 and 6.
 fn leave<R: Receiver>(seat: &mut Seat<R>, trace: &mut Trace) -> Answer
     requires room { 1 ≤ trace.old.room }
@@ -265,20 +360,39 @@ fn crash<R: Receiver>(seat: &mut Seat<R>, trace: &mut Trace) -> Answer
     }
 }
 
-/// Carries out an event at the seat of its node.
+/// Hands a packet to the member that runs here, if one does: says to whom.
+pub fn hear<R: Receiver>(seat: &mut Seat<R>, packet: &Packet<'_>) -> Option<Address>
+    ensures recipient { result ≡ runs_here seat.old }
+    ensures seat { seat.new ≡ seat.old }
+{
+    match seat {
+        Seat::Vacant | Seat::Ended(_) => None,
+        Seat::Running(member) => {
+            member.hear(packet);
+            Some(member.address)
+        }
+    }
+}
+
+/// Carries out an event at the seat of its node. A delivery has none, and does nothing here.
 pub fn act<R: Receiver>(
     alloc: Global,
     seat: &mut Seat<R>,
     trace: &mut Trace,
+    pool: &mut Pool,
     event: &WorldEvent,
 ) -> Answer
     requires room { 2 ≤ trace.old.room }
-    ensures { Acts R.opening_state R.apply event.now seat.old trace.old.happenings result seat.new trace.new.happenings }
+    ensures acts { Acts R.opening_state R.apply event.now seat.old trace.old.happenings result seat.new trace.new.happenings }
+    ensures puts { pool.new ≡ pool.old ++ put_at event.now seat.old result }
 {
     match event {
         WorldEvent::Start(node) => start(alloc, seat, trace, *node),
         WorldEvent::Create(_) => create(alloc, seat, trace),
+        WorldEvent::Join(_, contact) => join(alloc, seat, trace, pool, *contact),
         WorldEvent::Send(_, payload) => send(alloc, seat, trace, payload.as_slice()),
+        WorldEvent::Deliver(_) => Answer::Done,
+        WorldEvent::Tick(_) => tick(alloc, seat, trace, pool),
         WorldEvent::Leave(_) => leave(seat, trace),
         WorldEvent::Crash(_) => crash(seat, trace),
     }

@@ -9,7 +9,7 @@ use Rattle.trace_props.specs.declared.happening.Happening.TheVariants.{Started, 
 use Rattle.trace_props.specs.declared.happening.Install.{Install}
 use Rattle.trace_props.specs.Observed.{member_of, has_ended, current_view, is_blocked, sent_in, delivered_in, own}
 use Rattle.world_model.specs.declared.WorldEvent.{WorldEvent}
-use Rattle.world_model.specs.declared.WorldEvent.TheVariants.{Start, Create, Send, Leave, Crash}
+use Rattle.world_model.specs.declared.WorldEvent.TheVariants.{Start, Create, Join, Send, Deliver, Tick, Leave, Crash}
 use Rattle.world_model.specs.declared.Answer.{Answer}
 use Rattle.world_model.specs.declared.Answer.TheVariants.{Done, Refused}
 use Rattle.world_model.specs.declared.Answer.TheVariants as answer
@@ -18,6 +18,7 @@ use Rattle.world_model.specs.declared.Refusal.TheVariants.{NotConnected, Busy, T
 use Rattle.world_model.specs.declared.Refusal.TheVariants as refusal
 use Rattle.world_model.specs.declared.TheConstants.{OUTSTANDING, REACH}
 use Rattle.world_model.specs.Histories.{History, last_of, is_connected, after, no_history}
+use Rattle.world_model.specs.Packets.{recipient}
 
 -- an event is refused: nothing happens
 abbrev pub Refuses : Refusal → Answer → List Happening → Type 0
@@ -67,7 +68,7 @@ lone_install p = record {
   given = None;
 }
 
--- refused where a create of the member was answered Done before; else it installs the view of itself alone
+-- refused where a create or a join of the member was answered Done before; else it installs the view of itself alone
 abbrev pub AnswersCreate : Address → History → Answer → List Happening → Type 0
 AnswersCreate p h a stretch =
     MatchBool (is_connected p.node h) (Refuses AlreadyConnected a stretch)
@@ -107,6 +108,19 @@ AnswersSend payload p h a stretch =
     (SendsNext p v payload h.trace a stretch ⊎ Fails p a stretch)
     (Refuses Exhausted a stretch)))))
 
+-- refused where the member has a view
+abbrev pub AnswersJoin : Address → History → Answer → List Happening → Type 0
+AnswersJoin p h a stretch =
+    MatchOption (current_view p h.trace) (((a ≡ Done) × (stretch ≡ [])) ⊎ Fails p a stretch) (λ v. Refuses AlreadyConnected a stretch)
+
+-- never refused: whatever happens then, no event asks for by itself
+abbrev pub AnswersQuietly : Address → Answer → List Happening → Type 0
+AnswersQuietly p a stretch = ((a ≡ Done) × (are_quiet p stretch ≡ true)) ⊎ Fails p a stretch
+
+-- nothing happens where there is no such packet, or its destination's node has no running member
+abbrev pub AnswersDeliver : ℕ → History → Answer → List Happening → Type 0
+AnswersDeliver k h a stretch = MatchOption (recipient k h) ((a ≡ Done) × (stretch ≡ [])) (λ p. AnswersQuietly p a stretch)
+
 abbrev pub AnswersLeave : Address → Answer → List Happening → Type 0
 AnswersLeave p a stretch = (a ≡ Done) × (stretch ≡ Left p ∷ []) ⊎ Fails p a stretch
 
@@ -117,7 +131,10 @@ AnswersCrash p a stretch = (a ≡ Done) × (stretch ≡ Crashed p ∷ [])
 abbrev pub Answers : History → WorldEvent → Answer → List Happening → Type 0
 Answers h (Start n) a stretch = AnswersStart n h a stretch
 Answers h (Create n) a stretch = AtMember n h a stretch (λ p. AnswersCreate p h a stretch)
+Answers h (Join n contact) a stretch = AtMember n h a stretch (λ p. AnswersJoin p h a stretch)
 Answers h (Send n payload) a stretch = AtMember n h a stretch (λ p. AnswersSend payload p h a stretch)
+Answers h (Deliver k) a stretch = AnswersDeliver k h a stretch
+Answers h (Tick n) a stretch = AtMember n h a stretch (λ p. AnswersQuietly p a stretch)
 Answers h (Leave n) a stretch = AtMember n h a stretch (λ p. AnswersLeave p a stretch)
 Answers h (Crash n) a stretch = AtMember n h a stretch (λ p. AnswersCrash p a stretch)
 
@@ -134,12 +151,15 @@ IsPrompt n payload t (Refused r) stretch = Unit {0}
 abbrev pub SendsPromptly : List Happening → WorldEvent → Answer → List Happening → Type 0
 SendsPromptly t (Start n) a stretch = Unit {0}
 SendsPromptly t (Create n) a stretch = Unit {0}
+SendsPromptly t (Join n contact) a stretch = Unit {0}
 SendsPromptly t (Send n payload) a stretch = IsPrompt n payload t a stretch
+SendsPromptly t (Deliver k) a stretch = Unit {0}
+SendsPromptly t (Tick n) a stretch = Unit {0}
 SendsPromptly t (Leave n) a stretch = Unit {0}
 SendsPromptly t (Crash n) a stretch = Unit {0}
 
 -- FAITHFUL: the history comes from nothing, one event at a time, each with its answer and its stretch by the table
 pub data IsFaithful : History → Type 0 where
   Nothing : IsFaithful no_history
-  Next : (h : History) (event : WorldEvent) (a : Answer) (stretch : List Happening) → IsFaithful h → Answers h event a stretch
-      → SendsPromptly h.trace event a stretch → IsFaithful (after h event a stretch)
+  Next : (h : History) (event : WorldEvent) (a : Answer) (packets : List (List ℕ)) (stretch : List Happening) → IsFaithful h → Answers h event a stretch
+      → SendsPromptly h.trace event a stretch → IsFaithful (after h event a packets stretch)

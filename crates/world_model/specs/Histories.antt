@@ -7,23 +7,40 @@ use Rattle.trace_props.specs.declared.happening.Happening.{Happening}
 use Rattle.trace_props.specs.declared.happening.Happening.TheVariants.{Started, Sent, Delivered, Blocked, Installed, Left, Crashed}
 use Rattle.trace_props.specs.Observed.{has_ended}
 use Rattle.world_model.specs.declared.WorldEvent.{WorldEvent}
-use Rattle.world_model.specs.declared.WorldEvent.TheVariants.{Start, Create, Send, Leave, Crash}
+use Rattle.world_model.specs.declared.WorldEvent.TheVariants.{Start, Create, Join, Send, Deliver, Tick, Leave, Crash}
+use Rattle.world_model.specs.declared.Target.{Target}
+use Rattle.world_model.specs.declared.Target.TheVariants.{Member, Packet}
 use Rattle.world_model.specs.declared.Answer.{Answer}
 use Rattle.world_model.specs.declared.Answer.TheVariants.{Done, Refused}
 use Rattle.world_model.specs.declared.Answer.TheVariants as answer
 use Rattle.world_model.specs.declared.Reply.{Reply}
 
--- the events carried out, the reply to each, and what happened
+-- the events carried out, the reply to each, every packet that was put out, and what happened
 pub record History : Type 0 where
   pub events : List WorldEvent
   pub replies : List Reply
+  pub pool : List (List ℕ)
   pub trace : List Happening
 
--- the node of an event
+-- whom an event concerns
+abbrev pub target_of : WorldEvent → Target
+target_of (Start n) = Member n
+target_of (Create n) = Member n
+target_of (Join n contact) = Member n
+target_of (Send n payload) = Member n
+target_of (Deliver k) = Packet k
+target_of (Tick n) = Member n
+target_of (Leave n) = Member n
+target_of (Crash n) = Member n
+
+-- the node of an event: for a delivery 0, which is no node's number
 abbrev pub node_of : WorldEvent → ℕ
 node_of (Start n) = n
 node_of (Create n) = n
+node_of (Join n contact) = n
 node_of (Send n payload) = n
+node_of (Deliver k) = 0
+node_of (Tick n) = n
 node_of (Leave n) = n
 node_of (Crash n) = n
 
@@ -31,7 +48,10 @@ node_of (Crash n) = n
 abbrev pub starts : WorldEvent → Bool
 starts (Start n) = true
 starts (Create n) = false
+starts (Join n contact) = false
 starts (Send n payload) = false
+starts (Deliver k) = false
+starts (Tick n) = false
 starts (Leave n) = false
 starts (Crash n) = false
 
@@ -61,25 +81,47 @@ is_done (Refused r) = false
 abbrev pub connects_after : ℕ → Bool → WorldEvent → Answer → Bool
 connects_after n c (Start m) a = if nat_eq m n && is_done a then false else c
 connects_after n c (Create m) a = if nat_eq m n && is_done a then true else c
+connects_after n c (Join m contact) a = if nat_eq m n && is_done a then true else c
 connects_after n c (Send m x) a = c
+connects_after n c (Deliver k) a = c
+connects_after n c (Tick m) a = c
 connects_after n c (Leave m) a = c
 connects_after n c (Crash m) a = c
 
 abbrev pub connected_after : ℕ → Bool → WorldEvent × Reply → Bool
 connected_after n c row = connects_after n c row.0 row.1.answer
 
--- whether a create of the node was answered Done since the node's last start
+-- whether a create or a join of the node was answered Done since the node's last start
 abbrev pub is_connected : ℕ → History → Bool
 is_connected n h = fold (connected_after n) false (zip h.events h.replies)
 
--- the history after one more event, its answer, and what happened in its step
-abbrev pub after : History → WorldEvent → Answer → List Happening → History
-after h event a stretch = record {
+-- whom an answered event leaves a node's member asking to be let in
+abbrev pub asks_after : ℕ → Option Address → WorldEvent → Answer → Option Address
+asks_after n c (Start m) a = if nat_eq m n && is_done a then None else c
+asks_after n c (Create m) a = c
+asks_after n c (Join m contact) a = if nat_eq m n && is_done a then Some contact else c
+asks_after n c (Send m x) a = c
+asks_after n c (Deliver k) a = c
+asks_after n c (Tick m) a = c
+asks_after n c (Leave m) a = c
+asks_after n c (Crash m) a = c
+
+abbrev pub asked_after : ℕ → Option Address → WorldEvent × Reply → Option Address
+asked_after n c row = asks_after n c row.0 row.1.answer
+
+-- the contact of the last join of the node that was answered Done since the node's last start
+abbrev pub contact_of : ℕ → History → Option Address
+contact_of n h = fold (asked_after n) None (zip h.events h.replies)
+
+-- the history after one more event, its answer, the packets that its step put out, and what happened in it
+abbrev pub after : History → WorldEvent → Answer → List (List ℕ) → List Happening → History
+after h event a packets stretch = record {
   events = h.events ++ event ∷ [];
   replies = h.replies ++ record { answer = a; place = length (h.trace ++ stretch) } ∷ [];
+  pool = h.pool ++ packets;
   trace = h.trace ++ stretch;
 }
 
 -- the history at the beginning
 abbrev pub no_history : History
-no_history = record { events = []; replies = []; trace = [] }
+no_history = record { events = []; replies = []; pool = []; trace = [] }

@@ -1,3 +1,5 @@
 pub mod Refusals
 pub mod Histories
+pub mod Packets
 pub mod Faithful
+pub mod Steps

@@ -3,9 +3,9 @@
 
 ghost use Rattle.std.specs.Prelude.{◌≡◌, IfOk};
 ghost use Rattle.world_model.specs.Refusals.{number_of};
-ghost use Rattle.world_model.specs.Histories.{node_of, starts};
+ghost use Rattle.world_model.specs.Histories.{target_of, starts};
 
-use address::Node;
+use address::{Address, Node};
 use std::alloc::{AllocError, Global};
 use trace_props::Bytes;
 
@@ -22,25 +22,43 @@ pub enum WorldEvent {
     Start(Node),
     /// The node's member makes a group of itself alone.
     Create(Node),
+    /// The node's member asks the contact to let it into its group.
+    Join(Node, Address),
     /// The node's member sends a payload.
     Send(Node, Bytes),
+    /// The packet of this number, from 1, is handed to the running member of its destination's node.
+    Deliver(u64),
+    /// Time passes for the node's member.
+    Tick(Node),
     /// The node's member leaves.
     Leave(Node),
     /// The node's member crashes.
     Crash(Node),
 }
 
+/// Whom an event concerns.
+#[derive(Clone, Copy, Debug, PartialEq, Eq)]
+pub enum Target {
+    /// The member of this node.
+    Member(Node),
+    /// The member that the packet of this number is for.
+    Packet(u64),
+}
+
 impl WorldEvent {
-    /// The node whose member the event concerns.
-    pub fn node(&self) -> Node
-        ensures { result ≡ node_of self.now }
+    /// Whom it concerns.
+    pub fn target(&self) -> Target
+        ensures { result ≡ target_of self.now }
     {
         match self {
-            WorldEvent::Start(node) => *node,
-            WorldEvent::Create(node) => *node,
-            WorldEvent::Send(node, _) => *node,
-            WorldEvent::Leave(node) => *node,
-            WorldEvent::Crash(node) => *node,
+            WorldEvent::Start(node) => Target::Member(*node),
+            WorldEvent::Create(node) => Target::Member(*node),
+            WorldEvent::Join(node, _) => Target::Member(*node),
+            WorldEvent::Send(node, _) => Target::Member(*node),
+            WorldEvent::Deliver(number) => Target::Packet(*number),
+            WorldEvent::Tick(node) => Target::Member(*node),
+            WorldEvent::Leave(node) => Target::Member(*node),
+            WorldEvent::Crash(node) => Target::Member(*node),
         }
     }
 
@@ -51,7 +69,10 @@ impl WorldEvent {
         match self {
             WorldEvent::Start(_) => true,
             WorldEvent::Create(_) => false,
+            WorldEvent::Join(_, _) => false,
             WorldEvent::Send(_, _) => false,
+            WorldEvent::Deliver(_) => false,
+            WorldEvent::Tick(_) => false,
             WorldEvent::Leave(_) => false,
             WorldEvent::Crash(_) => false,
         }
@@ -64,7 +85,10 @@ impl WorldEvent {
         match self {
             WorldEvent::Start(node) => Ok(WorldEvent::Start(*node)),
             WorldEvent::Create(node) => Ok(WorldEvent::Create(*node)),
+            WorldEvent::Join(node, contact) => Ok(WorldEvent::Join(*node, *contact)),
             WorldEvent::Send(node, payload) => Ok(WorldEvent::Send(*node, payload.copied(alloc)?)),
+            WorldEvent::Deliver(number) => Ok(WorldEvent::Deliver(*number)),
+            WorldEvent::Tick(node) => Ok(WorldEvent::Tick(*node)),
             WorldEvent::Leave(node) => Ok(WorldEvent::Leave(*node)),
             WorldEvent::Crash(node) => Ok(WorldEvent::Crash(*node)),
         }

@@ -1,5 +1,4 @@
-use Rattle.std.proofs.Common.{ap, subst, ◌≡◌, List}
-use Rattle.trace_props.specs.declared.happening.Happening.{Happening}
+use Rattle.std.proofs.Common.{subst}
 use Rattle.trace_props.specs.Places.{EachPlace}
 use Rattle.trace_props.specs.Synchrony.{IsWellOrdered}
 use Rattle.world_model.specs.Histories.{History}

@@ -9,5 +9,5 @@ use Rattle.world.proofs.World.new.Goals as goal
 -- nothing happened, and no node has a seat
 pub invariant_of-result : goal.invariant_of-result
 invariant_of-result g c =
-    rw (c.new-2.ensures.items, c.new-3.ensures.items, c.new-4.ensures)
+    rw (c.new-2.ensures.items, c.new-3.ensures.items, c.new-4.ensures, c.new-5.ensures)
     (no_world (get nat_cmp c.new.result) (λ n. ap (lookup (is_at (nat_cmp n))) c.new.ensures.empty) trace-nil)
