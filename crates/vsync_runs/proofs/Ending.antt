@@ -12,6 +12,7 @@ use Rattle.trace_props.specs.Synchrony.{IsWellOrdered}
 use Rattle.world_model.specs.declared.WorldEvent.{WorldEvent}
 use Rattle.world_model.specs.Histories.{History, no_history}
 use Rattle.world_model.specs.Faithful.{IsFaithful}
+use Rattle.world_model.specs.Steps.{IsStepped}
 use Rattle.vsync_text.specs.declared.script.Script.{Script}
 use Rattle.trace_props.specs.declared.happening.Happening.{Happening}
 use Rattle.world_model.specs.declared.Reply.{Reply}
@@ -101,17 +102,17 @@ pub written-as : (P Q : Status → List ℕ → Type 0) (a b : Option (List ℕ)
 written-as P Q a b status f w = record { meant = w.meant; text = w.text; says = f w.meant w.text w.says; ends = w.ends }
 
 -- what a world tells that ran a script's events, all of them or a beginning, is a text of the script's run
-pub run-text : (script : Script) (h : History) (ran : Bool) (k : ℕ) → IsFaithful h → EachPlace IsWellOrdered h.trace → h.events ≡ take k script.events → (ran ≡ true → h.events ≡ script.events)
+pub run-text : (script : Script) (h : History) (ran : Bool) (k : ℕ) → IsFaithful h → IsStepped h → EachPlace IsWellOrdered h.trace → h.events ≡ take k script.events → (ran ≡ true → h.events ≡ script.events)
     → (s : Status) (t : List ℕ) → IsWorldText script.lines h ran s t → IsRunText script s t
-run-text script h ran k faithful ordered some all s t (Told whole) = All h (record { faithful = faithful; ordered = ordered; carried = all whole })
-run-text script h ran k faithful ordered some all s t (Untold count) = Part h k count (record { faithful = faithful; ordered = ordered; carried = some })
+run-text script h ran k faithful stepped ordered some all s t (Told whole) = All h (record { faithful = faithful; stepped = stepped; ordered = ordered; carried = all whole })
+run-text script h ran k faithful stepped ordered some all s t (Untold count) = Part h k count (record { faithful = faithful; stepped = stepped; ordered = ordered; carried = some })
 
 -- a history by its replies and its trace
 pub told-as : (lines : List ℕ) (h : History) (ran : Bool) (replies : List Reply) (trace : List Happening) (a b : Option (List ℕ)) (status : Status) → replies ≡ h.replies → trace ≡ h.trace
-    → Written (IsWorldText lines (record { events = h.events; replies = replies; trace = trace }) ran) a b status → Written (IsWorldText lines h ran) a b status
+    → Written (IsWorldText lines (record { events = h.events; replies = replies; pool = h.pool; trace = trace }) ran) a b status → Written (IsWorldText lines h ran) a b status
 told-as lines h ran replies trace a b status r t w =
-    subst (λ (x : List Happening). Written (IsWorldText lines (record { events = h.events; replies = h.replies; trace = x }) ran) a b status) t
-    (subst (λ (y : List Reply). Written (IsWorldText lines (record { events = h.events; replies = y; trace = trace }) ran) a b status) r w)
+    subst (λ (x : List Happening). Written (IsWorldText lines (record { events = h.events; replies = h.replies; pool = h.pool; trace = x }) ran) a b status) t
+    (subst (λ (y : List Reply). Written (IsWorldText lines (record { events = h.events; replies = y; pool = h.pool; trace = trace }) ran) a b status) r w)
 
 -- nothing is appended
 pub appends-none : (a : Option (List ℕ)) → Appends a a []
@@ -144,12 +145,12 @@ on-ok (Err x) P b p is whole = absurd (let bad : true ≡ false = sym whole ∙ 
 
 -- what a world tells that ran a script's events from the beginning
 pub played : {A E : Type 0} (script : Script) (lines : List ℕ) (given : List WorldEvent) (old h : History) (ran : Bool) (r : Result A E) (k : ℕ) (a b : Option (List ℕ)) (status : Status)
-    → lines ≡ script.lines → given ≡ script.events → old ≡ no_history → IsFaithful h → EachPlace IsWellOrdered h.trace
+    → lines ≡ script.lines → given ≡ script.events → old ≡ no_history → IsFaithful h → IsStepped h → EachPlace IsWellOrdered h.trace
     → h.events ≡ old.events ++ take k given → OnOk r (h.events ≡ old.events ++ given) → ran ≡ is_ok r
     → Written (IsWorldText lines h ran) a b status → Written (IsRunText script) a b status
-played script lines given old h ran r k a b status same all empty faithful ordered some whole is w =
+played script lines given old h ran r k a b status same all empty faithful stepped ordered some whole is w =
     written-as (IsWorldText script.lines h ran) (IsRunText script) a b status
-    (λ s t says. run-text script h ran k faithful ordered
+    (λ s t says. run-text script h ran k faithful stepped ordered
     (some ∙ ap (λ (o : History). o.events ++ take k given) empty ∙ ap (λ (g : List WorldEvent). take k g) all)
     (λ yes-ran. on-ok r (h.events ≡ old.events ++ given) ran whole is yes-ran ∙ ap (λ (o : History). o.events ++ given) empty ∙ all) s t says)
     (subst (λ (l : List ℕ). Written (IsWorldText l h ran) a b status) same w)

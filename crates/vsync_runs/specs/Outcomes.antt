@@ -8,6 +8,7 @@ use Rattle.trace_props.specs.Synchrony.{IsWellOrdered}
 use Rattle.world_model.specs.declared.WorldEvent.{WorldEvent}
 use Rattle.world_model.specs.Histories.{History}
 use Rattle.world_model.specs.Faithful.{IsFaithful}
+use Rattle.world_model.specs.Steps.{IsStepped}
 use Rattle.vsync_text.specs.declared.script.Script.{Script}
 use Rattle.vsync_text.specs.declared.fault.Fault.{Fault}
 use Rattle.vsync_text.specs.Script.{script_of, fault_number}
@@ -35,9 +36,11 @@ pub data Ends (old new : Option (List ℕ)) (text : List ℕ) (status : Status) 
   Whole : Appends old new text → Ends old new text status status
   Cut : (count : ℕ) → Appends old new (take count text) → Ends old new text status Outside
 
--- a world carried out exactly these events: its history is faithful and well ordered at every place
+-- a world carried out exactly these events: its history is faithful, each event is a step of it, and it is well ordered at
+-- every place
 pub record Ran (events : List WorldEvent) (h : History) : Type 0 where
   pub faithful : IsFaithful h
+  pub stepped : IsStepped h
   pub ordered : EachPlace IsWellOrdered h.trace
   pub carried : h.events ≡ events
 

@@ -1,6 +1,9 @@
 use crate::{Silent, Status, run_script};
+use address::{Address, Node};
 use std::alloc::{AllocError, Global};
 use std::io::{self, Read, Write};
+use world::World;
+use world_model::WorldEvent;
 
 /// What a script prints, with its exit status at the end as a digit.
 fn printed(alloc: Global, script: &[u8]) -> Result<Vec<u8>, AllocError> {
@@ -96,6 +99,50 @@ fn a_restart(rt: HostRuntime) {
             wanted
         )
     );
+}
+
+#[test]
+fn a_join_of_nobody(rt: HostRuntime) {
+    let wanted = b"started 1.1\ninstalled 1.1 - 1@1.1 1.1 1.1 - -\nstarted 2.1\n0";
+    assert!(rt;
+        prints(
+            rt.alloc(),
+            b"start 1\ncreate 1\nstart 2\njoin 2 9.1\ntick 2\ndeliver 1\ndeliver 3\n",
+            wanted
+        )
+    );
+}
+
+/// The JOIN of 2.1 to 9.1.
+const JOIN: [u8; 22] = [
+    b'V', b'S', 1, 1, 5, b'w', b'o', b'r', b'l', b'd', 0, 2, 0, 0, 0, 1, 0, 9, 0, 0, 0, 1,
+];
+
+/// A world in which node 2 asked a contact that is nowhere, and asked again.
+fn asking(alloc: Global) -> Option<World<Silent>> {
+    let node = Node::new(2)?;
+    let contact = Address::new(Node::new(9)?, 1)?;
+    let events = [
+        WorldEvent::Start(node),
+        WorldEvent::Join(node, contact),
+        WorldEvent::Tick(node),
+        WorldEvent::Deliver(1),
+    ];
+    let mut world = World::new(alloc);
+    world.run(&events).ok()?;
+    Some(world)
+}
+
+#[test]
+fn the_packets_of_a_join(rt: HostRuntime) {
+    let world = asking(rt.alloc());
+    assert!(rt; world.is_some());
+    if let Some(world) = world {
+        assert_eq!(rt; world.packet(1), Some(JOIN.as_slice()));
+        assert_eq!(rt; world.packet(2), Some(JOIN.as_slice()));
+        assert!(rt; world.packet(0).is_none());
+        assert!(rt; world.packet(3).is_none());
+    }
 }
 
 #[test]

@@ -5,7 +5,7 @@ use Rattle.std.specs.Str.{bytes_eq}
 use Rattle.world_model.specs.declared.WorldEvent.{WorldEvent}
 use Rattle.world_model.specs.declared.WorldEvent.TheVariants as event
 use Rattle.vsync_text.specs.declared.line.Word.{Word}
-use Rattle.vsync_text.specs.declared.line.Word.TheVariants.{Start, Create, Send, Leave, Crash}
+use Rattle.vsync_text.specs.declared.line.Word.TheVariants.{Start, Create, Join, Send, Deliver, Tick, Leave, Crash}
 use Rattle.vsync_text.specs.declared.line.Unheard.{Unheard}
 use Rattle.vsync_text.specs.declared.line.Unheard.TheVariants as unheard
 use Rattle.vsync_text.specs.declared.fault.Fault.{Fault}
@@ -16,6 +16,7 @@ use Rattle.vsync_text.specs.declared.TheConstants.{SCRIPT_LINE}
 use Rattle.vsync_text.specs.Lines.{lines_of, field_of, behind_field}
 use Rattle.vsync_text.specs.Numbers.{number_in}
 use Rattle.address.specs.Ids.{Address}
+use Rattle.address.specs.declared.TheConstants.{GREATEST_NUMBER}
 use Rattle.vsync_text.specs.AddressText.{address_of_text}
 
 abbrev pub fault_number : Fault → ℕ
@@ -41,6 +42,11 @@ abbrev pub address_field : Option (List ℕ) → Result (Address × Option (List
 address_field None = Err MissingField
 address_field (Some text) = and_rest (address_of_text (field_of text)) (behind_field text)
 
+-- the next field as a packet's number, 1 to 2^62
+abbrev pub packet_field : Option (List ℕ) → Result (ℕ × Option (List ℕ)) Fault
+packet_field None = Err MissingField
+packet_field (Some text) = and_rest (number_in 1 GREATEST_NUMBER (field_of text)) (behind_field text)
+
 -- what was read, if nothing is left
 abbrev pub ended : {A : Type 0} → A → Option (List ℕ) → Result A Fault
 ended x None = Ok x
@@ -55,6 +61,15 @@ abbrev pub made : (ℕ → WorldEvent) → Result ℕ Fault → Result WorldEven
 made event (Ok n) = Ok (event n)
 made event (Err f) = Err f
 
+-- the event of a node and of the contact with which its line ends
+abbrev pub joins : ℕ → Result Address Fault → Result WorldEvent Fault
+joins n (Ok contact) = Ok (event.Join n contact)
+joins n (Err f) = Err f
+
+abbrev pub asked : Result (ℕ × Option (List ℕ)) Fault → Result WorldEvent Fault
+asked (Ok read) = joins read.0 (only (address_field read.1))
+asked (Err f) = Err f
+
 -- the rest of the line, whatever it holds, is the payload
 abbrev pub sent : Result (ℕ × Option (List ℕ)) Fault → Result WorldEvent Fault
 sent (Ok (n, None)) = Err MissingField
@@ -67,16 +82,23 @@ abbrev pub word_of : List ℕ → Option Word
 word_of name =
     if bytes_eq name (codes "start") then Some Start
     else if bytes_eq name (codes "create") then Some Create
+    else if bytes_eq name (codes "join") then Some Join
     else if bytes_eq name (codes "send") then Some Send
+    else if bytes_eq name (codes "deliver") then Some Deliver
+    else if bytes_eq name (codes "tick") then Some Tick
     else if bytes_eq name (codes "leave") then Some Leave
     else if bytes_eq name (codes "crash") then Some Crash
     else None
 
--- the event of a word and of what is left behind it: `start N`, `create N`, `send N TEXT`, `leave N`, `crash N`
+-- the event of a word and of what is left behind it: `start N`, `create N`, `join N ADDR`, `send N TEXT`, `deliver K`,
+-- `tick N`, `leave N`, `crash N`
 abbrev pub event_of : Word → Option (List ℕ) → Result WorldEvent Fault
 event_of Start rest = made event.Start (only (node_field rest))
 event_of Create rest = made event.Create (only (node_field rest))
+event_of Join rest = asked (node_field rest)
 event_of Send rest = sent (node_field rest)
+event_of Deliver rest = made event.Deliver (only (packet_field rest))
+event_of Tick rest = made event.Tick (only (node_field rest))
 event_of Leave rest = made event.Leave (only (node_field rest))
 event_of Crash rest = made event.Crash (only (node_field rest))
 

@@ -5,10 +5,10 @@ ghost use Rattle.std.specs.Option.{option_copied};
 ghost use Rattle.vsync_text.specs.Lines.{lines_of, before_byte, behind_byte, field_of, behind_field};
 ghost use Rattle.vsync_text.specs.Numbers.{is_plain, has_plain_front, value_of, number_in};
 ghost use Rattle.vsync_text.specs.AddressText.{address_of_text};
-ghost use Rattle.vsync_text.specs.Script.{node_field, address_field};
+ghost use Rattle.vsync_text.specs.Script.{node_field, packet_field, address_field};
 
 use crate::Fault;
-use address::{Address, Node};
+use address::{Address, GREATEST_NUMBER, Node};
 
 /// The index of the first byte of a text that is `byte`.
 fn index_of(byte: u8, text: &[u8]) -> Option<usize>
@@ -134,6 +134,22 @@ pub(crate) fn node_field(rest: Option<&[u8]>) -> Result<(Node, Option<&[u8]>), F
             None => Err(Fault::BadNumber),
             Some(node) => Ok((node, rest)),
         },
+    }
+}
+
+/// The next field as the number of a packet, and what is left behind it.
+pub(crate) fn packet_field(rest: Option<&[u8]>) -> Result<(u64, Option<&[u8]>), Fault>
+    ensures { MatchResult result
+        (λ read. packet_field (option_copied rest.entry) ≡ Ok (read.0, option_copied read.1))
+        (λ f. packet_field (option_copied rest.entry) ≡ Err f) }
+{
+    let Some(text) = rest else {
+        return Err(Fault::MissingField);
+    };
+    let (field, rest) = first_field(text);
+    match number_in(1, GREATEST_NUMBER, field) {
+        None => Err(Fault::BadNumber),
+        Some(number) => Ok((number, rest)),
     }
 }
 

@@ -2,11 +2,11 @@ ghost use Rattle.std.specs.Prelude.{◌≡◌, Some, MatchOption, MatchResult};
 ghost use Rattle.std.specs.Option.{option_copied};
 ghost use Rattle.vsync_text.specs.declared.line.Unheard.TheVariants as unheard;
 ghost use Rattle.vsync_text.specs.declared.fault.Fault.TheVariants.{MissingField};
-ghost use Rattle.vsync_text.specs.Script.{node_field, only, sent, word_of, event_of, told, is_skipped, reading_of, IsUnheard};
+ghost use Rattle.vsync_text.specs.Script.{node_field, packet_field, address_field, only, asked, sent, word_of, event_of, told, is_skipped, reading_of, IsUnheard};
 
-use crate::field::{first_field, node_field};
+use crate::field::{address_field, first_field, node_field, packet_field};
 use crate::{Fault, SCRIPT_LINE};
-use address::Node;
+use address::{Address, Node};
 use std::alloc::Global;
 use trace_props::Bytes;
 use world_model::WorldEvent;
@@ -23,7 +23,10 @@ pub(crate) enum Unheard {
 pub(crate) enum Word {
     Start,
     Create,
+    Join,
     Send,
+    Deliver,
+    Tick,
     Leave,
     Crash,
 }
@@ -35,8 +38,14 @@ fn word_of(name: &[u8]) -> Option<Word>
         Some(Word::Start)
     } else if name == b"create".as_slice() {
         Some(Word::Create)
+    } else if name == b"join".as_slice() {
+        Some(Word::Join)
     } else if name == b"send".as_slice() {
         Some(Word::Send)
+    } else if name == b"deliver".as_slice() {
+        Some(Word::Deliver)
+    } else if name == b"tick".as_slice() {
+        Some(Word::Tick)
     } else if name == b"leave".as_slice() {
         Some(Word::Leave)
     } else if name == b"crash".as_slice() {
@@ -54,6 +63,41 @@ fn lone_node(rest: Option<&[u8]>) -> Result<Node, Unheard>
         Err(fault) => Err(Unheard::Fault(fault)),
         Ok((_, Some(_))) => Err(Unheard::Fault(Fault::BadNumber)),
         Ok((node, None)) => Ok(node),
+    }
+}
+
+/// The number of a packet, with which a line ends.
+fn lone_packet(rest: Option<&[u8]>) -> Result<u64, Unheard>
+    ensures { MatchResult result (λ n. only (packet_field (option_copied rest.entry)) ≡ Ok n) (IsUnheard (only (packet_field (option_copied rest.entry)))) }
+{
+    match packet_field(rest) {
+        Ok((number, None)) => Ok(number),
+        Ok(_) => Err(Unheard::Fault(Fault::BadNumber)),
+        Err(fault) => Err(Unheard::Fault(fault)),
+    }
+}
+
+/// The address with which a line ends.
+fn lone_address(rest: Option<&[u8]>) -> Result<Address, Unheard>
+    ensures { MatchResult result (λ a. only (address_field (option_copied rest.entry)) ≡ Ok a) (IsUnheard (only (address_field (option_copied rest.entry)))) }
+{
+    match address_field(rest) {
+        Ok((address, None)) => Ok(address),
+        Ok(_) => Err(Unheard::Fault(Fault::BadNumber)),
+        Err(fault) => Err(Unheard::Fault(fault)),
+    }
+}
+
+/// The event of `join N ADDR`.
+fn asked(rest: Option<&[u8]>) -> Result<WorldEvent, Unheard>
+    ensures { MatchResult result (λ e. asked (node_field (option_copied rest.entry)) ≡ Ok e) (IsUnheard (asked (node_field (option_copied rest.entry)))) }
+{
+    match node_field(rest) {
+        Err(fault) => Err(Unheard::Fault(fault)),
+        Ok((node, behind)) => {
+            let contact = lone_address(behind)?;
+            Ok(WorldEvent::Join(node, contact))
+        }
     }
 }
 
@@ -90,7 +134,10 @@ fn event_of(alloc: Global, word: Word, rest: Option<&[u8]>) -> Result<WorldEvent
     match word {
         Word::Start => Ok(WorldEvent::Start(lone_node(rest)?)),
         Word::Create => Ok(WorldEvent::Create(lone_node(rest)?)),
+        Word::Join => asked(rest),
         Word::Send => sent(alloc, rest),
+        Word::Deliver => Ok(WorldEvent::Deliver(lone_packet(rest)?)),
+        Word::Tick => Ok(WorldEvent::Tick(lone_node(rest)?)),
         Word::Leave => Ok(WorldEvent::Leave(lone_node(rest)?)),
         Word::Crash => Ok(WorldEvent::Crash(lone_node(rest)?)),
     }

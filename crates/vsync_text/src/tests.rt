@@ -11,7 +11,21 @@ use trace_props::{Bytes, Delivery, HandedBack, Happening, Install, Message, Numb
 use view::{Addresses, View};
 use world_model::{Answer, Refusal, Reply, WorldEvent};
 
-/// What a script says, as a text of its own: `LINE:NODE` for each event, or the first fault.
+/// An event of a line, as a text of its own.
+fn told(alloc: Global, line: u64, event: &WorldEvent) -> Result<String, AllocError> {
+    match event {
+        WorldEvent::Start(node) => format!(in alloc; "{line}:start {node};"),
+        WorldEvent::Create(node) => format!(in alloc; "{line}:create {node};"),
+        WorldEvent::Join(node, contact) => format!(in alloc; "{line}:join {node} {contact};"),
+        WorldEvent::Send(node, _) => format!(in alloc; "{line}:send {node};"),
+        WorldEvent::Deliver(number) => format!(in alloc; "{line}:deliver {number};"),
+        WorldEvent::Tick(node) => format!(in alloc; "{line}:tick {node};"),
+        WorldEvent::Leave(node) => format!(in alloc; "{line}:leave {node};"),
+        WorldEvent::Crash(node) => format!(in alloc; "{line}:crash {node};"),
+    }
+}
+
+/// What a script says, as a text of its own: each event with its line, or the first fault.
 fn reading(alloc: Global, text: &[u8]) -> Result<String, AllocError> {
     match read_script(alloc, text) {
         Err(Unread::Memory) => String::from_str(alloc, "memory"),
@@ -22,14 +36,7 @@ fn reading(alloc: Global, text: &[u8]) -> Result<String, AllocError> {
         Ok(script) => {
             let mut said = String::new(alloc);
             for (event, line) in script.events().iter().zip(script.lines().iter()) {
-                let (word, node) = match event {
-                    WorldEvent::Start(node) => ("start", node),
-                    WorldEvent::Create(node) => ("create", node),
-                    WorldEvent::Send(node, _) => ("send", node),
-                    WorldEvent::Leave(node) => ("leave", node),
-                    WorldEvent::Crash(node) => ("crash", node),
-                };
-                let next = format!(in alloc; "{line}:{word} {node};")?;
+                let next = told(alloc, *line, event)?;
                 said.push_str(next.as_str())?;
             }
             Ok(said)
@@ -51,7 +58,27 @@ fn scripts_are_read(rt: HostRuntime) -> Result<(), Fail> {
         ),
         ("send 1 \n", "1:send 1;"),
         ("send 1  a  b \r\n", "1:send 1;"),
-        ("join 1 1.1\n", "fault 1 40"),
+        (
+            "join 1 2.1\njoin 65535 65535.4294967295\ntick 9\n",
+            "1:join 1 2.1;2:join 65535 65535.4294967295;3:tick 9;",
+        ),
+        (
+            "deliver 1\ndeliver 4611686018427387904",
+            "1:deliver 1;2:deliver 4611686018427387904;",
+        ),
+        ("join 1\n", "fault 1 42"),
+        ("join x\n", "fault 1 41"),
+        ("join 1 1\n", "fault 1 41"),
+        ("join 1 0.1\n", "fault 1 41"),
+        ("join 1 1.0\n", "fault 1 41"),
+        ("join 1 1.4294967296\n", "fault 1 41"),
+        ("join 1 1.1 2\n", "fault 1 41"),
+        ("deliver\n", "fault 1 42"),
+        ("deliver 0\n", "fault 1 41"),
+        ("deliver 4611686018427387905\n", "fault 1 41"),
+        ("tick\n", "fault 1 42"),
+        ("tick 0\n", "fault 1 41"),
+        ("suspect 1 1.1\n", "fault 1 40"),
         ("start 1\nSTART 1\n", "fault 2 40"),
         (" start 1\n", "fault 1 40"),
         ("\r\n", "fault 1 40"),
