@@ -1,4 +1,4 @@
-ghost use Rattle.std.specs.Prelude.{◌≡◌, ◌≤◌, ◌<◌, ◌==◌, ◌++◌, true, false, length, slice_get, IfOk, OnOk, OnErr, MatchOption};
+ghost use Rattle.std.specs.Prelude.{◌≡◌, ◌≤◌, ◌<◌, ◌==◌, ◌++◌, true, false, length, slice_get, IsOk, IfOk, OnOk, OnErr, MatchOption};
 ghost use Rattle.std.specs.Option.{option_copied};
 ghost use Rattle.chat_log.specs.Chat.{IsChat, chat_apply};
 ghost use Rattle.chat_log.specs.Encoding.{chat_encode, chat_decode};
@@ -101,7 +101,7 @@ impl Receiver for ChatLog {
     /// that is refused, leave the lines as they are.
     fn receive(&mut self, from: Address, payload: &[u8]) -> Result<(), AllocError>
         ensures applies { OnOk result (length payload.now ≤ PAYLOAD → self.new ≡ chat_apply self.old from payload.now) }
-        ensures too_long { PAYLOAD < length payload.now → self.new ≡ self.old }
+        ensures too_long { PAYLOAD < length payload.now → IsOk result × (self.new ≡ self.old) }
         ensures err { OnErr result (self.new ≡ self.old) }
     {
         if payload.len() > PAYLOAD {
@@ -126,8 +126,8 @@ impl Receiver for ChatLog {
         put_chat(self.lines.as_slice(), state)
     }
 
-    #[tactic(auto, using(crate::specs::ChatLaws::decoded_is_chat))]
     /// Takes the state that bytes are the encoding of. Where they are none's, or memory is refused, it keeps its own.
+    #[tactic(auto, using(crate::specs::ChatLaws::decoded_is_chat))]
     fn set_state(&mut self, state: &[u8]) -> Result<bool, AllocError>
         ensures ok { IfOk result (λ taken. MatchOption (chat_decode state.now) ((taken ≡ false) × (self.new ≡ self.old)) (λ s. (taken ≡ true) × (self.new ≡ s))) }
         ensures err { OnErr result (self.new ≡ self.old) }
