@@ -1,0 +1,29 @@
+-- The chat's state: its last lines, and what a message does to them.
+use Rattle.std.specs.Prelude.{ℕ, ◌-◌, ◌≤◌, List, [], ◌∷◌, ◌++◌, length, drop}
+use Rattle.std.specs.List.{AllByRecursion}
+use Rattle.address.specs.Ids.{Address, IsAddress}
+use Rattle.state_transfer.specs.declared.TheConstants.{PAYLOAD}
+use Rattle.chat_log.specs.declared.TheConstants.{LINES}
+use Rattle.chat_log.specs.declared.lines.Line.{Line}
+
+-- the line that a sender said
+abbrev pub said : Address → List ℕ → Line
+said sender payload = record { sender = sender; payload = payload }
+
+-- the lines that a chat may hold
+pub record IsLine (l : Line) : Type 0 where
+  pub sender : IsAddress l.sender
+  pub payload : length l.payload ≤ PAYLOAD
+
+-- the states of a chat: a few lines
+pub record IsChat (s : List Line) : Type 0 where
+  pub few : length s ≤ LINES
+  pub lines : AllByRecursion IsLine s
+
+-- the last n of a list, all of it where it has no more
+abbrev pub last_of : {A : Type 0} → ℕ → List A → List A
+last_of n xs = drop (length xs - n) xs
+
+-- a message is the newest line; the oldest is dropped where there were enough
+abbrev pub chat_apply : List Line → Address → List ℕ → List Line
+chat_apply s from payload = last_of LINES (s ++ said from payload ∷ [])

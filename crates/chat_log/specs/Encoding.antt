@@ -1,0 +1,57 @@
+-- The chat's state as bytes, and the state that bytes stand for.
+use Rattle.std.specs.Prelude.{ℕ, List, ◌++◌, length, Option, Some, None, ◌==◌, if◌then◌else◌}
+use Rattle.std.specs.List.{flat_map}
+use Rattle.byteorder.specs.Endian.{big_bytes}
+use Rattle.address.specs.Ids.{Address}
+use Rattle.state_transfer.specs.declared.TheConstants.{PAYLOAD}
+use Rattle.chat_log.specs.declared.TheConstants.{LINES}
+use Rattle.chat_log.specs.declared.lines.Line.{Line}
+use Rattle.chat_log.specs.Reading.{Read, ◌>>=◌, bytes_at, number_at, list_at}
+
+-- ---- an address: the node in two bytes, the incarnation in four; neither is 0
+
+abbrev pub address_bytes : Address → List ℕ
+address_bytes a = big_bytes 2 a.node ++ big_bytes 4 a.incarnation
+
+unfoldable pub address_at : List ℕ → Read Address
+address_at bytes = do
+  node ← number_at 2 1 65535 bytes
+  incarnation ← number_at 4 1 4294967295 node.1
+  Some (record { node = node.0; incarnation = incarnation.0 }, incarnation.1)
+
+-- ---- a payload: its length in two bytes, and the bytes
+
+abbrev pub payload_bytes : List ℕ → List ℕ
+payload_bytes payload = big_bytes 2 (length payload) ++ payload
+
+unfoldable pub payload_at : List ℕ → Read (List ℕ)
+payload_at bytes = do
+  len ← number_at 2 0 PAYLOAD bytes
+  bytes_at len.0 len.1
+
+-- ---- a line: its sender and its payload
+
+abbrev pub line_bytes : Line → List ℕ
+line_bytes l = address_bytes l.sender ++ payload_bytes l.payload
+
+unfoldable pub line_at : List ℕ → Read Line
+line_at bytes = do
+  sender ← address_at bytes
+  payload ← payload_at sender.1
+  Some (record { sender = sender.0; payload = payload.0 }, payload.1)
+
+-- ---- the state: the number of lines in a byte, and the lines, the oldest first
+
+abbrev pub chat_encode : List Line → List ℕ
+chat_encode s = big_bytes 1 (length s) ++ flat_map line_bytes s
+
+unfoldable pub lines_at : List ℕ → Read (List Line)
+lines_at bytes = do
+  count ← number_at 1 0 LINES bytes
+  list_at line_at count.0 count.1
+
+-- the state that bytes stand for: nothing follows its last line
+unfoldable pub chat_decode : List ℕ → Option (List Line)
+chat_decode bytes = do
+  lines ← lines_at bytes
+  if length lines.1 == 0 then Some lines.0 else None

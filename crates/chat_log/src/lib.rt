@@ -1,0 +1,24 @@
+//! A replicated chat: its state is the last lines that were said, and all copies that were told the same have the
+//! same lines (docs/FORMATS.md, "The chat's state").
+#![tactic(auto)]
+
+mod law;
+mod lines;
+mod log;
+mod reading;
+mod writing;
+
+pub use law::one_encoding;
+pub use lines::Line;
+pub use log::ChatLog;
+use state_transfer::PAYLOAD;
+
+/// The most lines that a chat keeps.
+pub const LINES: usize = 24;
+
+/// The most bytes that a chat's state is encoded in, 12,481: the number of lines in one, and of each line the sender
+/// in six, the length of the payload in two, and the payload.
+pub const LONGEST: usize = 1 + LINES * (8 + PAYLOAD);
+
+#[cfg(test)]
+mod tests;

@@ -1,0 +1,29 @@
+ghost use Rattle.std.specs.Prelude.{◌≡◌, ◌++◌, ◌∷◌, [], OnOk, OnErr};
+ghost use Rattle.chat_log.specs.Chat.{said};
+
+use address::Address;
+use std::alloc::AllocError;
+use trace_props::Bytes;
+
+/// A line of the chat: who said it, and what, at most 512 bytes.
+#[derive(Debug, Drop)]
+pub struct Line {
+    /// Who said it.
+    pub sender: Address,
+    /// What was said.
+    pub payload: Bytes,
+}
+
+// Adds a line at the end.
+pub(crate) fn push_line(
+    lines: &mut Vec<Line>,
+    sender: Address,
+    payload: &[u8],
+) -> Result<(), AllocError>
+    ensures ok { OnOk result (lines.new.items ≡ lines.old.items ++ said sender payload.now ∷ []) }
+    ensures err { OnErr result (lines.new.items ≡ lines.old.items) }
+{
+    let payload = Bytes::from_slice(*lines.allocator(), payload)?;
+    lines.push(Line { sender, payload })?;
+    Ok(())
+}
