@@ -15,6 +15,8 @@ use Rattle.vsync_text.specs.declared.fault.Unread.TheVariants as unread
 use Rattle.vsync_text.specs.declared.TheConstants.{SCRIPT_LINE}
 use Rattle.vsync_text.specs.Lines.{lines_of, field_of, behind_field}
 use Rattle.vsync_text.specs.Numbers.{number_in}
+use Rattle.address.specs.Ids.{Address}
+use Rattle.vsync_text.specs.AddressText.{address_of_text}
 
 abbrev pub fault_number : Fault → ℕ
 fault_number UnknownWord = 40
@@ -33,6 +35,11 @@ and_rest (Some x) rest = Ok (x, rest)
 abbrev pub node_field : Option (List ℕ) → Result (ℕ × Option (List ℕ)) Fault
 node_field None = Err MissingField
 node_field (Some text) = and_rest (number_in 1 65535 (field_of text)) (behind_field text)
+
+-- the next field as an address
+abbrev pub address_field : Option (List ℕ) → Result (Address × Option (List ℕ)) Fault
+address_field None = Err MissingField
+address_field (Some text) = and_rest (address_of_text (field_of text)) (behind_field text)
 
 -- what was read, if nothing is left
 abbrev pub ended : {A : Type 0} → A → Option (List ℕ) → Result A Fault
@@ -142,8 +149,8 @@ abbrev pub IsUnheard : {A : Type 0} → Result A Fault → Unheard → Type 0
 IsUnheard said (unheard.Fault f) = said ≡ Err f
 IsUnheard said unheard.Memory = Unit {0}
 
--- a script was not read: by its first fault, or because memory was refused
-abbrev pub IsUnread : Result Script FaultAt → Unread → Type 0
+-- a text was not read: by its first fault, or because memory was refused
+abbrev pub IsUnread : {A : Type 0} → Result A FaultAt → Unread → Type 0
 IsUnread said (unread.Fault k f) = said ≡ Err (record { line = k; fault = f })
 IsUnread said unread.Memory = Unit {0}
 

@@ -2,12 +2,13 @@ ghost use Rattle.std.specs.Prelude.{◌≡◌, ◌<◌, ◌≤◌, ◌^◌, ◌�
 ghost use Rattle.std.specs.List.{list_all, position_or_len};
 ghost use Rattle.std.specs.Char.{is_ascii_digit};
 ghost use Rattle.std.specs.Option.{option_copied};
-ghost use Rattle.vsync_text.specs.Lines.{lines_of, field_of, behind_field};
+ghost use Rattle.vsync_text.specs.Lines.{lines_of, before_byte, behind_byte, field_of, behind_field};
 ghost use Rattle.vsync_text.specs.Numbers.{is_plain, has_plain_front, value_of, number_in};
-ghost use Rattle.vsync_text.specs.Script.{node_field};
+ghost use Rattle.vsync_text.specs.AddressText.{address_of_text};
+ghost use Rattle.vsync_text.specs.Script.{node_field, address_field};
 
 use crate::Fault;
-use address::Node;
+use address::{Address, Node};
 
 /// The index of the first byte of a text that is `byte`.
 fn index_of(byte: u8, text: &[u8]) -> Option<usize>
@@ -28,9 +29,10 @@ fn length_until(byte: u8, text: &[u8]) -> usize
     }
 }
 
-/// The first line of a text that is not empty, and what stands behind its line feed.
+/// The first line of a text that is not empty, without its line feed, and what stands behind that; a last line may lack its
+/// line feed (docs/FORMATS.md, "Script text").
 #[tactic(auto, using(crate::proofs::Reading::first_of_lines))]
-pub(crate) fn first_line(text: &[u8]) -> (&[u8], &[u8])
+pub fn first_line(text: &[u8]) -> (&[u8], &[u8])
     requires { 0 < length text.now }
     ensures lines { lines_of text.now ≡ result.0.now ∷ lines_of result.1.now }
     ensures shorter { length result.1.now < length text.now }
@@ -42,16 +44,25 @@ pub(crate) fn first_line(text: &[u8]) -> (&[u8], &[u8])
     }
 }
 
-/// The field at the front of a text, and what stands behind the space that follows it.
-pub(crate) fn first_field(text: &[u8]) -> (&[u8], Option<&[u8]>)
+/// The text before the first byte that is `byte`, and what stands behind that byte. Where none is, all the text and `None`.
+pub fn split_at_first(byte: u8, text: &[u8]) -> (&[u8], Option<&[u8]>)
+    ensures before { result.0.now ≡ before_byte byte text.now }
+    ensures behind { option_copied result.1 ≡ behind_byte byte text.now }
+{
+    let (front, rest) = text.split_at(length_until(byte, text));
+    match rest.split_first() {
+        None => (front, None),
+        Some((_, behind)) => (front, Some(behind)),
+    }
+}
+
+/// The field at the front of a text, and what stands behind the space that follows it; `None` where none follows. A field
+/// may be empty (docs/FORMATS.md, "Script text").
+pub fn first_field(text: &[u8]) -> (&[u8], Option<&[u8]>)
     ensures field { result.0.now ≡ field_of text.now }
     ensures rest { option_copied result.1 ≡ behind_field text.now }
 {
-    let (field, rest) = text.split_at(length_until(b' ', text));
-    match rest.split_first() {
-        None => (field, None),
-        Some((_, behind)) => (field, Some(behind)),
-    }
+    split_at_first(b' ', text)
 }
 
 /// Whether a field has decimal digits alone, without leading zeros.
@@ -92,8 +103,9 @@ fn value_of(digits: &[u8], high: u64) -> Option<u64>
     Some(value)
 }
 
-/// The number from `low` to `high` that a field spells, in decimal without leading zeros.
-pub(crate) fn number_in(low: u64, high: u64, field: &[u8]) -> Option<u64>
+/// The number from `low` to `high` that a field spells, in decimal without leading zeros; `None` where it is anything else
+/// (docs/FORMATS.md, "Script text").
+pub fn number_in(low: u64, high: u64, field: &[u8]) -> Option<u64>
     ensures { result ≡ number_in low high field.now }
 {
     if !is_plain(field) {
@@ -122,5 +134,36 @@ pub(crate) fn node_field(rest: Option<&[u8]>) -> Result<(Node, Option<&[u8]>), F
             None => Err(Fault::BadNumber),
             Some(node) => Ok((node, rest)),
         },
+    }
+}
+
+/// The address that a field spells: `N.I`, a node from 1 to 65535, a point and an incarnation from 1 to 4294967295, both
+/// in decimal without leading zeros; `None` where it is anything else (docs/FORMATS.md, "Trace text").
+pub fn address_in(field: &[u8]) -> Option<Address>
+    ensures { result ≡ address_of_text field.now }
+{
+    let (node, rest) = split_at_first(b'.', field);
+    let node = number_in(1, 65535, node)?;
+    let incarnation = number_in(1, 4_294_967_295, rest?)?;
+    Address::new(Node::new(node as u16)?, incarnation as u32)
+}
+
+/// The next field as an address, and what is left behind it.
+///
+/// # Errors
+///
+/// 42 where no field is left, 41 where it is no address.
+pub fn address_field(rest: Option<&[u8]>) -> Result<(Address, Option<&[u8]>), Fault>
+    ensures { MatchResult result
+        (λ read. address_field (option_copied rest.entry) ≡ Ok (read.0, option_copied read.1))
+        (λ f. address_field (option_copied rest.entry) ≡ Err f) }
+{
+    let Some(text) = rest else {
+        return Err(Fault::MissingField);
+    };
+    let (field, rest) = first_field(text);
+    match address_in(field) {
+        None => Err(Fault::BadNumber),
+        Some(address) => Ok((address, rest)),
     }
 }

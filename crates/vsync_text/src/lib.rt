@@ -12,6 +12,7 @@ mod trace_line;
 
 pub use buffered::put_all;
 pub use fault::{Fault, Unread};
+pub use field::{address_field, address_in, first_field, first_line, number_in, split_at_first};
 pub use run::{Printed, write_run};
 pub use script::{Script, read_script};
 pub use trace_line::{append_happening, append_refusal};

@@ -1,5 +1,6 @@
 use crate::{
-    Fault, Printed, SCRIPT_LINE, Unread, append_happening, put_all, read_script, write_run,
+    Fault, Printed, SCRIPT_LINE, Unread, address_field, address_in, append_happening, first_field,
+    first_line, number_in, put_all, read_script, split_at_first, write_run,
 };
 use address::{Address, Node, ViewId};
 use std::alloc::{AllocError, Global};
@@ -341,5 +342,78 @@ fn failing_writers_take_a_beginning(rt: HostRuntime) -> Result<(), Fail> {
     assert!(rt; put_all(&mut small, b"e").is_err());
     assert!(rt; small.taken.as_slice() == b"abcd".as_slice());
     assert_eq!(rt; Fault::UnknownWord.number(), 40);
+    Ok(())
+}
+
+/// The parts of a text, each in front of a bar: the first, and what stands behind it if anything does.
+fn parts(alloc: Global, split: (&[u8], Option<&[u8]>)) -> Result<Vec<u8>, AllocError> {
+    let mut parts = Vec::from_slice(alloc, split.0)?;
+    parts.push(b'|')?;
+    if let Some(rest) = split.1 {
+        parts.extend_from_slice(rest)?;
+        parts.push(b'|')?;
+    }
+    Ok(parts)
+}
+
+#[test]
+fn lines_and_fields_are_cut(rt: HostRuntime) -> Result<(), Fail> {
+    let (line, behind) = first_line(b"a b\nc\n");
+    assert!(rt; line == b"a b".as_slice());
+    assert!(rt; behind == b"c\n".as_slice());
+    let (last, nothing) = first_line(b"c");
+    assert!(rt; last == b"c".as_slice());
+    assert!(rt; nothing.is_empty());
+    for (text, want) in [
+        (b"ab cd e".as_slice(), b"ab|cd e|".as_slice()),
+        (b" a".as_slice(), b"|a|".as_slice()),
+        (b"a ".as_slice(), b"a||".as_slice()),
+        (b"a".as_slice(), b"a|".as_slice()),
+    ] {
+        assert!(rt; parts(rt.alloc(), first_field(text))?.as_slice() == want);
+    }
+    let cut = parts(rt.alloc(), split_at_first(b'@', b"7@3.1"))?;
+    assert!(rt; cut.as_slice() == b"7|3.1|".as_slice());
+    Ok(())
+}
+
+#[test]
+fn numbers_and_addresses_are_read(rt: HostRuntime) {
+    assert_eq!(rt; number_in(1, 40, b"40"), Some(40));
+    assert_eq!(rt; number_in(2, 40, b"1"), None);
+    assert_eq!(rt; address_in(b"3.1"), address(3, 1));
+    assert_eq!(rt;
+        address_in(b"65535.4294967295"),
+        address(65535, 4_294_967_295)
+    );
+    for text in [
+        b"".as_slice(),
+        b"3",
+        b"3.",
+        b".1",
+        b"0.1",
+        b"1.0",
+        b"65536.1",
+        b"1.4294967296",
+        b"03.1",
+        b"3.01",
+        b"3.1.1",
+        b"3.1 ",
+        b"3,1",
+    ] {
+        assert_eq!(rt; address_in(text), None);
+    }
+}
+
+#[test]
+fn address_fields_are_read(rt: HostRuntime) -> Result<(), Fail> {
+    let (first, rest) = address_field(Some(b"3.1 7.2"))
+        .ok()
+        .ok_or("a first address")?;
+    assert_eq!(rt; Some(first), address(3, 1));
+    let (second, none) = address_field(rest).ok().ok_or("a second address")?;
+    assert_eq!(rt; Some(second), address(7, 2));
+    assert_eq!(rt; address_field(none).err(), Some(Fault::MissingField));
+    assert_eq!(rt; address_field(Some(b"3")).err(), Some(Fault::BadNumber));
     Ok(())
 }
