@@ -1,0 +1,4 @@
+pub mod Reading
+pub mod Listing
+pub mod Cutting
+pub mod Numerals
