@@ -2,3 +2,4 @@ pub mod Forms
 pub mod Spelling
 pub mod Fields
 pub mod Traces
+pub mod Spellable
