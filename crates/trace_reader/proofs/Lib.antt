@@ -5,3 +5,4 @@ pub mod Numerals
 pub mod Spelled
 pub mod LinesBack
 pub mod Telling
+pub mod RunsBack

@@ -52,7 +52,7 @@ fields_from (Installed i) h =
 fields_from (Left p) h = field_from (text_of_address p) (address_spells p h).from
 fields_from (Crashed p) h = field_from (text_of_address p) (address_spells p h).from
 
-from_test : (low : ℕ) (text : List ℕ) → list_all (λ b. nat_le low b) text ≡ true → From low text
+pub from_test : (low : ℕ) (text : List ℕ) → list_all (λ b. nat_le low b) text ≡ true → From low text
 from_test low [] h = tt
 from_test low (b ∷ bs) h =
     let p : (nat_le low b ≡ true) × (list_all (λ c. nat_le low c) bs ≡ true) = and_parts _ _ h in

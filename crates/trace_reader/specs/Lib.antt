@@ -3,3 +3,4 @@ pub mod Spelling
 pub mod Fields
 pub mod Traces
 pub mod Spellable
+pub mod Laws

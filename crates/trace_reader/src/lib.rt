@@ -3,10 +3,12 @@
 
 mod fields;
 mod forms;
+mod law;
 mod line;
 mod spelling;
 mod text;
 
+pub use law::reads_what_is_written;
 pub use text::read_trace;
 
 /// The most bytes that a line of a trace may have, without its line feed (docs/FORMATS.md, "Trace text").
