@@ -1,0 +1,165 @@
+-- The line of a happening is read back.
+use Rattle.std.proofs.Common.{◌≡◌, ℕ, ◌+◌, ◌<◌, ◌≤◌, Bool, true, false, List, [], ◌∷◌, ◌++◌, Option, Some, None, Result, Ok, Err, length, nat_eq, nat_lt, refl, sym, ◌∙◌, ap, arith, append_assoc, append-nil, length-append, if◌then◌else◌}
+use Rattle.std.proofs.lemmas.Bool.{le-ltb}
+use Rattle.std.specs.List.{AllByRecursion}
+use Rattle.std.specs.Fmt.{decimal}
+use Rattle.address.specs.Ids.{Address, IsAddress, text_of_address, text_of_view_id}
+use Rattle.trace_props.specs.declared.happening.Happening.{Happening}
+use Rattle.trace_props.specs.declared.happening.Happening.TheVariants as happening
+use Rattle.trace_props.specs.declared.happening.Sending.{Sending}
+use Rattle.trace_props.specs.declared.happening.Delivery.{Delivery}
+use Rattle.trace_props.specs.declared.happening.Install.{Install}
+use Rattle.vsync_text.specs.Lines.{field_of, behind_field, behind}
+use Rattle.vsync_text.specs.Script.{is_skipped}
+use Rattle.vsync_text.specs.AddressText.{address_of_text}
+use Rattle.vsync_text.specs.TraceText.{text_of_payload, text_of_previous, text_of_addresses, text_of_handed_back, text_of_given, happening_word, fields_of, line_of, field, sending_fields, delivery_fields, install_view, install_rest}
+use Rattle.trace_reader.specs.declared.line.Word.{Word}
+use Rattle.trace_reader.specs.declared.line.Word.TheVariants.{Started, Sent, Delivered, Blocked, Installed, Left, Crashed}
+use Rattle.trace_reader.specs.declared.TheConstants.{TRACE_LINE}
+use Rattle.trace_reader.specs.Spelling.{number_of_text, view_id_of_text, previous_of_text, payload_of_text, view_of_text, together_of_text, handed_back_of_text, given_of_text}
+use Rattle.trace_reader.specs.Fields.{field_at, spelled_at, end_at, sending_at, delivery_at, view_at, install_at, last}
+use Rattle.trace_reader.specs.Traces.{word_of, happening_of, told, reading_of}
+use Rattle.trace_reader.specs.Spellable.{IsSendable, IsTellable, IsInstallable, IsInRange, IsSpellable}
+use Rattle.trace_reader.proofs.Cutting.{Without, From, is_cut, all_append, without_below, from_lower, before_cut, behind_cut}
+use Rattle.trace_reader.proofs.Spelled.{Spells, number_spells, address_spells, view_id_spells, previous_spells, payload_spells, given_spells, view_spells, together_spells, handed_back_spells}
+
+-- FIELDS
+
+-- a field is read, and what stands behind it is left
+spelled_then : {A : Type 0} (spells : List ℕ → Option A) (text tail : List ℕ) (x : A) → Spells spells text x → is_cut 32 tail ≡ true
+    → spelled_at spells (Some (text ++ tail)) ≡ Ok (x, behind tail)
+unfolding spelled_at field_at
+spelled_then spells text tail x s c =
+    let w : Without 32 text = without_below 44 32 text (omega arith) s.from in
+    rw (before_cut 32 text tail w c, behind_cut 32 text tail w c, s.back) refl
+
+spelled_last : {A : Type 0} (spells : List ℕ → Option A) (text : List ℕ) (x : A) → Spells spells text x → spelled_at spells (Some text) ≡ Ok (x, None)
+spelled_last spells text x s = ap (λ t. spelled_at spells (Some t)) (sym (append-nil text)) ∙ spelled_then spells text [] x s refl
+
+sending_back : (s : Sending) → IsSendable s → sending_at (behind (sending_fields s)) ≡ Ok (s, None)
+unfolding sending_at
+sending_back s h =
+    let a = text_of_address s.member in
+    let v = text_of_view_id s.view in
+    let n = decimal s.message.number in
+    let x = text_of_payload s.message.payload in
+    let parts : ((a ++ 32 ∷ v) ++ 32 ∷ n) ++ 32 ∷ x ≡ a ++ 32 ∷ (v ++ 32 ∷ (n ++ 32 ∷ x)) = simp append_assoc in
+    rw (
+      parts,
+      spelled_then address_of_text a (32 ∷ (v ++ 32 ∷ (n ++ 32 ∷ x))) s.member (address_spells s.member h.member) refl,
+      spelled_then view_id_of_text v (32 ∷ (n ++ 32 ∷ x)) s.view (view_id_spells s.view h.view) refl,
+      spelled_then number_of_text n (32 ∷ x) s.message.number (number_spells s.message.number h.number) refl,
+      spelled_last payload_of_text x s.message.payload (payload_spells s.message.payload h.payload),
+    ) refl
+
+five_parts : (a b c d e : List ℕ) → (((a ++ 32 ∷ b) ++ 32 ∷ c) ++ 32 ∷ d) ++ 32 ∷ e ≡ a ++ 32 ∷ (b ++ 32 ∷ (c ++ 32 ∷ (d ++ 32 ∷ e)))
+five_parts a b c d e = simp append_assoc
+
+delivery_back : (d : Delivery) → IsTellable d → delivery_at (behind (delivery_fields d)) ≡ Ok (d, None)
+unfolding delivery_at
+delivery_back d h =
+    let a = text_of_address d.member in
+    let v = text_of_view_id d.view in
+    let q = text_of_address d.message.sender in
+    let n = decimal d.message.number in
+    let x = text_of_payload d.message.payload in
+    rw (
+      five_parts a v q n x,
+      spelled_then address_of_text a (32 ∷ (v ++ 32 ∷ (q ++ 32 ∷ (n ++ 32 ∷ x)))) d.member (address_spells d.member h.member) refl,
+      spelled_then view_id_of_text v (32 ∷ (q ++ 32 ∷ (n ++ 32 ∷ x))) d.view (view_id_spells d.view h.view) refl,
+      spelled_then address_of_text q (32 ∷ (n ++ 32 ∷ x)) d.message.sender (address_spells d.message.sender h.sender) refl,
+      spelled_then number_of_text n (32 ∷ x) d.message.number (number_spells d.message.number h.number) refl,
+      spelled_last payload_of_text x d.message.payload (payload_spells d.message.payload h.payload),
+    ) refl
+
+install_back : (i : Install) → IsInstallable i → install_at (behind (install_view i ++ install_rest i)) ≡ Ok (i, None)
+unfolding install_at view_at
+install_back i h =
+    let a = text_of_address i.member in
+    let p = text_of_previous i.previous in
+    let w = text_of_view_id i.view.id in
+    let m = text_of_addresses i.view.members in
+    let t = text_of_addresses i.together in
+    let b = text_of_handed_back i.handed_back in
+    let g = text_of_given i.given in
+    let r = t ++ 32 ∷ (b ++ 32 ∷ g) in
+    let behind_view : (t ++ 32 ∷ b) ++ 32 ∷ g ≡ r = append_assoc t (32 ∷ b) (32 ∷ g) in
+    let parts : (((a ++ 32 ∷ p) ++ 32 ∷ w) ++ 32 ∷ m) ++ 32 ∷ ((t ++ 32 ∷ b) ++ 32 ∷ g) ≡ a ++ 32 ∷ (p ++ 32 ∷ (w ++ 32 ∷ (m ++ 32 ∷ r)))
+    = five_parts a p w m ((t ++ 32 ∷ b) ++ 32 ∷ g) ∙ ap (λ l. a ++ 32 ∷ (p ++ 32 ∷ (w ++ 32 ∷ (m ++ 32 ∷ l)))) behind_view in
+    rw (
+      parts,
+      spelled_then address_of_text a (32 ∷ (p ++ 32 ∷ (w ++ 32 ∷ (m ++ 32 ∷ (t ++ 32 ∷ (b ++ 32 ∷ g)))))) i.member (address_spells i.member h.member) refl,
+      spelled_then previous_of_text p (32 ∷ (w ++ 32 ∷ (m ++ 32 ∷ (t ++ 32 ∷ (b ++ 32 ∷ g))))) i.previous (previous_spells i.previous h.previous) refl,
+      spelled_then view_id_of_text w (32 ∷ (m ++ 32 ∷ (t ++ 32 ∷ (b ++ 32 ∷ g)))) i.view.id (view_id_spells i.view.id h.id) refl,
+      spelled_then (view_of_text i.view.id) m (32 ∷ (t ++ 32 ∷ (b ++ 32 ∷ g))) i.view (view_spells i.view h.members h.view) refl,
+      spelled_then together_of_text t (32 ∷ (b ++ 32 ∷ g)) i.together (together_spells i.together h.somebody h.together h.once) refl,
+      spelled_then handed_back_of_text b (32 ∷ g) i.handed_back (handed_back_spells i.handed_back h.handed_back) refl,
+      spelled_last given_of_text g i.given (given_spells i.given h.given),
+    ) refl
+
+address_last : (a : Address) → IsAddress a → spelled_at address_of_text (behind (field (text_of_address a))) ≡ Ok (a, None)
+address_last a h = spelled_last address_of_text (text_of_address a) a (address_spells a h)
+
+last_back : {A : Type 0} (x : A) → last (Ok (x, None)) ≡ Ok x
+unfolding last end_at
+last_back x = refl
+
+-- LINES
+
+-- the line of a happening, without its line feed
+abbrev pub body_of : Happening → List ℕ
+body_of h = happening_word h ++ fields_of h
+
+word_back : (h : Happening) → Word
+word_back (happening.Started p) = Started
+word_back (happening.Sent s) = Sent
+word_back (happening.Delivered d) = Delivered
+word_back (happening.Blocked p) = Blocked
+word_back (happening.Installed i) = Installed
+word_back (happening.Left p) = Left
+word_back (happening.Crashed p) = Crashed
+
+happening_back : (h : Happening) → IsInRange h → happening_of (word_back h) (behind (fields_of h)) ≡ Ok h
+unfolding happening_of word_back
+happening_back (happening.Started p) h = rw (address_last p h, last_back p) refl
+happening_back (happening.Sent s) h = rw (sending_back s h, last_back s) refl
+happening_back (happening.Delivered d) h = rw (delivery_back d h, last_back d) refl
+happening_back (happening.Blocked p) h = rw (address_last p h, last_back p) refl
+happening_back (happening.Installed i) h = rw (install_back i h, last_back i) refl
+happening_back (happening.Left p) h = rw (address_last p h, last_back p) refl
+happening_back (happening.Crashed p) h = rw (address_last p h, last_back p) refl
+
+word_is : (h : Happening) → word_of (field_of (body_of h)) ≡ Some (word_back h)
+unfolding word_back
+word_is (happening.Started p) = refl
+word_is (happening.Sent s) = refl
+word_is (happening.Delivered d) = refl
+word_is (happening.Blocked p) = refl
+word_is (happening.Installed i) = refl
+word_is (happening.Left p) = refl
+word_is (happening.Crashed p) = refl
+
+fields_are : (h : Happening) → behind_field (body_of h) ≡ behind (fields_of h)
+fields_are (happening.Started p) = refl
+fields_are (happening.Sent s) = refl
+fields_are (happening.Delivered d) = refl
+fields_are (happening.Blocked p) = refl
+fields_are (happening.Installed i) = refl
+fields_are (happening.Left p) = refl
+fields_are (happening.Crashed p) = refl
+
+is_read : (h : Happening) → is_skipped (body_of h) ≡ false
+is_read (happening.Started p) = refl
+is_read (happening.Sent s) = refl
+is_read (happening.Delivered d) = refl
+is_read (happening.Blocked p) = refl
+is_read (happening.Installed i) = refl
+is_read (happening.Left p) = refl
+is_read (happening.Crashed p) = refl
+
+-- the line of a happening is read back
+pub body_back : (h : Happening) → IsSpellable h → reading_of (body_of h) ≡ Ok (Some h)
+unfolding reading_of told
+body_back h s =
+    let short : nat_lt TRACE_LINE (length (body_of h)) ≡ false = le-ltb TRACE_LINE (length (body_of h)) (omega (arith, s.line, length-append (body_of h) (10 ∷ []))) in
+    rw (is_read h, short, word_is h, fields_are h, happening_back h s.fields) refl

@@ -1,0 +1,6 @@
+pub mod Forms
+pub mod Spelling
+pub mod Fields
+pub mod Traces
+pub mod Spellable
+pub mod Laws

@@ -1,0 +1,89 @@
+-- Which happenings the text of a trace can spell, and what texts tell, line by line.
+use Rattle.std.specs.Prelude.{◌≡◌, ℕ, ◌+◌, ◌<◌, ◌≤◌, true, false, List, [], ◌∷◌, ◌++◌, Option, None, Some, length, slice_get, nat_eq, All}
+use Rattle.std.specs.List.{list_any}
+use Rattle.std.specs.Option.{ForSome}
+use Rattle.address.specs.Ids.{ViewId, IsAddress}
+use Rattle.address.specs.declared.TheConstants.{GREATEST_NUMBER}
+use Rattle.view.specs.Members.{is_distinct}
+use Rattle.view.specs.View.{view_refusal}
+use Rattle.state_transfer.specs.declared.TheConstants.{PAYLOAD}
+use Rattle.trace_props.specs.declared.happening.Happening.{Happening}
+use Rattle.trace_props.specs.declared.happening.Happening.TheVariants.{Started, Sent, Delivered, Blocked, Installed, Left, Crashed}
+use Rattle.trace_props.specs.declared.happening.Sending.{Sending}
+use Rattle.trace_props.specs.declared.happening.Delivery.{Delivery}
+use Rattle.trace_props.specs.declared.happening.Install.{Install}
+use Rattle.trace_props.specs.declared.happening.Numbered.{Numbered}
+use Rattle.vsync_text.specs.TraceText.{line_of}
+use Rattle.trace_reader.specs.declared.TheConstants.{TRACE_LINE}
+
+-- a counter, or the number of a message in its view: 1 to 2^62
+abbrev pub IsNumber : ℕ → Type 0
+IsNumber n = (1 ≤ n) × (n ≤ GREATEST_NUMBER)
+
+pub record IsViewId (v : ViewId) : Type 0 where
+  pub counter : IsNumber v.counter
+  pub creator : IsAddress v.creator
+
+abbrev pub AreBytes : List ℕ → Type 0
+AreBytes bytes = All (λ b. b < 256) bytes
+
+-- at most 512 bytes
+pub record IsPayload (x : List ℕ) : Type 0 where
+  pub bytes : AreBytes x
+  pub short : length x ≤ PAYLOAD
+
+pub record IsSendable (s : Sending) : Type 0 where
+  pub member : IsAddress s.member
+  pub view : IsViewId s.view
+  pub number : IsNumber s.message.number
+  pub payload : IsPayload s.message.payload
+
+pub record IsTellable (d : Delivery) : Type 0 where
+  pub member : IsAddress d.member
+  pub view : IsViewId d.view
+  pub sender : IsAddress d.message.sender
+  pub number : IsNumber d.message.number
+  pub payload : IsPayload d.message.payload
+
+pub record IsMessage (m : Numbered) : Type 0 where
+  pub number : IsNumber m.number
+  pub payload : IsPayload m.payload
+
+-- the members make a view of the id; somebody comes together, nobody twice
+pub record IsInstallable (i : Install) : Type 0 where
+  pub member : IsAddress i.member
+  pub previous : ForSome i.previous IsViewId
+  pub id : IsViewId i.view.id
+  pub members : All IsAddress i.view.members
+  pub view : view_refusal i.view.id i.view.members ≡ None
+  pub together : All IsAddress i.together
+  pub somebody : 1 ≤ length i.together
+  pub once : is_distinct i.together ≡ true
+  pub handed_back : All IsMessage i.handed_back
+  pub given : ForSome i.given AreBytes
+
+-- the fields of a happening are in the ranges of the format
+abbrev pub IsInRange : Happening → Type 0
+IsInRange (Started p) = IsAddress p
+IsInRange (Sent s) = IsSendable s
+IsInRange (Delivered d) = IsTellable d
+IsInRange (Blocked p) = IsAddress p
+IsInRange (Installed i) = IsInstallable i
+IsInRange (Left p) = IsAddress p
+IsInRange (Crashed p) = IsAddress p
+
+-- a happening that the text of a trace can spell: its fields are in range, and its line is not too long
+pub record IsSpellable (h : Happening) : Type 0 where
+  pub fields : IsInRange h
+  pub line : length (line_of h) ≤ TRACE_LINE + 1
+
+-- a text of one line that says nothing
+pub record IsNote (text : List ℕ) : Type 0 where
+  pub begins : slice_get text 0 ≡ Some 35
+  pub one_line : list_any (λ b. nat_eq b 10) text ≡ false
+
+-- lines, each with its line feed, tell what happened: each is the line of the next happening, or a note
+pub data Tell : List (List ℕ) → List Happening → Type 0 where
+  Nothing : Tell [] []
+  Note : (note : List ℕ) (lines : List (List ℕ)) (t : List Happening) → IsNote note → Tell lines t → Tell ((note ++ 10 ∷ []) ∷ lines) t
+  Line : (h : Happening) (lines : List (List ℕ)) (t : List Happening) → IsSpellable h → Tell lines t → Tell (line_of h ∷ lines) (h ∷ t)

@@ -1,0 +1,80 @@
+//! Hexadecimal digits, and lists joined by commas.
+
+ghost use Rattle.std.specs.Prelude.{◌≡◌, ◌<◌, ◌∷◌, [], None, Some, IfOk, IfSome, MatchOption};
+ghost use Rattle.std.specs.Option.{option_copied};
+ghost use Rattle.trace_reader.specs.Forms.{hex_value, hex_byte, bytes_of_hex, parts_left, left_len};
+ghost use Rattle.trace_reader.specs.Spelling.{addresses_of_text};
+
+use std::alloc::{AllocError, Global};
+use trace_props::Bytes;
+use view::Addresses;
+use vsync_text::{address_in, split_at_first};
+
+/// The value of a lower case hexadecimal digit.
+fn hex_value(digit: u8) -> Option<u8>
+    ensures value { result ≡ hex_value digit }
+    ensures small { IfSome result (λ v. v < 16) }
+{
+    match digit {
+        b'0'..=b'9' => Some(digit - b'0'),
+        b'a'..=b'f' => Some(digit - b'a' + 10),
+        _ => None,
+    }
+}
+
+/// The byte of two digits.
+fn hex_byte(high: u8, low: u8) -> Option<u8>
+    ensures { result ≡ hex_byte (hex_value high) (hex_value low) }
+{
+    let high = hex_value(high)?;
+    let low = hex_value(low)?;
+    Some(16 * high + low)
+}
+
+/// The bytes that lower case hexadecimal digits spell, two digits a byte.
+pub(crate) fn bytes_in(alloc: Global, digits: &[u8]) -> Result<Option<Bytes>, AllocError>
+    ensures { IfOk result (λ read. read ≡ bytes_of_hex digits.now) }
+{
+    let mut bytes = Vec::new(alloc);
+    let mut rest = digits;
+    while let Some((high, behind)) = rest.split_first() {
+        let Some((low, behind)) = behind.split_first() else {
+            return Ok(None);
+        };
+        let Some(byte) = hex_byte(*high, *low) else {
+            return Ok(None);
+        };
+        bytes.push(byte)?;
+        rest = behind;
+    }
+    Ok(Some(Bytes::from_vec(bytes)))
+}
+
+/// The next part of what is left behind a comma, if something is, and what is left behind it.
+#[tactic(auto, using(crate::proofs::Listing::first_of_parts, crate::proofs::Listing::less_left))]
+pub(crate) fn next_part(left: Option<&[u8]>) -> Option<(&[u8], Option<&[u8]>)>
+    ensures part { MatchOption result (parts_left (option_copied left.entry) ≡ []) (λ next. parts_left (option_copied left.entry) ≡ next.0.now ∷ parts_left (option_copied next.1)) }
+    ensures less { IfSome result (λ next. left_len (option_copied next.1) < left_len (option_copied left.entry)) }
+{
+    match left {
+        None => None,
+        Some(text) => Some(split_at_first(b',', text)),
+    }
+}
+
+/// The addresses that a field spells, joined by commas.
+#[tactic(auto, using(crate::proofs::Listing::part_read, crate::proofs::Listing::part_fails, crate::proofs::Listing::all_read), unfolding(crate::specs::Spelling::addresses_of_text))]
+pub(crate) fn addresses_in(alloc: Global, field: &[u8]) -> Result<Option<Addresses>, AllocError>
+    ensures { IfOk result (λ read. read ≡ addresses_of_text field.now) }
+{
+    let mut addresses = Vec::new(alloc);
+    let mut left = Some(field);
+    while let Some((part, behind)) = next_part(left) {
+        let Some(address) = address_in(part) else {
+            return Ok(None);
+        };
+        addresses.push(address)?;
+        left = behind;
+    }
+    Ok(Some(Addresses::from_vec(addresses)))
+}

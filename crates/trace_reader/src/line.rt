@@ -1,0 +1,218 @@
+//! A line of a trace as a happening.
+
+ghost use Rattle.std.specs.Prelude.{◌≡◌, ◌≤◌, length, None, Some, Ok, IfOk, IfSome};
+ghost use Rattle.std.specs.Option.{option_copied};
+ghost use Rattle.state_transfer.specs.declared.TheConstants.{PAYLOAD};
+ghost use Rattle.trace_props.specs.Recorded.{IsShort};
+ghost use Rattle.vsync_text.specs.Script.{is_skipped};
+ghost use Rattle.vsync_text.specs.AddressText.{address_of_text};
+ghost use Rattle.trace_reader.specs.Spelling.{AreShort};
+ghost use Rattle.trace_reader.specs.Fields.{Gives, spelled_at, sending_at, delivery_at, view_at, install_at, last};
+ghost use Rattle.trace_reader.specs.Traces.{word_of, happening_of, told, reading_of};
+
+use crate::TRACE_LINE;
+use crate::fields::{Fields, Unheard};
+use address::Address;
+use std::alloc::Global;
+use trace_props::{Delivery, Happening, Install, Message, Numbered, Sending};
+use view::View;
+use vsync_text::{Fault, first_field};
+
+/// A word with which a line of a trace begins.
+#[derive(Clone, Copy, Debug, Drop)]
+pub(crate) enum Word {
+    Started,
+    Sent,
+    Delivered,
+    Blocked,
+    Installed,
+    Left,
+    Crashed,
+}
+
+fn word_of(name: &[u8]) -> Option<Word>
+    ensures { result ≡ word_of name.now }
+{
+    if name == b"started".as_slice() {
+        Some(Word::Started)
+    } else if name == b"sent".as_slice() {
+        Some(Word::Sent)
+    } else if name == b"delivered".as_slice() {
+        Some(Word::Delivered)
+    } else if name == b"blocked".as_slice() {
+        Some(Word::Blocked)
+    } else if name == b"installed".as_slice() {
+        Some(Word::Installed)
+    } else if name == b"left".as_slice() {
+        Some(Word::Left)
+    } else if name == b"crashed".as_slice() {
+        Some(Word::Crashed)
+    } else {
+        None
+    }
+}
+
+/// `P V N X`.
+#[tactic(auto, unfolding(crate::specs::Fields::sending_at))]
+fn sending(alloc: Global, fields: &mut Fields<'_>) -> Result<Sending, Unheard>
+    ensures gives { Gives (λ x. (x, fields.new)) result (sending_at fields.old) }
+    ensures short { IfOk result (λ x. length x.message.payload ≤ PAYLOAD) }
+{
+    let member = fields.address()?;
+    let view = fields.view_id()?;
+    let number = fields.number()?;
+    let payload = fields.payload(alloc)?;
+    Ok(Sending {
+        member,
+        view,
+        message: Numbered { number, payload },
+    })
+}
+
+/// `P V Q N X`.
+#[tactic(auto, unfolding(crate::specs::Fields::delivery_at))]
+fn delivery(alloc: Global, fields: &mut Fields<'_>) -> Result<Delivery, Unheard>
+    ensures gives { Gives (λ x. (x, fields.new)) result (delivery_at fields.old) }
+    ensures short { IfOk result (λ x. length x.message.payload ≤ PAYLOAD) }
+{
+    let member = fields.address()?;
+    let view = fields.view_id()?;
+    let sender = fields.address()?;
+    let number = fields.number()?;
+    let payload = fields.payload(alloc)?;
+    Ok(Delivery {
+        member,
+        view,
+        message: Message {
+            sender,
+            number,
+            payload,
+        },
+    })
+}
+
+/// `W MEMBERS`.
+#[tactic(auto, unfolding(crate::specs::Fields::view_at))]
+fn view(alloc: Global, fields: &mut Fields<'_>) -> Result<View, Unheard>
+    ensures { Gives (λ x. (x, fields.new)) result (view_at fields.old) }
+{
+    let id = fields.view_id()?;
+    fields.view(alloc, id)
+}
+
+/// `P PREV W MEMBERS TOGETHER BACK STATE`.
+#[tactic(auto, unfolding(crate::specs::Fields::install_at))]
+fn install(alloc: Global, fields: &mut Fields<'_>) -> Result<Install, Unheard>
+    ensures gives { Gives (λ x. (x, fields.new)) result (install_at fields.old) }
+    ensures short { IfOk result (λ x. AreShort x.handed_back) }
+{
+    let member = fields.address()?;
+    let previous = fields.previous()?;
+    let view = view(alloc, fields)?;
+    let together = fields.together(alloc)?;
+    let handed_back = fields.handed_back(alloc)?;
+    let given = fields.given(alloc)?;
+    Ok(Install {
+        member,
+        previous,
+        view,
+        together,
+        handed_back,
+        given,
+    })
+}
+
+/// The address that is all that is left of a line.
+#[tactic(auto, unfolding(crate::specs::Fields::last))]
+fn lone_address(mut fields: Fields<'_>) -> Result<Address, Unheard>
+    ensures { Gives (λ x. x) result (last (spelled_at address_of_text fields.entry)) }
+{
+    let address = fields.address()?;
+    fields.end()?;
+    Ok(address)
+}
+
+#[tactic(auto, unfolding(crate::specs::Fields::last))]
+fn lone_sending(alloc: Global, mut fields: Fields<'_>) -> Result<Sending, Unheard>
+    ensures gives { Gives (λ x. x) result (last (sending_at fields.entry)) }
+    ensures short { IfOk result (λ x. length x.message.payload ≤ PAYLOAD) }
+{
+    let sending = sending(alloc, &mut fields)?;
+    fields.end()?;
+    Ok(sending)
+}
+
+#[tactic(auto, unfolding(crate::specs::Fields::last))]
+fn lone_delivery(alloc: Global, mut fields: Fields<'_>) -> Result<Delivery, Unheard>
+    ensures gives { Gives (λ x. x) result (last (delivery_at fields.entry)) }
+    ensures short { IfOk result (λ x. length x.message.payload ≤ PAYLOAD) }
+{
+    let delivery = delivery(alloc, &mut fields)?;
+    fields.end()?;
+    Ok(delivery)
+}
+
+#[tactic(auto, unfolding(crate::specs::Fields::last))]
+fn lone_install(alloc: Global, mut fields: Fields<'_>) -> Result<Install, Unheard>
+    ensures gives { Gives (λ x. x) result (last (install_at fields.entry)) }
+    ensures short { IfOk result (λ x. AreShort x.handed_back) }
+{
+    let install = install(alloc, &mut fields)?;
+    fields.end()?;
+    Ok(install)
+}
+
+/// The happening of a word and of what is left behind it.
+#[tactic(auto, unfolding(crate::specs::Traces::happening_of))]
+fn happening_of(alloc: Global, word: Word, fields: Fields<'_>) -> Result<Happening, Unheard>
+    ensures gives { Gives (λ x. x) result (happening_of word fields.entry) }
+    ensures short { IfOk result IsShort }
+{
+    match word {
+        Word::Started => Ok(Happening::Started(lone_address(fields)?)),
+        Word::Sent => Ok(Happening::Sent(lone_sending(alloc, fields)?)),
+        Word::Delivered => Ok(Happening::Delivered(lone_delivery(alloc, fields)?)),
+        Word::Blocked => Ok(Happening::Blocked(lone_address(fields)?)),
+        Word::Installed => Ok(Happening::Installed(lone_install(alloc, fields)?)),
+        Word::Left => Ok(Happening::Left(lone_address(fields)?)),
+        Word::Crashed => Ok(Happening::Crashed(lone_address(fields)?)),
+    }
+}
+
+/// Whether a line says nothing: it is empty, or begins with `#`.
+fn is_skipped(line: &[u8]) -> bool
+    ensures { result ≡ is_skipped line.now }
+{
+    match line.first() {
+        None => true,
+        Some(first) => *first == b'#',
+    }
+}
+
+/// The happening of a line that is not skipped.
+#[tactic(auto, unfolding(crate::specs::Traces::told))]
+fn told(alloc: Global, line: &[u8]) -> Result<Happening, Unheard>
+    ensures gives { Gives (λ x. x) result (told line.now) }
+    ensures short { IfOk result IsShort }
+{
+    if line.len() > TRACE_LINE {
+        return Err(Unheard::Fault(Fault::LineTooLong));
+    }
+    let (name, rest) = first_field(line);
+    match word_of(name) {
+        None => Err(Unheard::Fault(Fault::UnknownWord)),
+        Some(word) => happening_of(alloc, word, Fields::new(rest)),
+    }
+}
+
+/// What a line says: nothing, or a happening.
+#[tactic(auto, unfolding(crate::specs::Traces::reading_of))]
+pub(crate) fn read_line(alloc: Global, line: &[u8]) -> Result<Option<Happening>, Unheard>
+    ensures gives { Gives (λ x. x) result (reading_of line.now) }
+    ensures short { IfOk result (λ read. IfSome read IsShort) }
+{
+    if is_skipped(line) {
+        return Ok(None);
+    }
+    Ok(Some(told(alloc, line)?))
+}
