@@ -4,7 +4,7 @@ use Rattle.std.specs.List.{list_all, AllByRecursion}
 use Rattle.std.specs.Map.{lookup}
 use Rattle.std.specs.Option.{option_eq, option_map_or}
 use Rattle.address.specs.Ids.{Address, ViewId, same_address, same_view_id}
-use Rattle.view.specs.Members.{stands_in}
+use Rattle.view.specs.Members.{stands_in, is_distinct}
 use Rattle.wire.specs.Values.{Report}
 use Rattle.wire.specs.Lists.{is_report}
 use Rattle.flush.specs.declared.progress.Progress.{Progress}
@@ -15,6 +15,12 @@ pub record FlushModel : Type 0 where
   pub proposal : ViewId
   pub members : List Address
   pub reports : List (Address × Report)
+
+-- what holds of each flush: the reports are of those of the list, one of each, and each keeps the rules of a report
+pub record IsFlush (f : FlushModel) : Type 0 where
+  pub listed : list_all (λ p. stands_in p.0 f.members) f.reports ≡ true
+  pub once : is_distinct (map (λ p. p.0) f.reports) ≡ true
+  pub sound : list_all (λ p. is_report p.1) f.reports ≡ true
 
 -- the report that an address sent
 abbrev pub report_from : Address → List (Address × Report) → Option Report

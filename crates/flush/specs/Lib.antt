@@ -1,3 +1,3 @@
 pub mod Cuts
-pub mod Covers
 pub mod Flushes
+pub mod Covers

@@ -2,7 +2,7 @@ ghost use Rattle.std.specs.Prelude.{◌≡◌, ◌≤◌, ◌+◌, false, [], �
 ghost use Rattle.std.specs.List.{list_all};
 ghost use Rattle.wire.specs.declared.limits.TheConstants.{WINDOW};
 ghost use Rattle.flush.specs.Cuts.{IsCut, greatest_stable, held_among};
-ghost use Rattle.flush.specs.Flushes.{has_reported, group, is_awaited, reported, progress_of, has_come_from, together_of};
+ghost use Rattle.flush.specs.Flushes.{IsFlush, has_reported, group, is_awaited, reported, progress_of, has_come_from, together_of};
 
 use crate::cut::Cut;
 use crate::kept::Kept;
@@ -25,11 +25,13 @@ pub struct Flush {
 }
 
 impl Model for Flush {
-    ghost use Rattle.flush.specs.Flushes.{FlushModel};
+    ghost use Rattle.flush.specs.Flushes.{FlushModel, IsFlush};
 
     ghost Value = { FlushModel };
 
     ghost view = { λ f. record { proposal = f.proposal; members = f.members; reports = f.reports.entries } };
+
+    ghost invariant = { λ f. IsFlush (record { proposal = f.proposal; members = f.members; reports = f.reports.entries }) };
 }
 
 /// Records a report behind those that came before.
@@ -71,6 +73,13 @@ impl Flush {
         ensures { result.now ≡ self.now.members }
     {
         &self.members
+    }
+
+    /// What holds of every flush, for proofs: it reads nothing.
+    pub fn kept(&self)
+        ensures { IsFlush self.now }
+    {
+        let _ = &self.proposal;
     }
 
     /// Whether an address has reported.

@@ -1,4 +1,4 @@
-ghost use Rattle.std.specs.Prelude.{◌≡◌, ◌≤◌, ◌+◌, true, IfOk, IfSome};
+ghost use Rattle.std.specs.Prelude.{◌≡◌, ◌≤◌, ◌+◌, true, IfOk, OnOk, IfSome};
 ghost use Rattle.wire.specs.declared.limits.TheConstants.{WINDOW};
 ghost use Rattle.wire.specs.Lists.{is_report};
 ghost use Rattle.flush.specs.Cuts.{held_at};
@@ -36,7 +36,8 @@ impl Model for Kept {
 impl Kept {
     /// A copy of a lent report.
     pub fn copy_of(alloc: Global, report: &Report<'_>) -> Result<Kept, AllocError>
-        ensures { IfOk result (λ k. k ≡ report.now) }
+        ensures copy { IfOk result (λ k. k ≡ report.now) }
+        ensures report { OnOk result (is_report report.now ≡ true) }
     {
         let previous = report.previous();
         let held = report.held();

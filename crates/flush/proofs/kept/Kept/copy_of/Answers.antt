@@ -15,8 +15,8 @@ invariant_of-result c =
     λ j. record { previous = c.previous-previous.ensures.value j; stable = c.stable.ensures j; delivered = c.delivered.ensures j; held = held j } in
     (ap is_whole read, ap is_report same ∙ c.previous-previous.ensures.report)
 
-pub returns : goal.returns
-returns c =
+pub returns-clause-copy : goal.returns-clause-copy
+returns-clause-copy c =
     let read : list_at placed_at c.len.result c.in_ok-from_slice.field-0.items ≡ Ok (c.held-held.result, []) =
     kept-held _ _ _ c.text.ensures.fits (sym c.len.ensures.count) (c.in_ok-from_slice.ensures.items ∙ c.text.ensures.text) in
     let held : listed (list_at placed_at c.len.result c.in_ok-from_slice.field-0.items) ≡ c.args.report.now.held = ap listed read ∙ c.held-held.ensures in
