@@ -1,4 +1,4 @@
-ghost use Rattle.std.specs.Prelude.{◌≡◌, ◌≤◌, ◌+◌, false, [], ◌∷◌, ◌++◌, filter, IfOk, OnOk, OnErr, IfSome, IsTrue};
+ghost use Rattle.std.specs.Prelude.{◌≡◌, ◌≤◌, ◌+◌, false, [], ◌∷◌, ◌++◌, filter, IfOk, OnOk, OnErr, IfSome, IsSome, IsTrue};
 ghost use Rattle.std.specs.List.{list_all};
 ghost use Rattle.wire.specs.declared.limits.TheConstants.{WINDOW};
 ghost use Rattle.flush.specs.Cuts.{IsCut, greatest_stable, held_among};
@@ -158,9 +158,11 @@ impl Flush {
 
     /// The cut of a view, or, for `None`, of those who come from no view, which is empty and has the base 0: the base is the greatest stable count
     /// among the reports from that view; the entries are those with the numbers base + 1, base + 2, .., up to the last before one that no such
-    /// report has, each as the first report that came gives it. They lie in the flush's own copies.
+    /// report has, each as the first report that came gives it. They lie in the flush's own copies. An
+    /// error for want of memory comes only where there is an entry.
     pub fn cut(&self, alloc: Global, previous: &Option<ViewId>) -> Result<Cut<'_>, AllocError>
-        ensures { IfOk result (λ c. IsCut (group previous.now self.now.reports) c.base c.entries.items) }
+        ensures ok { IfOk result (λ c. IsCut (group previous.now self.now.reports) c.base c.entries.items) }
+        ensures err_only { OnErr result (let reports = group previous.now self.now.reports in IsSome (held_among reports (greatest_stable reports + 1))) }
     {
         let base = greatest_stable(self.reports.as_slice(), previous);
         let mut entries = Vec::new(alloc);

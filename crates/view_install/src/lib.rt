@@ -2,8 +2,10 @@
 //! (docs/PROTOCOL.md, "Promise").
 #![tactic(auto)]
 
+mod law;
 mod promise;
 
+pub use law::promises_rise;
 pub use promise::{InstallAnswer, OfferAnswer, Promise};
 
 #[cfg(test)]
