@@ -334,8 +334,8 @@ impl<'a> Held<'a> {
         self.count as usize
     }
 
-    // Their spellings, one behind the other.
-    pub(crate) fn text(&self) -> &'a [u8]
+    /// Their spellings, one behind the other, each with its place before it.
+    pub fn text(&self) -> &'a [u8]
         ensures text { result.now ≡ flat_map placed_bytes self.now }
         ensures fits { AllByRecursion IsPlaced self.now }
         ensures short { length result.now < 2 ^ 18 }

@@ -81,6 +81,16 @@ impl Members {
     {
         self.as_slice().len()
     }
+
+    /// The same addresses once more. Takes no memory.
+    pub fn copied(&self) -> Members
+        ensures { result ≡ self.now }
+    {
+        Members {
+            count: self.count,
+            items: self.items,
+        }
+    }
 }
 
 /// A view as packets carry it: its id, and its members in order, which lie in the value itself.
@@ -145,6 +155,16 @@ impl Roster {
         ensures { result ≡ self.now.id }
     {
         self.id
+    }
+
+    /// The same roster once more. Takes no memory.
+    pub fn copied(&self) -> Roster
+        ensures { result ≡ self.now }
+    {
+        Roster {
+            id: self.id,
+            members: self.members.copied(),
+        }
     }
 
     /// The view's members, in order of rank.

@@ -1,0 +1,4 @@
+pub mod Covers
+pub mod Groups
+pub mod Keeping
+pub mod Reports

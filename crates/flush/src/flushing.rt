@@ -1,0 +1,211 @@
+ghost use Rattle.std.specs.Prelude.{◌≡◌, ◌≤◌, ◌+◌, false, [], ◌∷◌, ◌++◌, filter, IfOk, OnOk, OnErr, IfSome, IsSome, IsTrue};
+ghost use Rattle.std.specs.List.{list_all};
+ghost use Rattle.wire.specs.declared.limits.TheConstants.{WINDOW};
+ghost use Rattle.flush.specs.Cuts.{IsCut, greatest_stable, held_among};
+ghost use Rattle.flush.specs.Flushes.{IsFlush, has_reported, group, is_awaited, reported, progress_of, has_come_from, together_of};
+
+use crate::cut::Cut;
+use crate::kept::Kept;
+use crate::progress::Progress;
+use address::{Address, ViewId};
+use indexmap::IndexMap;
+use indexmap::map::Slice;
+use std::alloc::{AllocError, Global};
+use std::marker::Model;
+use view::Addresses;
+use wire::{Count, Entry, Report};
+
+/// A flush: a proposal, its list, and the reports of those of the list who reported, in order of arrival (docs/PROTOCOL.md, "Flush").
+#[derive(Drop)]
+pub struct Flush {
+    alloc: Global,
+    proposal: ViewId,
+    members: Addresses,
+    reports: IndexMap<Address, Kept>,
+}
+
+impl Model for Flush {
+    ghost use Rattle.flush.specs.Flushes.{FlushModel, IsFlush};
+
+    ghost Value = { FlushModel };
+
+    ghost view = { λ f. record { proposal = f.proposal; members = f.members; reports = f.reports.entries } };
+
+    ghost invariant = { λ f. IsFlush (record { proposal = f.proposal; members = f.members; reports = f.reports.entries }) };
+}
+
+/// Records a report behind those that came before.
+fn keep(
+    reports: &mut IndexMap<Address, Kept>,
+    from: Address,
+    kept: Kept,
+) -> Result<(), AllocError>
+    requires { has_reported from reports.old.entries ≡ false }
+    ensures ok { OnOk result (reports.new.entries ≡ reports.old.entries ++ (from, kept) ∷ []) }
+    ensures err { OnErr result (reports.new.entries ≡ reports.old.entries) }
+{
+    reports.insert(from, kept)?;
+    Ok(())
+}
+
+impl Flush {
+    /// The flush for a proposal of this list: nobody reported yet. Takes no memory.
+    pub fn start(alloc: Global, proposal: ViewId, members: Addresses) -> Flush
+        ensures { result ≡ record { proposal = proposal; members = members; reports = [] } }
+    {
+        Flush {
+            alloc,
+            proposal,
+            members,
+            reports: IndexMap::new(alloc),
+        }
+    }
+
+    /// The proposal.
+    pub fn proposal(&self) -> ViewId
+        ensures { result ≡ self.now.proposal }
+    {
+        self.proposal
+    }
+
+    /// The list of the proposal.
+    pub fn members(&self) -> &Addresses
+        ensures { result.now ≡ self.now.members }
+    {
+        &self.members
+    }
+
+    /// What holds of every flush, for proofs: it reads nothing.
+    pub fn kept(&self)
+        ensures { IsFlush self.now }
+    {
+        let _ = &self.proposal;
+    }
+
+    /// Whether an address has reported.
+    pub fn has_reported(&self, address: &Address) -> bool
+        ensures { result ≡ has_reported address.now self.now.reports }
+    {
+        self.reports.contains_key(address)
+    }
+
+    /// Takes a report from an address. It is recorded, behind those that came before, exactly where the address stands in the list and has not
+    /// reported; else nothing changes. The answer is Complete exactly where all of the list have reported then. The report is copied. An error
+    /// for want of memory comes only where it was to be recorded; it leaves the flush as it was.
+    pub fn report(&mut self, from: Address, report: &Report<'_>) -> Result<Progress, AllocError>
+        ensures progress { IfOk result (λ p. p ≡ progress_of self.new) }
+        ensures ok { OnOk result (self.new ≡ reported from report.now self.old) }
+        ensures err { OnErr result (self.new ≡ self.old) }
+        ensures err_only { OnErr result (IsTrue (is_awaited from self.old)) }
+    {
+        if self.is_awaited(&from) {
+            let kept = Kept::copy_of(self.alloc, report)?;
+            keep(&mut self.reports, from, kept)?;
+        }
+        Ok(self.progress())
+    }
+
+    fn is_awaited(&self, address: &Address) -> bool
+        ensures { result ≡ is_awaited address.now self.now }
+    {
+        self.members.contains(address) && !self.has_reported(address)
+    }
+
+    fn progress(&self) -> Progress
+        ensures { result ≡ progress_of self.now }
+    {
+        if self.have_reported(self.members.as_slice()) {
+            Progress::Complete
+        } else {
+            Progress::Waiting
+        }
+    }
+
+    fn have_reported(&self, members: &[Address]) -> bool
+        ensures { result ≡ list_all (λ m. has_reported m self.now.reports) members.now }
+    {
+        members.iter().all(|member| self.has_reported(member))
+    }
+
+    /// Those of the list who reported the same previous view as this address, itself among them, in the list's order; nobody where it has not
+    /// reported. To come from no view counts as the same.
+    pub fn together(&self, alloc: Global, address: &Address) -> Result<Addresses, AllocError>
+        ensures { IfOk result (λ t. t ≡ together_of address.now self.now) }
+    {
+        match self.reports.get(address) {
+            None => Ok(Addresses::from_vec(Vec::new(alloc))),
+            Some(report) => self.all_from(alloc, report.previous()),
+        }
+    }
+
+    fn all_from(&self, alloc: Global, previous: &Option<ViewId>) -> Result<Addresses, AllocError>
+        ensures { IfOk result (λ t. t ≡ filter (λ m. has_come_from previous.now m self.now.reports) self.now.members) }
+    {
+        let members = self.members.as_slice();
+        let left = members.iter().copied();
+        let left = left.filter(|member| self.has_come_from(previous, member));
+        Ok(Addresses::from_vec(left.collect(alloc)?))
+    }
+
+    fn has_come_from(&self, previous: &Option<ViewId>, address: &Address) -> bool
+        ensures { result ≡ has_come_from previous.now address.now self.now.reports }
+    {
+        match self.reports.get(address) {
+            None => false,
+            Some(report) => report.comes_from(previous),
+        }
+    }
+
+    /// The cut of a view, or, for `None`, of those who come from no view, which is empty and has the base 0: the base is the greatest stable count
+    /// among the reports from that view; the entries are those with the numbers base + 1, base + 2, .., up to the last before one that no such
+    /// report has, each as the first report that came gives it. They lie in the flush's own copies. An
+    /// error for want of memory comes only where there is an entry.
+    pub fn cut(&self, alloc: Global, previous: &Option<ViewId>) -> Result<Cut<'_>, AllocError>
+        ensures ok { IfOk result (λ c. IsCut (group previous.now self.now.reports) c.base c.entries.items) }
+        ensures err_only { OnErr result (let reports = group previous.now self.now.reports in IsSome (held_among reports (greatest_stable reports + 1))) }
+    {
+        let base = greatest_stable(self.reports.as_slice(), previous);
+        let mut entries = Vec::new(alloc);
+        let mut number = base.get() + 1;
+        while let Some(entry) = held_among(self.reports.as_slice(), previous, number) {
+            entries.push(entry)?;
+            number += 1;
+        }
+        Ok(Cut { base, entries })
+    }
+}
+
+/// The greatest stable count among the reports from a view.
+fn greatest_stable(reports: Slice<'_, Address, Kept>, previous: &Option<ViewId>) -> Count
+    ensures { result ≡ greatest_stable (group previous.now reports.entry) }
+{
+    match reports.split_first() {
+        None => Count::zero(),
+        Some(((_, report), others)) => {
+            let greatest = greatest_stable(others, previous);
+            if report.comes_from(previous) && report.stable() > greatest {
+                report.stable()
+            } else {
+                greatest
+            }
+        }
+    }
+}
+
+/// The entry at a number in the first of the reports from a view that has one there.
+fn held_among<'a>(
+    reports: Slice<'a, Address, Kept>,
+    previous: &Option<ViewId>,
+    number: u64,
+) -> Option<Entry<'a>>
+    ensures found { result ≡ held_among (group previous.now reports.entry) number }
+    ensures near { IfSome result (λ _. number ≤ greatest_stable (group previous.now reports.entry) + WINDOW) }
+{
+    let ((_, report), others) = reports.split_first()?;
+    if report.comes_from(previous) {
+        if let Some(entry) = report.held_at(number) {
+            return Some(entry);
+        }
+    }
+    held_among(others, previous, number)
+}

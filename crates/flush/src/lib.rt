@@ -1,0 +1,17 @@
+//! The flush of a view's members before the next view: who reported what, who goes on together, and the cut at which they do
+//! (docs/PROTOCOL.md, "Flush").
+#![tactic(auto)]
+
+mod cut;
+mod flushing;
+mod kept;
+mod law;
+mod progress;
+
+pub use cut::Cut;
+pub use flushing::Flush;
+pub use law::cut_covers;
+pub use progress::Progress;
+
+#[cfg(test)]
+mod tests;
