@@ -39,12 +39,12 @@ rises_push from (reply ∷ replies) last next r le = (r.0, rises_push reply.plac
 
 faithful_rises : (h : History) → IsFaithful h → Rises 0 h.replies (length h.trace)
 faithful_rises _ Began = refl
-faithful_rises _ (Next h event a s f answers prompt) =
+faithful_rises _ (Next h event a ps s f answers prompt) =
     rises_push 0 h.replies (length h.trace) (record { answer = a; place = length (h.trace ++ s) }) (faithful_rises h f) (omega (arith, length-append h.trace s))
 
 faithful_answers : (h : History) → IsFaithful h → length h.replies ≡ length h.events
 faithful_answers _ Began = refl
-faithful_answers _ (Next h event a s f answers prompt) =
+faithful_answers _ (Next h event a ps s f answers prompt) =
     omega (arith, faithful_answers h f, length-append h.replies (record { answer = a; place = length (h.trace ++ s) } ∷ []), length-append h.events (event ∷ []))
 
 -- REFUSALS

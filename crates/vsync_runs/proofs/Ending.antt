@@ -21,7 +21,7 @@ use Rattle.vsync_text.specs.Script.{script_of, fault_number}
 use Rattle.vsync_text.specs.Runs.{lines_of_run}
 use Rattle.vsync_runs.specs.Outcomes.{Ends, Ran, IsWorldText, IsRunText, IsFaultText, IsScriptText, Written, RunsScript, memory_line}
 use Rattle.vsync_runs.specs.Outcomes.IsScriptText.{Runs, Faulty, Unread}
-use Rattle.vsync_runs.specs.Outcomes.RunsScript.{Answers}
+use Rattle.vsync_runs.specs.Outcomes.IsAnswer.{Answers}
 use Rattle.vsync_runs.specs.Outcomes.IsWorldText.{Told, Untold}
 use Rattle.vsync_runs.specs.Outcomes.IsRunText.{All, Part}
 use Rattle.vsync_runs.specs.Outcomes.Ends.{Whole, Cut}

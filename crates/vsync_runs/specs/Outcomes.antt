@@ -14,10 +14,11 @@ use Rattle.vsync_text.specs.declared.fault.Fault.{Fault}
 use Rattle.vsync_text.specs.Script.{script_of, fault_number}
 use Rattle.vsync_text.specs.Runs.{lines_of_run, text_of_run}
 use Rattle.vsync_runs.specs.declared.status.Status.{Status}
-use Rattle.vsync_runs.specs.declared.status.Status.TheVariants.{Done, Usage, Refused, Memory, Outside}
+use Rattle.vsync_runs.specs.declared.status.Status.TheVariants.{Done, Broken, Usage, Refused, Memory, Outside}
 
 abbrev pub status_code : Status → ℕ
 status_code Done = 0
+status_code Broken = 1
 status_code Usage = 2
 status_code Refused = 3
 status_code Memory = 4
@@ -76,8 +77,12 @@ pub record Written (Says : Status → List ℕ → Type 0) (old new : Option (Li
   pub says : Says meant text
   pub ends : Ends old new text meant status
 
--- a script is run from a reader to a writer
-pub data RunsScript (left old new : Option (List ℕ)) : Status → Type 0 where
+-- a command reads an input from a reader, and writes a text that says of its bytes what the command says
+pub data IsAnswer (Says : List ℕ → Status → List ℕ → Type 0) (left old new : Option (List ℕ)) : Status → Type 0 where
   -- the reader failed: nothing is written
-  ReaderFails : Appends old new [] → RunsScript left old new Outside
-  Answers : (bytes : List ℕ) (status : Status) → IfSome left (λ all. bytes ≡ all) → Written (IsScriptText bytes) old new status → RunsScript left old new status
+  ReaderFails : Appends old new [] → IsAnswer Says left old new Outside
+  Answers : (bytes : List ℕ) (status : Status) → IfSome left (λ all. bytes ≡ all) → Written (Says bytes) old new status → IsAnswer Says left old new status
+
+-- a script is run from a reader to a writer
+abbrev pub RunsScript : Option (List ℕ) → Option (List ℕ) → Option (List ℕ) → Status → Type 0
+RunsScript left old new status = IsAnswer IsScriptText left old new status

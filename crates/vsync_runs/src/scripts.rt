@@ -1,73 +1,12 @@
-ghost use Rattle.std.specs.Prelude.{◌≡◌, IfOk, IfSome};
-ghost use Rattle.vsync_runs.specs.Outcomes.{Ends, Written, IsRunText, IsFaultText, IsWorldText, RunsScript, memory_line};
-ghost use Rattle.vsync_text.specs.Script.{fault_number};
+ghost use Rattle.vsync_runs.specs.Outcomes.{Written, IsRunText, IsWorldText, RunsScript};
 
 use crate::Status;
+use crate::ends::{Unreadable, end_in_fault, end_in_memory, end_with, read_all};
 use state_transfer::Receiver;
 use std::alloc::Global;
-use std::io::{ErrorKind, Read, Write};
-use vsync_text::{Fault, Printed, Script, Unread, put_all, read_script, write_run};
+use std::io::{Read, Write};
+use vsync_text::{Printed, Script, Unread, read_script, write_run};
 use world::World;
-
-/// Why an input was not read whole.
-#[derive(Clone, Copy, Debug, PartialEq, Eq)]
-enum Unreadable {
-    /// Memory was refused.
-    Memory,
-    /// The reader failed.
-    Failed,
-}
-
-/// All that a reader has left.
-fn read_all<I: Read>(alloc: Global, reader: &mut I) -> Result<Vec<u8>, Unreadable>
-    ensures { IfOk result (λ bytes. IfSome (I.remaining reader.old) (λ left. bytes.items ≡ left)) }
-{
-    let mut bytes = Vec::new(alloc);
-    match reader.read_to_end(&mut bytes) {
-        Ok(_) => Ok(bytes),
-        Err(error) => {
-            if error.kind() == ErrorKind::OutOfMemory {
-                Err(Unreadable::Memory)
-            } else {
-                Err(Unreadable::Failed)
-            }
-        }
-    }
-}
-
-/// Writes a text, with which the command ends.
-fn end_with<W: Write>(writer: &mut W, text: &[u8], status: Status) -> Status
-    ensures { Ends (W.contents writer.old) (W.contents writer.new) text.now status result }
-{
-    match put_all(writer, text) {
-        Err(_) => Status::Outside,
-        Ok(()) => {
-            if writer.flush().is_err() {
-                Status::Outside
-            } else {
-                status
-            }
-        }
-    }
-}
-
-/// Ends a text for want of memory.
-fn end_in_memory<W: Write>(writer: &mut W) -> Status
-    ensures { Ends (W.contents writer.old) (W.contents writer.new) memory_line Status.Memory result }
-{
-    end_with(writer, b"# memory\n", Status::Memory)
-}
-
-/// Writes a script's first fault.
-fn end_in_fault<W: Write>(alloc: Global, writer: &mut W, line: u64, fault: Fault) -> Status
-    ensures { Written (IsFaultText line (fault_number fault)) (W.contents writer.old) (W.contents writer.new) result }
-{
-    let number = fault.number();
-    match format!(in alloc; "fault {line} {number}\n") {
-        Ok(text) => end_with(writer, text.as_bytes(), Status::Refused),
-        Err(_) => end_in_memory(writer),
-    }
-}
 
 /// Writes what happened in a world that ran events of these lines: all of it, or with `# memory` at its end where
 /// the world could not run them all.

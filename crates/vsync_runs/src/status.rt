@@ -6,6 +6,8 @@ ghost use Rattle.vsync_runs.specs.Outcomes.{status_code};
 pub enum Status {
     /// 0: it is done.
     Done,
+    /// 1: a trace breaks a rule.
+    Broken,
     /// 2: its words are no command.
     Usage,
     /// 3: its input is refused.
@@ -23,6 +25,7 @@ impl Status {
     {
         match self {
             Status::Done => 0,
+            Status::Broken => 1,
             Status::Usage => 2,
             Status::Refused => 3,
             Status::Memory => 4,

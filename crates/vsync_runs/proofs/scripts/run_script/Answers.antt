@@ -1,6 +1,6 @@
 use Rattle.std.proofs.Common.{◌∙◌, ap, sym}
 use Rattle.vsync_text.specs.Script.{script_of}
-use Rattle.vsync_runs.specs.Outcomes.RunsScript.{ReaderFails}
+use Rattle.vsync_runs.specs.Outcomes.IsAnswer.{ReaderFails}
 use Rattle.vsync_runs.proofs.Ending.{appends-none, unread-text, ran-text, fault-text}
 use Rattle.vsync_runs.proofs.scripts.run_script.Goals as goal
 

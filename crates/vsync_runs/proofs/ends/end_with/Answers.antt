@@ -1,6 +1,6 @@
 use Rattle.vsync_runs.specs.Outcomes.Ends.{Whole, Cut}
 use Rattle.vsync_runs.proofs.Ending.{appends-kept, ends-late}
-use Rattle.vsync_runs.proofs.scripts.end_with.Goals as goal
+use Rattle.vsync_runs.proofs.ends.end_with.Goals as goal
 
 -- the writer took a beginning and failed
 pub returns-in-Err : goal.returns-in-Err

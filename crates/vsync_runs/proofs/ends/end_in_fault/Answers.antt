@@ -3,7 +3,7 @@ use Rattle.vsync_text.specs.Script.{fault_number}
 use Rattle.vsync_runs.specs.declared.status.Status.TheVariants.{Refused, Memory}
 use Rattle.vsync_runs.specs.Outcomes.{IsFaultText, memory_line, fault_line}
 use Rattle.vsync_runs.specs.Outcomes.IsFaultText.{Told, Untold}
-use Rattle.vsync_runs.proofs.scripts.end_in_fault.Goals as goal
+use Rattle.vsync_runs.proofs.ends.end_in_fault.Goals as goal
 
 pub returns-in-Ok : goal.returns-in-Ok
 returns-in-Ok g c =
