@@ -4,6 +4,7 @@
 mod programs;
 mod words;
 
+pub use chat_log::ChatLog;
 pub use programs::program;
-pub use vsync_runs::{Silent, Status, run_script};
+pub use vsync_runs::{Silent, Status, run_check, run_script};
 pub use words::{Invocation, command};

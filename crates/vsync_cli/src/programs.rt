@@ -1,10 +1,11 @@
 use crate::{Invocation, command};
+use chat_log::ChatLog;
 use clap::Error;
 use clap::error::ErrorKind;
 use std::io::Read;
 use std::rt::{Env, Files};
 use std::{env, fs, io};
-use vsync_runs::{Silent, Status, run_script};
+use vsync_runs::{Silent, Status, run_check, run_script};
 
 /// Says on the standard error why the program ends with status 5.
 fn complain<R: Eprint>(rt: &R, what: &str, path: &str) -> Status {
@@ -28,10 +29,17 @@ fn failed<R: Print + Eprint>(rt: &R, error: &io::Error, what: &str, path: &str) 
     complain(rt, what, path)
 }
 
-/// Runs a script from a reader, to the standard output.
-fn world<R: Print + AllocGlobal, I: Read>(rt: &R, reader: &mut I) -> Status {
+/// Does a command on a reader, to the standard output.
+fn answer<R: Print + AllocGlobal, I: Read>(
+    rt: &R,
+    command: Invocation<'_>,
+    reader: &mut I,
+) -> Status {
     let mut output = io::writer(rt);
-    run_script::<Silent, I, _>(rt.alloc(), reader, &mut output)
+    match command {
+        Invocation::World(_) => run_script::<Silent, I, _>(rt.alloc(), reader, &mut output),
+        Invocation::Check(_) => run_check::<ChatLog, I, _>(rt.alloc(), reader, &mut output),
+    }
 }
 
 /// What a command's status says where it ended outside, on the standard error.
@@ -42,16 +50,24 @@ fn told<R: Eprint>(rt: &R, status: Status, path: &str) -> Status {
     status
 }
 
-/// Runs `vsync world PATH`.
-fn world_at<R: Files + Input + Print + Eprint + AllocGlobal>(rt: &R, path: &str) -> Status {
+/// Does a command on the file of a path; `-` is the standard input.
+fn answer_at<R: Files + Input + Print + Eprint + AllocGlobal>(
+    rt: &R,
+    command: Invocation<'_>,
+    path: &str,
+) -> Status {
     if path == "-" {
         let mut input = rt.reader();
-        return told(rt, world(rt, &mut input), "the standard input or output");
+        return told(
+            rt,
+            answer(rt, command, &mut input),
+            "the standard input or output",
+        );
     }
     match fs::open(rt, path) {
         Ok(file) => {
             let mut file = file;
-            told(rt, world(rt, &mut file), path)
+            told(rt, answer(rt, command, &mut file), path)
         }
         Err(error) => failed(rt, &error, "cannot open", path),
     }
@@ -89,7 +105,7 @@ pub fn program<R: Env + Files + Input + Print + Eprint + AllocGlobal>(rt: &R) ->
         }
     }
     match command(rt.alloc(), words.as_slice()) {
-        Ok(Invocation::World(path)) => world_at(rt, path),
+        Ok(command) => answer_at(rt, command, command.path()),
         Err(error) => explain(rt, error),
     }
 }
