@@ -89,7 +89,8 @@ fn put_all(lines: &[Line], out: &mut Vec<u8>)
     put_lines(lines, out);
 }
 
-// Appends the encoding of a chat's lines. On refusal the vector's items are as they were.
+// Appends the encoding of a chat's lines, with room for the longest taken at once. On refusal the vector's items are
+// as they were.
 #[tactic(auto, using(crate::specs::ChatLaws::encoded_few))]
 pub(crate) fn put_chat(lines: &[Line], out: &mut Vec<u8>) -> Result<(), AllocError>
     requires { IsChat lines.now }
