@@ -1,12 +1,12 @@
 -- Whether addresses are distinct, told by the set of those that were seen.
-use Rattle.std.proofs.Common.{◌≡◌, ℕ, ◌+◌, ◌<◌, Bool, true, false, ◌&&◌, ◌||◌, List, [], ◌∷◌, ◌++◌, length, take, drop, not, cond, is_eq, get_or, refl, sym, ◌∙◌, ap, arith, append_assoc, suc, add-one, drop-cons}
+use Rattle.std.proofs.Common.{◌≡◌, ℕ, ◌+◌, ◌<◌, Bool, true, false, ◌||◌, List, [], ◌∷◌, ◌++◌, length, take, drop, not, cond, is_eq, get_or, refl, sym, ◌∙◌, ap, suc, add-one, drop-cons}
 use Rattle.std.proofs.lemmas.Bool.{and_from, or_parts, or_cases, or_from, or_left, or_right, and_left, and_right, and_parts, not-true, not-false}
 use Rattle.std.proofs.lemmas.List.{take_more, take-append-drop}
 use Rattle.std.proofs.lemmas.List.Folds.{list_any-append}
 use Rattle.std.proofs.Common.{⊎_elim}
 use Rattle.address.specs.Ids.{Address, address_cmp, same_address}
 use Rattle.view.specs.Members.{stands_in, is_distinct}
-use Rattle.trace_props.proofs.Observing.{same_address-refl, same_address-sym}
+use Rattle.trace_props.proofs.Observing.{same_address-sym}
 use Rattle.trace_props.proofs.Seats.{is_eq-address}
 
 -- the addresses of a set are those of a list
