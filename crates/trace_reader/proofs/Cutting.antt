@@ -1,8 +1,8 @@
 -- Where a text is cut at a byte: texts without that byte, and texts of bytes from one on.
-use Rattle.std.proofs.Common.{◌≡◌, ℕ, ◌+◌, ◌<◌, ◌≤◌, Bool, true, false, List, [], ◌∷◌, ◌++◌, Option, Some, None, length, take, drop, nat_eq, not, cond, refl, sym, ◌∙◌, ap, suc, arith, append-nil, if◌then◌else◌}
+use Rattle.std.proofs.Common.{◌≡◌, ℕ, ◌+◌, ◌<◌, ◌≤◌, Bool, true, false, List, [], ◌∷◌, ◌++◌, length, take, drop, nat_eq, not, cond, refl, ◌∙◌, ap, arith, if◌then◌else◌}
 use Rattle.std.proofs.lemmas.Bool.{ne_eqb}
 use Rattle.std.proofs.Math.Seq.{take-append_seam, drop-append_seam}
-use Rattle.std.specs.List.{position_or_len, AllByRecursion, slice_split, onto_first}
+use Rattle.std.specs.List.{position_or_len, AllByRecursion, onto_first}
 use Rattle.vsync_text.specs.Lines.{before_byte, behind_byte, behind, lines_of, in_front}
 use Rattle.trace_reader.specs.Forms.{parts_of}
 

@@ -6,3 +6,4 @@ pub mod Spelled
 pub mod LinesBack
 pub mod Telling
 pub mod RunsBack
+pub mod Distinct

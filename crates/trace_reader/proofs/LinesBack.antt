@@ -1,7 +1,6 @@
 -- The line of a happening is read back.
-use Rattle.std.proofs.Common.{◌≡◌, ℕ, ◌+◌, ◌<◌, ◌≤◌, Bool, true, false, List, [], ◌∷◌, ◌++◌, Option, Some, None, Result, Ok, Err, length, nat_eq, nat_lt, refl, sym, ◌∙◌, ap, arith, append_assoc, append-nil, length-append, if◌then◌else◌}
+use Rattle.std.proofs.Common.{◌≡◌, ℕ, true, false, List, [], ◌∷◌, ◌++◌, Option, Some, None, Ok, length, nat_lt, refl, sym, ◌∙◌, ap, arith, append_assoc, append-nil, length-append}
 use Rattle.std.proofs.lemmas.Bool.{le-ltb}
-use Rattle.std.specs.List.{AllByRecursion}
 use Rattle.std.specs.Fmt.{decimal}
 use Rattle.address.specs.Ids.{Address, IsAddress, text_of_address, text_of_view_id}
 use Rattle.trace_props.specs.declared.happening.Happening.{Happening}
@@ -12,7 +11,7 @@ use Rattle.trace_props.specs.declared.happening.Install.{Install}
 use Rattle.vsync_text.specs.Lines.{field_of, behind_field, behind}
 use Rattle.vsync_text.specs.Script.{is_skipped}
 use Rattle.vsync_text.specs.AddressText.{address_of_text}
-use Rattle.vsync_text.specs.TraceText.{text_of_payload, text_of_previous, text_of_addresses, text_of_handed_back, text_of_given, happening_word, fields_of, line_of, field, sending_fields, delivery_fields, install_view, install_rest}
+use Rattle.vsync_text.specs.TraceText.{text_of_payload, text_of_previous, text_of_addresses, text_of_handed_back, text_of_given, happening_word, fields_of, field, sending_fields, delivery_fields, install_view, install_rest}
 use Rattle.trace_reader.specs.declared.line.Word.{Word}
 use Rattle.trace_reader.specs.declared.line.Word.TheVariants.{Started, Sent, Delivered, Blocked, Installed, Left, Crashed}
 use Rattle.trace_reader.specs.declared.TheConstants.{TRACE_LINE}
@@ -20,7 +19,7 @@ use Rattle.trace_reader.specs.Spelling.{number_of_text, view_id_of_text, previou
 use Rattle.trace_reader.specs.Fields.{field_at, spelled_at, end_at, sending_at, delivery_at, view_at, install_at, last}
 use Rattle.trace_reader.specs.Traces.{word_of, happening_of, told, reading_of}
 use Rattle.trace_reader.specs.Spellable.{IsSendable, IsTellable, IsInstallable, IsInRange, IsSpellable}
-use Rattle.trace_reader.proofs.Cutting.{Without, From, is_cut, all_append, without_below, from_lower, before_cut, behind_cut}
+use Rattle.trace_reader.proofs.Cutting.{Without, is_cut, without_below, before_cut, behind_cut}
 use Rattle.trace_reader.proofs.Spelled.{Spells, number_spells, address_spells, view_id_spells, previous_spells, payload_spells, given_spells, view_spells, together_spells, handed_back_spells}
 
 -- FIELDS

@@ -1,6 +1,6 @@
 -- How bytes and lists are read, one at a time, on to what was read before.
-use Rattle.std.proofs.Common.{◌≡◌, ℕ, ◌+◌, ◌<◌, Bool, true, false, List, [], ◌∷◌, ◌++◌, Option, None, Some, length, nat_eq, take, drop, not, cond, refl, sym, ◌∙◌, ap, subst, slice_get, append_assoc, append-nil, zero, suc, arith, ◌≤◌}
-use Rattle.std.specs.List.{slice_split, onto_first, position_or_len}
+use Rattle.std.proofs.Common.{◌≡◌, ℕ, ◌+◌, ◌<◌, Bool, true, false, List, [], ◌∷◌, ◌++◌, Option, None, Some, length, nat_eq, take, drop, not, cond, refl, sym, ◌∙◌, ap, subst, append_assoc, append-nil, zero, suc, arith, ◌≤◌}
+use Rattle.std.specs.List.{onto_first, position_or_len}
 use Rattle.std.specs.Prelude.{IfSome}
 use Rattle.state_transfer.specs.declared.TheConstants.{PAYLOAD}
 use Rattle.trace_props.specs.declared.happening.Numbered.{Numbered}

@@ -1,16 +1,14 @@
 -- Numbers in decimal and bytes in hexadecimal are read back.
-use Rattle.std.proofs.Common.{◌≡◌, ℕ, ◌+◌, ◌-◌, ◌*◌, ◌/◌, ◌%◌, ◌^◌, ◌<◌, ◌≤◌, ◌⊎◌, Bool, true, false, ◌&&◌, List, [], ◌∷◌, ◌++◌, Option, Some, None, nat_eq, nat_le, nat_lt, not, cond, refl, sym, ◌∙◌, ap, zero, suc, arith, ⊎_elim, if◌then◌else◌}
+use Rattle.std.proofs.Common.{◌≡◌, ℕ, ◌+◌, ◌-◌, ◌*◌, ◌/◌, ◌%◌, ◌^◌, ◌<◌, ◌≤◌, true, false, List, [], ◌∷◌, ◌++◌, Some, nat_eq, nat_le, nat_lt, not, refl, ap, zero, suc, arith, ⊎_elim, if◌then◌else◌}
 use Rattle.std.proofs.lemmas.Bool.{ne_eqb, le-leb, lt-leb, lt-ltb, le-ltb, and_from, cases_lt}
-use Rattle.std.proofs.lemmas.Bool.Decides.{nat_tests}
 use Rattle.std.proofs.lemmas.Fmt.{decimal_by_steps}
 use Rattle.std.specs.Char.{is_ascii_digit}
 use Rattle.std.specs.Fmt.{decimal, digits, digits_onto, digit_glyph}
 use Rattle.std.specs.List.{list_all, AllByRecursion}
 use Rattle.std.specs.Prelude.{◌==◌}
 use Rattle.vsync_text.specs.Numbers.{is_plain, has_plain_front, value_of, value_after, number_in}
-use Rattle.vsync_text.specs.TraceText.{hex_digit, hex_of, hex_of_byte}
-use Rattle.trace_reader.specs.Forms.{in_front, hex_value, hex_byte, bytes_of_hex}
-use Rattle.trace_reader.proofs.Cutting.{all_append, all_weaker, From}
+use Rattle.vsync_text.specs.TraceText.{hex_digit, hex_of}
+use Rattle.trace_reader.specs.Forms.{hex_value, hex_byte, bytes_of_hex}
 
 -- a decimal digit
 abbrev pub IsDigit : ℕ → Type 0

@@ -1,5 +1,5 @@
 -- What a field spells is read back from it.
-use Rattle.std.proofs.Common.{◌≡◌, ℕ, ◌+◌, ◌/◌, ◌%◌, ◌^◌, ◌<◌, ◌≤◌, Bool, true, false, ◌&&◌, List, [], ◌∷◌, ◌++◌, Option, Some, None, length, nat_eq, nat_lt, nat_le, refl, sym, ◌∙◌, ap, arith, append_assoc, append-nil, map, if◌then◌else◌}
+use Rattle.std.proofs.Common.{◌≡◌, ℕ, ◌+◌, ◌/◌, ◌%◌, ◌<◌, ◌≤◌, true, false, ◌&&◌, List, [], ◌∷◌, ◌++◌, Option, Some, None, length, nat_eq, nat_lt, nat_le, refl, ◌∙◌, ap, arith, append_assoc, append-nil, map, if◌then◌else◌}
 use Rattle.std.proofs.lemmas.Bool.{ne_eqb, le-leb}
 use Rattle.std.proofs.lemmas.List.Elements.{recursion_from_All}
 use Rattle.std.specs.Prelude.{All, flat_map}
@@ -14,8 +14,8 @@ use Rattle.view.specs.View.{view_refusal}
 use Rattle.state_transfer.specs.declared.TheConstants.{PAYLOAD}
 use Rattle.trace_props.specs.declared.happening.Numbered.{Numbered}
 use Rattle.vsync_text.specs.AddressText.{address_of_text}
-use Rattle.vsync_text.specs.TraceText.{dash, hex_digit, hex_of_byte, hex_of, text_of_payload, text_of_previous, text_of_addresses, text_of_numbered, text_of_handed_back, text_of_given}
-use Rattle.trace_reader.specs.Forms.{bytes_of_hex, parts_of, each_of, in_front}
+use Rattle.vsync_text.specs.TraceText.{dash, hex_digit, hex_of, text_of_payload, text_of_previous, text_of_addresses, text_of_numbered, text_of_handed_back, text_of_given}
+use Rattle.trace_reader.specs.Forms.{parts_of, each_of, in_front}
 use Rattle.trace_reader.specs.Spelling.{number_of_text, view_id_of_text, previous_of_text, short_of_hex, payload_of_text, addresses_of_text, view_of_text, together_of_text, message_of_text, messages_of_text, handed_back_of_text, state_of_text, given_of_text}
 use Rattle.trace_reader.specs.Spellable.{IsNumber, IsViewId, AreBytes, IsPayload, IsMessage}
 use Rattle.trace_reader.proofs.Cutting.{Without, From, all_append, all_weaker, without_below, from_lower, before_cut, behind_cut, part_cut, part_last}

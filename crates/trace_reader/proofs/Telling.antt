@@ -1,17 +1,16 @@
 -- Lines that tell what happened are read back as that.
-use Rattle.std.proofs.Common.{◌≡◌, ℕ, ◌+◌, ◌<◌, ◌≤◌, Bool, true, false, ◌&&◌, ◌||◌, List, [], ◌∷◌, ◌++◌, Option, Some, None, Result, Ok, Err, length, nat_eq, nat_le, slice_get, refl, sym, ◌∙◌, ap, arith, append_assoc, append-nil, subst, codes, if◌then◌else◌}
+use Rattle.std.proofs.Common.{◌≡◌, ℕ, ◌+◌, ◌≤◌, true, false, List, [], ◌∷◌, ◌++◌, Some, None, Ok, nat_eq, nat_le, slice_get, refl, sym, ◌∙◌, ap, arith, append_assoc, append-nil, codes}
 use Rattle.std.proofs.lemmas.Bool.{and_parts, or_parts, leb-true}
-use Rattle.std.specs.List.{AllByRecursion, list_all, list_any, concat}
+use Rattle.std.specs.List.{list_all, list_any, concat}
 use Rattle.std.specs.Fmt.{decimal}
 use Rattle.address.specs.Ids.{text_of_address, text_of_view_id}
 use Rattle.trace_props.specs.declared.happening.Happening.{Happening}
 use Rattle.trace_props.specs.declared.happening.Happening.TheVariants.{Started, Sent, Delivered, Blocked, Installed, Left, Crashed}
-use Rattle.vsync_text.specs.declared.fault.Fault.{Fault}
 use Rattle.vsync_text.specs.Lines.{lines_of}
-use Rattle.vsync_text.specs.Script.{FaultAt, is_skipped}
-use Rattle.vsync_text.specs.TraceText.{text_of_payload, text_of_previous, text_of_addresses, text_of_handed_back, text_of_given, happening_word, fields_of, line_of, field, install_view, install_rest}
+use Rattle.vsync_text.specs.Script.{is_skipped}
+use Rattle.vsync_text.specs.TraceText.{text_of_payload, text_of_previous, text_of_addresses, text_of_handed_back, text_of_given, happening_word, fields_of, field, install_view, install_rest}
 use Rattle.trace_reader.specs.Traces.{trace_of, reading_of, after_line}
-use Rattle.trace_reader.specs.Spellable.{IsInRange, IsSpellable, IsNote, Tell}
+use Rattle.trace_reader.specs.Spellable.{IsInRange, IsNote, Tell}
 use Rattle.trace_reader.specs.Spellable.Tell.{Nothing, Note, Line}
 use Rattle.trace_reader.proofs.Cutting.{Without, From, all_append, without_below, from_lower, line_cut}
 use Rattle.trace_reader.proofs.Spelled.{number_spells, address_spells, view_id_spells, previous_spells, payload_spells, given_spells, view_spells, together_spells, handed_back_spells}

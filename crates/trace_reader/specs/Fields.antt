@@ -1,10 +1,7 @@
 -- How the fields of a line are read, from the left. What is left of a line is None where no space stands there, and else the
 -- text behind that space.
 use Rattle.std.specs.Prelude.{◌≡◌, ℕ, List, Option, None, Some, Result, Ok, Err}
-use Rattle.address.specs.Ids.{Address, ViewId}
 use Rattle.view.specs.Members.{View}
-use Rattle.trace_props.specs.declared.happening.Happening.{Happening}
-use Rattle.trace_props.specs.declared.happening.Happening.TheVariants as happening
 use Rattle.trace_props.specs.declared.happening.Sending.{Sending}
 use Rattle.trace_props.specs.declared.happening.Delivery.{Delivery}
 use Rattle.trace_props.specs.declared.happening.Install.{Install}

@@ -1,5 +1,5 @@
 -- Which happenings the text of a trace can spell, and what texts tell, line by line.
-use Rattle.std.specs.Prelude.{◌≡◌, ℕ, ◌+◌, ◌<◌, ◌≤◌, true, false, List, [], ◌∷◌, ◌++◌, Option, None, Some, length, slice_get, nat_eq, All}
+use Rattle.std.specs.Prelude.{◌≡◌, ℕ, ◌+◌, ◌<◌, ◌≤◌, true, false, List, [], ◌∷◌, ◌++◌, None, Some, length, slice_get, nat_eq, All}
 use Rattle.std.specs.List.{list_any}
 use Rattle.std.specs.Option.{ForSome}
 use Rattle.address.specs.Ids.{ViewId, IsAddress}

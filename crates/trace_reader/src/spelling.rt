@@ -1,13 +1,15 @@
 //! What a field of a trace spells: `None` where it is not of its form or range.
 
 ghost use Rattle.std.specs.Prelude.{◌≡◌, ◌≤◌, length, IfOk, IfSome};
+ghost use Rattle.view.specs.Members.{is_distinct};
 ghost use Rattle.state_transfer.specs.declared.TheConstants.{PAYLOAD};
 ghost use Rattle.trace_reader.specs.Spelling.{number_of_text, view_id_of_text, previous_of_text, short_of_hex, payload_of_text, view_of_text, together_of_text, message_of_text, messages_of_text, AreShort, handed_back_of_text, state_of_text, given_of_text};
 
 use crate::forms::{addresses_in, bytes_in, next_part};
-use address::{GREATEST_NUMBER, ViewId};
+use address::{Address, GREATEST_NUMBER, ViewId};
 use state_transfer::PAYLOAD;
 use std::alloc::{AllocError, Global};
+use std::collections::BTreeSet;
 use trace_props::{Bytes, HandedBack, Numbered};
 use view::{Addresses, View};
 use vsync_text::{address_in, number_in, split_at_first};
@@ -85,6 +87,20 @@ pub(crate) fn view_in(alloc: Global, id: ViewId, field: &[u8]) -> Result<Option<
     }
 }
 
+/// Whether no address stands twice.
+#[tactic(auto, using(crate::proofs::Distinct::nothing_seen))]
+fn are_distinct(alloc: Global, addresses: &[Address]) -> Result<bool, AllocError>
+    ensures { IfOk result (λ distinct. distinct ≡ is_distinct addresses.now) }
+{
+    let mut seen = BTreeSet::new(alloc);
+    for address in addresses {
+        if !seen.insert(*address)? {
+            return Ok(false);
+        }
+    }
+    Ok(true)
+}
+
 /// Addresses of which none stands twice.
 #[tactic(auto, unfolding(crate::specs::Spelling::together_of_text))]
 pub(crate) fn together_in(alloc: Global, field: &[u8]) -> Result<Option<Addresses>, AllocError>
@@ -93,7 +109,7 @@ pub(crate) fn together_in(alloc: Global, field: &[u8]) -> Result<Option<Addresse
     match addresses_in(alloc, field)? {
         None => Ok(None),
         Some(together) => {
-            if together.is_distinct() {
+            if are_distinct(alloc, together.as_slice())? {
                 Ok(Some(together))
             } else {
                 Ok(None)

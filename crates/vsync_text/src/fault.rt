@@ -12,7 +12,7 @@ pub enum Fault {
     BadNumber,
     /// 42: a field is missing.
     MissingField,
-    /// 43: the line has more than 4,096 bytes.
+    /// 43: the line has more bytes than it may: 4,096 in a script, 65,536 in a trace.
     LineTooLong,
 }
 
@@ -30,7 +30,7 @@ impl Fault {
     }
 }
 
-/// Why a script was not read.
+/// Why a script, or the text of a trace, was not read.
 #[derive(Debug, Drop, Error)]
 pub enum Unread {
     /// Its first fault, and the number of that line, from 1.
