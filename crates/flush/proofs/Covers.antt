@@ -1,12 +1,12 @@
 -- What a cut is for.
-use Rattle.std.proofs.Common.{◌≡◌, ℕ, zero, suc, ◌+◌, ◌<◌, ◌≤◌, Bool, true, false, Option, Some, None, List, [], ◌∷◌, length, refl, sym, ap, ◌∙◌, subst, arith, max}
-use Rattle.std.specs.Prelude.{slice_get, is_some, IsSome, nat_lt}
+use Rattle.std.proofs.Common.{◌≡◌, ℕ, zero, suc, ◌+◌, ◌<◌, ◌≤◌, Bool, true, false, Option, Some, None, List, [], ◌∷◌, length, refl, sym, ap, ◌∙◌, subst, arith}
+use Rattle.std.specs.Prelude.{slice_get, is_some, nat_lt}
 use Rattle.std.specs.Option.{option_or}
 use Rattle.std.proofs.lemmas.Bool.Decides.{nat_tests}
 use Rattle.wire.specs.Values.{Entry, Report}
 use Rattle.wire.specs.Lists.{is_report}
 use Rattle.flush.specs.Cuts.{first_of, held_at, held_among, greatest_stable, IsCut}
-use Rattle.flush.specs.Covers.{EachReport, AgreesWith, Covers, CutCovers, BaseIsBelow, OneCut}
+use Rattle.flush.specs.Covers.{EachReport, CutCovers, BaseIsBelow, OneCut}
 use Rattle.flush.proofs.Reports.{report-fills}
 
 -- ---- what is found first

@@ -1,5 +1,5 @@
 -- The reports of a group: who sent them.
-use Rattle.std.proofs.Common.{◌≡◌, ℕ, zero, suc, Bool, true, false, cond, not, ◌&&◌, Option, Some, None, List, [], ◌∷◌, filter, map, refl, sym, ap, ◌∙◌, subst, is_some, nat_eq, eq-eqb, eqb-true}
+use Rattle.std.proofs.Common.{◌≡◌, ℕ, zero, suc, Bool, true, false, cond, not, Option, Some, None, List, [], ◌∷◌, map, refl, sym, ap, ◌∙◌, is_some, nat_eq, eq-eqb, eqb-true}
 use Rattle.std.specs.Prelude.{slice_get}
 use Rattle.std.specs.List.{list_all}
 use Rattle.std.proofs.lemmas.Bool.{and_parts, and_from}
@@ -7,8 +7,8 @@ use Rattle.address.specs.Ids.{Address, ViewId, same_address}
 use Rattle.view.specs.Members.{stands_in, is_distinct}
 use Rattle.wire.specs.Values.{Report}
 use Rattle.wire.specs.Lists.{is_report}
-use Rattle.flush.specs.Flushes.{FlushModel, IsFlush, report_from, has_reported, comes_from, group}
-use Rattle.flush.specs.Covers.{EachReport, HasReporter, IsGroupOf, GroupsAreReported}
+use Rattle.flush.specs.Flushes.{report_from, has_reported, comes_from, group}
+use Rattle.flush.specs.Covers.{EachReport, HasReporter, GroupsAreReported}
 use Rattle.flush.proofs.Keeping.{reporter-stands, not-true}
 
 address-refl : (a : Address) → same_address a a ≡ true

@@ -1,6 +1,6 @@
 -- What a report holds: every number past its stable count up to its delivered one, and none past the window.
 use Rattle.std.proofs.Common.{◌≡◌, ℕ, ◌+◌, ◌<◌, ◌≤◌, Bool, true, false, cond, Option, Some, None, List, [], ◌∷◌, length, refl, sym, ap, ◌∙◌, arith, nat_eq}
-use Rattle.std.specs.Prelude.{IsSome, is_some, nat_le, nat_lt, ◌==◌, ◌&&◌, min}
+use Rattle.std.specs.Prelude.{IsSome, is_some, nat_le, ◌==◌, ◌&&◌, min}
 use Rattle.address.specs.declared.TheConstants.{GREATEST_NUMBER}
 use Rattle.std.specs.Option.{option_map_or}
 use Rattle.std.proofs.lemmas.Bool.{and_parts}
@@ -99,6 +99,7 @@ rules-by r (Some v) h =
   where
     at-most : (m n : ℕ) → nat_le m n ≡ true → m ≤ n
     at-most m n e = grind (arith, nat_tests)
+
     below-least : (m n o : ℕ) → nat_le m (min n o) ≡ true → m ≤ n
     below-least m n o e = grind (arith, nat_tests)
 

@@ -35,11 +35,7 @@ impl Model for Flush {
 }
 
 /// Records a report behind those that came before.
-fn keep(
-    reports: &mut IndexMap<Address, Kept>,
-    from: Address,
-    kept: Kept,
-) -> Result<(), AllocError>
+fn keep(reports: &mut IndexMap<Address, Kept>, from: Address, kept: Kept) -> Result<(), AllocError>
     requires { has_reported from reports.old.entries ≡ false }
     ensures ok { OnOk result (reports.new.entries ≡ reports.old.entries ++ (from, kept) ∷ []) }
     ensures err { OnErr result (reports.new.entries ≡ reports.old.entries) }

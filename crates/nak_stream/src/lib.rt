@@ -3,9 +3,11 @@
 #![tactic(auto)]
 
 mod entry;
+mod law;
 mod window;
 
 pub use entry::Entry;
+pub use law::{beginnings_agree, windows_agree};
 pub use window::Window;
 
 /// How many numbers past the stable count a window takes: 32.

@@ -1,4 +1,4 @@
-use crate::{Entry, Window};
+use crate::{Entry, Window, beginnings_agree, windows_agree};
 use address::{Address, Node};
 use std::alloc::{AllocError, Global};
 
@@ -95,5 +95,41 @@ fn an_entry_tells_its_parts(rt: HostRuntime) {
         let copy = entry.copied(rt.alloc());
         assert!(rt; copy.is_ok());
         assert_eq!(rt; entry.into_payload().len(), 2);
+    }
+}
+
+/// Whether an offer is taken, or is refused for want of memory and leaves the window as it was.
+fn taken_or_unchanged(window: &mut Window, g: u64) -> bool {
+    let Some(node) = Node::new(1) else {
+        return false;
+    };
+    match window.accept(g, Address::first_at(node), g, [7].as_slice()) {
+        Ok(answer) => answer && window.entry(g).is_some(),
+        Err(_) => window.entry(g).is_none() && window.delivered() == 0,
+    }
+}
+
+/// Whether the next number is delivered where it is held, or is refused for want of memory and leaves the window as it was.
+fn told_or_unchanged(window: &mut Window) -> bool {
+    let before = window.delivered();
+    match window.take_ready() {
+        Ok(Some(entry)) => entry.number() == before + 1 && window.delivered() == before + 1,
+        Ok(None) => window.delivered() == before && window.entry(before + 1).is_none(),
+        Err(_) => window.delivered() == before && window.entry(before + 1).is_some(),
+    }
+}
+
+// With each allocation refused in turn (`rt try --test --fail-alloc N`) it still holds.
+#[test]
+fn a_refused_growth_changes_nothing(rt: HostRuntime) {
+    if let Ok(mut window) = Window::new(rt.alloc()) {
+        for g in 1..4 {
+            assert!(rt; taken_or_unchanged(&mut window, g));
+        }
+        for _ in 0..3 {
+            assert!(rt; told_or_unchanged(&mut window));
+        }
+        windows_agree();
+        beginnings_agree::<u8>();
     }
 }

@@ -91,3 +91,44 @@ fn eight_are_outstanding(rt: HostRuntime) {
     assert_eq!(rt; pushed(rt.alloc(), &mut forwards, 7), 9);
     assert_eq!(rt; forwards.sent(), 9);
 }
+
+/// Whether a payload of one byte is taken, or is given back for want of memory with nothing changed.
+fn pushed_or_given_back(alloc: Global, forwards: &mut Forwards, byte: u8) -> bool {
+    let mut payload = Vec::new(alloc);
+    if payload.push(byte).is_err() {
+        return true;
+    }
+    let before = forwards.sent();
+    match forwards.push(payload) {
+        Ok(number) => number == before + 1 && forwards.sent() == before + 1,
+        Err((payload, refusal)) => {
+            payload.first().copied() == Some(byte)
+                && refusal.number() == 7
+                && forwards.sent() == before
+        }
+    }
+}
+
+/// Whether a message is taken, or is refused for want of memory and leaves the orderer as it was, so that it is taken afterwards.
+fn taken_or_unchanged(orderer: &mut Orderer, sender: &Address, number: u64) -> bool {
+    match orderer.forward(sender, number, [7].as_slice()) {
+        Ok(answer) => answer,
+        Err(_) => match orderer.forward(sender, number, [7].as_slice()) {
+            Ok(answer) => answer && orderer.ordered() == 0,
+            Err(_) => false,
+        },
+    }
+}
+
+// With each allocation refused in turn (`rt try --test --fail-alloc N`) it still holds.
+#[test]
+fn a_refused_growth_gives_the_payload_back(rt: HostRuntime) {
+    let mut forwards = Forwards::new(rt.alloc());
+    for byte in 1..4 {
+        assert!(rt; pushed_or_given_back(rt.alloc(), &mut forwards, byte));
+    }
+    if let (Some(mut orderer), Some(two)) = (of_two(rt.alloc()), address(2)) {
+        assert!(rt; taken_or_unchanged(&mut orderer, &two, 1));
+        assert!(rt; taken_or_unchanged(&mut orderer, &two, 2));
+    }
+}

@@ -60,3 +60,23 @@ fn the_unsuspected_survive(rt: HostRuntime) {
         assert_eq!(rt; left(rt.alloc(), &suspects, &view), 3);
     }
 }
+
+/// Whether an address is suspected, or is refused for want of memory and leaves the suspects as they were.
+fn suspected_or_unchanged(suspects: &mut Suspects, address: Address, before: &Address) -> bool {
+    let had = suspects.has(before);
+    match suspects.add(address) {
+        Ok(()) => suspects.has(&address) && suspects.has(before) == had,
+        Err(_) => !suspects.has(&address) && suspects.has(before) == had,
+    }
+}
+
+// With each allocation refused in turn (`rt try --test --fail-alloc N`) it still holds.
+#[test]
+fn a_refused_growth_changes_nothing(rt: HostRuntime) {
+    let (Some(one), Some(two)) = (address(1), address(2)) else {
+        return;
+    };
+    let mut suspects = Suspects::new(rt.alloc());
+    assert!(rt; suspected_or_unchanged(&mut suspects, one, &two));
+    assert!(rt; suspected_or_unchanged(&mut suspects, two, &one));
+}

@@ -1,12 +1,12 @@
 -- The views that a member installs rise.
-use Rattle.std.proofs.Common.{◌≡◌, ℕ, Bool, true, false, cond, not, ◌&&◌, Option, Some, None, List, [], ◌∷◌, refl, sym, ap, ◌∙◌, subst, arith, nat_eq, eqb-true, inl, inr, ◌⊎◌}
+use Rattle.std.proofs.Common.{◌≡◌, ℕ, Bool, true, false, cond, not, ◌&&◌, Option, Some, None, List, [], ◌∷◌, refl, sym, ap, ◌∙◌, arith, nat_eq, eqb-true}
 use Rattle.std.specs.List.{AllByRecursion}
 use Rattle.std.specs.Option.{option_map_or}
 use Rattle.std.specs.Ordering.{nat_cmp, ordering_then}
 use Rattle.std.specs.Cmp.Lexicographic.{pointwise}
 use Rattle.std.specs.declared.cmp.Ordering.{Ordering}
 use Rattle.std.specs.declared.cmp.Ordering.TheVariants.{Less, Equal, Greater}
-use Rattle.std.proofs.lemmas.Bool.{and_parts, and_from}
+use Rattle.std.proofs.lemmas.Bool.{and_parts}
 use Rattle.std.proofs.lemmas.Bool.Decides.{nat_tests}
 use Rattle.address.specs.Ids.{Address, ViewId, view_id_cmp, same_address, same_view_id}
 use Rattle.view.specs.Members.{View, stands_in}
@@ -144,9 +144,10 @@ all-by P Q f (x ∷ xs) a = (f x a.0, all-by P Q f xs a.1)
 install-above : (b : Bool) (w : View) (asked : List Asked) (p : PromiseModel) → may_install w p ≡ b
     → AllByRecursion (λ x. is_above x (installing p) ≡ true) (installs asked (installing p)) → AllByRecursion (λ x. is_above x p ≡ true) (installs asked p)
     → AllByRecursion (λ x. is_above x p ≡ true) (cond b (w ∷ installs asked (installing p)) (installs asked p))
-install-above true w asked p q after same =
-    (may-by p.proposal p.is_installed w q,
-    all-by (λ x. is_above x (installing p) ≡ true) (λ x. is_above x p ≡ true) (λ x h. installed-by p.proposal p.is_installed x h) (installs asked (installing p)) after)
+install-above true w asked p q after same = (
+  may-by p.proposal p.is_installed w q,
+  all-by (λ x. is_above x (installing p) ≡ true) (λ x. is_above x p ≡ true) (λ x h. installed-by p.proposal p.is_installed x h) (installs asked (installing p)) after,
+)
 install-above false w asked p q after same = same
 
 -- whatever is installed later is above the promise
@@ -163,9 +164,11 @@ above-installed o x w e h = past-greater (view_id_cmp x.id w.id) (sym (ap (λ t.
 install-rises : (b : Bool) (w : View) (asked : List Asked) (p : PromiseModel) → may_install w p ≡ b → AreRising (installs asked (installing p)) → AreRising (installs asked p)
     → AreRising (cond b (w ∷ installs asked (installing p)) (installs asked p))
 install-rises true w asked p q after same =
-    let promised : p.proposal ≡ Some w = (only-the-promised w p q).0 in
-    (all-by (λ x. is_above x (installing p) ≡ true) (λ x. view_id_cmp x.id w.id ≡ Greater) (λ x h. above-installed p.proposal x w promised h) (installs asked (installing p))
-    (all-above asked (installing p)), after)
+    let promised : p.proposal ≡ Some w = (only-the-promised w p q).0 in (
+      all-by (λ x. is_above x (installing p) ≡ true) (λ x. view_id_cmp x.id w.id ≡ Greater) (λ x h. above-installed p.proposal x w promised h) (installs asked (installing p))
+          (all-above asked (installing p)),
+      after,
+    )
 install-rises false w asked p q after same = same
 
 pub installs-rise : InstallsRise
@@ -180,6 +183,7 @@ pub promises-rise : PromisesRise
 promises-rise v w p at h =
     let above : is_past (view_id_cmp w.id v.id) p.is_installed ≡ true =
     sym (ap (λ t. option_map_or (λ (u : View). is_past (view_id_cmp w.id u.id) p.is_installed) t true) at)
-    ∙ accept-by (stands_in p.member w.members) p.proposal p.is_installed w h in
-    (not-less (view_id_cmp w.id v.id) p.is_installed above,
-    λ i. past-greater (view_id_cmp w.id v.id) (sym (ap (is_past (view_id_cmp w.id v.id)) i) ∙ above))
+    ∙ accept-by (stands_in p.member w.members) p.proposal p.is_installed w h in (
+      not-less (view_id_cmp w.id v.id) p.is_installed above,
+      λ i. past-greater (view_id_cmp w.id v.id) (sym (ap (is_past (view_id_cmp w.id v.id)) i) ∙ above),
+    )

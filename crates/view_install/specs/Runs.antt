@@ -1,10 +1,10 @@
 -- What becomes of a promise over many offers and installs.
-use Rattle.std.specs.Prelude.{◌≡◌, ◌≢◌, Bool, true, false, List, [], ◌∷◌, Option, Some, None, if◌then◌else◌}
+use Rattle.std.specs.Prelude.{◌≡◌, ◌≢◌, true, false, List, [], ◌∷◌, Some, if◌then◌else◌}
 use Rattle.std.specs.List.{AllByRecursion}
-use Rattle.std.specs.declared.cmp.Ordering.TheVariants.{Less, Equal, Greater}
-use Rattle.address.specs.Ids.{Address, view_id_cmp}
+use Rattle.std.specs.declared.cmp.Ordering.TheVariants.{Less, Greater}
+use Rattle.address.specs.Ids.{view_id_cmp}
 use Rattle.view.specs.Members.{View}
-use Rattle.view_install.specs.Promises.{PromiseModel, offered, after_offer, may_install, after_install, installing, promising}
+use Rattle.view_install.specs.Promises.{PromiseModel, offered, after_offer, may_install, installing}
 use Rattle.view_install.specs.declared.promise.OfferAnswer.TheVariants.{Accept}
 
 -- what is asked of a promise

@@ -1,4 +1,4 @@
-use Rattle.std.proofs.Common.{◌≡◌, ◌++◌, ◌∷◌, [], List, true, sym, ap, ◌∙◌, subst}
+use Rattle.std.proofs.Common.{◌≡◌, List, true, sym, ap, ◌∙◌, subst}
 use Rattle.address.specs.Ids.{Address}
 use Rattle.wire.specs.Lists.{is_report}
 use Rattle.wire.specs.Values.{Report}

@@ -1,5 +1,4 @@
-use Rattle.std.proofs.Common.{◌≡◌, List, ℕ, [], Ok, true, sym, ap, ◌∙◌, length}
-use Rattle.wire.specs.Values.{Entry, Report}
+use Rattle.std.proofs.Common.{◌≡◌, [], Ok, sym, ap, ◌∙◌}
 use Rattle.wire.specs.Reading.{list_at, listed, is_whole}
 use Rattle.wire.specs.Fields.{placed_at}
 use Rattle.wire.specs.Lists.{is_report}
