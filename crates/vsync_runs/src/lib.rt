@@ -14,3 +14,5 @@ pub use status::Status;
 
 #[cfg(test)]
 mod tests;
+#[cfg(test)]
+mod worked;
