@@ -18,7 +18,7 @@ use Rattle.trace_reader.specs.declared.TheConstants.{TRACE_LINE}
 use Rattle.trace_reader.specs.Spelling.{number_of_text, view_id_of_text, previous_of_text, payload_of_text, view_of_text, together_of_text, handed_back_of_text, given_of_text}
 use Rattle.trace_reader.specs.Fields.{field_at, spelled_at, end_at, sending_at, delivery_at, view_at, install_at, last}
 use Rattle.trace_reader.specs.Traces.{word_of, happening_of, told, reading_of}
-use Rattle.trace_reader.specs.Spellable.{IsSendable, IsTellable, IsInstallable, IsInRange, IsSpellable}
+use Rattle.trace_reader.specs.Spellable.{IsSendable, IsTellable, IsInstallable, IsInFormat, IsSpellable}
 use Rattle.trace_reader.proofs.Cutting.{Without, is_cut, without_below, before_cut, behind_cut}
 use Rattle.trace_reader.proofs.Spelled.{Spells, number_spells, address_spells, view_id_spells, previous_spells, payload_spells, given_spells, view_spells, together_spells, handed_back_spells}
 
@@ -118,7 +118,7 @@ word_back (happening.Installed i) = Installed
 word_back (happening.Left p) = Left
 word_back (happening.Crashed p) = Crashed
 
-happening_back : (h : Happening) → IsInRange h → happening_of (word_back h) (behind (fields_of h)) ≡ Ok h
+happening_back : (h : Happening) → IsInFormat h → happening_of (word_back h) (behind (fields_of h)) ≡ Ok h
 unfolding happening_of word_back
 happening_back (happening.Started p) h = rw (address_last p h, last_back p) refl
 happening_back (happening.Sent s) h = rw (sending_back s h, last_back s) refl

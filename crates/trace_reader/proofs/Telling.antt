@@ -10,7 +10,7 @@ use Rattle.vsync_text.specs.Lines.{lines_of}
 use Rattle.vsync_text.specs.Script.{is_skipped}
 use Rattle.vsync_text.specs.TraceText.{text_of_payload, text_of_previous, text_of_addresses, text_of_handed_back, text_of_given, happening_word, fields_of, field, install_view, install_rest}
 use Rattle.trace_reader.specs.Traces.{trace_of, reading_of, after_line}
-use Rattle.trace_reader.specs.Spellable.{IsInRange, IsNote, Tell}
+use Rattle.trace_reader.specs.Spellable.{IsInFormat, IsNote, Tell}
 use Rattle.trace_reader.specs.Spellable.Tell.{Nothing, Note, Line}
 use Rattle.trace_reader.proofs.Cutting.{Without, From, all_append, without_below, from_lower, line_cut}
 use Rattle.trace_reader.proofs.Spelled.{number_spells, address_spells, view_id_spells, previous_spells, payload_spells, given_spells, view_spells, together_spells, handed_back_spells}
@@ -31,7 +31,7 @@ three_from a b c fa fb fc = both (field a ++ field b) (field c) (both (field a) 
 four_from : (a b c d : List ℕ) → From 44 a → From 44 b → From 44 c → From 44 d → From 32 (field a ++ field b ++ field c ++ field d)
 four_from a b c d fa fb fc fd = both (field a ++ field b ++ field c) (field d) (three_from a b c fa fb fc) (field_from d fd)
 
-fields_from : (h : Happening) → IsInRange h → From 32 (fields_of h)
+fields_from : (h : Happening) → IsInFormat h → From 32 (fields_of h)
 fields_from (Started p) h = field_from (text_of_address p) (address_spells p h).from
 fields_from (Sent s) h =
     four_from (text_of_address s.member) (text_of_view_id s.view) (decimal s.message.number) (text_of_payload s.message.payload)
@@ -66,7 +66,7 @@ word_from (Installed i) = from_test 32 (codes "installed") refl
 word_from (Left p) = from_test 32 (codes "left") refl
 word_from (Crashed p) = from_test 32 (codes "crashed") refl
 
-body_is_one_line : (h : Happening) → IsInRange h → Without 10 (body_of h)
+body_is_one_line : (h : Happening) → IsInFormat h → Without 10 (body_of h)
 body_is_one_line h r = without_below 32 10 (body_of h) (omega arith) (both (happening_word h) (fields_of h) (word_from h) (fields_from h r))
 
 -- NOTES

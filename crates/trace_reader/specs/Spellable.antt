@@ -63,18 +63,18 @@ pub record IsInstallable (i : Install) : Type 0 where
   pub given : ForSome i.given AreBytes
 
 -- the fields of a happening are in the ranges of the format
-abbrev pub IsInRange : Happening → Type 0
-IsInRange (Started p) = IsAddress p
-IsInRange (Sent s) = IsSendable s
-IsInRange (Delivered d) = IsTellable d
-IsInRange (Blocked p) = IsAddress p
-IsInRange (Installed i) = IsInstallable i
-IsInRange (Left p) = IsAddress p
-IsInRange (Crashed p) = IsAddress p
+abbrev pub IsInFormat : Happening → Type 0
+IsInFormat (Started p) = IsAddress p
+IsInFormat (Sent s) = IsSendable s
+IsInFormat (Delivered d) = IsTellable d
+IsInFormat (Blocked p) = IsAddress p
+IsInFormat (Installed i) = IsInstallable i
+IsInFormat (Left p) = IsAddress p
+IsInFormat (Crashed p) = IsAddress p
 
 -- a happening that the text of a trace can spell: its fields are in range, and its line is not too long
 pub record IsSpellable (h : Happening) : Type 0 where
-  pub fields : IsInRange h
+  pub fields : IsInFormat h
   pub line : length (line_of h) ≤ TRACE_LINE + 1
 
 -- a text of one line that says nothing
