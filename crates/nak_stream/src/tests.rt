@@ -112,10 +112,11 @@ fn taken_or_unchanged(window: &mut Window, g: u64) -> bool {
 /// Whether the next number is delivered where it is held, or is refused for want of memory and leaves the window as it was.
 fn told_or_unchanged(window: &mut Window) -> bool {
     let before = window.delivered();
+    let next = before.saturating_add(1);
     match window.take_ready() {
-        Ok(Some(entry)) => entry.number() == before + 1 && window.delivered() == before + 1,
-        Ok(None) => window.delivered() == before && window.entry(before + 1).is_none(),
-        Err(_) => window.delivered() == before && window.entry(before + 1).is_some(),
+        Ok(Some(entry)) => entry.number() == next && window.delivered() == next,
+        Ok(None) => window.delivered() == before && window.entry(next).is_none(),
+        Err(_) => window.delivered() == before && window.entry(next).is_some(),
     }
 }
 

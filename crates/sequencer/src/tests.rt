@@ -100,7 +100,7 @@ fn pushed_or_given_back(alloc: Global, forwards: &mut Forwards, byte: u8) -> boo
     }
     let before = forwards.sent();
     match forwards.push(payload) {
-        Ok(number) => number == before + 1 && forwards.sent() == before + 1,
+        Ok(number) => number == before.saturating_add(1) && forwards.sent() == number,
         Err((payload, refusal)) => {
             payload.first().copied() == Some(byte)
                 && refusal.number() == 7
