@@ -118,6 +118,13 @@ const JOIN: [u8; 22] = [
     b'V', b'S', 1, 1, 5, b'w', b'o', b'r', b'l', b'd', 0, 2, 0, 0, 0, 1, 0, 9, 0, 0, 0, 1,
 ];
 
+fn is_join(packet: Option<&[u8]>) -> bool {
+    match packet {
+        Some(bytes) => bytes == JOIN.as_slice(),
+        None => false,
+    }
+}
+
 /// A world in which node 2 asked a contact that is nowhere, and asked again.
 fn asking(alloc: Global) -> Option<World<Silent>> {
     let node = Node::new(2)?;
@@ -138,8 +145,8 @@ fn the_packets_of_a_join(rt: HostRuntime) {
     let world = asking(rt.alloc());
     assert!(rt; world.is_some());
     if let Some(world) = world {
-        assert_eq!(rt; world.packet(1), Some(JOIN.as_slice()));
-        assert_eq!(rt; world.packet(2), Some(JOIN.as_slice()));
+        assert!(rt; is_join(world.packet(1)));
+        assert!(rt; is_join(world.packet(2)));
         assert!(rt; world.packet(0).is_none());
         assert!(rt; world.packet(3).is_none());
     }

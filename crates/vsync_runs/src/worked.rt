@@ -329,6 +329,46 @@ fn faults_and_breaks_are_told(rt: HostRuntime) {
     }
 }
 
+#[test]
+fn smallest_broken_traces(rt: HostRuntime) {
+    for (text, wanted) in [
+        (
+            b"started 1.1\nstarted 1.1\n".as_slice(),
+            b"broken D5 2\n1".as_slice(),
+        ),
+        (
+            b"started 1.1\ninstalled 1.1 - 1@2.1 2.1 1.1 - -\n".as_slice(),
+            b"broken D6 2\n1".as_slice(),
+        ),
+        (
+            b"started 1.1\ninstalled 1.1 - 1@1.1 1.1 1.1 - -\ndelivered 1.1 1@1.1 1.1 1 61\n".as_slice(),
+            b"broken D7 3\n1".as_slice(),
+        ),
+        (
+            b"started 1.1\nstarted 2.1\ninstalled 1.1 - 1@1.1 1.1,2.1 1.1,2.1 - -\ninstalled 2.1 - 1@1.1 1.1,2.1 1.1,2.1 - -\nsent 2.1 1@1.1 1 -\ndelivered 2.1 1@1.1 2.1 1 -\n".as_slice(),
+            b"broken D8 6\n1".as_slice(),
+        ),
+        (
+            b"started 1.1\nstarted 2.1\ninstalled 1.1 - 1@1.1 1.1,2.1 1.1,2.1 - -\ninstalled 2.1 - 1@1.1 1.1,2.1 1.1,2.1 - -\nsent 1.1 1@1.1 1 -\ndelivered 1.1 1@1.1 1.1 1 -\ninstalled 1.1 1@1.1 2@1.1 1.1,2.1 1.1,2.1 - -\ninstalled 2.1 1@1.1 2@1.1 1.1,2.1 1.1,2.1 - -\n".as_slice(),
+            b"broken D9 8\n1".as_slice(),
+        ),
+        (
+            b"started 1.1\ninstalled 1.1 - 1@1.1 1.1 2.1 - -\n".as_slice(),
+            b"broken D10 2\n1".as_slice(),
+        ),
+        (
+            b"started 1.1\ninstalled 1.1 - 1@1.1 1.1 1.1 1:61 -\n".as_slice(),
+            b"broken D11 2\n1".as_slice(),
+        ),
+        (
+            b"started 1.1\ninstalled 1.1 - 1@1.1 1.1 1.1 - =01\n".as_slice(),
+            b"broken D12 2\n1".as_slice(),
+        ),
+    ] {
+        assert!(rt; prints(rt.alloc(), text, wanted));
+    }
+}
+
 /// Whether a command wrote one line that goes with its exit status.
 fn is_answer(output: &[u8]) -> bool {
     let Some((status, line)) = output.split_last() else {
