@@ -104,7 +104,8 @@ impl HandedBack {
     pub fn into_vec(self) -> Vec<Numbered>
         ensures { result.items ≡ self }
     {
-        self.items
+        let HandedBack { items } = self;
+        items
     }
 
     /// Its messages in order.
