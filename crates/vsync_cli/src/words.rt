@@ -99,8 +99,12 @@ fn parsed<'a>(alloc: Global, words: &'a [String]) -> Result<Invocation<'a>, Erro
     }
 }
 
-/// The command that the words of a command line ask for, the program's name first. No words after the name are
-/// `world -`. Words that are no command give clap's error, whose text says what is wrong, or the help that was asked for.
+/// The command that the words of a command line ask for, the program's name first: `world SCRIPT` or `check TRACE`.
+/// No words after the name are `world -`. A path that begins with `-` and is more than that stands behind `--`.
+///
+/// Words that are no command give clap's error, whose text says what is wrong (`error.kind()` says which kind of
+/// mistake), or the help that was asked for. Words that are a command give an error of kind `OutOfMemory` alone.
+/// docs/FORMATS.md, "Exit statuses", says how the program ends then: 2 for a mistake, 0 for help, 4 for memory.
 pub fn command<'a>(alloc: Global, words: &'a [String]) -> Result<Invocation<'a>, Error>
     ensures alone { length words.now ≤ 1 → IsOkAnd result RunsStandardInput }
     ensures said { 1 < length words.now → IfOk result (λ i.
