@@ -1,6 +1,7 @@
-ghost use Rattle.std.specs.Prelude.{◌≡◌, ◌≢◌, ◌⊎◌};
-ghost use Rattle.clap.specs.Words.{kind_of};
-ghost use Rattle.vsync_cli.specs.Ends.{Does, EndsBy};
+ghost use Rattle.std.specs.Prelude.{◌≡◌, ◌≢◌, ◌⊎◌, ◌<◌, [], length, map, string_bytes};
+ghost use Rattle.clap.specs.Words.{fault_of, kind_of};
+ghost use Rattle.vsync_cli.specs.Ends.{Does, EndsBy, EndsByFault};
+ghost use Rattle.vsync_cli.specs.Grammar.{program_app};
 
 use crate::{Invocation, command};
 use chat_log::ChatLog;
@@ -113,6 +114,17 @@ fn explain<R: Print + Eprint>(rt: &R, error: Error) -> Status
     }
 }
 
+/// Does what the words of a command line ask for, or says why they are no command.
+fn obey<R: Files + Input + Print + Eprint + AllocGlobal>(rt: &R, words: &[String]) -> Status
+    ensures { let faults = fault_of program_app (map string_bytes words.now) in
+        1 < length words.now → faults ≢ [] → EndsByFault faults result }
+{
+    match command(rt.alloc(), words) {
+        Ok(command) => answer_at(rt, command, command.path()),
+        Err(error) => explain(rt, error),
+    }
+}
+
 /// The program `vsync`: does what its words ask for, and answers the exit status (docs/FORMATS.md).
 pub fn program<R: Env + Files + Input + Print + Eprint + AllocGlobal>(rt: &R) -> Status {
     let mut words = Vec::new(rt.alloc());
@@ -128,8 +140,5 @@ pub fn program<R: Env + Files + Input + Print + Eprint + AllocGlobal>(rt: &R) ->
             return failed(rt, &error, "cannot read", "the words of the command line");
         }
     }
-    match command(rt.alloc(), words.as_slice()) {
-        Ok(command) => answer_at(rt, command, command.path()),
-        Err(error) => explain(rt, error),
-    }
+    obey(rt, words.as_slice())
 }
