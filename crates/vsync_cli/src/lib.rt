@@ -2,6 +2,8 @@
 #![tactic(auto)]
 
 mod programs;
+#[cfg(test)]
+mod tests;
 mod words;
 
 pub use chat_log::ChatLog;

@@ -1,20 +1,30 @@
+ghost use Rattle.std.specs.Prelude.{◌≡◌, ◌≢◌, ◌⊎◌, ◌<◌, [], length, map, string_bytes};
+ghost use Rattle.clap.specs.Words.{fault_of, kind_of};
+ghost use Rattle.vsync_cli.specs.Ends.{Does, EndsBy, EndsByFault};
+ghost use Rattle.vsync_cli.specs.Grammar.{program_app};
+
 use crate::{Invocation, command};
 use chat_log::ChatLog;
 use clap::Error;
 use clap::error::ErrorKind;
-use std::io::Read;
+use std::alloc::Global;
+use std::io::{Read, Write};
 use std::rt::{Env, Files};
 use std::{env, fs, io};
 use vsync_runs::{Silent, Status, run_check, run_script};
 
 /// Says on the standard error why the program ends with status 5.
-fn complain<R: Eprint>(rt: &R, what: &str, path: &str) -> Status {
+fn complain<R: Eprint>(rt: &R, what: &str, path: &str) -> Status
+    ensures { result ≡ Status.Outside }
+{
     let _ = eprintln!(rt; "vsync: {what} {path}");
     Status::Outside
 }
 
 /// Ends for want of memory.
-fn without_memory<R: Print>(rt: &R) -> Status {
+fn without_memory<R: Print>(rt: &R) -> Status
+    ensures { EndsBy Status.Memory result }
+{
     if println!(rt; "# memory").is_err() {
         return Status::Outside;
     }
@@ -29,21 +39,25 @@ fn failed<R: Print + Eprint>(rt: &R, error: &io::Error, what: &str, path: &str) 
     complain(rt, what, path)
 }
 
-/// Does a command on a reader, to the standard output.
-fn answer<R: Print + AllocGlobal, I: Read>(
-    rt: &R,
+/// Does a command on its input, to a writer.
+fn answer<I: Read, W: Write>(
+    alloc: Global,
     command: Invocation<'_>,
     reader: &mut I,
-) -> Status {
-    let mut output = io::writer(rt);
+    writer: &mut W,
+) -> Status
+    ensures { Does command.entry (I.remaining reader.old) (W.contents writer.old) (W.contents writer.new) result }
+{
     match command {
-        Invocation::World(_) => run_script::<Silent, I, _>(rt.alloc(), reader, &mut output),
-        Invocation::Check(_) => run_check::<ChatLog, I, _>(rt.alloc(), reader, &mut output),
+        Invocation::World(_) => run_script::<Silent, I, W>(alloc, reader, writer),
+        Invocation::Check(_) => run_check::<ChatLog, I, W>(alloc, reader, writer),
     }
 }
 
 /// What a command's status says where it ended outside, on the standard error.
-fn told<R: Eprint>(rt: &R, status: Status, path: &str) -> Status {
+fn told<R: Eprint>(rt: &R, status: Status, path: &str) -> Status
+    ensures { result ≡ status }
+{
     if status == Status::Outside {
         return complain(rt, "a read or a write failed:", path);
     }
@@ -56,25 +70,36 @@ fn answer_at<R: Files + Input + Print + Eprint + AllocGlobal>(
     command: Invocation<'_>,
     path: &str,
 ) -> Status {
+    let mut output = io::writer(rt);
     if path == "-" {
         let mut input = rt.reader();
         return told(
             rt,
-            answer(rt, command, &mut input),
+            answer(rt.alloc(), command, &mut input, &mut output),
             "the standard input or output",
         );
     }
     match fs::open(rt, path) {
         Ok(file) => {
             let mut file = file;
-            told(rt, answer(rt, command, &mut file), path)
+            told(
+                rt,
+                answer(rt.alloc(), command, &mut file, &mut output),
+                path,
+            )
         }
         Err(error) => failed(rt, &error, "cannot open", path),
     }
 }
 
 /// Prints what clap says of words that are no command, or the help that was asked for.
-fn explain<R: Print + Eprint>(rt: &R, error: Error) -> Status {
+fn explain<R: Print + Eprint>(rt: &R, error: Error) -> Status
+    ensures memory { kind_of error ≡ ErrorKind.OutOfMemory → EndsBy Status.Memory result }
+    ensures help { (kind_of error ≡ ErrorKind.DisplayHelp) ⊎ (kind_of error ≡ ErrorKind.DisplayVersion)
+        → EndsBy Status.Done result }
+    ensures mistake { kind_of error ≢ ErrorKind.OutOfMemory → kind_of error ≢ ErrorKind.DisplayHelp
+        → kind_of error ≢ ErrorKind.DisplayVersion → EndsBy Status.Usage result }
+{
     if error.kind() == ErrorKind::OutOfMemory {
         return without_memory(rt);
     }
@@ -86,6 +111,17 @@ fn explain<R: Print + Eprint>(rt: &R, error: Error) -> Status {
         Status::Usage
     } else {
         Status::Done
+    }
+}
+
+/// Does what the words of a command line ask for, or says why they are no command.
+fn obey<R: Files + Input + Print + Eprint + AllocGlobal>(rt: &R, words: &[String]) -> Status
+    ensures { let faults = fault_of program_app (map string_bytes words.now) in
+        1 < length words.now → faults ≢ [] → EndsByFault faults result }
+{
+    match command(rt.alloc(), words) {
+        Ok(command) => answer_at(rt, command, command.path()),
+        Err(error) => explain(rt, error),
     }
 }
 
@@ -104,8 +140,5 @@ pub fn program<R: Env + Files + Input + Print + Eprint + AllocGlobal>(rt: &R) ->
             return failed(rt, &error, "cannot read", "the words of the command line");
         }
     }
-    match command(rt.alloc(), words.as_slice()) {
-        Ok(command) => answer_at(rt, command, command.path()),
-        Err(error) => explain(rt, error),
-    }
+    obey(rt, words.as_slice())
 }

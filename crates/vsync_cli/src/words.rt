@@ -1,7 +1,10 @@
-ghost use Rattle.std.specs.Prelude.{◌≡◌, ◌≤◌, length, IsOkAnd};
-ghost use Rattle.vsync_cli.specs.Words.{input_of, RunsStandardInput};
+ghost use Rattle.std.specs.Prelude.{◌≡◌, ◌≤◌, ◌<◌, ◌∷◌, [], true, length, map, codes};
+ghost use Rattle.std.specs.Prelude.{string_bytes, IfOk, IfSome, IsOkAnd, IsSomeAnd};
+ghost use Rattle.clap.specs.Words.{app_of, fault_of, found_of, rows_of, subcommand_of, subcommand_rows_of};
+ghost use Rattle.clap.specs.Words.{FailsBy, Text};
+ghost use Rattle.vsync_cli.specs.Words.{input_of, IsWorldOn, IsCheckOn, IsOrNoMemory, RunsStandardInput};
+ghost use Rattle.vsync_cli.specs.Grammar.{is_path, program_app, IsSaid};
 
-use clap::error::ErrorKind;
 use clap::{Arg, ArgMatches, Error};
 use std::alloc::{AllocError, Global};
 
@@ -27,7 +30,9 @@ impl<'a> Invocation<'a> {
 }
 
 /// The command line as clap reads it.
-fn grammar<'a>(alloc: Global) -> Result<clap::Command<'a>, AllocError> {
+fn grammar<'a>(alloc: Global) -> Result<clap::Command<'a>, AllocError>
+    ensures { IfOk result (λ c. app_of c ≡ program_app) }
+{
     let script = Arg::new(alloc, "SCRIPT")
         .required(true)
         .help("The script's path, or - for the standard input");
@@ -61,7 +66,9 @@ fn grammar<'a>(alloc: Global) -> Result<clap::Command<'a>, AllocError> {
 }
 
 /// The input that a subcommand's matches name.
-fn named<'a>(name: &str, matches: &ArgMatches<'a>) -> Option<Invocation<'a>> {
+fn named<'a>(name: &str, matches: &ArgMatches<'a>) -> Option<Invocation<'a>>
+    ensures { IfSome result (IsSaid (name.now, rows_of (found_of matches.now))) }
+{
     if name == "world" {
         return Some(Invocation::World(matches.get_str("SCRIPT")?));
     }
@@ -71,21 +78,48 @@ fn named<'a>(name: &str, matches: &ArgMatches<'a>) -> Option<Invocation<'a>> {
     None
 }
 
-/// The command that the words of a command line ask for, the program's name first. No words after the name are
-/// `world -`. Words that are no command give clap's error, whose text says what is wrong, or the help that was asked for.
+/// What matches of the whole command line ask for.
+fn asked<'a>(matches: &ArgMatches<'a>) -> Option<Invocation<'a>>
+    ensures { IfSome result (λ i. IsSomeAnd (subcommand_rows_of matches.now) (λ said. IsSaid said i)) }
+{
+    let (name, inner) = matches.subcommand()?;
+    named(name, inner)
+}
+
+/// The command that words ask for by the grammar.
+fn parsed<'a>(alloc: Global, words: &'a [String]) -> Result<Invocation<'a>, Error>
+    ensures said { IfOk result (λ i.
+        IsSomeAnd (subcommand_of program_app (map string_bytes words.now)) (λ said. IsSaid said i)) }
+    ensures refused { FailsBy (fault_of program_app (map string_bytes words.now)) result }
+{
+    let matches = grammar(alloc)?.try_get_matches_from(words)?;
+    match asked(&matches) {
+        Some(command) => Ok(command),
+        None => Err(Error::from(AllocError)),
+    }
+}
+
+/// The command that the words of a command line ask for, the program's name first: `world SCRIPT` or `check TRACE`.
+/// No words after the name are `world -`. A path that begins with `-` and is more than that stands behind `--`.
+///
+/// Words that are no command give clap's error, whose text says what is wrong (`error.kind()` says which kind of
+/// mistake), or the help that was asked for. Words that are a command give an error of kind `OutOfMemory` alone.
+/// docs/FORMATS.md, "Exit statuses", says how the program ends then: 2 for a mistake, 0 for help, 4 for memory.
 pub fn command<'a>(alloc: Global, words: &'a [String]) -> Result<Invocation<'a>, Error>
     ensures alone { length words.now ≤ 1 → IsOkAnd result RunsStandardInput }
+    ensures said { 1 < length words.now → IfOk result (λ i.
+        IsSomeAnd (subcommand_of program_app (map string_bytes words.now)) (λ said. IsSaid said i)) }
+    ensures refused { 1 < length words.now
+        → FailsBy (fault_of program_app (map string_bytes words.now)) result }
+    ensures world { (name path : Text) → is_path path ≡ true
+        → map string_bytes words.now ≡ name ∷ codes "world" ∷ path ∷ []
+        → IsOrNoMemory (IsWorldOn path) result }
+    ensures check { (name path : Text) → is_path path ≡ true
+        → map string_bytes words.now ≡ name ∷ codes "check" ∷ path ∷ []
+        → IsOrNoMemory (IsCheckOn path) result }
 {
     if words.len() <= 1 {
         return Ok(Invocation::World("-"));
     }
-    let matches = grammar(alloc)?.try_get_matches_from(words)?;
-    let found = match matches.subcommand() {
-        Some((name, inner)) => named(name, inner),
-        None => None,
-    };
-    match found {
-        Some(command) => Ok(command),
-        None => Err(Error::from(AllocError)),
-    }
+    parsed(alloc, words)
 }

@@ -1,0 +1,35 @@
+-- What a command does, and how the program ends where there is none.
+use Rattle.std.specs.Prelude.{◌≡◌, ◌⊎◌, ℕ, List, [], Option}
+use Rattle.clap.specs.Words.{IsAmong, Kinds}
+use Rattle.clap.specs.declared.error.kind.ErrorKind.{ErrorKind}
+use Rattle.clap.specs.declared.error.kind.ErrorKind.TheVariants.{DisplayHelp, DisplayVersion, OutOfMemory}
+use Rattle.chat_log.specs.Chat.{chat_apply}
+use Rattle.chat_log.specs.Encoding.{chat_decode}
+use Rattle.vsync_runs.specs.Outcomes.{RunsScript}
+use Rattle.vsync_runs.specs.Checks.{ChecksTrace}
+use Rattle.vsync_runs.specs.declared.status.Status.{Status}
+use Rattle.vsync_runs.specs.declared.status.Status.TheVariants.{Done, Memory, Outside, Usage}
+use Rattle.vsync_cli.specs.declared.words.Invocation.{Invocation}
+use Rattle.vsync_cli.specs.declared.words.Invocation.TheVariants.{World, Check}
+
+-- the command is done, from a reader with these bytes left to a writer: a script is run; or a trace is checked, whose
+-- members keep a chat
+abbrev pub Does : Invocation → Option (List ℕ) → Option (List ℕ) → Option (List ℕ) → Status → Type 0
+Does (World path) left old new status = RunsScript left old new status
+Does (Check path) left old new status = ChecksTrace [] chat_apply chat_decode left old new status
+
+-- it ends with this status, or with 5 where the output failed
+abbrev pub EndsBy : Status → Status → Type 0
+EndsBy wanted status = (status ≡ wanted) ⊎ (status ≡ Outside)
+
+-- the status of an error in the words, or of help that was asked for
+abbrev pub status_of_error : ErrorKind → Status
+status_of_error OutOfMemory = Memory
+status_of_error DisplayHelp = Done
+status_of_error DisplayVersion = Done
+status_of_error _ = Usage
+
+-- it ends as an error of one of these kinds does, or one for want of memory
+abbrev pub EndsByFault : Kinds → Status → Type 0
+EndsByFault kinds status =
+    (k : ErrorKind) × ((k ≡ OutOfMemory) ⊎ IsAmong k kinds) × EndsBy (status_of_error k) status
