@@ -222,8 +222,8 @@ pub(crate) fn items_at<'a>(count: u8, from: &mut Reader<'a>) -> Result<Items<'a>
 /// order before it. Contracts see them as a list of pairs.
 #[derive(Debug, Drop)]
 pub struct Held<'a> {
-    count: u8,
-    bytes: &'a [u8],
+    len: u8,
+    text: &'a [u8],
 }
 
 impl<'a> Model for Held<'a> {
@@ -234,9 +234,9 @@ impl<'a> Model for Held<'a> {
 
     ghost Value = { List (ℕ × Entry) };
 
-    ghost view = { λ l. listed (list_at placed_at l.count l.bytes.now) };
+    ghost view = { λ l. listed (list_at placed_at l.len l.text.now) };
 
-    ghost invariant = { λ l. is_whole (list_at placed_at l.count l.bytes.now) ≡ true };
+    ghost invariant = { λ l. is_whole (list_at placed_at l.len l.text.now) ≡ true };
 }
 
 #[tactic(auto, unfolding(crate::specs::Fields::placed_at))]
@@ -302,10 +302,7 @@ impl<'a> Held<'a> {
     pub fn none() -> Held<'a>
         ensures { result ≡ [] }
     {
-        Held {
-            count: 0,
-            bytes: &[],
-        }
+        Held { len: 0, text: &[] }
     }
 
     /// The entries that are spelled in these bytes, one behind the other and each with its place before it,
@@ -320,7 +317,10 @@ impl<'a> Held<'a> {
                 if !ahead.rest().is_empty() {
                     return None;
                 }
-                Some(Held { count, bytes })
+                Some(Held {
+                    len: count,
+                    text: bytes,
+                })
             }
             Err(_) => None,
         }
@@ -331,7 +331,7 @@ impl<'a> Held<'a> {
         ensures count { result ≡ length self.now }
         ensures few { result ≤ 255 }
     {
-        self.count as usize
+        self.len as usize
     }
 
     /// Their spellings, one behind the other, each with its place before it.
@@ -340,7 +340,7 @@ impl<'a> Held<'a> {
         ensures fits { AllByRecursion IsPlaced self.now }
         ensures short { length result.now < 2 ^ 18 }
     {
-        held_text(self.count, self.bytes)
+        held_text(self.len, self.text)
     }
 
     /// The same entries once more.
@@ -348,8 +348,8 @@ impl<'a> Held<'a> {
         ensures { result ≡ self.now }
     {
         Held {
-            count: self.count,
-            bytes: self.bytes,
+            len: self.len,
+            text: self.text,
         }
     }
 
@@ -358,14 +358,14 @@ impl<'a> Held<'a> {
         ensures first { self.old ≡ option_to_list result ++ self.new }
         ensures end { IfNone result (self.old ≡ []) }
     {
-        if self.count == 0 {
+        if self.len == 0 {
             return None;
         }
-        let mut from = Reader::new(self.bytes);
+        let mut from = Reader::new(self.text);
         match placed_at(&mut from) {
             Ok(placed) => {
-                self.count -= 1;
-                self.bytes = from.rest();
+                self.len -= 1;
+                self.text = from.rest();
                 Some(placed)
             }
             Err(_) => unreachable!(),
@@ -383,8 +383,8 @@ fn held_before<'a>(stable: u64, delivered: u64, count: u8, bytes: &'a [u8], rest
 {
     let (front, _) = bytes.split_at(bytes.len() - rest.len());
     Held {
-        count,
-        bytes: front,
+        len: count,
+        text: front,
     }
 }
 

@@ -51,7 +51,7 @@ impl Number {
 /// A count of messages, 0 to 2^62.
 #[derive(Clone, Copy, Debug, PartialEq, Eq, PartialOrd, Ord, Hash)]
 pub struct Count {
-    value: u64,
+    count: u64,
 }
 
 impl Model for Count {
@@ -60,11 +60,11 @@ impl Model for Count {
 
     ghost Value = { ℕ };
 
-    ghost view = { λ n. n.value };
+    ghost view = { λ n. n.count };
 
-    ghost invariant = { λ n. n.value ≤ GREATEST_NUMBER };
+    ghost invariant = { λ n. n.count ≤ GREATEST_NUMBER };
 
-    ghost inverse = { λ n. record { value = n } };
+    ghost inverse = { λ n. record { count = n } };
 }
 
 impl Count {
@@ -72,7 +72,7 @@ impl Count {
     pub fn zero() -> Count
         ensures { result ≡ 0 }
     {
-        Count { value: 0 }
+        Count { count: 0 }
     }
 
     /// The count of a value up to 2^62; `None` for another.
@@ -82,7 +82,7 @@ impl Count {
         if value > GREATEST_NUMBER {
             return None;
         }
-        Some(Count { value })
+        Some(Count { count: value })
     }
 
     /// Its value, up to 2^62.
@@ -90,7 +90,7 @@ impl Count {
         ensures value { result ≡ self }
         ensures in_range { result ≤ GREATEST_NUMBER }
     {
-        self.value
+        self.count
     }
 }
 
@@ -206,5 +206,5 @@ pub(crate) fn count_at(low: u64, high: u64, from: &mut Reader<'_>) -> Result<Cou
     ensures in_range { IfOk result (λ x. (low ≤ x) × (x ≤ high)) }
 {
     let value = from.u64(low, high, WireError::Value)?;
-    Ok(Count { value })
+    Ok(Count { count: value })
 }

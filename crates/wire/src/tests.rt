@@ -334,3 +334,75 @@ fn longest_install(rt: HostRuntime) -> Result<(), Fail> {
     assert!(rt; Items::new(31, &text).is_none());
     Ok(())
 }
+
+// Each of the five vectors is a packet, and is written back to the byte.
+#[test]
+fn each_vector_is_read_and_written(rt: HostRuntime) -> Result<(), Fail> {
+    let alloc = rt.alloc();
+    for text in [JOIN, FLUSH, REPORT_OF_NONE, INSTALL_WITH_STATE, ORDER] {
+        let bytes = unhex(alloc, text)?;
+        let packet = decode(&bytes).ok().ok_or("a packet")?;
+        let mut out = Vec::new(alloc);
+        encode(&packet, &mut out)?;
+        assert_eq!(rt; out, bytes);
+    }
+    Ok(())
+}
+
+// A JOIN followed by zeros: what stands behind it is refused, but a datagram too long is refused as that.
+#[test]
+fn too_long_comes_first(rt: HostRuntime) -> Result<(), Fail> {
+    let mut bytes = unhex(rt.alloc(), JOIN)?;
+    for length in bytes.len()..40_000 {
+        bytes.push(0)?;
+        if length % 4_096 == 0 {
+            assert_eq!(rt; number_of(decode(&bytes)), 26, "{length} and one more");
+        }
+    }
+    assert_eq!(rt; bytes.len(), 40_000);
+    assert_eq!(rt; number_of(decode(&bytes)), 26);
+    bytes.push(0)?;
+    assert_eq!(rt; number_of(decode(&bytes)), 24);
+    Ok(())
+}
+
+// What stood in the vector is kept: a packet is put behind it or, where the growth is refused, nothing is.
+#[test]
+fn encode_keeps_what_stood(rt: HostRuntime) -> Result<(), Fail> {
+    let alloc = rt.alloc();
+    let bytes = unhex(alloc, ORDER)?;
+    let packet = decode(&bytes).ok().ok_or("a packet")?;
+    let mut out = vec![in alloc; 7u8; 3]?;
+    let answer = encode(&packet, &mut out);
+    let wanted = if answer.is_ok() {
+        bytes.as_slice()
+    } else {
+        &[]
+    };
+    assert_eq!(rt; out.get(..3), Some([7, 7, 7].as_slice()));
+    assert_eq!(rt; out.get(3..), Some(wanted));
+    Ok(())
+}
+
+// The same of an entry, with its place: 1 of the member 1.1, with the payload `a`.
+#[test]
+fn put_entry_keeps_what_stood(rt: HostRuntime) -> Result<(), Fail> {
+    let alloc = rt.alloc();
+    let sender = address(1, 1).ok_or("an address")?;
+    let one = Number::new(1).ok_or("a number")?;
+    let entry = Entry::new(sender, one, Payload::new(b"a").ok_or("a payload")?);
+    let bytes = unhex(
+        alloc,
+        b"0000000000000001 000100000001 0000000000000001 0001 61",
+    )?;
+    let mut out = vec![in alloc; 7u8; 3]?;
+    let answer = put_entry(Some(one), &entry, &mut out);
+    let wanted = if answer.is_ok() {
+        bytes.as_slice()
+    } else {
+        &[]
+    };
+    assert_eq!(rt; out.get(..3), Some([7, 7, 7].as_slice()));
+    assert_eq!(rt; out.get(3..), Some(wanted));
+    Ok(())
+}

@@ -15,7 +15,7 @@ use std::marker::Model;
 /// A group's name in lent bytes: 1 to 32 letters, digits, `-` and `_` of ASCII.
 #[derive(Debug, Drop)]
 pub struct GroupName<'a> {
-    bytes: &'a [u8],
+    name: &'a [u8],
 }
 
 impl<'a> Model for GroupName<'a> {
@@ -24,9 +24,9 @@ impl<'a> Model for GroupName<'a> {
 
     ghost Value = { List ℕ };
 
-    ghost view = { λ n. n.bytes.now };
+    ghost view = { λ n. n.name.now };
 
-    ghost invariant = { λ n. is_group_name n.bytes.now ≡ true };
+    ghost invariant = { λ n. is_group_name n.name.now ≡ true };
 }
 
 fn is_name_byte(byte: u8) -> bool
@@ -55,7 +55,7 @@ impl<'a> GroupName<'a> {
         if !is_group_name(bytes) {
             return None;
         }
-        Some(GroupName { bytes })
+        Some(GroupName { name: bytes })
     }
 
     /// Its bytes.
@@ -63,14 +63,14 @@ impl<'a> GroupName<'a> {
         ensures bytes { result.now ≡ self.now }
         ensures name { is_group_name result.now ≡ true }
     {
-        self.bytes
+        self.name
     }
 }
 
 /// A message's payload in lent bytes, at most 512 of them.
 #[derive(Debug, Drop)]
 pub struct Payload<'a> {
-    bytes: &'a [u8],
+    payload: &'a [u8],
 }
 
 impl<'a> Model for Payload<'a> {
@@ -79,9 +79,9 @@ impl<'a> Model for Payload<'a> {
 
     ghost Value = { List ℕ };
 
-    ghost view = { λ p. p.bytes.now };
+    ghost view = { λ p. p.payload.now };
 
-    ghost invariant = { λ p. length p.bytes.now ≤ PAYLOAD };
+    ghost invariant = { λ p. length p.payload.now ≤ PAYLOAD };
 }
 
 impl<'a> Payload<'a> {
@@ -92,7 +92,7 @@ impl<'a> Payload<'a> {
         if bytes.len() > PAYLOAD {
             return None;
         }
-        Some(Payload { bytes })
+        Some(Payload { payload: bytes })
     }
 
     /// Its bytes.
@@ -100,14 +100,14 @@ impl<'a> Payload<'a> {
         ensures bytes { result.now ≡ self.now }
         ensures short { length result.now ≤ PAYLOAD }
     {
-        self.bytes
+        self.payload
     }
 }
 
 /// A state in lent bytes, at most 16,384 of them.
 #[derive(Debug, Drop)]
 pub struct State<'a> {
-    bytes: &'a [u8],
+    state: &'a [u8],
 }
 
 impl<'a> Model for State<'a> {
@@ -116,9 +116,9 @@ impl<'a> Model for State<'a> {
 
     ghost Value = { List ℕ };
 
-    ghost view = { λ s. s.bytes.now };
+    ghost view = { λ s. s.state.now };
 
-    ghost invariant = { λ s. length s.bytes.now ≤ STATE };
+    ghost invariant = { λ s. length s.state.now ≤ STATE };
 }
 
 impl<'a> State<'a> {
@@ -129,7 +129,7 @@ impl<'a> State<'a> {
         if bytes.len() > STATE {
             return None;
         }
-        Some(State { bytes })
+        Some(State { state: bytes })
     }
 
     /// Its bytes.
@@ -137,7 +137,7 @@ impl<'a> State<'a> {
         ensures bytes { result.now ≡ self.now }
         ensures short { length result.now ≤ STATE }
     {
-        self.bytes
+        self.state
     }
 }
 
@@ -150,7 +150,7 @@ pub(crate) fn group_at<'a>(from: &mut Reader<'a>) -> Result<GroupName<'a>, WireE
     if !is_plain(bytes) {
         return Err(WireError::Value);
     }
-    Ok(GroupName { bytes })
+    Ok(GroupName { name: bytes })
 }
 
 #[tactic(auto, unfolding(crate::specs::Fields::payload_at))]
@@ -159,7 +159,7 @@ pub(crate) fn payload_at<'a>(from: &mut Reader<'a>) -> Result<Payload<'a>, WireE
 {
     let len = from.u16(0, PAYLOAD as u16, WireError::Length)?;
     let bytes = from.bytes(len as usize)?;
-    Ok(Payload { bytes })
+    Ok(Payload { payload: bytes })
 }
 
 #[tactic(auto, unfolding(crate::specs::Lists::state_at))]
@@ -172,5 +172,5 @@ pub(crate) fn state_at<'a>(from: &mut Reader<'a>) -> Result<Option<State<'a>>, W
     }
     let len = from.u32(0, STATE as u32, WireError::Length)?;
     let bytes = from.bytes(len as usize)?;
-    Ok(Some(State { bytes }))
+    Ok(Some(State { state: bytes }))
 }

@@ -4,4 +4,4 @@ use Rattle.wire.proofs.Loops.{whole_count}
 use Rattle.wire.proofs.entries.Held.len.Goals as goal
 
 pub returns-clause-count : goal.returns-clause-count
-returns-clause-count c = sym (whole_count placed_at c.self.inside.count c.self.inside.bytes.now c.self.invariant) ∙ ap length c.self.view_is
+returns-clause-count c = sym (whole_count placed_at c.self.inside.len c.self.inside.text.now c.self.invariant) ∙ ap length c.self.view_is
