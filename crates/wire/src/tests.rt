@@ -367,6 +367,7 @@ fn too_long_comes_first(rt: HostRuntime) -> Result<(), Fail> {
 }
 
 // What stood in the vector is kept: a packet is put behind it or, where the growth is refused, nothing is.
+// `rt try --test --fail-alloc 6` refuses the growth in `encode` here: each test counts its own allocations.
 #[test]
 fn encode_keeps_what_stood(rt: HostRuntime) -> Result<(), Fail> {
     let alloc = rt.alloc();
@@ -383,7 +384,8 @@ fn encode_keeps_what_stood(rt: HostRuntime) -> Result<(), Fail> {
     Ok(())
 }
 
-// The same of an entry, with its place: 1 of the member 1.1, with the payload `a`.
+// The same of an entry, with its place: 1 of the member 1.1, with the payload `a`. The growth in `put_entry`
+// is the fifth allocation here.
 #[test]
 fn put_entry_keeps_what_stood(rt: HostRuntime) -> Result<(), Fail> {
     let alloc = rt.alloc();
