@@ -1,8 +1,6 @@
 -- What a history keeps when it goes on: what was said first stays, lists grow at their ends, lists of views that their member left stay.
-use Rattle.std.proofs.Common.{◌≡◌, ℕ, zero, suc, ◌+◌, ◌≤◌, Bool, true, false, cond, Option, Some, None, List, [], ◌∷◌, ◌++◌, length, refl, sym, ap, ◌∙◌, subst, arith, is_some}
+use Rattle.std.proofs.Common.{◌≡◌, ℕ, ◌≤◌, Bool, true, false, Option, Some, None, List, [], ◌∷◌, ◌++◌, refl, sym, ap, ◌∙◌, subst, arith, is_some}
 use Rattle.std.specs.Prelude.{slice_get}
-use Rattle.std.proofs.lemmas.Option.{none-some}
-use Rattle.std.proofs.lemmas.List.{append-nil}
 use Rattle.address.specs.Ids.{Address, ViewId, same_address, same_view_id}
 use Rattle.wire.specs.Values.{Entry, Report}
 use Rattle.wire.specs.Values as wire
@@ -12,7 +10,7 @@ use Rattle.trace_props.specs.declared.happening.Delivery.{Delivery}
 use Rattle.trace_props.specs.declared.happening.Sending.{Sending}
 use Rattle.trace_props.specs.declared.happening.Numbered.{Numbered}
 use Rattle.trace_props.specs.declared.happening.Install.{Install}
-use Rattle.trace_props.specs.Observed.{current_view, sent_in, delivered_in, entry_of}
+use Rattle.trace_props.specs.Observed.{current_view, sent_in, entry_of}
 use Rattle.trace_props.specs.Rules.{MayStand, HasRisingViews}
 use Rattle.trace_props.proofs.Places.{slice_get-before}
 use Rattle.trace_props.proofs.Observing.{same_address-true}

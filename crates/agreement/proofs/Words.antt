@@ -1,13 +1,11 @@
 -- What one more happening changes of a view's order and of a member's tally there.
-use Rattle.std.proofs.Common.{◌≡◌, ℕ, ◌+◌, ◌≤◌, Bool, true, false, cond, ◌&&◌, Option, Some, None, List, [], ◌∷◌, ◌++◌, length, map, refl, sym, ap, ◌∙◌, subst, arith}
-use Rattle.std.proofs.lemmas.Bool.{cond-true, cond-false, and_left}
+use Rattle.std.proofs.Common.{◌≡◌, ℕ, ◌≤◌, Bool, true, false, cond, ◌&&◌, None, List, [], ◌∷◌, ◌++◌, map, refl, sym, ap, ◌∙◌, subst, arith}
+use Rattle.std.proofs.lemmas.Bool.{cond-false, and_left}
 use Rattle.std.proofs.lemmas.List.{map-append}
 use Rattle.std.proofs.lemmas.List.Sums.{fold-append}
 use Rattle.address.specs.Ids.{Address, ViewId, same_address, same_view_id}
-use Rattle.wire.specs.Values.{Entry}
 use Rattle.trace_props.specs.declared.happening.Happening.{Happening}
 use Rattle.trace_props.specs.declared.happening.Happening.TheVariants.{Started, Sent, Delivered, Blocked, Installed, Left, Crashed}
-use Rattle.trace_props.specs.declared.happening.Install.{Install}
 use Rattle.trace_props.specs.declared.happening.Delivery.{Delivery}
 use Rattle.trace_props.specs.Observed.{member_of, delivered_in, told}
 use Rattle.trace_props.proofs.Telling.{told_to, delivered_in-still, delivered_in-miss, delivered_in-hit, delivered_in-other}

@@ -1,5 +1,5 @@
 -- The invariant: what holds of every history that comes of steps, in four families. Of the trace, of each packet, of each install, of each member.
-use Rattle.std.specs.Prelude.{◌≡◌, ◌≤◌, ℕ, true, Option, None, Some, List, [], length, slice_get}
+use Rattle.std.specs.Prelude.{◌≡◌, ◌≤◌, ℕ, true, Option, None, Some, List, [], length, slice_get, is_some}
 use Rattle.address.specs.Ids.{Address, ViewId, IsAddress}
 use Rattle.wire.specs.declared.limits.TheConstants.{PAYLOAD}
 use Rattle.wire.specs.Values as wire
@@ -53,6 +53,7 @@ EachEntry h = (q : Address) (w : ViewId) (e : Install) → entry_of q w h.trace 
 
 -- the states that are given, and those with which views begin
 pub record StateFact {S : Type 0} (opening : S) (apply : S → Address → List ℕ → S) (encode : S → List ℕ) (decode : List ℕ → Option S) (is_state : S → Type 0) (h : History) : Type 0 where
+  pub there : (w : ViewId) (e : Install) → entry_of w.creator w h.trace ≡ Some e → is_some (entry_state opening apply decode w h.trace) ≡ true
   pub given : (w : ViewId) (q : Address) (i : wire.Install) → install_of w q h.pool ≡ Some i → GivesState opening apply encode decode h q i
   pub begins : (w : ViewId) (e : Install) → entry_of w.creator w h.trace ≡ Some e → BeginsWith opening apply decode h.trace w e
   pub are : (w : ViewId) (s : S) → entry_state opening apply decode w h.trace ≡ Some s → is_state s

@@ -88,12 +88,13 @@ end_of i = i.base + length i.items
 abbrev pub AllAnswered : History → ViewId → List Address → Type 0
 AllAnswered h w members = (m : Address) → stands_in m members ≡ true → is_some (goes_from h w m) ≡ true
 
--- the maker of the view is in it, with the same members and from some view; all have reported
+-- the maker of the view is in it, with the same members and from some view; all have reported, and so have those who are told to go into it
 pub record IsLed (h : History) (w : ViewId) (i : wire.Install) : Type 0 where
   pub entered : is_some (entry_of w.creator w h.trace) ≡ true
   pub members : members_of w h.trace ≡ i.view.members
   pub from : (e : Install) → entry_of w.creator w h.trace ≡ Some e → is_some e.previous ≡ true
   pub complete : AllAnswered h w i.view.members
+  pub answered : (m : Address) (j : wire.Install) → install_of w m h.pool ≡ Some j → is_some (report_of m w h.pool) ≡ true
 
 -- the cut, and who comes along, for one who reported this
 pub record IsFitting (h : History) (w : ViewId) (q : Address) (i : wire.Install) (r : Report) : Type 0 where
@@ -112,7 +113,6 @@ pub record IsInstruction (h : History) (p q : Address) (i : wire.Install) : Type
   pub one : install_of i.view.id q h.pool ≡ Some i
   pub listed : stands_in q i.view.members ≡ true
   pub led : IsLed h i.view.id i
-  pub answered : is_some (report_of q i.view.id h.pool) ≡ true
   pub fits : ForSome (report_of q i.view.id h.pool) (IsFitting h i.view.id q i)
 
 -- ---- packets of the order
