@@ -2,3 +2,4 @@ pub mod Lists
 pub mod Words
 pub mod Growing
 pub mod Staying
+pub mod Others
