@@ -3,3 +3,4 @@ pub mod Words
 pub mod Growing
 pub mod Staying
 pub mod Others
+pub mod Traces

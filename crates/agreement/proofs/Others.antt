@@ -81,7 +81,7 @@ only-trans p h k l a b = record {
 
 -- ---- one happening more
 
-not-another : (p q r : Address) → r ≡ p → same_address q p ≡ false → same_address r q ≡ false
+pub not-another : (p q r : Address) → r ≡ p → same_address q p ≡ false → same_address r q ≡ false
 not-another p q r same other = by (same_address r q) refl
   where
     by : (b : Bool) → same_address r q ≡ b → same_address r q ≡ false
