@@ -4,3 +4,5 @@ pub mod Growing
 pub mod Staying
 pub mod Others
 pub mod Traces
+pub mod Registers
+pub mod Moving
