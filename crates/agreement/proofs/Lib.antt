@@ -6,3 +6,5 @@ pub mod Others
 pub mod Traces
 pub mod Registers
 pub mod Moving
+pub mod Quiet
+pub mod Ending
