@@ -8,3 +8,4 @@ pub mod Registers
 pub mod Moving
 pub mod Quiet
 pub mod Ending
+pub mod Coming

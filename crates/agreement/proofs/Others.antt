@@ -13,6 +13,7 @@ use Rattle.wire.specs.declared.packet.Body.TheVariants as bodies
 use Rattle.flush.specs.Flushes.{FlushModel}
 use Rattle.trace_props.specs.declared.happening.Happening.{Happening}
 use Rattle.trace_props.specs.declared.happening.Happening.TheVariants.{Started, Sent, Delivered, Blocked, Installed, Left, Crashed}
+use Rattle.trace_props.specs.declared.happening.Numbered.{Numbered}
 use Rattle.trace_props.specs.declared.happening.Install.{Install}
 use Rattle.trace_props.specs.Observed.{member_of, current_view, is_blocked, delivered_in, sent_in, own, entry_of}
 use Rattle.trace_props.specs.Rules.{IsRunning}
@@ -23,7 +24,7 @@ use Rattle.agreement.specs.Words.{list_of, tally_of}
 use Rattle.agreement.specs.Histories.{Posted, History, flush_in, install_in, flush_of, report_of, install_of}
 use Rattle.agreement.specs.Cores.{Traffic, Core, applied}
 use Rattle.agreement.specs.Packets.{state_with}
-use Rattle.agreement.specs.Members.{HasSeat, installed_as, IsInside, LiesBelow, RunsFlush, HasCounts, HasOwn, HasWindow, LeadsOrder, ViewFact, MemberFact}
+use Rattle.agreement.specs.Members.{HasSeat, installed_as, IsInside, LiesBelow, RunsFlush, HasCounts, HasOwn, HasWindow, HasAcks, HasWaiting, ViewFact, MemberFact}
 use Rattle.agreement.proofs.Lists.{first_of-still}
 use Rattle.agreement.proofs.Words.{list_of-other, tally_of-other}
 use Rattle.agreement.proofs.Growing.{Later}
@@ -277,27 +278,26 @@ pub counts-other : (p q : Address) (h k : History) (v : ViewId) (installed : Boo
     → HasCounts h.trace q v installed d → HasCounts k.trace q v installed d
 counts-other p q h k v installed d o only x = record { told = ap length (only.list q v o) ∙ x.told; tally = only.tally q v o ∙ x.tally }
 
-pub own-other : (p q : Address) (h k : History) (v : ViewId) (traffic : Traffic) → same_address q p ≡ false → Only p h k → HasOwn h.trace q v traffic → HasOwn k.trace q v traffic
-own-other p q h k v traffic o only x = record {
-  sent = only.sent q v o ∙ x.sent ∙ ap (λ l. own q l ++ traffic.outstanding) (sym (only.told q v o));
-  number = ap length (only.sent q v o) ∙ x.number;
+pub own-other : (p q : Address) (h k : History) (v : ViewId) (n : ℕ) (rest : List Numbered) → same_address q p ≡ false → Only p h k → HasOwn h.trace q v n rest → HasOwn k.trace q v n rest
+own-other p q h k v n rest o only x = record {
+  sent = only.sent q v o ∙ x.sent ∙ ap (λ l. own q l ++ rest) (sym (only.told q v o));
+  count = ap length (only.sent q v o) ∙ x.count;
 }
 
-pub window-later : (h k : History) (v : ViewId) (traffic : Traffic) → Later h k → is_some (entry_of v.creator v h.trace) ≡ true → HasWindow h.trace v traffic → HasWindow k.trace v traffic
-window-later h k v traffic m there x = record {
-  order = holds_order-later h k v traffic.held m x.order;
+pub window-later : (h k : History) (v : ViewId) (s d : ℕ) (held : List (ℕ × Entry)) → Later h k → is_some (entry_of v.creator v h.trace) ≡ true
+    → HasWindow h.trace v s d held → HasWindow k.trace v s d held
+window-later h k v s d held m there x = record {
+  order = holds_order-later h k v held m x.order;
   all = x.all;
   near = x.near;
-  stable = all_have-later h k v traffic.stable 0 m there x.stable;
+  told = all_have-later h k v s 0 m there x.told;
 }
 
-pub leads-other : (p q : Address) (h k : History) (v : ViewId) (traffic : Traffic) → same_address q p ≡ false → Later h k → Only p h k
-    → LeadsOrder h.trace q v traffic → LeadsOrder k.trace q v traffic
-leads-other p q h k v traffic o m only x = record {
-  acks = λ r. let was = x.acks r in let more = m.count r v in omega arith;
-  waiting = λ n e at. sent-later h k v e m (x.waiting n e at);
-  ordered = λ r first. x.ordered r first ∙ ap (λ l. length (own r l)) (sym (only.told q v o));
-}
+pub acks-later : (h k : History) (v : ViewId) (acks : Address → ℕ) → Later h k → HasAcks h.trace v acks → HasAcks k.trace v acks
+acks-later h k v acks m x r = let was = x r in let more = m.count r v in omega arith
+
+pub waiting-later : (h k : History) (v : ViewId) (waiting : List Entry) → Later h k → HasWaiting h.trace v waiting → HasWaiting k.trace v waiting
+waiting-later h k v waiting m x n e at = sent-later h k v e m (x n e at)
 
 pub first-entered : (t : List Happening) (p : Address) (v : View) → installed_as p v.id t ≡ Some v → is_some (entry_of p v.id t) ≡ true
 first-entered t p v x = by (entry_of p v.id t) x
@@ -311,9 +311,11 @@ pub view-other : (p q : Address) (h k : History) (installed : Bool) (traffic : T
 view-other p q h k installed traffic kept v o m only x = record {
   inside = inside-later h k q v m x.inside;
   counts = counts-other p q h k v.id installed traffic.delivered o only x.counts;
-  mine = own-other p q h k v.id traffic o only x.mine;
-  window = window-later h k v.id traffic m (first-entered h.trace v.id.creator v x.inside.first) x.window;
-  leads = leads-other p q h k v.id traffic o m only x.leads;
+  mine = own-other p q h k v.id traffic.sent traffic.outstanding o only x.mine;
+  window = window-later h k v.id traffic.stable traffic.delivered traffic.held m (first-entered h.trace v.id.creator v x.inside.first) x.window;
+  acks = acks-later h k v.id traffic.acks m x.acks;
+  waiting = waiting-later h k v.id traffic.waiting m x.waiting;
+  ordered = λ r first. x.ordered r first ∙ ap (λ l. length (own r l)) (sym (only.told q v.id o));
   keeps = λ r i there. let was = x.keeps r i there in (was.0, m.install v.id r i was.1);
 }
 

@@ -10,6 +10,7 @@ use Rattle.wire.specs.Values as wire
 use Rattle.flush.specs.Cuts.{held_at}
 use Rattle.flush.specs.Flushes.{FlushModel, report_from}
 use Rattle.trace_props.specs.declared.happening.Happening.{Happening}
+use Rattle.trace_props.specs.declared.happening.Numbered.{Numbered}
 use Rattle.trace_props.specs.Rules.{IsRunning, IsBelow}
 use Rattle.trace_props.specs.Observed.{current_view, is_blocked, delivered_in, sent_in, own, entry_of}
 use Rattle.trace_props.specs.State.{state_of}
@@ -98,30 +99,36 @@ pub record HasCounts (t : List Happening) (p : Address) (v : ViewId) (installed 
   pub tally : tally_of p v t ≡ record { phase = if installed then Open else Past; count = delivered }
 
 -- what it sent is its own messages that it was told, and then the outstanding ones
-pub record HasOwn (t : List Happening) (p : Address) (v : ViewId) (traffic : Traffic) : Type 0 where
-  pub sent : sent_in p v t ≡ own p (delivered_in p v t) ++ traffic.outstanding
-  pub number : length (sent_in p v t) ≡ traffic.sent
+pub record HasOwn (t : List Happening) (p : Address) (v : ViewId) (number : ℕ) (outstanding : List Numbered) : Type 0 where
+  pub sent : sent_in p v t ≡ own p (delivered_in p v t) ++ outstanding
+  pub count : length (sent_in p v t) ≡ number
 
 -- what it holds is the order's, and all that is not stable; what it takes as stable all members were told
-pub record HasWindow (t : List Happening) (v : ViewId) (traffic : Traffic) : Type 0 where
-  pub order : HoldsOrder t v traffic.held
-  pub all : HoldsAll traffic.stable traffic.delivered traffic.held
-  pub near : (g : ℕ) → is_some (held_at g traffic.held) ≡ true → g ≤ traffic.stable + WINDOW
-  pub stable : AllHave t v traffic.stable 0
+pub record HasWindow (t : List Happening) (v : ViewId) (stable delivered : ℕ) (held : List (ℕ × Entry)) : Type 0 where
+  pub order : HoldsOrder t v held
+  pub all : HoldsAll stable delivered held
+  pub near : (g : ℕ) → is_some (held_at g held) ≡ true → g ≤ stable + WINDOW
+  pub told : AllHave t v stable 0
 
 -- what the first member knows of others: acknowledgements are at most what was told, what waits was sent, what was ordered is counted
-pub record LeadsOrder (t : List Happening) (p : Address) (v : ViewId) (traffic : Traffic) : Type 0 where
-  pub acks : (q : Address) → traffic.acks q ≤ open_count q v t
-  pub waiting : (k : ℕ) (e : Entry) → slice_get traffic.waiting k ≡ Some e → IsSent t v e
-  pub ordered : (q : Address) → same_address p v.creator ≡ true → traffic.ordered q ≡ length (own q (delivered_in p v t))
+abbrev pub HasAcks : List Happening → ViewId → (Address → ℕ) → Type 0
+HasAcks t v acks = (q : Address) → acks q ≤ open_count q v t
+
+abbrev pub HasWaiting : List Happening → ViewId → List Entry → Type 0
+HasWaiting t v waiting = (k : ℕ) (e : Entry) → slice_get waiting k ≡ Some e → IsSent t v e
+
+abbrev pub HasOrdered : List Happening → Address → ViewId → (Address → ℕ) → Type 0
+HasOrdered t p v ordered = (q : Address) → same_address p v.creator ≡ true → ordered q ≡ length (own q (delivered_in p v t))
 
 -- all that holds of a member's view
 pub record ViewFact (h : History) (p : Address) (installed : Bool) (traffic : Traffic) (kept : List (Address × wire.Install)) (v : View) : Type 0 where
   pub inside : IsInside h.trace p v
   pub counts : HasCounts h.trace p v.id installed traffic.delivered
-  pub mine : HasOwn h.trace p v.id traffic
-  pub window : HasWindow h.trace v.id traffic
-  pub leads : LeadsOrder h.trace p v.id traffic
+  pub mine : HasOwn h.trace p v.id traffic.sent traffic.outstanding
+  pub window : HasWindow h.trace v.id traffic.stable traffic.delivered traffic.held
+  pub acks : HasAcks h.trace v.id traffic.acks
+  pub waiting : HasWaiting h.trace v.id traffic.waiting
+  pub ordered : HasOrdered h.trace p v.id traffic.ordered
   pub keeps : KeepsInstructions h.pool p kept v
 
 -- ---- its state
