@@ -9,3 +9,4 @@ pub mod Moving
 pub mod Quiet
 pub mod Ending
 pub mod Coming
+pub mod Gathering

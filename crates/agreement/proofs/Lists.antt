@@ -1,7 +1,10 @@
 -- Lists: what is found first, beginnings, filters with equal tests.
-use Rattle.std.proofs.Common.{◌≡◌, ℕ, zero, suc, Bool, true, cond, Option, Some, None, List, [], ◌∷◌, ◌++◌, filter, refl, ap, ◌∙◌, subst}
+use Rattle.std.proofs.Common.{◌≡◌, ℕ, zero, suc, ◌+◌, Bool, true, false, cond, Option, Some, None, List, [], ◌∷◌, ◌++◌, length, filter, refl, ap, ◌∙◌, subst, arith}
 use Rattle.std.specs.Prelude.{slice_get}
 use Rattle.std.specs.Option.{option_or}
+use Rattle.std.specs.Map.{lookup}
+use Rattle.std.specs.List.{Contains}
+use Rattle.std.proofs.lemmas.Option.{none-some, slice_get-get_or}
 use Rattle.std.proofs.lemmas.Bool.{or_left, or_right}
 use Rattle.address.specs.Ids.{Address, same_address}
 use Rattle.view.specs.Members.{stands_in}
@@ -61,3 +64,25 @@ filter-same f g (q ∷ list) same =
     filter-step (f q) (g q) q (filter f list) (filter g list)
     (same q (or_left (same_address q q) (stands_in q list) (same_address-refl q)))
     (filter-same f g list (λ r there. same r (or_right (same_address r q) (stands_in r list) there)))
+
+-- ---- places
+
+-- what is among a list stands at a place
+pub place-of : {X : Type 0} (xs : List X) (x : X) → Contains xs x → (k : ℕ) × (slice_get xs k ≡ Some x)
+place-of xs x c = (c.0, slice_get-get_or xs c.0 x c.1 ∙ ap Some c.2)
+
+-- the places of the second of two lists
+pub slice_get-right : {X : Type 0} (xs ys : List X) (k : ℕ) → slice_get (xs ++ ys) (length xs + k) ≡ slice_get ys k
+slice_get-right [] ys k = ap (slice_get ys) (let e : 0 + k ≡ k = omega arith in e)
+slice_get-right (x ∷ xs) ys k =
+    ap (slice_get (x ∷ xs ++ ys)) (let e : length (x ∷ xs) + k ≡ suc (length xs + k) = omega arith in e) ∙ slice_get-right xs ys k
+
+-- ---- look-ups
+
+pub lookup-kept : {K X : Type 0} (test : K → Bool) (xs ys : List (K × X)) (x : X) → lookup test xs ≡ Some x → lookup test (xs ++ ys) ≡ Some x
+lookup-kept test [] ys x e = absurd (none-some x e)
+lookup-kept test (z ∷ xs) ys x e = step (test z.0) (lookup test xs) (lookup test (xs ++ ys)) (lookup-kept test xs ys x) e
+  where
+    step : (b : Bool) (o p : Option _) → (o ≡ Some x → p ≡ Some x) → cond b (Some z.1) o ≡ Some x → cond b (Some z.1) p ≡ Some x
+    step true o p later y = y
+    step false o p later y = later y
