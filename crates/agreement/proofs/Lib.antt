@@ -10,3 +10,5 @@ pub mod Quiet
 pub mod Ending
 pub mod Coming
 pub mod Gathering
+pub mod Blocking
+pub mod Promising
