@@ -12,3 +12,4 @@ pub mod Coming
 pub mod Gathering
 pub mod Blocking
 pub mod Promising
+pub mod Proposing
