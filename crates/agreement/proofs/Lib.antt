@@ -13,3 +13,4 @@ pub mod Gathering
 pub mod Blocking
 pub mod Promising
 pub mod Proposing
+pub mod Starting

@@ -191,7 +191,7 @@ entry_state-kept opening apply decode v t u s e = by (position_from (installs v.
     by None at = absurd (none-some s (sym (entry_state-none opening apply decode v t at) ∙ e))
     by (Some k) at = entry_state-stays opening apply decode v t u k at ∙ e
 
-state-still : {S : Type 0} (opening : S) (apply : S → Address → List ℕ → S) (decode : List ℕ → Option S) (q : Address) (s : S) (h : Happening) → same_address (member_of h) q ≡ false
+pub state-still : {S : Type 0} (opening : S) (apply : S → Address → List ℕ → S) (decode : List ℕ → Option S) (q : Address) (s : S) (h : Happening) → same_address (member_of h) q ≡ false
     → state_after apply decode q s h ≡ s
 state-still opening apply decode q s (Started x) o = refl
 state-still opening apply decode q s (Sent x) o = refl
