@@ -14,3 +14,4 @@ pub mod Blocking
 pub mod Promising
 pub mod Proposing
 pub mod Starting
+pub mod Cutting
