@@ -15,3 +15,5 @@ pub mod Promising
 pub mod Proposing
 pub mod Starting
 pub mod Cutting
+pub mod Meeting
+pub mod Sending

@@ -53,7 +53,8 @@ others-first : (c : Bool) (q x : Address) (rest : List Address) → same_address
 others-first true q x rest e there = or_left (same_address q x) (stands_in q rest) e
 others-first false q x rest e there = absurd (let n : false ≡ true = there in cc)
 
-or-cases : (b c : Bool) → b || c ≡ true → (b ≡ true) ⊎ (c ≡ true)
+-- one of two tests is passed
+pub or-cases : (b c : Bool) → b || c ≡ true → (b ≡ true) ⊎ (c ≡ true)
 or-cases true c e = inl refl
 or-cases false c e = inr e
 
