@@ -17,3 +17,4 @@ pub mod Starting
 pub mod Cutting
 pub mod Meeting
 pub mod Sending
+pub mod Repeating

@@ -21,14 +21,16 @@ pub passed-by : {X : Type 0} (b : Bool) (x y : X) → cond b (Some x) None ≡ S
 passed-by true x y e = (refl, same_Some x y e)
 passed-by false x y e = absurd (none-some y e)
 
-passed-to : {X : Type 0} (b : Bool) (o : Option X) (y : X) → cond b o None ≡ Some y → (b ≡ true) × (o ≡ Some y)
+-- and what is let through under a test
+pub passed-to : {X : Type 0} (b : Bool) (o : Option X) (y : X) → cond b o None ≡ Some y → (b ≡ true) × (o ≡ Some y)
 passed-to true o y e = (refl, e)
 passed-to false o y e = absurd (none-some y e)
 
 view-of : (proposal : View) (w : ViewId) (l : List Address) → proposal.id ≡ w → proposal.members ≡ l → proposal ≡ record { id = w; members = l }
 view-of proposal w l e f = ap {B = View} (λ (i : ViewId). record { id = i; members = proposal.members }) e ∙ ap {B = View} (λ (m : List Address). record { id = w; members = m }) f
 
-flush-says : (w : ViewId) (b : Body) (l : List Address) → flush_in w b ≡ Some l → b ≡ bodies.Flush (record { id = w; members = l })
+-- what announces a view is a FLUSH of it
+pub flush-says : (w : ViewId) (b : Body) (l : List Address) → flush_in w b ≡ Some l → b ≡ bodies.Flush (record { id = w; members = l })
 flush-says w bodies.Join l e = absurd (none-some l e)
 flush-says w (bodies.Redirect coordinator) l e = absurd (none-some l e)
 flush-says w bodies.Leave l e = absurd (none-some l e)
@@ -44,7 +46,8 @@ flush-says w (bodies.Report proposal report) l e = absurd (none-some l e)
 flush-says w (bodies.Install install) l e = absurd (none-some l e)
 flush-says w (bodies.Merge view) l e = absurd (none-some l e)
 
-report-says : (w : ViewId) (b : Body) (r : Report) → report_in w b ≡ Some r → b ≡ bodies.Report w r
+-- what reports for a proposal is a REPORT for it
+pub report-says : (w : ViewId) (b : Body) (r : Report) → report_in w b ≡ Some r → b ≡ bodies.Report w r
 report-says w bodies.Join r e = absurd (none-some r e)
 report-says w (bodies.Redirect coordinator) r e = absurd (none-some r e)
 report-says w bodies.Leave r e = absurd (none-some r e)
@@ -61,7 +64,8 @@ report-says w (bodies.Report proposal report) r e =
 report-says w (bodies.Install install) r e = absurd (none-some r e)
 report-says w (bodies.Merge view) r e = absurd (none-some r e)
 
-install-says : (w : ViewId) (b : Body) (i : wire.Install) → install_in w b ≡ Some i → (b ≡ bodies.Install i) × (i.view.id ≡ w)
+-- what tells to go into a view is an INSTALL of it
+pub install-says : (w : ViewId) (b : Body) (i : wire.Install) → install_in w b ≡ Some i → (b ≡ bodies.Install i) × (i.view.id ≡ w)
 install-says w bodies.Join i e = absurd (none-some i e)
 install-says w (bodies.Redirect coordinator) i e = absurd (none-some i e)
 install-says w bodies.Leave i e = absurd (none-some i e)
