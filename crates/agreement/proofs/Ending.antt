@@ -49,12 +49,12 @@ module _ {S : Type 0} (opening : S) (apply : S → Address → List ℕ → S) (
       moved opening apply encode decode is_state s p k None i
       (quiet-moves opening apply encode decode is_state s p k [] None i quiet (pool ∙ sym (append-nil s.history.pool)) (λ n m at. absurd (none-some m at)) (λ c e. absurd (none-some c e)))
 
-  pub leaves-keeps : (s : System S) (p : Address) (c : Core S) → Holds s → s.running p ≡ Some c
-      → Holds (record { running = put p None s.running; history = grown s.history [] (Left p ∷ []) })
-  leaves-keeps s p c i runs =
-      subst (λ (k : History). Holds (record { running = put p None s.running; history = k })) (sym (grown-trace opening apply encode decode is_state s.history (Left p ∷ [])))
-      (ends-keeps s p (record { pool = s.history.pool; trace = s.history.trace ++ Left p ∷ [] }) i
-      (quiet-happening opening apply encode decode is_state p s.history (Left p) refl refl i.trace (left-goes s.history.trace p (i.members p c runs).seat.running) tt) refl)
+  pub leaves-keeps : (s : System S) (c : Core S) → Holds s → MemberFact opening apply decode is_state s.history c.me c
+      → Holds (record { running = put c.me None s.running; history = grown s.history [] (Left c.me ∷ []) })
+  leaves-keeps s c i x =
+      subst (λ (k : History). Holds (record { running = put c.me None s.running; history = k })) (sym (grown-trace opening apply encode decode is_state s.history (Left c.me ∷ [])))
+      (ends-keeps s c.me (record { pool = s.history.pool; trace = s.history.trace ++ Left c.me ∷ [] }) i
+      (quiet-happening opening apply encode decode is_state c.me s.history (Left c.me) refl refl i.trace (left-goes s.history.trace c.me x.seat.running) tt) refl)
 
   pub crashed-keeps : (s : System S) (p : Address) (c : Core S) → Holds s → s.running p ≡ Some c
       → Holds (record { running = put p None s.running; history = grown s.history [] (Crashed p ∷ []) })

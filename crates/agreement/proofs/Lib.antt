@@ -18,3 +18,4 @@ pub mod Cutting
 pub mod Meeting
 pub mod Sending
 pub mod Repeating
+pub mod Acting
