@@ -61,9 +61,9 @@ pub group-real : (h : History) (p : Address) (w : ViewId) (mine : Report) (repor
 group-real h p w mine reports v each own recorded k r at =
     filter-each (IsReportFrom h.trace v) (comes_from (Some v)) (map (λ x. x.1) reports)
     (λ j s a passes.
-        map-at (λ (y : Report). y.previous ≡ Some v → IsReportFrom h.trace v y) (λ (x : Address × Report). x.1) reports
-        (λ n x b from. recorded-by (same_address x.0 p) h p w mine x each own (recorded n x b) v from)
-        j s a (option_eq-some s.previous v passes))
+    map-at (λ (y : Report). y.previous ≡ Some v → IsReportFrom h.trace v y) (λ (x : Address × Report). x.1) reports
+    (λ n x b from. recorded-by (same_address x.0 p) h p w mine x each own (recorded n x b) v from)
+    j s a (option_eq-some s.previous v passes))
     k r at
 
 -- ---- the cut
@@ -85,10 +85,10 @@ pub cut-real : (t : List Happening) (v : ViewId) (rs : List Report) (base : ℕ)
 cut-real t v rs base items real cut k r at =
     let x = real k r at in
     let most : greatest_stable rs ≤ r.delivered = greatest-le r.delivered rs (λ j s b.
-        let y = real j s b in
-        let told = y.tells.stable x.reporter x.tells.member in
-        let same = x.tells.delivered in
-        omega arith) in
+    let y = real j s b in
+    let told = y.tells.stable x.reporter x.tells.member in
+    let same = x.tells.delivered in
+    omega arith) in
     record {
       low = subst (λ n. n ≤ r.delivered) (sym cut.base) most;
       high = reaches (nat_lt (base + length items) r.delivered) t v rs base items k r refl cut at x;

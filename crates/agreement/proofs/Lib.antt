@@ -19,3 +19,4 @@ pub mod Meeting
 pub mod Sending
 pub mod Repeating
 pub mod Acting
+pub mod Beginning

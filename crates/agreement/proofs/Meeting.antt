@@ -93,6 +93,7 @@ previous-refl (Some v) = same_view_id-refl v
 pub together-exact : (h : History) (w : ViewId) (from came : Option ViewId) (q : Address) (members : List Address) → stands_in q members ≡ true → goes_from h w q ≡ Some came
     → (stands_in q (filter (goes_with h w from) members) ≡ true) ↔ (came ≡ from)
 together-exact h w from came q members listed goes =
-    let test : goes_with h w from q ≡ option_eq same_view_id came from = ap (λ o. option_map_or (λ u. option_eq same_view_id u from) o false) goes in
-    (λ there. same-previous came from (sym test ∙ filter-passes (goes_with h w from) q members there),
-    λ same. filter-keeps (goes_with h w from) q members listed (test ∙ ap (option_eq same_view_id came) (sym same) ∙ previous-refl came))
+    let test : goes_with h w from q ≡ option_eq same_view_id came from = ap (λ o. option_map_or (λ u. option_eq same_view_id u from) o false) goes in (
+      λ there. same-previous came from (sym test ∙ filter-passes (goes_with h w from) q members there),
+      λ same. filter-keeps (goes_with h w from) q members listed (test ∙ ap (option_eq same_view_id came) (sym same) ∙ previous-refl came),
+    )

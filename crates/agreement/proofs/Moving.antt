@@ -56,9 +56,9 @@ given-later opening apply encode decode h k w q i m kept each there install x e 
     let by = install-fact h w q i each install in
     let led = by.fact.led in
     let was : entry_of i.view.id.creator i.view.id h.trace ≡ Some e =
-        sym (same-later (entry_of i.view.id.creator i.view.id h.trace) (entry_of i.view.id.creator i.view.id k.trace) (λ z y. m.entry i.view.id.creator i.view.id z y) led.entered) ∙ entry in
+    sym (same-later (entry_of i.view.id.creator i.view.id h.trace) (entry_of i.view.id.creator i.view.id k.trace) (λ z y. m.entry i.view.id.creator i.view.id z y) led.entered) ∙ entry in
     let said : report_of q i.view.id h.pool ≡ Some r =
-        sym (same-later (report_of q i.view.id h.pool) (report_of q i.view.id k.pool) (λ z y. m.report q i.view.id z y) (led.answered q i by.fact.one)) ∙ report in
+    sym (same-later (report_of q i.view.id h.pool) (report_of q i.view.id k.pool) (λ z y. m.report q i.view.id z y) (led.answered q i by.fact.one)) ∙ report in
     x e r was said
     ∙ ap (λ o. cond (option_eq same_view_id r.previous e.previous) None (option_map encode o)) (sym (state-same opening apply decode i.view.id h k kept (there e was)))
 

@@ -271,6 +271,7 @@ inside-later h k q v m x = record {
     by : (o b : Option Install) → ((e : Install) → o ≡ Some e → b ≡ Some e) → option_map (λ e. e.view) o ≡ Some v → option_map (λ e. e.view) b ≡ Some v
     by None b kept y = absurd (none-some v y)
     by (Some e) b kept y = ap (option_map (λ z. z.view)) (kept e refl) ∙ y
+
     installed-later : (r : Address) → installed_as r v.id h.trace ≡ Some v → installed_as r v.id k.trace ≡ Some v
     installed-later r y = by (entry_of r v.id h.trace) (entry_of r v.id k.trace) (λ e z. m.entry r v.id e z) y
 

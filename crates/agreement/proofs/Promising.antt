@@ -112,8 +112,8 @@ module _ {S : Type 0} (opening : S) (apply : S → Address → List ℕ → S) (
       let halted = halts opening apply encode decode is_state h p c.view c.installed c.traffic c.kept c.state i.trace x.promise.inside x.seat x.view x.state in
       let first : report_of p w.id k.pool ≡ Some r = report-new p w.id r h.pool (never-reported h.pool p c.promise w.id x.below a.above) in
       let posted = quiet-packets opening apply encode decode is_state p h1 (m ∷ []) halted.seat.running.started
-          (slice_get-one (IsFrom p) m (record { source = refl; mine = tt }))
-          (λ n y v at. slice_get-one (λ (z : Posted). install_in v z.body ≡ None) m refl n y at) halted.quiet.trace in
+      (slice_get-one (IsFrom p) m (record { source = refl; mine = tt }))
+      (λ n y v at. slice_get-one (λ (z : Posted). install_in v z.body ≡ None) m refl n y at) halted.quiet.trace in
       let quiet = quiet-trans opening apply encode decode is_state p h h1 k halted.quiet posted in
       let one : flush_of w.id k.pool ≡ Some w.members = flush_of-kept w.id h.pool (m ∷ []) w.members asked.one in
       let answer : IsAnswer k p w.id r = record {

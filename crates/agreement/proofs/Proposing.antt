@@ -181,8 +181,8 @@ module _ {S : Type 0} (opening : S) (apply : S → Address → List ℕ → S) (
       let mine : same_address w.id.creator p ≡ true = same_address-from w.id.creator p a.own in
       let none : flush_of w.id h.pool ≡ None = none-by (flush_of w.id h.pool) h.pool w.id refl (λ l e. is-past c.promise w.id a.above (x.below.announced w.id l mine e)) in
       let posted = quiet-packets opening apply encode decode is_state p h1 more halted.seat.running.started
-          (map-each (IsFrom p) (packet p (bodies.Flush w)) (others_of p w.members) (λ q. record { source = refl; mine = a.own }))
-          (λ n y v at. map-each (λ (z : Posted). install_in v z.body ≡ None) (packet p (bodies.Flush w)) (others_of p w.members) (λ q. refl) n y at) halted.quiet.trace in
+      (map-each (IsFrom p) (packet p (bodies.Flush w)) (others_of p w.members) (λ q. record { source = refl; mine = a.own }))
+      (λ n y v at. map-each (λ (z : Posted). install_in v z.body ≡ None) (packet p (bodies.Flush w)) (others_of p w.members) (λ q. refl) n y at) halted.quiet.trace in
       let quiet = quiet-trans opening apply encode decode is_state p h h1 k halted.quiet posted in
       let fact : Fact k p (promised w (Some (begun w c)) c) = record {
         seat = halted.seat;

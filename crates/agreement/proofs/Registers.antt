@@ -96,29 +96,34 @@ pub flush-stands : (w : ViewId) (l : List Address) (pool : List Posted) → flus
     → (p q : Address) × PutOut pool p q (bodies.Flush (record { id = w; members = l }))
 unfolding flush_of
 flush-stands w l pool e =
-    let s = first-stands (λ (m : Posted). flush_in w m.body) pool l e in
-    (s.element.source, s.element.destination, record {
-      place = s.index;
-      posted = s.element;
-      stands = s.stands;
-      source = refl;
-      destination = refl;
-      says = flush-says w s.element.body l s.gives;
-    })
+    let s = first-stands (λ (m : Posted). flush_in w m.body) pool l e in (
+      s.element.source,
+      s.element.destination,
+      record {
+        place = s.index;
+        posted = s.element;
+        stands = s.stands;
+        source = refl;
+        destination = refl;
+        says = flush-says w s.element.body l s.gives;
+      },
+    )
 
 pub report-stands : (p : Address) (w : ViewId) (r : Report) (pool : List Posted) → report_of p w pool ≡ Some r → (q : Address) × PutOut pool p q (bodies.Report w r)
 unfolding report_of
 report-stands p w r pool e =
     let s = first-stands (report_by p w) pool r e in
-    let x = passed-to (same_address s.element.source p) (report_in w s.element.body) r s.gives in
-    (s.element.destination, record {
-      place = s.index;
-      posted = s.element;
-      stands = s.stands;
-      source = same_address-true s.element.source p x.0;
-      destination = refl;
-      says = report-says w s.element.body r x.1;
-    })
+    let x = passed-to (same_address s.element.source p) (report_in w s.element.body) r s.gives in (
+      s.element.destination,
+      record {
+        place = s.index;
+        posted = s.element;
+        stands = s.stands;
+        source = same_address-true s.element.source p x.0;
+        destination = refl;
+        says = report-says w s.element.body r x.1;
+      },
+    )
 
 pub record Instructs (pool : List Posted) (w : ViewId) (q : Address) (i : wire.Install) : Type 0 where
   pub source : Address

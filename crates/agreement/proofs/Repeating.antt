@@ -45,25 +45,25 @@ pub flush-again : (h : History) (m : Posted) (w : ViewId) → PacketFact h m →
 unfolding flush_of
 flush-again h m w fact =
     first_of-again (λ (z : Posted). flush_in w z.body) h.pool m (λ l e.
-        let x : IsProposal h m.source (record { id = w; members = l }) = subst (λ (b : Body). BodyFact h m.source m.destination b) (flush-says w m.body l e) fact in
-        x.one)
+    let x : IsProposal h m.source (record { id = w; members = l }) = subst (λ (b : Body). BodyFact h m.source m.destination b) (flush-says w m.body l e) fact in
+    x.one)
 
 pub report-again : (h : History) (m : Posted) (p : Address) (w : ViewId) → PacketFact h m → report_of p w (h.pool ++ m ∷ []) ≡ report_of p w h.pool
 unfolding report_of
 report-again h m p w fact =
     first_of-again (report_by p w) h.pool m (λ r e.
-        let y = passed-to (same_address m.source p) _ r e in
-        let x : IsAnswer h m.source w r = subst (λ (b : Body). BodyFact h m.source m.destination b) (report-says w m.body r y.1) fact in
-        ap (λ q. report_of q w h.pool) (sym (same_address-true m.source p y.0)) ∙ x.one)
+    let y = passed-to (same_address m.source p) _ r e in
+    let x : IsAnswer h m.source w r = subst (λ (b : Body). BodyFact h m.source m.destination b) (report-says w m.body r y.1) fact in
+    ap (λ q. report_of q w h.pool) (sym (same_address-true m.source p y.0)) ∙ x.one)
 
 pub install-again : (h : History) (m : Posted) (w : ViewId) (q : Address) → PacketFact h m → install_of w q (h.pool ++ m ∷ []) ≡ install_of w q h.pool
 unfolding install_of
 install-again h m w q fact =
     first_of-again (install_to q w) h.pool m (λ i e.
-        let y = passed-to (same_address m.destination q) _ i e in
-        let z = install-says w m.body i y.1 in
-        let x : IsInstruction h m.source m.destination i = subst (λ (b : Body). BodyFact h m.source m.destination b) z.0 fact in
-        ap (λ (v : ViewId). install_of v q h.pool) (sym z.1) ∙ ap (λ d. install_of i.view.id d h.pool) (sym (same_address-true m.destination q y.0)) ∙ x.one)
+    let y = passed-to (same_address m.destination q) _ i e in
+    let z = install-says w m.body i y.1 in
+    let x : IsInstruction h m.source m.destination i = subst (λ (b : Body). BodyFact h m.source m.destination b) z.0 fact in
+    ap (λ (v : ViewId). install_of v q h.pool) (sym z.1) ∙ ap (λ d. install_of i.view.id d h.pool) (sym (same_address-true m.destination q y.0)) ∙ x.one)
 
 -- ---- what is put out is true
 
@@ -129,7 +129,7 @@ module _ {S : Type 0} (opening : S) (apply : S → Address → List ℕ → S) (
   describes-true h c q (bodies.Report proposal report) trace each x a =
       let other : same_address a.0.id.creator c.me ≡ false = ap (λ (w : ViewId). same_address w.creator c.me) a.3 ∙ a.4 in
       let one : report_of c.me proposal h.pool ≡ Some report =
-          ap (λ (w : ViewId). report_of c.me w h.pool) (sym a.3) ∙ x.reported a.2 a.0 a.1 other ∙ ap Some (sym a.6) in
+      ap (λ (w : ViewId). report_of c.me w h.pool) (sym a.3) ∙ x.reported a.2 a.0 a.1 other ∙ ap Some (sym a.6) in
       report-fact h c.me proposal report each one
   describes-true h c q (bodies.Install install) trace each x a =
       let f = x.view install.view a.0 in

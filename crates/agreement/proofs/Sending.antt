@@ -43,6 +43,7 @@ module _ {S : Type 0} (opening : S) (apply : S → Address → List ℕ → S) (
     where
       number : c.traffic.sent + 1 ≡ length (sent_in c.me v.id h.trace) + 1
       number = ap (λ n. n + 1) (sym (x.view v a.open_in.view).mine.count)
+
       free : is_frozen c.view true ≡ false
       free = by c.view
         where

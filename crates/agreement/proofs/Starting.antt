@@ -87,7 +87,7 @@ no-flush h p w l each real fresh mine e =
     let s = flush-stands w l h.pool e in
     let out = s.2 in
     let fact : BodyFact h out.posted.source out.posted.destination (bodies.Flush (record { id = w; members = l })) =
-        subst (λ (b : Body). BodyFact h out.posted.source out.posted.destination b) out.says (each out.place out.posted out.stands) in
+    subst (λ (b : Body). BodyFact h out.posted.source out.posted.destination b) out.says (each out.place out.posted out.stands) in
     let source : out.posted.source ≡ p = sym fact.own ∙ same_address-true w.creator p mine in
     let n : true ≡ false = sym (real out.place out.posted out.stands) ∙ ap (λ q. has_started q h.trace) source ∙ fresh in
     absurd cc
