@@ -20,3 +20,4 @@ pub mod Sending
 pub mod Repeating
 pub mod Acting
 pub mod Beginning
+pub mod Order
