@@ -21,3 +21,4 @@ pub mod Repeating
 pub mod Acting
 pub mod Beginning
 pub mod Order
+pub mod Delivering

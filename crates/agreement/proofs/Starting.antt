@@ -6,7 +6,7 @@ use Rattle.address.specs.Ids.{Address, ViewId, IsAddress, same_address}
 use Rattle.wire.specs.Values.{Report}
 use Rattle.trace_props.specs.declared.happening.Happening.{Happening}
 use Rattle.trace_props.specs.declared.happening.Happening.TheVariants.{Started, Sent, Delivered, Blocked, Installed, Left, Crashed}
-use Rattle.trace_props.specs.Observed.{member_of, has_started, has_ended, current_view, is_blocked}
+use Rattle.trace_props.specs.Observed.{member_of, has_started, has_ended, current_view, is_blocked, sent_in}
 use Rattle.trace_props.specs.Places.{EachHappening}
 use Rattle.trace_props.specs.Rules.{MayStand}
 use Rattle.trace_props.specs.State.{state_of}
@@ -14,6 +14,7 @@ use Rattle.trace_props.specs.Verdicts.{GoesOn}
 use Rattle.trace_props.proofs.Places.{EachHappening-before, EachHappening-last}
 use Rattle.trace_props.proofs.Observing.{same_address-true, has_started-now, has_started-stays, has_ended-still, has_ended-other, current_view-push, current_view-other, is_blocked-push, is_blocked-other}
 use Rattle.trace_props.proofs.Standing.{by_pushes}
+use Rattle.trace_props.proofs.Telling.{sent_in-other}
 use Rattle.trace_props.proofs.Entering.{state_of-push}
 use Rattle.agreement.specs.Histories.{History, flush_of, report_of}
 use Rattle.wire.specs.declared.packet.Body.{Body}
@@ -55,6 +56,7 @@ pub record IsNobody {S : Type 0} (opening : S) (apply : S → Address → List �
   pub outside : current_view p t ≡ None
   pub free : is_blocked p t ≡ false
   pub state : state_of opening apply decode p t ≡ opening
+  pub silent : (v : ViewId) → sent_in p v t ≡ []
 
 Nobody : {S : Type 0} → S → (S → Address → List ℕ → S) → (List ℕ → Option S) → Address → List Happening → Type 0
 Nobody opening apply decode p t = EachHappening MayStand t → has_started p t ≡ false → IsNobody opening apply decode p t
@@ -70,13 +72,14 @@ nobody-push opening apply decode p t x later placed fresh =
       outside = current_view-other p t x other ∙ before.outside;
       free = is_blocked-other p t x other ∙ before.free;
       state = state_of-push opening apply decode p t x ∙ state-still opening apply decode p (state_of opening apply decode p t) x other ∙ before.state;
+      silent = λ v. sent_in-other p v t x other ∙ before.silent v;
     }
 
-nobody : {S : Type 0} (opening : S) (apply : S → Address → List ℕ → S) (decode : List ℕ → Option S) (p : Address) (t : List Happening) → EachHappening MayStand t → has_started p t ≡ false
+pub nobody : {S : Type 0} (opening : S) (apply : S → Address → List ℕ → S) (decode : List ℕ → Option S) (p : Address) (t : List Happening) → EachHappening MayStand t → has_started p t ≡ false
     → IsNobody opening apply decode p t
 unfolding Nobody
 nobody opening apply decode p t =
-    by_pushes (Nobody opening apply decode p) (λ placed fresh. record { going = refl; outside = refl; free = refl; state = refl })
+    by_pushes (Nobody opening apply decode p) (λ placed fresh. record { going = refl; outside = refl; free = refl; state = refl; silent = λ v. refl })
     (λ u x later. nobody-push opening apply decode p u x later) t
 
 -- ---- nothing was put out by it
