@@ -1,15 +1,16 @@
--- Each act keeps the invariant, as a step of a member that runs: Joins, Puts, Sends, Queues, Hears, Collects, Holds, Promises, Begins, Records, Leaves;
+-- Each act keeps the invariant, as a step of a member that runs: Joins, Puts, Sends, Queues, Hears, Collects, Holds, Delivers, Promises, Begins, Records, Leaves;
 -- and so do a start and a crash.
-use Rattle.std.proofs.Common.{◌≡◌, ℕ, false, Option, Some, List, subst, sym}
+use Rattle.std.proofs.Common.{◌≡◌, ℕ, ◌≤◌, length, false, Option, Some, List, subst, sym}
 use Rattle.address.specs.Ids.{Address, IsAddress}
 use Rattle.view.specs.Members.{View}
+use Rattle.wire.specs.declared.limits.TheConstants.{PAYLOAD}
 use Rattle.wire.specs.Values.{Entry, Report}
 use Rattle.wire.specs.declared.packet.Body.{Body}
 use Rattle.flush.specs.Flushes.{FlushModel}
 use Rattle.trace_props.specs.Observed.{has_started}
 use Rattle.agreement.specs.Histories.{History}
 use Rattle.agreement.specs.Cores.{Core}
-use Rattle.agreement.specs.Acts.{Act, Joins, Puts, Sends, Queues, Hears, Collects, Holds, Promises, Begins, Records, Leaves, Allowed}
+use Rattle.agreement.specs.Acts.{Act, Joins, Puts, Sends, Queues, Hears, Collects, Holds, Delivers, Promises, Begins, Records, Leaves, Allowed}
 use Rattle.agreement.specs.Steps.{System, Start, Crash, came_of, acted, stepped}
 use Rattle.agreement.specs.Members.{MemberFact}
 use Rattle.agreement.specs.Invariant.{Invariant}
@@ -17,6 +18,7 @@ use Rattle.agreement.proofs.Gathering.{joins-fact, queues-fact, hears-fact, coll
 use Rattle.agreement.proofs.Ending.{still-keeps, leaves-keeps, crashed-keeps}
 use Rattle.agreement.proofs.Starting.{starts-keep}
 use Rattle.agreement.proofs.Sending.{sends-keep}
+use Rattle.agreement.proofs.Delivering.{delivers-keep}
 use Rattle.agreement.proofs.Repeating.{puts-keep}
 use Rattle.agreement.proofs.Promising.{promises-keep}
 use Rattle.agreement.proofs.Proposing.{begins-keep}
@@ -78,6 +80,11 @@ module _ {S : Type 0} (opening : S) (apply : S → Address → List ℕ → S) (
 
   pub leaves-act-keeps : Keeps Leaves
   leaves-act-keeps = at-own Leaves (λ s c which i x a. leaves-keeps opening apply encode decode is_state s c i x)
+
+  -- by the receiver's law on what a message does to a state
+  pub delivers-keeps : ((z : S) (from : Address) (payload : List ℕ) → is_state z → IsAddress from → length payload ≤ PAYLOAD → is_state (apply z from payload))
+      → (v : View) (e : Entry) → Keeps (Delivers v e)
+  delivers-keeps law v e = at-own (Delivers v e) (λ s c which i x a. delivers-keep opening apply encode decode is_state s c v e law i x a)
 
   -- a start and a crash keep it
   pub start-keeps : (s : System S) (p : Address) → is_state opening → Holding s → IsAddress p → has_started p s.history.trace ≡ false

@@ -64,7 +64,7 @@ next-of-order t p v e d sound one told at =
     let here : slice_get all (length mine) ≡ Some m = ap (slice_get all) many ∙ order-message v t d e at in
     let before : own m.sender mine ≡ own m.sender (take (length mine) all) = ap (own m.sender) (one p v) in
     let place : slice_get (own m.sender all) (length (own m.sender mine)) ≡ Some (numbered m) =
-        ap (λ l. slice_get (own m.sender all) (length l)) before ∙ own-place all (length mine) m here in
+    ap (λ l. slice_get (own m.sender all) (length l)) before ∙ own-place all (length mine) m here in
     let sent : slice_get (sent_in m.sender v t) (length (own m.sender mine)) ≡ Some (numbered m) =
-        IsBeginningOf-at (own m.sender all) (sent_in m.sender v t) (length (own m.sender mine)) (numbered m) (sound.in_turn v.creator m.sender v) place in
+    IsBeginningOf-at (own m.sender all) (sent_in m.sender v t) (length (own m.sender mine)) (numbered m) (sound.in_turn v.creator m.sender v) place in
     record { number = sound.numbers m.sender v (length (own m.sender mine)) (numbered m) sent; sent = sent; order = here }
