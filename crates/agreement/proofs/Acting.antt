@@ -1,0 +1,95 @@
+-- Each act keeps the invariant, as a step of a member that runs: Joins, Puts, Sends, Queues, Hears, Collects, Holds, Delivers, Promises, Begins, Records, Leaves;
+-- and so do a start and a crash.
+use Rattle.std.proofs.Common.{◌≡◌, ℕ, ◌≤◌, length, false, Option, Some, List, subst, sym}
+use Rattle.address.specs.Ids.{Address, IsAddress}
+use Rattle.view.specs.Members.{View}
+use Rattle.wire.specs.declared.limits.TheConstants.{PAYLOAD}
+use Rattle.wire.specs.Values.{Entry, Report}
+use Rattle.wire.specs.declared.packet.Body.{Body}
+use Rattle.flush.specs.Flushes.{FlushModel}
+use Rattle.trace_props.specs.Observed.{has_started}
+use Rattle.agreement.specs.Histories.{History}
+use Rattle.agreement.specs.Cores.{Core}
+use Rattle.agreement.specs.Acts.{Act, Joins, Puts, Sends, Queues, Hears, Collects, Holds, Delivers, Promises, Begins, Records, Leaves, Allowed}
+use Rattle.agreement.specs.Steps.{System, Start, Crash, came_of, acted, stepped}
+use Rattle.agreement.specs.Members.{MemberFact}
+use Rattle.agreement.specs.Invariant.{Invariant}
+use Rattle.agreement.proofs.Gathering.{joins-fact, queues-fact, hears-fact, collects-fact, holds-fact, records-fact}
+use Rattle.agreement.proofs.Ending.{still-keeps, leaves-keeps, crashed-keeps}
+use Rattle.agreement.proofs.Starting.{starts-keep}
+use Rattle.agreement.proofs.Sending.{sends-keep}
+use Rattle.agreement.proofs.Delivering.{delivers-keep}
+use Rattle.agreement.proofs.Repeating.{puts-keep}
+use Rattle.agreement.proofs.Promising.{promises-keep}
+use Rattle.agreement.proofs.Proposing.{begins-keep}
+
+module _ {S : Type 0} (opening : S) (apply : S → Address → List ℕ → S) (encode : S → List ℕ) (decode : List ℕ → Option S) (is_state : S → Type 0) where
+  abbrev Holding : System S → Type 0
+  Holding s = Invariant opening apply encode decode is_state s
+
+  abbrev Fact : History → Address → Core S → Type 0
+  Fact h p c = MemberFact opening apply decode is_state h p c
+
+  -- the act of a running member, allowed on what it was handed, keeps the invariant
+  abbrev pub Keeps : Act → Type 0
+  Keeps act = (s : System S) (p : Address) (c : Core S) (which : Option ℕ) → Holding s → s.running p ≡ Some c → Allowed decode (came_of c s.history.pool which) c act
+      → Holding (acted apply encode decode s p act c)
+
+  -- shown of a member at its own address, it is shown
+  at-own : (act : Act) → ((s : System S) (c : Core S) (which : Option ℕ) → Holding s → Fact s.history c.me c → Allowed decode (came_of c s.history.pool which) c act
+      → Holding (acted apply encode decode s c.me act c)) → Keeps act
+  at-own act shown s p c which i runs a =
+      let x = i.members p c runs in
+      subst (λ (q : Address). Holding (acted apply encode decode s q act c)) x.seat.itself
+      (shown s c which i (subst (λ (q : Address). Fact s.history q c) (sym x.seat.itself) x) a)
+
+  pub joins-keeps : Keeps Joins
+  joins-keeps = at-own Joins (λ s c which i x a. still-keeps opening apply encode decode is_state s c.me _ i (joins-fact opening apply decode is_state s.history c.me c x))
+
+  pub puts-keeps : (q : Address) (b : Body) → Keeps (Puts q b)
+  puts-keeps q b = at-own (Puts q b) (λ s c which i x a. puts-keep opening apply encode decode is_state s c q b i x a)
+
+  pub sends-keeps : (v : View) (payload : List ℕ) → Keeps (Sends v payload)
+  sends-keeps v payload = at-own (Sends v payload) (λ s c which i x a. sends-keep opening apply encode decode is_state s c v payload i x a)
+
+  pub queues-keeps : (v : View) (e : Entry) → Keeps (Queues v e)
+  queues-keeps v e = at-own (Queues v e) (λ s c which i x a.
+      still-keeps opening apply encode decode is_state s c.me _ i (queues-fact opening apply decode is_state s.history c which v e i.trace i.packets x a))
+
+  pub hears-keeps : (v : View) (q : Address) (n : ℕ) → Keeps (Hears v q n)
+  hears-keeps v q n = at-own (Hears v q n) (λ s c which i x a.
+      still-keeps opening apply encode decode is_state s c.me _ i (hears-fact opening apply decode is_state s.history c which v q n i.packets x a))
+
+  pub collects-keeps : (v : View) (n : ℕ) (held : List (ℕ × Entry)) → Keeps (Collects v n held)
+  collects-keeps v n held = at-own (Collects v n held) (λ s c which i x a.
+      still-keeps opening apply encode decode is_state s c.me _ i (collects-fact opening apply decode is_state s.history c which v n held i.packets x a))
+
+  pub holds-keeps : (v : View) (g : ℕ) (e : Entry) (held : List (ℕ × Entry)) → Keeps (Holds v g e held)
+  holds-keeps v g e held = at-own (Holds v g e held) (λ s c which i x a.
+      still-keeps opening apply encode decode is_state s c.me _ i (holds-fact opening apply decode is_state s.history c which v g e held i.packets x a))
+
+  pub records-keeps : (f : FlushModel) (q : Address) (r : Report) → Keeps (Records f q r)
+  records-keeps f q r = at-own (Records f q r) (λ s c which i x a.
+      still-keeps opening apply encode decode is_state s c.me _ i (records-fact opening apply decode is_state s.history c which f q r i.packets x a))
+
+  pub promises-keeps : (w : View) → Keeps (Promises w)
+  promises-keeps w s p c which i runs a = promises-keep opening apply encode decode is_state s p c which w i runs a
+
+  pub begins-keeps : (w : View) → Keeps (Begins w)
+  begins-keeps w s p c which i runs a = begins-keep opening apply encode decode is_state s p c w i runs a
+
+  pub leaves-act-keeps : Keeps Leaves
+  leaves-act-keeps = at-own Leaves (λ s c which i x a. leaves-keeps opening apply encode decode is_state s c i x)
+
+  -- by the receiver's law on what a message does to a state
+  pub delivers-keeps : ((z : S) (from : Address) (payload : List ℕ) → is_state z → IsAddress from → length payload ≤ PAYLOAD → is_state (apply z from payload))
+      → (v : View) (e : Entry) → Keeps (Delivers v e)
+  delivers-keeps law v e = at-own (Delivers v e) (λ s c which i x a. delivers-keep opening apply encode decode is_state s c v e law i x a)
+
+  -- a start and a crash keep it
+  pub start-keeps : (s : System S) (p : Address) → is_state opening → Holding s → IsAddress p → has_started p s.history.trace ≡ false
+      → Holding (stepped opening apply encode decode s (Start p))
+  start-keeps s p opens i proper fresh = starts-keep opening apply encode decode is_state s p opens i proper fresh
+
+  pub crash-keeps : (s : System S) (p : Address) (c : Core S) → Holding s → s.running p ≡ Some c → Holding (stepped opening apply encode decode s (Crash p))
+  crash-keeps s p c i runs = crashed-keeps opening apply encode decode is_state s p c i runs

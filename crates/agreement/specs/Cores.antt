@@ -1,0 +1,94 @@
+-- What a member decides by: its promise, its view and what it keeps of that view, its own flush, the state of its receiver.
+use Rattle.std.specs.Prelude.{ℕ, ◌+◌, Bool, ◌&&◌, not, false, Option, None, List, [], map, length, drop, fold, is_some}
+use Rattle.std.specs.Map.{lookup}
+use Rattle.std.specs.Option.{option_map}
+use Rattle.address.specs.Ids.{Address, ViewId, same_address}
+use Rattle.view.specs.Members.{View}
+use Rattle.wire.specs.Values.{Entry, Report}
+use Rattle.wire.specs.Values as wire
+use Rattle.flush.specs.Flushes.{FlushModel}
+use Rattle.trace_props.specs.declared.happening.Numbered.{Numbered}
+use Rattle.trace_props.specs.Observed.{own}
+use Rattle.agreement.specs.Words.{message_for}
+
+-- what is kept of the current view: the counts of messages that are stable, delivered and sent; what is held, by number; the own messages that
+-- were sent and not delivered; and at the first member, what each has acknowledged, how many of each were ordered, and what waits to be
+pub record Traffic : Type 0 where
+  pub stable : ℕ
+  pub delivered : ℕ
+  pub sent : ℕ
+  pub held : List (ℕ × Entry)
+  pub outstanding : List Numbered
+  pub acks : Address → ℕ
+  pub ordered : Address → ℕ
+  pub waiting : List Entry
+
+-- at the beginning of a view
+abbrev pub fresh_traffic : Traffic
+fresh_traffic = record {
+  stable = 0;
+  delivered = 0;
+  sent = 0;
+  held = [];
+  outstanding = [];
+  acks = λ p. 0;
+  ordered = λ p. 0;
+  waiting = [];
+}
+
+-- a member that runs. installed: whether the promised view is; kept: what it sent to the others of the view that it made
+pub record Core (S : Type 0) : Type 0 where
+  pub me : Address
+  pub connected : Bool
+  pub promise : Option View
+  pub installed : Bool
+  pub view : Option View
+  pub traffic : Traffic
+  pub flush : Option FlushModel
+  pub kept : List (Address × wire.Install)
+  pub state : S
+
+-- a member that has just started
+abbrev pub idle : {S : Type 0} → S → Address → Core S
+idle opening p = record {
+  me = p;
+  connected = false;
+  promise = None;
+  installed = false;
+  view = None;
+  traffic = fresh_traffic;
+  flush = None;
+  kept = [];
+  state = opening;
+}
+
+abbrev pub kept_for : Address → List (Address × wire.Install) → Option wire.Install
+kept_for q kept = lookup (same_address q) kept
+
+-- in a view that is the promised one
+abbrev pub is_open : Option View → Bool → Bool
+is_open view installed = is_some view && installed
+
+-- in a view, with another promised
+abbrev pub is_frozen : Option View → Bool → Bool
+is_frozen view installed = is_some view && not installed
+
+abbrev pub id_of : Option View → Option ViewId
+id_of view = option_map (λ v. v.id) view
+
+-- what a member reports: the view that it is in, its counts there, and what it holds
+abbrev pub report_with : Option View → Traffic → Report
+report_with view traffic = record { previous = id_of view; stable = traffic.stable; delivered = traffic.delivered; held = traffic.held }
+
+-- ---- being told messages
+
+-- what is left of the own messages when these entries are told: as many fewer as are its own
+abbrev pub left_of : Address → List Entry → List Numbered → List Numbered
+left_of p entries outstanding = drop (length (own p (map message_for entries))) outstanding
+
+abbrev pub told_more : Address → List Entry → Traffic → Traffic
+told_more p entries t = record t { delivered = t.delivered + length entries; outstanding = left_of p entries t.outstanding }
+
+-- the state after these entries
+abbrev pub applied : {S : Type 0} → (S → Address → List ℕ → S) → S → List Entry → S
+applied apply s entries = fold (λ z e. apply z e.sender e.payload) s entries

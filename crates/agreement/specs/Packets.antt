@@ -1,0 +1,181 @@
+-- What holds of each packet that was put out, and of each install, from then on.
+use Rattle.std.specs.Prelude.{◌≡◌, ℕ, ◌+◌, ◌<◌, ◌≤◌, true, false, Option, None, Some, List, [], filter, length, is_some, slice_get, MatchOption, if◌then◌else◌}
+use Rattle.std.specs.Option.{ForSome, option_map, option_eq}
+use Rattle.address.specs.Ids.{Address, ViewId, same_address, same_view_id}
+use Rattle.view.specs.Members.{View, stands_in}
+use Rattle.view.specs.View.{view_refusal}
+use Rattle.wire.specs.declared.limits.TheConstants.{WINDOW}
+use Rattle.wire.specs.Values.{Entry, Report}
+use Rattle.wire.specs.Values as wire
+use Rattle.wire.specs.declared.packet.Body.{Body}
+use Rattle.wire.specs.declared.packet.Body.TheVariants as bodies
+use Rattle.flush.specs.Cuts.{held_at}
+use Rattle.trace_props.specs.declared.happening.Happening.{Happening}
+use Rattle.trace_props.specs.declared.happening.Install.{Install}
+use Rattle.trace_props.specs.Observed.{sent_in, entry_of}
+use Rattle.trace_props.specs.State.{entry_state}
+use Rattle.agreement.specs.Words.{list_of, order_of, members_of, open_count, IsClosed}
+use Rattle.agreement.specs.Histories.{Posted, History, flush_of, report_of, install_of, goes_from, goes_with}
+use Rattle.agreement.specs.Cores.{applied}
+
+-- ---- what a message and a count mean
+
+-- the entry at a number of a view's order, counted from 1
+abbrev pub IsOrdered : List Happening → ViewId → ℕ → Entry → Type 0
+IsOrdered t v g e = (k : ℕ) → g ≡ k + 1 → slice_get (order_of v t) k ≡ Some e
+
+-- its sender sent it in the view, under its number
+abbrev pub IsSent : List Happening → ViewId → Entry → Type 0
+IsSent t v e = (k : ℕ) → e.number ≡ k + 1 → slice_get (sent_in e.sender v t) k ≡ Some (record { number = e.number; payload = e.payload })
+
+-- each member of the view was told so many before it was blocked there, give or take some
+abbrev pub AllHave : List Happening → ViewId → ℕ → ℕ → Type 0
+AllHave t v n less = (q : Address) → stands_in q (members_of v t) ≡ true → n ≤ open_count q v t + less
+
+-- all that is held stands in the view's order
+abbrev pub HoldsOrder : List Happening → ViewId → List (ℕ × Entry) → Type 0
+HoldsOrder t v held = (g : ℕ) (e : Entry) → held_at g held ≡ Some e → IsOrdered t v g e
+
+-- all is held that lies past a number, up to another
+abbrev pub HoldsAll : ℕ → ℕ → List (ℕ × Entry) → Type 0
+HoldsAll s d held = (g : ℕ) → s < g → g ≤ d → is_some (held_at g held) ≡ true
+
+-- ---- a FLUSH
+
+-- its source proposes the view, and there is one list for it
+pub record IsProposal (h : History) (p : Address) (w : View) : Type 0 where
+  pub own : w.id.creator ≡ p
+  pub view : view_refusal w.id w.members ≡ None
+  pub one : flush_of w.id h.pool ≡ Some w.members
+
+-- ---- a REPORT
+
+-- what a member says of the view from which it comes: it is a member of it and is blocked there for good
+pub record TellsOf (t : List Happening) (p : Address) (r : Report) (v : ViewId) : Type 0 where
+  pub closed : IsClosed p v t
+  pub entered : is_some (entry_of p v t) ≡ true
+  pub member : stands_in p (members_of v t) ≡ true
+  pub delivered : r.delivered ≡ open_count p v t
+  pub all : HoldsAll r.stable r.delivered r.held
+  pub order : HoldsOrder t v r.held
+  pub stable : AllHave t v r.stable 0
+
+-- its source was invited, reports once, and says what is so
+pub record IsAnswer (h : History) (p : Address) (w : ViewId) (r : Report) : Type 0 where
+  pub other : same_address p w.creator ≡ false
+  pub one : report_of p w h.pool ≡ Some r
+  pub invited : is_some (flush_of w h.pool) ≡ true
+  pub true_of : ForSome r.previous (TellsOf h.trace p r)
+
+-- ---- an INSTALL
+
+-- its items follow the base in the order of the view from which the reporter comes, from at most what it had to at least that
+pub record IsCutOf (t : List Happening) (base : ℕ) (items : List Entry) (r : Report) (v : ViewId) : Type 0 where
+  pub low : base ≤ r.delivered
+  pub high : r.delivered ≤ base + length items
+  pub order : (j : ℕ) (e : Entry) → slice_get items j ≡ Some e → slice_get (order_of v t) (base + j) ≡ Some e
+
+-- one who comes from no view is told nothing
+pub record IsNoCut (base : ℕ) (items : List Entry) : Type 0 where
+  pub from_start : base ≡ 0
+  pub empty : items ≡ []
+
+-- up to which number of its previous view's order one is told by an INSTALL
+abbrev pub end_of : wire.Install → ℕ
+end_of i = i.base + length i.items
+
+-- whether each of a list has said from where it comes
+abbrev pub AllAnswered : History → ViewId → List Address → Type 0
+AllAnswered h w members = (m : Address) → stands_in m members ≡ true → is_some (goes_from h w m) ≡ true
+
+-- the maker of the view is in it, with the same members and from some view; all have reported, and so have those who are told to go into it
+pub record IsLed (h : History) (w : ViewId) (i : wire.Install) : Type 0 where
+  pub entered : is_some (entry_of w.creator w h.trace) ≡ true
+  pub members : members_of w h.trace ≡ i.view.members
+  pub from : (e : Install) → entry_of w.creator w h.trace ≡ Some e → is_some e.previous ≡ true
+  pub complete : AllAnswered h w i.view.members
+  pub answered : (m : Address) (j : wire.Install) → install_of w m h.pool ≡ Some j → is_some (report_of m w h.pool) ≡ true
+
+-- the cut, and who comes along, for one who reported this
+pub record IsFitting (h : History) (w : ViewId) (q : Address) (i : wire.Install) (r : Report) : Type 0 where
+  pub cut : MatchOption r.previous (IsNoCut i.base i.items) (IsCutOf h.trace i.base i.items r)
+  pub together : i.together ≡ filter (goes_with h w r.previous) i.view.members
+  -- all who come from there go on at one end
+  pub same : (m : Address) (j : wire.Install) (s : Report) → install_of w m h.pool ≡ Some j → report_of m w h.pool ≡ Some s → s.previous ≡ r.previous → end_of j ≡ end_of i
+  -- the maker too
+  pub maker : (e : Install) (v : ViewId) → entry_of w.creator w h.trace ≡ Some e → e.previous ≡ Some v → r.previous ≡ Some v
+      → length (list_of w.creator v h.trace) ≡ end_of i
+
+-- its source made the view, sends one instruction to each, and it fits what that one reported
+pub record IsInstruction (h : History) (p q : Address) (i : wire.Install) : Type 0 where
+  pub own : i.view.id.creator ≡ p
+  pub other : same_address q p ≡ false
+  pub one : install_of i.view.id q h.pool ≡ Some i
+  pub listed : stands_in q i.view.members ≡ true
+  pub led : IsLed h i.view.id i
+  pub fits : ForSome (report_of q i.view.id h.pool) (IsFitting h i.view.id q i)
+
+-- ---- packets of the order
+
+-- the first member of the view, which is in it, says this
+pub record IsLeader (t : List Happening) (p : Address) (v : ViewId) : Type 0 where
+  pub own : v.creator ≡ p
+  pub entered : is_some (entry_of p v t) ≡ true
+
+pub record IsOrder (t : List Happening) (p : Address) (v : ViewId) (g : ℕ) (e : Entry) : Type 0 where
+  pub leader : IsLeader t p v
+  pub order : IsOrdered t v g e
+  pub near : AllHave t v g WINDOW
+
+pub record IsStatus (t : List Happening) (p : Address) (v : ViewId) (stable : ℕ) : Type 0 where
+  pub leader : IsLeader t p v
+  pub all : AllHave t v stable 0
+
+-- ---- what holds of a packet from one address to another
+
+abbrev pub BodyFact : History → Address → Address → Body → Type 0
+BodyFact h p q bodies.Join = Unit {0}
+BodyFact h p q (bodies.Redirect coordinator) = Unit {0}
+BodyFact h p q bodies.Leave = Unit {0}
+BodyFact h p q (bodies.Forward view number payload) = IsSent h.trace view (record { sender = p; number = number; payload = payload })
+BodyFact h p q (bodies.Order view place entry) = IsOrder h.trace p view place entry
+BodyFact h p q (bodies.Nak view missing) = Unit {0}
+BodyFact h p q (bodies.Ack view delivered) = delivered ≤ open_count p view h.trace
+BodyFact h p q (bodies.Status view progress) = IsStatus h.trace p view progress.stable
+BodyFact h p q (bodies.Flush proposal) = IsProposal h p proposal
+BodyFact h p q (bodies.Behind proposal counter) = Unit {0}
+BodyFact h p q (bodies.Report proposal report) = IsAnswer h p proposal report
+BodyFact h p q (bodies.Install install) = IsInstruction h p q install
+BodyFact h p q (bodies.Merge view) = Unit {0}
+
+abbrev pub PacketFact : History → Posted → Type 0
+PacketFact h m = BodyFact h m.source m.destination m.body
+
+-- ---- what holds of a member's install of a view
+
+pub record IsEntry (h : History) (q : Address) (w : ViewId) (e : Install) : Type 0 where
+  -- the maker has installed it
+  pub led : is_some (entry_of w.creator w h.trace) ≡ true
+  pub from : goes_from h w q ≡ Some e.previous
+  pub complete : AllAnswered h w e.view.members
+  pub together : e.together ≡ filter (goes_with h w e.previous) e.view.members
+  -- all but the maker were told to, and had then been told the order up to its end
+  pub told : same_address q w.creator ≡ false → is_some (install_of w q h.pool) ≡ true
+  pub end : (i : wire.Install) (v : ViewId) → same_address q w.creator ≡ false → install_of w q h.pool ≡ Some i → e.previous ≡ Some v
+      → length (list_of q v h.trace) ≡ end_of i
+
+-- ---- states
+
+-- the state that all who were told a view's order up to somewhere have: that of its beginning, with these applied; None where nobody has begun it
+abbrev pub state_with : {S : Type 0} → S → (S → Address → List ℕ → S) → (List ℕ → Option S) → ViewId → List Entry → List Happening → Option S
+state_with opening apply decode v entries t = option_map (λ s. applied apply s entries) (entry_state opening apply decode v t)
+
+-- an INSTALL gives the state with which its view begins to all who come from another view than its maker
+abbrev pub GivesState : {S : Type 0} → S → (S → Address → List ℕ → S) → (S → List ℕ) → (List ℕ → Option S) → History → Address → wire.Install → Type 0
+GivesState opening apply encode decode h q i = (e : Install) (r : Report) → entry_of i.view.id.creator i.view.id h.trace ≡ Some e → report_of q i.view.id h.pool ≡ Some r
+    → i.state ≡ (if option_eq same_view_id r.previous e.previous then None else option_map encode (entry_state opening apply decode i.view.id h.trace))
+
+-- a view begins with the state that its maker had at the end of the view from which it came
+abbrev pub BeginsWith : {S : Type 0} → S → (S → Address → List ℕ → S) → (List ℕ → Option S) → List Happening → ViewId → Install → Type 0
+BeginsWith opening apply decode t w e = (v : ViewId) → e.previous ≡ Some v
+    → state_with opening apply decode v (list_of w.creator v t) t ≡ entry_state opening apply decode w t

@@ -1,0 +1,71 @@
+-- Steps: an address starts, crashes, or does one act, on a packet of the pool or on none.
+use Rattle.std.specs.Prelude.{◌≡◌, ℕ, false, ◌&&◌, not, Option, None, Some, List, [], ◌∷◌, ◌++◌, slice_get, IsSome, if◌then◌else◌}
+use Rattle.std.specs.Option.{IsSomeAnd, option_and_then, option_map_or}
+use Rattle.address.specs.Ids.{Address, IsAddress, same_address}
+use Rattle.trace_props.specs.declared.happening.Happening.{Happening}
+use Rattle.trace_props.specs.declared.happening.Happening.TheVariants.{Started, Crashed}
+use Rattle.trace_props.specs.Observed.{has_started}
+use Rattle.agreement.specs.Histories.{Posted, History}
+use Rattle.agreement.specs.Cores.{Core, idle}
+use Rattle.agreement.specs.Acts.{Act, Allowed, after, packets_of, happenings_of}
+
+-- the members that run, by address, and what was
+pub record System (S : Type 0) : Type 0 where
+  pub running : Address → Option (Core S)
+  pub history : History
+
+abbrev pub no_history : History
+no_history = record { pool = []; trace = [] }
+
+abbrev pub nothing_yet : {S : Type 0} → System S
+nothing_yet = record { running = λ p. None; history = no_history }
+
+-- the members that run, with one changed
+abbrev pub put : {S : Type 0} → Address → Option (Core S) → (Address → Option (Core S)) → Address → Option (Core S)
+put p c running q = if same_address q p then c else running q
+
+-- a packet is handed to a member that is connected, where it is for it and from another
+abbrev pub handed : {S : Type 0} → Core S → Posted → Option Posted
+handed c m = if c.connected && same_address m.destination c.me && not (same_address m.source c.me) then Some m else None
+
+-- what a member is handed of the pool
+abbrev pub came_of : {S : Type 0} → Core S → List Posted → Option ℕ → Option Posted
+came_of c pool which = option_and_then (handed c) (option_and_then (slice_get pool) which)
+
+pub data Step : Type 0 where
+  Start : Address → Step
+  Crash : Address → Step
+  Does : Address → Option ℕ → Act → Step
+
+-- an address starts once; all else is done while it runs
+abbrev pub MayStep : {S : Type 0} → (List ℕ → Option S) → System S → Step → Type 0
+MayStep decode s (Start p) = IsAddress p × (has_started p s.history.trace ≡ false)
+MayStep decode s (Crash p) = IsSome (s.running p)
+MayStep decode s (Does p which act) = IsSomeAnd (s.running p) (λ c. Allowed decode (came_of c s.history.pool which) c act)
+
+-- the history with packets and happenings more
+abbrev pub grown : History → List Posted → List Happening → History
+grown h packets happenings = record { pool = h.pool ++ packets; trace = h.trace ++ happenings }
+
+-- the system after a member did an act
+abbrev pub acted : {S : Type 0} → (S → Address → List ℕ → S) → (S → List ℕ) → (List ℕ → Option S) → System S → Address → Act → Core S → System S
+acted apply encode decode s p act c = record {
+  running = put p (after apply encode decode c act) s.running;
+  history = grown s.history (packets_of apply encode c act) (happenings_of c act);
+}
+
+-- the system after a step
+abbrev pub stepped : {S : Type 0} → S → (S → Address → List ℕ → S) → (S → List ℕ) → (List ℕ → Option S) → System S → Step → System S
+stepped opening apply encode decode s (Start p) =
+    record { running = put p (Some (idle opening p)) s.running; history = grown s.history [] (Started p ∷ []) }
+stepped opening apply encode decode s (Crash p) = record { running = put p None s.running; history = grown s.history [] (Crashed p ∷ []) }
+stepped opening apply encode decode s (Does p which act) = option_map_or (acted apply encode decode s p act) (s.running p) s
+
+-- steps that are each allowed after those before
+abbrev pub MayRun : {S : Type 0} → S → (S → Address → List ℕ → S) → (S → List ℕ) → (List ℕ → Option S) → System S → List Step → Type 0
+MayRun opening apply encode decode s [] = Unit {0}
+MayRun opening apply encode decode s (x ∷ steps) = MayStep decode s x × MayRun opening apply encode decode (stepped opening apply encode decode s x) steps
+
+abbrev pub after_steps : {S : Type 0} → S → (S → Address → List ℕ → S) → (S → List ℕ) → (List ℕ → Option S) → System S → List Step → System S
+after_steps opening apply encode decode s [] = s
+after_steps opening apply encode decode s (x ∷ steps) = after_steps opening apply encode decode (stepped opening apply encode decode s x) steps
