@@ -62,6 +62,18 @@ fn around(
     Ok(text)
 }
 
+/// What is printed where a payload of 512 bytes is sent, and one of 513 refused.
+pub fn longest_sent(alloc: Global) -> Result<Vec<u8>, AllocError> {
+    let sent = around(
+        alloc,
+        b"started 1.1\ninstalled 1.1 - 1@1.1 1.1 1.1 - -\nsent 1.1 1@1.1 1 ",
+        b"61",
+        512,
+        b"\ndelivered 1.1 1@1.1 1.1 1 ",
+    )?;
+    around(alloc, sent.as_slice(), b"61", 512, b"\n# refused 4 4\n")
+}
+
 /// Whether a payload of 512 bytes is sent, and one of 513 refused.
 fn longest_is_sent(alloc: Global) -> Result<bool, AllocError> {
     let first = around(
@@ -72,14 +84,8 @@ fn longest_is_sent(alloc: Global) -> Result<bool, AllocError> {
         b"\nsend 1 ",
     )?;
     let script = around(alloc, first.as_slice(), b"a", 513, b"\n")?;
-    let sent = around(
-        alloc,
-        b"started 1.1\ninstalled 1.1 - 1@1.1 1.1 1.1 - -\nsent 1.1 1@1.1 1 ",
-        b"61",
-        512,
-        b"\ndelivered 1.1 1@1.1 1.1 1 ",
-    )?;
-    let wanted = around(alloc, sent.as_slice(), b"61", 512, b"\n# refused 4 4\n0")?;
+    let mut wanted = longest_sent(alloc)?;
+    wanted.push(b'0')?;
     Ok(prints(alloc, script.as_slice(), wanted.as_slice()))
 }
 

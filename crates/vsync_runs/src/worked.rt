@@ -1,6 +1,7 @@
 //! The outputs of the worked scripts hold, what breaks a rule is told, and damaged texts never do more than that. The texts are copies
 //! of the formats' examples, not of what the program wrote.
 
+use crate::tests::longest_sent;
 use crate::{Status, run_check};
 use chat_log::ChatLog;
 use std::alloc::{AllocError, Global};
@@ -276,6 +277,15 @@ fn forty_sent(alloc: Global) -> Result<Vec<u8>, AllocError> {
 }
 
 #[test]
+fn the_longest_payload_holds(rt: HostRuntime) {
+    let text = longest_sent(rt.alloc());
+    assert!(rt; text.is_ok());
+    if let Ok(text) = text {
+        assert!(rt; prints(rt.alloc(), text.as_slice(), b"holds\n0"));
+    }
+}
+
+#[test]
 fn forty_messages_hold(rt: HostRuntime) {
     let text = forty_sent(rt.alloc());
     assert!(rt; text.is_ok());
@@ -332,6 +342,7 @@ fn faults_and_breaks_are_told(rt: HostRuntime) {
 #[test]
 fn smallest_broken_traces(rt: HostRuntime) {
     for (text, wanted) in [
+        (b"blocked 1.1\n".as_slice(), b"broken D5 1\n1".as_slice()),
         (
             b"started 1.1\nstarted 1.1\n".as_slice(),
             b"broken D5 2\n1".as_slice(),
@@ -383,24 +394,52 @@ fn is_answer(output: &[u8]) -> bool {
     line.starts_with(wanted) && line.iter().position(|b| *b == b'\n') == Some(line.len() - 1)
 }
 
-/// Whether the text with another byte at an index, and its beginning up to there, are both answered by one line.
+/// Whether the text with another byte at an index is answered by one line.
 fn is_answered(alloc: Global, text: &[u8], index: usize, byte: u8) -> Result<bool, AllocError> {
     let mut damaged = Vec::from_slice(alloc, text)?;
     if index < damaged.len() {
         damaged[index] = byte;
     }
-    let cut = text.split_at(index.min(text.len())).0;
-    let whole = checked(alloc, damaged.as_slice())?;
-    let beginning = checked(alloc, cut)?;
-    Ok(is_answer(whole.as_slice()) && is_answer(beginning.as_slice()))
+    let output = checked(alloc, damaged.as_slice())?;
+    Ok(is_answer(output.as_slice()))
+}
+
+/// Whether the text with each of some other bytes at an index is answered by one line.
+fn are_answered(alloc: Global, text: &[u8], index: usize) -> Result<bool, AllocError> {
+    for byte in [b'\n', b' ', b'0', b'9', b'-', b',', 0, 255] {
+        if !is_answered(alloc, text, index, byte)? {
+            return Ok(false);
+        }
+    }
+    Ok(true)
 }
 
 #[test]
-fn damaged_texts_are_answered(rt: HostRuntime) {
-    for index in 0..TWO_FLUSHES_CROSS.len() {
-        for byte in [b'\n', b' ', b'0', b'9', b'-', b',', 0, 255] {
-            let answered = is_answered(rt.alloc(), TWO_FLUSHES_CROSS, index, byte);
-            assert_eq!(rt; answered, Ok(true));
-        }
+fn texts_damaged_early_are_answered(rt: HostRuntime) {
+    for index in 0..425 {
+        let answered = are_answered(rt.alloc(), TWO_FLUSHES_CROSS, index);
+        assert_eq!(rt; answered, Ok(true));
+    }
+}
+
+#[test]
+fn texts_damaged_late_are_answered(rt: HostRuntime) {
+    for index in 425..TWO_FLUSHES_CROSS.len() {
+        let answered = are_answered(rt.alloc(), TWO_FLUSHES_CROSS, index);
+        assert_eq!(rt; answered, Ok(true));
+    }
+}
+
+/// Whether the beginning of a text of this length is answered by one line.
+fn is_cut_answered(alloc: Global, text: &[u8], length: usize) -> Result<bool, AllocError> {
+    let output = checked(alloc, text.split_at(length.min(text.len())).0)?;
+    Ok(is_answer(output.as_slice()))
+}
+
+#[test]
+fn texts_cut_short_are_answered(rt: HostRuntime) {
+    for length in 0..TWO_FLUSHES_CROSS.len() {
+        let answered = is_cut_answered(rt.alloc(), TWO_FLUSHES_CROSS, length);
+        assert_eq!(rt; answered, Ok(true));
     }
 }
