@@ -82,6 +82,7 @@ impl Entry {
     pub fn into_payload(self) -> Vec<u8>
         ensures { result.items ≡ self.payload }
     {
-        self.payload
+        let Entry { payload, .. } = self;
+        payload
     }
 }

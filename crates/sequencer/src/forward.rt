@@ -42,6 +42,7 @@ impl Forward {
     pub fn into_payload(self) -> Vec<u8>
         ensures { result.items ≡ self.payload }
     {
-        self.payload
+        let Forward { payload, .. } = self;
+        payload
     }
 }
