@@ -1,16 +1,16 @@
--- Each act keeps the invariant, as a step of a member that runs: Joins, Puts, Sends, Queues, Hears, Collects, Holds, Delivers, Promises, Begins, Records, Leaves;
--- and so do a start and a crash.
+-- Each of the sixteen acts keeps the invariant, as a step of a member that runs; and so do a start and a crash.
 use Rattle.std.proofs.Common.{◌≡◌, ℕ, ◌≤◌, length, false, Option, Some, List, subst, sym}
 use Rattle.address.specs.Ids.{Address, IsAddress}
 use Rattle.view.specs.Members.{View}
 use Rattle.wire.specs.declared.limits.TheConstants.{PAYLOAD}
 use Rattle.wire.specs.Values.{Entry, Report}
+use Rattle.wire.specs.Values as wire
 use Rattle.wire.specs.declared.packet.Body.{Body}
 use Rattle.flush.specs.Flushes.{FlushModel}
 use Rattle.trace_props.specs.Observed.{has_started}
 use Rattle.agreement.specs.Histories.{History}
 use Rattle.agreement.specs.Cores.{Core}
-use Rattle.agreement.specs.Acts.{Act, Joins, Puts, Sends, Queues, Hears, Collects, Holds, Delivers, Promises, Begins, Records, Leaves, Allowed}
+use Rattle.agreement.specs.Acts.{Cuts, Act, Creates, Joins, Puts, Sends, Queues, Orders, Hears, Collects, Holds, Delivers, Promises, Begins, Records, Finishes, Enters, Leaves, Allowed}
 use Rattle.agreement.specs.Steps.{System, Start, Crash, came_of, acted, stepped}
 use Rattle.agreement.specs.Members.{MemberFact}
 use Rattle.agreement.specs.Invariant.{Invariant}
@@ -19,6 +19,10 @@ use Rattle.agreement.proofs.Ending.{still-keeps, leaves-keeps, crashed-keeps}
 use Rattle.agreement.proofs.Starting.{starts-keep}
 use Rattle.agreement.proofs.Sending.{sends-keep}
 use Rattle.agreement.proofs.Delivering.{delivers-keep}
+use Rattle.agreement.proofs.Ordering.{orders-keep}
+use Rattle.agreement.proofs.Entering.{enters-keep}
+use Rattle.agreement.proofs.Creating.{creates-keep}
+use Rattle.agreement.proofs.Finishing.{finishes-keep}
 use Rattle.agreement.proofs.Repeating.{puts-keep}
 use Rattle.agreement.proofs.Promising.{promises-keep}
 use Rattle.agreement.proofs.Proposing.{begins-keep}
@@ -42,6 +46,9 @@ module _ {S : Type 0} (opening : S) (apply : S → Address → List ℕ → S) (
       let x = i.members p c runs in
       subst (λ (q : Address). Holding (acted apply encode decode s q act c)) x.seat.itself
       (shown s c which i (subst (λ (q : Address). Fact s.history q c) (sym x.seat.itself) x) a)
+
+  pub creates-keeps : Keeps Creates
+  creates-keeps = at-own Creates (λ s c which i x a. creates-keep opening apply encode decode is_state s c i x a)
 
   pub joins-keeps : Keeps Joins
   joins-keeps = at-own Joins (λ s c which i x a. still-keeps opening apply encode decode is_state s c.me _ i (joins-fact opening apply decode is_state s.history c.me c x))
@@ -85,6 +92,19 @@ module _ {S : Type 0} (opening : S) (apply : S → Address → List ℕ → S) (
   pub delivers-keeps : ((z : S) (from : Address) (payload : List ℕ) → is_state z → IsAddress from → length payload ≤ PAYLOAD → is_state (apply z from payload))
       → (v : View) (e : Entry) → Keeps (Delivers v e)
   delivers-keeps law v e = at-own (Delivers v e) (λ s c which i x a. delivers-keep opening apply encode decode is_state s c v e law i x a)
+
+  pub orders-keeps : ((z : S) (from : Address) (payload : List ℕ) → is_state z → IsAddress from → length payload ≤ PAYLOAD → is_state (apply z from payload))
+      → (v : View) (e : Entry) (waiting : List Entry) (held : List (ℕ × Entry)) → Keeps (Orders v e waiting held)
+  orders-keeps law v e waiting held = at-own (Orders v e waiting held) (λ s c which i x a. orders-keep opening apply encode decode is_state s c v e waiting held law i x a)
+
+  pub finishes-keeps : ((z : S) (from : Address) (payload : List ℕ) → is_state z → IsAddress from → length payload ≤ PAYLOAD → is_state (apply z from payload))
+      → (v : View) (f : FlushModel) (cuts : Cuts) → Keeps (Finishes v f cuts)
+  finishes-keeps law v f cuts = at-own (Finishes v f cuts) (λ s c which i x a. finishes-keep opening apply encode decode is_state s c v f cuts law i x a)
+
+  -- by that law, and by the law that an encoded state is read back
+  pub enters-keeps : ((z : S) (from : Address) (payload : List ℕ) → is_state z → IsAddress from → length payload ≤ PAYLOAD → is_state (apply z from payload))
+      → ((z : S) → is_state z → decode (encode z) ≡ Some z) → (i : wire.Install) → Keeps (Enters i)
+  enters-keeps law reads i = at-own (Enters i) (λ s c which inv x a. enters-keep opening apply encode decode is_state s c which i law reads inv x a)
 
   -- a start and a crash keep it
   pub start-keeps : (s : System S) (p : Address) → is_state opening → Holding s → IsAddress p → has_started p s.history.trace ≡ false

@@ -142,10 +142,10 @@ tells h p (Some u) traffic kept fact v e =
 -- ---- the promise
 
 -- a view that is at most promised lies below a higher promise
-pub view-below : (b : Bool) (p : Address) (connected : Bool) (promise view : Option View) (installed : Bool) (w : View) → installed ≡ b → PromiseOf p connected promise view installed
+pub view-below : (b : Bool) (p : Address) (promise view : Option View) (installed : Bool) (w : View) → installed ≡ b → PromiseOf p promise view installed
     → IsAbovePromise w.id promise → ForSome view (λ v. IsBelow v.id w.id)
-view-below true p connected promise view installed w test x above v e = above v (x.is test ∙ e)
-view-below false p connected promise view installed w test x above v e = by promise (x.above test v e) above
+view-below true p promise view installed w test x above v e = above v (x.is test ∙ e)
+view-below false p promise view installed w test x above v e = by promise (x.above test v e) above
   where
     by : (o : Option View) → IsSomeAnd o (λ u. IsBelow v.id u.id) → IsAbovePromise w.id o → IsBelow v.id w.id
     by None y z = absurd y

@@ -46,7 +46,7 @@ head-by : (rest : List Numbered) (m : Numbered) → slice_get rest 0 ≡ Some m 
 head-by [] m at = absurd (none-some m at)
 head-by (x ∷ rest) m at = ap (λ z. z ∷ rest) (same_Some x m at)
 
-own-by : (b : Bool) (p : Address) (told : List Message) (sent rest : List Numbered) (m : Message) → same_address m.sender p ≡ b → sent ≡ own p told ++ rest
+pub own-by : (b : Bool) (p : Address) (told : List Message) (sent rest : List Numbered) (m : Message) → same_address m.sender p ≡ b → sent ≡ own p told ++ rest
     → (m.sender ≡ p → slice_get sent (length (own m.sender told)) ≡ Some (numbered m)) → sent ≡ own p (told ++ m ∷ []) ++ drop (length (own p (m ∷ []))) rest
 own-by true p told sent rest m test is next =
     let same = same_address-true m.sender p test in

@@ -61,7 +61,7 @@ pub joins-fact : {S : Type 0} (opening : S) (apply : S → Address → List ℕ 
     → MemberFact opening apply decode is_state h p c → MemberFact opening apply decode is_state h p (record c { connected = true })
 joins-fact opening apply decode is_state h p c x = record {
   seat = x.seat;
-  promise = record { inside = x.promise.inside; is = x.promise.is; above = x.promise.above; listed = x.promise.listed; asked = λ w e. refl };
+  promise = x.promise;
   announced = x.announced;
   below = x.below;
   reported = x.reported;
@@ -200,7 +200,7 @@ collects-fact opening apply decode is_state h c which v n held each x a =
 
 -- ---- Holds
 
-held-order : (b : Bool) (t : List Happening) (v : ViewId) (held new : List (ℕ × Entry)) (g k : ℕ) (e x : Entry) → nat_eq k g ≡ b → HoldsMore held g e new → HoldsOrder t v held → IsOrdered t v g e
+pub held-order : (b : Bool) (t : List Happening) (v : ViewId) (held new : List (ℕ × Entry)) (g k : ℕ) (e x : Entry) → nat_eq k g ≡ b → HoldsMore held g e new → HoldsOrder t v held → IsOrdered t v g e
     → held_at k new ≡ Some x → IsOrdered t v k x
 held-order true t v held new g k e x test more old is at =
     let same : k ≡ g = eqb-true k g test in
@@ -212,7 +212,7 @@ held-all : (b : Bool) (held new : List (ℕ × Entry)) (g k : ℕ) (e : Entry) �
 held-all true held new g k e test more old = ap is_some (more.now k ∙ cond-true (nat_eq k g) (Some e) (held_at k held) test)
 held-all false held new g k e test more old = ap is_some (more.now k ∙ cond-false (nat_eq k g) (Some e) (held_at k held) test) ∙ old
 
-held-near : (b : Bool) (held new : List (ℕ × Entry)) (g k n : ℕ) (e : Entry) → nat_eq k g ≡ b → HoldsMore held g e new → g ≤ n → (is_some (held_at k held) ≡ true → k ≤ n)
+pub held-near : (b : Bool) (held new : List (ℕ × Entry)) (g k n : ℕ) (e : Entry) → nat_eq k g ≡ b → HoldsMore held g e new → g ≤ n → (is_some (held_at k held) ≡ true → k ≤ n)
     → is_some (held_at k new) ≡ true → k ≤ n
 held-near true held new g k n e test more here old there = let same : k ≡ g = eqb-true k g test in omega arith
 held-near false held new g k n e test more here old there =
@@ -263,7 +263,6 @@ records-fact opening apply decode is_state h c which f q r each x a =
         promised = old.promised;
         waits = old.waits;
         own = old.own;
-        inside = old.inside;
         list = old.list;
         announced = old.announced;
         itself = lookup-kept (same_address c.me) f.reports ((q, r) ∷ []) _ old.itself;

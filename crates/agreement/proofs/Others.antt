@@ -254,7 +254,6 @@ flush-later h k q promise installed view traffic f m x = record {
   promised = x.promised;
   waits = x.waits;
   own = x.own;
-  inside = x.inside;
   list = x.list;
   announced = λ r there other. m.flush f.proposal f.members (x.announced r there other);
   itself = x.itself;

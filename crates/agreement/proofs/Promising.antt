@@ -1,5 +1,5 @@
 -- The act Promises: a member promises another's proposal, is blocked, and reports.
-use Rattle.std.proofs.Common.{◌≡◌, ℕ, Bool, true, false, cond, Option, Some, None, List, [], ◌∷◌, ◌++◌, refl, sym, ap, ◌∙◌, subst, is_some, ◌⊎◌, inl, inr}
+use Rattle.std.proofs.Common.{◌≡◌, ℕ, Bool, true, false, cond, Option, Some, None, List, [], ◌∷◌, ◌++◌, refl, sym, ap, ◌∙◌, subst, ◌⊎◌, inl, inr}
 use Rattle.flush.specs.Cuts.{first_of}
 use Rattle.std.specs.Option.{option_or}
 use Rattle.std.proofs.lemmas.Bool.{cond-true, cond-false}
@@ -119,7 +119,6 @@ module _ {S : Type 0} (opening : S) (apply : S → Address → List ℕ → S) (
       let answer : IsAnswer k p w.id r = record {
         other = same_address-sym p w.id.creator ∙ said.other;
         one = first;
-        invited = ap is_some one;
         true_of = tells h1 p c.view c.traffic c.kept halted.inside;
       } in
       let fact : Fact k p (promised w None c) = record {
@@ -127,9 +126,8 @@ module _ {S : Type 0} (opening : S) (apply : S → Address → List ℕ → S) (
         promise = record {
           inside = λ e. absurd (let n : false ≡ true = e in cc);
           is = λ e. absurd (let n : false ≡ true = e in cc);
-          above = λ e v y. view-below c.installed p c.connected c.promise c.view c.installed w refl x.promise a.above v y;
+          above = λ e v y. view-below c.installed p c.promise c.view c.installed w refl x.promise a.above v y;
           listed = λ u e. subst (λ (z : View). stands_in p z.members ≡ true) (same_Some w u e) a.listed;
-          asked = λ u e. a.connected;
         };
         announced = λ u e other. subst (λ (z : View). flush_of z.id k.pool ≡ Some z.members) (same_Some w u e) one;
         below = below-after h p c.promise w r h.trace x.below a.above;

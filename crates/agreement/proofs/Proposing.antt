@@ -1,7 +1,7 @@
 -- The act Begins: a member proposes a view, is blocked, and announces it to the others of the list.
-use Rattle.std.proofs.Common.{◌≡◌, ℕ, zero, suc, Bool, true, false, cond, not, ◌||◌, Option, Some, None, List, [], ◌∷◌, ◌++◌, map, refl, sym, ap, ◌∙◌, subst, is_some, ◌⊎◌, inl, inr}
+use Rattle.std.proofs.Common.{◌≡◌, ℕ, zero, suc, Bool, true, false, cond, not, ◌||◌, Option, Some, None, List, [], ◌∷◌, ◌++◌, map, refl, sym, ap, ◌∙◌, subst, ◌⊎◌, inl, inr}
 use Rattle.std.specs.Prelude.{slice_get, length, nat_eq, nat_lt, MatchBool}
-use Rattle.std.specs.Option.{ForSome, IsSomeAnd, option_or}
+use Rattle.std.specs.Option.{option_or}
 use Rattle.std.proofs.lemmas.Bool.{cond-true, or_left, or_right}
 use Rattle.std.proofs.lemmas.Option.{none-some, same_Some}
 use Rattle.address.specs.Ids.{Address, ViewId, same_address, same_view_id}
@@ -22,7 +22,7 @@ use Rattle.agreement.specs.Cores.{Core, report_with}
 use Rattle.agreement.specs.Acts.{IsAbovePromise, MayBegin, packet, others_of, promised, begun, blocking}
 use Rattle.agreement.specs.Steps.{System, put, grown}
 use Rattle.agreement.specs.Packets.{PacketFact}
-use Rattle.agreement.specs.Members.{PromiseOf, LiesBelow, IsNotPast, IsRecorded, RunsFlush, MemberFact}
+use Rattle.agreement.specs.Members.{LiesBelow, IsNotPast, IsRecorded, RunsFlush, MemberFact}
 use Rattle.agreement.specs.Invariant.{Invariant}
 use Rattle.agreement.proofs.Lists.{first_of-append, first_of-still, slice_get-one}
 use Rattle.agreement.proofs.Others.{IsFrom}
@@ -136,18 +136,6 @@ maker-in w list e =
     first-in w.creator list
     (unrefused (nat_eq (length list) 0) (nat_lt MEMBERS (length list)) (not (is_distinct list)) (begins_with w.creator list) Empty TooMany Repeated NotFirst e)
 
--- a member with a view has a promise, so it is connected
-connected-by : (b : Bool) (p : Address) (connected : Bool) (promise view : Option View) (installed : Bool) → installed ≡ b → is_some view ≡ true → PromiseOf p connected promise view installed
-    → connected ≡ true
-connected-by true p connected promise None installed test there x = absurd (let n : false ≡ true = there in cc)
-connected-by true p connected promise (Some v) installed test there x = x.asked v (x.is test)
-connected-by false p connected promise None installed test there x = absurd (let n : false ≡ true = there in cc)
-connected-by false p connected promise (Some v) installed test there x = by promise (x.above test v refl) x.asked
-  where
-    by : (o : Option View) → IsSomeAnd o (λ w. IsBelow v.id w.id) → ForSome o (λ w. connected ≡ true) → connected ≡ true
-    by None y z = absurd y
-    by (Some u) y z = z u refl
-
 -- ---- the act
 
 module _ {S : Type 0} (opening : S) (apply : S → Address → List ℕ → S) (encode : S → List ℕ) (decode : List ℕ → Option S) (is_state : S → Type 0) where
@@ -189,9 +177,8 @@ module _ {S : Type 0} (opening : S) (apply : S → Address → List ℕ → S) (
         promise = record {
           inside = λ e. absurd (let n : false ≡ true = e in cc);
           is = λ e. absurd (let n : false ≡ true = e in cc);
-          above = λ e v y. view-below c.installed p c.connected c.promise c.view c.installed w refl x.promise a.above v y;
+          above = λ e v y. view-below c.installed p c.promise c.view c.installed w refl x.promise a.above v y;
           listed = λ u e. subst (λ (z : View). stands_in p z.members ≡ true) (same_Some w u e) (ap (λ z. stands_in z w.members) (sym a.own) ∙ maker-in w.id w.members a.view);
-          asked = λ u e. connected-by c.installed p c.connected c.promise c.view c.installed refl a.inside x.promise;
         };
         announced = λ u e other.
             absurd (let n : true ≡ false = sym mine ∙ ap (λ (z : View). same_address z.id.creator p) (same_Some w u e) ∙ other in cc);
@@ -202,7 +189,6 @@ module _ {S : Type 0} (opening : S) (apply : S → Address → List ℕ → S) (
           promised = refl;
           waits = refl;
           own = a.own;
-          inside = a.inside;
           list = a.view;
           announced = λ q there other.
               announced-new p w h.pool none

@@ -59,7 +59,7 @@ module _ {S : Type 0} (opening : S) (apply : S → Address → List ℕ → S) (
 
   -- ONE HAPPENING
 
-  no-entry : (v : ViewId) (t : List Happening) (x : Happening) → installs v.creator v x ≡ false → (o : Option ℕ) → position_from (installs v.creator v) 0 t ≡ o
+  pub no-entry : (v : ViewId) (t : List Happening) (x : Happening) → installs v.creator v x ≡ false → (o : Option ℕ) → position_from (installs v.creator v) 0 t ≡ o
       → entry_state opening apply decode v (t ++ x ∷ []) ≡ entry_state opening apply decode v t
   no-entry v t x other None at =
       entry_state-new opening apply decode v t x at ∙ cond-false (installs v.creator v x) _ None other ∙ sym (entry_state-none opening apply decode v t at)

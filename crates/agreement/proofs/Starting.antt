@@ -128,7 +128,6 @@ module _ {S : Type 0} (opening : S) (apply : S → Address → List ℕ → S) (
           is = λ e. absurd (let n : false ≡ true = e in cc);
           above = λ e v y. absurd (none-some v y);
           listed = λ w y. absurd (none-some w y);
-          asked = λ w y. absurd (none-some w y);
         };
         announced = λ w y. absurd (none-some w y);
         below = record {

@@ -1,6 +1,5 @@
 -- What holds of a packet and of an install holds later.
 use Rattle.std.proofs.Common.{◌≡◌, ℕ, ◌+◌, ◌≤◌, Bool, true, false, Option, Some, None, List, [], length, filter, refl, sym, ap, ◌∙◌, arith, is_some}
-use Rattle.std.specs.Prelude.{MatchOption}
 use Rattle.std.specs.Option.{option_map, option_map_or, option_eq}
 use Rattle.std.proofs.lemmas.Bool.{cond-true, cond-false}
 use Rattle.address.specs.Ids.{Address, ViewId, same_address, same_view_id}
@@ -13,8 +12,8 @@ use Rattle.trace_props.specs.declared.happening.Happening.{Happening}
 use Rattle.trace_props.specs.declared.happening.Install.{Install}
 use Rattle.trace_props.specs.Observed.{entry_of}
 use Rattle.agreement.specs.Words.{Tally, members_of, open_count}
-use Rattle.agreement.specs.Histories.{Posted, History, flush_of, report_of, goes_from, goes_with}
-use Rattle.agreement.specs.Packets.{IsOrdered, IsSent, AllHave, HoldsOrder, IsProposal, TellsOf, IsAnswer, IsCutOf, IsNoCut, AllAnswered, IsLed, IsFitting, IsInstruction, IsLeader, IsOrder, IsStatus, BodyFact, PacketFact, IsEntry}
+use Rattle.agreement.specs.Histories.{Posted, History, report_of, goes_from, goes_with}
+use Rattle.agreement.specs.Packets.{IsOrdered, IsSent, AllHave, HoldsOrder, IsProposal, TellsOf, IsAnswer, IsCutOf, AllAnswered, IsLed, IsFitting, IsInstruction, IsLeader, IsOrder, IsStatus, BodyFact, PacketFact, IsEntry}
 use Rattle.agreement.proofs.Lists.{filter-same}
 use Rattle.agreement.proofs.Growing.{Later, entered-later}
 
@@ -119,7 +118,6 @@ pub answer-later : (h k : History) (p : Address) (w : ViewId) (r : Report) → L
 answer-later h k p w r m x = record {
   other = x.other;
   one = m.report p w r x.one;
-  invited = there-later (flush_of w h.pool) (flush_of w k.pool) (λ l y. m.flush w l y) x.invited;
   true_of = λ v e. tells-later h k p r v m (x.true_of v e);
 }
 
@@ -134,14 +132,12 @@ led-later h k w i m x = record {
   answered = λ q j y. there-later (report_of q w h.pool) (report_of q w k.pool) (λ r z. m.report q w r z) (x.answered q j (sym (m.installs w q x.entered) ∙ y));
 }
 
-cut-later : (h k : History) (base : ℕ) (items : List Entry) (r : Report) (o : Option ViewId) → Later h k
-    → MatchOption o (IsNoCut base items) (IsCutOf h.trace base items r) → MatchOption o (IsNoCut base items) (IsCutOf k.trace base items r)
-cut-later h k base items r None m x = x
-cut-later h k base items r (Some v) m x = record { low = x.low; high = x.high; order = λ j e at. m.list v.creator v (base + j) e (x.order j e at) }
+cut-later : (h k : History) (base : ℕ) (items : List Entry) (r : Report) (v : ViewId) → Later h k → IsCutOf h.trace base items r v → IsCutOf k.trace base items r v
+cut-later h k base items r v m x = record { low = x.low; high = x.high; order = λ j e at. m.list v.creator v (base + j) e (x.order j e at) }
 
 pub fitting-later : (h k : History) (w : ViewId) (q : Address) (i : wire.Install) (r : Report) → Later h k → IsLed h w i → IsFitting h w q i r → IsFitting k w q i r
 fitting-later h k w q i r m led x = record {
-  cut = cut-later h k i.base i.items r r.previous m x.cut;
+  cut = λ v from. cut-later h k i.base i.items r v m (x.cut v from);
   together = x.together ∙ together-later h k w r.previous i.view.members m led.complete;
   same = λ n j s install report from.
       let was = sym (m.installs w n led.entered) ∙ install in

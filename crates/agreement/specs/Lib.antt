@@ -6,3 +6,5 @@ pub mod Steps
 pub mod Packets
 pub mod Members
 pub mod Invariant
+pub mod Chains
+pub mod Law

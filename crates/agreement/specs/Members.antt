@@ -47,12 +47,11 @@ abbrev pub IsNotPast : Option View → ViewId → Type 0
 IsNotPast promise w = IsSomeAnd promise (λ u. IsBelow u.id w → ⊥)
 
 -- the promise is the view where that is installed, and lies above it where not
-pub record PromiseOf (p : Address) (connected : Bool) (promise view : Option View) (installed : Bool) : Type 0 where
+pub record PromiseOf (p : Address) (promise view : Option View) (installed : Bool) : Type 0 where
   pub inside : installed ≡ true → is_some view ≡ true
   pub is : installed ≡ true → promise ≡ view
   pub above : installed ≡ false → ForSome view (λ v. IsSomeAnd promise (λ w. IsBelow v.id w.id))
   pub listed : ForSome promise (λ w. stands_in p w.members ≡ true)
-  pub asked : ForSome promise (λ w. connected ≡ true)
 
 -- the promised proposal of another was announced
 abbrev pub IsAnnounced : List Posted → Address → Option View → Type 0
@@ -79,7 +78,6 @@ pub record RunsFlush (pool : List Posted) (p : Address) (promise : Option View) 
   pub promised : promise ≡ Some (proposed f)
   pub waits : installed ≡ false
   pub own : f.proposal.creator ≡ p
-  pub inside : is_some view ≡ true
   pub list : view_refusal f.proposal f.members ≡ None
   pub announced : (q : Address) → stands_in q f.members ≡ true → same_address q p ≡ false → flush_of f.proposal pool ≡ Some f.members
   pub itself : report_from p f.reports ≡ Some (report_with view traffic)
@@ -145,7 +143,7 @@ pub record HasState {S : Type 0} (opening : S) (apply : S → Address → List �
 pub record MemberFact {S : Type 0} (opening : S) (apply : S → Address → List ℕ → S) (decode : List ℕ → Option S) (is_state : S → Type 0) (h : History) (p : Address)
     (c : Core S) : Type 0 where
   pub seat : HasSeat h.trace p c.me c.view c.installed
-  pub promise : PromiseOf p c.connected c.promise c.view c.installed
+  pub promise : PromiseOf p c.promise c.view c.installed
   pub announced : IsAnnounced h.pool p c.promise
   pub below : LiesBelow h.pool p c.promise
   pub reported : IsReported h.pool p c.promise c.installed c.view c.traffic

@@ -1,5 +1,5 @@
 -- What holds of each packet that was put out, and of each install, from then on.
-use Rattle.std.specs.Prelude.{◌≡◌, ℕ, ◌+◌, ◌<◌, ◌≤◌, true, false, Option, None, Some, List, [], filter, length, is_some, slice_get, MatchOption, if◌then◌else◌}
+use Rattle.std.specs.Prelude.{◌≡◌, ℕ, ◌+◌, ◌<◌, ◌≤◌, true, false, Option, None, Some, List, filter, length, is_some, slice_get, if◌then◌else◌}
 use Rattle.std.specs.Option.{ForSome, option_map, option_eq}
 use Rattle.address.specs.Ids.{Address, ViewId, same_address, same_view_id}
 use Rattle.view.specs.Members.{View, stands_in}
@@ -60,11 +60,10 @@ pub record TellsOf (t : List Happening) (p : Address) (r : Report) (v : ViewId) 
   pub order : HoldsOrder t v r.held
   pub stable : AllHave t v r.stable 0
 
--- its source was invited, reports once, and says what is so
+-- its source is not the maker, reports once, and says what is so
 pub record IsAnswer (h : History) (p : Address) (w : ViewId) (r : Report) : Type 0 where
   pub other : same_address p w.creator ≡ false
   pub one : report_of p w h.pool ≡ Some r
-  pub invited : is_some (flush_of w h.pool) ≡ true
   pub true_of : ForSome r.previous (TellsOf h.trace p r)
 
 -- ---- an INSTALL
@@ -74,11 +73,6 @@ pub record IsCutOf (t : List Happening) (base : ℕ) (items : List Entry) (r : R
   pub low : base ≤ r.delivered
   pub high : r.delivered ≤ base + length items
   pub order : (j : ℕ) (e : Entry) → slice_get items j ≡ Some e → slice_get (order_of v t) (base + j) ≡ Some e
-
--- one who comes from no view is told nothing
-pub record IsNoCut (base : ℕ) (items : List Entry) : Type 0 where
-  pub from_start : base ≡ 0
-  pub empty : items ≡ []
 
 -- up to which number of its previous view's order one is told by an INSTALL
 abbrev pub end_of : wire.Install → ℕ
@@ -98,7 +92,7 @@ pub record IsLed (h : History) (w : ViewId) (i : wire.Install) : Type 0 where
 
 -- the cut, and who comes along, for one who reported this
 pub record IsFitting (h : History) (w : ViewId) (q : Address) (i : wire.Install) (r : Report) : Type 0 where
-  pub cut : MatchOption r.previous (IsNoCut i.base i.items) (IsCutOf h.trace i.base i.items r)
+  pub cut : ForSome r.previous (IsCutOf h.trace i.base i.items r)
   pub together : i.together ≡ filter (goes_with h w r.previous) i.view.members
   -- all who come from there go on at one end
   pub same : (m : Address) (j : wire.Install) (s : Report) → install_of w m h.pool ≡ Some j → report_of m w h.pool ≡ Some s → s.previous ≡ r.previous → end_of j ≡ end_of i
