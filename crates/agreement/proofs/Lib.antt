@@ -38,3 +38,7 @@ pub mod Chaining
 pub mod Acting
 pub mod Beginning
 pub mod Stepping
+pub mod Playing
+pub mod Crashing
+pub mod Leaving
+pub mod Merging

@@ -8,3 +8,7 @@ pub mod Members
 pub mod Invariant
 pub mod Chains
 pub mod Law
+pub mod Stories
+pub mod CrashStory
+pub mod LeaveStory
+pub mod MergeStory

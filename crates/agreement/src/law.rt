@@ -1,5 +1,8 @@
 ghost use Rattle.agreement.specs.Law.{KeepsInvariant, IsAlwaysSynchronous};
 ghost use Rattle.agreement.specs.Chains.{NothingActed, OneActed, ThenActed};
+ghost use Rattle.agreement.specs.CrashStory.{CrashPlays};
+ghost use Rattle.agreement.specs.LeaveStory.{LeavePlays};
+ghost use Rattle.agreement.specs.MergeStory.{MergePlays};
 
 use state_transfer::Receiver;
 
@@ -17,4 +20,15 @@ pub fn acts_in_turn<R: Receiver>()
     ensures nothing { NothingActed R.apply R.encode R.decode }
     ensures one { OneActed R.apply R.encode R.decode }
     ensures two { ThenActed R.apply R.encode R.decode }
+{}
+
+/// The law speaks of something: these three lists of steps are allowed from the beginning on, and these traces come of them. In each three members come
+/// together one after the other. Then the first orders two messages and crashes before the second has the last one; the second takes over and is told it
+/// by the cut. Or the first orders a message of the second, which becomes stable, and leaves before it has the next one, which is handed back. Or a fourth
+/// joins, the four fall into two halves, a message is ordered in each, and the halves merge: the second half is given the state of the first, and the
+/// fourth is told what it lacks of its own half. Each of the sixteen acts is done somewhere. For every receiver that keeps the laws. It does nothing.
+pub fn stories_play<R: Receiver>()
+    ensures crash { CrashPlays R.opening_state R.apply R.encode R.decode }
+    ensures leave { LeavePlays R.opening_state R.apply R.encode R.decode }
+    ensures merge { MergePlays R.opening_state R.apply R.encode R.decode }
 {}

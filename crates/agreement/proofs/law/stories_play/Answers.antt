@@ -1,0 +1,23 @@
+use Rattle.agreement.specs.Stories.{one, message_a}
+use Rattle.agreement.proofs.Playing.{one-is}
+use Rattle.agreement.proofs.Crashing.{crash-plays}
+use Rattle.agreement.proofs.Leaving.{leave-plays}
+use Rattle.agreement.proofs.Merging.{merge-plays, is-short}
+use Rattle.agreement.proofs.law.stories_play.Goals as goal
+
+pub returns-clause-crash : goal.returns-clause-crash
+returns-clause-crash g c =
+    let reads = g.met.R.Receiver.reads_back g.R.Receiver.opening_state g.met.R.Receiver.opens in
+    crash-plays g.R.Receiver.opening_state g.R.Receiver.apply g.R.Receiver.encode g.R.Receiver.decode reads
+
+pub returns-clause-leave : goal.returns-clause-leave
+returns-clause-leave g c =
+    let reads = g.met.R.Receiver.reads_back g.R.Receiver.opening_state g.met.R.Receiver.opens in
+    leave-plays g.R.Receiver.opening_state g.R.Receiver.apply g.R.Receiver.encode g.R.Receiver.decode reads
+
+pub returns-clause-merge : goal.returns-clause-merge
+returns-clause-merge g c =
+    let reads = g.met.R.Receiver.reads_back g.R.Receiver.opening_state g.met.R.Receiver.opens in
+    let half = g.met.R.Receiver.applies g.R.Receiver.opening_state one message_a g.met.R.Receiver.opens one-is is-short in
+    let reads_half = g.met.R.Receiver.reads_back (g.R.Receiver.apply g.R.Receiver.opening_state one message_a) half in
+    merge-plays g.R.Receiver.opening_state g.R.Receiver.apply g.R.Receiver.encode g.R.Receiver.decode reads reads_half
