@@ -42,3 +42,4 @@ pub mod Playing
 pub mod Crashing
 pub mod Leaving
 pub mod Merging
+pub mod Stretching

@@ -24,7 +24,7 @@ module _ {S : Type 0} (opening : S) (apply : S → Address → List ℕ → S) (
   Holding s = Invariant opening apply encode decode is_state s
 
   -- each act
-  act-keeps : Laws → (act : Act) → Acting.Keeps opening apply encode decode is_state act
+  pub act-keeps : Laws → (act : Act) → Acting.Keeps opening apply encode decode is_state act
   act-keeps l Creates = Acting.creates-keeps opening apply encode decode is_state
   act-keeps l Joins = Acting.joins-keeps opening apply encode decode is_state
   act-keeps l (Puts q body) = Acting.puts-keeps opening apply encode decode is_state q body

@@ -1,4 +1,4 @@
-ghost use Rattle.agreement.specs.Law.{KeepsInvariant, IsAlwaysSynchronous};
+ghost use Rattle.agreement.specs.Law.{KeepsInvariant, IsAlwaysSynchronous, ActsKeep};
 ghost use Rattle.agreement.specs.Chains.{NothingActed, OneActed, ThenActed};
 ghost use Rattle.agreement.specs.CrashStory.{CrashPlays};
 ghost use Rattle.agreement.specs.LeaveStory.{LeavePlays};
@@ -15,11 +15,12 @@ pub fn agreement<R: Receiver>()
 {}
 
 /// The laws of acts one after another: one who did nothing acted, so did one who did one act that was allowed, and one who acted and then acted again.
-/// It does nothing.
+/// And whoever acted in one call, on a packet that was put out before or on none, has kept the invariant. It does nothing.
 pub fn acts_in_turn<R: Receiver>()
     ensures nothing { NothingActed R.apply R.encode R.decode }
     ensures one { OneActed R.apply R.encode R.decode }
     ensures two { ThenActed R.apply R.encode R.decode }
+    ensures keep { ActsKeep R.opening_state R.apply R.encode R.decode R.is_state }
 {}
 
 /// The law speaks of something: these three lists of steps are allowed from the beginning on, and these traces come of them. In each three members come
