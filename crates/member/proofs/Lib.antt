@@ -1,0 +1,4 @@
+pub mod Lives
+pub mod Acts
+pub mod Refusing
+pub mod Handling

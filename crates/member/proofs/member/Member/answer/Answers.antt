@@ -1,0 +1,10 @@
+use Rattle.member.proofs.Lives.{gives-lone}
+use Rattle.member.proofs.member.Member.answer.Goals.{in-None, in-Some}
+use Rattle.member.proofs.member.Member.answer.Goals as goal
+
+pub invariant_of-self : goal.invariant_of-self
+invariant_of-self g c =
+    elim c.match-self.branch [
+      | in-None w ↦ rw w.self-inside-is c.self.invariant
+      | in-Some w ↦ rw w.self-inside-is (gives-lone g.R.Receiver.apply _ _ w.in-Some.life _ _ w.step.new.self (rw w.in-Some.is at c.self.invariant) w.step.ensures)
+    ]

@@ -1,0 +1,28 @@
+-- The numbers of the refusals.
+use Rattle.std.specs.Prelude.{ℕ, Bool, true, false}
+use Rattle.wire.specs.Reading.{error_number}
+use Rattle.member.specs.declared.error.Error.{Error}
+use Rattle.member.specs.declared.error.Error.TheVariants.{NotConnected, Blocked, Busy, TooLong, AlreadyConnected, Closed, Memory, Exhausted, Wire}
+
+abbrev pub number_of : Error → ℕ
+number_of NotConnected = 1
+number_of Blocked = 2
+number_of Busy = 3
+number_of TooLong = 4
+number_of AlreadyConnected = 5
+number_of Closed = 6
+number_of Memory = 7
+number_of Exhausted = 8
+number_of (Wire e) = error_number e
+
+-- memory was refused
+abbrev pub is_memory : Error → Bool
+is_memory NotConnected = false
+is_memory Blocked = false
+is_memory Busy = false
+is_memory TooLong = false
+is_memory AlreadyConnected = false
+is_memory Closed = false
+is_memory Memory = true
+is_memory Exhausted = false
+is_memory (Wire e) = false

@@ -1,0 +1,139 @@
+-- What one step of a member promises: in the acts and words of agreement, and in the words of traces.
+use Rattle.std.specs.Prelude.{◌≡◌, ℕ, ◌+◌, ◌<◌, Bool, true, false, is_some, map, [], ◌∷◌, List, Result, Ok, Err, Option, None, Some, MatchBool, IsSome, IfOk, ◌↔◌, drop, if◌then◌else◌}
+use Rattle.std.specs.Option.{IsSomeAnd, option_and_then, option_map_or}
+use Rattle.std.specs.List.{list_all, Contains, AllByRecursion}
+use Rattle.address.specs.Ids.{Address, same_address}
+use Rattle.wire.specs.declared.limits.TheConstants.{WINDOW}
+use Rattle.wire.specs.declared.packet.Body.TheVariants as bodies
+use Rattle.wire.specs.Packets.{IsPacket}
+use Rattle.trace_props.specs.declared.happening.Happening.{Happening}
+use Rattle.trace_props.specs.declared.happening.Happening.TheVariants.{Started, Sent, Delivered, Blocked, Installed, Left, Crashed}
+use Rattle.agreement.specs.Histories.{Posted}
+use Rattle.agreement.specs.Cores.{Core}
+use Rattle.agreement.specs.Acts.{packet}
+use Rattle.agreement.specs.Chains.{Acted}
+use Rattle.member.specs.declared.error.Error.{Error}
+use Rattle.member.specs.declared.error.Error.TheVariants.{Memory, Closed}
+use Rattle.member.specs.declared.input.Input.{Input}
+use Rattle.member.specs.declared.input.Input.TheVariants.{Create, Join, Send, Datagram, Tick, Leave}
+use Rattle.member.specs.declared.output.Output.{Output}
+use Rattle.member.specs.Errors.{is_memory}
+use Rattle.member.specs.Members.{MemberModel, Book, core_of, book_of, came_at, refusal_of, is_ignored}
+use Rattle.member.specs.Outputs.{Puts, packet_in, spelled}
+use Rattle.member.specs.Steps.{lone_install}
+
+-- ---- acted
+
+-- it went on by nothing but acts: what they put out is what the bytes spell, as packets that are read back, and what happened is what they let happen
+pub record HasActed {S : Type 0} (apply : S → Address → List ℕ → S) (encode : S → List ℕ) (decode : List ℕ → Option S) (old : MemberModel S) (input : Input) (out : Output)
+    (new : MemberModel S) : Type 0 where
+  pub posted : List Posted
+  pub acted : Acted apply encode decode (came_at old input) (core_of old) posted out.happenings.items (core_of new)
+  pub spelled : out.packets.items ≡ map (spelled old.group) posted
+  pub sound : AllByRecursion (λ m. IsPacket (packet_in old.group m)) posted
+
+-- ---- refused, and memory
+
+-- it refuses as it must, and only then, and is as before
+abbrev pub RefusesAs : {S : Type 0} → Option Error → MemberModel S → Result Output Error → MemberModel S → Type 0
+RefusesAs refusal old (Ok out) new = refusal ≡ None
+RefusesAs refusal old (Err e) new = MatchBool (is_memory e) (refusal ≡ None) ((refusal ≡ Some e) × (new ≡ old))
+
+-- want of memory ends it; on an input that is ignored there is none
+abbrev pub EndsWithout : {S : Type 0} → Input → MemberModel S → Result Output Error → Type 0
+EndsWithout input new result = result ≡ Err Memory → (core_of new ≡ None) × (is_ignored input ≡ false)
+
+-- ---- reply
+
+-- a happening that no input asks for by itself
+abbrev pub is_quiet : Happening → Bool
+is_quiet (Started p) = false
+is_quiet (Sent s) = false
+is_quiet (Delivered d) = true
+is_quiet (Blocked p) = true
+is_quiet (Installed i) = true
+is_quiet (Left p) = false
+is_quiet (Crashed p) = false
+
+-- its message gets the next number, its Sent comes first, and no other Sent with it
+pub record SendsNext {S : Type 0} (c : Core S) (payload : List ℕ) (happened : List Happening) : Type 0 where
+  pub first : IsSomeAnd c.view (λ v.
+      happened ≡ Sent (record { member = c.me; view = v.id; message = record { number = c.traffic.sent + 1; payload = payload } }) ∷ drop 1 happened)
+  pub quiet : list_all is_quiet (drop 1 happened) ≡ true
+
+-- it runs on, and is connected or not as before
+abbrev pub StaysSo : {S : Type 0} → Core S → Option (Core S) → Type 0
+StaysSo c end = IsSomeAnd end (λ d. d.connected ≡ c.connected)
+
+-- it runs on, and is connected
+abbrev pub IsConnected : {S : Type 0} → Option (Core S) → Type 0
+IsConnected end = IsSomeAnd end (λ d. d.connected ≡ true)
+
+-- what happens by an input that is not refused, and whether it runs on, and is connected then
+abbrev pub Replies : {S : Type 0} → Core S → Input → List Happening → Option (Core S) → Type 0
+Replies c Create happened end = (happened ≡ Installed (lone_install c.me) ∷ []) × IsConnected end
+Replies c (Join contact) happened end = (happened ≡ []) × IsConnected end
+Replies c (Send payload) happened end = SendsNext c payload.now happened × StaysSo c end
+Replies c (Datagram bytes) happened end = (list_all is_quiet happened ≡ true) × StaysSo c end
+Replies c Tick happened end = (happened ≡ []) × StaysSo c end
+Replies c Leave happened end = (happened ≡ Left c.me ∷ []) × (end ≡ None)
+
+-- ---- prompt
+
+-- a message that the first of its view sends is told to it in the same step, while fewer are past the stable ones than the window has places
+abbrev pub IsPrompt : {S : Type 0} → Core S → Input → List Happening → Type 0
+IsPrompt c Create happened = Unit {0}
+IsPrompt c (Join contact) happened = Unit {0}
+IsPrompt c (Send payload) happened = IsSomeAnd c.view (λ v. same_address c.me v.id.creator ≡ true → c.traffic.delivered < c.traffic.stable + WINDOW
+    → Contains happened (Delivered (record { member = c.me; view = v.id; message = record { sender = c.me; number = c.traffic.sent + 1; payload = payload.now } })))
+IsPrompt c (Datagram bytes) happened = Unit {0}
+IsPrompt c Tick happened = Unit {0}
+IsPrompt c Leave happened = Unit {0}
+
+-- the contact, while it has no view and asks one
+abbrev pub asked_by : {S : Type 0} → MemberModel S → Option Address
+asked_by m = option_and_then (λ c. if is_some c.view then None else option_and_then (λ b. b.contact) (book_of m)) (core_of m)
+
+-- what is to be put out
+abbrev pub posts : {S : Type 0} → MemberModel S → Input → List Posted
+posts m Create = []
+posts m (Join contact) = packet m.address bodies.Join contact ∷ []
+posts m (Send payload) = []
+posts m (Datagram bytes) = []
+posts m Tick = option_map_or (λ contact. packet m.address bodies.Join contact ∷ []) (asked_by m) []
+posts m Leave = []
+
+-- its book afterwards, while it runs
+abbrev pub noted : Option Book → Input → Option Book
+noted b Create = b
+noted b (Join contact) = Some (record { contact = Some contact })
+noted b (Send payload) = b
+noted b (Datagram bytes) = b
+noted b Tick = b
+noted b Leave = None
+
+-- ---- ignored
+
+-- nothing comes out
+abbrev pub IsNothing : Result Output Error → Type 0
+IsNothing (Ok out) = Puts [] [] out
+IsNothing (Err e) = ⊥
+
+abbrev pub Ignores : {S : Type 0} → MemberModel S → Input → Result Output Error → MemberModel S → Type 0
+Ignores old input result new = is_ignored input ≡ true → IsSome (core_of old) → IsNothing result × (new ≡ old)
+
+-- ---- all of it
+
+pub record Handled {S : Type 0} (apply : S → Address → List ℕ → S) (encode : S → List ℕ) (decode : List ℕ → Option S) (old : MemberModel S) (input : Input)
+    (result : Result Output Error) (new : MemberModel S) : Type 0 where
+  pub acted : IfOk result (λ out. HasActed apply encode decode old input out new)
+  pub refused : RefusesAs (refusal_of old input) old result new
+  pub memory : EndsWithout input new result
+  pub closed : (result ≡ Err Closed) ↔ (core_of old ≡ None)
+  pub reply : IfOk result (λ out. IsSomeAnd (core_of old) (λ c. Replies c input out.happenings.items (core_of new)))
+  pub prompt : IfOk result (λ out. IsSomeAnd (core_of old) (λ c. IsPrompt c input out.happenings.items))
+  pub puts : IfOk result (λ out. out.packets.items ≡ map (spelled old.group) (posts old input))
+  pub notes : IfOk result (λ out. book_of new ≡ noted (book_of old) input)
+  pub ignored : Ignores old input result new
+  pub address : new.address ≡ old.address
+  pub group : new.group ≡ old.group
