@@ -7,7 +7,7 @@ use Rattle.wire.specs.declared.limits.TheConstants.{PAYLOAD}
 use Rattle.wire.specs.declared.error.WireError.{WireError}
 use Rattle.wire.specs.Packets.{wire_refusal}
 use Rattle.agreement.specs.Cores.{Core, is_frozen}
-use Rattle.member.specs.declared.TheConstants.{OUTSTANDING}
+use Rattle.sequencer.specs.declared.TheConstants.{OUTSTANDING}
 use Rattle.member.specs.declared.error.Error.{Error}
 use Rattle.member.specs.declared.error.Error.TheVariants.{NotConnected, Blocked, Busy, TooLong, AlreadyConnected, Closed, Memory, Exhausted, Wire}
 use Rattle.member.specs.declared.input.Input.{Input}

@@ -10,7 +10,7 @@ use Rattle.agreement.specs.Histories.{Posted}
 use Rattle.agreement.specs.Cores.{Traffic, Core, idle, is_frozen}
 use Rattle.agreement.specs.Acts.{lone_view}
 use Rattle.agreement.specs.Steps.{handed}
-use Rattle.member.specs.declared.TheConstants.{OUTSTANDING}
+use Rattle.sequencer.specs.declared.TheConstants.{OUTSTANDING}
 use Rattle.member.specs.declared.error.Error.{Error}
 use Rattle.member.specs.declared.error.Error.TheVariants.{NotConnected, Blocked, Busy, TooLong, AlreadyConnected, Closed, Exhausted, Wire}
 use Rattle.member.specs.declared.input.Input.{Input}

@@ -16,8 +16,5 @@ pub use input::Input;
 pub use member::Member;
 pub use output::{Outgoing, Output};
 
-/// The most own messages that a member may have outstanding in a view: sent, and not delivered to it yet.
-pub const OUTSTANDING: usize = 8;
-
 #[cfg(test)]
 mod tests;
