@@ -1,17 +1,19 @@
 -- What one step promises, from what it does.
-use Rattle.std.proofs.Common.{◌≡◌, ℕ, ◌+◌, Bool, true, false, Option, Some, None, List, [], ◌∷◌, map, Result, Ok, Err, refl, sym, ap, ◌∙◌, subst, arith, Bor}
-use Rattle.std.specs.Prelude.{MatchBool, if◌then◌else◌, ◌↔◌}
+use Rattle.std.proofs.Common.{◌≡◌, ℕ, ◌+◌, ◌<◌, ◌≤◌, ◌^◌, Bool, true, false, leb, cond, Option, Some, None, List, [], ◌∷◌, map, length, zero, suc, Result, Ok, Err, refl, sym, ap, ◌∙◌, subst, arith, Bor}
+use Rattle.std.specs.Prelude.{MatchBool, if◌then◌else◌, IfOk, ◌↔◌}
 use Rattle.std.specs.List.{AllByRecursion}
 use Rattle.std.specs.Result.{result_err}
 use Rattle.std.proofs.lemmas.Option.{none-some, same_Some}
 use Rattle.address.specs.Ids.{Address}
 use Rattle.view.specs.Members.{View}
 use Rattle.wire.specs.Packets.{IsPacket}
+use Rattle.trace_props.specs.Recorded.{IsShort, IsRecordable}
 use Rattle.trace_props.specs.declared.happening.Happening.{Happening}
 use Rattle.trace_props.specs.declared.happening.Happening.TheVariants.{Sent, Delivered, Installed, Left}
 use Rattle.agreement.specs.Cores.{Core}
 use Rattle.agreement.specs.Acts.{lone_view}
 use Rattle.agreement.specs.Chains.{Acted}
+use Rattle.member.specs.declared.TheConstants.{HAPPENINGS}
 use Rattle.member.specs.declared.error.Error.{Error}
 use Rattle.member.specs.declared.error.Error.TheVariants.{Memory, Closed}
 use Rattle.member.specs.declared.input.Input.{Input}
@@ -49,6 +51,28 @@ module _ {S : Type 0} (apply : S → Address → List ℕ → S) (encode : S →
   ok-closed : (out : Output) (c : Core S) → (◌≡◌ {A = Result Output Error} (Ok out) (Err Closed)) ↔ (◌≡◌ {A = Option (Core S)} (Some c) None)
   ok-closed out c = (λ e. absurd (cc), λ e. absurd (none-some c (sym e)))
 
+  -- so little happens that a trace takes it
+  record IsTaken (happened : List Happening) : Type 0 where
+    few : length happened ≤ HAPPENINGS
+    short : IsRecordable happened
+
+  none-taken : IsTaken []
+  none-taken = record { few = omega arith; short = λ k h at. absurd (none-some h at) }
+
+  one-short : (x : Happening) → IsShort x → IsRecordable (x ∷ [])
+  one-short x s zero h at = subst IsShort (same_Some x h at) s
+  one-short x s (suc k) h at = absurd (none-some h at)
+
+  one-taken : (x : Happening) → IsShort x → IsTaken (x ∷ [])
+  one-taken x s = record { few = omega arith; short = one-short x s }
+
+  two-short : (x y : Happening) → IsShort x → IsShort y → IsRecordable (x ∷ y ∷ [])
+  two-short x y s t zero h at = subst IsShort (same_Some x h at) s
+  two-short x y s t (suc k) h at = one-short y t k h at
+
+  two-taken : (x y : Happening) → IsShort x → IsShort y → IsTaken (x ∷ y ∷ [])
+  two-taken x y s t = record { few = omega arith; short = two-short x y s t }
+
   ok-handled : (p : Address) (group : List ℕ) (s : Stage) (z : S) (input : Input) (out : Output) (end : Option (Life S)) (happened : List Happening)
       → Puts (map (spelled group) (posts (at p group (Some (life s z))) input)) happened out
       → refusal_in (core_at p s z) input ≡ None
@@ -58,8 +82,9 @@ module _ {S : Type 0} (apply : S → Address → List ℕ → S) (encode : S →
       → AllByRecursion (λ m. IsPacket (packet_in group m)) (posts (at p group (Some (life s z))) input)
       → book_in end ≡ noted (Some (record { contact = contact_at s })) input
       → Ignores (at p group (Some (life s z))) input (Ok out) (at p group end)
+      → IsTaken happened
       → Holds (at p group (Some (life s z))) input (Ok out) (at p group end)
-  ok-handled p group s z input out end happened x free acted reply prompt sound notes ignored = record {
+  ok-handled p group s z input out end happened x free acted reply prompt sound notes ignored taken = record {
     acted = record {
       posted = posts (at p group (Some (life s z))) input;
       acted = subst (λ (h : List Happening). Acted apply encode decode (came_at (at p group (Some (life s z))) input) (Some (core_at p s z)) (posts (at p group (Some (life s z))) input) h (core_in p end))
@@ -74,6 +99,8 @@ module _ {S : Type 0} (apply : S → Address → List ℕ → S) (encode : S →
     prompt = subst (λ (h : List Happening). IsPrompt (core_at p s z) input h) (sym x.happenings) prompt;
     puts = x.packets;
     notes = notes;
+    few = subst (λ (h : List Happening). length h ≤ HAPPENINGS) (sym x.happenings) taken.few;
+    short = subst IsRecordable (sym x.happenings) taken.short;
     ignored = ignored;
     address = refl;
     group = refl;
@@ -87,7 +114,7 @@ module _ {S : Type 0} (apply : S → Address → List ℕ → S) (encode : S →
   created p group Idle z out new free x =
       subst (λ (n : Life S). Holds (at p group (Some (life Idle z))) Create (Ok out) (at p group (Some n))) (sym x.1)
       (ok-handled p group Idle z Create out (Some (life (Alone (lone_view p) 0) z)) (Installed (lone_install p) ∷ []) x.0 refl (created-acted apply encode decode None p z)
-      (refl, refl) tt tt refl (not-ignored _ Create (Ok out) _ refl))
+      (refl, refl) tt tt refl (not-ignored _ Create (Ok out) _ refl) (one-taken _ (λ k m at. absurd (none-some m at))))
   created p group (Joining contact) z out new free x = absurd (none-some _ (sym free))
   created p group (Alone v k) z out new free x = absurd (none-some _ (sym free))
 
@@ -95,7 +122,7 @@ module _ {S : Type 0} (apply : S → Address → List ℕ → S) (encode : S →
       → Asks p group contact out → Holds (at p group (Some (life s z))) (Join contact) (Ok out) (at p group (Some (life (Joining contact) z)))
   joins-at p group s z contact out outside free x =
       ok-handled p group s z (Join contact) out (Some (life (Joining contact) z)) [] x.0 free (joined-acted apply encode decode None p s contact z outside)
-      (refl, refl) tt (x.1, tt) refl (not-ignored _ (Join contact) (Ok out) _ refl)
+      (refl, refl) tt (x.1, tt) refl (not-ignored _ (Join contact) (Ok out) _ refl) none-taken
 
   joined : (p : Address) (group : List ℕ) (s : Stage) (z : S) (contact : Address) (out : Output) (new : Life S) → refusal_in (core_at p s z) (Join contact) ≡ None
       → Does apply p group (life s z) (Join contact) out new → Holds (at p group (Some (life s z))) (Join contact) (Ok out) (at p group (Some new))
@@ -119,7 +146,7 @@ module _ {S : Type 0} (apply : S → Address → List ℕ → S) (encode : S →
   sends-first p group k z payload out free x =
       ok-handled p group (Alone (lone_view p) k) z (Send payload) out (Some (life (Alone (lone_view p) (k + 1)) (apply z p payload.now))) (said p (lone_view p) k payload.now) x free
       (sent-acted apply encode decode None p k payload.now z (is-short _ _ free)) (record { first = refl; quiet = refl }, refl) (λ first room. (1, omega arith, refl)) tt refl
-      (not-ignored _ (Send payload) (Ok out) _ refl)
+      (not-ignored _ (Send payload) (Ok out) _ refl) (two-taken _ _ (is-short _ _ free) (is-short _ _ free))
 
   sent : (p : Address) (group : List ℕ) (s : Stage) (z : S) (payload : Bor (List ℕ)) (out : Output) (new : Life S) → IsLoneAt p s → refusal_in (core_at p s z) (Send payload) ≡ None
       → SendsAt apply p payload.now s z out new → Holds (at p group (Some (life s z))) (Send payload) (Ok out) (at p group (Some new))
@@ -134,27 +161,27 @@ module _ {S : Type 0} (apply : S → Address → List ℕ → S) (encode : S →
   heard p group s z bytes out new free x =
       subst (λ (n : Life S). Holds (at p group (Some (life s z))) (Datagram bytes) (Ok out) (at p group (Some n))) (sym x.1)
       (ok-handled p group s z (Datagram bytes) out (Some (life s z)) [] x.0 free (nothing-acted apply encode decode (came_at (at p group (Some (life s z))) (Datagram bytes)) _)
-      (refl, refl) tt tt refl (λ i there. (x.0, refl)))
+      (refl, refl) tt tt refl (λ i there. (x.0, refl)) none-taken)
 
   ticked : (p : Address) (group : List ℕ) (s : Stage) (z : S) (out : Output) (new : Life S) → Does apply p group (life s z) Tick out new
       → Holds (at p group (Some (life s z))) Tick (Ok out) (at p group (Some new))
   ticked p group Idle z out new x =
       subst (λ (n : Life S). Holds (at p group (Some (life Idle z))) Tick (Ok out) (at p group (Some n))) (sym x.1)
-      (ok-handled p group Idle z Tick out (Some (life Idle z)) [] x.0 refl (nothing-acted apply encode decode None _) (refl, refl) tt tt refl (not-ignored _ Tick (Ok out) _ refl))
+      (ok-handled p group Idle z Tick out (Some (life Idle z)) [] x.0 refl (nothing-acted apply encode decode None _) (refl, refl) tt tt refl (not-ignored _ Tick (Ok out) _ refl) none-taken)
   ticked p group (Joining contact) z out new x =
       subst (λ (n : Life S). Holds (at p group (Some (life (Joining contact) z))) Tick (Ok out) (at p group (Some n))) (sym x.1)
       (ok-handled p group (Joining contact) z Tick out (Some (life (Joining contact) z)) [] x.0.0 refl (asked-acted apply encode decode None _ contact) (refl, refl) tt (x.0.1, tt) refl
-      (not-ignored _ Tick (Ok out) _ refl))
+      (not-ignored _ Tick (Ok out) _ refl) none-taken)
   ticked p group (Alone v k) z out new x =
       subst (λ (n : Life S). Holds (at p group (Some (life (Alone v k) z))) Tick (Ok out) (at p group (Some n))) (sym x.1)
-      (ok-handled p group (Alone v k) z Tick out (Some (life (Alone v k) z)) [] x.0 refl (nothing-acted apply encode decode None _) (refl, refl) tt tt refl (not-ignored _ Tick (Ok out) _ refl))
+      (ok-handled p group (Alone v k) z Tick out (Some (life (Alone v k) z)) [] x.0 refl (nothing-acted apply encode decode None _) (refl, refl) tt tt refl (not-ignored _ Tick (Ok out) _ refl) none-taken)
 
   left : (p : Address) (group : List ℕ) (s : Stage) (z : S) (out : Output) → Puts [] (Left p ∷ []) out → Holds (at p group (Some (life s z))) Leave (Ok out) (at p group None)
-  left p group Idle z out x = ok-handled p group Idle z Leave out None (Left p ∷ []) x refl (left-acted apply encode decode None _) (refl, refl) tt tt refl (not-ignored _ Leave (Ok out) _ refl)
+  left p group Idle z out x = ok-handled p group Idle z Leave out None (Left p ∷ []) x refl (left-acted apply encode decode None _) (refl, refl) tt tt refl (not-ignored _ Leave (Ok out) _ refl) (one-taken (Left p) tt)
   left p group (Joining contact) z out x =
-      ok-handled p group (Joining contact) z Leave out None (Left p ∷ []) x refl (left-acted apply encode decode None _) (refl, refl) tt tt refl (not-ignored _ Leave (Ok out) _ refl)
+      ok-handled p group (Joining contact) z Leave out None (Left p ∷ []) x refl (left-acted apply encode decode None _) (refl, refl) tt tt refl (not-ignored _ Leave (Ok out) _ refl) (one-taken (Left p) tt)
   left p group (Alone v k) z out x =
-      ok-handled p group (Alone v k) z Leave out None (Left p ∷ []) x refl (left-acted apply encode decode None _) (refl, refl) tt tt refl (not-ignored _ Leave (Ok out) _ refl)
+      ok-handled p group (Alone v k) z Leave out None (Left p ∷ []) x refl (left-acted apply encode decode None _) (refl, refl) tt tt refl (not-ignored _ Leave (Ok out) _ refl) (one-taken (Left p) tt)
 
   ok-at : (p : Address) (group : List ℕ) (old : Life S) (input : Input) (out : Output) (new : Life S) → IsLoneAt p old.stage
       → refusal_in (core_at p old.stage old.receiver) input ≡ None → Does apply p group old input out new
@@ -205,6 +232,8 @@ module _ {S : Type 0} (apply : S → Address → List ℕ → S) (encode : S →
     prompt = tt;
     puts = tt;
     notes = tt;
+    few = tt;
+    short = tt;
     ignored = λ i there. absurd (err-ignored (is_memory e) e p old input new i x);
     address = refl;
     group = refl;
@@ -222,6 +251,8 @@ module _ {S : Type 0} (apply : S → Address → List ℕ → S) (encode : S →
     prompt = tt;
     puts = tt;
     notes = tt;
+    few = tt;
+    short = tt;
     ignored = λ i there. absurd (let n : false ≡ true = there in cc);
     address = refl;
     group = refl;

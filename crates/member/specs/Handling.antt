@@ -1,5 +1,5 @@
 -- What one step of a member promises: in the acts and words of agreement, and in the words of traces.
-use Rattle.std.specs.Prelude.{◌≡◌, ℕ, ◌+◌, ◌<◌, Bool, true, false, is_some, map, [], ◌∷◌, List, Result, Ok, Err, Option, None, Some, MatchBool, IsSome, IfOk, ◌↔◌, drop, if◌then◌else◌}
+use Rattle.std.specs.Prelude.{◌≡◌, ℕ, ◌+◌, ◌<◌, ◌≤◌, Bool, true, false, is_some, map, length, [], ◌∷◌, List, Result, Ok, Err, Option, None, Some, MatchBool, IsSome, IfOk, ◌↔◌, drop, if◌then◌else◌}
 use Rattle.std.specs.Option.{IsSomeAnd, option_and_then, option_map_or}
 use Rattle.std.specs.List.{list_all, Contains, AllByRecursion}
 use Rattle.address.specs.Ids.{Address, same_address}
@@ -8,10 +8,12 @@ use Rattle.wire.specs.declared.packet.Body.TheVariants as bodies
 use Rattle.wire.specs.Packets.{IsPacket}
 use Rattle.trace_props.specs.declared.happening.Happening.{Happening}
 use Rattle.trace_props.specs.declared.happening.Happening.TheVariants.{Started, Sent, Delivered, Blocked, Installed, Left, Crashed}
+use Rattle.trace_props.specs.Recorded.{IsRecordable}
 use Rattle.agreement.specs.Histories.{Posted}
 use Rattle.agreement.specs.Cores.{Core}
 use Rattle.agreement.specs.Acts.{packet}
 use Rattle.agreement.specs.Chains.{Acted}
+use Rattle.member.specs.declared.TheConstants.{HAPPENINGS}
 use Rattle.member.specs.declared.error.Error.{Error}
 use Rattle.member.specs.declared.error.Error.TheVariants.{Memory, Closed}
 use Rattle.member.specs.declared.input.Input.{Input}
@@ -134,6 +136,8 @@ pub record Handled {S : Type 0} (apply : S → Address → List ℕ → S) (enco
   pub prompt : IfOk result (λ out. IsSomeAnd (core_of old) (λ c. IsPrompt c input out.happenings.items))
   pub puts : IfOk result (λ out. out.packets.items ≡ map (spelled old.group) (posts old input))
   pub notes : IfOk result (λ out. book_of new ≡ noted (book_of old) input)
+  pub few : IfOk result (λ out. length out.happenings.items ≤ HAPPENINGS)
+  pub short : IfOk result (λ out. IsRecordable out.happenings.items)
   pub ignored : Ignores old input result new
   pub address : new.address ≡ old.address
   pub group : new.group ≡ old.group

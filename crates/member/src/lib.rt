@@ -16,5 +16,8 @@ pub use input::Input;
 pub use member::Member;
 pub use output::{Outgoing, Output};
 
+/// The most happenings of one step of a member.
+pub const HAPPENINGS: usize = 40;
+
 #[cfg(test)]
 mod tests;

@@ -1,6 +1,8 @@
-ghost use Rattle.std.specs.Prelude.{◌≡◌, ◌↔◌, ℕ, map, false, Some, None, Err, IfOk};
+ghost use Rattle.std.specs.Prelude.{◌≡◌, ◌↔◌, ◌≤◌, ℕ, map, length, false, Some, None, Err, IfOk};
 ghost use Rattle.std.specs.Option.{IsSomeAnd, option_copied, option_and_then, option_map, option_map_or};
+ghost use Rattle.trace_props.specs.Recorded.{IsRecordable};
 ghost use Rattle.agreement.specs.Cores.{idle, is_frozen};
+ghost use Rattle.member.specs.declared.TheConstants.{HAPPENINGS};
 ghost use Rattle.member.specs.declared.error.Error.TheVariants as error;
 ghost use Rattle.member.specs.Members.{IsLone, core_of, book_of, refusal_of};
 ghost use Rattle.member.specs.Outputs.{spelled};
@@ -145,6 +147,9 @@ impl<R: Receiver> Member<R> {
         // what is put out, and whom it asks from then on;
         ensures puts { IfOk result (λ out. out.packets.items ≡ map (spelled self.old.group) (posts self.old input.entry)) }
         ensures notes { IfOk result (λ out. book_of self.new ≡ noted (book_of self.old) input.entry) }
+        // how much happens at most, and that a trace takes it;
+        ensures few { IfOk result (λ out. length out.happenings.items ≤ HAPPENINGS) }
+        ensures short { IfOk result (λ out. IsRecordable out.happenings.items) }
         // what it ignores leaves it as it was.
         ensures ignored { Ignores self.old input.entry result self.new }
         ensures address { self.new.address ≡ self.old.address }
