@@ -1,160 +1,215 @@
 -- Every event keeps what a world keeps.
-use Rattle.std.proofs.Common.{◌≡◌, ℕ, List, ◌++◌, ◌∷◌, [], Option, Some, None, Bool, true, false, length, subst, sym, nat_eq, refl, ap, inl}
+use Rattle.std.proofs.Common.{◌≡◌, ℕ, List, ◌∷◌, [], Option, Some, None, Bool, true, false, subst, sym, nat_eq, refl, ap, ◌∙◌}
+use Rattle.std.specs.Borrow.{Bor}
 use Rattle.std.specs.Option.{IsSomeAnd}
 use Rattle.std.proofs.lemmas.Bool.{eqb-true}
 use Rattle.std.proofs.lemmas.List.{append-nil}
 use Rattle.address.specs.Ids.{Address}
 use Rattle.trace_props.specs.declared.happening.Happening.{Happening}
+use Rattle.trace_props.specs.declared.happening.Happening.TheVariants.{Crashed}
+use Rattle.agreement.specs.Cores.{Core}
+use Rattle.agreement.proofs.Stepping
+use Rattle.member.specs.declared.input.Input.{Input}
+use Rattle.member.specs.declared.input.Input.TheVariants as input
+use Rattle.member.specs.Members.{MemberModel}
 use Rattle.world_model.specs.declared.WorldEvent.{WorldEvent}
 use Rattle.world_model.specs.declared.WorldEvent.TheVariants.{Start, Create, Join, Send, Deliver, Tick, Leave, Crash}
-use Rattle.world_model.specs.declared.Target.{Target}
 use Rattle.world_model.specs.declared.Target.TheVariants as target
 use Rattle.world_model.specs.declared.Answer.{Answer}
 use Rattle.world_model.specs.declared.Answer.TheVariants.{Done, Refused}
-use Rattle.world_model.specs.declared.Refusal.TheVariants.{NotConnected}
-use Rattle.world_model.specs.Histories.{History, last_of, node_of, target_of, starts}
-use Rattle.world_model.specs.Packets.{recipient}
-use Rattle.world_model.specs.Faithful.{AnswersDeliver}
+use Rattle.world_model.specs.declared.Refusal.{Refusal}
+use Rattle.world_model.specs.declared.Refusal.TheVariants.{NotConnected, Closed}
+use Rattle.world_model.specs.Histories.{History, last_of, target_of, starts}
+use Rattle.world_model.specs.Faithful.{Answers, AtMember, AnswersCrash}
+use Rattle.world_model.specs.Steps.{put_out, Ignores}
 use Rattle.world.specs.declared.seat.Seat.{Seat}
-use Rattle.world.specs.declared.seat.Seat.TheVariants.{Vacant}
-use Rattle.world.specs.Turns.{Acts, CarriesOut, Carries, SameSeats, seat_at}
-use Rattle.world.specs.Putting.{put_at, put_for}
-use Rattle.world.specs.Invariant.{calls_of, IsSeatOf, IsTrace, IsWorld}
-use Rattle.world.proofs.Sights.{sight-same}
-use Rattle.world.proofs.Turning.{Turn, turned}
-use Rattle.world.proofs.Packets.{put-is, heeds}
-use Rattle.world.proofs.Starting.{start-turns}
-use Rattle.world.proofs.Creating.{create-turns}
-use Rattle.world.proofs.Joining.{join-turns, tick-turns}
-use Rattle.world.proofs.Sending.{send-turns}
-use Rattle.world.proofs.Ending.{leave-turns, crash-turns}
+use Rattle.world.specs.declared.seat.Seat.TheVariants.{Vacant, Ended, Running}
+use Rattle.world.specs.Seats.{seat_at}
+use Rattle.world.specs.Turns.{Stays, Hands, CrashGives, Acts, CarriesOut}
+use Rattle.world.specs.Invariant.{calls_of, IsSeatOf}
+use Rattle.world.proofs.Calls.{refused-calls, refused-prompt}
+use Rattle.world.proofs.Seats.{OthersStand}
+use Rattle.world.proofs.Turning
+use Rattle.world.proofs.Facts
+use Rattle.world.proofs.Taking
+use Rattle.world.proofs.Tables
+use Rattle.world.proofs.Starting
 
--- what an event does at the seat of its node is a turn of the history
-act-turns : {R : Type 0} (opening : R) (apply : R → Address → List ℕ → R) (e : WorldEvent) (n : ℕ) (h : History) (old : Seat R) (a : Answer) (new : Seat R) (t : List Happening) → target_of e ≡ target.Member n → IsTrace h.trace
-    → IsSeatOf (node_of e) (last_of (node_of e) h.trace) (calls_of (node_of e) h) h.trace old → Acts opening apply e old h.trace a new t → Turn h e a t new
-act-turns opening apply (Start m) n h old a new t here i k g = start-turns opening m h old a new t i k g
-act-turns opening apply (Create m) n h old a new t here i k g = create-turns m h old a new t i k g
-act-turns opening apply (Join m contact) n h old a new t here i k g = join-turns m contact h old a new t i k g
-act-turns opening apply (Send m x) n h old a new t here i k g = send-turns apply x m h old a new t i k g
-act-turns opening apply (Deliver j) n h old a new t here i k g = absurd (let bad : target.Packet j ≡ target.Member n = here in cc)
-act-turns opening apply (Tick m) n h old a new t here i k g = tick-turns m h old a new t i k g
-act-turns opening apply (Leave m) n h old a new t here i k g = leave-turns m h old a new t i k g
-act-turns opening apply (Crash m) n h old a new t here i k g = crash-turns m h old a new t i k g
+module _ {S : Type 0} (opening : S) (apply : S → Address → List ℕ → S) (encode : S → List ℕ) (decode : List ℕ → Option S) (is_state : S → Type 0)
+    (laws : Stepping.Laws opening apply encode decode is_state) (at new : ℕ → Option (Seat S)) (n : ℕ) (h : History) (w : Turning.World opening apply encode decode is_state at h)
+    (others : OthersStand n at new) where
+  abbrev Turned : WorldEvent → Answer → List Happening → List (List ℕ) → Type 0
+  Turned e a t pool = Taking.Turned opening apply encode decode is_state new n h e a t pool
 
--- so the world is one event further
-world-turns : {R : Type 0} (opening : R) (apply : R → Address → List ℕ → R) (at new : ℕ → Option (Seat R)) (h : History) (e : WorldEvent) (n : ℕ) (a : Answer) (t : List Happening) → target_of e ≡ target.Member n → IsWorld at h
-    → Acts opening apply e (seat_at (at (node_of e))) h.trace a (seat_at (new (node_of e))) t
-    → ((m : ℕ) → nat_eq (node_of e) m ≡ false → new m ≡ at m)
-    → IsWorld new (record { events = h.events ++ e ∷ []; replies = h.replies ++ record { answer = a; place = length t } ∷ []; pool = h.pool ++ put_at e (seat_at (at (node_of e))) a; trace = t })
-world-turns opening apply at new h e n a t here w g others =
-    let turn : Turn h e a t (seat_at (new (node_of e))) = act-turns opening apply e n h (seat_at (at (node_of e))) a (seat_at (new (node_of e))) t here w.trace (w.seats (node_of e)) g in
-    turned at new h e a (put_at e (seat_at (at (node_of e))) a) t w turn (put-is e h a (seat_at (at (node_of e))) (w.seats (node_of e))) (heeds e n a turn.stretch here) others
+  same-at : (k : ℕ) (b : Bool) → nat_eq n k ≡ b → seat_at (new n) ≡ seat_at (at n) → seat_at (new k) ≡ seat_at (at k)
+  same-at k true b is = subst (λ (j : ℕ). seat_at (new j) ≡ seat_at (at j)) (eqb-true n k b) is
+  same-at k false b is = others k b
 
--- a world whose seats stand where they stood keeps what it kept
-pub world-same : {R : Type 0} (at new : ℕ → Option (Seat R)) (h : History) → SameSeats at new → IsWorld at h → IsWorld new h
-world-same at new h same w = record {
-  faithful = w.faithful;
-  stepped = w.stepped;
-  paired = w.paired;
-  trace = w.trace;
-  seats = λ n. subst (λ s. IsSeatOf n (last_of n h.trace) (calls_of n h) h.trace s) (sym (same n)) (w.seats n);
-}
+  -- ---- where no member runs
 
--- without a seat every event but a start is refused as at a vacant one
-vacant-acts : {R : Type 0} (opening : R) (apply : R → Address → List ℕ → R) (e : WorldEvent) (n : ℕ) (t : List Happening) (a : Answer) (t' : List Happening) → target_of e ≡ target.Member n → starts e ≡ false
-    → a ≡ Refused NotConnected → t' ≡ t → Acts {R = R} opening apply e Vacant t a Vacant t'
-vacant-acts opening apply (Start m) n t a t' here s r same = absurd (let bad : true ≡ false = s in cc)
-vacant-acts opening apply (Create m) n t a t' here s r same = (r, refl, same)
-vacant-acts opening apply (Join m c) n t a t' here s r same = (r, refl, same)
-vacant-acts opening apply (Send m x) n t a t' here s r same = (r, refl, same)
-vacant-acts opening apply (Deliver k) n t a t' here s r same = absurd (let bad : target.Packet k ≡ target.Member n = here in cc)
-vacant-acts opening apply (Tick m) n t a t' here s r same = (r, refl, same)
-vacant-acts opening apply (Leave m) n t a t' here s r same = (r, refl, same)
-vacant-acts opening apply (Crash m) n t a t' here s r same = (r, refl, same)
+  refused : (e : WorldEvent) (r : Refusal) (old now : Seat S) (a : Answer) (t : List Happening) (pool : List (List ℕ)) → seat_at (at n) ≡ old → seat_at (new n) ≡ now → Answers h e (Refused r) []
+      → [] ≡ put_out h e (Refused r) → Ignores e (Refused r) [] → Stays r old h.trace a now t → pool ≡ h.pool → Turned e a t pool
+  refused e r old now a t pool was is answers put ignored g same = subst (λ (b : Answer). Turned e b t pool) (sym g.answer) (record {
+    ps = [];
+    s = [];
+    trace = g.trace ∙ sym (append-nil h.trace);
+    puts = same ∙ sym (append-nil h.pool);
+    turn = Turning.turn-still opening apply encode decode is_state at new n h e (Refused r) w (λ k. same-at k (nat_eq n k) refl (is ∙ g.seat ∙ sym was)) answers (refused-prompt h.trace e r []) put ignored
+        (λ k. refused-calls k (calls_of k h) e r);
+  })
 
--- what is left at a node that has a seat
-some-acts : {R : Type 0} (opening : R) (apply : R → Address → List ℕ → R) (e : WorldEvent) (s : Seat R) (t : List Happening) (a : Answer) (new : Option (Seat R)) (t' : List Happening)
-    → IsSomeAnd new (λ s'. Acts opening apply e s t a s' t') → Acts opening apply e s t a (seat_at new) t'
-some-acts opening apply e s t a None t' g = absurd g
-some-acts opening apply e s t a (Some s') t' g = g
+  -- ---- an input that is handed to whoever runs
 
--- what an event does at a node, read at its seat
-carried-acts : {R : Type 0} (opening : R) (apply : R → Address → List ℕ → R) (e : WorldEvent) (n : ℕ) (o : Option (Seat R)) (t : List Happening) (a : Answer) (new : Option (Seat R)) (t' : List Happening)
-    → target_of e ≡ target.Member n → (b : Bool) → starts e ≡ b → CarriesOut opening apply e o t a new t' → Acts opening apply e (seat_at o) t a (seat_at new) t'
-carried-acts opening apply e n o t a new t' here true s g = some-acts opening apply e (seat_at o) t a new t' (rw s at g)
-carried-acts {R} opening apply e n None t a new t' here false s g =
-    let at : (a ≡ Refused NotConnected) × (new ≡ None) × (t' ≡ t) = rw s at g in
-    rw at.1 (vacant-acts {R = R} opening apply e n t a t' here s at.0 at.2)
-carried-acts opening apply e n (Some p) t a new t' here false s g = some-acts opening apply e p t a new t' (rw s at g)
+  -- what has to be known of the event: what it is refused where no member runs, and its table where one does
+  record Handed (e : WorldEvent) (i : Input) : Type 0 where
+    never : last_of n h.trace ≡ None → Answers h e (Refused NotConnected) []
+    over : (p : Address) → last_of n h.trace ≡ Some p → IsSeatOf {S = S} n (last_of n h.trace) (calls_of n h) h.trace (Ended p) → Answers h e (Refused Closed) []
+    put : (r : Refusal) → [] ≡ put_out h e (Refused r)
+    ignored : (a : Answer) (s : List Happening) → Ignores e a s
+    table : (m : MemberModel S) (c : Core S) → Facts.Runs opening apply encode decode is_state h n m c → Taking.Tabled opening apply encode decode is_state h n m c e i
 
-member-is : (e : WorldEvent) (n : ℕ) → target_of e ≡ target.Member n → n ≡ node_of e
-member-is (Start m) n e = let same : target.Member m ≡ target.Member n = e in cc
-member-is (Create m) n e = let same : target.Member m ≡ target.Member n = e in cc
-member-is (Join m c) n e = let same : target.Member m ≡ target.Member n = e in cc
-member-is (Send m x) n e = let same : target.Member m ≡ target.Member n = e in cc
-member-is (Deliver k) n e = absurd (let bad : target.Packet k ≡ target.Member n = e in cc)
-member-is (Tick m) n e = let same : target.Member m ≡ target.Member n = e in cc
-member-is (Leave m) n e = let same : target.Member m ≡ target.Member n = e in cc
-member-is (Crash m) n e = let same : target.Member m ≡ target.Member n = e in cc
+  handed-at : (e : WorldEvent) (i : Input) (old now : Seat S) (a : Answer) (t : List Happening) (pool : List (List ℕ)) → Handed e i → seat_at (at n) ≡ old → seat_at (new n) ≡ now
+      → IsSeatOf n (last_of n h.trace) (calls_of n h) h.trace old → Hands apply encode decode i old h.trace h.pool a now t pool → Turned e a t pool
+  handed-at e i Vacant now a t pool x was is k g = refused e NotConnected Vacant now a t pool was is (x.never k) (x.put NotConnected) (x.ignored (Refused NotConnected) []) g.0 g.1
+  handed-at e i (Ended p) now a t pool x was is k g = refused e Closed (Ended p) now a t pool was is (x.over p k.0 k) (x.put Closed) (x.ignored (Refused Closed) []) g.0 g.1
+  handed-at e i (Running m) now a t pool x was is k g =
+      let y = Facts.running-here opening apply encode decode is_state at h n m w was in
+      Taking.hands-turn opening apply encode decode is_state laws at new n h e i m y.0 w was y.1 (x.table m y.0 y.1) others a now t pool is g
 
-packet-is : (e : WorldEvent) (k : ℕ) → target_of e ≡ target.Packet k → e ≡ Deliver k
-packet-is (Start m) k e = absurd (let bad : target.Member m ≡ target.Packet k = e in cc)
-packet-is (Create m) k e = absurd (let bad : target.Member m ≡ target.Packet k = e in cc)
-packet-is (Join m c) k e = absurd (let bad : target.Member m ≡ target.Packet k = e in cc)
-packet-is (Send m x) k e = absurd (let bad : target.Member m ≡ target.Packet k = e in cc)
-packet-is (Deliver j) k e = let same : target.Packet j ≡ target.Packet k = e in cc
-packet-is (Tick m) k e = absurd (let bad : target.Member m ≡ target.Packet k = e in cc)
-packet-is (Leave m) k e = absurd (let bad : target.Member m ≡ target.Packet k = e in cc)
-packet-is (Crash m) k e = absurd (let bad : target.Member m ≡ target.Packet k = e in cc)
+  handed : (e : WorldEvent) (i : Input) (a : Answer) (t : List Happening) (pool : List (List ℕ)) → Handed e i → Hands apply encode decode i (seat_at (at n)) h.trace h.pool a (seat_at (new n)) t pool
+      → Turned e a t pool
+  handed e i a t pool x g = handed-at e i (seat_at (at n)) (seat_at (new n)) a t pool x refl refl (w.seats n) g
 
--- the world after an event is carried out at its node
-member-turns : {R : Type 0} (opening : R) (apply : R → Address → List ℕ → R) (at new : ℕ → Option (Seat R)) (h : History) (e : WorldEvent) (n : ℕ) (a : Answer) (t : List Happening) → target_of e ≡ target.Member n → IsWorld at h
-    → n ≡ node_of e → CarriesOut opening apply e (at n) h.trace a (new n) t
-    → ((m : ℕ) → nat_eq n m ≡ false → new m ≡ at m)
-    → IsWorld new (record { events = h.events ++ e ∷ []; replies = h.replies ++ record { answer = a; place = length t } ∷ []; pool = h.pool ++ put_at e (seat_at (at n)) a; trace = t })
-member-turns opening apply at new h e n a t here w node g others =
-    subst (λ (m : ℕ). IsWorld new (record { events = h.events ++ e ∷ []; replies = h.replies ++ record { answer = a; place = length t } ∷ []; pool = h.pool ++ put_at e (seat_at (at m)) a; trace = t })) (sym node)
-    (world-turns opening apply at new h e n a t here w
-    (subst (λ (m : ℕ). Acts opening apply e (seat_at (at m)) h.trace a (seat_at (new m)) t) node (carried-acts opening apply e n (at n) h.trace a (new n) t here (starts e) refl g))
-    (λ m o. others m (subst (λ (x : ℕ). nat_eq x m ≡ false) (sym node) o)))
+  at-none : (At : Address → Type 0) → last_of n h.trace ≡ None → AtMember n h (Refused NotConnected) [] At
+  at-none At k = rw k (refl, refl)
 
--- whoever is handed a packet, nothing may happen
-answers-deliver : (k : ℕ) (h : History) (o : Option Address) → recipient k h ≡ o → AnswersDeliver k h Done []
-answers-deliver k h None e = rw e (refl, refl)
-answers-deliver k h (Some p) e = rw e (inl (refl, refl))
+  at-ended : (At : Address → Type 0) (p : Address) → IsSeatOf {S = S} n (last_of n h.trace) (calls_of n h) h.trace (Ended p) → AtMember n h (Refused Closed) [] At
+  at-ended At p k = rw (k.0, k.2) (refl, refl)
 
--- the world after a delivery
-deliver-turns : {R : Type 0} (at new : ℕ → Option (Seat R)) (h : History) (k : ℕ) → IsWorld at h → SameSeats at new
-    → IsWorld new (record { events = h.events ++ Deliver k ∷ []; replies = h.replies ++ record { answer = Done; place = length h.trace } ∷ []; pool = h.pool ++ []; trace = h.trace })
-deliver-turns at new h k w same =
-    let v : IsWorld new h = world-same at new h same w in
-    turned new new h (Deliver k) Done [] h.trace v (record {
-      stretch = [];
-      is = sym (append-nil h.trace);
-      answers = answers-deliver k h (recipient k h) refl;
-      prompt = tt;
-      trace = v.trace;
-      lasts = λ m o. refl;
-      sights = λ p o. sight-same p h.trace;
-      seat = v.seats 0;
-    }) refl (refl, refl) (λ m o. refl)
+  create-handed : Handed (Create n) input.Create
+  create-handed = record {
+    never = at-none _;
+    over = λ p e k. at-ended _ p k;
+    put = λ r. refl;
+    ignored = λ a s. tt;
+    table = λ m c x. Tables.create-table opening apply encode decode is_state h n m c x;
+  }
 
--- and after any event
-carried-turns : {R : Type 0} (opening : R) (apply : R → Address → List ℕ → R) (at new : ℕ → Option (Seat R)) (h : History) (e : WorldEvent) (a : Answer) (t : List Happening) (b : Target) → target_of e ≡ b → IsWorld at h
-    → Carries opening apply b e at h.trace a new t
-    → IsWorld new (record { events = h.events ++ e ∷ []; replies = h.replies ++ record { answer = a; place = length t } ∷ []; pool = h.pool ++ put_for b e at a; trace = t })
-carried-turns opening apply at new h e a t (target.Member n) here w g = member-turns opening apply at new h e n a t here w (member-is e n here) g.0 g.1
-carried-turns opening apply at new h e a t (target.Packet k) here w g = rw (g.0, g.1, packet-is e k here) (deliver-turns at new h k w g.2)
+  join-handed : (contact : Address) → Handed (Join n contact) (input.Join contact)
+  join-handed contact = record {
+    never = at-none _;
+    over = λ p e k. at-ended _ p k;
+    put = λ r. refl;
+    ignored = λ a s. tt;
+    table = λ m c x. Tables.join-table opening apply encode decode is_state h n m c x contact;
+  }
 
-pub world-carries : {R : Type 0} (opening : R) (apply : R → Address → List ℕ → R) (at new : ℕ → Option (Seat R)) (h : History) (e : WorldEvent) (a : Answer) (t : List Happening) → IsWorld at h
-    → Carries opening apply (target_of e) e at h.trace a new t
-    → IsWorld new (record { events = h.events ++ e ∷ []; replies = h.replies ++ record { answer = a; place = length t } ∷ []; pool = h.pool ++ put_for (target_of e) e at a; trace = t })
-world-carries opening apply at new h e a t w g = carried-turns opening apply at new h e a t (target_of e) refl w g
+  send-handed : (b : Bor (List ℕ)) → Handed (Send n b.now) (input.Send b)
+  send-handed b = record {
+    never = at-none _;
+    over = λ p e k. at-ended _ p k;
+    put = λ r. refl;
+    ignored = λ a s. tt;
+    table = λ m c x. Tables.send-table opening apply encode decode is_state h n m c x b;
+  }
 
-same-seat : {R : Type 0} (at new : ℕ → Option (Seat R)) (n : ℕ) → new n ≡ at n → ((m : ℕ) → nat_eq n m ≡ false → new m ≡ at m) → (m : ℕ) (b : Bool) → nat_eq n m ≡ b → seat_at (new m) ≡ seat_at (at m)
-same-seat at new n here others m true b = ap seat_at (subst (λ (k : ℕ). new k ≡ at k) (eqb-true n m b) here)
-same-seat at new n here others m false b = ap seat_at (others m b)
+  tick-handed : Handed (Tick n) input.Tick
+  tick-handed = record {
+    never = at-none _;
+    over = λ p e k. at-ended _ p k;
+    put = λ r. refl;
+    ignored = λ a s. tt;
+    table = λ m c x. Tables.tick-table opening apply encode decode is_state h n m c x;
+  }
 
--- where one node's seat and all others stand as they stood, all do
-pub same-seats : {R : Type 0} (at new : ℕ → Option (Seat R)) (n : ℕ) → new n ≡ at n → ((m : ℕ) → nat_eq n m ≡ false → new m ≡ at m) → SameSeats at new
-same-seats at new n here others m = same-seat at new n here others m (nat_eq n m) refl
+  leave-handed : Handed (Leave n) input.Leave
+  leave-handed = record {
+    never = at-none _;
+    over = λ p e k. at-ended _ p k;
+    put = λ r. refl;
+    ignored = λ a s. tt;
+    table = λ m c x. Tables.leave-table opening apply encode decode is_state h n m c x;
+  }
+
+  -- ---- a crash
+
+  crash-at : (old now : Seat S) (a : Answer) (t : List Happening) (pool : List (List ℕ)) → seat_at (at n) ≡ old → seat_at (new n) ≡ now
+      → IsSeatOf n (last_of n h.trace) (calls_of n h) h.trace old → CrashGives old h.trace a now t → pool ≡ h.pool → Turned (Crash n) a t pool
+  crash-at Vacant now a t pool was is k g same = refused (Crash n) NotConnected Vacant now a t pool was is (at-none _ k) refl tt g same
+  crash-at (Ended p) now a t pool was is k g same = refused (Crash n) Closed (Ended p) now a t pool was is (at-ended _ p k) refl tt g same
+  crash-at (Running m) now a t pool was is k g same =
+      let y = Facts.running-here opening apply encode decode is_state at h n m w was in
+      subst (λ (b : Answer). Turned (Crash n) b t pool) (sym g.0) (record {
+        ps = [];
+        s = Crashed m.address ∷ [];
+        trace = g.2;
+        puts = same ∙ sym (append-nil h.pool);
+        turn = Taking.crash-turn opening apply encode decode is_state laws at new n h (Crash n) m y.0 w was y.1 others refl (λ b s. tt) Done (is ∙ g.1)
+            (Facts.at-member opening apply encode decode is_state h n m y.0 y.1 Done (Crashed m.address ∷ []) (λ p. AnswersCrash p Done (Crashed m.address ∷ [])) (refl, refl)) tt refl;
+      })
+
+  -- ---- any event of the node's member
+
+  to-node : (k : ℕ) (P : ℕ → Type 0) → target.Member k ≡ target.Member n → P n → P k
+  to-node k P e y = subst P (let back : n ≡ k = sym (member-is k e) in back) y
+    where
+      member-is : (j : ℕ) → target.Member j ≡ target.Member n → j ≡ n
+      member-is j e = let same : target.Member j ≡ target.Member n = e in cc
+
+  pub acts-turn : (e : WorldEvent) (a : Answer) (t : List Happening) (pool : List (List ℕ)) → target_of e ≡ target.Member n
+      → Acts opening apply encode decode e (seat_at (at n)) h.trace h.pool a (seat_at (new n)) t pool → Turned e a t pool
+  acts-turn (Start k) a t pool here g =
+      to-node k (λ j. Acts opening apply encode decode (Start j) (seat_at (at n)) h.trace h.pool a (seat_at (new n)) t pool → Turned (Start j) a t pool) here
+      (λ y. subst (λ (l : List (List ℕ)). Turned (Start n) a t l) (sym y.1) (Starting.start-turns opening apply encode decode is_state laws at new n h w others a t y.0)) g
+  acts-turn (Create k) a t pool here g = to-node k (λ j. Turned (Create j) a t pool) here (handed (Create n) input.Create a t pool create-handed g)
+  acts-turn (Join k contact) a t pool here g = to-node k (λ j. Turned (Join j contact) a t pool) here (handed (Join n contact) (input.Join contact) a t pool (join-handed contact) g)
+  acts-turn (Send k payload) a t pool here g =
+      to-node k (λ j. Turned (Send j payload) a t pool) here
+      (subst (λ (y : List ℕ). Turned (Send n y) a t pool) g.1 (handed (Send n g.0.now) (input.Send g.0) a t pool (send-handed g.0) g.2))
+  acts-turn (Deliver k) a t pool here g = absurd (let bad : target.Packet k ≡ target.Member n = here in cc)
+  acts-turn (Tick k) a t pool here g = to-node k (λ j. Turned (Tick j) a t pool) here (handed (Tick n) input.Tick a t pool tick-handed g)
+  acts-turn (Leave k) a t pool here g = to-node k (λ j. Turned (Leave j) a t pool) here (handed (Leave n) input.Leave a t pool leave-handed g)
+  acts-turn (Crash k) a t pool here g =
+      to-node k (λ j. Turned (Crash j) a t pool) here (crash-at (seat_at (at n)) (seat_at (new n)) a t pool refl refl (w.seats n) g.0 g.1)
+
+  -- ---- a node that has no seat
+
+  abbrev Seatless : WorldEvent → Type 0
+  Seatless e = Answers h e (Refused NotConnected) [] × ([] ≡ put_out h e (Refused NotConnected)) × Ignores e (Refused NotConnected) []
+
+  seatless-here : (e : WorldEvent) → target_of e ≡ target.Member n → starts e ≡ false → last_of n h.trace ≡ None → Seatless e
+  seatless-here (Start k) here s k0 = absurd (let bad : true ≡ false = s in cc)
+  seatless-here (Create k) here s k0 = to-node k (λ j. Seatless (Create j)) here (at-none _ k0, refl, tt)
+  seatless-here (Join k contact) here s k0 = to-node k (λ j. Seatless (Join j contact)) here (at-none _ k0, refl, tt)
+  seatless-here (Send k payload) here s k0 = to-node k (λ j. Seatless (Send j payload)) here (at-none _ k0, refl, tt)
+  seatless-here (Deliver k) here s k0 = absurd (let bad : target.Packet k ≡ target.Member n = here in cc)
+  seatless-here (Tick k) here s k0 = to-node k (λ j. Seatless (Tick j)) here (at-none _ k0, refl, tt)
+  seatless-here (Leave k) here s k0 = to-node k (λ j. Seatless (Leave j)) here (at-none _ k0, refl, tt)
+  seatless-here (Crash k) here s k0 = to-node k (λ j. Seatless (Crash j)) here (at-none _ k0, refl, tt)
+
+  -- what is left at a node that has a seat
+  some-acts : (e : WorldEvent) (s : Seat S) (t : List Happening) (a : Answer) (pool : List (List ℕ)) (o : Option (Seat S))
+      → IsSomeAnd o (λ s'. Acts opening apply encode decode e s h.trace h.pool a s' t pool) → Acts opening apply encode decode e s h.trace h.pool a (seat_at o) t pool
+  some-acts e s t a pool None g = absurd g
+  some-acts e s t a pool (Some s') g = g
+
+  carried-by : (e : WorldEvent) (a : Answer) (t : List Happening) (pool : List (List ℕ)) (o : Option (Seat S)) → at n ≡ o → target_of e ≡ target.Member n → (b : Bool) → starts e ≡ b
+      → CarriesOut opening apply encode decode e o h.trace h.pool a (new n) t pool → Turned e a t pool
+  carried-by e a t pool o is here true s g =
+      let y : IsSomeAnd (new n) (λ s'. Acts opening apply encode decode e (seat_at o) h.trace h.pool a s' t pool) = rw s at g in
+      acts-turn e a t pool here (some-acts e (seat_at (at n)) t a pool (new n)
+      (subst (λ (p : Option (Seat S)). IsSomeAnd (new n) (λ s'. Acts opening apply encode decode e (seat_at p) h.trace h.pool a s' t pool)) (sym is) y))
+  carried-by e a t pool None is here false s g =
+      let y : (a ≡ Refused NotConnected) × (new n ≡ None) × (t ≡ h.trace) × (pool ≡ h.pool) = rw s at g in
+      let was : seat_at (at n) ≡ Vacant = ap seat_at is in
+      let k : last_of n h.trace ≡ None = subst (IsSeatOf n (last_of n h.trace) (calls_of n h) h.trace) was (w.seats n) in
+      let z : Seatless e = seatless-here e here s k in
+      refused e NotConnected Vacant (seat_at (new n)) a t pool was refl z.0 z.1 z.2 (record { answer = y.0; seat = ap seat_at y.1; trace = y.2 }) y.3
+  carried-by e a t pool (Some p) is here false s g =
+      let y : IsSomeAnd (new n) (λ s'. Acts opening apply encode decode e p h.trace h.pool a s' t pool) = rw s at g in
+      acts-turn e a t pool here (some-acts e (seat_at (at n)) t a pool (new n)
+      (subst (λ (r : Seat S). IsSomeAnd (new n) (λ s'. Acts opening apply encode decode e r h.trace h.pool a s' t pool)) (sym (ap seat_at is)) y))
+
+  pub carried : (e : WorldEvent) (a : Answer) (t : List Happening) (pool : List (List ℕ)) → target_of e ≡ target.Member n
+      → CarriesOut opening apply encode decode e (at n) h.trace h.pool a (new n) t pool → Turned e a t pool
+  carried e a t pool here g = carried-by e a t pool (at n) refl here (starts e) refl g

@@ -1,169 +1,165 @@
--- A send keeps what a world keeps.
-use Rattle.std.proofs.Common.{◌≡◌, ℕ, ◌+◌, ◌<◌, ◌^◌, true, false, ◌&&◌, Option, Some, List, [], ◌∷◌, ◌++◌, length, nat_lt, nat_le, sym, refl, ap, ◌∙◌, inl, inr, arith, length-append, lit<}
-use Rattle.std.specs.List.{slice_get, Contains}
-use Rattle.std.proofs.lemmas.Bool.{lt-ltb, le-ltb, and_from}
-use Rattle.std.proofs.lemmas.Option.{same_Some}
+-- The table of events, for a running member that is to send.
+use Rattle.std.proofs.Common.{◌≡◌, ℕ, ◌+◌, ◌<◌, ◌^◌, Bool, true, false, not, cond, Option, Some, None, List, [], ◌∷◌, length, nat_le, nat_lt, drop, is_some, refl, sym, ap, ◌∙◌, subst, arith, inl, inr}
+use Rattle.std.specs.List.{list_all, Contains}
+use Rattle.std.specs.Option.{IsSomeAnd}
+use Rattle.std.proofs.lemmas.Bool.Decides.{nat_tests}
+use Rattle.std.proofs.lemmas.Option.{none-some, same_Some}
 use Rattle.address.specs.Ids.{Address, ViewId, same_address}
-use Rattle.state_transfer.specs.declared.TheConstants.{PAYLOAD}
+use Rattle.view.specs.Members.{View}
+use Rattle.wire.specs.declared.limits.TheConstants.{PAYLOAD, WINDOW}
 use Rattle.trace_props.specs.declared.happening.Happening.{Happening}
 use Rattle.trace_props.specs.declared.happening.Happening.TheVariants.{Delivered, Crashed}
 use Rattle.trace_props.specs.declared.happening.Happening.TheVariants as happening
-use Rattle.trace_props.specs.Observed.{own, sent_in, delivered_in, current_view}
-use Rattle.trace_props.specs.Following.{MayFollow}
-use Rattle.trace_props.proofs.Places.{slice_get-last}
-use Rattle.trace_props.proofs.Observing.{same_address-refl, has_started-stays, has_ended-still, current_view-push, is_blocked-push}
-use Rattle.trace_props.proofs.Telling.{delivered_in-still, delivered_in-hit, told_to-at, sent_in-still, sent_in-hit, said_by-at, own-hit}
-use Rattle.world_model.specs.declared.WorldEvent.TheVariants.{Send}
-use Rattle.world_model.specs.declared.Answer.{Answer}
-use Rattle.world_model.specs.declared.Answer.TheVariants.{Done, Sent, Refused}
-use Rattle.world_model.specs.declared.Refusal.TheVariants.{NotConnected, Blocked, Busy, TooLong, AlreadyConnected, Closed, Memory, Exhausted}
-use Rattle.world_model.specs.declared.TheConstants.{OUTSTANDING}
-use Rattle.world_model.specs.Histories.{History, last_of}
-use Rattle.world_model.specs.Faithful.{first_view, outstanding}
-use Rattle.world.specs.declared.seat.Stage.{Stage}
-use Rattle.world.specs.declared.seat.Stage.TheVariants.{Idle, Joining, Alone}
-use Rattle.world.specs.declared.seat.Member.{Member}
-use Rattle.world.specs.declared.seat.Seat.{Seat}
-use Rattle.world.specs.declared.seat.Seat.TheVariants.{Vacant, Ended, Running}
-use Rattle.world.specs.Turns.{sending, delivery, SendIn, SendGives}
-use Rattle.world.specs.Invariant.{Calls, calls_of, IsAlone, IsMember, IsSeatOf, IsTrace}
-use Rattle.world.proofs.Traces.{last_of-still}
-use Rattle.world.proofs.Turning.{Turn, turn-stays, turn-two, turn-crash}
+use Rattle.trace_props.specs.Observed.{is_blocked, current_view, sent_in, delivered_in}
+use Rattle.agreement.specs.Cores.{Core, is_frozen}
+use Rattle.sequencer.specs.declared.TheConstants.{OUTSTANDING}
+use Rattle.member.specs.declared.error.Error.{Error}
+use Rattle.member.specs.declared.error.Error.TheVariants as error
+use Rattle.member.specs.Members.{MemberModel, send_refusal}
+use Rattle.member.specs.Handling as member
+use Rattle.world_model.specs.declared.TheConstants.{REACH}
+use Rattle.world_model.specs.declared.TheConstants as model
+use Rattle.world_model.specs.declared.Answer.TheVariants.{Sent, Refused}
+use Rattle.world_model.specs.declared.Refusal.TheVariants.{Memory}
+use Rattle.world_model.specs.Histories.{History}
+use Rattle.world_model.specs.Faithful.{AnswersSend, IsPrompt, SendsNext, outstanding}
+use Rattle.world.specs.Seats.{answer_for, answer_to}
+use Rattle.world.proofs.Owning.{EachOwn, own-quiet}
+use Rattle.world.proofs.Answering.{free-of, quiet-all}
+use Rattle.world.proofs.Facts
 
--- the trace after a lone member's message is sent
-abbrev sent_trace : Address → ℕ → List ℕ → List Happening → List Happening
-sent_trace p k x t = t ++ happening.Sent (sending p (k + 1) x) ∷ []
+-- what may be sent: no test refuses it
+pub record MaySend {S : Type 0} (c : Core S) (payload : List ℕ) : Type 0 where
+  pub inside : not (is_some c.view) ≡ false
+  pub long : nat_lt PAYLOAD (length payload) ≡ false
+  pub frozen : is_frozen c.view c.installed ≡ false
+  pub busy : nat_le OUTSTANDING (length c.traffic.outstanding) ≡ false
+  pub used : nat_le (2 ^ 62) c.traffic.sent ≡ false
 
--- and after it is delivered
-abbrev told_trace : Address → ℕ → List ℕ → List Happening → List Happening
-told_trace p k x t = sent_trace p k x t ++ Delivered (delivery p (k + 1) x) ∷ []
+pub may-send : {S : Type 0} (c : Core S) (payload : List ℕ) → send_refusal c payload ≡ None → MaySend c payload
+may-send c payload e =
+    let a = free-of (not (is_some c.view)) error.NotConnected _ e in
+    let b = free-of (nat_lt PAYLOAD (length payload)) error.TooLong _ a.1 in
+    let d = free-of (is_frozen c.view c.installed) error.Blocked _ b.1 in
+    let f = free-of (nat_le OUTSTANDING (length c.traffic.outstanding)) error.Busy _ d.1 in
+    let g = free-of (nat_le (2 ^ 62) c.traffic.sent) error.Exhausted None f.1 in
+    record { inside = a.0; long = b.0; frozen = d.0; busy = f.0; used = g.0 }
 
-may-send : (p : Address) (k : ℕ) (x : List ℕ) (c : Calls) (t : List Happening) → IsMember p (Alone k) c t → MayFollow t (happening.Sent (sending p (k + 1) x))
-may-send p k x c t m = record {
-  placed = (record { started = m.started; going = m.going }, m.at.view, m.at.free);
-  views = tt;
-  messages = ap (λ n. n + 1) (sym m.at.count);
-  order = tt;
-}
+unused : (k n : ℕ) → n ≡ k → nat_le (2 ^ 62) k ≡ false → nat_lt n (2 ^ 62) ≡ true
+unused k n e test = subst (λ (j : ℕ). nat_lt j (2 ^ 62) ≡ true) (sym e) (grind (arith, nat_tests))
 
--- what is sent after it
-sent-now : (p : Address) (k : ℕ) (x : List ℕ) (t : List Happening) → sent_in p (first_view p) (sent_trace p k x t) ≡ sent_in p (first_view p) t ++ (sending p (k + 1) x).message ∷ []
-sent-now p k x t = sent_in-hit p (first_view p) t (sending p (k + 1) x) (said_by-at (sending p (k + 1) x))
+used-up : (k n : ℕ) → n ≡ k → nat_le (2 ^ 62) k ≡ true → nat_lt n (2 ^ 62) ≡ false
+used-up k n e test = subst (λ (j : ℕ). nat_lt j (2 ^ 62) ≡ false) (sym e) (grind (arith, nat_tests))
 
-told-before : (p : Address) (k : ℕ) (x : List ℕ) (t : List Happening) → delivered_in p (first_view p) (sent_trace p k x t) ≡ delivered_in p (first_view p) t
-told-before p k x t = delivered_in-still p (first_view p) t (happening.Sent (sending p (k + 1) x)) refl
+module _ {S : Type 0} (opening : S) (apply : S → Address → List ℕ → S) (encode : S → List ℕ) (decode : List ℕ → Option S) (is_state : S → Type 0) (h : History) (n : ℕ) (m : MemberModel S)
+    (c : Core S) (x : Facts.Runs opening apply encode decode is_state h n m c) (payload : List ℕ) where
+  me-is : c.me ≡ m.address
+  me-is = x.fact.seat.itself
 
-may-tell : (p : Address) (k : ℕ) (x : List ℕ) (c : Calls) (t : List Happening) → IsMember p (Alone k) c t → MayFollow (sent_trace p k x t) (Delivered (delivery p (k + 1) x))
-may-tell p k x c t m =
-    let u = sent_trace p k x t in
-    let mine : own p (delivered_in p (first_view p) u) ≡ sent_in p (first_view p) t = ap (own p) (told-before p k x t) ∙ m.at.heard in
-    let count : length (own p (delivered_in p (first_view p) u)) ≡ length (sent_in p (first_view p) t) = ap length mine in
-    record {
-      placed = (
-        record { started = has_started-stays p t (happening.Sent (sending p (k + 1) x) ∷ []) m.started; going = has_ended-still p t (happening.Sent (sending p (k + 1) x)) refl ∙ m.going },
-        current_view-push p t (happening.Sent (sending p (k + 1) x)) ∙ m.at.view,
-      );
-      views = tt;
-      messages = (
-        ap (λ n. n + 1) (sym (count ∙ m.at.count)),
-        rw count (ap (λ l. slice_get l (length (sent_in p (first_view p) t))) (sent-now p k x t) ∙ slice_get-last (sent_in p (first_view p) t) (sending p (k + 1) x).message),
-      );
-      order = λ e. absurd (let bad : true ≡ false = sym (same_address-refl p) ∙ e in cc);
-    }
+  block-is : (b : Bool) → is_frozen c.view c.installed ≡ b → is_blocked m.address h.trace ≡ b
+  block-is b e = x.fact.seat.block ∙ e
 
--- the member is alone as before, with one message more
-alone-more : (p : Address) (k : ℕ) (x : List ℕ) (c : Calls) (t : List Happening) → IsMember p (Alone k) c t → IsAlone p (k + 1) (told_trace p k x t)
-alone-more p k x c t m =
-    let s = happening.Sent (sending p (k + 1) x) in
-    let d = Delivered (delivery p (k + 1) x) in
-    let v = first_view p in
-    let u = sent_trace p k x t in
-    let said : sent_in p v (told_trace p k x t) ≡ sent_in p v t ++ (sending p (k + 1) x).message ∷ [] = sent_in-still p v u d refl ∙ sent-now p k x t in
-    let heard : delivered_in p v (told_trace p k x t) ≡ delivered_in p v t ++ (delivery p (k + 1) x).message ∷ [] =
-    delivered_in-hit p v u (delivery p (k + 1) x) (told_to-at (delivery p (k + 1) x)) ∙ ap (λ l. l ++ (delivery p (k + 1) x).message ∷ []) (told-before p k x t) in
-    record {
-      view = current_view-push p u d ∙ current_view-push p t s ∙ m.at.view;
-      free = is_blocked-push p u d ∙ is_blocked-push p t s ∙ m.at.free;
-      heard = ap (own p) heard ∙ own-hit p (delivered_in p v t) (delivery p (k + 1) x).message (same_address-refl p) ∙ ap (λ l. l ++ (sending p (k + 1) x).message ∷ []) m.at.heard ∙ sym said;
-      count = ap length said ∙ length-append (sent_in p v t) ((sending p (k + 1) x).message ∷ []) ∙ ap (λ n. n + 1) m.at.count;
-    }
+  -- ---- in a view
 
--- nothing is outstanding at a lone member
-none-out : (p : Address) (k : ℕ) (c : Calls) (t : List Happening) → IsMember p (Alone k) c t → nat_le OUTSTANDING (outstanding p (first_view p) t) ≡ false
-none-out p k c t m =
-    let count : length (own p (delivered_in p (first_view p) t)) ≡ length (sent_in p (first_view p) t) = ap length m.at.heard in
-    let none : outstanding p (first_view p) t ≡ 0 = omega arith in
-    ap (nat_le OUTSTANDING) none
+  module _ (v : View) (inside : c.view ≡ Some v) where
+    current : current_view m.address h.trace ≡ Some v.id
+    current = Facts.view-is opening apply encode decode is_state h n m c x (Some v) inside
 
--- the delivery stands in the stretch, whoever is asked for as the node's member and its view
-told-promptly : (p : Address) (j : ℕ) (x : List ℕ) (t : List Happening) (o : Option Address) → o ≡ Some p → current_view p t ≡ Some (first_view p)
-    → (q : Address) → o ≡ Some q → (v : ViewId) → current_view q t ≡ Some v
-    → Contains (happening.Sent (sending p (j + 1) x) ∷ Delivered (delivery p (j + 1) x) ∷ []) (Delivered (record { member = q; view = v; message = record { sender = q; number = j + 1; payload = x } }))
-told-promptly p j x t o is at q last v view =
-    let same : p ≡ q = same_Some p q (sym is ∙ last) in
-    let own_view : first_view p ≡ v = same_Some (first_view p) v (sym at ∙ ap (λ (y : Address). current_view y t) same ∙ view) in (
-      1,
-      lit< tt,
-      ap (λ (y : Address). Delivered (record { member = y; view = first_view p; message = record { sender = y; number = j + 1; payload = x } })) same
-          ∙ ap (λ (w : ViewId). Delivered (record { member = q; view = w; message = record { sender = q; number = j + 1; payload = x } })) own_view,
-    )
+    count : length (sent_in m.address v.id h.trace) ≡ c.traffic.sent
+    count = Facts.sent-count opening apply encode decode is_state h n m c x v inside
 
-send-alone : {R : Type 0} (apply : R → Address → List ℕ → R) (x : List ℕ) (n : ℕ) (h : History) (m : Member R) (j : ℕ) (a : Answer) (new : Seat R) (t : List Happening) → IsTrace h.trace
-    → IsSeatOf n (last_of n h.trace) (calls_of n h) h.trace (Running m) → IsMember m.address (Alone j) (calls_of n h) h.trace → SendIn apply x (Alone j) m h.trace a new t → Turn h (Send n x) a t new
-send-alone apply x n h m j Done new t i k f g = absurd g
-send-alone apply x n h m j (Sent b) new t i k f g =
-    let p = m.address in
-    let long : nat_lt PAYLOAD (length x) ≡ false = le-ltb PAYLOAD (length x) g.0 in
-    let few : nat_lt (length (sent_in p (first_view p) h.trace)) (2 ^ 62) ≡ true = lt-ltb (length (sent_in p (first_view p) h.trace)) (2 ^ 62) (let low : j < 2 ^ 62 = g.1 in rw f.at.count low) in
-    rw (g.2, g.3, g.4) (turn-two h (Send n x) (Sent (j + 1)) (happening.Sent (sending p (j + 1) x)) (Delivered (delivery p (j + 1) x)) (Running (record { address = p; stage = Alone (j + 1); receiver = apply m.receiver p x })) i
-    (record { node = k.1; follows = may-send p j x (calls_of n h) h.trace f; own = tt; next = tt })
-    (record { node = k.1; follows = may-tell p j x (calls_of n h) h.trace f; own = tt; next = tt })
-    (rw (k.0, f.going, f.at.view, long, f.at.free, none-out p j (calls_of n h) h.trace f, few)
-    (inl (record {
-      number = ap (λ c. Sent (c + 1)) (sym f.at.count);
-      first = ap (λ c. happening.Sent (sending p (c + 1) x) ∷ Delivered (delivery p (j + 1) x) ∷ []) (sym f.at.count);
-      quiet = and_from (same_address p p && true) true (and_from (same_address p p) true (same_address-refl p) refl) refl;
-    })))
-    (λ q last v view first short. told-promptly p j x h.trace (last_of n h.trace) k.0 f.at.view q last v view) (
-      last_of-still n (sent_trace p j x h.trace) (Delivered (delivery p (j + 1) x)) refl ∙ last_of-still n h.trace (happening.Sent (sending p (j + 1) x)) refl ∙ k.0,
-      k.1,
-      record {
-        started = has_started-stays p (sent_trace p j x h.trace) (Delivered (delivery p (j + 1) x) ∷ []) (has_started-stays p h.trace (happening.Sent (sending p (j + 1) x) ∷ []) f.started);
-        going = has_ended-still p (sent_trace p j x h.trace) (Delivered (delivery p (j + 1) x)) refl ∙ has_ended-still p h.trace (happening.Sent (sending p (j + 1) x)) refl ∙ f.going;
-        joined = f.joined;
-        asks = f.asks;
-        at = alone-more p j x (calls_of n h) h.trace f;
-      },
-    ))
-send-alone apply x n h m j (Refused TooLong) new t i k f g =
-    let long : nat_lt PAYLOAD (length x) ≡ true = lt-ltb PAYLOAD (length x) g.0 in
-    rw (g.1, g.2) (turn-stays h (Send n x) TooLong (Running m) i k (rw (k.0, f.going, f.at.view, long) (refl, refl)))
-send-alone apply x n h m j (Refused Exhausted) new t i k f g =
-    let p = m.address in
-    let long : nat_lt PAYLOAD (length x) ≡ false = le-ltb PAYLOAD (length x) g.0 in
-    let used : nat_lt (length (sent_in p (first_view p) h.trace)) (2 ^ 62) ≡ false = le-ltb (length (sent_in p (first_view p) h.trace)) (2 ^ 62) (rw f.at.count g.1) in
-    rw (g.2, g.3) (turn-stays h (Send n x) Exhausted (Running m) i k (rw (k.0, f.going, f.at.view, long, f.at.free, none-out p j (calls_of n h) h.trace f, used) (refl, refl)))
-send-alone apply x n h m j (Refused Memory) new t i k f g =
-    let p = m.address in
-    let long : nat_lt PAYLOAD (length x) ≡ false = le-ltb PAYLOAD (length x) g.0 in
-    let few : nat_lt (length (sent_in p (first_view p) h.trace)) (2 ^ 62) ≡ true = lt-ltb (length (sent_in p (first_view p) h.trace)) (2 ^ 62) (rw f.at.count g.1) in
-    rw (g.2, g.3) (turn-crash h (Send n x) (Refused Memory) p (Alone j) (calls_of n h) i k.1 k.0 f
-    (rw (k.0, f.going, f.at.view, long, f.at.free, none-out p j (calls_of n h) h.trace f, few) (inr (refl, refl))) tt)
-send-alone apply x n h m j (Refused NotConnected) new t i k f g = absurd g
-send-alone apply x n h m j (Refused Blocked) new t i k f g = absurd g
-send-alone apply x n h m j (Refused Busy) new t i k f g = absurd g
-send-alone apply x n h m j (Refused AlreadyConnected) new t i k f g = absurd g
-send-alone apply x n h m j (Refused Closed) new t i k f g = absurd g
+    busy-is : (b : Bool) → nat_le OUTSTANDING (length c.traffic.outstanding) ≡ b → nat_le model.OUTSTANDING (outstanding m.address v.id h.trace) ≡ b
+    busy-is b e = ap (nat_le OUTSTANDING) (Facts.outstanding-is opening apply encode decode is_state h n m c x v inside) ∙ e
 
-send-at : {R : Type 0} (apply : R → Address → List ℕ → R) (x : List ℕ) (n : ℕ) (h : History) (m : Member R) (stage : Stage) (a : Answer) (new : Seat R) (t : List Happening) → IsTrace h.trace
-    → IsSeatOf n (last_of n h.trace) (calls_of n h) h.trace (Running m) → IsMember m.address stage (calls_of n h) h.trace → SendIn apply x stage m h.trace a new t → Turn h (Send n x) a t new
-send-at apply x n h m Idle a new t i k f g = rw (g.0, g.1, g.2) (turn-stays h (Send n x) NotConnected (Running m) i k (rw (k.0, f.going, f.at.view) (refl, refl)))
-send-at apply x n h m (Joining c) a new t i k f g = rw (g.0, g.1, g.2) (turn-stays h (Send n x) NotConnected (Running m) i k (rw (k.0, f.going, f.at.view) (refl, refl)))
-send-at apply x n h m (Alone j) a new t i k f g = send-alone apply x n h m j a new t i k f g
+    lost-in : MaySend c payload → AnswersSend payload m.address h (Refused Memory) (Crashed m.address ∷ [])
+    lost-in may = rw (current, may.long, block-is false may.frozen, busy-is false may.busy, unused c.traffic.sent _ count may.used) (inr (refl, refl))
 
--- a send, at any seat
-pub send-turns : {R : Type 0} (apply : R → Address → List ℕ → R) (x : List ℕ) (n : ℕ) (h : History) (old : Seat R) (a : Answer) (new : Seat R) (t : List Happening) → IsTrace h.trace
-    → IsSeatOf n (last_of n h.trace) (calls_of n h) h.trace old → SendGives apply x old h.trace a new t → Turn h (Send n x) a t new
-send-turns apply x n h Vacant a new t i k g = rw (g.0, g.1, g.2) (turn-stays h (Send n x) NotConnected Vacant i k (rw k (refl, refl)))
-send-turns apply x n h (Ended p) a new t i k g = rw (g.0, g.1, g.2) (turn-stays h (Send n x) Closed (Ended p) i k (rw (k.0, k.2) (refl, refl)))
-send-turns apply x n h (Running m) a new t i k g = send-at apply x n h m m.stage a new t i k k.2 g
+    abbrev sent-happening : ℕ → Address → Happening
+    sent-happening k p = happening.Sent (record { member = p; view = v.id; message = record { number = k; payload = payload } })
+
+    taken-in : (s : List Happening) → MaySend c payload → EachOwn m.address s → s ≡ sent-happening (c.traffic.sent + 1) c.me ∷ drop 1 s → list_all member.is_quiet (drop 1 s) ≡ true
+        → AnswersSend payload m.address h (Sent (c.traffic.sent + 1)) s
+    taken-in s may own first quiet =
+        let next : SendsNext m.address v.id payload h.trace (Sent (c.traffic.sent + 1)) s = record {
+          number = ap (λ k. Sent (k + 1)) (sym count);
+          first = first ∙ ap (λ p. sent-happening (c.traffic.sent + 1) p ∷ drop 1 s) me-is ∙ ap (λ k. sent-happening (k + 1) m.address ∷ drop 1 s) (sym count);
+          quiet = own-quiet m.address (drop 1 s) (own-rest s own) (quiet-all (drop 1 s) quiet);
+        } in
+        rw (current, may.long, block-is false may.frozen, busy-is false may.busy, unused c.traffic.sent _ count may.used) (inl next)
+      where
+        own-rest : (t : List Happening) → EachOwn m.address t → EachOwn m.address (drop 1 t)
+        own-rest [] o = tt
+        own-rest (y ∷ t) o = o.1
+
+    not-in : (err : Error) (b1 b2 b3 b4 : Bool) → nat_lt PAYLOAD (length payload) ≡ b1 → is_frozen c.view c.installed ≡ b2 → nat_le OUTSTANDING (length c.traffic.outstanding) ≡ b3
+        → nat_le (2 ^ 62) c.traffic.sent ≡ b4
+        → cond b1 (Some error.TooLong) (cond b2 (Some error.Blocked) (cond b3 (Some error.Busy) (cond b4 (Some error.Exhausted) None))) ≡ Some err
+        → AnswersSend payload m.address h (answer_for err) []
+    not-in err true b2 b3 b4 t1 t2 t3 t4 e = rw (current, t1) (ap answer_for (sym (same_Some error.TooLong err e)), refl)
+    not-in err false true b3 b4 t1 t2 t3 t4 e = rw (current, t1, block-is true t2) (ap answer_for (sym (same_Some error.Blocked err e)), refl)
+    not-in err false false true b4 t1 t2 t3 t4 e = rw (current, t1, block-is false t2, busy-is true t3) (ap answer_for (sym (same_Some error.Busy err e)), refl)
+    not-in err false false false true t1 t2 t3 t4 e =
+        rw (current, t1, block-is false t2, busy-is false t3, used-up c.traffic.sent _ count t4) (ap answer_for (sym (same_Some error.Exhausted err e)), refl)
+    not-in err false false false false t1 t2 t3 t4 e = absurd (none-some err e)
+
+    near : (k : ℕ) → k ≡ c.traffic.delivered → k < REACH → c.traffic.delivered < c.traffic.stable + WINDOW
+    near k e low = omega arith
+
+    -- a message that is told where it is sent is told promptly, whoever is asked for as the node's member and its view
+    prompt-in : (s : List Happening)
+        → (same_address c.me v.id.creator ≡ true → c.traffic.delivered < c.traffic.stable + WINDOW
+        → Contains s (Delivered (record { member = c.me; view = v.id; message = record { sender = c.me; number = c.traffic.sent + 1; payload = payload } })))
+        → IsPrompt n payload h.trace (Sent (c.traffic.sent + 1)) s
+    prompt-in s told q last w view first short =
+        let is : q ≡ m.address = same_Some q m.address (sym last ∙ x.last) in
+        let own : q ≡ c.me = is ∙ sym me-is in
+        let same : w ≡ v.id = same_Some w v.id (sym view ∙ ap (λ p. current_view p h.trace) is ∙ current) in
+        let k : length (delivered_in q w h.trace) ≡ c.traffic.delivered =
+        ap (λ p. length (delivered_in p w h.trace)) is ∙ ap (λ u. length (delivered_in m.address u h.trace)) same ∙ Facts.told-count opening apply encode decode is_state h n m c x v inside in
+        let at : same_address c.me v.id.creator ≡ true =
+        ap (λ p. same_address p v.id.creator) (sym own) ∙ ap (λ (u : ViewId). same_address q u.creator) (sym same) ∙ first in
+        subst (λ (p : Address). Contains s (Delivered (record { member = p; view = w; message = record { sender = p; number = c.traffic.sent + 1; payload = payload } }))) (sym own)
+        (subst (λ (u : ViewId). Contains s (Delivered (record { member = c.me; view = u; message = record { sender = c.me; number = c.traffic.sent + 1; payload = payload } }))) (sym same)
+        (told at (near (length (delivered_in q w h.trace)) k short)))
+
+  -- ---- in a view or in none
+
+  pub send-lost : send_refusal c payload ≡ None → AnswersSend payload m.address h (Refused Memory) (Crashed m.address ∷ [])
+  send-lost free = by (may-send c payload free) c.view refl
+    where
+      by : MaySend c payload → (o : Option View) → c.view ≡ o → AnswersSend payload m.address h (Refused Memory) (Crashed m.address ∷ [])
+      by may None e = absurd (let n : true ≡ false = sym (ap (λ o. not (is_some o)) e) ∙ may.inside in cc)
+      by may (Some v) e = lost-in v e may
+
+  not-at : (err : Error) (o : Option View) → c.view ≡ o
+      → cond (not (is_some o)) (Some error.NotConnected) (cond (nat_lt PAYLOAD (length payload)) (Some error.TooLong) (cond (is_frozen c.view c.installed) (Some error.Blocked)
+      (cond (nat_le OUTSTANDING (length c.traffic.outstanding)) (Some error.Busy) (cond (nat_le (2 ^ 62) c.traffic.sent) (Some error.Exhausted) None)))) ≡ Some err
+      → AnswersSend payload m.address h (answer_for err) []
+  not-at err None e r = rw (Facts.view-is opening apply encode decode is_state h n m c x None e) (ap answer_for (sym (same_Some error.NotConnected err r)), refl)
+  not-at err (Some v) e r = not-in v e err _ _ _ _ refl refl refl refl r
+
+  pub send-not : (err : Error) → send_refusal c payload ≡ Some err → AnswersSend payload m.address h (answer_for err) []
+  send-not err refused = not-at err c.view refl refused
+
+  -- what is known where it takes a message
+  pub record SendTaken (s : List Happening) : Type 0 where
+    pub answer : answer_to s ≡ Sent (c.traffic.sent + 1)
+    pub answers : AnswersSend payload m.address h (Sent (c.traffic.sent + 1)) s
+    pub prompt : IsPrompt n payload h.trace (Sent (c.traffic.sent + 1)) s
+
+  taken-at : (s : List Happening) (o : Option View) → c.view ≡ o → MaySend c payload → EachOwn m.address s
+      → IsSomeAnd o (λ v. s ≡ happening.Sent (record { member = c.me; view = v.id; message = record { number = c.traffic.sent + 1; payload = payload } }) ∷ drop 1 s)
+      → list_all member.is_quiet (drop 1 s) ≡ true
+      → IsSomeAnd o (λ v. same_address c.me v.id.creator ≡ true → c.traffic.delivered < c.traffic.stable + WINDOW
+      → Contains s (Delivered (record { member = c.me; view = v.id; message = record { sender = c.me; number = c.traffic.sent + 1; payload = payload } })))
+      → SendTaken s
+  taken-at s None e may own first quiet told = absurd first
+  taken-at s (Some v) e may own first quiet told = record { answer = ap answer_to first; answers = taken-in v e s may own first quiet; prompt = prompt-in v e s told }
+
+  pub send-taken : (s : List Happening) → send_refusal c payload ≡ None → EachOwn m.address s
+      → IsSomeAnd c.view (λ v. s ≡ happening.Sent (record { member = c.me; view = v.id; message = record { number = c.traffic.sent + 1; payload = payload } }) ∷ drop 1 s)
+      → list_all member.is_quiet (drop 1 s) ≡ true
+      → IsSomeAnd c.view (λ v. same_address c.me v.id.creator ≡ true → c.traffic.delivered < c.traffic.stable + WINDOW
+      → Contains s (Delivered (record { member = c.me; view = v.id; message = record { sender = c.me; number = c.traffic.sent + 1; payload = payload } })))
+      → SendTaken s
+  send-taken s free own first quiet told = taken-at s c.view refl (may-send c payload free) own first quiet told

@@ -1,104 +1,210 @@
 -- A start keeps what a world keeps.
-use Rattle.std.proofs.Common.{◌≡◌, ℕ, ◌+◌, ◌<◌, ◌≤◌, ◌^◌, Bool, true, false, ◌&&◌, Option, Some, None, List, [], ◌∷◌, ◌++◌, nat_eq, nat_lt, sym, refl, ap, ◌∙◌, subst, arith, inl, inr}
-use Rattle.std.specs.Option.{option_map_or}
-use Rattle.std.proofs.lemmas.Bool.{cond-true, eq-eqb, and_from}
-use Rattle.address.specs.Ids.{Address, same_view_id}
+use Rattle.std.proofs.Common.{◌≡◌, ℕ, ◌+◌, ◌<◌, ◌≤◌, ◌^◌, Bool, true, false, Option, Some, None, List, [], ◌∷◌, ◌++◌, nat_eq, nat_lt, sym, refl, ap, ◌∙◌, subst, arith, inl, inr}
+use Rattle.std.specs.Option.{IsSomeAnd, option_map_or, option_and_then}
+use Rattle.std.proofs.lemmas.Bool.{cond-true, eq-eqb, eqb-true}
+use Rattle.std.proofs.lemmas.List.{append-nil, append_assoc}
+use Rattle.address.specs.Ids.{Address, IsAddress}
 use Rattle.trace_props.specs.declared.happening.Happening.{Happening}
 use Rattle.trace_props.specs.declared.happening.Happening.TheVariants.{Started, Crashed}
-use Rattle.trace_props.specs.Observed.{has_started}
-use Rattle.trace_props.proofs.Observing.{has_started-now, has_ended-still, has_ended-now, current_view-push, is_blocked-push}
-use Rattle.trace_props.proofs.Telling.{delivered_in-still, sent_in-still, register-still}
+use Rattle.trace_props.specs.Observed.{has_started, has_ended}
+use Rattle.trace_props.proofs.Observing.{has_ended-now}
+use Rattle.agreement.specs.Cores.{Core}
+use Rattle.agreement.proofs.Stepping
+use Rattle.member.specs.Members.{Book}
 use Rattle.world_model.specs.declared.WorldEvent.TheVariants.{Start}
 use Rattle.world_model.specs.declared.Answer.{Answer}
 use Rattle.world_model.specs.declared.Answer.TheVariants.{Done, Sent, Refused}
+use Rattle.world_model.specs.declared.Refusal.{Refusal}
 use Rattle.world_model.specs.declared.Refusal.TheVariants.{NotConnected, Blocked, Busy, TooLong, AlreadyConnected, Closed, Memory, Exhausted}
 use Rattle.world_model.specs.Histories.{History, last_of, is_connected, contact_of}
-use Rattle.world_model.specs.Faithful.{Answers, first_view}
-use Rattle.world.specs.declared.seat.Stage.TheVariants.{Idle}
+use Rattle.world_model.specs.Faithful.{Answers}
 use Rattle.world.specs.declared.seat.Seat.{Seat}
 use Rattle.world.specs.declared.seat.Seat.TheVariants.{Vacant, Ended, Running}
-use Rattle.world.specs.Turns.{Begins, StartGives}
-use Rattle.world.specs.Invariant.{calls_of, IsFresh, IsSeatOf, IsTrace, top_of}
-use Rattle.world.proofs.Traces.{last_of-push, last_of-still}
-use Rattle.world.proofs.Turning.{Turn, turn-stays, turn-one, turn-two}
+use Rattle.world.specs.Seats.{seat_at, core_here}
+use Rattle.world.specs.Turns.{Begun, BeginsSo, Begins, Stays, StartGives}
+use Rattle.world.specs.Invariant.{calls_of, IsSeatOf, EachSpelled, StartsInTurn, top_of}
+use Rattle.world.proofs.Calls.{calls_after, calls_after-other, refused-calls}
+use Rattle.world.proofs.Traces.{last_of-push, last_of-still, last_of-other, starts-push}
+use Rattle.world.proofs.Seats.{OthersStand, OnlyHere, only-ended, only-running, core-running}
+use Rattle.world.proofs.Tables.{done-here}
+use Rattle.world.proofs.Turning
+use Rattle.world.proofs.Facts
+use Rattle.world.proofs.Agreeing
+use Rattle.world.proofs.Taking
 
 -- an incarnation above all of its node has not started
-unstarted : (q : Address) (t : List Happening) → IsTrace t → top_of q.node t < q.incarnation → (b : Bool) → has_started q t ≡ b → b ≡ false
+unstarted : (q : Address) (t : List Happening) → StartsInTurn t → top_of q.node t < q.incarnation → (b : Bool) → has_started q t ≡ b → b ≡ false
 unstarted q t i above false e = refl
-unstarted q t i above true e = let low : q.incarnation ≤ top_of q.node t = i.starts q e in absurd (omega arith)
-
--- a start tells nothing but that it is one
-fresh-start : (q : Address) (t : List Happening) → IsFresh q t → IsFresh q (t ++ Started q ∷ [])
-fresh-start q t f = record {
-  going = has_ended-still q t (Started q) refl ∙ f.going;
-  view = current_view-push q t (Started q) ∙ f.view;
-  free = is_blocked-push q t (Started q) ∙ f.free;
-  said = sent_in-still q (first_view q) t (Started q) refl ∙ f.said;
-  heard = delivered_in-still q (first_view q) t (Started q) refl ∙ f.heard;
-  first = register-still (λ i. same_view_id i.view.id (first_view q)) t (Started q) refl ∙ f.first;
-}
+unstarted q t i above true e = let low : q.incarnation ≤ top_of q.node t = i q e in absurd (omega arith)
 
 last-now : (q : Address) (n : ℕ) (t : List Happening) → q.node ≡ n → last_of n (t ++ Started q ∷ []) ≡ Some q
 last-now q n t e = last_of-push n t (Started q) ∙ cond-true (nat_eq q.node n) (Some q) (last_of n t) (eq-eqb q.node n e)
 
--- a member begins, or begins and crashes
-begins-turns : {R : Type 0} (opening : R) (n : ℕ) (h : History) (q : Address) (a : Answer) (new : Seat R) (t : List Happening) → IsTrace h.trace → q.node ≡ n → top_of n h.trace < q.incarnation
-    → Answers h (Start n) Done (Started q ∷ []) → Answers h (Start n) (Refused Memory) (Started q ∷ Crashed q ∷ []) → Begins opening q h.trace a new t → Turn h (Start n) a t new
-begins-turns opening n h q Done new t i node above done memory g =
-    let none : has_started q h.trace ≡ false = unstarted q h.trace i (subst (λ (m : ℕ). top_of m h.trace < q.incarnation) (sym node) above) (has_started q h.trace) refl in
-    let fresh : IsFresh q (h.trace ++ Started q ∷ []) = fresh-start q h.trace (i.fresh q none) in
-    rw (g.0, g.1) (turn-one h (Start n) Done (Started q) (Running (record { address = q; stage = Idle; receiver = opening })) i
-    (record { node = node; follows = record { placed = none; views = tt; messages = tt; order = tt }; own = tt; next = let low : top_of q.node h.trace < q.incarnation = subst (λ (m : ℕ). top_of m h.trace < q.incarnation) (sym node) above in omega arith })
-    done tt (
-      last-now q n h.trace node,
-      node,
-      record {
-        started = has_started-now q h.trace;
-        going = fresh.going;
-        joined = cond-true (nat_eq n n && true) false (is_connected n h) (and_from (nat_eq n n) true (eq-eqb n n refl) refl);
-        asks = cond-true (nat_eq n n && true) None (contact_of n h) (and_from (nat_eq n n) true (eq-eqb n n refl) refl);
-        at = fresh;
-      },
-    ))
-begins-turns opening n h q (Sent k) new t i node above done memory g = absurd g
-begins-turns {R} opening n h q (Refused Memory) new t i node above done memory g =
-    let none : has_started q h.trace ≡ false = unstarted q h.trace i (subst (λ (m : ℕ). top_of m h.trace < q.incarnation) (sym node) above) (has_started q h.trace) refl in
-    let fresh : IsFresh q (h.trace ++ Started q ∷ []) = fresh-start q h.trace (i.fresh q none) in
-    rw (g.0, g.1) (turn-two {R = R} h (Start n) (Refused Memory) (Started q) (Crashed q) (Ended q) i
-    (record { node = node; follows = record { placed = none; views = tt; messages = tt; order = tt }; own = tt; next = let low : top_of q.node h.trace < q.incarnation = subst (λ (m : ℕ). top_of m h.trace < q.incarnation) (sym node) above in omega arith })
-    (record { node = node; follows = record { placed = record { started = has_started-now q h.trace; going = fresh.going }; views = tt; messages = tt; order = tt }; own = tt; next = tt })
-    memory tt
-    (last_of-still n (h.trace ++ Started q ∷ []) (Crashed q) refl ∙ last-now q n h.trace node, node, has_ended-now (h.trace ++ Started q ∷ []) (Crashed q) refl))
-begins-turns opening n h q (Refused NotConnected) new t i node above done memory g = absurd g
-begins-turns opening n h q (Refused Blocked) new t i node above done memory g = absurd g
-begins-turns opening n h q (Refused Busy) new t i node above done memory g = absurd g
-begins-turns opening n h q (Refused TooLong) new t i node above done memory g = absurd g
-begins-turns opening n h q (Refused AlreadyConnected) new t i node above done memory g = absurd g
-begins-turns opening n h q (Refused Closed) new t i node above done memory g = absurd g
-begins-turns opening n h q (Refused Exhausted) new t i node above done memory g = absurd g
+module _ {S : Type 0} (opening : S) (apply : S → Address → List ℕ → S) (encode : S → List ℕ) (decode : List ℕ → Option S) (is_state : S → Type 0)
+    (laws : Stepping.Laws opening apply encode decode is_state) (at new : ℕ → Option (Seat S)) (n : ℕ) (h : History) (w : Turning.World opening apply encode decode is_state at h)
+    (others : OthersStand n at new) where
+  abbrev Turned : Answer → List Happening → List (List ℕ) → Type 0
+  Turned a t pool = Taking.Turned opening apply encode decode is_state new n h (Start n) a t pool
 
-top-at : (n : ℕ) (t : List Happening) (o : Option Address) → last_of n t ≡ o → top_of n t ≡ option_map_or (λ (x : Address). x.incarnation) o 0
-top-at n t o e = ap (λ l. option_map_or (λ (x : Address). x.incarnation) l 0) e
+  -- the next member of the node, which nobody is yet
+  record IsNext (q : Address) (old : Seat S) : Type 0 where
+    node : q.node ≡ n
+    real : IsAddress q
+    was : seat_at (at n) ≡ old
+    nobody : (p : Address) → core_here p old ≡ None
+    above : top_of n h.trace < q.incarnation
+    done : Answers h (Start n) Done (Started q ∷ [])
+    memory : Answers h (Start n) (Refused Memory) (Started q ∷ Crashed q ∷ [])
 
--- after an ended member, by whether there is a next incarnation
-after-ended : {R : Type 0} (opening : R) (n : ℕ) (h : History) (p : Address) (a : Answer) (new : Seat R) (t : List Happening) → IsTrace h.trace → IsSeatOf {R = R} n (last_of n h.trace) (calls_of n h) h.trace (Ended p)
-    → (b : Bool) → nat_lt (p.incarnation + 1) (2 ^ 32) ≡ b → StartGives opening n (Ended p) h.trace a new t → Turn h (Start n) a t new
-after-ended {R} opening n h p a new t i k true e g =
-    let top : top_of n h.trace ≡ p.incarnation = top-at n h.trace (Some p) k.0 in
-    let begins : Begins opening (record { node = p.node; incarnation = p.incarnation + 1 }) h.trace a new t = rw e at g in
-    begins-turns opening n h (record { node = p.node; incarnation = p.incarnation + 1 }) a new t i k.1 (omega arith)
-    (rw (k.0, k.2, e) (inl (refl, ap (λ (m : ℕ). Started (record { node = m; incarnation = p.incarnation + 1 }) ∷ []) k.1)))
-    (rw (k.0, k.2, e) (inr (refl, ap (λ (m : ℕ). Started (record { node = m; incarnation = p.incarnation + 1 }) ∷ Crashed (record { node = m; incarnation = p.incarnation + 1 }) ∷ []) k.1)))
-    begins
-after-ended {R} opening n h p a new t i k false e g =
-    let stays : (a ≡ Refused Exhausted) × (new ≡ Ended p) × (t ≡ h.trace) = rw e at g in
-    rw (stays.0, stays.1, stays.2) (turn-stays {R = R} h (Start n) Exhausted (Ended p) i k (rw (k.0, k.2, e) (refl, refl)))
+  module _ (q : Address) (old : Seat S) (x : IsNext q old) where
+    higher : top_of q.node h.trace < q.incarnation
+    higher = subst (λ (k : ℕ). top_of k h.trace < q.incarnation) (sym x.node) x.above
 
--- a start, at any seat
-pub start-turns : {R : Type 0} (opening : R) (n : ℕ) (h : History) (old : Seat R) (a : Answer) (new : Seat R) (t : List Happening) → IsTrace h.trace → IsSeatOf n (last_of n h.trace) (calls_of n h) h.trace old
-    → StartGives opening n old h.trace a new t → Turn h (Start n) a t new
-start-turns opening n h Vacant a new t i k g =
-    let top : top_of n h.trace ≡ 0 = top-at n h.trace None k in
-    begins-turns opening n h (record { node = n; incarnation = 1 }) a new t i refl (omega arith) (rw k (inl (refl, refl))) (rw k (inr (refl, refl))) g
-start-turns opening n h (Ended p) a new t i k g = after-ended opening n h p a new t i k (nat_lt (p.incarnation + 1) (2 ^ 32)) refl g
-start-turns opening n h (Running m) a new t i k g = rw (g.0, g.1, g.2) (turn-stays h (Start n) AlreadyConnected (Running m) i k (rw (k.0, k.2.going) (refl, refl)))
+    new-one : has_started q h.trace ≡ false
+    new-one = unstarted q h.trace w.starts higher (has_started q h.trace) refl
+
+    moves-to : (now : Seat S) → seat_at (new n) ≡ now → OnlyHere q now → Agreeing.Moves opening apply encode decode is_state laws at new n q old now
+    moves-to now is only = record { node = x.node; was = x.was; is = is; only_old = λ p e. x.nobody p; only_now = only; others = others }
+
+    starts-now : StartsInTurn (h.trace ++ Started q ∷ [])
+    starts-now = starts-push h.trace (Started q) w.starts (let low : top_of q.node h.trace < q.incarnation = higher in omega arith)
+
+    lasts-now : (k : ℕ) → nat_eq n k ≡ false → last_of k (h.trace ++ Started q ∷ []) ≡ last_of k h.trace
+    lasts-now k o = last_of-other k h.trace (Started q) (subst (λ (j : ℕ). nat_eq j k ≡ false) (sym x.node) o)
+
+    -- it runs
+    begun : (t : List Happening) (now : Seat S) → seat_at (new n) ≡ now → Begun opening q h.trace now t → Turned Done t h.pool
+    begun t now is g =
+        let m = g.member in
+        let here : seat_at (new n) ≡ Running g.member = is ∙ g.seat in
+        record {
+          ps = [];
+          s = Started q ∷ [];
+          trace = g.trace;
+          puts = sym (append-nil h.pool);
+          turn = record {
+            answers = x.done;
+            prompt = tt;
+            put = refl;
+            ignored = tt;
+            agreed = Agreeing.started-agreed opening apply encode decode is_state laws at new n q old (Running g.member) (moves-to (Running g.member) here (only-running q g.member g.address))
+                h.pool h.trace x.real new-one (core-running q g.member g.address ∙ g.core) w.agreed;
+            spelled = subst EachSpelled (sym (append-nil h.pool)) w.spelled;
+            starts = starts-now;
+            lasts = lasts-now;
+            calls = λ k o. calls_after-other k (calls_of k h) (Start n) Done o;
+            seat = subst (IsSeatOf n (last_of n (h.trace ++ Started q ∷ [])) (calls_after n (calls_of n h) (Start n) Done) (h.trace ++ Started q ∷ [])) (sym here) (
+              last-now q n h.trace x.node ∙ ap Some (sym g.address),
+              ap (λ (p : Address). p.node) g.address ∙ x.node,
+              record {
+                group = g.group;
+                joined = subst (λ (o : Option (Core S)). IsSomeAnd o (λ d. (calls_after n (calls_of n h) (Start n) Done).connected ≡ d.connected)) (sym g.core) (done-here n false (is_connected n h));
+                asks = done-here n None (contact_of n h) ∙ sym (ap (option_and_then (λ (b : Book). b.contact)) g.book);
+              },
+            );
+          };
+        }
+
+    -- or it crashed
+    failed : (t : List Happening) → seat_at (new n) ≡ Ended q → t ≡ h.trace ++ Started q ∷ [] ++ Crashed q ∷ [] → Turned (Refused Memory) t h.pool
+    failed t is trace =
+        let one = h.trace ++ Started q ∷ [] in
+        let two : (h.trace ++ Started q ∷ []) ++ Crashed q ∷ [] ≡ h.trace ++ Started q ∷ Crashed q ∷ [] = append_assoc h.trace (Started q ∷ []) (Crashed q ∷ []) in
+        let last : last_of n (h.trace ++ Started q ∷ Crashed q ∷ []) ≡ Some q =
+        ap (last_of n) (sym two) ∙ last_of-still n (h.trace ++ Started q ∷ []) (Crashed q) refl ∙ last-now q n h.trace x.node in
+        record {
+          ps = [];
+          s = Started q ∷ Crashed q ∷ [];
+          trace = trace ∙ two;
+          puts = sym (append-nil h.pool);
+          turn = record {
+            answers = x.memory;
+            prompt = tt;
+            put = refl;
+            ignored = tt;
+            agreed = Agreeing.failed-agreed opening apply encode decode is_state laws at new n q old (Ended q) (moves-to (Ended q) is (only-ended q q)) h.pool h.trace x.real new-one refl w.agreed;
+            spelled = subst EachSpelled (sym (append-nil h.pool)) w.spelled;
+            starts = subst StartsInTurn two (starts-push (h.trace ++ Started q ∷ []) (Crashed q) starts-now tt);
+            lasts = λ k o. ap (last_of k) (sym two) ∙ last_of-still k (h.trace ++ Started q ∷ []) (Crashed q) refl ∙ lasts-now k o;
+            calls = λ k o. calls_after-other k (calls_of k h) (Start n) (Refused Memory) o;
+            seat = subst (IsSeatOf n (last_of n (h.trace ++ Started q ∷ Crashed q ∷ [])) (calls_after n (calls_of n h) (Start n) (Refused Memory)) (h.trace ++ Started q ∷ Crashed q ∷ [])) (sym is)
+                (last, x.node, subst (λ (t : List Happening). has_ended q t ≡ true) two (has_ended-now (h.trace ++ Started q ∷ []) (Crashed q) refl));
+          };
+        }
+
+    begins : (a : Answer) (t : List Happening) (now : Seat S) → seat_at (new n) ≡ now → BeginsSo opening q h.trace a now t → Turned a t h.pool
+    begins Done t now is g = begun t now is g
+    begins (Sent k) t now is g = absurd g
+    begins (Refused Memory) t now is g = failed t (is ∙ g.0) g.1
+    begins (Refused NotConnected) t now is g = absurd g
+    begins (Refused Blocked) t now is g = absurd g
+    begins (Refused Busy) t now is g = absurd g
+    begins (Refused TooLong) t now is g = absurd g
+    begins (Refused AlreadyConnected) t now is g = absurd g
+    begins (Refused Closed) t now is g = absurd g
+    begins (Refused Exhausted) t now is g = absurd g
+
+  -- ---- a start, at any seat
+
+  top-at : (o : Option Address) → last_of n h.trace ≡ o → top_of n h.trace ≡ option_map_or (λ (p : Address). p.incarnation) o 0
+  top-at o e = ap (λ l. option_map_or (λ (p : Address). p.incarnation) l 0) e
+
+  same-at : (k : ℕ) (b : Bool) → nat_eq n k ≡ b → seat_at (new n) ≡ seat_at (at n) → seat_at (new k) ≡ seat_at (at k)
+  same-at k true b is = subst (λ (j : ℕ). seat_at (new j) ≡ seat_at (at j)) (eqb-true n k b) is
+  same-at k false b is = others k b
+
+  -- it is refused
+  refused : (r : Refusal) (old now : Seat S) (a : Answer) (t : List Happening) → seat_at (at n) ≡ old → seat_at (new n) ≡ now → Answers h (Start n) (Refused r) [] → Stays r old h.trace a now t
+      → Turned a t h.pool
+  refused r old now a t was is answers g = subst (λ (b : Answer). Turned b t h.pool) (sym g.answer) (record {
+    ps = [];
+    s = [];
+    trace = g.trace ∙ sym (append-nil h.trace);
+    puts = sym (append-nil h.pool);
+    turn = Turning.turn-still opening apply encode decode is_state at new n h (Start n) (Refused r) w (λ k. same-at k (nat_eq n k) refl (is ∙ g.seat ∙ sym was)) answers tt refl tt
+        (λ k. refused-calls k (calls_of k h) (Start n) r);
+  })
+
+  first-at : (a : Answer) (now : Seat S) (t : List Happening) → seat_at (at n) ≡ Vacant → seat_at (new n) ≡ now → last_of n h.trace ≡ None
+      → Begins opening (record { node = n; incarnation = 1 }) h.trace a now t → Turned a t h.pool
+  first-at a now t was is k g =
+      let top : top_of n h.trace ≡ 0 = top-at None k in
+      begins (record { node = n; incarnation = 1 }) Vacant (record {
+        node = refl;
+        real = g.0;
+        was = was;
+        nobody = λ p. refl;
+        above = omega arith;
+        done = rw k (inl (refl, refl));
+        memory = rw k (inr (refl, refl));
+      }) a t now is g.1
+
+  -- after an ended member, by whether there is a next incarnation
+  after-ended : (p : Address) (a : Answer) (now : Seat S) (t : List Happening) → seat_at (at n) ≡ Ended p → seat_at (new n) ≡ now → IsSeatOf {S = S} n (last_of n h.trace) (calls_of n h) h.trace (Ended p)
+      → (b : Bool) → nat_lt (p.incarnation + 1) (2 ^ 32) ≡ b → StartGives opening n (Ended p) h.trace a now t → Turned a t h.pool
+  after-ended p a now t was is k true e g =
+      let top : top_of n h.trace ≡ p.incarnation = top-at (Some p) k.0 in
+      let begun : Begins opening (record { node = p.node; incarnation = p.incarnation + 1 }) h.trace a now t = rw e at g in
+      begins (record { node = p.node; incarnation = p.incarnation + 1 }) (Ended p) (record {
+        node = k.1;
+        real = begun.0;
+        was = was;
+        nobody = λ q. refl;
+        above = omega arith;
+        done = rw (k.0, k.2, e) (inl (refl, ap (λ (m : ℕ). Started (record { node = m; incarnation = p.incarnation + 1 }) ∷ []) k.1));
+        memory = rw (k.0, k.2, e) (inr (refl, ap (λ (m : ℕ). Started (record { node = m; incarnation = p.incarnation + 1 }) ∷ Crashed (record { node = m; incarnation = p.incarnation + 1 }) ∷ []) k.1));
+      }) a t now is begun.1
+  after-ended p a now t was is k false e g =
+      let stays : Stays Exhausted (Ended p) h.trace a now t = rw e at g in
+      refused Exhausted (Ended p) now a t was is (rw (k.0, k.2, e) (refl, refl)) stays
+
+  start-here : (old : Seat S) (a : Answer) (now : Seat S) (t : List Happening) → seat_at (at n) ≡ old → seat_at (new n) ≡ now → IsSeatOf n (last_of n h.trace) (calls_of n h) h.trace old
+      → StartGives opening n old h.trace a now t → Turned a t h.pool
+  start-here Vacant a now t was is k g = first-at a now t was is k g
+  start-here (Ended p) a now t was is k g = after-ended p a now t was is k (nat_lt (p.incarnation + 1) (2 ^ 32)) refl g
+  start-here (Running m) a now t was is k g =
+      let x = Facts.running-here opening apply encode decode is_state at h n m w was in
+      refused AlreadyConnected (Running m) now a t was is (rw (k.0, Facts.going opening apply encode decode is_state h n m x.0 x.1) (refl, refl)) g
+
+  pub start-turns : (a : Answer) (t : List Happening) → StartGives opening n (seat_at (at n)) h.trace a (seat_at (new n)) t → Turned a t h.pool
+  start-turns a t g = start-here (seat_at (at n)) a (seat_at (new n)) t refl refl (w.seats n) g

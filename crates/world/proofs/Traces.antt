@@ -1,19 +1,17 @@
--- What every trace of lone members keeps, one happening further.
-use Rattle.std.proofs.Common.{◌≡◌, ℕ, ◌≤◌, Bool, true, false, Some, None, List, [], ◌∷◌, ◌++◌, nat_eq, sym, refl, ap, ◌∙◌, subst, arith}
+-- A node's last member, and who has started, some happenings further.
+use Rattle.std.proofs.Common.{◌≡◌, ℕ, ◌≤◌, Bool, true, false, Some, None, List, [], ◌∷◌, ◌++◌, nat_eq, sym, refl, ap, ◌∙◌, subst, arith, append_assoc}
 use Rattle.std.specs.Option.{option_map_or}
 use Rattle.std.proofs.lemmas.Bool.{cond-true, cond-false, eq-eqb, eqb-true}
+use Rattle.std.proofs.lemmas.List.{append-nil}
 use Rattle.std.proofs.lemmas.List.Sums.{fold-append}
 use Rattle.address.specs.Ids.{Address, same_address}
 use Rattle.trace_props.specs.declared.happening.Happening.{Happening}
 use Rattle.trace_props.specs.declared.happening.Happening.TheVariants.{Started, Sent, Delivered, Blocked, Installed, Left, Crashed}
 use Rattle.trace_props.specs.Observed.{member_of, is_start, has_started}
-use Rattle.trace_props.specs.Rules.{MayStand}
-use Rattle.trace_props.specs.Following.{MayFollow}
-use Rattle.trace_props.proofs.Observing.{same_address-true, has_started-other, has_started-still, has_started-now, has_started-stays}
-use Rattle.trace_props.proofs.Following.{well_ordered-push, well_ordered-nil}
+use Rattle.trace_props.proofs.Observing.{same_address-true, has_started-other, has_started-still}
 use Rattle.world_model.specs.Histories.{last_of, last_after}
-use Rattle.world.specs.Invariant.{IsFresh, IsTrace, top_of}
-use Rattle.world.proofs.Sights.{IsOwnInstall, sight-apart, IsFresh-seen}
+use Rattle.world.specs.Invariant.{StartsInTurn, top_of}
+use Rattle.world.proofs.Owning.{EachOwn}
 
 -- the newest happening changes a node's last member
 pub last_of-push : (n : ℕ) (t : List Happening) (h : Happening) → last_of n (t ++ h ∷ []) ≡ last_after n (last_of n t) h
@@ -52,18 +50,8 @@ IsNextStart t (Installed i) = Unit {0}
 IsNextStart t (Left p) = Unit {0}
 IsNextStart t (Crashed p) = Unit {0}
 
--- to whom something happens has started
-pub started-after : (t : List Happening) (h : Happening) → MayStand t h → has_started (member_of h) (t ++ h ∷ []) ≡ true
-started-after t (Started p) m = has_started-now p t
-started-after t (Sent s) m = has_started-stays s.member t (Sent s ∷ []) m.0.started
-started-after t (Delivered d) m = has_started-stays d.member t (Delivered d ∷ []) m.0.started
-started-after t (Blocked p) m = has_started-stays p t (Blocked p ∷ []) m.0.started
-started-after t (Installed i) m = has_started-stays i.member t (Installed i ∷ []) m.started
-started-after t (Left p) m = has_started-stays p t (Left p ∷ []) m.started
-started-after t (Crashed p) m = has_started-stays p t (Crashed p ∷ []) m.started
-
 -- a start of p, seen from an address r of the same node or another
-starts-now : (t : List Happening) (p r : Address) → ((r : Address) → has_started r t ≡ true → r.incarnation ≤ top_of r.node t) → top_of p.node t ≤ p.incarnation
+starts-now : (t : List Happening) (p r : Address) → StartsInTurn t → top_of p.node t ≤ p.incarnation
     → (b : Bool) → nat_eq p.node r.node ≡ b → (same : Bool) → same_address p r ≡ same → has_started r (t ++ Started p ∷ []) ≡ true → r.incarnation ≤ top_of r.node (t ++ Started p ∷ [])
 starts-now t p r before next b e true s now =
     let is : p ≡ r = same_address-true p r s in
@@ -84,14 +72,14 @@ starts-now t p r before next false e false s now =
     let eq : top_of r.node (t ++ Started p ∷ []) ≡ top_of r.node t = ap (λ o. option_map_or (λ (x : Address). x.incarnation) o 0) (last_of-other r.node t (Started p) e) in
     omega arith
 
-starts-still : (t : List Happening) (h : Happening) (r : Address) → ((r : Address) → has_started r t ≡ true → r.incarnation ≤ top_of r.node t) → is_start h ≡ false
+starts-still : (t : List Happening) (h : Happening) (r : Address) → StartsInTurn t → is_start h ≡ false
     → has_started r (t ++ h ∷ []) ≡ true → r.incarnation ≤ top_of r.node (t ++ h ∷ [])
 starts-still t h r before e now =
     let low : r.incarnation ≤ top_of r.node t = before r (sym (has_started-still r t h e) ∙ now) in
     let eq : top_of r.node (t ++ h ∷ []) ≡ top_of r.node t = ap (λ o. option_map_or (λ (x : Address). x.incarnation) o 0) (last_of-still r.node t h e) in
     omega arith
 
-starts-push : (t : List Happening) (h : Happening) → ((r : Address) → has_started r t ≡ true → r.incarnation ≤ top_of r.node t) → IsNextStart t h
+pub starts-push : (t : List Happening) (h : Happening) → StartsInTurn t → IsNextStart t h
     → (r : Address) → has_started r (t ++ h ∷ []) ≡ true → r.incarnation ≤ top_of r.node (t ++ h ∷ [])
 starts-push t (Started p) before next r now = starts-now t p r before next (nat_eq p.node r.node) refl (same_address p r) refl now
 starts-push t (Sent s) before next r now = starts-still t (Sent s) r before refl now
@@ -101,28 +89,28 @@ starts-push t (Installed i) before next r now = starts-still t (Installed i) r b
 starts-push t (Left p) before next r now = starts-still t (Left p) r before refl now
 starts-push t (Crashed p) before next r now = starts-still t (Crashed p) r before refl now
 
--- who has not started by now is fresh
-fresh-push : (t : List Happening) (h : Happening) (p : Address) → ((p : Address) → has_started p t ≡ false → IsFresh p t) → MayStand t h → IsOwnInstall h
-    → (b : Bool) → same_address (member_of h) p ≡ b → has_started p (t ++ h ∷ []) ≡ false → IsFresh p (t ++ h ∷ [])
-fresh-push t h p before may own true e now =
-    let is : member_of h ≡ p = same_address-true (member_of h) p e in
-    let started : has_started p (t ++ h ∷ []) ≡ true = subst (λ (x : Address). has_started x (t ++ h ∷ []) ≡ true) is (started-after t h may) in
-    absurd (let bad : true ≡ false = sym started ∙ now in cc)
-fresh-push t h p before may own false e now =
-    IsFresh-seen p t (t ++ h ∷ []) (sight-apart p t h e own) (before p (sym (has_started-other p t h e) ∙ now))
+-- ---- happenings that are no starts
 
--- all of it, one happening further
-pub trace-push : (t : List Happening) (h : Happening) → IsTrace t → MayFollow t h → IsOwnInstall h → IsNextStart t h → IsTrace (t ++ h ∷ [])
-trace-push t h i may own next = record {
-  ordered = well_ordered-push t h i.ordered may;
-  starts = λ r now. starts-push t h i.starts next r now;
-  fresh = λ p now. fresh-push t h p i.fresh may.placed own (same_address (member_of h) p) refl now;
-}
+not-start : (t : List Happening) (x : Happening) → is_start x ≡ false → IsNextStart t x
+not-start t (Started p) e = absurd (let bad : true ≡ false = e in cc)
+not-start t (Sent s) e = tt
+not-start t (Delivered d) e = tt
+not-start t (Blocked p) e = tt
+not-start t (Installed i) e = tt
+not-start t (Left p) e = tt
+not-start t (Crashed p) e = tt
 
--- and of nothing
-pub trace-nil : IsTrace []
-trace-nil = record {
-  ordered = well_ordered-nil;
-  starts = λ p now. absurd (let bad : false ≡ true = now in cc);
-  fresh = λ p now. record { going = refl; view = refl; free = refl; said = refl; heard = refl; first = refl };
-}
+-- leave a node's last member
+pub last_of-own : (n : ℕ) (p : Address) (t s : List Happening) → EachOwn p s → last_of n (t ++ s) ≡ last_of n t
+last_of-own n p t [] own = ap (last_of n) (append-nil t)
+last_of-own n p t (x ∷ s) own =
+    ap (last_of n) (sym (append_assoc t (x ∷ []) s)) ∙ last_of-own n p (t ++ x ∷ []) s own.1 ∙ last_of-still n t x own.0.1
+
+-- and who started in which turn
+pub starts-own : (p : Address) (t s : List Happening) → EachOwn p s → StartsInTurn t → StartsInTurn (t ++ s)
+starts-own p t [] own i = subst StartsInTurn (sym (append-nil t)) i
+starts-own p t (x ∷ s) own i =
+    subst StartsInTurn (append_assoc t (x ∷ []) s) (starts-own p (t ++ x ∷ []) s own.1 (starts-push t x i (not-start t x own.0.1)))
+
+pub starts-none : StartsInTurn []
+starts-none p now = absurd (let bad : false ≡ true = now in cc)

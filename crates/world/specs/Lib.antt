@@ -1,3 +1,3 @@
+pub mod Seats
 pub mod Turns
-pub mod Putting
 pub mod Invariant

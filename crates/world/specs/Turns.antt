@@ -1,88 +1,126 @@
--- What each event does to the seat of its node and adds to the trace: local, exact, and without a word on the history.
-use Rattle.std.specs.Prelude.{◌≡◌, ℕ, ◌+◌, ◌<◌, ◌≤◌, ◌^◌, Bool, true, false, ◌∷◌, [], ◌++◌, List, length, nat_lt, nat_eq, Result, Ok, Err, MatchBool, Option, None, Some, IsSomeAnd, unwrap_or}
-use Rattle.std.specs.Option.{option_and_then}
-use Rattle.address.specs.Ids.{Address}
-use Rattle.state_transfer.specs.declared.TheConstants.{PAYLOAD}
+-- What each event does at the seat of its node, to the trace and to the pool: local, exact, and without a word on the history.
+use Rattle.std.specs.Prelude.{◌≡◌, ℕ, ◌+◌, ◌^◌, false, ◌∷◌, [], ◌++◌, List, map, nat_lt, nat_eq, Result, Ok, Err, MatchBool, Option, None, Some, Vec, if◌then◌else◌}
+use Rattle.std.specs.Borrow.{Bor}
+use Rattle.std.specs.Option.{IsSomeAnd}
+use Rattle.address.specs.Ids.{Address, IsAddress}
 use Rattle.trace_props.specs.declared.happening.Happening.{Happening}
-use Rattle.trace_props.specs.declared.happening.Happening.TheVariants.{Started, Delivered, Installed, Left, Crashed}
-use Rattle.trace_props.specs.declared.happening.Happening.TheVariants as happening
-use Rattle.trace_props.specs.declared.happening.Install.{Install}
-use Rattle.trace_props.specs.declared.happening.Sending.{Sending}
-use Rattle.trace_props.specs.declared.happening.Delivery.{Delivery}
+use Rattle.trace_props.specs.declared.happening.Happening.TheVariants.{Started, Crashed}
+use Rattle.agreement.specs.Cores.{idle}
+use Rattle.member.specs.declared.error.Error.{Error}
+use Rattle.member.specs.declared.input.Input.{Input}
+use Rattle.member.specs.declared.input.Input.TheVariants as input
+use Rattle.member.specs.declared.output.Output.{Output}
+use Rattle.member.specs.Errors.{is_memory}
+use Rattle.member.specs.Members.{MemberModel, core_of, book_of, refusal_of, is_ignored}
+use Rattle.member.specs.Handling.{Handled}
+use Rattle.member.specs.Steps.{leaves}
 use Rattle.world_model.specs.declared.Answer.{Answer}
 use Rattle.world_model.specs.declared.Answer.TheVariants.{Done, Sent, Refused}
 use Rattle.world_model.specs.declared.Refusal.{Refusal}
-use Rattle.world_model.specs.declared.Refusal.TheVariants.{NotConnected, TooLong, AlreadyConnected, Closed, Memory, Exhausted}
+use Rattle.world_model.specs.declared.Refusal.TheVariants.{NotConnected, AlreadyConnected, Closed, Memory, Exhausted}
 use Rattle.world_model.specs.declared.WorldEvent.{WorldEvent}
 use Rattle.world_model.specs.declared.WorldEvent.TheVariants.{Start, Create, Join, Send, Deliver, Tick, Leave, Crash}
 use Rattle.world_model.specs.declared.Target.{Target}
 use Rattle.world_model.specs.declared.Target.TheVariants as target
 use Rattle.world_model.specs.Histories.{starts}
-use Rattle.world_model.specs.Packets.{destination_of}
-use Rattle.world_model.specs.Faithful.{lone_install, first_view}
-use Rattle.world.specs.declared.seat.Stage.{Stage}
-use Rattle.world.specs.declared.seat.Stage.TheVariants.{Idle, Joining, Alone}
-use Rattle.world.specs.declared.seat.Member.{Member}
+use Rattle.world_model.specs.Packets.{world_group, destination_of, packet_numbered}
 use Rattle.world.specs.declared.seat.Seat.{Seat}
 use Rattle.world.specs.declared.seat.Seat.TheVariants.{Vacant, Ended, Running}
+use Rattle.world.specs.Seats.{answer_for, answer_to, seat_at, bytes_of}
 
-abbrev pub is_idle : Stage → Bool
-is_idle Idle = true
-is_idle (Joining contact) = false
-is_idle (Alone k) = false
+-- ---- a member is handed an input
 
-abbrev pub is_alone : Stage → Bool
-is_alone Idle = false
-is_alone (Joining contact) = false
-is_alone (Alone k) = true
+-- it takes the input: what it puts out joins the pool
+pub record Takes {S : Type 0} (apply : S → Address → List ℕ → S) (encode : S → List ℕ) (decode : List ℕ → Option S) (input : Input) (old : MemberModel S) (pool : List (List ℕ))
+    (happened : List Happening) (new : MemberModel S) (pool' : List (List ℕ)) : Type 0 where
+  pub out : Output
+  pub handled : Handled apply encode decode old input (Ok out) new
+  pub told : happened ≡ out.happenings.items
+  pub puts : pool' ≡ pool ++ map bytes_of out.packets.items
 
--- a lone member makes its first view
-abbrev pub Creates : {R : Type 0} → Member R → Result Install Refusal → Member R → Type 0
-Creates old (Ok i) new = (old.stage ≡ Idle) × (i ≡ lone_install old.address) × (new ≡ record { address = old.address; stage = Alone 0; receiver = old.receiver })
-Creates old (Err AlreadyConnected) new = (is_idle old.stage ≡ false) × (new ≡ old)
-Creates old (Err Memory) new = old.stage ≡ Idle
-Creates old (Err r) new = ⊥
+-- it does not: for want of memory, on an input that it would take and would not ignore; or since it must refuse, unchanged
+abbrev pub RefusesStep : {S : Type 0} → Input → MemberModel S → Error → MemberModel S → Type 0
+RefusesStep input old e new = MatchBool (is_memory e) ((refusal_of old input ≡ None) × (is_ignored input ≡ false)) ((refusal_of old input ≡ Some e) × (new ≡ old))
 
--- what happens where a lone member sends
-abbrev pub sending : Address → ℕ → List ℕ → Sending
-sending p n payload = record { member = p; view = first_view p; message = record { number = n; payload = payload } }
+abbrev pub Steps : {S Z : Type 0} → (S → Address → List ℕ → S) → (S → List ℕ) → (List ℕ → Option S) → Input → MemberModel S → List (List ℕ) → Result (Vec Happening Z) Error
+    → MemberModel S → List (List ℕ) → Type 0
+Steps apply encode decode input old pool (Ok happened) new pool' = Takes apply encode decode input old pool happened.items new pool'
+Steps apply encode decode input old pool (Err e) new pool' = RefusesStep input old e new × (pool' ≡ pool)
 
-abbrev pub delivery : Address → ℕ → List ℕ → Delivery
-delivery p n payload = record { member = p; view = first_view p; message = record { sender = p; number = n; payload = payload } }
-
--- a lone member that has sent k messages sends a payload
-abbrev pub SendsAt : {R : Type 0} → (R → Address → List ℕ → R) → List ℕ → Stage → Member R → Result (Sending × Delivery) Refusal → Member R → Type 0
-SendsAt apply payload Idle old (Ok said) new = ⊥
-SendsAt apply payload Idle old (Err NotConnected) new = new ≡ old
-SendsAt apply payload Idle old (Err r) new = ⊥
-SendsAt apply payload (Joining contact) old (Ok said) new = ⊥
-SendsAt apply payload (Joining contact) old (Err NotConnected) new = new ≡ old
-SendsAt apply payload (Joining contact) old (Err r) new = ⊥
-SendsAt apply payload (Alone k) old (Ok said) new =
-    (length payload ≤ PAYLOAD) × (k < 2 ^ 62) × (said ≡ (sending old.address (k + 1) payload, delivery old.address (k + 1) payload))
-    × (new ≡ record { address = old.address; stage = Alone (k + 1); receiver = apply old.receiver old.address payload })
-SendsAt apply payload (Alone k) old (Err TooLong) new = (PAYLOAD < length payload) × (new ≡ old)
-SendsAt apply payload (Alone k) old (Err Exhausted) new = (length payload ≤ PAYLOAD) × (2 ^ 62 ≤ k) × (new ≡ old)
-SendsAt apply payload (Alone k) old (Err Memory) new = (length payload ≤ PAYLOAD) × (k < 2 ^ 62)
-SendsAt apply payload (Alone k) old (Err r) new = ⊥
-
-abbrev pub Sends : {R : Type 0} → (R → Address → List ℕ → R) → List ℕ → Member R → Result (Sending × Delivery) Refusal → Member R → Type 0
-Sends apply payload old result new = SendsAt apply payload old.stage old result new
-
--- SEATS
-
--- the member of an address begins, or begins and crashes
-abbrev pub Begins : {R : Type 0} → R → Address → List Happening → Answer → Seat R → List Happening → Type 0
-Begins opening p t Done new t' = (new ≡ Running (record { address = p; stage = Idle; receiver = opening })) × (t' ≡ t ++ Started p ∷ [])
-Begins opening p t (Sent n) new t' = ⊥
-Begins opening p t (Refused Memory) new t' = (new ≡ Ended p) × (t' ≡ t ++ Started p ∷ [] ++ Crashed p ∷ [])
-Begins opening p t (Refused r) new t' = ⊥
+-- ---- a seat is handed one
 
 -- nothing changes
-abbrev pub Stays : {R : Type 0} → Refusal → Seat R → List Happening → Answer → Seat R → List Happening → Type 0
-Stays r old t a new t' = (a ≡ Refused r) × (new ≡ old) × (t' ≡ t)
+pub record Stays {S : Type 0} (r : Refusal) (old : Seat S) (t : List Happening) (a : Answer) (new : Seat S) (t' : List Happening) : Type 0 where
+  pub answer : a ≡ Refused r
+  pub seat : new ≡ old
+  pub trace : t' ≡ t
 
-abbrev pub StartGives : {R : Type 0} → R → ℕ → Seat R → List Happening → Answer → Seat R → List Happening → Type 0
+-- the member takes the input: it runs on, or has left
+pub record TakesHere {S : Type 0} (apply : S → Address → List ℕ → S) (encode : S → List ℕ) (decode : List ℕ → Option S) (input : Input) (m : MemberModel S) (t : List Happening)
+    (pool : List (List ℕ)) (a : Answer) (new : Seat S) (t' : List Happening) (pool' : List (List ℕ)) : Type 0 where
+  pub happened : List Happening
+  pub left : MemberModel S
+  pub takes : Takes apply encode decode input m pool happened left pool'
+  pub answer : a ≡ answer_to happened
+  pub seat : new ≡ (if leaves input then Ended m.address else Running left)
+  pub trace : t' ≡ t ++ happened
+
+-- the member crashes
+pub record CrashesHere {S : Type 0} (input : Input) (m : MemberModel S) (t : List Happening) (pool : List (List ℕ)) (a : Answer) (new : Seat S) (t' : List Happening)
+    (pool' : List (List ℕ)) : Type 0 where
+  pub free : refusal_of m input ≡ None
+  pub heeds : is_ignored input ≡ false
+  pub answer : a ≡ Refused Memory
+  pub seat : new ≡ Ended m.address
+  pub trace : t' ≡ t ++ Crashed m.address ∷ []
+  pub puts : pool' ≡ pool
+
+-- the member refuses
+pub record RefusesHere {S : Type 0} (input : Input) (m : MemberModel S) (t : List Happening) (pool : List (List ℕ)) (a : Answer) (new : Seat S) (t' : List Happening)
+    (pool' : List (List ℕ)) : Type 0 where
+  pub error : Error
+  pub refusal : refusal_of m input ≡ Some error
+  pub other : is_memory error ≡ false
+  pub answer : a ≡ answer_for error
+  pub seat : new ≡ Running m
+  pub trace : t' ≡ t
+  pub puts : pool' ≡ pool
+
+pub data HandsHere {S : Type 0} (apply : S → Address → List ℕ → S) (encode : S → List ℕ) (decode : List ℕ → Option S) (input : Input) (m : MemberModel S) (t : List Happening)
+    (pool : List (List ℕ)) (a : Answer) (new : Seat S) (t' : List Happening) (pool' : List (List ℕ)) : Type 0 where
+  Taken : TakesHere apply encode decode input m t pool a new t' pool' → HandsHere apply encode decode input m t pool a new t' pool'
+  Lost : CrashesHere input m t pool a new t' pool' → HandsHere apply encode decode input m t pool a new t' pool'
+  Not : RefusesHere input m t pool a new t' pool' → HandsHere apply encode decode input m t pool a new t' pool'
+
+abbrev pub Hands : {S : Type 0} → (S → Address → List ℕ → S) → (S → List ℕ) → (List ℕ → Option S) → Input → Seat S → List Happening → List (List ℕ) → Answer → Seat S → List Happening
+    → List (List ℕ) → Type 0
+Hands apply encode decode input Vacant t pool a new t' pool' = Stays NotConnected Vacant t a new t' × (pool' ≡ pool)
+Hands apply encode decode input (Ended p) t pool a new t' pool' = Stays Closed (Ended p) t a new t' × (pool' ≡ pool)
+Hands apply encode decode input (Running m) t pool a new t' pool' = HandsHere apply encode decode input m t pool a new t' pool'
+
+-- ---- starts and crashes
+
+-- the member of an address runs, and nothing happened to it yet
+pub record Begun {S : Type 0} (opening : S) (p : Address) (t : List Happening) (new : Seat S) (t' : List Happening) : Type 0 where
+  pub member : MemberModel S
+  pub seat : new ≡ Running member
+  pub address : member.address ≡ p
+  pub group : member.group ≡ world_group
+  pub core : core_of member ≡ Some (idle opening p)
+  pub book : book_of member ≡ Some (record { contact = None })
+  pub trace : t' ≡ t ++ Started p ∷ []
+
+-- the member of an address begins, or begins and crashes
+abbrev pub BeginsSo : {S : Type 0} → S → Address → List Happening → Answer → Seat S → List Happening → Type 0
+BeginsSo opening p t Done new t' = Begun opening p t new t'
+BeginsSo opening p t (Sent n) new t' = ⊥
+BeginsSo opening p t (Refused Memory) new t' = (new ≡ Ended p) × (t' ≡ t ++ Started p ∷ [] ++ Crashed p ∷ [])
+BeginsSo opening p t (Refused r) new t' = ⊥
+
+abbrev pub Begins : {S : Type 0} → S → Address → List Happening → Answer → Seat S → List Happening → Type 0
+Begins opening p t a new t' = IsAddress p × BeginsSo opening p t a new t'
+
+abbrev pub StartGives : {S : Type 0} → S → ℕ → Seat S → List Happening → Answer → Seat S → List Happening → Type 0
 StartGives opening n Vacant t a new t' = Begins opening (record { node = n; incarnation = 1 }) t a new t'
 StartGives opening n (Ended p) t a new t' =
     MatchBool (nat_lt (p.incarnation + 1) (2 ^ 32))
@@ -90,123 +128,95 @@ StartGives opening n (Ended p) t a new t' =
     (Stays Exhausted (Ended p) t a new t')
 StartGives opening n (Running m) t a new t' = Stays AlreadyConnected (Running m) t a new t'
 
-abbrev pub CreateAt : {R : Type 0} → Member R → List Happening → Answer → Seat R → List Happening → Type 0
-CreateAt m t Done new t' =
-    (m.stage ≡ Idle) × (new ≡ Running (record { address = m.address; stage = Alone 0; receiver = m.receiver })) × (t' ≡ t ++ Installed (lone_install m.address) ∷ [])
-CreateAt m t (Sent n) new t' = ⊥
-CreateAt m t (Refused AlreadyConnected) new t' = (is_idle m.stage ≡ false) × (new ≡ Running m) × (t' ≡ t)
-CreateAt m t (Refused Memory) new t' = (m.stage ≡ Idle) × (new ≡ Ended m.address) × (t' ≡ t ++ Crashed m.address ∷ [])
-CreateAt m t (Refused r) new t' = ⊥
-
-abbrev pub CreateGives : {R : Type 0} → Seat R → List Happening → Answer → Seat R → List Happening → Type 0
-CreateGives Vacant t a new t' = Stays NotConnected Vacant t a new t'
-CreateGives (Ended p) t a new t' = Stays Closed (Ended p) t a new t'
-CreateGives (Running m) t a new t' = CreateAt m t a new t'
-
--- what the answer says where a lone member that has sent k messages sends
-abbrev pub SendIn : {R : Type 0} → (R → Address → List ℕ → R) → List ℕ → Stage → Member R → List Happening → Answer → Seat R → List Happening → Type 0
-SendIn apply payload Idle m t a new t' = Stays NotConnected (Running m) t a new t'
-SendIn apply payload (Joining contact) m t a new t' = Stays NotConnected (Running m) t a new t'
-SendIn apply payload (Alone k) m t Done new t' = ⊥
-SendIn apply payload (Alone k) m t (Sent n) new t' =
-    (length payload ≤ PAYLOAD) × (k < 2 ^ 62) × (n ≡ k + 1)
-    × (new ≡ Running (record { address = m.address; stage = Alone (k + 1); receiver = apply m.receiver m.address payload }))
-    × (t' ≡ t ++ happening.Sent (sending m.address (k + 1) payload) ∷ [] ++ Delivered (delivery m.address (k + 1) payload) ∷ [])
-SendIn apply payload (Alone k) m t (Refused TooLong) new t' = (PAYLOAD < length payload) × (new ≡ Running m) × (t' ≡ t)
-SendIn apply payload (Alone k) m t (Refused Exhausted) new t' = (length payload ≤ PAYLOAD) × (2 ^ 62 ≤ k) × (new ≡ Running m) × (t' ≡ t)
-SendIn apply payload (Alone k) m t (Refused Memory) new t' = (length payload ≤ PAYLOAD) × (k < 2 ^ 62) × (new ≡ Ended m.address) × (t' ≡ t ++ Crashed m.address ∷ [])
-SendIn apply payload (Alone k) m t (Refused r) new t' = ⊥
-
-abbrev pub SendGives : {R : Type 0} → (R → Address → List ℕ → R) → List ℕ → Seat R → List Happening → Answer → Seat R → List Happening → Type 0
-SendGives apply payload Vacant t a new t' = Stays NotConnected Vacant t a new t'
-SendGives apply payload (Ended p) t a new t' = Stays Closed (Ended p) t a new t'
-SendGives apply payload (Running m) t a new t' = SendIn apply payload m.stage m t a new t'
-
--- a running member asks to be let in; where memory is refused it has crashed
-abbrev pub AsksAt : {R : Type 0} → Address → Seat R → List Happening → Answer → Seat R → List Happening → Type 0
-AsksAt p s t Done new t' = (new ≡ s) × (t' ≡ t)
-AsksAt p s t (Sent n) new t' = ⊥
-AsksAt p s t (Refused Memory) new t' = (new ≡ Ended p) × (t' ≡ t ++ Crashed p ∷ [])
-AsksAt p s t (Refused r) new t' = ⊥
-
--- it is joining from then on, with this contact
-abbrev pub joining : {R : Type 0} → Member R → Address → Seat R
-joining m contact = Running (record { address = m.address; stage = Joining contact; receiver = m.receiver })
-
-abbrev pub JoinAt : {R : Type 0} → Bool → Address → Member R → List Happening → Answer → Seat R → List Happening → Type 0
-JoinAt true contact m t a new t' = Stays AlreadyConnected (Running m) t a new t'
-JoinAt false contact m t a new t' = AsksAt m.address (joining m contact) t a new t'
-
-abbrev pub JoinGives : {R : Type 0} → Address → Seat R → List Happening → Answer → Seat R → List Happening → Type 0
-JoinGives contact Vacant t a new t' = Stays NotConnected Vacant t a new t'
-JoinGives contact (Ended p) t a new t' = Stays Closed (Ended p) t a new t'
-JoinGives contact (Running m) t a new t' = JoinAt (is_alone m.stage) contact m t a new t'
-
-abbrev pub TickGives : {R : Type 0} → Seat R → List Happening → Answer → Seat R → List Happening → Type 0
-TickGives Vacant t a new t' = Stays NotConnected Vacant t a new t'
-TickGives (Ended p) t a new t' = Stays Closed (Ended p) t a new t'
-TickGives (Running m) t a new t' = AsksAt m.address (Running m) t a new t'
-
 -- the member ends in this happening
-abbrev pub Ends : {R : Type 0} → Address → Happening → List Happening → Answer → Seat R → List Happening → Type 0
+abbrev pub Ends : {S : Type 0} → Address → Happening → List Happening → Answer → Seat S → List Happening → Type 0
 Ends p h t a new t' = (a ≡ Done) × (new ≡ Ended p) × (t' ≡ t ++ h ∷ [])
 
-abbrev pub LeaveGives : {R : Type 0} → Seat R → List Happening → Answer → Seat R → List Happening → Type 0
-LeaveGives Vacant t a new t' = Stays NotConnected Vacant t a new t'
-LeaveGives (Ended p) t a new t' = Stays Closed (Ended p) t a new t'
-LeaveGives (Running m) t a new t' = Ends m.address (Left m.address) t a new t'
-
-abbrev pub CrashGives : {R : Type 0} → Seat R → List Happening → Answer → Seat R → List Happening → Type 0
+abbrev pub CrashGives : {S : Type 0} → Seat S → List Happening → Answer → Seat S → List Happening → Type 0
 CrashGives Vacant t a new t' = Stays NotConnected Vacant t a new t'
 CrashGives (Ended p) t a new t' = Stays Closed (Ended p) t a new t'
 CrashGives (Running m) t a new t' = Ends m.address (Crashed m.address) t a new t'
 
+-- ---- events
+
+-- what is handed to the member at the seat, with a payload that is lent
+abbrev pub HandsLent : {S : Type 0} → (S → Address → List ℕ → S) → (S → List ℕ) → (List ℕ → Option S) → (Bor (List ℕ) → Input) → List ℕ → Seat S → List Happening → List (List ℕ) → Answer → Seat S
+    → List Happening → List (List ℕ) → Type 0
+HandsLent apply encode decode input bytes s t pool a new t' pool' = (b : Bor (List ℕ)) × (b.now ≡ bytes) × Hands apply encode decode (input b) s t pool a new t' pool'
+
 -- an event at the seat of its node
-abbrev pub Acts : {R : Type 0} → R → (R → Address → List ℕ → R) → WorldEvent → Seat R → List Happening → Answer → Seat R → List Happening → Type 0
-Acts opening apply (Start n) old t a new t' = StartGives opening n old t a new t'
-Acts opening apply (Create n) old t a new t' = CreateGives old t a new t'
-Acts opening apply (Join n contact) old t a new t' = JoinGives contact old t a new t'
-Acts opening apply (Send n payload) old t a new t' = SendGives apply payload old t a new t'
-Acts opening apply (Deliver k) old t a new t' = (a ≡ Done) × (new ≡ old) × (t' ≡ t)
-Acts opening apply (Tick n) old t a new t' = TickGives old t a new t'
-Acts opening apply (Leave n) old t a new t' = LeaveGives old t a new t'
-Acts opening apply (Crash n) old t a new t' = CrashGives old t a new t'
+abbrev pub Acts : {S : Type 0} → S → (S → Address → List ℕ → S) → (S → List ℕ) → (List ℕ → Option S) → WorldEvent → Seat S → List Happening → List (List ℕ) → Answer → Seat S → List Happening
+    → List (List ℕ) → Type 0
+Acts opening apply encode decode (Start n) old t pool a new t' pool' = StartGives opening n old t a new t' × (pool' ≡ pool)
+Acts opening apply encode decode (Create n) old t pool a new t' pool' = Hands apply encode decode input.Create old t pool a new t' pool'
+Acts opening apply encode decode (Join n contact) old t pool a new t' pool' = Hands apply encode decode (input.Join contact) old t pool a new t' pool'
+Acts opening apply encode decode (Send n payload) old t pool a new t' pool' = HandsLent apply encode decode input.Send payload old t pool a new t' pool'
+Acts opening apply encode decode (Deliver k) old t pool a new t' pool' = (a ≡ Done) × (new ≡ old) × (t' ≡ t) × (pool' ≡ pool)
+Acts opening apply encode decode (Tick n) old t pool a new t' pool' = Hands apply encode decode input.Tick old t pool a new t' pool'
+Acts opening apply encode decode (Leave n) old t pool a new t' pool' = Hands apply encode decode input.Leave old t pool a new t' pool'
+Acts opening apply encode decode (Crash n) old t pool a new t' pool' = CrashGives old t a new t' × (pool' ≡ pool)
 
--- what stands at a node: nothing where there is no seat
-abbrev pub seat_at : {R : Type 0} → Option (Seat R) → Seat R
-seat_at o = unwrap_or o Vacant
+-- nothing is done
+pub record Idles {S : Type 0} (old : Seat S) (t : List Happening) (pool : List (List ℕ)) (a : Answer) (new : Seat S) (t' : List Happening) (pool' : List (List ℕ)) : Type 0 where
+  pub answer : a ≡ Done
+  pub seat : new ≡ old
+  pub trace : t' ≡ t
+  pub puts : pool' ≡ pool
 
--- who runs at a seat
-abbrev pub runs_here : {R : Type 0} → Seat R → Option Address
-runs_here Vacant = None
-runs_here (Ended p) = None
-runs_here (Running m) = Some m.address
+-- the bytes of a packet at a seat
+abbrev pub Hears : {S : Type 0} → (S → Address → List ℕ → S) → (S → List ℕ) → (List ℕ → Option S) → List ℕ → Seat S → List Happening → List (List ℕ) → Answer → Seat S → List Happening
+    → List (List ℕ) → Type 0
+Hears apply encode decode bytes Vacant t pool a new t' pool' = Idles Vacant t pool a new t' pool'
+Hears apply encode decode bytes (Ended p) t pool a new t' pool' = Idles (Ended p) t pool a new t' pool'
+Hears apply encode decode bytes (Running m) t pool a new t' pool' = HandsLent apply encode decode input.Datagram bytes (Running m) t pool a new t' pool'
+
+-- ---- nodes
 
 -- a node without a seat gets a vacant one
-abbrev pub KeepsSeat : {R : Type 0} → Option (Seat R) → Option (Seat R) → Type 0
+abbrev pub KeepsSeat : {S : Type 0} → Option (Seat S) → Option (Seat S) → Type 0
 KeepsSeat None new = new ≡ Some Vacant
 KeepsSeat (Some s) new = new ≡ Some s
 
 -- an event at its node, which may have no seat
-abbrev pub ActsAt : {R : Type 0} → R → (R → Address → List ℕ → R) → WorldEvent → Option (Seat R) → List Happening → Answer → Option (Seat R) → List Happening → Type 0
-ActsAt opening apply e None t a new t' = (a ≡ Refused NotConnected) × (new ≡ None) × (t' ≡ t)
-ActsAt opening apply e (Some s) t a new t' = IsSomeAnd new (λ s'. Acts opening apply e s t a s' t')
+abbrev pub ActsAt : {S : Type 0} → S → (S → Address → List ℕ → S) → (S → List ℕ) → (List ℕ → Option S) → WorldEvent → Option (Seat S) → List Happening → List (List ℕ) → Answer → Option (Seat S)
+    → List Happening → List (List ℕ) → Type 0
+ActsAt opening apply encode decode e None t pool a new t' pool' = (a ≡ Refused NotConnected) × (new ≡ None) × (t' ≡ t) × (pool' ≡ pool)
+ActsAt opening apply encode decode e (Some s) t pool a new t' pool' = IsSomeAnd new (λ s'. Acts opening apply encode decode e s t pool a s' t' pool')
 
 -- a start finds a seat, which was vacant if it is new
-abbrev pub CarriesOut : {R : Type 0} → R → (R → Address → List ℕ → R) → WorldEvent → Option (Seat R) → List Happening → Answer → Option (Seat R) → List Happening → Type 0
-CarriesOut opening apply e o t a new t' =
-    MatchBool (starts e) (ActsAt opening apply e (Some (seat_at o)) t a new t') (ActsAt opening apply e o t a new t')
+abbrev pub CarriesOut : {S : Type 0} → S → (S → Address → List ℕ → S) → (S → List ℕ) → (List ℕ → Option S) → WorldEvent → Option (Seat S) → List Happening → List (List ℕ) → Answer → Option (Seat S)
+    → List Happening → List (List ℕ) → Type 0
+CarriesOut opening apply encode decode e o t pool a new t' pool' =
+    MatchBool (starts e) (ActsAt opening apply encode decode e (Some (seat_at o)) t pool a new t' pool') (ActsAt opening apply encode decode e o t pool a new t' pool')
 
--- SEATS OF ALL NODES
+-- the bytes of a packet at a node
+abbrev pub HearsAt : {S : Type 0} → (S → Address → List ℕ → S) → (S → List ℕ) → (List ℕ → Option S) → List ℕ → Option (Seat S) → List Happening → List (List ℕ) → Answer → Option (Seat S)
+    → List Happening → List (List ℕ) → Type 0
+HearsAt apply encode decode bytes None t pool a new t' pool' = (a ≡ Done) × (new ≡ None) × (t' ≡ t) × (pool' ≡ pool)
+HearsAt apply encode decode bytes (Some s) t pool a new t' pool' = IsSomeAnd new (λ s'. Hears apply encode decode bytes s t pool a s' t' pool')
 
--- to whom a packet is handed at these seats: the running member of its destination's node
-abbrev pub heard_by : {R : Type 0} → (ℕ → Option (Seat R)) → Option (List ℕ) → Option Address
-heard_by at packet = option_and_then (λ bytes. option_and_then (λ (p : Address). runs_here (seat_at (at p.node))) (destination_of bytes)) packet
+-- ---- all nodes
 
-abbrev pub SameSeats : {R : Type 0} → (ℕ → Option (Seat R)) → (ℕ → Option (Seat R)) → Type 0
+abbrev pub SameSeats : {S : Type 0} → (ℕ → Option (Seat S)) → (ℕ → Option (Seat S)) → Type 0
 SameSeats at new = (m : ℕ) → seat_at (new m) ≡ seat_at (at m)
 
--- one event at the seats of all nodes: another node's stays; a packet that is delivered is ignored
-abbrev pub Carries : {R : Type 0} → R → (R → Address → List ℕ → R) → Target → WorldEvent → (ℕ → Option (Seat R)) → List Happening → Answer → (ℕ → Option (Seat R)) → List Happening → Type 0
-Carries opening apply (target.Member n) e at t a new t' = CarriesOut opening apply e (at n) t a (new n) t' × ((m : ℕ) → nat_eq n m ≡ false → new m ≡ at m)
-Carries opening apply (target.Packet k) e at t a new t' = (a ≡ Done) × (t' ≡ t) × SameSeats at new
+-- all nodes' seats but one stand as they stood
+abbrev pub OtherSeats : {S : Type 0} → ℕ → (ℕ → Option (Seat S)) → (ℕ → Option (Seat S)) → Type 0
+OtherSeats n at new = (m : ℕ) → nat_eq n m ≡ false → new m ≡ at m
+
+-- some bytes are handed to whom they are for
+abbrev pub HandsOver : {S : Type 0} → (S → Address → List ℕ → S) → (S → List ℕ) → (List ℕ → Option S) → List ℕ → Option Address → (ℕ → Option (Seat S)) → List Happening → List (List ℕ) → Answer
+    → (ℕ → Option (Seat S)) → List Happening → List (List ℕ) → Type 0
+HandsOver apply encode decode bytes None at t pool a new t' pool' = (a ≡ Done) × SameSeats at new × (t' ≡ t) × (pool' ≡ pool)
+HandsOver apply encode decode bytes (Some p) at t pool a new t' pool' = HearsAt apply encode decode bytes (at p.node) t pool a (new p.node) t' pool' × OtherSeats p.node at new
+
+abbrev pub Delivers : {S : Type 0} → (S → Address → List ℕ → S) → (S → List ℕ) → (List ℕ → Option S) → Option (List ℕ) → (ℕ → Option (Seat S)) → List Happening → List (List ℕ) → Answer
+    → (ℕ → Option (Seat S)) → List Happening → List (List ℕ) → Type 0
+Delivers apply encode decode None at t pool a new t' pool' = (a ≡ Done) × SameSeats at new × (t' ≡ t) × (pool' ≡ pool)
+Delivers apply encode decode (Some bytes) at t pool a new t' pool' = HandsOver apply encode decode bytes (destination_of bytes) at t pool a new t' pool'
+
+-- one event
+abbrev pub Carries : {S : Type 0} → S → (S → Address → List ℕ → S) → (S → List ℕ) → (List ℕ → Option S) → Target → WorldEvent → (ℕ → Option (Seat S)) → List Happening → List (List ℕ) → Answer
+    → (ℕ → Option (Seat S)) → List Happening → List (List ℕ) → Type 0
+Carries opening apply encode decode (target.Member n) e at t pool a new t' pool' = CarriesOut opening apply encode decode e (at n) t pool a (new n) t' pool' × OtherSeats n at new
+Carries opening apply encode decode (target.Packet k) e at t pool a new t' pool' = Delivers apply encode decode (packet_numbered k pool) at t pool a new t' pool'

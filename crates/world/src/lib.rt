@@ -5,27 +5,28 @@ ghost use Rattle.std.specs.Prelude.{◌≡◌, ◌≤◌, ◌++◌, ◌∷◌, [
 ghost use Rattle.std.specs.Ordering.{nat_cmp};
 ghost use Rattle.std.specs.BTreeMap.{get};
 ghost use Rattle.trace_props.specs.Places.{EachPlace};
-ghost use Rattle.trace_props.specs.Synchrony.{IsWellOrdered};
-ghost use Rattle.std.specs.Option.{option_copied};
-ghost use Rattle.world_model.specs.Histories.{no_history, target_of};
-ghost use Rattle.world_model.specs.Packets.{packet_numbered};
+ghost use Rattle.trace_props.specs.Synchrony.{IsWellOrdered, IsVirtuallySynchronous};
+ghost use Rattle.trace_props.specs.State.{state_of};
+ghost use Rattle.std.specs.Option.{option_copied, option_map};
+ghost use Rattle.world_model.specs.Histories.{no_history, target_of, running};
+ghost use Rattle.world_model.specs.Packets.{packet_numbered, destination_of};
 ghost use Rattle.world_model.specs.Faithful.{IsFaithful};
 ghost use Rattle.world_model.specs.Steps.{IsStepped};
-ghost use Rattle.world.specs.Turns.{ActsAt, KeepsSeat, CarriesOut, Carries, SameSeats, seat_at, runs_here, heard_by};
-ghost use Rattle.world.specs.Putting.{put_at, put_for};
+ghost use Rattle.world.specs.declared.TheConstants.{STEP_PLACES};
+ghost use Rattle.world.specs.Turns.{ActsAt, KeepsSeat, CarriesOut, Carries, HearsAt, HandsOver, Delivers, SameSeats};
 
 mod pool;
 mod seat;
 
 use crate::pool::Pool;
 use crate::seat::Seat;
-use address::{Address, Node};
+use address::Node;
 use state_transfer::Receiver;
 use std::alloc::{AllocError, Global};
 use std::collections::BTreeMap;
 use std::marker::Model;
-use trace_props::{Happening, Trace};
-use wire::{Packet, decode};
+use trace_props::{Bytes, Trace};
+use wire::decode;
 use world_model::{Answer, Refusal, Reply, Target, WorldEvent};
 
 /// How many places of the trace are reserved before each step.
@@ -52,7 +53,7 @@ impl<R: Receiver> Model for World<R> {
 
     ghost view = { λ w. record { events = w.events.items; replies = w.replies.items; pool = w.pool; trace = w.trace.happenings } };
 
-    ghost invariant = { λ w. IsWorld (get nat_cmp w.seats) (record { events = w.events.items; replies = w.replies.items; pool = w.pool; trace = w.trace.happenings }) };
+    ghost invariant = { λ w. IsWorld R.opening_state R.apply R.encode R.decode R.is_state (get nat_cmp w.seats) (record { events = w.events.items; replies = w.replies.items; pool = w.pool; trace = w.trace.happenings }) };
 }
 
 /// Makes a seat for a node, where it has none yet.
@@ -76,9 +77,8 @@ fn act_at<R: Receiver>(
     node: Node,
     event: &WorldEvent,
 ) -> Answer
-    requires room { 2 ≤ trace.old.room }
-    ensures acts { ActsAt R.opening_state R.apply event.now (get nat_cmp seats.old node) trace.old.happenings result (get nat_cmp seats.new node) trace.new.happenings }
-    ensures puts { pool.new ≡ pool.old ++ put_at event.now (seat_at (get nat_cmp seats.old node)) result }
+    requires room { STEP_PLACES ≤ trace.old.room }
+    ensures acts { ActsAt R.opening_state R.apply R.encode R.decode event.now (get nat_cmp seats.old node) trace.old.happenings pool.old result (get nat_cmp seats.new node) trace.new.happenings pool.new }
     ensures others { (m : ℕ) → nat_eq node m ≡ false → get nat_cmp seats.new m ≡ get nat_cmp seats.old m }
 {
     match seats.get_mut(&node) {
@@ -96,9 +96,8 @@ fn carry_out<R: Receiver>(
     node: Node,
     event: &WorldEvent,
 ) -> Result<Answer, AllocError>
-    requires room { 2 ≤ trace.old.room }
-    ensures ok { IfOk result (λ a. CarriesOut R.opening_state R.apply event.now (get nat_cmp seats.old node) trace.old.happenings a (get nat_cmp seats.new node) trace.new.happenings) }
-    ensures puts { IfOk result (λ a. pool.new ≡ pool.old ++ put_at event.now (seat_at (get nat_cmp seats.old node)) a) }
+    requires room { STEP_PLACES ≤ trace.old.room }
+    ensures ok { IfOk result (λ a. CarriesOut R.opening_state R.apply R.encode R.decode event.now (get nat_cmp seats.old node) trace.old.happenings pool.old a (get nat_cmp seats.new node) trace.new.happenings pool.new) }
     ensures others { (m : ℕ) → nat_eq node m ≡ false → get nat_cmp seats.new m ≡ get nat_cmp seats.old m }
     ensures err { OnErr result (get nat_cmp seats.new node ≡ get nat_cmp seats.old node) }
     ensures err_trace { OnErr result (trace.new.happenings ≡ trace.old.happenings) }
@@ -112,39 +111,63 @@ fn carry_out<R: Receiver>(
     }
 }
 
-/// Hands a packet to the member that runs at a node, if one does: says to whom.
+/// Hands the bytes of a packet to the member that runs at a node, if one does.
 fn hear_at<R: Receiver>(
     seats: &mut BTreeMap<Node, Seat<R>>,
+    trace: &mut Trace,
+    pool: &mut Pool,
     node: Node,
-    packet: &Packet<'_>,
-) -> Option<Address>
-    ensures recipient { result ≡ runs_here (seat_at (get nat_cmp seats.old node)) }
-    ensures here { get nat_cmp seats.new node ≡ get nat_cmp seats.old node }
+    bytes: &[u8],
+) -> Answer
+    requires room { STEP_PLACES ≤ trace.old.room }
+    ensures hears { HearsAt R.apply R.encode R.decode bytes.now (get nat_cmp seats.old node) trace.old.happenings pool.old result (get nat_cmp seats.new node) trace.new.happenings pool.new }
     ensures others { (m : ℕ) → nat_eq node m ≡ false → get nat_cmp seats.new m ≡ get nat_cmp seats.old m }
 {
     match seats.get_mut(&node) {
-        Some(seat) => seat::hear(seat, packet),
-        None => None,
+        Some(seat) => seat::hear(seat, trace, pool, bytes),
+        None => Answer::Done,
     }
 }
 
-/// Hands the packet of a number to the running member of its destination's node, if there are both: says to whom.
-fn deliver<R: Receiver>(
+/// Hands some bytes to the running member of the node that they are for, if they spell a packet and there is one.
+fn hand_over<R: Receiver>(
     seats: &mut BTreeMap<Node, Seat<R>>,
-    pool: &Pool,
-    number: u64,
-) -> Option<Address>
-    ensures recipient { result ≡ heard_by (get nat_cmp seats.old) (packet_numbered number pool.now) }
-    ensures seats { SameSeats (get nat_cmp seats.old) (get nat_cmp seats.new) }
+    trace: &mut Trace,
+    pool: &mut Pool,
+    bytes: &[u8],
+) -> Answer
+    requires room { STEP_PLACES ≤ trace.old.room }
+    ensures { HandsOver R.apply R.encode R.decode bytes.now (destination_of bytes.now) (get nat_cmp seats.old) trace.old.happenings pool.old result (get nat_cmp seats.new) trace.new.happenings pool.new }
 {
-    let bytes = pool.packet(number)?;
     match decode(bytes) {
-        Ok(packet) => hear_at(seats, packet.destination.node(), &packet),
-        Err(_) => None,
+        Ok(packet) => hear_at(seats, trace, pool, packet.destination.node(), bytes),
+        Err(_) => Answer::Done,
     }
 }
 
-/// Carries out an event. Memory may be refused for a new seat: then nothing is carried out.
+/// Hands the packet of a number to the running member of its destination's node, if there are both. Memory may be refused for a copy of
+/// the packet: then nothing is done.
+fn deliver<R: Receiver>(
+    alloc: Global,
+    seats: &mut BTreeMap<Node, Seat<R>>,
+    trace: &mut Trace,
+    pool: &mut Pool,
+    number: u64,
+) -> Result<Answer, AllocError>
+    requires room { STEP_PLACES ≤ trace.old.room }
+    ensures ok { IfOk result (λ a. Delivers R.apply R.encode R.decode (packet_numbered number pool.old) (get nat_cmp seats.old) trace.old.happenings pool.old a (get nat_cmp seats.new) trace.new.happenings pool.new) }
+    ensures err { OnErr result (SameSeats (get nat_cmp seats.old) (get nat_cmp seats.new)) }
+    ensures err_trace { OnErr result (trace.new.happenings ≡ trace.old.happenings) }
+    ensures err_pool { OnErr result (pool.new ≡ pool.old) }
+{
+    let bytes = match pool.packet(number) {
+        Some(bytes) => Bytes::from_slice(alloc, bytes)?,
+        None => return Ok(Answer::Done),
+    };
+    Ok(hand_over(seats, trace, pool, bytes.as_slice()))
+}
+
+/// Carries out an event. Memory may be refused for a new seat, or for a copy of the packet: then nothing is carried out.
 fn carry<R: Receiver>(
     alloc: Global,
     seats: &mut BTreeMap<Node, Seat<R>>,
@@ -152,19 +175,15 @@ fn carry<R: Receiver>(
     pool: &mut Pool,
     event: &WorldEvent,
 ) -> Result<Answer, AllocError>
-    requires room { 2 ≤ trace.old.room }
-    ensures ok { IfOk result (λ a. Carries R.opening_state R.apply (target_of event.now) event.now (get nat_cmp seats.old) trace.old.happenings a (get nat_cmp seats.new) trace.new.happenings) }
-    ensures puts { IfOk result (λ a. pool.new ≡ pool.old ++ put_for (target_of event.now) event.now (get nat_cmp seats.old) a) }
+    requires room { STEP_PLACES ≤ trace.old.room }
+    ensures ok { IfOk result (λ a. Carries R.opening_state R.apply R.encode R.decode (target_of event.now) event.now (get nat_cmp seats.old) trace.old.happenings pool.old a (get nat_cmp seats.new) trace.new.happenings pool.new) }
     ensures err { OnErr result (SameSeats (get nat_cmp seats.old) (get nat_cmp seats.new)) }
     ensures err_trace { OnErr result (trace.new.happenings ≡ trace.old.happenings) }
     ensures err_pool { OnErr result (pool.new ≡ pool.old) }
 {
     match event.target() {
         Target::Member(node) => carry_out(alloc, seats, trace, pool, node, event),
-        Target::Packet(number) => {
-            let _ = deliver(seats, pool, number);
-            Ok(Answer::Done)
-        }
+        Target::Packet(number) => deliver(alloc, seats, trace, pool, number),
     }
 }
 
@@ -211,6 +230,7 @@ impl<R: Receiver> World<R> {
         ensures faithful { IsFaithful self.now }
         ensures stepped { IsStepped self.now }
         ensures ordered { EachPlace IsWellOrdered self.now.trace }
+        ensures synchronous { IsVirtuallySynchronous R.opening_state R.apply R.decode self.now.trace }
     {
         let _ = &self.trace;
     }
@@ -223,6 +243,7 @@ impl<R: Receiver> World<R> {
         ensures faithful { IsFaithful self.new }
         ensures stepped { IsStepped self.new }
         ensures ordered { EachPlace IsWellOrdered self.new.trace }
+        ensures synchronous { IsVirtuallySynchronous R.opening_state R.apply R.decode self.new.trace }
     {
         for event in events {
             if let Err(refused) = self.step(event) {
@@ -254,6 +275,16 @@ impl<R: Receiver> World<R> {
         ensures { option_copied result ≡ packet_numbered number self.now.pool }
     {
         self.pool.packet(number)
+    }
+
+    /// The receiver of the member that runs at a node, as it was told all that happened to that member; None where none runs there.
+    pub fn receiver(&self, node: Node) -> Option<&R>
+        ensures { option_copied result ≡ option_map (λ p. state_of R.opening_state R.apply R.decode p self.now.trace) (running node self.now.trace) }
+    {
+        match self.seats.get(&node)? {
+            Seat::Vacant | Seat::Ended(_) => None,
+            Seat::Running(member) => member.receiver(),
+        }
     }
 
     /// What happened.

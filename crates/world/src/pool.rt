@@ -1,16 +1,14 @@
 //! Every packet that was ever put out.
 
-ghost use Rattle.std.specs.Prelude.{◌≡◌, ◌++◌, ◌∷◌, [], IfOk, OnOk, OnErr};
+ghost use Rattle.std.specs.Prelude.{◌≡◌, ◌++◌, [], map, OnOk, OnErr};
 ghost use Rattle.std.specs.Option.{option_copied};
-ghost use Rattle.wire.specs.declared.packet.Body.TheVariants as bodies;
-ghost use Rattle.wire.specs.Packets.{spelling};
-ghost use Rattle.world_model.specs.Packets.{world_group, join_packet, packet_numbered};
+ghost use Rattle.world_model.specs.Packets.{packet_numbered};
+ghost use Rattle.world.specs.Seats.{bytes_of};
 
-use address::Address;
+use member::Outgoing;
 use std::alloc::{AllocError, Global};
 use std::marker::Model;
 use trace_props::Bytes;
-use wire::{Body, GroupName, Packet, encode};
 
 /// Packets as bytes, numbered from 1 in the order in which they were put out. Nothing is ever removed.
 #[derive(Debug, Drop)]
@@ -45,39 +43,19 @@ impl Pool {
         Some(packet.as_slice())
     }
 
-    /// Puts out the JOIN with which a member asks its contact to be let in. On refusal the pool is as before.
-    pub fn put_join(
-        &mut self,
-        alloc: Global,
-        member: Address,
-        contact: Address,
-    ) -> Result<(), AllocError>
-        ensures ok { OnOk result (self.new ≡ self.old ++ join_packet member contact ∷ []) }
+    /// Puts out packets, in order. On refusal of their places the pool is as before, and there was one at least.
+    pub fn put_all(&mut self, packets: Vec<Outgoing>) -> Result<(), AllocError>
+        ensures ok { OnOk result (self.new ≡ self.old ++ map bytes_of packets.items) }
         ensures err { OnErr result (self.new ≡ self.old) }
+        ensures some { OnErr result (packets.items ≡ [] → ⊥) }
     {
-        let bytes = spelled(alloc, &join(member, contact))?;
-        self.packets.push(bytes)?;
+        if packets.is_empty() {
+            return Ok(());
+        }
+        self.packets.reserve(packets.len())?;
+        for packet in packets {
+            self.packets.push_reserved(packet.bytes);
+        }
         Ok(())
     }
-}
-
-/// The JOIN of a member to its contact.
-fn join(member: Address, contact: Address) -> Packet<'static>
-    ensures { result ≡ record { group = world_group; source = member; destination = contact; body = bodies.Join } }
-{
-    Packet {
-        group: GroupName::new(b"world").unwrap(),
-        source: member,
-        destination: contact,
-        body: Body::Join,
-    }
-}
-
-/// The bytes of a packet.
-fn spelled(alloc: Global, packet: &Packet<'_>) -> Result<Bytes, AllocError>
-    ensures { IfOk result (λ bytes. bytes ≡ spelling packet.now) }
-{
-    let mut bytes = Vec::new(alloc);
-    encode(packet, &mut bytes)?;
-    Ok(Bytes::from_vec(bytes))
 }

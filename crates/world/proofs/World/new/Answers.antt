@@ -2,12 +2,12 @@ use Rattle.std.proofs.Common.{ap}
 use Rattle.std.specs.Ordering.{nat_cmp}
 use Rattle.std.specs.BTreeMap.{get, is_at}
 use Rattle.std.specs.Map.{lookup}
-use Rattle.world.proofs.Traces.{trace-nil}
-use Rattle.world.proofs.Turning.{no_world}
+use Rattle.world.proofs.Carrying.{no-world}
 use Rattle.world.proofs.World.new.Goals as goal
 
 -- nothing happened, and no node has a seat
 pub invariant_of-result : goal.invariant_of-result
 invariant_of-result g c =
     rw (c.new-2.ensures.items, c.new-3.ensures.items, c.new-4.ensures, c.new-5.ensures)
-    (no_world (get nat_cmp c.new.result) (λ n. ap (lookup (is_at (nat_cmp n))) c.new.ensures.empty) trace-nil)
+    (no-world g.R.Receiver.opening_state g.R.Receiver.apply g.R.Receiver.encode g.R.Receiver.decode g.R.Receiver.is_state (get nat_cmp c.new.result)
+    (λ n. ap (lookup (is_at (nat_cmp n))) c.new.ensures.empty))

@@ -1,0 +1,35 @@
+-- What a seat gives where its member takes an input.
+use Rattle.std.proofs.Common.{◌≡◌, ℕ, Bool, true, false, cond, Option, List, ◌++◌, Result, Ok, Err, sym, ap, ◌∙◌}
+use Rattle.std.specs.Prelude.{OnOk}
+use Rattle.std.specs.Result.{is_err}
+use Rattle.address.specs.Ids.{Address}
+use Rattle.trace_props.specs.declared.happening.Happening.{Happening}
+use Rattle.member.specs.declared.input.Input.{Input}
+use Rattle.member.specs.Members.{MemberModel}
+use Rattle.member.specs.Steps.{leaves}
+use Rattle.world_model.specs.declared.Answer.{Answer}
+use Rattle.world.specs.declared.seat.Seat.{Seat}
+use Rattle.world.specs.declared.seat.Seat.TheVariants.{Ended, Running}
+use Rattle.world.specs.Seats.{answer_to}
+use Rattle.world.specs.Turns.{Takes, HandsHere, Taken}
+
+-- what is ensured of an answer that is no error
+pub on-ok : {T E : Type 0} (r : Result T E) (P : Type 0) → is_err r ≡ false → OnOk r P → P
+on-ok (Ok x) P e p = p
+on-ok (Err x) P e p = absurd (let n : true ≡ false = e in cc)
+
+module _ {S : Type 0} (apply : S → Address → List ℕ → S) (encode : S → List ℕ) (decode : List ℕ → Option S) where
+  seat-left : (b : Bool) (p : Address) (m : MemberModel S) (input : Input) → leaves input ≡ b → cond b (Ended p) (Running m) ≡ cond (leaves input) (Ended p) (Running m)
+  seat-left b p m input e = ap {B = Seat S} (λ (c : Bool). cond c (Ended p) (Running m)) (sym e)
+
+  pub taken-here : (b : Bool) (input : Input) (m left : MemberModel S) (t : List Happening) (pool more : List (List ℕ)) (a : Answer) (now happened : List Happening) (p : Address)
+      → leaves input ≡ b → p ≡ m.address → Takes apply encode decode input m pool happened left more → a ≡ answer_to happened → now ≡ t ++ happened
+      → HandsHere apply encode decode input m t pool a (cond b (Ended p) (Running left)) now more
+  taken-here b input m left t pool more a now happened p e is takes answer trace = Taken (record {
+    happened = happened;
+    left = left;
+    takes = takes;
+    answer = answer;
+    seat = seat-left b p left input e ∙ ap {B = Seat S} (λ (q : Address). cond (leaves input) (Ended q) (Running left)) is;
+    trace = trace;
+  })

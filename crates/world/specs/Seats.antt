@@ -1,0 +1,81 @@
+-- What stands at the nodes of a world, and the system of agreement that it makes.
+use Rattle.std.specs.Prelude.{ℕ, List, [], ◌∷◌, Option, None, Some, Result, Ok, Err, unwrap_or, if◌then◌else◌}
+use Rattle.std.specs.List.{filter_map}
+use Rattle.address.specs.Ids.{Address, same_address}
+use Rattle.wire.specs.declared.error.WireError.{WireError}
+use Rattle.wire.specs.declared.packet.Packet.{Packet}
+use Rattle.wire.specs.Packets.{packet_of}
+use Rattle.trace_props.specs.declared.happening.Happening.{Happening}
+use Rattle.trace_props.specs.declared.happening.Happening.TheVariants.{Started, Delivered, Blocked, Installed, Left, Crashed}
+use Rattle.trace_props.specs.declared.happening.Happening.TheVariants as happening
+use Rattle.agreement.specs.Histories.{Posted}
+use Rattle.agreement.specs.Cores.{Core}
+use Rattle.agreement.specs.Steps.{System}
+use Rattle.member.specs.declared.error.Error.{Error}
+use Rattle.member.specs.declared.error.Error.TheVariants as error
+use Rattle.member.specs.declared.output.Outgoing.{Outgoing}
+use Rattle.member.specs.Members.{core_of}
+use Rattle.world_model.specs.declared.Answer.{Answer}
+use Rattle.world_model.specs.declared.Answer.TheVariants.{Done, Sent, Refused}
+use Rattle.world_model.specs.declared.Refusal.TheVariants as refusal
+use Rattle.world.specs.declared.seat.Seat.{Seat}
+use Rattle.world.specs.declared.seat.Seat.TheVariants.{Vacant, Ended, Running}
+
+-- ---- answers
+
+-- what an event is answered whose input was refused so
+abbrev pub answer_for : Error → Answer
+answer_for error.NotConnected = Refused refusal.NotConnected
+answer_for error.Blocked = Refused refusal.Blocked
+answer_for error.Busy = Refused refusal.Busy
+answer_for error.TooLong = Refused refusal.TooLong
+answer_for error.AlreadyConnected = Refused refusal.AlreadyConnected
+answer_for error.Closed = Refused refusal.Closed
+answer_for error.Memory = Refused refusal.Memory
+answer_for error.Exhausted = Refused refusal.Exhausted
+answer_for (error.Wire e) = Done
+
+-- what an event is answered by which these happened: a message that was sent comes first
+abbrev pub answer_to : List Happening → Answer
+answer_to [] = Done
+answer_to (Started p ∷ rest) = Done
+answer_to (happening.Sent s ∷ rest) = Sent s.message.number
+answer_to (Delivered d ∷ rest) = Done
+answer_to (Blocked p ∷ rest) = Done
+answer_to (Installed i ∷ rest) = Done
+answer_to (Left p ∷ rest) = Done
+answer_to (Crashed p ∷ rest) = Done
+
+-- ---- seats
+
+-- what stands at a node: nothing where there is no seat
+abbrev pub seat_at : {S : Type 0} → Option (Seat S) → Seat S
+seat_at o = unwrap_or o Vacant
+
+-- the core of the member that runs at a seat, if it has this address
+abbrev pub core_here : {S : Type 0} → Address → Seat S → Option (Core S)
+core_here p Vacant = None
+core_here p (Ended q) = None
+core_here p (Running m) = if same_address p m.address then core_of m else None
+
+-- ---- packets
+
+abbrev pub bytes_of : Outgoing → List ℕ
+bytes_of o = o.bytes
+
+abbrev pub posted_in : Result Packet WireError → Option Posted
+posted_in (Ok m) = Some (record { source = m.source; destination = m.destination; body = m.body })
+posted_in (Err e) = None
+
+-- what some bytes of a group are read as
+abbrev pub read_as : List ℕ → Option Posted
+read_as bytes = posted_in (packet_of bytes)
+
+abbrev pub posts_in : List (List ℕ) → List Posted
+posts_in pool = filter_map read_as pool
+
+-- ---- both
+
+-- the system of agreement: the members at these seats, the packets that the pool's bytes spell, what happened
+abbrev pub system_of : {S : Type 0} → (ℕ → Option (Seat S)) → List (List ℕ) → List Happening → System S
+system_of at pool t = record { running = λ p. core_here p (seat_at (at p.node)); history = record { pool = posts_in pool; trace = t } }
