@@ -11,7 +11,7 @@ use Rattle.wire.specs.declared.packet.Body.TheVariants as bodies
 use Rattle.flush.proofs.Covers.{first-stands}
 use Rattle.trace_props.proofs.Observing.{same_address-true, same_view_id-true}
 use Rattle.agreement.specs.Histories.{Posted, History, flush_in, report_in, install_in, report_by, install_to, flush_of, report_of, install_of}
-use Rattle.agreement.specs.Packets.{BodyFact, IsProposal, IsAnswer, IsInstruction}
+use Rattle.agreement.specs.Packets.{BodyFact, IsAnswer, IsInstruction}
 use Rattle.agreement.specs.Invariant.{EachPacket}
 
 -- ---- what one packet says
@@ -157,12 +157,6 @@ fact-at h p q b each out =
     (subst (λ (d : Address). BodyFact h p d out.posted.body) out.destination
     (subst (λ (s : Address). BodyFact h s out.posted.destination out.posted.body) out.source
     (each out.place out.posted out.stands)))
-
-pub flush-fact : (h : History) (w : ViewId) (l : List Address) → EachPacket h → flush_of w h.pool ≡ Some l → IsProposal h w.creator (record { id = w; members = l })
-flush-fact h w l each e =
-    let s = flush-stands w l h.pool e in
-    let x : IsProposal h s.0 (record { id = w; members = l }) = fact-at h s.0 s.1 _ each s.2 in
-    record { own = refl; view = x.view; one = x.one }
 
 pub report-fact : (h : History) (p : Address) (w : ViewId) (r : Report) → EachPacket h → report_of p w h.pool ≡ Some r → IsAnswer h p w r
 report-fact h p w r each e = let s = report-stands p w r h.pool e in fact-at h p s.0 _ each s.1

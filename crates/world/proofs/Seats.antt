@@ -7,7 +7,7 @@ use Rattle.agreement.specs.Cores.{Core}
 use Rattle.agreement.specs.Steps.{put}
 use Rattle.member.specs.Members.{MemberModel, core_of}
 use Rattle.world.specs.declared.seat.Seat.{Seat}
-use Rattle.world.specs.declared.seat.Seat.TheVariants.{Vacant, Ended, Running}
+use Rattle.world.specs.declared.seat.Seat.TheVariants.{Ended, Running}
 use Rattle.world.specs.Seats.{seat_at, core_here}
 use Rattle.world.specs.Turns.{SameSeats}
 
@@ -19,9 +19,6 @@ module _ {S : Type 0} where
   -- nobody but this one runs at a seat
   abbrev pub OnlyHere : Address → Seat S → Type 0
   OnlyHere p s = (q : Address) → same_address q p ≡ false → core_here q s ≡ None
-
-  pub only-vacant : (p : Address) → OnlyHere p Vacant
-  only-vacant p q e = refl
 
   pub only-ended : (p r : Address) → OnlyHere p (Ended r)
   only-ended p r q e = refl
