@@ -29,8 +29,8 @@ use trace_props::{Bytes, Trace};
 use wire::decode;
 use world_model::{Answer, Refusal, Reply, Target, WorldEvent};
 
-/// How many places of the trace are reserved before each step.
-pub const STEP_PLACES: usize = 40;
+/// How many places of the trace are reserved before each step: as many as a step of a member may need.
+pub const STEP_PLACES: usize = member::HAPPENINGS;
 
 /// A world of members, one at a node at a time, each with its receiver (docs/GUARANTEES.md, "The world").
 #[derive(Drop)]
@@ -202,7 +202,7 @@ impl<R: Receiver> World<R> {
         }
     }
 
-    /// Carries out one event. On refusal of the places of a step nothing has changed.
+    /// Carries out one event. On refusal of the places of a step, or of a copy of the packet that is handed over, nothing has changed.
     fn step(&mut self, event: &WorldEvent) -> Result<(), AllocError>
         ensures ok { OnOk result (self.new.events ≡ self.old.events ++ event.now ∷ []) }
         ensures err { OnErr result (self.new ≡ self.old) }
@@ -236,7 +236,7 @@ impl<R: Receiver> World<R> {
     }
 
     /// Carries out events in order, from where the world stands. Answers an error (7) where the places of a step are
-    /// refused: then the events before it are carried out, and all stands as before that step.
+    /// refused, or a copy of the packet that is handed over: then the events before it are carried out, and all stands as before that step.
     pub fn run(&mut self, events: &[WorldEvent]) -> Result<(), AllocError>
         ensures all { OnOk result (self.new.events ≡ self.old.events ++ events.now) }
         ensures some { (k : ℕ) × (self.new.events ≡ self.old.events ++ take k events.now) }
