@@ -242,6 +242,3 @@ pub fn next_after(last: &ViewId, creator: Address) -> Result<ViewId, Exhausted>
         creator,
     })
 }
-
-#[cfg(test)]
-mod tests;

@@ -1,5 +1,7 @@
 -- The chat's state: its last lines, and what a message does to them.
-use Rattle.std.specs.Prelude.{ℕ, ◌-◌, ◌≤◌, List, [], ◌∷◌, ◌++◌, length, drop}
+use Rattle.std.specs.Prelude.{ℕ, ◌-◌, ◌≤◌, List, [], ◌∷◌, ◌++◌, length, drop, Option}
+use Rattle.std.specs.Option.{option_map}
+use Rattle.std.specs.Borrow.{Bor}
 use Rattle.std.specs.List.{AllByRecursion}
 use Rattle.address.specs.Ids.{Address, IsAddress}
 use Rattle.state_transfer.specs.declared.TheConstants.{PAYLOAD}
@@ -27,3 +29,7 @@ last_of n xs = drop (length xs - n) xs
 -- a message is the newest line; the oldest is dropped where there were enough
 abbrev pub chat_apply : List Line → Address → List ℕ → List Line
 chat_apply s from payload = last_of LINES (s ++ said from payload ∷ [])
+
+-- the line that is lent as who said it and what
+abbrev pub line_said : Option (Address × Bor (List ℕ)) → Option Line
+line_said found = option_map (λ l. said l.0 l.1.now) found

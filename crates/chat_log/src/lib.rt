@@ -2,12 +2,14 @@
 //! same lines (docs/FORMATS.md, "The chat's state").
 #![tactic(auto)]
 
+mod chat;
 mod law;
 mod lines;
 mod log;
 mod reading;
 mod writing;
 
+pub use chat::Chat;
 pub use law::one_encoding;
 pub use lines::Line;
 pub use log::ChatLog;
@@ -19,6 +21,3 @@ pub const LINES: usize = 24;
 /// The most bytes that a chat's state is encoded in, 12,481: the number of lines in one, and of each line the sender
 /// in six, the length of the payload in two, and the payload.
 pub const LONGEST: usize = 1 + LINES * (8 + PAYLOAD);
-
-#[cfg(test)]
-mod tests;

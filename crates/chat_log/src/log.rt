@@ -1,12 +1,11 @@
-ghost use Rattle.std.specs.Prelude.{◌≡◌, ◌≤◌, ◌<◌, ◌==◌, ◌++◌, true, false, length, slice_get, IsOk, IfOk, OnOk, OnErr, MatchOption};
-ghost use Rattle.std.specs.Option.{option_copied};
+ghost use Rattle.std.specs.Prelude.{◌≡◌, ◌≤◌, ◌<◌, ◌==◌, ◌++◌, true, false, length, IsOk, IfOk, OnOk, OnErr, MatchOption};
 ghost use Rattle.chat_log.specs.Chat.{IsChat, chat_apply};
 ghost use Rattle.chat_log.specs.Encoding.{chat_encode, chat_decode};
 
 use crate::lines::push_line;
 use crate::reading::chat_of;
 use crate::writing::put_chat;
-use crate::{LINES, Line};
+use crate::{Chat, LINES, Line};
 use address::Address;
 use state_transfer::{PAYLOAD, Receiver};
 use std::alloc::{AllocError, Global};
@@ -39,13 +38,6 @@ impl ChatLog {
         ensures chat { IsChat result.now }
     {
         self.lines.as_slice()
-    }
-
-    /// The line at an index, the oldest at 0; `None` past the newest.
-    pub fn line(&self, i: usize) -> Option<&Line>
-        ensures { option_copied result ≡ slice_get self.now i }
-    {
-        self.lines.get(i)
     }
 
     /// How many lines there are, 0 to 24.
@@ -139,5 +131,14 @@ impl Receiver for ChatLog {
                 Ok(true)
             }
         }
+    }
+}
+
+impl Chat for ChatLog {
+    ghost lines_of = { λ s. s };
+
+    fn line(&self, i: usize) -> Option<(Address, &[u8])> {
+        let line = self.lines.get(i)?;
+        Some((line.sender, line.payload.as_slice()))
     }
 }

@@ -12,6 +12,3 @@ pub use cut::Cut;
 pub use flushing::Flush;
 pub use law::cut_covers;
 pub use progress::Progress;
-
-#[cfg(test)]
-mod tests;

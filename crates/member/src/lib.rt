@@ -18,6 +18,3 @@ pub use output::{Outgoing, Output};
 
 /// The most happenings of one step of a member.
 pub const HAPPENINGS: usize = 40;
-
-#[cfg(test)]
-mod tests;

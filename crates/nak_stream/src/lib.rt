@@ -12,6 +12,3 @@ pub use window::Window;
 
 /// How many numbers past the stable count a window takes: 32.
 pub const REACH: u64 = 32;
-
-#[cfg(test)]
-mod tests;

@@ -13,6 +13,3 @@ pub use orderer::Orderer;
 
 /// The most messages of one sender that may wait at a time: 8.
 pub const OUTSTANDING: u64 = 8;
-
-#[cfg(test)]
-mod tests;

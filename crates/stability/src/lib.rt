@@ -99,6 +99,3 @@ fn least(acks: &[Ack]) -> u64
         }
     }
 }
-
-#[cfg(test)]
-mod tests;

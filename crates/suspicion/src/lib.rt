@@ -91,6 +91,3 @@ impl Suspects {
         Ok(Addresses::from_vec(left.collect(alloc)?))
     }
 }
-
-#[cfg(test)]
-mod tests;

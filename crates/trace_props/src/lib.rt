@@ -14,6 +14,3 @@ pub use checker::check;
 pub use happening::{Delivery, HandedBack, Happening, Install, Message, Numbered, Sending};
 pub use trace::Trace;
 pub use verdict::{Rule, Verdict};
-
-#[cfg(test)]
-mod tests;

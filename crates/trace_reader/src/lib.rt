@@ -13,6 +13,3 @@ pub use text::read_trace;
 
 /// The most bytes that a line of a trace may have, without its line feed (docs/FORMATS.md, "Trace text").
 pub const TRACE_LINE: usize = 65_536;
-
-#[cfg(test)]
-mod tests;

@@ -128,6 +128,3 @@ impl View {
         &self.members
     }
 }
-
-#[cfg(test)]
-mod tests;

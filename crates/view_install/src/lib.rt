@@ -7,6 +7,3 @@ mod promise;
 
 pub use law::promises_rise;
 pub use promise::{InstallAnswer, OfferAnswer, Promise};
-
-#[cfg(test)]
-mod tests;

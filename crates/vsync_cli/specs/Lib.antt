@@ -1,3 +1,1 @@
-pub mod Words
-pub mod Grammar
 pub mod Ends

@@ -1,12 +1,9 @@
-//! The command line of the program: what its words ask for, and doing that.
+//! The command line of the program: doing what its words ask for.
 #![tactic(auto)]
 
 mod programs;
-#[cfg(test)]
-mod tests;
-mod words;
 
-pub use chat_log::ChatLog;
+pub use chat_log::{Chat, ChatLog};
 pub use programs::program;
-pub use vsync_runs::{Silent, Status, run_check, run_script};
-pub use words::{Invocation, command};
+pub use vsync_runs::{Status, run_chat, run_check, run_script};
+pub use vsync_words::{Invocation, command};

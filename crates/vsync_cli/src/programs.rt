@@ -1,9 +1,8 @@
 ghost use Rattle.std.specs.Prelude.{◌≡◌, ◌≢◌, ◌⊎◌, ◌<◌, [], length, map, string_bytes};
 ghost use Rattle.clap.specs.Words.{fault_of, kind_of};
 ghost use Rattle.vsync_cli.specs.Ends.{Does, EndsBy, EndsByFault};
-ghost use Rattle.vsync_cli.specs.Grammar.{program_app};
+ghost use Rattle.vsync_words.specs.Grammar.{program_app};
 
-use crate::{Invocation, command};
 use chat_log::ChatLog;
 use clap::Error;
 use clap::error::ErrorKind;
@@ -11,7 +10,8 @@ use std::alloc::Global;
 use std::io::{Read, Write};
 use std::rt::{Env, Files};
 use std::{env, fs, io};
-use vsync_runs::{Silent, Status, run_check, run_script};
+use vsync_runs::{Status, run_chat, run_check, run_script};
+use vsync_words::{Invocation, command};
 
 /// Says on the standard error why the program ends with status 5.
 fn complain<R: Eprint>(rt: &R, what: &str, path: &str) -> Status
@@ -49,7 +49,8 @@ fn answer<I: Read, W: Write>(
     ensures { Does command.entry (I.remaining reader.old) (W.contents writer.old) (W.contents writer.new) result }
 {
     match command {
-        Invocation::World(_) => run_script::<Silent, I, W>(alloc, reader, writer),
+        Invocation::World(_) => run_script::<ChatLog, I, W>(alloc, reader, writer),
+        Invocation::Chat(_) => run_chat::<ChatLog, I, W>(alloc, reader, writer),
         Invocation::Check(_) => run_check::<ChatLog, I, W>(alloc, reader, writer),
     }
 }

@@ -1,5 +1,5 @@
 -- Texts that a writer took one after another, and beginnings of them.
-use Rattle.std.proofs.Common.{◌≡◌, ℕ, ◌+◌, ◌≤◌, List, [], ◌∷◌, ◌++◌, length, take, drop, Bool, true, false, Result, Ok, Err, OnOk, is_ok, IfSome, unwrap_or, Option, Some, None, refl, sym, ap, ◌∙◌, subst, append_assoc, zero, suc, arith, ◌<◌, ◌⊎◌, inl, inr}
+use Rattle.std.proofs.Common.{◌≡◌, ℕ, ◌+◌, ◌≤◌, List, [], ◌∷◌, ◌++◌, length, take, drop, Bool, true, false, Result, Ok, Err, OnOk, OnErr, is_ok, IfSome, unwrap_or, Option, Some, None, refl, sym, ap, ◌∙◌, subst, append_assoc, zero, suc, arith, ◌<◌, ◌⊎◌, inl, inr}
 use Rattle.std.specs.List.{concat}
 use Rattle.std.proofs.lemmas.Bool.{cases_lt}
 use Rattle.std.proofs.lemmas.List.{append-nil, take_all, take-append-le}
@@ -7,23 +7,17 @@ use Rattle.std.proofs.Math.Seq.{take-append-add, take-append_seam}
 use Rattle.std.specs.Io.KnownBytes.{Appends, Keeps}
 use Rattle.vsync_runs.specs.declared.status.Status.{Status}
 use Rattle.vsync_runs.specs.declared.status.Status.TheVariants.{Done, Memory, Outside}
-use Rattle.trace_props.specs.Places.{EachPlace}
-use Rattle.trace_props.specs.Synchrony.{IsWellOrdered}
-use Rattle.world_model.specs.declared.WorldEvent.{WorldEvent}
-use Rattle.world_model.specs.Histories.{History, no_history}
-use Rattle.world_model.specs.Faithful.{IsFaithful}
-use Rattle.world_model.specs.Steps.{IsStepped}
 use Rattle.vsync_text.specs.declared.script.Script.{Script}
 use Rattle.trace_props.specs.declared.happening.Happening.{Happening}
 use Rattle.world_model.specs.declared.Reply.{Reply}
 use Rattle.vsync_text.specs.declared.fault.Fault.{Fault}
 use Rattle.vsync_text.specs.Script.{script_of, fault_number}
 use Rattle.vsync_text.specs.Runs.{lines_of_run}
-use Rattle.vsync_runs.specs.Outcomes.{Ends, Ran, IsWorldText, IsRunText, IsFaultText, IsScriptText, Written, RunsScript, memory_line}
-use Rattle.vsync_runs.specs.Outcomes.IsScriptText.{Runs, Faulty, Unread}
-use Rattle.vsync_runs.specs.Outcomes.IsAnswer.{Answers}
-use Rattle.vsync_runs.specs.Outcomes.IsWorldText.{Told, Untold}
-use Rattle.vsync_runs.specs.Outcomes.IsRunText.{All, Part}
+use Rattle.vsync_runs.specs.Outcomes.{Ends, IsLinesText, IsFaultText, IsUnreadText, IsScriptText, IsAnswer, Written, ReadsScript, memory_line}
+use Rattle.vsync_runs.specs.Outcomes.IsUnreadText.{Faulty, Unread}
+use Rattle.vsync_runs.specs.Outcomes.IsScriptText.{Runs, Unrun}
+use Rattle.vsync_runs.specs.Outcomes.IsAnswer.{ReaderFails, Answers}
+use Rattle.vsync_runs.specs.Outcomes.IsLinesText.{Told, Untold}
 use Rattle.vsync_runs.specs.Outcomes.Ends.{Whole, Cut}
 
 -- one text after another
@@ -55,64 +49,94 @@ beginning-of n xs ys (inl lt) = (n, sym (take-append-le n xs ys (omega arith)))
 beginning-of n xs ys (inr le) = (length xs, take_all n xs le ∙ sym (take-append_seam xs ys))
 
 -- the text that ends for want of memory after all lines
-all-lines : (lines : List ℕ) (h : History) (ran : Bool) → IsWorldText lines h ran Memory (concat (lines_of_run lines h.replies h.trace) ++ memory_line)
-all-lines lines h ran =
-    subst (λ (l : List (List ℕ)). IsWorldText lines h ran Memory (concat l ++ memory_line)) (take_all (length (lines_of_run lines h.replies h.trace)) (lines_of_run lines h.replies h.trace) (omega arith))
-    (Untold (length (lines_of_run lines h.replies h.trace)))
+all-lines : (lines : List (List ℕ)) (whole : Bool) → IsLinesText lines whole Memory (concat lines ++ memory_line)
+all-lines lines whole =
+    subst (λ (l : List (List ℕ)). IsLinesText lines whole Memory (concat l ++ memory_line)) (take_all (length lines) lines (omega arith)) (Untold (length lines))
 
 -- the writer failed within the lines
-pub tells-failed : (lines : List ℕ) (h : History) (ran : Bool) (a b : Option (List ℕ)) (n : ℕ) → Appends a b (take n (concat (lines_of_run lines h.replies h.trace))) → Written (IsWorldText lines h ran) a b Outside
-tells-failed lines h ran a b n f =
-    let text = concat (lines_of_run lines h.replies h.trace) in
+pub tells-failed : (lines : List (List ℕ)) (whole : Bool) (a b : Option (List ℕ)) (n : ℕ) → Appends a b (take n (concat lines)) → Written (IsLinesText lines whole) a b Outside
+tells-failed lines whole a b n f =
+    let text = concat lines in
     let longer : (m : ℕ) × (take n text ≡ take m (text ++ memory_line)) = beginning-of n text memory_line (cases_lt n (length text)) in
-    record { meant = Memory; text = text ++ memory_line; says = all-lines lines h ran; ends = Cut longer.0 (subst (λ l. Appends a b l) longer.1 f) }
+    record { meant = Memory; text = text ++ memory_line; says = all-lines lines whole; ends = Cut longer.0 (subst (λ l. Appends a b l) longer.1 f) }
 
 -- memory was refused within the lines
-pub tells-some : (lines : List ℕ) (h : History) (ran : Bool) (a b c : Option (List ℕ)) (status : Status) (n : ℕ)
-    → Appends a b (concat (take n (lines_of_run lines h.replies h.trace))) → Ends b c memory_line Memory status → Written (IsWorldText lines h ran) a c status
-tells-some lines h ran a b c status n f e = record {
+pub tells-some : (lines : List (List ℕ)) (whole : Bool) (a b c : Option (List ℕ)) (status : Status) (n : ℕ)
+    → Appends a b (concat (take n lines)) → Ends b c memory_line Memory status → Written (IsLinesText lines whole) a c status
+tells-some lines whole a b c status n f e = record {
   meant = Memory;
-  text = concat (take n (lines_of_run lines h.replies h.trace)) ++ memory_line;
+  text = concat (take n lines) ++ memory_line;
   says = Untold n;
-  ends = ends-then a b c (concat (take n (lines_of_run lines h.replies h.trace))) memory_line Memory status f e;
+  ends = ends-then a b c (concat (take n lines)) memory_line Memory status f e;
 }
 
--- memory was refused within the run
-pub tells-part : (lines : List ℕ) (h : History) (ran : Bool) (a b c : Option (List ℕ)) (status : Status)
-    → Appends a b (concat (lines_of_run lines h.replies h.trace)) → Ends b c memory_line Memory status → Written (IsWorldText lines h ran) a c status
-tells-part lines h ran a b c status f e = record {
+-- memory was refused before there were more lines
+pub tells-part : (lines : List (List ℕ)) (whole : Bool) (a b c : Option (List ℕ)) (status : Status)
+    → Appends a b (concat lines) → Ends b c memory_line Memory status → Written (IsLinesText lines whole) a c status
+tells-part lines whole a b c status f e = record {
   meant = Memory;
-  text = concat (lines_of_run lines h.replies h.trace) ++ memory_line;
-  says = all-lines lines h ran;
-  ends = ends-then a b c (concat (lines_of_run lines h.replies h.trace)) memory_line Memory status f e;
+  text = concat lines ++ memory_line;
+  says = all-lines lines whole;
+  ends = ends-then a b c (concat lines) memory_line Memory status f e;
 }
 
 -- all is told
-pub tells-all : (lines : List ℕ) (h : History) (ran : Bool) (a b c : Option (List ℕ)) (status : Status) → ran ≡ true
-    → Appends a b (concat (lines_of_run lines h.replies h.trace)) → Ends b c [] Done status → Written (IsWorldText lines h ran) a c status
-tells-all lines h ran a b c status all f e = record {
+pub tells-all : (lines : List (List ℕ)) (whole : Bool) (a b c : Option (List ℕ)) (status : Status) → whole ≡ true
+    → Appends a b (concat lines) → Ends b c [] Done status → Written (IsLinesText lines whole) a c status
+tells-all lines whole a b c status all f e = record {
   meant = Done;
-  text = concat (lines_of_run lines h.replies h.trace);
+  text = concat lines;
   says = Told all;
-  ends = subst (λ l. Ends a c l Done status) (append-nil (concat (lines_of_run lines h.replies h.trace))) (ends-then a b c (concat (lines_of_run lines h.replies h.trace)) [] Done status f e);
+  ends = subst (λ l. Ends a c l Done status) (append-nil (concat lines)) (ends-then a b c (concat lines) [] Done status f e);
 }
+
+-- a text of all lines ended the command
+pub lines-ended : (lines : List (List ℕ)) (a c : Option (List ℕ)) (status : Status) (old text taken : List ℕ) → old ≡ [] → text ≡ old ++ concat lines → taken ≡ text
+    → Ends a c taken Done status → Written (IsLinesText lines true) a c status
+lines-ended lines a c status old text taken none is same e =
+    let all : taken ≡ concat lines = same ∙ is ∙ ap (λ (x : List ℕ). x ++ concat lines) none in
+    record { meant = Done; text = taken; says = subst (λ (x : List ℕ). IsLinesText lines true Done x) (sym all) (Told refl); ends = e }
+
+-- the writer took the first few lines, and then there was no memory for more
+pub lines-cut : (lines : List (List ℕ)) (whole : Bool) (a b c : Option (List ℕ)) (status : Status) (old text taken : List ℕ) → old ≡ [] → (n : ℕ) × (text ≡ old ++ concat (take n lines)) → taken ≡ text
+    → Appends a b taken → Ends b c memory_line Memory status → Written (IsLinesText lines whole) a c status
+lines-cut lines whole a b c status old text taken none few same f e =
+    let all : taken ≡ concat (take few.0 lines) = same ∙ few.1 ∙ ap (λ (x : List ℕ). x ++ concat (take few.0 lines)) none in
+    tells-some lines whole a b c status few.0 (subst (λ (x : List ℕ). Appends a b x) all f) e
+
+-- the writer failed within the first few lines
+pub lines-failed : (lines : List (List ℕ)) (whole : Bool) (a b : Option (List ℕ)) (old text taken : List ℕ) → old ≡ [] → (n : ℕ) × (text ≡ old ++ concat (take n lines)) → taken ≡ text
+    → (m : ℕ) × Appends a b (take m taken) → Written (IsLinesText lines whole) a b Outside
+lines-failed lines whole a b old text taken none few same part =
+    let front : List ℕ = concat (take few.0 lines) in
+    let all : taken ≡ front = same ∙ few.1 ∙ ap (λ (x : List ℕ). x ++ front) none in
+    let longer : (m : ℕ) × (take part.0 front ≡ take m (front ++ memory_line)) = beginning-of part.0 front memory_line (cases_lt part.0 (length front)) in
+    record {
+      meant = Memory;
+      text = front ++ memory_line;
+      says = Untold few.0;
+      ends = Cut longer.0 (subst (λ (x : List ℕ). Appends a b x) (ap (take part.0) all ∙ longer.1) part.1);
+    }
+
+-- what holds of an error, where there is one
+pub of-error : {A E : Type 0} (r : Result A E) (P : Type 0) → OnErr r P → false ≡ is_ok r → P
+of-error (Ok x) P p is = absurd (let bad : false ≡ true = is in cc)
+of-error (Err e) P p is = p
+
+-- what holds of a success, where there is one
+pub of-success : {A E : Type 0} (r : Result A E) (P : Type 0) → OnOk r P → true ≡ is_ok r → P
+of-success (Ok x) P p is = p
+of-success (Err e) P p is = absurd (let bad : true ≡ false = is in cc)
 
 -- a text of one kind is one of another
 pub written-as : (P Q : Status → List ℕ → Type 0) (a b : Option (List ℕ)) (status : Status) → ((s : Status) (t : List ℕ) → P s t → Q s t) → Written P a b status → Written Q a b status
 written-as P Q a b status f w = record { meant = w.meant; text = w.text; says = f w.meant w.text w.says; ends = w.ends }
 
--- what a world tells that ran a script's events, all of them or a beginning, is a text of the script's run
-pub run-text : (script : Script) (h : History) (ran : Bool) (k : ℕ) → IsFaithful h → IsStepped h → EachPlace IsWellOrdered h.trace → h.events ≡ take k script.events → (ran ≡ true → h.events ≡ script.events)
-    → (s : Status) (t : List ℕ) → IsWorldText script.lines h ran s t → IsRunText script s t
-run-text script h ran k faithful stepped ordered some all s t (Told whole) = All h (record { faithful = faithful; stepped = stepped; ordered = ordered; carried = all whole })
-run-text script h ran k faithful stepped ordered some all s t (Untold count) = Part h k count (record { faithful = faithful; stepped = stepped; ordered = ordered; carried = some })
-
--- a history by its replies and its trace
-pub told-as : (lines : List ℕ) (h : History) (ran : Bool) (replies : List Reply) (trace : List Happening) (a b : Option (List ℕ)) (status : Status) → replies ≡ h.replies → trace ≡ h.trace
-    → Written (IsWorldText lines (record { events = h.events; replies = replies; pool = h.pool; trace = trace }) ran) a b status → Written (IsWorldText lines h ran) a b status
-told-as lines h ran replies trace a b status r t w =
-    subst (λ (x : List Happening). Written (IsWorldText lines (record { events = h.events; replies = h.replies; pool = h.pool; trace = x }) ran) a b status) t
-    (subst (λ (y : List Reply). Written (IsWorldText lines (record { events = h.events; replies = y; pool = h.pool; trace = trace }) ran) a b status) r w)
+-- an answer of one kind is one of another
+pub answer-as : (P Q : List ℕ → Status → List ℕ → Type 0) (left a b : Option (List ℕ)) (status : Status) → ((bytes : List ℕ) (s : Status) (t : List ℕ) → P bytes s t → Q bytes s t)
+    → IsAnswer P left a b status → IsAnswer Q left a b status
+answer-as P Q left a b status f (ReaderFails none) = ReaderFails none
+answer-as P Q left a b status f (Answers bytes _ is w) = Answers bytes status is (written-as (P bytes) (Q bytes) a b status (f bytes) w)
 
 -- nothing is appended
 pub appends-none : (a : Option (List ℕ)) → Appends a a []
@@ -124,33 +148,35 @@ pub left-of : (left : Option (List ℕ)) → IfSome left (λ all. unwrap_or left
 left-of None = tt
 left-of (Some all) = refl
 
--- memory was refused before the script was read
-pub unread-text : (left a b : Option (List ℕ)) (status : Status) → Ends a b memory_line Memory status → RunsScript left a b status
-unread-text left a b status e = Answers (unwrap_or left []) status (left-of left) (record { meant = Memory; text = memory_line; says = Unread; ends = e })
+-- the lines of a run by its replies and its trace
+pub told-as : (lines : List ℕ) (ran : Bool) (replies replies' : List Reply) (trace trace' : List Happening) (a b : Option (List ℕ)) (status : Status) → replies ≡ replies' → trace ≡ trace'
+    → Written (IsLinesText (lines_of_run lines replies trace) ran) a b status → Written (IsLinesText (lines_of_run lines replies' trace') ran) a b status
+told-as lines ran replies replies' trace trace' a b status r t w =
+    subst (λ (x : List Happening). Written (IsLinesText (lines_of_run lines replies' x) ran) a b status) t
+    (subst (λ (y : List Reply). Written (IsLinesText (lines_of_run lines y trace) ran) a b status) r w)
 
--- the script was read and run
-pub ran-text : (left a b : Option (List ℕ)) (bytes : List ℕ) (script : Script) (status : Status) → IfSome left (λ all. bytes ≡ all) → script_of bytes ≡ Ok script → Written (IsRunText script) a b status → RunsScript left a b status
-ran-text left a b bytes script status is read w =
-    Answers bytes status is (written-as (IsRunText script) (IsScriptText bytes) a b status (λ s t says. Runs script s t read says) w)
+-- memory was refused before the script was read
+pub unread-text : (left a b : Option (List ℕ)) (status : Status) → Ends a b memory_line Memory status → IsAnswer IsUnreadText left a b status
+unread-text left a b status e = Answers (unwrap_or left []) status (left-of left) (record { meant = Memory; text = memory_line; says = Unread; ends = e })
 
 -- the script was read and has a fault
 pub fault-text : (left a b : Option (List ℕ)) (bytes : List ℕ) (line : ℕ) (fault : Fault) (status : Status) → IfSome left (λ all. bytes ≡ all) → script_of bytes ≡ Err (record { line = line; fault = fault })
-    → Written (IsFaultText line (fault_number fault)) a b status → RunsScript left a b status
+    → Written (IsFaultText line (fault_number fault)) a b status → IsAnswer IsUnreadText left a b status
 fault-text left a b bytes line fault status is read w =
-    Answers bytes status is (written-as (IsFaultText line (fault_number fault)) (IsScriptText bytes) a b status (λ s t says. Faulty line fault s t read says) w)
+    Answers bytes status is (written-as (IsFaultText line (fault_number fault)) (IsUnreadText bytes) a b status (λ s t says. Faulty line fault s t read says) w)
 
-on-ok : {A E : Type 0} (r : Result A E) (P : Type 0) (b : Bool) → OnOk r P → b ≡ is_ok r → b ≡ true → P
-on-ok (Ok x) P b p is whole = p
-on-ok (Err x) P b p is whole = absurd (let bad : true ≡ false = sym whole ∙ is in cc)
+-- what was written after nothing
+after-none : (P : Status → List ℕ → Type 0) (a b c : Option (List ℕ)) (status : Status) → Appends a b [] → Written P b c status → Written P a c status
+after-none P a b c status none w = record { meant = w.meant; text = w.text; says = w.says; ends = ends-then a b c [] w.text w.meant status none w.ends }
 
--- what a world tells that ran a script's events from the beginning
-pub played : {A E : Type 0} (script : Script) (lines : List ℕ) (given : List WorldEvent) (old h : History) (ran : Bool) (r : Result A E) (k : ℕ) (a b : Option (List ℕ)) (status : Status)
-    → lines ≡ script.lines → given ≡ script.events → old ≡ no_history → IsFaithful h → IsStepped h → EachPlace IsWellOrdered h.trace
-    → h.events ≡ old.events ++ take k given → OnOk r (h.events ≡ old.events ++ given) → ran ≡ is_ok r
-    → Written (IsWorldText lines h ran) a b status → Written (IsRunText script) a b status
-played script lines given old h ran r k a b status same all empty faithful stepped ordered some whole is w =
-    written-as (IsWorldText script.lines h ran) (IsRunText script) a b status
-    (λ s t says. run-text script h ran k faithful stepped ordered
-    (some ∙ ap (λ (o : History). o.events ++ take k given) empty ∙ ap (λ (g : List WorldEvent). take k g) all)
-    (λ yes-ran. on-ok r (h.events ≡ old.events ++ given) ran whole is yes-ran ∙ ap (λ (o : History). o.events ++ given) empty ∙ all) s t says)
-    (subst (λ (l : List ℕ). Written (IsWorldText l h ran) a b status) same w)
+-- the script was read, and what it comes to was told
+pub ran-text : (Tells : Script → Status → List ℕ → Type 0) (left a b c : Option (List ℕ)) (script : Script) (status : Status) → ReadsScript left a b (Ok script) → Written (Tells script) b c status
+    → IsAnswer (IsScriptText Tells) left a c status
+ran-text Tells left a b c script status read w =
+    let bytes : List ℕ = read.0 in
+    Answers bytes status read.1
+    (written-as (Tells script) (IsScriptText Tells bytes) a c status (λ s t says. Runs script s t read.2 says) (after-none (Tells script) a b c status read.3 w))
+
+-- it was not read, and why was told
+pub unrun-text : (Tells : Script → Status → List ℕ → Type 0) (left a b : Option (List ℕ)) (status : Status) → IsAnswer IsUnreadText left a b status → IsAnswer (IsScriptText Tells) left a b status
+unrun-text Tells left a b status w = answer-as IsUnreadText (IsScriptText Tells) left a b status (λ bytes s t says. Unrun s t says) w

@@ -1,2 +1,4 @@
 pub mod Ending
+pub mod Running
+pub mod Chatting
 pub mod Checking

@@ -1,3 +1,3 @@
-pub mod Silence
 pub mod Outcomes
 pub mod Checks
+pub mod Chats

@@ -4,7 +4,8 @@ use Rattle.std.specs.List.{concat}
 use Rattle.std.specs.Fmt.{decimal}
 use Rattle.std.specs.Io.KnownBytes.{Appends}
 use Rattle.trace_props.specs.Places.{EachPlace}
-use Rattle.trace_props.specs.Synchrony.{IsWellOrdered}
+use Rattle.trace_props.specs.Synchrony.{IsWellOrdered, IsVirtuallySynchronous}
+use Rattle.address.specs.Ids.{Address}
 use Rattle.world_model.specs.declared.WorldEvent.{WorldEvent}
 use Rattle.world_model.specs.Histories.{History}
 use Rattle.world_model.specs.Faithful.{IsFaithful}
@@ -37,38 +38,42 @@ pub data Ends (old new : Option (List ℕ)) (text : List ℕ) (status : Status) 
   Whole : Appends old new text → Ends old new text status status
   Cut : (count : ℕ) → Appends old new (take count text) → Ends old new text status Outside
 
--- a world carried out exactly these events: its history is faithful, each event is a step of it, and it is well ordered at
--- every place
-pub record Ran (events : List WorldEvent) (h : History) : Type 0 where
+-- a world carried out exactly these events: its history is faithful, each event is a step of it, and its trace is virtually
+-- synchronous, well ordered at every place
+pub record Ran {S : Type 0} (opening : S) (apply : S → Address → List ℕ → S) (decode : List ℕ → Option S) (events : List WorldEvent) (h : History) : Type 0 where
   pub faithful : IsFaithful h
   pub stepped : IsStepped h
   pub ordered : EachPlace IsWellOrdered h.trace
+  pub synchronous : IsVirtuallySynchronous opening apply decode h.trace
   pub carried : h.events ≡ events
 
--- the texts of a world's history, whose events stand in these lines: all of it, where all was run; or whole lines of a
--- beginning and `# memory`
-pub data IsWorldText (lines : List ℕ) (h : History) (ran : Bool) : Status → List ℕ → Type 0 where
-  Told : ran ≡ true → IsWorldText lines h ran Done (text_of_run lines h.replies h.trace)
-  Untold : (count : ℕ) → IsWorldText lines h ran Memory (concat (take count (lines_of_run lines h.replies h.trace)) ++ memory_line)
+-- the texts of some lines: all of them, where there is nothing more to say; or the first few and `# memory`
+pub data IsLinesText (lines : List (List ℕ)) (whole : Bool) : Status → List ℕ → Type 0 where
+  Told : whole ≡ true → IsLinesText lines whole Done (concat lines)
+  Untold : (count : ℕ) → IsLinesText lines whole Memory (concat (take count lines) ++ memory_line)
 
 -- the texts of a script's run: all of it; or, where memory was refused outside a member's step, whole lines of a beginning
 -- and `# memory`
-pub data IsRunText (script : Script) : Status → List ℕ → Type 0 where
-  All : (h : History) → Ran script.events h → IsRunText script Done (text_of_run script.lines h.replies h.trace)
-  Part : (h : History) (events lines : ℕ) → Ran (take events script.events) h
-      → IsRunText script Memory (concat (take lines (lines_of_run script.lines h.replies h.trace)) ++ memory_line)
+pub data IsRunText {S : Type 0} (opening : S) (apply : S → Address → List ℕ → S) (decode : List ℕ → Option S) (script : Script) : Status → List ℕ → Type 0 where
+  All : (h : History) → Ran opening apply decode script.events h → IsRunText opening apply decode script Done (text_of_run script.lines h.replies h.trace)
+  Part : (h : History) (events lines : ℕ) → Ran opening apply decode (take events script.events) h
+      → IsRunText opening apply decode script Memory (concat (take lines (lines_of_run script.lines h.replies h.trace)) ++ memory_line)
 
 -- the texts of an input's first fault: its line; or `# memory`, where memory is refused
 pub data IsFaultText (line number : ℕ) : Status → List ℕ → Type 0 where
   Told : IsFaultText line number Refused (fault_line line number)
   Untold : IsFaultText line number Memory memory_line
 
--- the texts of a script's bytes: of its run; its first fault; or `# memory` alone, before it is read whole
-pub data IsScriptText (bytes : List ℕ) : Status → List ℕ → Type 0 where
-  Runs : (script : Script) (status : Status) (text : List ℕ) → script_of bytes ≡ Ok script → IsRunText script status text → IsScriptText bytes status text
+-- the texts of a script's bytes that are not run: their first fault; or `# memory`, before they are read whole
+pub data IsUnreadText (bytes : List ℕ) : Status → List ℕ → Type 0 where
   Faulty : (line : ℕ) (fault : Fault) (status : Status) (text : List ℕ) → script_of bytes ≡ Err (record { line = line; fault = fault })
-      → IsFaultText line (fault_number fault) status text → IsScriptText bytes status text
-  Unread : IsScriptText bytes Memory memory_line
+      → IsFaultText line (fault_number fault) status text → IsUnreadText bytes status text
+  Unread : IsUnreadText bytes Memory memory_line
+
+-- the texts of a script's bytes: what they tell of the script; or why it is not run
+pub data IsScriptText (Tells : Script → Status → List ℕ → Type 0) (bytes : List ℕ) : Status → List ℕ → Type 0 where
+  Runs : (script : Script) (status : Status) (text : List ℕ) → script_of bytes ≡ Ok script → Tells script status text → IsScriptText Tells bytes status text
+  Unrun : (status : Status) (text : List ℕ) → IsUnreadText bytes status text → IsScriptText Tells bytes status text
 
 -- how writing the text of something ends: with that text and its status; or the writer failed and took a beginning of it
 pub record Written (Says : Status → List ℕ → Type 0) (old new : Option (List ℕ)) (status : Status) : Type 0 where
@@ -83,6 +88,11 @@ pub data IsAnswer (Says : List ℕ → Status → List ℕ → Type 0) (left old
   ReaderFails : Appends old new [] → IsAnswer Says left old new Outside
   Answers : (bytes : List ℕ) (status : Status) → IfSome left (λ all. bytes ≡ all) → Written (Says bytes) old new status → IsAnswer Says left old new status
 
+-- a script is read from a reader; or the command ends, for it is not run
+abbrev pub ReadsScript : Option (List ℕ) → Option (List ℕ) → Option (List ℕ) → Result Script Status → Type 0
+ReadsScript left old new (Ok script) = (bytes : List ℕ) × IfSome left (λ all. bytes ≡ all) × (script_of bytes ≡ Ok script) × Appends old new []
+ReadsScript left old new (Err status) = IsAnswer IsUnreadText left old new status
+
 -- a script is run from a reader to a writer
-abbrev pub RunsScript : Option (List ℕ) → Option (List ℕ) → Option (List ℕ) → Status → Type 0
-RunsScript left old new status = IsAnswer IsScriptText left old new status
+abbrev pub RunsScript : {S : Type 0} → S → (S → Address → List ℕ → S) → (List ℕ → Option S) → Option (List ℕ) → Option (List ℕ) → Option (List ℕ) → Status → Type 0
+RunsScript opening apply decode left old new status = IsAnswer (IsScriptText (IsRunText opening apply decode)) left old new status

@@ -1,4 +1,5 @@
-ghost use Rattle.vsync_runs.specs.Outcomes.{Written, IsRunText, IsWorldText, RunsScript};
+ghost use Rattle.vsync_text.specs.Runs.{lines_of_run};
+ghost use Rattle.vsync_runs.specs.Outcomes.{Written, IsLinesText, IsRunText, ReadsScript, RunsScript};
 
 use crate::Status;
 use crate::ends::{Unreadable, end_in_fault, end_in_memory, end_with, read_all};
@@ -7,6 +8,26 @@ use std::alloc::Global;
 use std::io::{Read, Write};
 use vsync_text::{Printed, Script, Unread, read_script, write_run};
 use world::World;
+
+/// Reads a script; or ends the command, where it is none or is not read.
+pub fn script_from<I: Read, W: Write>(
+    alloc: Global,
+    reader: &mut I,
+    writer: &mut W,
+) -> Result<Script, Status>
+    ensures { ReadsScript (I.remaining reader.old) (W.contents writer.old) (W.contents writer.new) result }
+{
+    let bytes = match read_all(alloc, reader) {
+        Ok(bytes) => bytes,
+        Err(Unreadable::Memory) => return Err(end_in_memory(writer)),
+        Err(Unreadable::Failed) => return Err(Status::Outside),
+    };
+    match read_script(alloc, bytes.as_slice()) {
+        Ok(script) => Ok(script),
+        Err(Unread::Fault { line, fault }) => Err(end_in_fault(alloc, writer, line, fault)),
+        Err(Unread::Memory) => Err(end_in_memory(writer)),
+    }
+}
 
 /// Writes what happened in a world that ran events of these lines: all of it, or with `# memory` at its end where
 /// the world could not run them all.
@@ -17,7 +38,7 @@ fn tell<R: Receiver, W: Write>(
     lines: &[u64],
     writer: &mut W,
 ) -> Status
-    ensures { Written (IsWorldText lines.now world.now ran) (W.contents writer.old) (W.contents writer.new) result }
+    ensures { Written (IsLinesText (lines_of_run lines.now world.now.replies world.now.trace) ran) (W.contents writer.old) (W.contents writer.new) result }
 {
     let happenings = world.trace().happenings();
     match write_run(alloc, writer, lines, world.replies(), happenings) {
@@ -35,7 +56,7 @@ fn tell<R: Receiver, W: Write>(
 
 /// Runs a script's events in a world, and writes what happened.
 fn play<R: Receiver, W: Write>(alloc: Global, script: &Script, writer: &mut W) -> Status
-    ensures { Written (IsRunText script.now) (W.contents writer.old) (W.contents writer.new) result }
+    ensures { Written (IsRunText R.opening_state R.apply R.decode script.now) (W.contents writer.old) (W.contents writer.new) result }
 {
     let mut world = World::<R>::new(alloc);
     let ran = world.run(script.events()).is_ok();
@@ -49,16 +70,10 @@ pub fn run_script<R: Receiver, I: Read, W: Write>(
     reader: &mut I,
     writer: &mut W,
 ) -> Status
-    ensures { RunsScript (I.remaining reader.old) (W.contents writer.old) (W.contents writer.new) result }
+    ensures { RunsScript R.opening_state R.apply R.decode (I.remaining reader.old) (W.contents writer.old) (W.contents writer.new) result }
 {
-    let bytes = match read_all(alloc, reader) {
-        Ok(bytes) => bytes,
-        Err(Unreadable::Memory) => return end_in_memory(writer),
-        Err(Unreadable::Failed) => return Status::Outside,
-    };
-    match read_script(alloc, bytes.as_slice()) {
+    match script_from(alloc, reader, writer) {
         Ok(script) => play::<R, W>(alloc, &script, writer),
-        Err(Unread::Fault { line, fault }) => end_in_fault(alloc, writer, line, fault),
-        Err(Unread::Memory) => end_in_memory(writer),
+        Err(status) => status,
     }
 }

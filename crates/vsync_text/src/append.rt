@@ -12,9 +12,9 @@ use itoa::Buffer;
 use std::alloc::AllocError;
 use trace_props::Numbered;
 
-/// Appends bytes.
+/// Appends bytes. Where memory is refused, what stood before is kept, and a part may have been appended.
 #[tactic(auto, using(crate::proofs::Appending::at_once, crate::proofs::Appending::same))]
-pub(crate) fn put(out: &mut Vec<u8>, bytes: &[u8]) -> Result<(), AllocError>
+pub fn put(out: &mut Vec<u8>, bytes: &[u8]) -> Result<(), AllocError>
     ensures text { OnOk result (out.new.items ≡ out.old.items ++ bytes.now) }
     ensures kept { GoesOnFrom out.old.items out.new.items }
 {
@@ -32,13 +32,9 @@ pub(crate) fn put_number(out: &mut Vec<u8>, before: u8, number: u64) -> Result<(
     put(out, buffer.format(number).as_bytes())
 }
 
-/// Appends an address.
+/// Appends an address as `3.1`, behind one byte. Where memory is refused, what stood before is kept, and a part may have been appended.
 #[tactic(auto, using(crate::proofs::Appending::goes_on))]
-pub(crate) fn put_address(
-    out: &mut Vec<u8>,
-    before: u8,
-    address: &Address,
-) -> Result<(), AllocError>
+pub fn put_address(out: &mut Vec<u8>, before: u8, address: &Address) -> Result<(), AllocError>
     ensures text { OnOk result (out.new.items ≡ out.old.items ++ before ∷ text_of_address address.now) }
     ensures kept { GoesOnFrom out.old.items out.new.items }
 {
@@ -84,9 +80,10 @@ fn hex_digit(number: u8) -> u8
     }
 }
 
-/// Appends bytes in hexadecimal, with no byte before them.
+/// Appends bytes in lower case hexadecimal, two digits a byte, with no byte before them. Where memory is refused, what stood before is
+/// kept, and a part may have been appended.
 #[tactic(auto, using(crate::proofs::Appending::goes_on, crate::proofs::Appending::stays))]
-pub(crate) fn put_hex(out: &mut Vec<u8>, bytes: &[u8]) -> Result<(), AllocError>
+pub fn put_hex(out: &mut Vec<u8>, bytes: &[u8]) -> Result<(), AllocError>
     ensures text { OnOk result (out.new.items ≡ out.old.items ++ hex_of bytes.now) }
     ensures kept { GoesOnFrom out.old.items out.new.items }
 {

@@ -10,6 +10,7 @@ mod run;
 mod script;
 mod trace_line;
 
+pub use append::{put, put_address, put_hex};
 pub use buffered::put_all;
 pub use fault::{Fault, Unread};
 pub use field::{address_field, address_in, first_field, first_line, number_in, split_at_first};
@@ -19,6 +20,3 @@ pub use trace_line::{append_happening, append_refusal};
 
 /// The most bytes that a line of a script may have, without its line feed.
 pub const SCRIPT_LINE: usize = 4096;
-
-#[cfg(test)]
-mod tests;

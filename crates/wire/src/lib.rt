@@ -28,6 +28,3 @@ pub use reading::decode;
 pub use report::Report;
 pub use text::{GroupName, Payload, State};
 pub use writing::{encode, put_entry};
-
-#[cfg(test)]
-mod tests;

@@ -119,32 +119,31 @@ module _ {S : Type 0} (opening : S) (apply : S → Address → List ℕ → S) (
       → World at h → Carries opening apply encode decode (target_of e) e at h.trace h.pool a new t pool → World new (then h e a pool t)
   world-carries laws at new h e a t pool w g = turned-by laws at new h e a t pool (target_of e) refl w g
 
-  -- ---- receivers
+  -- ---- the member that runs at a node
 
-  receiver-at : (at : ℕ → Option (Seat S)) (h : History) (n : ℕ) (s : Seat S) → World at h → seat_at (at n) ≡ s → (m : MemberModel S) → s ≡ Running m
-      → option_map (λ (c : Core S). c.state) (core_of m) ≡ option_map (λ p. state_of opening apply decode p h.trace) (running n h.trace)
-  receiver-at at h n s w was m e =
-      let x = Facts.running-here opening apply encode decode is_state at h n m w (was ∙ e) in
-      rw (x.1.core, Facts.is-running opening apply encode decode is_state h n m x.0 x.1) (ap Some (sym x.1.fact.state.now))
+  pub running-is : (at : ℕ → Option (Seat S)) (h : History) (n : ℕ) (m : MemberModel S) → World at h → at n ≡ Some (Running m) → Some m.address ≡ running n h.trace
+  running-is at h n m w e =
+      let x = Facts.running-here opening apply encode decode is_state at h n m w (ap seat_at e) in
+      sym (Facts.is-running opening apply encode decode is_state h n m x.0 x.1)
 
+  -- its receiver
   pub receiver-is : (at : ℕ → Option (Seat S)) (h : History) (n : ℕ) (m : MemberModel S) → World at h → at n ≡ Some (Running m)
       → option_map (λ (c : Core S). c.state) (core_of m) ≡ option_map (λ p. state_of opening apply decode p h.trace) (running n h.trace)
-  receiver-is at h n m w e = receiver-at at h n (Running m) w (ap seat_at e) m refl
+  receiver-is at h n m w e =
+      let x = Facts.running-here opening apply encode decode is_state at h n m w (ap seat_at e) in
+      rw (x.1.core, Facts.is-running opening apply encode decode is_state h n m x.0 x.1) (ap Some (sym x.1.fact.state.now))
 
   -- where no member runs
-  pub nobody-yet : (at : ℕ → Option (Seat S)) (h : History) (n : ℕ) → World at h → seat_at (at n) ≡ Vacant
-      → None ≡ option_map (λ p. state_of opening apply decode p h.trace) (running n h.trace)
+  pub nobody-yet : (at : ℕ → Option (Seat S)) (h : History) (n : ℕ) → World at h → seat_at (at n) ≡ Vacant → None ≡ running n h.trace
   nobody-yet at h n w was =
       let k : last_of n h.trace ≡ None = subst (IsSeatOf n (last_of n h.trace) (calls_of n h) h.trace) was (w.seats n) in
       rw k refl
 
-  pub nobody-more : (at : ℕ → Option (Seat S)) (h : History) (n : ℕ) (p : Address) → World at h → seat_at (at n) ≡ Ended p
-      → None ≡ option_map (λ q. state_of opening apply decode q h.trace) (running n h.trace)
+  nobody-more : (at : ℕ → Option (Seat S)) (h : History) (n : ℕ) (p : Address) → World at h → seat_at (at n) ≡ Ended p → None ≡ running n h.trace
   nobody-more at h n p w was =
       let k : IsSeatOf {S = S} n (last_of n h.trace) (calls_of n h) h.trace (Ended p) = subst (IsSeatOf n (last_of n h.trace) (calls_of n h) h.trace) was (w.seats n) in
       rw (k.0, k.2) refl
 
-  pub nobody-runs : (at : ℕ → Option (Seat S)) (h : History) (n : ℕ) (s : Seat S) → World at h → at n ≡ Some s → (s ≡ Vacant) ⊎ ((p : Address) × (s ≡ Ended p))
-      → None ≡ option_map (λ q. state_of opening apply decode q h.trace) (running n h.trace)
+  pub nobody-runs : (at : ℕ → Option (Seat S)) (h : History) (n : ℕ) (s : Seat S) → World at h → at n ≡ Some s → (s ≡ Vacant) ⊎ ((p : Address) × (s ≡ Ended p)) → None ≡ running n h.trace
   nobody-runs at h n s w was (inl e) = nobody-yet at h n w (ap seat_at was ∙ e)
   nobody-runs at h n s w was (inr e) = nobody-more at h n e.0 w (ap seat_at was ∙ e.1)

@@ -1,17 +1,19 @@
--- What a seat gives where its member takes an input.
-use Rattle.std.proofs.Common.{◌≡◌, ℕ, Bool, true, false, cond, Option, List, ◌++◌, Result, Ok, Err, sym, ap, ◌∙◌}
+-- What a seat gives where its member takes an input, or hears some bytes.
+use Rattle.std.proofs.Common.{◌≡◌, ℕ, Bool, true, false, cond, Option, List, ◌++◌, Result, Ok, Err, refl, sym, ap, ◌∙◌, subst}
 use Rattle.std.specs.Prelude.{OnOk}
+use Rattle.std.specs.Borrow.{Bor}
 use Rattle.std.specs.Result.{is_err}
 use Rattle.address.specs.Ids.{Address}
 use Rattle.trace_props.specs.declared.happening.Happening.{Happening}
 use Rattle.member.specs.declared.input.Input.{Input}
+use Rattle.member.specs.declared.input.Input.TheVariants.{Datagram}
 use Rattle.member.specs.Members.{MemberModel}
 use Rattle.member.specs.Steps.{leaves}
 use Rattle.world_model.specs.declared.Answer.{Answer}
 use Rattle.world.specs.declared.seat.Seat.{Seat}
 use Rattle.world.specs.declared.seat.Seat.TheVariants.{Ended, Running}
 use Rattle.world.specs.Seats.{answer_to}
-use Rattle.world.specs.Turns.{Takes, HandsHere, Taken}
+use Rattle.world.specs.Turns.{Takes, HandsHere, Taken, Hands, Hears}
 
 -- what is ensured of an answer that is no error
 pub on-ok : {T E : Type 0} (r : Result T E) (P : Type 0) → is_err r ≡ false → OnOk r P → P
@@ -33,3 +35,9 @@ module _ {S : Type 0} (apply : S → Address → List ℕ → S) (encode : S →
     seat = seat-left b p left input e ∙ ap {B = Seat S} (λ (q : Address). cond (leaves input) (Ended q) (Running left)) is;
     trace = trace;
   })
+
+  -- bytes that are handed to a member that runs
+  pub heard : (b : Bor (List ℕ)) (s : Seat S) (m : MemberModel S) (t : List Happening) (pool more : List (List ℕ)) (a : Answer) (new : Seat S) (now : List Happening) → s ≡ Running m
+      → Hands apply encode decode (Datagram b) s t pool a new now more → Hears apply encode decode b.now s t pool a new now more
+  heard b s m t pool more a new now is g =
+      rw is (b, refl, subst (λ (old : Seat S). Hands apply encode decode (Datagram b) old t pool a new now more) is g)

@@ -20,7 +20,7 @@ mod seat;
 
 use crate::pool::Pool;
 use crate::seat::Seat;
-use address::Node;
+use address::{Address, Node};
 use state_transfer::Receiver;
 use std::alloc::{AllocError, Global};
 use std::collections::BTreeMap;
@@ -275,6 +275,16 @@ impl<R: Receiver> World<R> {
         ensures { option_copied result ≡ packet_numbered number self.now.pool }
     {
         self.pool.packet(number)
+    }
+
+    /// The member that runs at a node; None where none runs there.
+    pub fn running(&self, node: Node) -> Option<Address>
+        ensures { result ≡ running node self.now.trace }
+    {
+        match self.seats.get(&node)? {
+            Seat::Running(member) => Some(member.address()),
+            Seat::Vacant | Seat::Ended(_) => None,
+        }
     }
 
     /// The receiver of the member that runs at a node, as it was told all that happened to that member; None where none runs there.

@@ -1,23 +1,9 @@
-use Rattle.std.proofs.Common.{◌∙◌, ap, sym}
-use Rattle.vsync_text.specs.Script.{script_of}
-use Rattle.vsync_runs.specs.Outcomes.IsAnswer.{ReaderFails}
-use Rattle.vsync_runs.proofs.Ending.{appends-none, unread-text, ran-text, fault-text}
+use Rattle.vsync_runs.specs.Outcomes.{IsRunText}
+use Rattle.vsync_runs.proofs.Ending.{ran-text, unrun-text}
 use Rattle.vsync_runs.proofs.scripts.run_script.Goals as goal
 
-pub returns-in-Err-Memory : goal.returns-in-Err-Memory
-returns-in-Err-Memory g c = unread-text _ _ _ _ c.end_in_memory.ensures
+pub returns-in-Ok : goal.returns-in-Ok
+returns-in-Ok g c = ran-text (IsRunText g.R.Receiver.opening_state g.R.Receiver.apply g.R.Receiver.decode) _ _ _ _ c.in-Ok.script _ c.in-Ok.ensures c.play.ensures
 
-pub returns-in-Err-Failed : goal.returns-in-Err-Failed
-returns-in-Err-Failed g c = ReaderFails (appends-none _)
-
-pub returns-in-Ok-read_script : goal.returns-in-Ok-read_script
-returns-in-Ok-read_script g c =
-    ran-text _ _ _ c.in-Ok.bytes.items c.in-Ok-read_script.script _ c.in-Ok.ensures (ap script_of (sym c.as_slice.ensures.value) ∙ c.in-Ok-read_script.ensures) c.play.ensures
-
-pub returns-in-Err-Fault : goal.returns-in-Err-Fault
-returns-in-Err-Fault g c =
-    fault-text _ _ _ c.in-Ok.bytes.items c.in-Err-Fault.line c.in-Err-Fault.fault _ c.in-Ok.ensures
-    (ap script_of (sym c.as_slice.ensures.value) ∙ rw c.in-Err-Fault.field-0-is at c.in-Err-Fault.ensures) c.end_in_fault.ensures
-
-pub returns : goal.returns
-returns g c = unread-text _ _ _ _ c.end_in_memory-in-Err-Memory-read_script.ensures
+pub returns-in-Err : goal.returns-in-Err
+returns-in-Err g c = unrun-text (IsRunText g.R.Receiver.opening_state g.R.Receiver.apply g.R.Receiver.decode) _ _ _ _ c.in-Err.ensures

@@ -1,9 +1,8 @@
-use Rattle.std.proofs.Common.{◌≡◌, None, Some, subst, sym, ap, ◌∙◌}
+use Rattle.std.proofs.Common.{Some, sym, ap, ◌∙◌}
 use Rattle.std.specs.Option.{option_copied, option_map}
 use Rattle.std.specs.Ordering.{nat_cmp}
 use Rattle.std.specs.BTreeMap.{get}
 use Rattle.trace_props.specs.State.{state_of}
-use Rattle.member.specs.Members.{core_of}
 use Rattle.world_model.specs.Histories.{History, running}
 use Rattle.world.specs.Seats.{seat_at}
 use Rattle.world.proofs.Carrying.{receiver-is, nobody-yet, nobody-runs}
@@ -13,21 +12,23 @@ use Rattle.world.proofs.World.receiver.Goals as goal
 pub returns-in_err-member : goal.returns-in_err-member
 returns-in_err-member g c =
     ap option_copied c.from_residual.ensures
-    ∙ subst (λ (h : History). None ≡ option_map (λ p. state_of g.R.Receiver.opening_state g.R.Receiver.apply g.R.Receiver.decode p h.trace) (running c.args.node h.trace)) c.self.view_is
+    ∙ ap (option_map (λ p. state_of g.R.Receiver.opening_state g.R.Receiver.apply g.R.Receiver.decode p c.self.inside.trace.happenings))
     (nobody-yet g.R.Receiver.opening_state g.R.Receiver.apply g.R.Receiver.encode g.R.Receiver.decode g.R.Receiver.is_state (get nat_cmp c.self.inside.seats) _ c.args.node c.self.invariant
     (ap seat_at (sym c.get.ensures.value ∙ ap option_copied c.in_err-member.was)))
+    ∙ ap (λ (h : History). option_map (λ p. state_of g.R.Receiver.opening_state g.R.Receiver.apply g.R.Receiver.decode p h.trace) (running c.args.node h.trace)) c.self.view_is
 
 -- a member runs there
 pub returns-in-Running : goal.returns-in-Running
 returns-in-Running g c =
     c.receiver.ensures
-    ∙ subst (λ (h : History). option_map (λ d. d.state) (core_of c.in-Running.member) ≡ option_map (λ p. state_of g.R.Receiver.opening_state g.R.Receiver.apply g.R.Receiver.decode p h.trace) (running c.args.node h.trace)) c.self.view_is
-    (receiver-is g.R.Receiver.opening_state g.R.Receiver.apply g.R.Receiver.encode g.R.Receiver.decode g.R.Receiver.is_state (get nat_cmp c.self.inside.seats) _ c.args.node c.in-Running.member
-    c.self.invariant (sym c.get.ensures.value ∙ ap option_copied c.in_ok-member.was ∙ ap Some c.in-Running.is))
+    ∙ receiver-is g.R.Receiver.opening_state g.R.Receiver.apply g.R.Receiver.encode g.R.Receiver.decode g.R.Receiver.is_state (get nat_cmp c.self.inside.seats) _ c.args.node c.in-Running.member
+    c.self.invariant (sym c.get.ensures.value ∙ ap option_copied c.in_ok-member.was ∙ ap Some c.in-Running.is)
+    ∙ ap (λ (h : History). option_map (λ p. state_of g.R.Receiver.opening_state g.R.Receiver.apply g.R.Receiver.decode p h.trace) (running c.args.node h.trace)) c.self.view_is
 
 -- none runs there yet, or any more
 pub returns-in-Vacant : goal.returns-in-Vacant
 returns-in-Vacant g c =
-    subst (λ (h : History). None ≡ option_map (λ p. state_of g.R.Receiver.opening_state g.R.Receiver.apply g.R.Receiver.decode p h.trace) (running c.args.node h.trace)) c.self.view_is
+    ap (option_map (λ p. state_of g.R.Receiver.opening_state g.R.Receiver.apply g.R.Receiver.decode p c.self.inside.trace.happenings))
     (nobody-runs g.R.Receiver.opening_state g.R.Receiver.apply g.R.Receiver.encode g.R.Receiver.decode g.R.Receiver.is_state (get nat_cmp c.self.inside.seats) _ c.args.node c.in_ok-member.field-0.now
     c.self.invariant (sym c.get.ensures.value ∙ ap option_copied c.in_ok-member.was) c.in-Vacant.is)
+    ∙ ap (λ (h : History). option_map (λ p. state_of g.R.Receiver.opening_state g.R.Receiver.apply g.R.Receiver.decode p h.trace) (running c.args.node h.trace)) c.self.view_is

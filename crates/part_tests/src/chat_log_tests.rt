@@ -1,0 +1,245 @@
+use crate::fixtures::{address, first_of};
+use address::{Address, ViewId};
+use chat_log::{ChatLog, one_encoding};
+use state_transfer::Receiver;
+use std::alloc::{AllocError, Global};
+use view::View;
+
+// `hi` of 1.1 and an empty payload of 2.7, by hand from the table of docs/FORMATS.md.
+const TWO: &[u8] = b"\x02\x00\x01\x00\x00\x00\x01\x00\x02hi\x00\x02\x00\x00\x00\x07\x00\x00";
+
+// The sender and the payload of a line.
+fn line_of(chat: &ChatLog, i: usize) -> Option<(Address, &[u8])> {
+    let line = chat.line(i)?;
+    Some((line.sender, line.payload.as_slice()))
+}
+
+// Whether a line is of a sender and has a payload.
+fn is_line(chat: &ChatLog, i: usize, sender: Address, payload: &[u8]) -> bool {
+    match line_of(chat, i) {
+        Some((from, bytes)) => from == sender && bytes == payload,
+        None => false,
+    }
+}
+
+fn two_lines(alloc: Global) -> Result<ChatLog, AllocError> {
+    let mut chat = ChatLog::opening(alloc)?;
+    chat.receive(first_of(1), b"hi")?;
+    chat.receive(address(2, 7), b"")?;
+    Ok(chat)
+}
+
+// Whether a chat is written as these bytes.
+fn has_state(alloc: Global, chat: &ChatLog, bytes: &[u8]) -> bool {
+    let mut state = Vec::new(alloc);
+    chat.get_state(&mut state).is_ok() && state.as_slice() == bytes
+}
+
+// Whether these bytes are taken as a chat's state.
+fn are_taken(alloc: Global, bytes: &[u8]) -> bool {
+    match ChatLog::opening(alloc) {
+        Ok(mut chat) => chat.set_state(bytes) == Ok(true),
+        Err(_) => false,
+    }
+}
+
+// Whether these bytes are refused, and leave a chat of two lines as it was.
+fn are_refused(alloc: Global, bytes: &[u8]) -> bool {
+    match two_lines(alloc) {
+        Ok(mut chat) => chat.set_state(bytes) == Ok(false) && has_state(alloc, &chat, TWO),
+        Err(_) => false,
+    }
+}
+
+// Some bytes, and others behind them so many times.
+fn with_copies(
+    alloc: Global,
+    front: &[u8],
+    other: &[u8],
+    count: usize,
+) -> Result<Vec<u8>, AllocError> {
+    let mut bytes = Vec::from_slice(alloc, front)?;
+    for _ in 0..count {
+        bytes.extend_from_slice(other)?;
+    }
+    Ok(bytes)
+}
+
+// Whether a front with so many copies behind it is taken, and one with a copy more and another front is refused.
+fn is_last_taken(alloc: Global, most: &[u8], more: &[u8], copied: &[u8], count: u16) -> bool {
+    let count = usize::from(count);
+    match (
+        with_copies(alloc, most, copied, count),
+        with_copies(alloc, more, copied, count + 1),
+    ) {
+        (Ok(most), Ok(more)) => are_taken(alloc, &most) && are_refused(alloc, &more),
+        _ => false,
+    }
+}
+
+fn is_opening(alloc: Global, chat: ChatLog) -> bool {
+    chat.is_empty() && has_state(alloc, &chat, b"\x00")
+}
+
+#[test]
+fn opening_is_one_zero(rt: HostRuntime) {
+    let alloc = rt.alloc();
+    assert!(rt; ChatLog::opening(alloc).is_ok_and(|chat| is_opening(alloc, chat)));
+}
+
+#[test]
+fn two_lines_are_written(rt: HostRuntime) {
+    let alloc = rt.alloc();
+    assert!(rt; two_lines(alloc).is_ok_and(|chat| has_state(alloc, &chat, TWO) && chat.len() == 2));
+}
+
+fn reads_two(mut chat: ChatLog) -> bool {
+    chat.set_state(TWO) == Ok(true)
+        && is_line(&chat, 0, first_of(1), b"hi")
+        && line_of(&chat, 2).is_none()
+        && chat.lines().len() == 2
+}
+
+#[test]
+fn two_lines_are_read(rt: HostRuntime) {
+    assert!(rt; ChatLog::opening(rt.alloc()).is_ok_and(reads_two));
+}
+
+#[test]
+fn beginnings_are_refused(rt: HostRuntime) {
+    for end in 0..TWO.len() {
+        assert!(rt;
+            are_refused(rt.alloc(), &TWO[..end]),
+            "the first {end} bytes"
+        );
+    }
+}
+
+#[test]
+fn one_byte_more_is_refused(rt: HostRuntime) {
+    let alloc = rt.alloc();
+    assert!(rt;
+        with_copies(alloc, TWO, b"\x00", 1).is_ok_and(|longer| are_refused(alloc, &longer))
+    );
+}
+
+#[test]
+fn wrong_addresses_are_refused(rt: HostRuntime) {
+    let node = b"\x01\x00\x00\x00\x00\x00\x01\x00\x00";
+    let incarnation = b"\x01\x00\x01\x00\x00\x00\x00\x00\x00";
+    assert!(rt; are_refused(rt.alloc(), node));
+    assert!(rt; are_refused(rt.alloc(), incarnation));
+}
+
+#[test]
+fn payloads_have_512_bytes_at_most(rt: HostRuntime) {
+    let longest = b"\x01\x00\x01\x00\x00\x00\x01\x02\x00";
+    let longer = b"\x01\x00\x01\x00\x00\x00\x01\x02\x01";
+    assert!(rt; is_last_taken(rt.alloc(), longest, longer, b"x", 512));
+}
+
+#[test]
+fn states_have_24_lines_at_most(rt: HostRuntime) {
+    let line = b"\x00\x01\x00\x00\x00\x01\x00\x00";
+    assert!(rt; is_last_taken(rt.alloc(), b"\x18", b"\x19", line, 24));
+}
+
+fn keeps_the_last_24(mut chat: ChatLog) -> bool {
+    let sender = first_of(3);
+    for number in 1..26u8 {
+        if chat.receive(sender, &[number]).is_err() {
+            return false;
+        }
+    }
+    for i in 0..24u8 {
+        if !is_line(&chat, usize::from(i), sender, &[i + 2]) {
+            return false;
+        }
+    }
+    chat.len() == 24
+}
+
+#[test]
+fn the_last_24_are_kept(rt: HostRuntime) {
+    assert!(rt; ChatLog::opening(rt.alloc()).is_ok_and(keeps_the_last_24));
+}
+
+// The state of a chat whose lines are all as long as can be.
+fn longest_state(alloc: Global) -> Result<Vec<u8>, AllocError> {
+    let sender = address(65_535, 4_294_967_295);
+    let mut chat = ChatLog::opening(alloc)?;
+    for _ in 0..25 {
+        chat.receive(sender, &[255; 512])?;
+    }
+    let mut state = Vec::new(alloc);
+    chat.get_state(&mut state)?;
+    Ok(state)
+}
+
+// Whether a chat takes these bytes, and is written as them again.
+fn is_written_back(alloc: Global, state: Vec<u8>) -> bool {
+    match ChatLog::opening(alloc) {
+        Ok(mut copy) => copy.set_state(&state) == Ok(true) && has_state(alloc, &copy, &state),
+        Err(_) => false,
+    }
+}
+
+#[test]
+fn the_longest_state(rt: HostRuntime) {
+    let alloc = rt.alloc();
+    let state = longest_state(alloc);
+    assert!(rt; state.is_ok_and(|state| state.len() == 12_481 && is_written_back(alloc, state)));
+}
+
+fn leaves_out_a_longer(mut chat: ChatLog, alloc: Global) -> bool {
+    chat.receive(first_of(1), &[0; 513]).is_ok() && has_state(alloc, &chat, TWO)
+}
+
+#[test]
+fn a_longer_payload_is_left_out(rt: HostRuntime) {
+    let alloc = rt.alloc();
+    assert!(rt; two_lines(alloc).is_ok_and(|chat| leaves_out_a_longer(chat, alloc)));
+}
+
+// Whether a view, and that it is blocked, leave a chat of two lines as it was.
+fn is_left(mut chat: ChatLog, alloc: Global, view: View) -> bool {
+    chat.blocked();
+    chat.view_accepted(&view);
+    has_state(alloc, &chat, TWO)
+}
+
+#[test]
+fn views_leave_the_lines(rt: HostRuntime) {
+    let alloc = rt.alloc();
+    match (
+        two_lines(alloc),
+        View::alone(alloc, ViewId::first_of(first_of(1))),
+    ) {
+        (Ok(chat), Ok(view)) => assert!(rt; is_left(chat, alloc, view)),
+        _ => assert!(rt; false),
+    }
+    one_encoding();
+}
+
+// Whether each of some calls does its work, or is refused for want of memory and leaves what was there.
+fn are_done_or_leave(alloc: Global, mut chat: ChatLog) -> bool {
+    let received = usize::from(chat.receive(first_of(3), b"x").is_ok());
+    let kept = chat.len() == received;
+    let mut state = Vec::new(alloc);
+    let given = chat.get_state(&mut state).is_ok();
+    kept && state.is_empty() == !given
+        && match chat.set_state(TWO) {
+            Ok(taken) => taken && chat.len() == 2,
+            Err(_) => chat.len() == received,
+        }
+}
+
+// With no refusal each call does its work. Run by `rt try --test --fail-alloc N` for N from 1, one call is refused
+// in turn, and leaves what was there.
+#[test]
+fn refused_growths_leave_what_was(rt: HostRuntime) {
+    let alloc = rt.alloc();
+    if let Ok(chat) = ChatLog::opening(alloc) {
+        assert!(rt; are_done_or_leave(alloc, chat));
+    }
+}

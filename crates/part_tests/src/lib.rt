@@ -1,0 +1,30 @@
+//! The tests of the crates that a member is made of, a module for each crate. They stand apart from what they test,
+//! so that it is proved once and not twice.
+#![tactic(auto)]
+
+#[cfg(test)]
+mod address_tests;
+#[cfg(test)]
+mod chat_log_tests;
+#[cfg(test)]
+mod fixtures;
+#[cfg(test)]
+mod flush_tests;
+#[cfg(test)]
+mod last;
+#[cfg(test)]
+mod member_tests;
+#[cfg(test)]
+mod nak_stream_tests;
+#[cfg(test)]
+mod sequencer_tests;
+#[cfg(test)]
+mod stability_tests;
+#[cfg(test)]
+mod suspicion_tests;
+#[cfg(test)]
+mod trace_props_tests;
+#[cfg(test)]
+mod view_install_tests;
+#[cfg(test)]
+mod view_tests;

@@ -1,0 +1,125 @@
+use crate::fixtures::first_of;
+use nak_stream::{Entry, Window, beginnings_agree, windows_agree};
+use std::alloc::{AllocError, Global};
+
+/// Offers an entry of 1.1 whose payload is the byte 7; false also where memory was refused.
+fn offered(window: &mut Window, g: u64) -> bool {
+    window.accept(g, first_of(1), g, &[7]) == Ok(true)
+}
+
+/// The number of the message that is delivered next; 0 where there is none.
+fn next(window: &mut Window) -> u64 {
+    match window.take_ready() {
+        Ok(Some(entry)) => entry.number(),
+        Ok(None) => 0,
+        Err(_) => 99,
+    }
+}
+
+/// The window that took 32, 1, 2 and 3, delivered three and knows two to be stable.
+fn after_three(alloc: Global) -> Result<Window, AllocError> {
+    let mut window = Window::new(alloc)?;
+    for g in [32, 1, 2, 3] {
+        offered(&mut window, g);
+    }
+    for _ in 0..4 {
+        next(&mut window);
+    }
+    window.collect(2);
+    Ok(window)
+}
+
+fn takes_what_is_new(mut window: Window) -> bool {
+    !offered(&mut window, 33)
+        && offered(&mut window, 32)
+        && !offered(&mut window, 32)
+        && offered(&mut window, 1)
+        && next(&mut window) == 1
+        && next(&mut window) == 0
+}
+
+#[test]
+fn takes_what_is_new_and_within_reach(rt: HostRuntime) {
+    assert!(rt; Window::new(rt.alloc()).is_ok_and(takes_what_is_new));
+}
+
+fn tells_in_order(mut window: Window) -> bool {
+    offered(&mut window, 2)
+        && next(&mut window) == 0
+        && offered(&mut window, 1)
+        && offered(&mut window, 3)
+        && next(&mut window) == 1
+        && next(&mut window) == 2
+        && next(&mut window) == 3
+        && next(&mut window) == 0
+        && window.delivered() == 3
+}
+
+#[test]
+fn delivers_in_order(rt: HostRuntime) {
+    assert!(rt; Window::new(rt.alloc()).is_ok_and(tells_in_order));
+}
+
+fn has_let_go_two(mut window: Window) -> bool {
+    window.delivered() == 3
+        && window.stable() == 2
+        && window.entry(2).is_none()
+        && window.entry(3).is_some()
+        && offered(&mut window, 34)
+        && !offered(&mut window, 35)
+        && window.gaps(34) == Some((4, 33))
+        && window.gaps(3).is_none()
+}
+
+#[test]
+fn lets_go_what_is_stable(rt: HostRuntime) {
+    assert!(rt; after_three(rt.alloc()).is_ok_and(has_let_go_two));
+}
+
+fn tells_its_parts(entry: Entry, alloc: Global) -> bool {
+    entry.sender() == first_of(1)
+        && entry.payload().len() == 2
+        && entry.copied(alloc).is_ok()
+        && entry.into_payload().len() == 2
+}
+
+#[test]
+fn an_entry_tells_its_parts(rt: HostRuntime) {
+    let alloc = rt.alloc();
+    let entry = Entry::copy_of(alloc, first_of(1), 4, &[1, 2]);
+    assert!(rt; entry.is_ok_and(|entry| tells_its_parts(entry, alloc)));
+}
+
+/// Whether an offer is taken, or is refused for want of memory and leaves the window as it was.
+fn taken_or_unchanged(window: &mut Window, g: u64) -> bool {
+    match window.accept(g, first_of(1), g, &[7]) {
+        Ok(answer) => answer && window.entry(g).is_some(),
+        Err(_) => window.entry(g).is_none() && window.delivered() == 0,
+    }
+}
+
+/// Whether the next number is delivered where it is held, or is refused for want of memory and leaves the window as it was.
+fn told_or_unchanged(window: &mut Window) -> bool {
+    let before = window.delivered();
+    let next = before.saturating_add(1);
+    match window.take_ready() {
+        Ok(Some(entry)) => entry.number() == next && window.delivered() == next,
+        Ok(None) => window.delivered() == before && window.entry(next).is_none(),
+        Err(_) => window.delivered() == before && window.entry(next).is_some(),
+    }
+}
+
+// With each allocation refused in turn (`rt try --test --fail-alloc N`) it still holds.
+#[test]
+fn a_refused_growth_changes_nothing(rt: HostRuntime) {
+    if let Ok(mut window) = Window::new(rt.alloc()) {
+        for g in 1..4 {
+            assert!(rt; taken_or_unchanged(&mut window, g));
+        }
+        for _ in 0..3 {
+            assert!(rt; told_or_unchanged(&mut window));
+        }
+    }
+    windows_agree();
+    beginnings_agree::<u8>();
+}

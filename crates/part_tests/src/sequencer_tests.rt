@@ -1,0 +1,123 @@
+use crate::fixtures::{first_of, view_of};
+use address::Address;
+use sequencer::{Forwards, Orderer};
+use std::alloc::Global;
+
+/// The orderer of the view of 1.1 and 2.1.
+fn of_two(alloc: Global) -> Option<Orderer> {
+    Orderer::new(alloc, &view_of(alloc, &[1, 2])?).ok()
+}
+
+/// Offers the message of an address with one byte; false also where memory was refused.
+fn offered(orderer: &mut Orderer, sender: Address, number: u64, byte: u8) -> bool {
+    orderer.forward(&sender, number, &[byte]) == Ok(true)
+}
+
+/// The number in the order, the sender's node, the number and the first byte of the message that comes next.
+fn ordered(orderer: &mut Orderer, stable: u64) -> Option<(u64, u16, u64, u8)> {
+    let (g, entry) = orderer.ready(stable)?;
+    let byte = entry.payload().first().copied()?;
+    Some((g, entry.sender().node().number(), entry.number(), byte))
+}
+
+/// The number that a message of one byte is taken under; 100 and the number of the refusal where it is refused.
+fn pushed(alloc: Global, forwards: &mut Forwards, byte: u8) -> u64 {
+    let mut payload = Vec::new(alloc);
+    if payload.push(byte).is_err() {
+        return 0;
+    }
+    match forwards.push(payload) {
+        Ok(number) => number,
+        Err((_, refusal)) => 100 + u64::from(refusal.number()),
+    }
+}
+
+fn orders(mut orderer: Orderer) -> bool {
+    let (one, two) = (first_of(1), first_of(2));
+    offered(&mut orderer, two, 2, 120)
+        && ordered(&mut orderer, 0).is_none()
+        && offered(&mut orderer, two, 1, 121)
+        && offered(&mut orderer, one, 1, 122)
+        && ordered(&mut orderer, 0) == Some((1, 1, 1, 122))
+        && ordered(&mut orderer, 0) == Some((2, 2, 1, 121))
+        && ordered(&mut orderer, 0) == Some((3, 2, 2, 120))
+        && ordered(&mut orderer, 0).is_none()
+        && orderer.ordered() == 3
+}
+
+#[test]
+fn orders_by_rank_and_number(rt: HostRuntime) {
+    assert!(rt; of_two(rt.alloc()).is_some_and(orders));
+}
+
+fn takes_once(mut orderer: Orderer) -> bool {
+    let one = first_of(1);
+    offered(&mut orderer, one, 1, 1)
+        && !offered(&mut orderer, one, 1, 1)
+        && !offered(&mut orderer, one, 9, 1)
+        && !offered(&mut orderer, first_of(3), 1, 1)
+        && ordered(&mut orderer, 0).is_some()
+        && !offered(&mut orderer, one, 1, 1)
+        && offered(&mut orderer, one, 9, 1)
+}
+
+#[test]
+fn takes_each_message_once(rt: HostRuntime) {
+    assert!(rt; of_two(rt.alloc()).is_some_and(takes_once));
+}
+
+/// Whether eight messages are taken, a ninth is refused, and is taken once three were delivered.
+fn takes_eight(alloc: Global, mut forwards: Forwards) -> bool {
+    for number in 1..9 {
+        if pushed(alloc, &mut forwards, 7) != number {
+            return false;
+        }
+    }
+    let refused = pushed(alloc, &mut forwards, 7) == 103;
+    forwards.delivered(3);
+    refused
+        && forwards.rest().len() == 5
+        && pushed(alloc, &mut forwards, 7) == 9
+        && forwards.sent() == 9
+}
+
+#[test]
+fn eight_are_outstanding(rt: HostRuntime) {
+    assert!(rt; takes_eight(rt.alloc(), Forwards::new(rt.alloc())));
+}
+
+/// Whether a payload of one byte is taken, or is given back for want of memory with nothing changed.
+fn pushed_or_given_back(alloc: Global, forwards: &mut Forwards, byte: u8) -> bool {
+    let mut payload = Vec::new(alloc);
+    if payload.push(byte).is_err() {
+        return true;
+    }
+    let before = forwards.sent();
+    match forwards.push(payload) {
+        Ok(number) => number == before.saturating_add(1) && forwards.sent() == number,
+        Err((payload, refusal)) => {
+            payload.first().copied() == Some(byte)
+                && refusal.number() == 7
+                && forwards.sent() == before
+        }
+    }
+}
+
+/// Whether a message is taken, or is refused for want of memory and leaves the orderer as it was, so that it is taken afterwards.
+fn taken_or_unchanged(orderer: &mut Orderer, sender: Address, number: u64) -> bool {
+    orderer.forward(&sender, number, &[7]).unwrap_or(false)
+        || offered(orderer, sender, number, 7) && orderer.ordered() == 0
+}
+
+// With each allocation refused in turn (`rt try --test --fail-alloc N`) it still holds.
+#[test]
+fn a_refused_growth_gives_the_payload_back(rt: HostRuntime) {
+    let mut forwards = Forwards::new(rt.alloc());
+    for byte in 1..4 {
+        assert!(rt; pushed_or_given_back(rt.alloc(), &mut forwards, byte));
+    }
+    if let Some(mut orderer) = of_two(rt.alloc()) {
+        assert!(rt; taken_or_unchanged(&mut orderer, first_of(2), 1));
+        assert!(rt; taken_or_unchanged(&mut orderer, first_of(2), 2));
+    }
+}

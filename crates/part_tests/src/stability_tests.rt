@@ -1,0 +1,28 @@
+use crate::fixtures::{first_of, view_of};
+use stability::Acks;
+use std::alloc::Global;
+
+/// The acknowledgements of the view of 1.1 and 2.1.
+fn of_two(alloc: Global) -> Option<Acks> {
+    Acks::new(alloc, &view_of(alloc, &[1, 2])?).ok()
+}
+
+/// Notes a count of the first address of a node, and tells how many are stable then.
+fn noted(acks: &mut Acks, node: u16, count: u64) -> u64 {
+    if node > 0 {
+        acks.note(&first_of(node), count);
+    }
+    acks.stable()
+}
+
+fn tells_the_least(mut acks: Acks) -> bool {
+    noted(&mut acks, 1, 5) == 0
+        && noted(&mut acks, 2, 3) == 3
+        && noted(&mut acks, 2, 1) == 3
+        && noted(&mut acks, 3, 1) == 3
+}
+
+#[test]
+fn stable_is_the_least_count(rt: HostRuntime) {
+    assert!(rt; of_two(rt.alloc()).is_some_and(tells_the_least));
+}

@@ -1,0 +1,8 @@
+//! Tests of what the commands do that no stored run shows: what a reader or a writer that fails leaves, the packets of a
+//! world, and damaged texts. They stand apart from the crate `vsync_runs`, so that it is proved once and not twice.
+#![tactic(auto)]
+
+#[cfg(test)]
+mod damaged;
+#[cfg(test)]
+mod scripts;

@@ -1,0 +1,278 @@
+use crate::fixtures::{address, fault_text, with_copies};
+use std::alloc::{AllocError, Global};
+use trace_props::{Delivery, Happening, Install, Numbered, Trace};
+use trace_reader::{TRACE_LINE, read_trace, reads_what_is_written};
+use vsync_text::{Unread, append_happening};
+
+/// The happenings of a trace, printed again.
+fn printed(alloc: Global, trace: &Trace) -> Result<String, AllocError> {
+    let mut text = Vec::new(alloc);
+    for happening in trace.happenings() {
+        append_happening(&mut text, happening)?;
+    }
+    String::from_utf8_lossy(alloc, text.as_slice())
+}
+
+/// Whether a text is read, and printed again as this, or is refused with this fault.
+fn says(alloc: Global, text: &[u8], want: &str) -> bool {
+    let said = match read_trace(alloc, text) {
+        Ok(trace) => printed(alloc, &trace),
+        Err(unread) => fault_text(alloc, unread),
+    };
+    match said {
+        Ok(said) => said.as_str() == want,
+        Err(_) => false,
+    }
+}
+
+/// Whether each of these texts is read, and printed again as it stands.
+fn are_read_whole(alloc: Global, texts: &[&str]) -> bool {
+    for text in texts {
+        if !says(alloc, text.as_bytes(), *text) {
+            return false;
+        }
+    }
+    true
+}
+
+/// Whether each of these lines is refused with this fault.
+fn are_refused(alloc: Global, want: &str, lines: &[&str]) -> bool {
+    for line in lines {
+        if !says(alloc, line.as_bytes(), want) {
+            return false;
+        }
+    }
+    true
+}
+
+const WHOLE: [&str; 10] = [
+    "",
+    "started 1.1\n",
+    "sent 1.1 7@3.1 1 6869\n",
+    "sent 65535.4294967295 4611686018427387904@3.1 4611686018427387904 -\n",
+    "delivered 1.1 7@3.1 2.9 12 00ff\n",
+    "blocked 1.1\n",
+    "left 10.1\ncrashed 1.10\n",
+    "installed 1.1 - 1@1.1 1.1 1.1 - -\n",
+    "installed 2.1 6@2.1 7@3.1 3.1,2.1 2.1,9.9 4:6869,4:,2:00 =\n",
+    "installed 2.1 6@2.1 7@3.1 3.1 2.1 1: =0aff\n",
+];
+
+#[test]
+fn each_line_is_read_and_printed(rt: HostRuntime) {
+    assert!(rt; are_read_whole(rt.alloc(), &WHOLE));
+}
+
+#[test]
+fn lines_are_skipped_and_counted(rt: HostRuntime) {
+    let text = b"# refused 3 5\n\nstarted 1.1\n#\n\nleft 1.1";
+    assert!(rt; says(rt.alloc(), text, "started 1.1\nleft 1.1\n"));
+    let late = b"#\n\nstarted 1.1\n\xff\nfly 1\n";
+    assert!(rt; says(rt.alloc(), late, "fault 4 40"));
+}
+
+const UNKNOWN: [&str; 8] = [
+    " started 1.1",
+    "Started 1.1",
+    "starts 1.1",
+    "\r",
+    "started\t1.1",
+    "-",
+    "send 1 hi",
+    "started\r\n",
+];
+
+#[test]
+fn words_are_known(rt: HostRuntime) {
+    assert!(rt; are_refused(rt.alloc(), "fault 1 40", &UNKNOWN));
+}
+
+const MISSING: [&str; 7] = [
+    "started",
+    "sent 1.1",
+    "sent 1.1 1@1.1 1",
+    "delivered 1.1 1@1.1 1.1 1",
+    "installed 1.1 - 1@1.1",
+    "installed 1.1 - 1@1.1 1.1",
+    "installed 1.1 - 1@1.1 1.1 1.1 -",
+];
+
+const MANY: [&str; 4] = [
+    "started 1.1 ",
+    "crashed 1.1 1.1",
+    "sent 1.1 1@1.1 1 - ",
+    "installed 1.1 - 1@1.1 1.1 1.1 - - -",
+];
+
+#[test]
+fn fields_are_there(rt: HostRuntime) {
+    assert!(rt; are_refused(rt.alloc(), "fault 1 42", &MISSING));
+    assert!(rt; are_refused(rt.alloc(), "fault 1 41", &MANY));
+}
+
+const OUT_OF_RANGE: [&str; 19] = [
+    "started ",
+    "started  1.1",
+    "started 1",
+    "started 0.1",
+    "started 1.0",
+    "started 65536.1",
+    "started 1.4294967296",
+    "started 01.1",
+    "started 1.1\r",
+    "sent 1.1 1 1 -",
+    "sent 1.1 @1.1 1 -",
+    "sent 1.1 0@1.1 1 -",
+    "sent 1.1 4611686018427387905@1.1 1 -",
+    "sent 1.1 1@1.1 0 -",
+    "sent 1.1 1@1.1 4611686018427387905 -",
+    "sent 1.1 1@1.1 01 -",
+    "delivered 1.1 1@1.1 - 1 -",
+    "installed 1.1 1 1@1.1 1.1 1.1 - -",
+    "installed 1.1 - - 1.1 1.1 - -",
+];
+
+#[test]
+fn ids_and_numbers_are_in_range(rt: HostRuntime) {
+    assert!(rt; are_refused(rt.alloc(), "fault 1 41", &OUT_OF_RANGE));
+}
+
+const MISSPELLED: [&str; 14] = [
+    "sent 1.1 1@1.1 1 ",
+    "sent 1.1 1@1.1 1 6",
+    "sent 1.1 1@1.1 1 6A",
+    "sent 1.1 1@1.1 1 6g",
+    "sent 1.1 1@1.1 1 --",
+    "installed 1.1 - 1@1.1 1.1 1.1 - ",
+    "installed 1.1 - 1@1.1 1.1 1.1 - 00",
+    "installed 1.1 - 1@1.1 1.1 1.1 - =0",
+    "installed 1.1 - 1@1.1 1.1 1.1 - =-",
+    "installed 1.1 - 1@1.1 1.1 1.1  -",
+    "installed 1.1 - 1@1.1 1.1 1.1 1 -",
+    "installed 1.1 - 1@1.1 1.1 1.1 1:- -",
+    "installed 1.1 - 1@1.1 1.1 1.1 0:00 -",
+    "installed 1.1 - 1@1.1 1.1 1.1 1:00, -",
+];
+
+#[test]
+fn payloads_and_states_have_their_form(rt: HostRuntime) {
+    assert!(rt; are_refused(rt.alloc(), "fault 1 41", &MISSPELLED));
+}
+
+const NO_VIEWS: [&str; 10] = [
+    "installed 1.1 - 1@1.1  1.1 - -",
+    "installed 1.1 - 1@1.1 - 1.1 - -",
+    "installed 1.1 - 1@1.1 1.1,1.1 1.1 - -",
+    "installed 1.1 - 1@1.1 2.1,1.1 1.1 - -",
+    "installed 1.1 - 1@1.1 1.1,2.1,3.1,4.1,5.1,6.1,7.1,8.1,9.1,10.1,11.1,12.1,13.1,14.1,15.1,16.1,17.1 1.1 - -",
+    "installed 1.1 - 1@1.1 1.1, 1.1 - -",
+    "installed 1.1 - 1@1.1 2.1",
+    "installed 1.1 - 1@1.1 1.1  - -",
+    "installed 1.1 - 1@1.1 1.1 - - -",
+    "installed 1.1 - 1@1.1 1.1 1.1,2.1,1.1 - -",
+];
+
+const VIEWS: [&str; 2] = [
+    "installed 1.1 - 1@1.1 1.1,2.1,3.1,4.1,5.1,6.1,7.1,8.1,9.1,10.1,11.1,12.1,13.1,14.1,15.1,16.1 1.1 - -\n",
+    "installed 1.1 - 1@1.1 1.1 17.1,2.1,3.1,4.1,5.1,6.1,7.1,8.1,9.1,10.1,11.1,12.1,13.1,14.1,15.1,16.1,1.1 - -\n",
+];
+
+#[test]
+fn members_make_a_view(rt: HostRuntime) {
+    assert!(rt; are_refused(rt.alloc(), "fault 1 41", &NO_VIEWS));
+    assert!(rt; are_read_whole(rt.alloc(), &VIEWS));
+}
+
+/// Whether a front with so many digits behind it is read; none where memory was refused.
+fn is_read(alloc: Global, front: &[u8], digits: usize) -> Option<bool> {
+    let text = with_copies(alloc, front, b'0', digits).ok()?;
+    Some(read_trace(alloc, &text).is_ok())
+}
+
+/// Whether a front is read with 512 bytes behind it, and not with 513.
+fn has_limit(alloc: Global, front: &[u8]) -> bool {
+    is_read(alloc, front, 1024) == Some(true) && is_read(alloc, front, 1026) == Some(false)
+}
+
+#[test]
+fn payloads_have_a_limit(rt: HostRuntime) {
+    assert!(rt; has_limit(rt.alloc(), b"sent 1.1 1@1.1 1 "));
+    assert!(rt; has_limit(rt.alloc(), b"delivered 1.1 1@1.1 1.1 1 "));
+}
+
+/// Whether a front with so many digits behind it is too long.
+fn is_too_long(alloc: Global, front: &[u8], digits: usize) -> bool {
+    match with_copies(alloc, front, b'0', digits) {
+        Ok(text) => says(alloc, &text, "fault 1 43"),
+        Err(_) => false,
+    }
+}
+
+#[test]
+fn lines_have_a_limit(rt: HostRuntime) {
+    let front = b"installed 10.1 - 1@1.1 1.1 1.1 - =";
+    assert!(rt; is_read(rt.alloc(), front, TRACE_LINE - 34) == Some(true));
+    assert!(rt; is_too_long(rt.alloc(), front, TRACE_LINE - 33));
+    assert!(rt; is_read(rt.alloc(), b"#", TRACE_LINE) == Some(true));
+}
+
+/// Whether what is handed back is one message 4 with the payload `hi`.
+fn is_one(messages: &[Numbered]) -> bool {
+    match messages {
+        [message] => message.number == 4 && message.payload.as_slice() == b"hi".as_slice(),
+        _ => false,
+    }
+}
+
+/// Whether an install has the fields that its line spells.
+fn has_its_fields(install: &Install) -> bool {
+    install.member == address(2, 1)
+        && install.view.id().counter() == 7
+        && install.view.first() == address(3, 1)
+        && install.together.len() == 1
+        && is_one(install.handed_back.as_slice())
+}
+
+/// Whether a delivery has the fields that its line spells.
+fn has_the_fields(delivery: &Delivery) -> bool {
+    delivery.member == address(1, 1)
+        && delivery.view.creator() == address(3, 1)
+        && delivery.message.sender == address(2, 9)
+        && delivery.message.number == 12
+        && delivery.message.payload.as_slice() == b"hi".as_slice()
+}
+
+/// Whether a trace is one install or one delivery, with the fields that its line spells.
+fn tells_its_fields(trace: &Trace) -> bool {
+    match trace.happenings() {
+        [Happening::Installed(install)] => has_its_fields(install),
+        [Happening::Delivered(delivery)] => has_the_fields(delivery),
+        _ => false,
+    }
+}
+
+#[test]
+fn an_install_has_its_fields(rt: HostRuntime) {
+    let text = b"installed 2.1 6@2.1 7@3.1 3.1,2.1 2.1 4:6869 =0aff\n";
+    assert!(rt; read_trace(rt.alloc(), text).is_ok_and(|trace| tells_its_fields(&trace)));
+}
+
+#[test]
+fn a_delivery_has_its_fields(rt: HostRuntime) {
+    let text = b"delivered 1.1 7@3.1 2.9 12 6869";
+    assert!(rt; read_trace(rt.alloc(), text).is_ok_and(|trace| tells_its_fields(&trace)));
+}
+
+/// Whether two happenings are read, or memory was refused.
+fn are_two_or_refused(alloc: Global, text: &[u8]) -> bool {
+    match read_trace(alloc, text) {
+        Ok(trace) => trace.len() == 2,
+        Err(unread) => matches!(&unread, Unread::Memory),
+    }
+}
+
+#[test]
+fn refused_memory_is_told(rt: HostRuntime) {
+    assert!(rt; are_two_or_refused(rt.alloc(), b"sent 1.1 1@1.1 1 6869\nleft 1.1\n"));
+    reads_what_is_written();
+}

@@ -1,0 +1,38 @@
+-- What a command writes that tells the chats of a script's run.
+use Rattle.std.specs.Prelude.{◌≡◌, ℕ, List, ◌++◌, Option, take, length}
+use Rattle.std.specs.List.{concat, filter_map, range_with_len}
+use Rattle.std.specs.Option.{option_map}
+use Rattle.address.specs.Ids.{Address}
+use Rattle.trace_props.specs.declared.happening.Happening.{Happening}
+use Rattle.trace_props.specs.State.{state_of}
+use Rattle.world_model.specs.Histories.{History, running}
+use Rattle.chat_log.specs.declared.lines.Line.{Line}
+use Rattle.chat_text.specs.ChatText.{chat_line}
+use Rattle.vsync_text.specs.declared.script.Script.{Script}
+use Rattle.vsync_runs.specs.declared.status.Status.{Status}
+use Rattle.vsync_runs.specs.declared.status.Status.TheVariants.{Done, Memory}
+use Rattle.vsync_runs.specs.Outcomes.{Ran, IsScriptText, IsAnswer, memory_line}
+
+-- the chat line of the member that runs at a node, if one does: its chat is what the trace says
+abbrev pub chat_at : {S : Type 0} → S → (S → Address → List ℕ → S) → (List ℕ → Option S) → (S → List Line) → List Happening → ℕ → Option (List ℕ)
+chat_at opening apply decode lines_of t n = option_map (λ p. chat_line p (lines_of (state_of opening apply decode p t))) (running n t)
+
+-- the chat lines of the running members at the nodes from 1 to n, by node
+abbrev pub chats_to : {S : Type 0} → S → (S → Address → List ℕ → S) → (List ℕ → Option S) → (S → List Line) → List Happening → ℕ → List (List ℕ)
+chats_to opening apply decode lines_of t n = filter_map (chat_at opening apply decode lines_of t) (range_with_len 1 n)
+
+-- the chat lines of all running members, by node
+unfoldable pub chats_of : {S : Type 0} → S → (S → Address → List ℕ → S) → (List ℕ → Option S) → (S → List Line) → List Happening → List (List ℕ)
+chats_of opening apply decode lines_of t = chats_to opening apply decode lines_of t 65535
+
+-- the texts of the chats after a script's run: all of them; whole lines of a beginning and `# memory`; or `# memory` alone, where the
+-- script was not run to its end for want of memory
+pub data IsChatText {S : Type 0} (opening : S) (apply : S → Address → List ℕ → S) (decode : List ℕ → Option S) (lines_of : S → List Line) (script : Script) : Status → List ℕ → Type 0 where
+  All : (h : History) → Ran opening apply decode script.events h → IsChatText opening apply decode lines_of script Done (concat (chats_of opening apply decode lines_of h.trace))
+  Part : (h : History) (count : ℕ) → Ran opening apply decode script.events h
+      → IsChatText opening apply decode lines_of script Memory (concat (take count (chats_of opening apply decode lines_of h.trace)) ++ memory_line)
+  Stopped : IsChatText opening apply decode lines_of script Memory memory_line
+
+-- a script is run from a reader, and the chats are told to a writer
+abbrev pub RunsChat : {S : Type 0} → S → (S → Address → List ℕ → S) → (List ℕ → Option S) → (S → List Line) → Option (List ℕ) → Option (List ℕ) → Option (List ℕ) → Status → Type 0
+RunsChat opening apply decode lines_of left old new status = IsAnswer (IsScriptText (IsChatText opening apply decode lines_of)) left old new status

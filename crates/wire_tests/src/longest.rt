@@ -1,0 +1,115 @@
+use crate::samples::{address, is_exact, second_view};
+use address::{Address, Node};
+use std::alloc::Global;
+use wire::{
+    Body, Count, Entry, GroupName, Held, Install, Items, Members, Number, Packet, Payload, Report,
+    Roster, State, encode, put_entry,
+};
+
+/// The bytes of a packet with the longest name, from the greatest address.
+fn spelled(alloc: Global, body: Body<'_>) -> Option<Vec<u8>> {
+    let packet = Packet {
+        group: GroupName::new(b"abcdefghijklmnopqrstuvwxyz-_ABCD")?,
+        source: address(65_535, 4_294_967_295),
+        destination: address(1, 1),
+        body,
+    };
+    let mut out = Vec::new(alloc);
+    encode(&packet, &mut out).ok()?;
+    Some(out)
+}
+
+/// Whether a body makes a packet of a kind and of a length, which is read and written back.
+fn has_length(alloc: Global, body: Body<'_>, kind: u8, length: usize) -> bool {
+    match spelled(alloc, body) {
+        Some(bytes) => bytes.len() == length && is_exact(alloc, &bytes, kind),
+        None => false,
+    }
+}
+
+/// Puts the entry of 1.1 at a number with 512 bytes, behind its place where it has one.
+fn put(value: u64, has_place: bool, out: &mut Vec<u8>) -> Option<()> {
+    let number = Number::new(value)?;
+    let payload = [7u8; 512];
+    let entry = Entry::new(address(1, 1), number, Payload::new(&payload)?);
+    let place = if has_place { Some(number) } else { None };
+    put_entry(place, &entry, out).ok()
+}
+
+/// The 32 longest entries, from the number 1, with their places or without.
+fn entries(alloc: Global, have_places: bool) -> Option<Vec<u8>> {
+    let mut text = Vec::new(alloc);
+    for value in 1..=32 {
+        put(value, have_places, &mut text)?;
+    }
+    Some(text)
+}
+
+/// The report of these entries, with so many delivered.
+fn report(text: &[u8], delivered: u64) -> Option<Report<'_>> {
+    let held = Held::new(32, text)?;
+    Report::new(second_view(), Count::zero(), Count::new(delivered)?, held)
+}
+
+/// Whether 32 delivered make the longest report, and 33 would leave one without its entry.
+fn is_longest_report(alloc: Global, text: &[u8]) -> bool {
+    match report(text, 32) {
+        Some(report) => {
+            let proposal = second_view();
+            has_length(alloc, Body::Report { proposal, report }, 11, 17_247)
+        }
+        None => false,
+    }
+}
+
+#[test]
+fn longest_report(rt: HostRuntime) {
+    let alloc = rt.alloc();
+    let text = entries(alloc, true);
+    assert!(rt;
+        text.is_some_and(|text| is_longest_report(alloc, &text) && report(&text, 33).is_none())
+    );
+}
+
+/// The first addresses of the nodes 1 to 16.
+fn sixteen(alloc: Global) -> Option<Vec<Address>> {
+    let mut members = Vec::new(alloc);
+    for node in 1..=16 {
+        members.push(Address::first_at(Node::new(node)?)).ok()?;
+    }
+    Some(members)
+}
+
+/// The install of all members with these entries and a state.
+fn install<'a>(members: &[Address], text: &'a [u8], state: &'a [u8]) -> Option<Install<'a>> {
+    let view = Roster::new(second_view(), members)?;
+    let together = Members::from_slice(members)?;
+    let items = Items::new(32, text)?;
+    Install::new(
+        view,
+        together,
+        Count::zero(),
+        items,
+        Some(State::new(state)?),
+    )
+}
+
+/// Whether these entries, with 16 members and a state of the greatest length, make the longest install.
+fn is_longest_install(alloc: Global, members: &[Address], text: &[u8]) -> bool {
+    match install(members, text, &[9; 16_384]) {
+        Some(install) => has_length(alloc, Body::Install(install), 12, 33_551),
+        None => false,
+    }
+}
+
+#[test]
+fn longest_install(rt: HostRuntime) {
+    let alloc = rt.alloc();
+    match (sixteen(alloc), entries(alloc, false)) {
+        (Some(members), Some(text)) => {
+            assert!(rt; is_longest_install(alloc, &members, &text));
+            assert!(rt; Items::new(31, &text).is_none());
+        }
+        _ => assert!(rt; false),
+    }
+}

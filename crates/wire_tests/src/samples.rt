@@ -1,0 +1,131 @@
+ghost use Rattle.std.specs.Prelude.{◌≤◌, ◌^◌, length};
+
+use address::{Address, Node, ViewId};
+use std::alloc::{AllocError, Global};
+use wire::{Entry, Number, Packet, Payload, decode, encode};
+
+// One packet of each kind in the group `world`, between 1.1 and 2.1, spelled by hand from the tables of
+// docs/WIRE.md. JOIN, ORDER and FLUSH are vectors of the format.
+pub const JOIN: &[u8] = b"56530101 05 776f726c64 000200000001 000100000001";
+
+pub const REDIRECT: &[u8] = b"56530102 05 776f726c64 000200000001 000100000001 000300000002";
+
+pub const LEAVE: &[u8] = b"56530103 05 776f726c64 000200000001 000100000001";
+
+pub const FORWARD: &[u8] = b"56530104 05 776f726c64 000200000001 000100000001
+    0000000000000002 000100000001 0000000000000007 0002 6869";
+
+pub const ORDER: &[u8] = b"56530105 05 776f726c64 000100000001 000200000001
+    0000000000000002 000100000001 0000000000000001 000100000001 0000000000000001 0001 61";
+
+pub const NAK: &[u8] = b"56530106 05 776f726c64 000200000001 000100000001
+    0000000000000002 000100000001 0000000000000003 0000000000000005";
+
+pub const ACK: &[u8] = b"56530107 05 776f726c64 000200000001 000100000001
+    0000000000000002 000100000001 0000000000000009";
+
+pub const STATUS: &[u8] = b"56530108 05 776f726c64 000100000001 000200000001
+    0000000000000002 000100000001 0000000000000028 0000000000000009";
+
+pub const FLUSH: &[u8] = b"56530109 05 776f726c64 000100000001 000200000001
+    0000000000000002 000100000001 02 000100000001 000200000001";
+
+pub const BEHIND: &[u8] = b"5653010a 05 776f726c64 000200000001 000100000001
+    0000000000000002 000100000001 0000000000000004";
+
+pub const REPORT: &[u8] = b"5653010b 05 776f726c64 000200000001 000100000001
+    0000000000000003 000100000001 01 0000000000000002 000100000001 0000000000000004 0000000000000005
+    02 0000000000000005 000100000001 0000000000000001 0001 61
+    0000000000000008 000200000001 0000000000000002 0000";
+
+pub const INSTALL: &[u8] = b"5653010c 05 776f726c64 000100000001 000200000001
+    0000000000000002 000100000001 02 000100000001 000200000001 01 000200000001
+    0000000000000006 01 000300000001 0000000000000004 0002 6869 01 00000003 010203";
+
+pub const MERGE: &[u8] = b"5653010d 05 776f726c64 000200000001 000100000001
+    0000000000000002 000200000001 02 000200000001 000100000001";
+
+// The two other vectors.
+pub const REPORT_OF_NONE: &[u8] = b"5653010b 05 776f726c64 000200000001 000100000001
+    0000000000000002 000100000001 00";
+
+pub const INSTALL_WITH_STATE: &[u8] = b"5653010c 05 776f726c64 000100000001 000200000001
+    0000000000000002 000100000001 02 000100000001 000200000001 01 000200000001
+    0000000000000000 00 01 00000001 00";
+
+pub const EACH: [&[u8]; 13] = [
+    JOIN, REDIRECT, LEAVE, FORWARD, ORDER, NAK, ACK, STATUS, FLUSH, BEHIND, REPORT, INSTALL, MERGE,
+];
+
+/// The bytes that a text has in hexadecimal; what is no digit only separates.
+pub fn unhex(alloc: Global, text: &[u8]) -> Result<Vec<u8>, AllocError> {
+    let mut out = Vec::new(alloc);
+    let mut high = None;
+    for c in text {
+        let digit = match *c {
+            b'0'..=b'9' => *c - b'0',
+            b'a'..=b'f' => *c - b'a' + 10,
+            _ => continue,
+        };
+        match high {
+            None => high = Some(digit),
+            Some(first) => {
+                out.push((first << 4) | digit)?;
+                high = None;
+            }
+        }
+    }
+    Ok(out)
+}
+
+/// The address of an incarnation at a node.
+pub fn address(node: u16, incarnation: u32) -> Address
+    requires node { 1 ≤ node }
+    requires incarnation { 1 ≤ incarnation }
+{
+    Address::new(Node::new(node).unwrap(), incarnation).unwrap()
+}
+
+/// The view id 2@1.1.
+pub fn second_view() -> ViewId {
+    ViewId::new(2, address(1, 1)).unwrap()
+}
+
+/// A number of a message.
+pub fn number(value: u64) -> Number
+    requires low { 1 ≤ value }
+    requires high { value ≤ 2 ^ 62 }
+{
+    Number::new(value).unwrap()
+}
+
+/// The entry of 1.1 at a number, with a payload.
+pub fn entry(value: u64, payload: &[u8]) -> Entry<'_>
+    requires low { 1 ≤ value }
+    requires high { value ≤ 2 ^ 62 }
+    requires short { length payload.now ≤ 512 }
+{
+    Entry::new(address(1, 1), number(value), Payload::new(payload).unwrap())
+}
+
+/// The number with which bytes are refused; 0 where they are a packet.
+pub fn refusal(bytes: &[u8]) -> u8 {
+    match decode(bytes) {
+        Ok(_) => 0,
+        Err(error) => error.number(),
+    }
+}
+
+/// Whether a packet is written as these bytes.
+pub fn is_spelled(alloc: Global, packet: &Packet<'_>, bytes: &[u8]) -> bool {
+    let mut out = Vec::new(alloc);
+    encode(packet, &mut out).is_ok() && out.as_slice() == bytes
+}
+
+/// Whether these bytes are a packet of a kind, and are written back.
+pub fn is_exact(alloc: Global, bytes: &[u8], kind: u8) -> bool {
+    match decode(bytes) {
+        Ok(packet) => packet.body.kind() == kind && is_spelled(alloc, &packet, bytes),
+        Err(_) => false,
+    }
+}

@@ -1,0 +1,24 @@
+use Rattle.std.proofs.Common.{refl}
+use Rattle.world.proofs.seat.act.Goals as goal
+
+-- what the one function does that each event is passed on to; a member's events leave the pool to it
+pub returns-in-Start : goal.returns-in-Start
+returns-in-Start g c = rw c.in-Start.is (c.start.ensures, refl)
+
+pub returns-in-Create : goal.returns-in-Create
+returns-in-Create g c = rw c.in-Create.is c.hand.ensures
+
+pub returns-in-Join : goal.returns-in-Join
+returns-in-Join g c = rw c.in-Join.is c.hand-in-Join.ensures
+
+pub returns-in-Send : goal.returns-in-Send
+returns-in-Send g c = rw c.in-Send.is (c.as_slice.result, c.as_slice.ensures, c.hand-in-Send.ensures)
+
+pub returns-in-Tick : goal.returns-in-Tick
+returns-in-Tick g c = rw c.in-Tick.is c.hand-in-Tick.ensures
+
+pub returns-in-Leave : goal.returns-in-Leave
+returns-in-Leave g c = rw c.in-Leave.is c.hand-in-Leave.ensures
+
+pub returns-in-Crash : goal.returns-in-Crash
+returns-in-Crash g c = rw c.in-Crash.is (c.crash.ensures, refl)
