@@ -1,5 +1,5 @@
 -- The lines of a chat that are not told yet.
-use Rattle.std.proofs.Common.{◌≡◌, ℕ, zero, suc, ◌+◌, List, [], ◌∷◌, ◌++◌, Option, Some, None, drop, refl, ap, sym, ◌∙◌, append_assoc, append-nil, slice_get, arith}
+use Rattle.std.proofs.Common.{◌≡◌, ℕ, zero, suc, ◌+◌, List, [], ◌∷◌, ◌++◌, Some, None, drop, refl, ap, sym, ◌∙◌, append_assoc, append-nil, slice_get, arith}
 use Rattle.chat_log.specs.declared.lines.Line.{Line}
 use Rattle.vsync_text.specs.TraceText.{GoesOnFrom}
 use Rattle.vsync_text.proofs.Appending.{goes_on}

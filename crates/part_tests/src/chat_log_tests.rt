@@ -1,5 +1,6 @@
 use crate::fixtures::{address, first_of};
 use address::{Address, ViewId};
+use chat_log::Chat;
 use chat_log::{ChatLog, one_encoding};
 use state_transfer::Receiver;
 use std::alloc::{AllocError, Global};

@@ -1,5 +1,5 @@
 -- Texts that a writer took one after another, and beginnings of them.
-use Rattle.std.proofs.Common.{◌≡◌, ℕ, ◌+◌, ◌≤◌, List, [], ◌∷◌, ◌++◌, length, take, drop, Bool, true, false, Result, Ok, Err, OnOk, OnErr, is_ok, IfSome, unwrap_or, Option, Some, None, refl, sym, ap, ◌∙◌, subst, append_assoc, zero, suc, arith, ◌<◌, ◌⊎◌, inl, inr}
+use Rattle.std.proofs.Common.{◌≡◌, ℕ, ◌+◌, ◌≤◌, List, [], ◌++◌, length, take, Bool, true, false, Result, Ok, Err, OnOk, OnErr, is_ok, IfSome, unwrap_or, Option, Some, None, refl, sym, ap, ◌∙◌, subst, append_assoc, arith, ◌<◌, ◌⊎◌, inl, inr}
 use Rattle.std.specs.List.{concat}
 use Rattle.std.proofs.lemmas.Bool.{cases_lt}
 use Rattle.std.proofs.lemmas.List.{append-nil, take_all, take-append-le}

@@ -1,7 +1,6 @@
 -- What is told of a world that ran a script's events.
 use Rattle.std.proofs.Common.{◌≡◌, ℕ, List, ◌++◌, take, Bool, true, false, Result, Ok, Err, OnOk, is_ok, Option, sym, ap, ◌∙◌, subst}
 use Rattle.address.specs.Ids.{Address}
-use Rattle.trace_props.specs.declared.happening.Happening.{Happening}
 use Rattle.trace_props.specs.Places.{EachPlace}
 use Rattle.trace_props.specs.Synchrony.{IsWellOrdered, IsVirtuallySynchronous}
 use Rattle.world_model.specs.declared.WorldEvent.{WorldEvent}

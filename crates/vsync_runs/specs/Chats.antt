@@ -1,5 +1,5 @@
 -- What a command writes that tells the chats of a script's run.
-use Rattle.std.specs.Prelude.{◌≡◌, ℕ, List, ◌++◌, Option, take, length}
+use Rattle.std.specs.Prelude.{ℕ, List, ◌++◌, Option, take}
 use Rattle.std.specs.List.{concat, filter_map, range_with_len}
 use Rattle.std.specs.Option.{option_map}
 use Rattle.address.specs.Ids.{Address}

@@ -1,7 +1,7 @@
 use Rattle.std.proofs.Common.{◌≡◌, ◌∙◌, ap, sym, subst, List, ℕ, codes, ◌++◌, ◌∷◌, []}
 use Rattle.std.specs.Fmt.{decimal}
 use Rattle.trace_props.specs.declared.verdict.Verdict.{Verdict}
-use Rattle.trace_props.specs.declared.verdict.Verdict.TheVariants.{Holds, Breaks}
+use Rattle.trace_props.specs.declared.verdict.Verdict.TheVariants.{Breaks}
 use Rattle.vsync_runs.specs.declared.status.Status.TheVariants.{Done, Broken, Memory}
 use Rattle.vsync_runs.specs.Outcomes.{memory_line}
 use Rattle.vsync_runs.specs.Checks.{broken_line, IsVerdictText}
