@@ -1,7 +1,6 @@
 use crate::fixtures::{address, first_of};
 use address::{Address, ViewId};
-use chat_log::Chat;
-use chat_log::{ChatLog, one_encoding};
+use chat_log::{Chat, ChatLog, one_encoding};
 use state_transfer::Receiver;
 use std::alloc::{AllocError, Global};
 use view::View;
@@ -9,15 +8,9 @@ use view::View;
 // `hi` of 1.1 and an empty payload of 2.7, by hand from the table of docs/FORMATS.md.
 const TWO: &[u8] = b"\x02\x00\x01\x00\x00\x00\x01\x00\x02hi\x00\x02\x00\x00\x00\x07\x00\x00";
 
-// The sender and the payload of a line.
-fn line_of(chat: &ChatLog, i: usize) -> Option<(Address, &[u8])> {
-    let line = chat.line(i)?;
-    Some((line.sender, line.payload.as_slice()))
-}
-
 // Whether a line is of a sender and has a payload.
 fn is_line(chat: &ChatLog, i: usize, sender: Address, payload: &[u8]) -> bool {
-    match line_of(chat, i) {
+    match chat.line(i) {
         Some((from, bytes)) => from == sender && bytes == payload,
         None => false,
     }
@@ -97,7 +90,7 @@ fn two_lines_are_written(rt: HostRuntime) {
 fn reads_two(mut chat: ChatLog) -> bool {
     chat.set_state(TWO) == Ok(true)
         && is_line(&chat, 0, first_of(1), b"hi")
-        && line_of(&chat, 2).is_none()
+        && chat.line(2).is_none()
         && chat.lines().len() == 2
 }
 
