@@ -5,6 +5,7 @@ mod past;
 mod seat;
 mod standing;
 mod states;
+mod tables;
 
 pub use notes::{delivery_in, install_in, sending_in};
 pub use past::Past;

@@ -7,8 +7,8 @@ ghost use Rattle.trace_props.specs.Known.{standing_of};
 
 use super::lists::Lists;
 use super::seat::{Pair, Seat, Way};
-use super::standing::Standing;
-use super::{notes, standing};
+use super::standing::{self, Standing};
+use super::tables::{self, Tables};
 use crate::{Happening, Install, Message, Numbered};
 use address::{Address, ViewId};
 use std::alloc::{AllocError, Global};
@@ -19,13 +19,7 @@ use std::marker::Model;
 #[derive(Drop)]
 pub struct Past<'a> {
     happenings: Vec<&'a Happening>,
-    standings: BTreeMap<Address, Standing>,
-    sent: Lists<'a, Numbered>,
-    told: Lists<'a, Message>,
-    last: BTreeMap<Pair, u64>,
-    entries: BTreeMap<Seat, &'a Install>,
-    firsts: BTreeMap<ViewId, &'a Install>,
-    ways: BTreeMap<Way, &'a Install>,
+    tables: Tables<'a>,
 }
 
 impl<'a> Model for Past<'a> {
@@ -39,8 +33,8 @@ impl<'a> Model for Past<'a> {
 
     ghost view = { λ p. pointed p.happenings.items };
 
-    ghost invariant = { λ p. KnowsPast (get address_cmp p.standings) (get seat_cmp p.sent.lists) (get seat_cmp p.told.lists) (get pair_cmp p.last)
-        (get seat_cmp p.entries) (get view_id_cmp p.firsts) (get way_cmp p.ways) (pointed p.happenings.items) };
+    ghost invariant = { λ p. KnowsPast (get address_cmp p.tables.standings) (get seat_cmp p.tables.sent.lists) (get seat_cmp p.tables.told.lists) (get pair_cmp p.tables.last)
+        (get seat_cmp p.tables.entries) (get view_id_cmp p.tables.firsts) (get way_cmp p.tables.ways) (pointed p.happenings.items) };
 }
 
 impl<'a> Past<'a> {
@@ -50,13 +44,15 @@ impl<'a> Past<'a> {
     {
         Past {
             happenings: Vec::new(alloc),
-            standings: BTreeMap::new(alloc),
-            sent: Lists::new(alloc),
-            told: Lists::new(alloc),
-            last: BTreeMap::new(alloc),
-            entries: BTreeMap::new(alloc),
-            firsts: BTreeMap::new(alloc),
-            ways: BTreeMap::new(alloc),
+            tables: Tables {
+                standings: BTreeMap::new(alloc),
+                sent: Lists::new(alloc),
+                told: Lists::new(alloc),
+                last: BTreeMap::new(alloc),
+                entries: BTreeMap::new(alloc),
+                firsts: BTreeMap::new(alloc),
+                ways: BTreeMap::new(alloc),
+            },
         }
     }
 
@@ -64,35 +60,35 @@ impl<'a> Past<'a> {
     pub fn standing(&self, member: Address) -> Standing
         ensures { result ≡ standing_of member self.now }
     {
-        standing::how_stands(&self.standings, member)
+        standing::how_stands(&self.tables.standings, member)
     }
 
     /// How many messages a member sent in a view.
     pub fn sent_count(&self, member: Address, view: ViewId) -> usize
         ensures { result ≡ length (sent_in member view self.now) }
     {
-        self.sent.count(Seat { view, member })
+        self.tables.sent.count(Seat { view, member })
     }
 
     /// A message that a member sent in a view, by its index from 0.
     pub fn sent_at(&self, member: Address, view: ViewId, index: usize) -> Option<&'a Numbered>
         ensures { option_copied result ≡ slice_get (sent_in member view self.now) index }
     {
-        self.sent.at(Seat { view, member }, index)
+        self.tables.sent.at(Seat { view, member }, index)
     }
 
     /// How many messages a member was told in a view.
     pub fn told_count(&self, member: Address, view: ViewId) -> usize
         ensures { result ≡ length (delivered_in member view self.now) }
     {
-        self.told.count(Seat { view, member })
+        self.tables.told.count(Seat { view, member })
     }
 
     /// A message that a member was told in a view, by its index from 0.
     pub fn told_at(&self, member: Address, view: ViewId, index: usize) -> Option<&'a Message>
         ensures { option_copied result ≡ slice_get (delivered_in member view self.now) index }
     {
-        self.told.at(Seat { view, member }, index)
+        self.tables.told.at(Seat { view, member }, index)
     }
 
     /// How many messages of a sender a member was told in a view.
@@ -100,7 +96,7 @@ impl<'a> Past<'a> {
         ensures { result ≡ length (own sender (delivered_in member view self.now)) }
     {
         let seat = Seat { view, member };
-        match self.last.get(&Pair { seat, sender }) {
+        match self.tables.last.get(&Pair { seat, sender }) {
             Some(number) => *number,
             None => 0,
         }
@@ -110,21 +106,21 @@ impl<'a> Past<'a> {
     pub fn entry(&self, member: Address, view: ViewId) -> Option<&'a Install>
         ensures { option_copied result ≡ entry_of member view self.now }
     {
-        self.entries.get(&Seat { view, member }).copied()
+        self.tables.entries.get(&Seat { view, member }).copied()
     }
 
     /// The first install of a view.
     pub fn first(&self, view: ViewId) -> Option<&'a Install>
         ensures { option_copied result ≡ first_install view self.now }
     {
-        self.firsts.get(&view).copied()
+        self.tables.firsts.get(&view).copied()
     }
 
     /// The first install that goes from a view to another.
     pub fn way(&self, from: ViewId, to: ViewId) -> Option<&'a Install>
         ensures { option_copied result ≡ first_from from to self.now }
     {
-        self.ways.get(&Way { from, to }).copied()
+        self.tables.ways.get(&Way { from, to }).copied()
     }
 
     /// With what happened next, whose message, if it tells one, is its sender's next.
@@ -134,31 +130,10 @@ impl<'a> Past<'a> {
     {
         let Past {
             mut happenings,
-            mut standings,
-            mut sent,
-            mut told,
-            mut last,
-            mut entries,
-            mut firsts,
-            mut ways,
+            mut tables,
         } = self;
-        standing::note_standing(&mut standings, happening)?;
-        notes::note_sent(alloc, &mut sent, happening)?;
-        notes::note_told(alloc, &mut told, happening)?;
-        notes::note_last(&mut last, happening)?;
-        notes::note_entry(&mut entries, happening)?;
-        notes::note_first(&mut firsts, happening)?;
-        notes::note_way(&mut ways, happening)?;
+        tables::keep(alloc, &mut tables, happening)?;
         happenings.push(happening)?;
-        Ok(Past {
-            happenings,
-            standings,
-            sent,
-            told,
-            last,
-            entries,
-            firsts,
-            ways,
-        })
+        Ok(Past { happenings, tables })
     }
 }

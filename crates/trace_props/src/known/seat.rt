@@ -1,21 +1,21 @@
 use address::{Address, ViewId};
 
 /// A member in a view.
-#[derive(Clone, Copy, Debug, PartialEq, Eq, PartialOrd, Ord)]
+#[derive(Clone, Copy, PartialEq, Eq, PartialOrd, Ord)]
 pub struct Seat {
     pub view: ViewId,
     pub member: Address,
 }
 
 /// A member in a view, and one who sent messages there.
-#[derive(Clone, Copy, Debug, PartialEq, Eq, PartialOrd, Ord)]
+#[derive(Clone, Copy, PartialEq, Eq, PartialOrd, Ord)]
 pub struct Pair {
     pub seat: Seat,
     pub sender: Address,
 }
 
 /// A way from a view to another.
-#[derive(Clone, Copy, Debug, PartialEq, Eq, PartialOrd, Ord)]
+#[derive(Clone, Copy, PartialEq, Eq, PartialOrd, Ord)]
 pub struct Way {
     pub from: ViewId,
     pub to: ViewId,

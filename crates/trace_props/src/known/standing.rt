@@ -11,7 +11,7 @@ use std::alloc::AllocError;
 use std::collections::BTreeMap;
 
 /// How a member stands: whether it has started, has ended, is blocked, and its current view.
-#[derive(Clone, Copy, Debug)]
+#[derive(Clone, Copy)]
 pub struct Standing {
     pub started: bool,
     pub ended: bool,
