@@ -10,7 +10,7 @@ ghost use Rattle.vsync_text.specs.TraceText.{GoesOnFrom, hex_digit, hex_of, hex_
 use address::{Address, ViewId};
 use itoa::Buffer;
 use std::alloc::AllocError;
-use trace_props::Numbered;
+use trace_props::{Bytes, Numbered};
 
 /// Appends bytes. Where memory is refused, what stood before is kept, and a part may have been appended.
 #[tactic(auto, using(crate::proofs::Appending::at_once, crate::proofs::Appending::same))]
@@ -93,17 +93,26 @@ pub fn put_hex(out: &mut Vec<u8>, bytes: &[u8]) -> Result<(), AllocError>
     Ok(())
 }
 
+/// Appends bytes in lower case hexadecimal, behind one byte.
+#[tactic(auto, using(crate::proofs::Appending::goes_on))]
+fn put_hex_behind(out: &mut Vec<u8>, before: u8, bytes: &[u8]) -> Result<(), AllocError>
+    ensures text { OnOk result (out.new.items ≡ out.old.items ++ before ∷ hex_of bytes.now) }
+    ensures kept { GoesOnFrom out.old.items out.new.items }
+{
+    put(out, &[before])?;
+    put_hex(out, bytes)
+}
+
 /// Appends a payload, `-` for none.
 #[tactic(auto, using(crate::proofs::Appending::goes_on))]
 pub(crate) fn put_payload(out: &mut Vec<u8>, before: u8, payload: &[u8]) -> Result<(), AllocError>
     ensures text { OnOk result (out.new.items ≡ out.old.items ++ before ∷ text_of_payload payload.now) }
     ensures kept { GoesOnFrom out.old.items out.new.items }
 {
-    put(out, &[before])?;
     if payload.is_empty() {
-        put(out, b"-")
+        put(out, &[before, b'-'])
     } else {
-        put_hex(out, payload)
+        put_hex_behind(out, before, payload)
     }
 }
 
@@ -112,7 +121,7 @@ pub(crate) fn put_payload(out: &mut Vec<u8>, before: u8, payload: &[u8]) -> Resu
 pub(crate) fn put_given(
     out: &mut Vec<u8>,
     before: u8,
-    given: Option<&[u8]>,
+    given: Option<&Bytes>,
 ) -> Result<(), AllocError>
     ensures text { OnOk result (out.new.items ≡ out.old.items ++ before ∷ text_of_given (option_copied given.entry)) }
     ensures kept { GoesOnFrom out.old.items out.new.items }
@@ -121,7 +130,7 @@ pub(crate) fn put_given(
         None => put(out, &[before, b'-']),
         Some(state) => {
             put(out, &[before, b'='])?;
-            put_hex(out, state)
+            put_hex(out, state.as_slice())
         }
     }
 }
@@ -164,8 +173,7 @@ fn put_numbered(out: &mut Vec<u8>, before: u8, message: &Numbered) -> Result<(),
     ensures kept { GoesOnFrom out.old.items out.new.items }
 {
     put_number(out, before, message.number)?;
-    put(out, b":")?;
-    put_hex(out, message.payload.as_slice())
+    put_hex_behind(out, b':', message.payload.as_slice())
 }
 
 /// Appends messages, each behind a comma.

@@ -15,7 +15,7 @@ use trace_props::Happening;
 pub(crate) const PIECE: usize = 32_768;
 
 /// Why lines were not written.
-#[derive(Clone, Copy, Debug, Drop)]
+#[derive(Drop)]
 pub(crate) enum Unwritten {
     /// Memory was refused.
     Memory,

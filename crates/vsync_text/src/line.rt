@@ -12,14 +12,14 @@ use trace_props::Bytes;
 use world_model::WorldEvent;
 
 /// Why a line was not heard.
-#[derive(Debug, Drop)]
+#[derive(Drop)]
 pub(crate) enum Unheard {
     Fault(Fault),
     Memory,
 }
 
 /// A word with which a line of a script begins.
-#[derive(Clone, Copy, Debug, Drop)]
+#[derive(Drop)]
 pub(crate) enum Word {
     Start,
     Create,
@@ -60,9 +60,9 @@ fn lone_node(rest: Option<&[u8]>) -> Result<Node, Unheard>
     ensures { MatchResult result (λ n. only (node_field (option_copied rest.entry)) ≡ Ok n) (IsUnheard (only (node_field (option_copied rest.entry)))) }
 {
     match node_field(rest) {
-        Err(fault) => Err(Unheard::Fault(fault)),
-        Ok((_, Some(_))) => Err(Unheard::Fault(Fault::BadNumber)),
         Ok((node, None)) => Ok(node),
+        Ok((_, Some(_))) => Err(Unheard::Fault(Fault::BadNumber)),
+        Err(fault) => Err(Unheard::Fault(fault)),
     }
 }
 

@@ -10,7 +10,7 @@ use trace_props::Happening;
 use world_model::{Answer, Refusal, Reply};
 
 /// How the writing of a run ended.
-#[derive(Clone, Copy, Debug, PartialEq, Eq)]
+#[derive(Clone, Copy, PartialEq, Eq)]
 pub enum Printed {
     /// The writer took all of its text.
     All,

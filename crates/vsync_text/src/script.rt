@@ -9,7 +9,7 @@ use std::marker::Model;
 use world_model::WorldEvent;
 
 /// The events of a script in order, and beside each the number of its line, from 1.
-#[derive(Debug, Drop)]
+#[derive(Drop)]
 pub struct Script {
     events: Vec<WorldEvent>,
     lines: Vec<u64>,

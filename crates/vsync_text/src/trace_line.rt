@@ -1,23 +1,49 @@
 ghost use Rattle.std.specs.Prelude.{◌≡◌, ◌++◌, OnOk, OnErr};
-ghost use Rattle.vsync_text.specs.TraceText.{GoesOnFrom, sending_fields, delivery_fields, install_view, install_rest, happening_word, fields_of, line_of};
+ghost use Rattle.std.specs.Fmt.{decimal};
+ghost use Rattle.address.specs.Ids.{text_of_address, text_of_view_id};
+ghost use Rattle.vsync_text.specs.TraceText.{GoesOnFrom, field, text_of_payload, text_of_addresses, sending_fields, delivery_fields, install_view, install_rest, happening_word, fields_of, line_of};
 ghost use Rattle.vsync_text.specs.Runs.{refusal_line};
 
 use crate::append::{
     put, put_address, put_addresses, put_given, put_handed_back, put_number, put_payload,
     put_previous, put_view_id,
 };
+use address::{Address, ViewId};
 use std::alloc::AllocError;
 use trace_props::{Delivery, Happening, Install, Sending};
+use view::View;
+
+/// Appends a member and the view in which it is.
+#[tactic(auto, using(crate::proofs::Appending::goes_on))]
+fn put_member_view(
+    out: &mut Vec<u8>,
+    member: &Address,
+    view: &ViewId,
+) -> Result<(), AllocError>
+    ensures text { OnOk result (out.new.items ≡ out.old.items ++ (field (text_of_address member.now) ++ field (text_of_view_id view.now))) }
+    ensures kept { GoesOnFrom out.old.items out.new.items }
+{
+    put_address(out, b' ', member)?;
+    put_view_id(out, b' ', view)
+}
+
+/// Appends a message: its number and its payload.
+#[tactic(auto, using(crate::proofs::Appending::goes_on))]
+fn put_message(out: &mut Vec<u8>, number: u64, payload: &[u8]) -> Result<(), AllocError>
+    ensures text { OnOk result (out.new.items ≡ out.old.items ++ (field (decimal number) ++ field (text_of_payload payload.now))) }
+    ensures kept { GoesOnFrom out.old.items out.new.items }
+{
+    put_number(out, b' ', number)?;
+    put_payload(out, b' ', payload)
+}
 
 #[tactic(auto, using(crate::proofs::Appending::goes_on))]
 fn put_sending_fields(out: &mut Vec<u8>, sending: &Sending) -> Result<(), AllocError>
     ensures text { OnOk result (out.new.items ≡ out.old.items ++ sending_fields sending.now) }
     ensures kept { GoesOnFrom out.old.items out.new.items }
 {
-    put_address(out, b' ', &sending.member)?;
-    put_view_id(out, b' ', &sending.view)?;
-    put_number(out, b' ', sending.message.number)?;
-    put_payload(out, b' ', sending.message.payload.as_slice())
+    put_member_view(out, &sending.member, &sending.view)?;
+    put_message(out, sending.message.number, sending.message.payload.as_slice())
 }
 
 #[tactic(auto, using(crate::proofs::Appending::goes_on))]
@@ -25,11 +51,19 @@ fn put_delivery_fields(out: &mut Vec<u8>, delivery: &Delivery) -> Result<(), All
     ensures text { OnOk result (out.new.items ≡ out.old.items ++ delivery_fields delivery.now) }
     ensures kept { GoesOnFrom out.old.items out.new.items }
 {
-    put_address(out, b' ', &delivery.member)?;
-    put_view_id(out, b' ', &delivery.view)?;
+    put_member_view(out, &delivery.member, &delivery.view)?;
     put_address(out, b' ', &delivery.message.sender)?;
-    put_number(out, b' ', delivery.message.number)?;
-    put_payload(out, b' ', delivery.message.payload.as_slice())
+    put_message(out, delivery.message.number, delivery.message.payload.as_slice())
+}
+
+/// Appends a view: its id and its members.
+#[tactic(auto, using(crate::proofs::Appending::goes_on))]
+fn put_view(out: &mut Vec<u8>, view: &View) -> Result<(), AllocError>
+    ensures text { OnOk result (out.new.items ≡ out.old.items ++ (field (text_of_view_id view.now.id) ++ field (text_of_addresses view.now.members))) }
+    ensures kept { GoesOnFrom out.old.items out.new.items }
+{
+    put_view_id(out, b' ', &view.id())?;
+    put_addresses(out, b' ', view.members().as_slice())
 }
 
 /// Appends which view a member installs, and from which it comes.
@@ -40,8 +74,7 @@ fn put_install_view(out: &mut Vec<u8>, install: &Install) -> Result<(), AllocErr
 {
     put_address(out, b' ', &install.member)?;
     put_previous(out, b' ', install.previous.as_ref())?;
-    put_view_id(out, b' ', &install.view.id())?;
-    put_addresses(out, b' ', install.view.members().as_slice())
+    put_view(out, &install.view)
 }
 
 /// Appends who comes together into a view, what is handed back, and the given state.
@@ -52,10 +85,7 @@ fn put_install_rest(out: &mut Vec<u8>, install: &Install) -> Result<(), AllocErr
 {
     put_addresses(out, b' ', install.together.as_slice())?;
     put_handed_back(out, b' ', install.handed_back.as_slice())?;
-    match &install.given {
-        None => put_given(out, b' ', None),
-        Some(state) => put_given(out, b' ', Some(state.as_slice())),
-    }
+    put_given(out, b' ', install.given.as_ref())
 }
 
 #[tactic(auto, using(crate::proofs::Appending::goes_on))]
@@ -83,19 +113,18 @@ fn put_fields(out: &mut Vec<u8>, happening: &Happening) -> Result<(), AllocError
     }
 }
 
-/// Appends the word with which the line of a happening begins.
-fn put_word(out: &mut Vec<u8>, happening: &Happening) -> Result<(), AllocError>
-    ensures text { OnOk result (out.new.items ≡ out.old.items ++ happening_word happening.now) }
-    ensures kept { GoesOnFrom out.old.items out.new.items }
+/// The word with which the line of a happening begins.
+fn happening_word(happening: &Happening) -> &'static [u8]
+    ensures { result.now ≡ happening_word happening.now }
 {
     match happening {
-        Happening::Started(_) => put(out, b"started"),
-        Happening::Sent(_) => put(out, b"sent"),
-        Happening::Delivered(_) => put(out, b"delivered"),
-        Happening::Blocked(_) => put(out, b"blocked"),
-        Happening::Installed(_) => put(out, b"installed"),
-        Happening::Left(_) => put(out, b"left"),
-        Happening::Crashed(_) => put(out, b"crashed"),
+        Happening::Started(_) => b"started",
+        Happening::Sent(_) => b"sent",
+        Happening::Delivered(_) => b"delivered",
+        Happening::Blocked(_) => b"blocked",
+        Happening::Installed(_) => b"installed",
+        Happening::Left(_) => b"left",
+        Happening::Crashed(_) => b"crashed",
     }
 }
 
@@ -105,9 +134,19 @@ fn put_happening(out: &mut Vec<u8>, happening: &Happening) -> Result<(), AllocEr
     ensures text { OnOk result (out.new.items ≡ out.old.items ++ line_of happening.now) }
     ensures kept { GoesOnFrom out.old.items out.new.items }
 {
-    put_word(out, happening)?;
+    put(out, happening_word(happening))?;
     put_fields(out, happening)?;
     put(out, b"\n")
+}
+
+/// Appends two numbers, each behind a space.
+#[tactic(auto, using(crate::proofs::Appending::goes_on))]
+fn put_two_numbers(out: &mut Vec<u8>, first: u64, second: u64) -> Result<(), AllocError>
+    ensures text { OnOk result (out.new.items ≡ out.old.items ++ (field (decimal first) ++ field (decimal second))) }
+    ensures kept { GoesOnFrom out.old.items out.new.items }
+{
+    put_number(out, b' ', first)?;
+    put_number(out, b' ', second)
 }
 
 /// Appends the refusal of the event of a line or a part of it.
@@ -117,8 +156,7 @@ fn put_refusal(out: &mut Vec<u8>, line: u64, number: u8) -> Result<(), AllocErro
     ensures kept { GoesOnFrom out.old.items out.new.items }
 {
     put(out, b"# refused")?;
-    put_number(out, b' ', line)?;
-    put_number(out, b' ', u64::from(number))?;
+    put_two_numbers(out, line, u64::from(number))?;
     put(out, b"\n")
 }
 
