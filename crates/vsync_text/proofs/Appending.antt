@@ -1,6 +1,8 @@
 -- A text that goes on from another keeps it at its front.
-use Rattle.std.proofs.Common.{◌≡◌, ℕ, ◌≤◌, List, ◌++◌, length, take, sym, ◌∙◌, ap, arith, length-take}
-use Rattle.std.proofs.Math.Seq.{take-length, take-append_seam, take-take}
+use Rattle.std.proofs.Common.{◌≡◌, ℕ, ◌+◌, ◌≤◌, ◌<◌, List, [], ◌∷◌, get_or, suc, append_assoc, append-nil, ◌++◌, length, take, sym, ◌∙◌, ap, arith, length-take}
+use Rattle.std.proofs.Math.Seq.{take-length, take-suc, take-append_seam, take-take}
+use Rattle.std.specs.Prelude.{flat_map}
+use Rattle.std.proofs.lemmas.Grind.{flat_map-append}
 use Rattle.vsync_text.specs.TraceText.{GoesOnFrom}
 
 pub stays : (a : List ℕ) → GoesOnFrom a a
@@ -16,3 +18,17 @@ pub goes_on : (a b c : List ℕ) → GoesOnFrom a b → GoesOnFrom b c → GoesO
 goes_on a b c ab bc =
     let short : length a ≤ length b = omega (arith, ap length ab.front, length-take (length a) b) in
     record { front = sym (take-take (length a) (length b) c short) ∙ ap (take (length a)) bc.front ∙ ab.front }
+
+next_text : {X : Type 0} (f : X → List ℕ) (xs : List X) (i : ℕ) (x d : X) → x ≡ get_or xs i d → i < length xs
+    → flat_map f (take (i + 1) xs) ≡ flat_map f (take i xs) ++ f x
+next_text f xs i x d at inside =
+    let e : i + 1 ≡ suc i = omega arith in
+    ap (λ n. flat_map f (take n xs)) e ∙ ap (flat_map f) (take-suc xs i d inside) ∙ flat_map-append f (take i xs) (get_or xs i d ∷ [])
+    ∙ ap (λ t. flat_map f (take i xs) ++ t) (append-nil (f (get_or xs i d)) ∙ ap f (sym at))
+
+-- one text more of those that stand one behind another
+pub puts_next : {X : Type 0} (f : X → List ℕ) (a b c : List ℕ) (xs : List X) (i : ℕ) (x d : X) → x ≡ get_or xs i d → i < length xs
+    → (b ≡ a ++ flat_map f (take i xs)) × GoesOnFrom a b → c ≡ b ++ f x → GoesOnFrom b c
+    → (c ≡ a ++ flat_map f (take (i + 1) xs)) × GoesOnFrom a c
+puts_next f a b c xs i x d at inside before more kept =
+    (more ∙ ap (λ t. t ++ f x) before.0 ∙ append_assoc a _ _ ∙ ap (λ t. a ++ t) (sym (next_text f xs i x d at inside)), goes_on a b c before.1 kept)

@@ -1,5 +1,5 @@
 -- How writings of lines through a buffer follow one another.
-use Rattle.std.proofs.Common.{◌≡◌, ℕ, ◌+◌, List, [], ◌∷◌, ◌++◌, Option, None, Some, Result, Ok, Err, length, take, drop, refl, sym, ◌∙◌, ap, append_assoc, append-nil, suc, zero, subst, map, nat_eq, false, ne_eqb}
+use Rattle.std.proofs.Common.{◌≡◌, ℕ, ◌+◌, arith, List, [], ◌∷◌, ◌++◌, Option, None, Some, Result, Ok, Err, length, take, drop, refl, sym, ◌∙◌, ap, append_assoc, append-nil, suc, zero, subst, map, nat_eq, false, ne_eqb}
 use Rattle.std.proofs.Math.Seq.{take-append-add, take-add}
 use Rattle.std.specs.List.{concat}
 use Rattle.std.specs.Io.KnownBytes.{Appends}
@@ -160,6 +160,32 @@ stops_event a b c h l m why from line reply lines later_lines replies later t al
     let P : List ℕ → Type 0 = λ k. GoesOn a b h l (lines_from from k replies t) all in
     let Q : List Reply → Type 0 = λ k. GoesOn a b h l (lines_from from (line ∷ later_lines) k t) all in
     stops a b c h l m why (event_lines from line reply t) (lines_from reply.place later_lines later t) all (subst Q f (subst P e g)) w
+
+pub goes_event : (a b c : Option (List ℕ)) (h l m : List ℕ) (from line : ℕ) (reply : Reply)
+    (lines later_lines : List ℕ) (replies later : List Reply) (t : List Happening) (all : List (List ℕ))
+    → lines ≡ line ∷ later_lines → replies ≡ reply ∷ later → GoesOn a b h l (lines_from from lines replies t) all
+    → Went b c l m (concat (event_lines from line reply t)) → GoesOn a c h m (lines_from reply.place later_lines later t) all
+goes_event a b c h l m from line reply lines later_lines replies later t all e f g w =
+    let P : List ℕ → Type 0 = λ k. GoesOn a b h l (lines_from from k replies t) all in
+    let Q : List Reply → Type 0 = λ k. GoesOn a b h l (lines_from from (line ∷ later_lines) k t) all in
+    goes a b c h l m (event_lines from line reply t) (lines_from reply.place later_lines later t) all (subst Q f (subst P e g)) w
+
+-- no line or no reply is left
+pub ends_lines : (a b : Option (List ℕ)) (h l : List ℕ) (from : ℕ) (lines : List ℕ) (replies : List Reply) (t : List Happening) (all : List (List ℕ))
+    → length lines ≡ 0 → GoesOn a b h l (lines_from from lines replies t) all → Went a b h l (concat all)
+ends_lines a b h l from [] replies t all e g = ends a b h l all g
+ends_lines a b h l from (line ∷ lines) replies t all e g = absurd (omega (arith, e))
+
+pub ends_replies : (a b : Option (List ℕ)) (h l : List ℕ) (from : ℕ) (lines : List ℕ) (replies : List Reply) (t : List Happening) (all : List (List ℕ))
+    → length replies ≡ 0 → GoesOn a b h l (lines_from from lines replies t) all → Went a b h l (concat all)
+ends_replies a b h l from [] replies t all e g = ends a b h l all g
+ends_replies a b h l from (line ∷ lines) [] t all e g = ends a b h l all g
+ends_replies a b h l from (line ∷ lines) (reply ∷ replies) t all e g = absurd (omega (arith, e))
+
+pub ends_one : {H : Type 0} (f : H → List ℕ) (a b : Option (List ℕ)) (h l : List ℕ) (rest : List H) (all : List (List ℕ))
+    → length rest ≡ 0 → GoesOn a b h l (map f rest) all → Went a b h l (concat all)
+ends_one f a b h l [] all e g = ends a b h l all g
+ends_one f a b h l (x ∷ rest) all e g = absurd (omega (arith, e))
 
 -- the end of a run: what is held goes too
 pub all_taken : (a b c : Option (List ℕ)) (l text : List ℕ) → Went a b [] l text → Appends b c l → Appends a c text

@@ -1,5 +1,5 @@
 -- The lines of a text, and the fields of a line.
-use Rattle.std.specs.Prelude.{ℕ, Bool, List, [], ◌∷◌, Option, None, Some, nat_eq, drop, if◌then◌else◌}
+use Rattle.std.specs.Prelude.{ℕ, List, [], ◌∷◌, Option, None, Some, nat_eq, drop, if◌then◌else◌}
 use Rattle.std.specs.List.{before_first, position_or_len}
 
 -- a byte before the first of some lines

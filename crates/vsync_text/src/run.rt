@@ -1,4 +1,4 @@
-ghost use Rattle.std.specs.Prelude.{◌≡◌, take, drop, map};
+ghost use Rattle.std.specs.Prelude.{◌≡◌, [], take, drop, map};
 ghost use Rattle.vsync_text.specs.TraceText.{line_of};
 ghost use Rattle.vsync_text.specs.Runs.{stretch, refused_lines, answer_lines, event_lines, lines_from, lines_of_run};
 ghost use Rattle.vsync_text.specs.Writing.{Writes, Prints};
@@ -38,7 +38,6 @@ fn stretch(from: usize, to: usize, happenings: &[Happening]) -> &[Happening]
 }
 
 /// Writes the lines of happenings.
-#[tactic(auto, using(crate::proofs::Writing::begins, crate::proofs::Writing::goes, crate::proofs::Writing::stops, crate::proofs::Writing::ends))]
 fn write_happenings<W: Write>(
     writer: &mut W,
     buffer: &mut Vec<u8>,
@@ -107,7 +106,6 @@ fn write_event<W: Write>(
 }
 
 /// Writes the lines of all events.
-#[tactic(auto, using(crate::proofs::Writing::begins, crate::proofs::Writing::goes, crate::proofs::Writing::stops, crate::proofs::Writing::ends))]
 fn write_events<W: Write>(
     writer: &mut W,
     buffer: &mut Vec<u8>,
@@ -134,13 +132,35 @@ fn write_events<W: Write>(
     Ok(())
 }
 
+/// Writes the text of a run through a buffer that holds nothing yet.
+#[tactic(auto, using(crate::proofs::Writing::all_taken, crate::proofs::Writing::beginning_taken, crate::proofs::Writing::lines_taken, crate::proofs::Writing::text_taken))]
+fn write_through<W: Write>(
+    writer: &mut W,
+    buffer: &mut Vec<u8>,
+    lines: &[u64],
+    replies: &[Reply],
+    happenings: &[Happening],
+) -> Printed
+    requires empty { buffer.old.items ≡ [] }
+    ensures { Prints (W.contents writer.old) (W.contents writer.new) result (lines_of_run lines.now replies.now happenings.now) }
+{
+    match write_events(writer, buffer, lines, replies, happenings) {
+        Err(Unwritten::Memory) => Printed::Memory,
+        Err(Unwritten::Failed) => Printed::Failed,
+        Ok(()) => match settle(writer, buffer) {
+            Err(_) => Printed::Failed,
+            Ok(()) => Printed::All,
+        },
+    }
+}
+
 /// Writes the text of a run: for each reply in order, the lines of the happenings from the place of the reply before it up
 /// to its own, and then, where the event is refused for another reason than memory, `# refused LINE NUMBER` with the
 /// event's line number. `lines` are the line numbers of the events, in their order. The text goes out in pieces through one buffer.
 ///
 /// It says how the writing ended: all of it was taken; memory was refused, and the writer took whole lines of a beginning;
 /// or the writer failed, and took a beginning.
-#[tactic(auto, using(crate::proofs::Writing::all_taken, crate::proofs::Writing::beginning_taken, crate::proofs::Writing::lines_taken, crate::proofs::Writing::text_taken, crate::proofs::Writing::nothing_taken))]
+#[tactic(auto, using(crate::proofs::Writing::nothing_taken))]
 pub fn write_run<W: Write>(
     alloc: Global,
     writer: &mut W,
@@ -153,13 +173,5 @@ pub fn write_run<W: Write>(
     let Ok(mut buffer) = Vec::with_capacity(alloc, 2 * PIECE) else {
         return Printed::Memory;
     };
-    match write_events(writer, &mut buffer, lines, replies, happenings) {
-        Err(Unwritten::Memory) => Printed::Memory,
-        Err(Unwritten::Failed) => Printed::Failed,
-        Ok(()) => match settle(writer, &mut buffer) {
-            Err(Unwritten::Memory) => Printed::Memory,
-            Err(Unwritten::Failed) => Printed::Failed,
-            Ok(()) => Printed::All,
-        },
-    }
+    write_through(writer, &mut buffer, lines, replies, happenings)
 }

@@ -15,11 +15,7 @@ use view::View;
 
 /// Appends a member and the view in which it is.
 #[tactic(auto, using(crate::proofs::Appending::goes_on))]
-fn put_member_view(
-    out: &mut Vec<u8>,
-    member: &Address,
-    view: &ViewId,
-) -> Result<(), AllocError>
+fn put_member_view(out: &mut Vec<u8>, member: &Address, view: &ViewId) -> Result<(), AllocError>
     ensures text { OnOk result (out.new.items ≡ out.old.items ++ (field (text_of_address member.now) ++ field (text_of_view_id view.now))) }
     ensures kept { GoesOnFrom out.old.items out.new.items }
 {
@@ -43,7 +39,11 @@ fn put_sending_fields(out: &mut Vec<u8>, sending: &Sending) -> Result<(), AllocE
     ensures kept { GoesOnFrom out.old.items out.new.items }
 {
     put_member_view(out, &sending.member, &sending.view)?;
-    put_message(out, sending.message.number, sending.message.payload.as_slice())
+    put_message(
+        out,
+        sending.message.number,
+        sending.message.payload.as_slice(),
+    )
 }
 
 #[tactic(auto, using(crate::proofs::Appending::goes_on))]
@@ -53,7 +53,11 @@ fn put_delivery_fields(out: &mut Vec<u8>, delivery: &Delivery) -> Result<(), All
 {
     put_member_view(out, &delivery.member, &delivery.view)?;
     put_address(out, b' ', &delivery.message.sender)?;
-    put_message(out, delivery.message.number, delivery.message.payload.as_slice())
+    put_message(
+        out,
+        delivery.message.number,
+        delivery.message.payload.as_slice(),
+    )
 }
 
 /// Appends a view: its id and its members.
