@@ -13,7 +13,7 @@ use Rattle.wire.specs.Reading.{◌>>=◌, number_at}
 use Rattle.wire.specs.Fields.{IsViewId, IsPlaced, number_bytes, view_id_bytes, placed_bytes, view_id_at}
 use Rattle.wire.specs.Lists.{are_held, is_filled, held_bytes, held_at, held_count_at, filled_at, items_count_at}
 use Rattle.wire.proofs.Bytes.{IsBytes, wide1, wide8}
-use Rattle.wire.proofs.FieldLaws.{bind_ok, ok_is, test_ok, both_true, Takes, Takes-then, view_id_part, number_takes, number_again, eight_again}
+use Rattle.wire.proofs.FieldLaws.{bind_ok, ok_is, test_ok, both_true, along, back, Takes, Takes-then, view_id_part, number_takes, number_again, eight_again}
 use Rattle.wire.proofs.ListLaws.{held_takes, held_again}
 
 -- ---- how many entries there are
@@ -71,31 +71,62 @@ filled-rules r e =
 pub rules-filled : (r : Report) → Filled r → is_filled r ≡ true
 rules-filled r f = rw (le-leb _ _ f.stable, le-leb _ _ f.near, le-leb _ _ f.few, le-leb _ _ f.enough) f.rising
 
+-- a report of these parts, one behind the other
+filled_of : (bytes : List ℕ) (v : ViewId) (b1 : List ℕ) (stable : ℕ) (b2 : List ℕ) (delivered : ℕ) (b3 : List ℕ) (n : ℕ) (b4 : List ℕ) (held : List (ℕ × Entry)) (b5 : List ℕ)
+    → Takes bytes (view_id_bytes v) b1 → Takes b1 (number_bytes stable) b2 → Takes b2 (number_bytes delivered) b3 → Takes b3 (big_bytes 1 n) b4 → Takes b4 (flat_map placed_bytes held) b5 → length held ≡ n
+    → Takes bytes (view_id_bytes v ++ number_bytes stable ++ number_bytes delivered ++ held_bytes held) b5
+filled_of bytes v b1 stable b2 delivered b3 n b4 held b5 t u w x y count =
+    let counted : Takes b3 (held_bytes held) b5 = back (λ (k : ℕ). Takes b3 (big_bytes 1 k ++ flat_map placed_bytes held) b5) (length held) n count (Takes-then b3 (big_bytes 1 n) b4 (flat_map placed_bytes held) b5 x y) in
+    let one = Takes-then bytes (view_id_bytes v) b1 (number_bytes stable) b2 t u in
+    let two = Takes-then bytes (view_id_bytes v ++ number_bytes stable) b2 (number_bytes delivered) b3 one w in
+    Takes-then bytes (view_id_bytes v ++ number_bytes stable ++ number_bytes delivered) b3 (held_bytes held) b5 two counted
+
+filled_is : (v : ViewId) (stable delivered n : ℕ) (held : List (ℕ × Entry)) → stable ≤ delivered → delivered ≤ min (stable + WINDOW) GREATEST_NUMBER → n ≤ WINDOW → delivered ≤ stable + n → length held ≡ n → are_held stable delivered stable held ≡ true
+    → Filled (report_of v stable delivered held)
+filled_is v stable delivered n held least near few enough count rising = record { stable = least; near = near; few = omega arith; enough = omega arith; rising = rising }
+
+small_of : (stable delivered : ℕ) → delivered ≤ min (stable + WINDOW) GREATEST_NUMBER → delivered ≤ GREATEST_NUMBER
+small_of stable delivered near = omega arith
+
+-- what the reading of a report of a view found
+abbrev FilledAs : List ℕ → Report × List ℕ → Type 0
+FilledAs bytes p = (v : ViewId) × (p.0.previous ≡ Some v) × Takes bytes (view_id_bytes v ++ number_bytes p.0.stable ++ number_bytes p.0.delivered ++ held_bytes p.0.held) p.1 × IsViewId v × AllByRecursion IsPlaced p.0.held × Filled p.0
+
+-- it reads behind the two counts
+filled_behind : (bytes : List ℕ) (v : ViewId) (b1 : List ℕ) (s : ℕ) (b2 : List ℕ) (d : ℕ) (b3 : List ℕ) (found : Report × List ℕ)
+    → Takes bytes (view_id_bytes v) b1 → IsViewId v → Takes b1 (number_bytes s) b2 → Takes b2 (number_bytes d) b3 → s ≤ d → d ≤ min (s + WINDOW) GREATEST_NUMBER
+    → (held_count_at s d b3 >>= λ count. held_at s d s count.0 count.1 >>= λ held. Ok (report_of v s d held.0, held.1)) ≡ Ok found → FilledAs bytes found
+filled_behind bytes v b1 s b2 d b3 found t is u w least near e =
+    let f = bind_ok (held_count_at s d b3) (λ count. held_at s d s count.0 count.1 >>= λ held. Ok (report_of v s d held.0, held.1)) found e in
+    let g = bind_ok (held_at s d s f.0.0 f.0.1) (λ held. Ok (report_of v s d held.0, held.1)) found f.2 in
+    let x = held_count_takes s d b3 f.0.0 f.0.1 w.rest_fits f.1 in
+    let y = held_takes s d s f.0.0 f.0.1 g.0.0 g.0.1 (small_of s d near) x.0.rest_fits g.1 in
+    along (FilledAs bytes) (report_of v s d g.0.0, g.0.1) found (ok_is (report_of v s d g.0.0, g.0.1) found g.2)
+    (v, refl, filled_of bytes v b1 s b2 d b3 f.0.0 f.0.1 g.0.0 g.0.1 t u w x.0 y.0 y.1, is, y.2, filled_is v s d f.0.0 g.0.0 least near x.1 x.2 y.1 y.3)
+
+-- it reads behind the stable count
+filled_from : (bytes : List ℕ) (v : ViewId) (b1 : List ℕ) (s : ℕ) (b2 : List ℕ) (found : Report × List ℕ) → Takes bytes (view_id_bytes v) b1 → IsViewId v → Takes b1 (number_bytes s) b2
+    → (number_at 8 s (min (s + WINDOW) GREATEST_NUMBER) Value b2 >>= λ delivered. held_count_at s delivered.0 delivered.1 >>= λ count. held_at s delivered.0 s count.0 count.1 >>= λ held. Ok (report_of v s delivered.0 held.0, held.1)) ≡ Ok found → FilledAs bytes found
+filled_from bytes v b1 s b2 found t is u e =
+    let c = bind_ok (number_at 8 s (min (s + WINDOW) GREATEST_NUMBER) Value b2) (λ delivered. held_count_at s delivered.0 delivered.1 >>= λ count. held_at s delivered.0 s count.0 count.1 >>= λ held. Ok (report_of v s delivered.0 held.0, held.1)) found e in
+    let w = number_takes 8 wide8 s (min (s + WINDOW) GREATEST_NUMBER) Value b2 c.0.0 c.0.1 u.rest_fits c.1 in
+    filled_behind bytes v b1 s b2 c.0.0 c.0.1 found t is u w.0 w.1 w.2 c.2
+
+-- it reads behind the view
+filled_in : (bytes : List ℕ) (v : ViewId) (b1 : List ℕ) (found : Report × List ℕ) → Takes bytes (view_id_bytes v) b1 → IsViewId v
+    → (number_at 8 0 GREATEST_NUMBER Value b1 >>= λ stable. number_at 8 stable.0 (min (stable.0 + WINDOW) GREATEST_NUMBER) Value stable.1 >>= λ delivered. held_count_at stable.0 delivered.0 delivered.1 >>= λ count. held_at stable.0 delivered.0 stable.0 count.0 count.1 >>= λ held. Ok (report_of v stable.0 delivered.0 held.0, held.1)) ≡ Ok found → FilledAs bytes found
+filled_in bytes v b1 found t is e =
+    let b = bind_ok (number_at 8 0 GREATEST_NUMBER Value b1) (λ stable. number_at 8 stable.0 (min (stable.0 + WINDOW) GREATEST_NUMBER) Value stable.1 >>= λ delivered. held_count_at stable.0 delivered.0 delivered.1 >>= λ count. held_at stable.0 delivered.0 stable.0 count.0 count.1 >>= λ held. Ok (report_of v stable.0 delivered.0 held.0, held.1)) found e in
+    let u = number_takes 8 wide8 0 GREATEST_NUMBER Value b1 b.0.0 b.0.1 t.rest_fits b.1 in
+    filled_from bytes v b1 b.0.0 b.0.1 found t is u.0 b.2
+
 pub filled_takes : (bytes : List ℕ) (r : Report) (rest : List ℕ) → IsBytes bytes → filled_at bytes ≡ Ok (r, rest)
     → (v : ViewId) × (r.previous ≡ Some v) × Takes bytes (view_id_bytes v ++ number_bytes r.stable ++ number_bytes r.delivered ++ held_bytes r.held) rest × IsViewId v × AllByRecursion IsPlaced r.held × Filled r
 unfolding filled_at
 filled_takes bytes r rest fits e =
     let a = bind_ok (view_id_at bytes) (λ previous. number_at 8 0 GREATEST_NUMBER Value previous.1 >>= λ stable. number_at 8 stable.0 (min (stable.0 + WINDOW) GREATEST_NUMBER) Value stable.1 >>= λ delivered. held_count_at stable.0 delivered.0 delivered.1 >>= λ count. held_at stable.0 delivered.0 stable.0 count.0 count.1 >>= λ held. Ok (report_of previous.0 stable.0 delivered.0 held.0, held.1)) (r, rest) e in
-    let b = bind_ok (number_at 8 0 GREATEST_NUMBER Value a.0.1) (λ stable. number_at 8 stable.0 (min (stable.0 + WINDOW) GREATEST_NUMBER) Value stable.1 >>= λ delivered. held_count_at stable.0 delivered.0 delivered.1 >>= λ count. held_at stable.0 delivered.0 stable.0 count.0 count.1 >>= λ held. Ok (report_of a.0.0 stable.0 delivered.0 held.0, held.1)) (r, rest) a.2 in
-    let s = b.0.0 in
-    let c = bind_ok (number_at 8 s (min (s + WINDOW) GREATEST_NUMBER) Value b.0.1) (λ delivered. held_count_at s delivered.0 delivered.1 >>= λ count. held_at s delivered.0 s count.0 count.1 >>= λ held. Ok (report_of a.0.0 s delivered.0 held.0, held.1)) (r, rest) b.2 in
-    let d = c.0.0 in
-    let f = bind_ok (held_count_at s d c.0.1) (λ count. held_at s d s count.0 count.1 >>= λ held. Ok (report_of a.0.0 s d held.0, held.1)) (r, rest) c.2 in
-    let g = bind_ok (held_at s d s f.0.0 f.0.1) (λ held. Ok (report_of a.0.0 s d held.0, held.1)) (r, rest) f.2 in
-    let held : List (ℕ × Entry) = g.0.0 in
     let t = view_id_part.takes bytes a.0.0 a.0.1 fits a.1 in
-    let u = number_takes 8 wide8 0 GREATEST_NUMBER Value a.0.1 s b.0.1 t.0.rest_fits b.1 in
-    let v = number_takes 8 wide8 s (min (s + WINDOW) GREATEST_NUMBER) Value b.0.1 d c.0.1 u.0.rest_fits c.1 in
-    let w = held_count_takes s d c.0.1 f.0.0 f.0.1 v.0.rest_fits f.1 in
-    let x = held_takes s d s f.0.0 f.0.1 held g.0.1 (omega (arith, v.2)) w.0.rest_fits g.1 in
-    let counted : Takes c.0.1 (held_bytes held) g.0.1 = subst (λ (n : ℕ). Takes c.0.1 (big_bytes 1 n ++ flat_map placed_bytes held) g.0.1) (sym x.1) (Takes-then c.0.1 (big_bytes 1 f.0.0) f.0.1 (flat_map placed_bytes held) g.0.1 w.0 x.0) in
-    let one = Takes-then bytes (view_id_bytes a.0.0) a.0.1 (number_bytes s) b.0.1 t.0 u.0 in
-    let two = Takes-then bytes (view_id_bytes a.0.0 ++ number_bytes s) b.0.1 (number_bytes d) c.0.1 one v.0 in
-    let all = Takes-then bytes (view_id_bytes a.0.0 ++ number_bytes s ++ number_bytes d) c.0.1 (held_bytes held) g.0.1 two counted in
-    let made : Report = report_of a.0.0 s d held in
-    let is : Filled made = record { stable = v.1; near = v.2; few = omega (arith, x.1, w.1); enough = omega (arith, x.1, w.2); rising = x.3 } in
-    subst (λ (p : Report × List ℕ). (v : ViewId) × (p.0.previous ≡ Some v) × Takes bytes (view_id_bytes v ++ number_bytes p.0.stable ++ number_bytes p.0.delivered ++ held_bytes p.0.held) p.1 × IsViewId v × AllByRecursion IsPlaced p.0.held × Filled p.0)
-    (ok_is (made, g.0.1) (r, rest) g.2) (a.0.0, refl, all, t.1, x.2, is)
+    filled_in bytes a.0.0 a.0.1 (r, rest) t.0 t.1 a.2
 
 pub filled_again : (v : ViewId) (r : Report) (rest : List ℕ) → r.previous ≡ Some v → IsViewId v → AllByRecursion IsPlaced r.held → Filled r
     → filled_at ((view_id_bytes v ++ number_bytes r.stable ++ number_bytes r.delivered ++ held_bytes r.held) ++ rest) ≡ Ok (r, rest)

@@ -79,7 +79,7 @@ pub(crate) fn entry_at<'a>(from: &mut Reader<'a>) -> Result<Entry<'a>, WireError
 }
 
 /// The entries of an INSTALL in lent bytes, spelled one behind the other. Contracts see them as a list.
-#[derive(Debug, Drop)]
+#[derive(Drop)]
 pub struct Items<'a> {
     count: u8,
     bytes: &'a [u8],
@@ -220,7 +220,7 @@ pub(crate) fn items_at<'a>(count: u8, from: &mut Reader<'a>) -> Result<Items<'a>
 
 /// The entries of a REPORT in lent bytes, spelled one behind the other, each with its place in the view's
 /// order before it. Contracts see them as a list of pairs.
-#[derive(Debug, Drop)]
+#[derive(Drop)]
 pub struct Held<'a> {
     len: u8,
     text: &'a [u8],

@@ -10,7 +10,7 @@ use byteorder::{BigEndian, ByteOrder};
 use std::marker::Model;
 
 /// What is left of some bytes. Each call takes a field off the front, or answers why it fails.
-#[derive(Debug, Drop)]
+#[derive(Drop)]
 pub(crate) struct Reader<'a> {
     rest: &'a [u8],
 }

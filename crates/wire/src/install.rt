@@ -16,7 +16,7 @@ use view::MEMBERS;
 
 /// A view to be installed: who of its members come from the same view, the messages of that one from the
 /// base on, in lent bytes, and the state, if one is given.
-#[derive(Debug, Drop)]
+#[derive(Drop)]
 pub struct Install<'a> {
     view: Roster,
     together: Members,

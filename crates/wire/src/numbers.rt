@@ -10,7 +10,7 @@ use address::GREATEST_NUMBER;
 use std::marker::Model;
 
 /// A number from 1 to 2^62: of a message, of a place in a view's order, or a view's counter.
-#[derive(Clone, Copy, Debug, PartialEq, Eq, PartialOrd, Ord, Hash)]
+#[derive(Clone, Copy, Debug)]
 pub struct Number {
     value: u64,
 }
@@ -49,7 +49,7 @@ impl Number {
 }
 
 /// A count of messages, 0 to 2^62.
-#[derive(Clone, Copy, Debug, PartialEq, Eq, PartialOrd, Ord, Hash)]
+#[derive(Clone, Copy, Debug, PartialEq, Eq, PartialOrd, Ord)]
 pub struct Count {
     count: u64,
 }
@@ -95,7 +95,7 @@ impl Count {
 }
 
 /// Numbers of a view's order that are missing, from the first to the last of them.
-#[derive(Clone, Copy, Debug, PartialEq, Eq)]
+#[derive(Clone, Copy)]
 pub struct Missing {
     first: Number,
     last: Number,
@@ -143,7 +143,7 @@ impl Missing {
 
 /// How far the order of a view has come: the highest number, and the stable one, up to which all members
 /// have it. They lie at most the window apart.
-#[derive(Clone, Copy, Debug, PartialEq, Eq)]
+#[derive(Clone, Copy)]
 pub struct Progress {
     highest: Count,
     stable: Count,

@@ -10,7 +10,7 @@ use crate::text::{GroupName, Payload};
 use address::{Address, ViewId};
 
 /// What a packet says, by its kind.
-#[derive(Debug, Drop)]
+#[derive(Drop)]
 pub enum Body<'a> {
     /// 1 JOIN: let me in.
     Join,
@@ -88,7 +88,7 @@ impl<'a> Body<'a> {
 
 /// A packet: the group that it is for, who sent it and to whom, and what it says. What it lists lies in lent
 /// bytes.
-#[derive(Debug, Drop)]
+#[derive(Drop)]
 pub struct Packet<'a> {
     pub group: GroupName<'a>,
     pub source: Address,

@@ -14,7 +14,7 @@ use std::marker::Model;
 
 /// What a member reports of the view that it comes from: its id, how far it has the view's order, and the
 /// entries past the stable one, in lent bytes.
-#[derive(Debug, Drop)]
+#[derive(Drop)]
 pub struct Report<'a> {
     previous: Option<ViewId>,
     stable: Count,

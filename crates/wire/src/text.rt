@@ -13,7 +13,7 @@ use crate::{GROUP_NAME, PAYLOAD, STATE};
 use std::marker::Model;
 
 /// A group's name in lent bytes: 1 to 32 letters, digits, `-` and `_` of ASCII.
-#[derive(Debug, Drop)]
+#[derive(Drop)]
 pub struct GroupName<'a> {
     name: &'a [u8],
 }
@@ -105,7 +105,7 @@ impl<'a> Payload<'a> {
 }
 
 /// A state in lent bytes, at most 16,384 of them.
-#[derive(Debug, Drop)]
+#[derive(Drop)]
 pub struct State<'a> {
     state: &'a [u8],
 }
