@@ -10,7 +10,7 @@ use std::marker::Model;
 use wire::{Count, Entry, Held, Report};
 
 /// A report as a flush keeps it: its counts, and a copy of the bytes that spell its entries.
-#[derive(Debug, Drop)]
+#[derive(Drop)]
 pub(crate) struct Kept {
     previous: Option<ViewId>,
     stable: Count,

@@ -29,7 +29,7 @@ pub enum InstallAnswer {
 
 /// What a member promised: the greatest proposal of a view that it took, its id and its list, and whether that view is installed. It lies in
 /// the value itself and takes no memory (docs/PROTOCOL.md, "Promise").
-#[derive(Debug, Drop)]
+#[derive(Drop)]
 pub struct Promise {
     member: Address,
     proposal: Option<Roster>,

@@ -52,6 +52,20 @@ filled_report bytes flag after r rest one t f =
 no_entries : (held : List (ℕ × Entry)) → eqb (length held) 0 ≡ true → held ≡ []
 no_entries held e = nil_from_length held (eqb-true _ _ e)
 
+-- the report of no view, and one of a view
+pub none_fits : (r : Report) → r.previous ≡ None → is_report r ≡ true → IsReport r
+none_fits r named rules =
+    let nothing : is_nothing r ≡ true = subst (λ (o : Option ViewId). option_map_or (λ _. is_filled r) o (is_nothing r) ≡ true) named rules in
+    let t = both_true (eqb r.stable 0 && eqb r.delivered 0) (eqb (length r.held) 0) nothing in
+    record {
+      previous = subst (λ (o : Option ViewId). IfSome o IsViewId) (sym named) tt;
+      entries = subst (λ (h : List (ℕ × Entry)). AllByRecursion IsPlaced h) (sym (no_entries r.held t.1)) tt;
+      rules = rules;
+    }
+
+pub some_fits : (v : ViewId) (r : Report) → r.previous ≡ Some v → IsViewId v → AllByRecursion IsPlaced r.held → is_report r ≡ true → IsReport r
+some_fits v r named is placed rules = record { previous = subst (λ (o : Option ViewId). IfSome o IsViewId) (sym named) is; entries = placed; rules = rules }
+
 none_again : (r : Report) (rest : List ℕ) → r.previous ≡ None → is_report r ≡ true → report_at (report_bytes r ++ rest) ≡ Ok (r, rest)
 unfolding report_at
 none_again r rest named rules =

@@ -15,7 +15,7 @@ use address::{Address, GREATEST_NUMBER};
 use std::marker::Model;
 
 /// A message as packets carry it: its sender, its number among the sender's, and its payload in lent bytes.
-#[derive(Debug, Drop)]
+#[derive(Drop)]
 pub struct Entry<'a> {
     sender: Address,
     number: Number,

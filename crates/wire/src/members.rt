@@ -12,7 +12,7 @@ use std::marker::Model;
 use view::MEMBERS;
 
 /// At most 16 addresses, which lie in the value itself. Contracts see them as a list.
-#[derive(Debug, Drop)]
+#[derive(Drop)]
 pub struct Members {
     count: usize,
     items: [Address; MEMBERS],
@@ -94,7 +94,7 @@ impl Members {
 }
 
 /// A view as packets carry it: its id, and its members in order, which lie in the value itself.
-#[derive(Debug, Drop)]
+#[derive(Drop)]
 pub struct Roster {
     id: ViewId,
     members: Members,

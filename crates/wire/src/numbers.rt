@@ -10,7 +10,7 @@ use address::GREATEST_NUMBER;
 use std::marker::Model;
 
 /// A number from 1 to 2^62: of a message, of a place in a view's order, or a view's counter.
-#[derive(Clone, Copy, Debug)]
+#[derive(Clone, Copy)]
 pub struct Number {
     value: u64,
 }
@@ -49,7 +49,7 @@ impl Number {
 }
 
 /// A count of messages, 0 to 2^62.
-#[derive(Clone, Copy, Debug, PartialEq, Eq, PartialOrd, Ord)]
+#[derive(Clone, Copy, PartialEq, Eq, PartialOrd, Ord)]
 pub struct Count {
     count: u64,
 }

@@ -68,7 +68,7 @@ impl<'a> GroupName<'a> {
 }
 
 /// A message's payload in lent bytes, at most 512 of them.
-#[derive(Debug, Drop)]
+#[derive(Drop)]
 pub struct Payload<'a> {
     payload: &'a [u8],
 }
