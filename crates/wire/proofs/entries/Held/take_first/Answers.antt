@@ -1,4 +1,4 @@
-use Rattle.std.proofs.Common.{◌≡◌, ◌-◌, ◌∷◌, List, ℕ, Ok, Err, true, sym, ap, subst, ◌∙◌, arith}
+use Rattle.std.proofs.Common.{rules, ◌≡◌, ◌-◌, ◌∷◌, List, ℕ, Ok, Err, true, sym, ap, subst, ◌∙◌, arith}
 use Rattle.wire.specs.Reading.{listed, is_whole, list_at}
 use Rattle.wire.specs.Fields.{placed_at}
 use Rattle.wire.proofs.Loops.{list_first, list_not_err, list_empty}
@@ -23,3 +23,6 @@ returns-clause-first c =
     let read : placed_at c.self.inside.text.now ≡ Ok (c.in-Ok.placed, c.placed_at.new.from) = ap placed_at (sym c.new-from.ensures) ∙ c.in-Ok.ensures in
     let s = list_first placed_at c.self.inside.len c.self.inside.text.now c.in-Ok.placed c.placed_at.new.from (omega arith) read c.self.invariant in
     sym c.self.view_is ∙ s.0 ∙ ap (λ (t : List ℕ). c.in-Ok.placed ∷ listed (list_at placed_at (c.self.inside.len - 1) t)) (sym c.rest-self-inside.ensures)
+
+pub returns-then-self-eq0-clause-first : goal.returns-then-self-eq0-clause-first
+returns-then-self-eq0-clause-first c = search rules

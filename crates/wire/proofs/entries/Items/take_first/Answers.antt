@@ -1,4 +1,4 @@
-use Rattle.std.proofs.Common.{◌≡◌, ◌-◌, ◌∷◌, List, ℕ, Ok, Err, true, sym, ap, subst, ◌∙◌, arith}
+use Rattle.std.proofs.Common.{rules, ◌≡◌, ◌-◌, ◌∷◌, List, ℕ, Ok, Err, true, sym, ap, subst, ◌∙◌, arith}
 use Rattle.wire.specs.Reading.{listed, is_whole, list_at}
 use Rattle.wire.specs.Fields.{entry_at}
 use Rattle.wire.proofs.Loops.{list_first, list_not_err, list_empty}
@@ -23,3 +23,6 @@ returns-clause-first c =
     let read : entry_at c.self.inside.bytes.now ≡ Ok (c.in-Ok.entry, c.entry_at.new.from) = ap entry_at (sym c.new-from.ensures) ∙ c.in-Ok.ensures in
     let s = list_first entry_at c.self.inside.count c.self.inside.bytes.now c.in-Ok.entry c.entry_at.new.from (omega arith) read c.self.invariant in
     sym c.self.view_is ∙ s.0 ∙ ap (λ (t : List ℕ). c.in-Ok.entry ∷ listed (list_at entry_at (c.self.inside.count - 1) t)) (sym c.rest-self-inside.ensures)
+
+pub returns-then-self-eq0-clause-first : goal.returns-then-self-eq0-clause-first
+returns-then-self-eq0-clause-first c = search rules

@@ -1,0 +1,9 @@
+use Rattle.std.proofs.Common.{rules}
+use Rattle.std.proofs.lemmas.Grind.{common_steps}
+use Rattle.chat_log.proofs.log.ChatLogChat.line.Goals as goal
+
+pub returns-in_err-line-clause-few : goal.returns-in_err-line-clause-few
+returns-in_err-line-clause-few c = search rules
+
+pub returns-clause-few : goal.returns-clause-few
+returns-clause-few c = search rules

@@ -1,0 +1,5 @@
+use Rattle.std.proofs.Common.{rules}
+use Rattle.chat_log.proofs.log.ChatLogReceiver.blocked.Goals as goal
+
+pub returns : goal.returns
+returns c = search rules
