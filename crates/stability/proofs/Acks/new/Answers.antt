@@ -1,0 +1,6 @@
+use Rattle.std.proofs.Common.{rules}
+use Rattle.std.proofs.lemmas.Grind.{common_steps}
+use Rattle.stability.proofs.Acks.new.Goals as goal
+
+pub returns-in_err-collect : goal.returns-in_err-collect
+returns-in_err-collect c = search rules

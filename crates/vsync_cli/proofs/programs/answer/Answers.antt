@@ -1,0 +1,11 @@
+use Rattle.std.proofs.Common.{rules}
+use Rattle.vsync_cli.proofs.programs.answer.Goals as goal
+
+pub returns-in-World : goal.returns-in-World
+returns-in-World g c = search rules
+
+pub returns-in-Chat : goal.returns-in-Chat
+returns-in-Chat g c = search rules
+
+pub returns-in-Check : goal.returns-in-Check
+returns-in-Check g c = search rules
