@@ -48,8 +48,8 @@ fn says(alloc: Global, text: &[u8], want: &str) -> bool {
     }
 }
 
-// Scripts, and what they say: each event with its line, or the first fault.
-const READINGS: [(&str, &str); 41] = [
+// Scripts, and what they say: each event with its line. Those with a fault stand as text in the sections `world` of the crate `worked`.
+const READINGS: [(&str, &str); 7] = [
     ("", ""),
     (
         "start 1\ncreate 1\nsend 1 hi\n",
@@ -69,43 +69,9 @@ const READINGS: [(&str, &str); 41] = [
         "deliver 1\ndeliver 4611686018427387904",
         "1:deliver 1;2:deliver 4611686018427387904;",
     ),
-    ("join 1\n", "fault 1 42"),
-    ("join x\n", "fault 1 41"),
-    ("join 1 1\n", "fault 1 41"),
-    ("join 1 0.1\n", "fault 1 41"),
-    ("join 1 1.0\n", "fault 1 41"),
-    ("join 1 1.4294967296\n", "fault 1 41"),
-    ("join 1 1.1 2\n", "fault 1 41"),
-    ("deliver\n", "fault 1 42"),
-    ("deliver 0\n", "fault 1 41"),
-    ("deliver 4611686018427387905\n", "fault 1 41"),
-    ("tick\n", "fault 1 42"),
-    ("tick 0\n", "fault 1 41"),
-    ("suspect 1 1.1\n", "fault 1 40"),
-    ("start 1\nSTART 1\n", "fault 2 40"),
-    (" start 1\n", "fault 1 40"),
-    ("\r\n", "fault 1 40"),
-    ("starts 1\n", "fault 1 40"),
-    ("start\n", "fault 1 42"),
-    ("send\n", "fault 1 42"),
-    ("send 1\n", "fault 1 42"),
-    ("send x\n", "fault 1 41"),
-    ("start \n", "fault 1 41"),
-    ("start  1\n", "fault 1 41"),
-    ("start 1 \n", "fault 1 41"),
-    ("start 1 1\n", "fault 1 41"),
-    ("start 1\r\n", "fault 1 41"),
-    ("start 01\n", "fault 1 41"),
-    ("start 0\n", "fault 1 41"),
-    ("start 65536\n", "fault 1 41"),
-    ("start 18446744073709551617\n", "fault 1 41"),
-    ("start +1\n", "fault 1 41"),
-    ("start -1\n", "fault 1 41"),
-    ("start 1x\n", "fault 1 41"),
-    ("\n\nstart 1\nfly 1\ncreate\n", "fault 4 40"),
 ];
 
-/// Whether each of some texts is read, as a script that says what stands beside it or with that fault.
+/// Whether each of some texts is read, as a script that says what stands beside it.
 fn are_read(alloc: Global, readings: &[(&str, &str)]) -> bool {
     for (text, want) in readings {
         if !says(alloc, text.as_bytes(), *want) {

@@ -35,16 +35,7 @@ fn are_read_whole(alloc: Global, texts: &[&str]) -> bool {
     true
 }
 
-/// Whether each of these lines is refused with this fault.
-fn are_refused(alloc: Global, want: &str, lines: &[&str]) -> bool {
-    for line in lines {
-        if !says(alloc, line.as_bytes(), want) {
-            return false;
-        }
-    }
-    true
-}
-
+// Lines that are refused stand as text in the sections `check` of the crate `worked`.
 const WHOLE: [&str; 10] = [
     "",
     "started 1.1\n",
@@ -71,107 +62,6 @@ fn lines_are_skipped_and_counted(rt: HostRuntime) {
     assert!(rt; says(rt.alloc(), late, "fault 4 40"));
 }
 
-const UNKNOWN: [&str; 8] = [
-    " started 1.1",
-    "Started 1.1",
-    "starts 1.1",
-    "\r",
-    "started\t1.1",
-    "-",
-    "send 1 hi",
-    "started\r\n",
-];
-
-#[test]
-fn words_are_known(rt: HostRuntime) {
-    assert!(rt; are_refused(rt.alloc(), "fault 1 40", &UNKNOWN));
-}
-
-const MISSING: [&str; 7] = [
-    "started",
-    "sent 1.1",
-    "sent 1.1 1@1.1 1",
-    "delivered 1.1 1@1.1 1.1 1",
-    "installed 1.1 - 1@1.1",
-    "installed 1.1 - 1@1.1 1.1",
-    "installed 1.1 - 1@1.1 1.1 1.1 -",
-];
-
-const MANY: [&str; 4] = [
-    "started 1.1 ",
-    "crashed 1.1 1.1",
-    "sent 1.1 1@1.1 1 - ",
-    "installed 1.1 - 1@1.1 1.1 1.1 - - -",
-];
-
-#[test]
-fn fields_are_there(rt: HostRuntime) {
-    assert!(rt; are_refused(rt.alloc(), "fault 1 42", &MISSING));
-    assert!(rt; are_refused(rt.alloc(), "fault 1 41", &MANY));
-}
-
-const OUT_OF_RANGE: [&str; 19] = [
-    "started ",
-    "started  1.1",
-    "started 1",
-    "started 0.1",
-    "started 1.0",
-    "started 65536.1",
-    "started 1.4294967296",
-    "started 01.1",
-    "started 1.1\r",
-    "sent 1.1 1 1 -",
-    "sent 1.1 @1.1 1 -",
-    "sent 1.1 0@1.1 1 -",
-    "sent 1.1 4611686018427387905@1.1 1 -",
-    "sent 1.1 1@1.1 0 -",
-    "sent 1.1 1@1.1 4611686018427387905 -",
-    "sent 1.1 1@1.1 01 -",
-    "delivered 1.1 1@1.1 - 1 -",
-    "installed 1.1 1 1@1.1 1.1 1.1 - -",
-    "installed 1.1 - - 1.1 1.1 - -",
-];
-
-#[test]
-fn ids_and_numbers_are_in_range(rt: HostRuntime) {
-    assert!(rt; are_refused(rt.alloc(), "fault 1 41", &OUT_OF_RANGE));
-}
-
-const MISSPELLED: [&str; 14] = [
-    "sent 1.1 1@1.1 1 ",
-    "sent 1.1 1@1.1 1 6",
-    "sent 1.1 1@1.1 1 6A",
-    "sent 1.1 1@1.1 1 6g",
-    "sent 1.1 1@1.1 1 --",
-    "installed 1.1 - 1@1.1 1.1 1.1 - ",
-    "installed 1.1 - 1@1.1 1.1 1.1 - 00",
-    "installed 1.1 - 1@1.1 1.1 1.1 - =0",
-    "installed 1.1 - 1@1.1 1.1 1.1 - =-",
-    "installed 1.1 - 1@1.1 1.1 1.1  -",
-    "installed 1.1 - 1@1.1 1.1 1.1 1 -",
-    "installed 1.1 - 1@1.1 1.1 1.1 1:- -",
-    "installed 1.1 - 1@1.1 1.1 1.1 0:00 -",
-    "installed 1.1 - 1@1.1 1.1 1.1 1:00, -",
-];
-
-#[test]
-fn payloads_and_states_have_their_form(rt: HostRuntime) {
-    assert!(rt; are_refused(rt.alloc(), "fault 1 41", &MISSPELLED));
-}
-
-const NO_VIEWS: [&str; 10] = [
-    "installed 1.1 - 1@1.1  1.1 - -",
-    "installed 1.1 - 1@1.1 - 1.1 - -",
-    "installed 1.1 - 1@1.1 1.1,1.1 1.1 - -",
-    "installed 1.1 - 1@1.1 2.1,1.1 1.1 - -",
-    "installed 1.1 - 1@1.1 1.1,2.1,3.1,4.1,5.1,6.1,7.1,8.1,9.1,10.1,11.1,12.1,13.1,14.1,15.1,16.1,17.1 1.1 - -",
-    "installed 1.1 - 1@1.1 1.1, 1.1 - -",
-    "installed 1.1 - 1@1.1 2.1",
-    "installed 1.1 - 1@1.1 1.1  - -",
-    "installed 1.1 - 1@1.1 1.1 - - -",
-    "installed 1.1 - 1@1.1 1.1 1.1,2.1,1.1 - -",
-];
-
 const VIEWS: [&str; 2] = [
     "installed 1.1 - 1@1.1 1.1,2.1,3.1,4.1,5.1,6.1,7.1,8.1,9.1,10.1,11.1,12.1,13.1,14.1,15.1,16.1 1.1 - -\n",
     "installed 1.1 - 1@1.1 1.1 17.1,2.1,3.1,4.1,5.1,6.1,7.1,8.1,9.1,10.1,11.1,12.1,13.1,14.1,15.1,16.1,1.1 - -\n",
@@ -179,7 +69,6 @@ const VIEWS: [&str; 2] = [
 
 #[test]
 fn members_make_a_view(rt: HostRuntime) {
-    assert!(rt; are_refused(rt.alloc(), "fault 1 41", &NO_VIEWS));
     assert!(rt; are_read_whole(rt.alloc(), &VIEWS));
 }
 
