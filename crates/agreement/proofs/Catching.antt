@@ -18,7 +18,7 @@ use Rattle.trace_props.specs.Observed.{current_view, delivered_in, sent_in, own,
 use Rattle.trace_props.specs.Rules.{IsRunning}
 use Rattle.trace_props.specs.State.{state_of}
 use Rattle.trace_props.specs.Verdicts.{GoesOn}
-use Rattle.trace_props.proofs.Agreed.{slice_get-drop}
+use Rattle.trace_props.proofs.Places.{slice_get-drop}
 use Rattle.trace_props.proofs.Entering.{state_of-push}
 use Rattle.trace_props.proofs.Observing.{same_address-true, same_address-refl, has_started-stays, has_ended-still, current_view-push}
 use Rattle.trace_props.proofs.Telling.{told_to-at, delivered_in-hit, sent_in-still}

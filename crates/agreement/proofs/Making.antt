@@ -17,7 +17,7 @@ use Rattle.trace_props.proofs.Observing.{same_address-refl, same_view_id-refl}
 use Rattle.trace_props.proofs.Telling.{enters, register-stands, register-written, register-still, register-push}
 use Rattle.trace_props.proofs.Standing.{by_pushes}
 use Rattle.trace_props.proofs.Entering.{state_of-push}
-use Rattle.trace_props.proofs.Copying.{entry_state-push}
+use Rattle.trace_props.proofs.Entering.{entry_state-push}
 use Rattle.agreement.specs.Histories.{History}
 use Rattle.agreement.specs.Invariant.{EachEntry}
 

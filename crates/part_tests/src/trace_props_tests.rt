@@ -5,9 +5,8 @@ use crate::fixtures::first_of;
 use crate::last::Last;
 use address::ViewId;
 use std::alloc::Global;
-use trace_props::{
-    Bytes, HandedBack, Happening, Install, Numbered, Rule, Sending, Trace, Verdict, check,
-};
+use trace_checker::check;
+use trace_props::{Bytes, HandedBack, Happening, Install, Numbered, Rule, Sending, Trace, Verdict};
 use view::{Addresses, View};
 
 // What each rule refuses and what it lets pass is tested as text, in the sections `check` of the crate `worked`.

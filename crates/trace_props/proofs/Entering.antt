@@ -1,5 +1,6 @@
 -- State of entry: it goes one happening further exactly when who enters is the view's first member, or has the state with which that one entered.
 use Rattle.std.proofs.Common.{◌≡◌, ℕ, ◌+◌, ◌<◌, Bool, true, false, ◌&&◌, cond, List, [], ◌∷◌, ◌++◌, length, take, Option, Some, None, MatchOption, option_and_then, sym, refl, ap, ◌∙◌, subst, arith}
+use Rattle.std.specs.Option.{option_or}
 use Rattle.std.specs.List.{position_from}
 use Rattle.std.proofs.lemmas.Bool.{cond-true, cond-false, and_from}
 use Rattle.std.proofs.lemmas.List.{take-append-le, take_all, length_push}
@@ -161,3 +162,21 @@ may-from opening apply decode t (Crashed p) m = tt
 pub enters-needed : {S : Type 0} (opening : S) (apply : S → Address → List ℕ → S) (decode : List ℕ → Option S) (t : List Happening) (h : Happening)
     → EntersWithState opening apply decode (t ++ h ∷ []) → MayEnter opening apply decode t h
 enters-needed opening apply decode t h r = may-from opening apply decode t h (EachHappening-last (EntersAlike opening apply decode) t h r)
+
+-- THE STATE OF ENTRY, ONE HAPPENING FURTHER
+
+entry-by : {S : Type 0} (opening : S) (apply : S → Address → List ℕ → S) (decode : List ℕ → Option S) (v : ViewId) (t : List Happening) (h : Happening) (o : Option ℕ)
+    → position_from (installs v.creator v) 0 t ≡ o
+    → entry_state opening apply decode v (t ++ h ∷ []) ≡ option_or (entry_state opening apply decode v t) (cond (installs v.creator v h) (Some (state_of opening apply decode v.creator (t ++ h ∷ []))) None)
+entry-by opening apply decode v t h None e =
+    entry_state-new opening apply decode v t h e
+    ∙ ap (λ o. option_or o (cond (installs v.creator v h) (Some (state_of opening apply decode v.creator (t ++ h ∷ []))) None)) (sym (entry_state-none opening apply decode v t e))
+entry-by opening apply decode v t h (Some k) e =
+    entry_state-stays opening apply decode v t (h ∷ []) k e
+    ∙ entry_state-some opening apply decode v t k e
+    ∙ ap (λ o. option_or o (cond (installs v.creator v h) (Some (state_of opening apply decode v.creator (t ++ h ∷ []))) None)) (sym (entry_state-some opening apply decode v t k e))
+
+-- the first install of a view by its first member makes the state of entry
+pub entry_state-push : {S : Type 0} (opening : S) (apply : S → Address → List ℕ → S) (decode : List ℕ → Option S) (v : ViewId) (t : List Happening) (h : Happening)
+    → entry_state opening apply decode v (t ++ h ∷ []) ≡ option_or (entry_state opening apply decode v t) (cond (installs v.creator v h) (Some (state_of opening apply decode v.creator (t ++ h ∷ []))) None)
+entry_state-push opening apply decode v t h = entry-by opening apply decode v t h (position_from (installs v.creator v) 0 t) refl

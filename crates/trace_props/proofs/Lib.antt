@@ -1,5 +1,6 @@
 pub mod Places
 pub mod Observing
+pub mod Comparing
 pub mod Telling
 pub mod Installs
 pub mod Following
@@ -9,12 +10,4 @@ pub mod Meeting
 pub mod Knowing
 pub mod Handing
 pub mod Entering
-pub mod Seats
-pub mod Stands
-pub mod Noting
-pub mod Deciding
-pub mod Agreed
-pub mod Copying
-pub mod Installing
-pub mod Ruling
 pub mod Judging

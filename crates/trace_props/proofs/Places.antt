@@ -1,5 +1,5 @@
 -- What one more element changes of the rules along a list, and of a list that is a beginning of another.
-use Rattle.std.proofs.Common.{◌≡◌, ℕ, suc, zero, ◌+◌, ◌<◌, ◌≤◌, List, [], ◌∷◌, ◌++◌, length, take, Some, sym, refl, ap, ◌∙◌, subst, ◌⊎◌, inl, inr, ⊎_elim, add-one, arith}
+use Rattle.std.proofs.Common.{◌≡◌, ℕ, suc, zero, ◌+◌, ◌<◌, ◌≤◌, List, [], ◌∷◌, ◌++◌, length, take, drop, Some, sym, refl, ap, ◌∙◌, subst, ◌⊎◌, inl, inr, ⊎_elim, add-one, arith}
 use Rattle.std.specs.List.{slice_get}
 use Rattle.std.proofs.lemmas.Bool.{cases_lt}
 use Rattle.std.proofs.lemmas.List.{take-append-le, take_at, take_all, length_push, length-take}
@@ -119,3 +119,9 @@ IsBeginningOf-at xs ys k x b e = slice_get-take (length xs) ys k x (ap (λ l. sl
 -- what ends a beginning is the element of the whole that stands there
 pub IsBeginningOf-last : {X : Type 0} (xs ys : List X) (y : X) → IsBeginningOf (xs ++ y ∷ []) ys → slice_get ys (length xs) ≡ Some y
 IsBeginningOf-last xs ys y b = IsBeginningOf-at (xs ++ y ∷ []) ys (length xs) y b (slice_get-last xs y)
+
+-- what stands past the front of a list
+pub slice_get-drop : {X : Type 0} → (n : ℕ) (xs : List X) (k : ℕ) → slice_get (drop n xs) k ≡ slice_get xs (n + k)
+slice_get-drop zero xs k = ap (slice_get xs) (omega arith)
+slice_get-drop (suc n) [] k = refl
+slice_get-drop (suc n) (x ∷ xs) k = slice_get-drop n xs k ∙ ap (slice_get (x ∷ xs)) (ap suc refl ∙ omega arith)

@@ -6,7 +6,4 @@ pub mod State
 pub mod Synchrony
 pub mod Following
 pub mod Agreeing
-pub mod Known
-pub mod Judged
-pub mod Copies
 pub mod Verdicts

@@ -2,15 +2,11 @@
 #![tactic(auto)]
 
 mod bytes;
-mod checker;
 mod happening;
-mod judge;
-mod known;
 mod trace;
 mod verdict;
 
 pub use bytes::Bytes;
-pub use checker::check;
 pub use happening::{Delivery, HandedBack, Happening, Install, Message, Numbered, Sending};
 pub use trace::Trace;
 pub use verdict::{Rule, Verdict};

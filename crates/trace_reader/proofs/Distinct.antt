@@ -7,7 +7,7 @@ use Rattle.std.proofs.Common.{⊎_elim}
 use Rattle.address.specs.Ids.{Address, address_cmp, same_address}
 use Rattle.view.specs.Members.{stands_in, is_distinct}
 use Rattle.trace_props.proofs.Observing.{same_address-sym}
-use Rattle.trace_props.proofs.Seats.{is_eq-address}
+use Rattle.trace_props.proofs.Comparing.{is_eq-address}
 
 -- the addresses of a set are those of a list
 abbrev pub Sees : (Address → Bool) → List Address → Type 0

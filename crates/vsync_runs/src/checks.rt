@@ -8,7 +8,8 @@ use crate::ends::{Unreadable, end_in_fault, end_in_memory, end_with, read_all};
 use state_transfer::Receiver;
 use std::alloc::Global;
 use std::io::{Read, Write};
-use trace_props::{Rule, Trace, Verdict, check};
+use trace_checker::check;
+use trace_props::{Rule, Trace, Verdict};
 use trace_reader::read_trace;
 use vsync_text::Unread;
 

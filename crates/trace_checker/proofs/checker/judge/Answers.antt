@@ -1,0 +1,14 @@
+use Rattle.std.proofs.Common.{rules}
+use Rattle.trace_checker.proofs.checker.judge.Goals as goal
+
+pub returns-in_err-advance-in-None : goal.returns-in_err-advance-in-None
+returns-in_err-advance-in-None g c = search rules
+
+pub returns-in-Some : goal.returns-in-Some
+returns-in-Some g c = search rules
+
+pub returns-then-branch : goal.returns-then-branch
+returns-then-branch g c = search rules
+
+pub returns-else-branch : goal.returns-else-branch
+returns-else-branch g c = search rules

@@ -1,0 +1,71 @@
+ghost use Rattle.std.specs.Prelude.{◌≡◌, ◌↔◌, ◌++◌, ◌∷◌, [], IfOk, MatchOption};
+ghost use Rattle.std.specs.BTreeMap.{get};
+ghost use Rattle.address.specs.Ids.{address_cmp, view_id_cmp};
+ghost use Rattle.trace_props.specs.declared.verdict.Verdict.TheVariants.{Holds};
+ghost use Rattle.trace_props.specs.Recorded.{IsShort, IsRecordable};
+ghost use Rattle.trace_props.specs.Synchrony.{IsVirtuallySynchronous};
+ghost use Rattle.trace_checker.specs.Copies.{KnowsStates};
+ghost use Rattle.trace_props.specs.Verdicts.{IsVerdict, GoesOn, BreaksNext};
+
+use crate::judge::broken_rule;
+use crate::known::{Past, States};
+use state_transfer::Receiver;
+use std::alloc::{AllocError, Global};
+use trace_props::{Happening, Rule, Trace, Verdict};
+
+// The first rule that the happening breaks after the past; without one the states go on.
+fn judge<R: Receiver>(
+    alloc: Global,
+    past: &Past,
+    states: &mut States<R>,
+    happening: &Happening,
+) -> Result<Option<Rule>, AllocError>
+    requires short { IsShort happening.now }
+    requires known { KnowsStates R.opening_state R.apply R.decode R.encode R.is_state (get address_cmp states.old.states) (get view_id_cmp states.old.entering) past.now }
+    ensures { IfOk result (λ broken. MatchOption broken
+        (GoesOn R.opening_state R.apply R.decode past.now happening.now
+        × KnowsStates R.opening_state R.apply R.decode R.encode R.is_state (get address_cmp states.new.states) (get view_id_cmp states.new.entering) (past.now ++ happening.now ∷ []))
+        (λ rule. BreaksNext R.opening_state R.apply R.decode rule past.now happening.now)) }
+{
+    match broken_rule(past, happening) {
+        Some(rule) => Ok(Some(rule)),
+        None => {
+            if states.advance(alloc, happening)? {
+                Ok(None)
+            } else {
+                Ok(Some(Rule::StateOfEntry))
+            }
+        }
+    }
+}
+
+// The verdict on happenings whose payloads are short.
+fn check_all<R: Receiver>(alloc: Global, happenings: &[Happening]) -> Result<Verdict, AllocError>
+    requires short { IsRecordable happenings.now }
+    ensures { IfOk result (λ v. IsVerdict R.opening_state R.apply R.decode happenings.now v) }
+{
+    let mut past = Past::new(alloc);
+    let mut states: States<R> = States::new(alloc);
+    for (index, happening) in happenings.iter().enumerate() {
+        match judge(alloc, &past, &mut states, happening)? {
+            Some(rule) => {
+                let place = index as u64 + 1;
+                return Ok(Verdict::Breaks { rule, place });
+            }
+            None => {
+                past = past.note(alloc, happening)?;
+            }
+        }
+    }
+    Ok(Verdict::Holds)
+}
+
+/// Whether a trace is virtually synchronous for the receiver, or else which rule breaks first and where.
+/// Reads the trace once; what a happening costs grows by no more than the look-up in a map.
+pub fn check<R: Receiver>(alloc: Global, trace: &Trace) -> Result<Verdict, AllocError>
+    ensures verdict { IfOk result (λ v. IsVerdict R.opening_state R.apply R.decode trace.now.happenings v) }
+    ensures exact { IfOk result (λ v. (v ≡ Holds) ↔ IsVirtuallySynchronous R.opening_state R.apply R.decode trace.now.happenings) }
+{
+    let verdict = check_all::<R>(alloc, trace.happenings())?;
+    Ok(verdict)
+}

@@ -1,0 +1,209 @@
+ghost use Rattle.std.specs.Prelude.{◌≡◌, ℕ, OnOk, Some, List, ◌++◌, ◌∷◌, [], is_some, if◌then◌else◌, MatchBool};
+ghost use Rattle.std.specs.BTreeMap.{get};
+ghost use Rattle.std.specs.Ordering.{is_eq};
+ghost use Rattle.std.specs.Option.{option_copied};
+ghost use Rattle.trace_props.specs.Observed.{install_of};
+ghost use Rattle.address.specs.Ids.{view_id_cmp};
+ghost use Rattle.trace_props.specs.declared.happening.Happening.{Happening};
+ghost use Rattle.trace_checker.specs.declared.known.seat.Pair.{Pair};
+ghost use Rattle.trace_props.specs.Following.{MayCarry};
+ghost use Rattle.trace_checker.specs.Known.{sending_of, delivery_of, seat_cmp, pair_cmp, way_cmp, same_pair, KnowsSent, KnowsTold, KnowsLast, KnowsEntries, KnowsFirsts, KnowsWays};
+
+use super::lists::Lists;
+use super::seat::{Pair, Seat, Way};
+use address::ViewId;
+use std::alloc::{AllocError, Global};
+use std::collections::BTreeMap;
+use trace_props::{Delivery, Happening, Install, Message, Numbered, Sending};
+
+/// The message that a happening sends.
+pub fn sending_in<'a>(happening: &'a Happening) -> Option<&'a Sending>
+    ensures { option_copied result ≡ sending_of happening.now }
+{
+    match happening {
+        Happening::Started(_) => None,
+        Happening::Sent(sending) => Some(sending),
+        Happening::Delivered(_) => None,
+        Happening::Blocked(_) => None,
+        Happening::Installed(_) => None,
+        Happening::Left(_) => None,
+        Happening::Crashed(_) => None,
+    }
+}
+
+/// The message that a happening tells.
+pub fn delivery_in<'a>(happening: &'a Happening) -> Option<&'a Delivery>
+    ensures { option_copied result ≡ delivery_of happening.now }
+{
+    match happening {
+        Happening::Started(_) => None,
+        Happening::Sent(_) => None,
+        Happening::Delivered(delivery) => Some(delivery),
+        Happening::Blocked(_) => None,
+        Happening::Installed(_) => None,
+        Happening::Left(_) => None,
+        Happening::Crashed(_) => None,
+    }
+}
+
+/// The view that a happening installs.
+pub fn install_in<'a>(happening: &'a Happening) -> Option<&'a Install>
+    ensures { option_copied result ≡ install_of happening.now }
+{
+    match happening {
+        Happening::Started(_) => None,
+        Happening::Sent(_) => None,
+        Happening::Delivered(_) => None,
+        Happening::Blocked(_) => None,
+        Happening::Installed(install) => Some(install),
+        Happening::Left(_) => None,
+        Happening::Crashed(_) => None,
+    }
+}
+
+/// Keeps a message that is sent.
+pub fn note_sent<'a>(
+    alloc: Global,
+    sent: &mut Lists<'a, Numbered>,
+    happening: &'a Happening,
+) -> Result<(), AllocError>
+    ensures { OnOk result ((t : List Happening) → KnowsSent (get seat_cmp sent.old.lists) t → KnowsSent (get seat_cmp sent.new.lists) (t ++ happening.now ∷ [])) }
+{
+    match sending_in(happening) {
+        None => Ok(()),
+        Some(sending) => {
+            let seat = Seat {
+                view: sending.view,
+                member: sending.member,
+            };
+            sent.push(alloc, seat, &sending.message)?;
+            Ok(())
+        }
+    }
+}
+
+/// Keeps a message that is told.
+pub fn note_told<'a>(
+    alloc: Global,
+    told: &mut Lists<'a, Message>,
+    happening: &'a Happening,
+) -> Result<(), AllocError>
+    ensures { OnOk result ((t : List Happening) → KnowsTold (get seat_cmp told.old.lists) t → KnowsTold (get seat_cmp told.new.lists) (t ++ happening.now ∷ [])) }
+{
+    match delivery_in(happening) {
+        None => Ok(()),
+        Some(delivery) => {
+            let seat = Seat {
+                view: delivery.view,
+                member: delivery.member,
+            };
+            told.push(alloc, seat, &delivery.message)?;
+            Ok(())
+        }
+    }
+}
+
+// Keeps a number.
+fn keep_last(last: &mut BTreeMap<Pair, u64>, pair: Pair, number: u64) -> Result<(), AllocError>
+    ensures { OnOk result ((other : Pair) → get pair_cmp last.new other ≡ (if same_pair pair other then Some number else get pair_cmp last.old other)) }
+{
+    last.insert(pair, number)?;
+    Ok(())
+}
+
+/// Keeps the number of a message that is told, where it is its sender's next.
+pub fn note_last(last: &mut BTreeMap<Pair, u64>, happening: &Happening) -> Result<(), AllocError>
+    ensures { OnOk result ((t : List Happening) → MayCarry t happening.now → KnowsLast (get pair_cmp last.old) t → KnowsLast (get pair_cmp last.new) (t ++ happening.now ∷ [])) }
+{
+    match delivery_in(happening) {
+        None => Ok(()),
+        Some(delivery) => {
+            let seat = Seat {
+                view: delivery.view,
+                member: delivery.member,
+            };
+            let pair = Pair {
+                seat,
+                sender: delivery.message.sender,
+            };
+            keep_last(last, pair, delivery.message.number)?;
+            Ok(())
+        }
+    }
+}
+
+// Keeps an install where none is kept.
+fn write<'a, K: Ord + Copy + Drop>(
+    registers: &mut BTreeMap<K, &'a Install>,
+    key: K,
+    install: &'a Install,
+) -> Result<(), AllocError>
+    ensures { OnOk result (MatchBool (is_some (get K.cmp registers.old key))
+        ((other : K) → get K.cmp registers.new other ≡ get K.cmp registers.old other)
+        ((other : K) → get K.cmp registers.new other ≡ (if is_eq (K.cmp key other) then Some install.entry else get K.cmp registers.old other))) }
+{
+    if registers.contains_key(&key) {
+        return Ok(());
+    }
+    registers.insert(key, install)?;
+    Ok(())
+}
+
+/// Keeps a member's install of a view.
+pub fn note_entry<'a>(
+    entries: &mut BTreeMap<Seat, &'a Install>,
+    happening: &'a Happening,
+) -> Result<(), AllocError>
+    ensures { OnOk result ((t : List Happening) → KnowsEntries (get seat_cmp entries.old) t → KnowsEntries (get seat_cmp entries.new) (t ++ happening.now ∷ [])) }
+{
+    match install_in(happening) {
+        None => Ok(()),
+        Some(install) => {
+            let seat = Seat {
+                view: install.view.id(),
+                member: install.member,
+            };
+            write(entries, seat, install)?;
+            Ok(())
+        }
+    }
+}
+
+/// Keeps the first install of a view.
+pub fn note_first<'a>(
+    firsts: &mut BTreeMap<ViewId, &'a Install>,
+    happening: &'a Happening,
+) -> Result<(), AllocError>
+    ensures { OnOk result ((t : List Happening) → KnowsFirsts (get view_id_cmp firsts.old) t → KnowsFirsts (get view_id_cmp firsts.new) (t ++ happening.now ∷ [])) }
+{
+    match install_in(happening) {
+        None => Ok(()),
+        Some(install) => {
+            write(firsts, install.view.id(), install)?;
+            Ok(())
+        }
+    }
+}
+
+/// Keeps the first install that goes from a view to another.
+pub fn note_way<'a>(
+    ways: &mut BTreeMap<Way, &'a Install>,
+    happening: &'a Happening,
+) -> Result<(), AllocError>
+    ensures { OnOk result ((t : List Happening) → KnowsWays (get way_cmp ways.old) t → KnowsWays (get way_cmp ways.new) (t ++ happening.now ∷ [])) }
+{
+    match install_in(happening) {
+        None => Ok(()),
+        Some(install) => match install.previous {
+            None => Ok(()),
+            Some(previous) => {
+                let way = Way {
+                    from: previous,
+                    to: install.view.id(),
+                };
+                write(ways, way, install)?;
+                Ok(())
+            }
+        }
+    }
+}

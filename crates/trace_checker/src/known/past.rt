@@ -1,0 +1,139 @@
+ghost use Rattle.std.specs.Prelude.{◌≡◌, ◌++◌, ◌∷◌, [], length, slice_get, IfOk};
+ghost use Rattle.std.specs.Option.{option_copied};
+ghost use Rattle.trace_props.specs.Observed.{sent_in, delivered_in, own, entry_of, first_install};
+ghost use Rattle.trace_props.specs.Agreeing.{first_from};
+ghost use Rattle.trace_props.specs.Following.{MayCarry};
+ghost use Rattle.trace_checker.specs.Known.{standing_of};
+
+use super::lists::Lists;
+use super::seat::{Pair, Seat, Way};
+use super::standing::{self, Standing};
+use super::tables::{self, Tables};
+use address::{Address, ViewId};
+use std::alloc::{AllocError, Global};
+use std::collections::BTreeMap;
+use std::marker::Model;
+use trace_props::{Happening, Install, Message, Numbered};
+
+/// The happenings so far, kept so that what the rules ask of them is looked up. Contracts see it as their list.
+#[derive(Drop)]
+pub struct Past<'a> {
+    happenings: Vec<&'a Happening>,
+    tables: Tables<'a>,
+}
+
+impl<'a> Model for Past<'a> {
+    ghost use Rattle.std.specs.Prelude.{List};
+    ghost use Rattle.std.specs.BTreeMap.{get};
+    ghost use Rattle.address.specs.Ids.{address_cmp, view_id_cmp};
+    ghost use Rattle.trace_props.specs.declared.happening.Happening.{Happening};
+    ghost use Rattle.trace_checker.specs.Known.{KnowsPast, pointed, seat_cmp, pair_cmp, way_cmp};
+
+    ghost Value = { List Happening };
+
+    ghost view = { λ p. pointed p.happenings.items };
+
+    ghost invariant = { λ p. KnowsPast (get address_cmp p.tables.standings) (get seat_cmp p.tables.sent.lists) (get seat_cmp p.tables.told.lists) (get pair_cmp p.tables.last)
+        (get seat_cmp p.tables.entries) (get view_id_cmp p.tables.firsts) (get way_cmp p.tables.ways) (pointed p.happenings.items) };
+}
+
+impl<'a> Past<'a> {
+    /// Nothing happened. Takes no memory.
+    pub fn new(alloc: Global) -> Past<'a>
+        ensures { result ≡ [] }
+    {
+        Past {
+            happenings: Vec::new(alloc),
+            tables: Tables {
+                standings: BTreeMap::new(alloc),
+                sent: Lists::new(alloc),
+                told: Lists::new(alloc),
+                last: BTreeMap::new(alloc),
+                entries: BTreeMap::new(alloc),
+                firsts: BTreeMap::new(alloc),
+                ways: BTreeMap::new(alloc),
+            },
+        }
+    }
+
+    /// How a member stands.
+    pub fn standing(&self, member: Address) -> Standing
+        ensures { result ≡ standing_of member self.now }
+    {
+        standing::how_stands(&self.tables.standings, member)
+    }
+
+    /// How many messages a member sent in a view.
+    pub fn sent_count(&self, member: Address, view: ViewId) -> usize
+        ensures { result ≡ length (sent_in member view self.now) }
+    {
+        self.tables.sent.count(Seat { view, member })
+    }
+
+    /// A message that a member sent in a view, by its index from 0.
+    pub fn sent_at(&self, member: Address, view: ViewId, index: usize) -> Option<&'a Numbered>
+        ensures { option_copied result ≡ slice_get (sent_in member view self.now) index }
+    {
+        self.tables.sent.at(Seat { view, member }, index)
+    }
+
+    /// How many messages a member was told in a view.
+    pub fn told_count(&self, member: Address, view: ViewId) -> usize
+        ensures { result ≡ length (delivered_in member view self.now) }
+    {
+        self.tables.told.count(Seat { view, member })
+    }
+
+    /// A message that a member was told in a view, by its index from 0.
+    pub fn told_at(&self, member: Address, view: ViewId, index: usize) -> Option<&'a Message>
+        ensures { option_copied result ≡ slice_get (delivered_in member view self.now) index }
+    {
+        self.tables.told.at(Seat { view, member }, index)
+    }
+
+    /// How many messages of a sender a member was told in a view.
+    pub fn own_count(&self, member: Address, sender: Address, view: ViewId) -> u64
+        ensures { result ≡ length (own sender (delivered_in member view self.now)) }
+    {
+        let seat = Seat { view, member };
+        match self.tables.last.get(&Pair { seat, sender }) {
+            Some(number) => *number,
+            None => 0,
+        }
+    }
+
+    /// A member's install of a view.
+    pub fn entry(&self, member: Address, view: ViewId) -> Option<&'a Install>
+        ensures { option_copied result ≡ entry_of member view self.now }
+    {
+        self.tables.entries.get(&Seat { view, member }).copied()
+    }
+
+    /// The first install of a view.
+    pub fn first(&self, view: ViewId) -> Option<&'a Install>
+        ensures { option_copied result ≡ first_install view self.now }
+    {
+        self.tables.firsts.get(&view).copied()
+    }
+
+    /// The first install that goes from a view to another.
+    pub fn way(&self, from: ViewId, to: ViewId) -> Option<&'a Install>
+        ensures { option_copied result ≡ first_from from to self.now }
+    {
+        self.tables.ways.get(&Way { from, to }).copied()
+    }
+
+    /// With what happened next, whose message, if it tells one, is its sender's next.
+    pub fn note(self, alloc: Global, happening: &'a Happening) -> Result<Past<'a>, AllocError>
+        requires may { MayCarry self happening.now }
+        ensures { IfOk result (λ p. p ≡ self.entry ++ happening.now ∷ []) }
+    {
+        let Past {
+            mut happenings,
+            mut tables,
+        } = self;
+        tables::keep(alloc, &mut tables, happening)?;
+        happenings.push(happening)?;
+        Ok(Past { happenings, tables })
+    }
+}

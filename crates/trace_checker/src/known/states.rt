@@ -1,0 +1,232 @@
+ghost use Rattle.std.specs.Prelude.{◌≡◌, ◌≤◌, ◌++◌, ◌∷◌, [], List, true, Some, length, unwrap_or, option_and_then, OnOk, IfOk, if◌then◌else◌, is_some, IsSome, MatchBool};
+ghost use Rattle.std.specs.BTreeMap.{get};
+ghost use Rattle.address.specs.Ids.{Address, IsAddress, address_cmp, view_id_cmp, same_address};
+ghost use Rattle.state_transfer.specs.declared.TheConstants.{PAYLOAD};
+ghost use Rattle.std.specs.Bool.{Decides};
+ghost use Rattle.std.specs.Option.{ForSome};
+ghost use Rattle.trace_props.specs.declared.happening.Happening.{Happening};
+ghost use Rattle.trace_props.specs.declared.happening.Happening.TheVariants.{Delivered, Installed};
+ghost use Rattle.trace_props.specs.Recorded.{IsShort};
+ghost use Rattle.trace_props.specs.Agreeing.{MayEnter};
+ghost use Rattle.trace_checker.specs.Copies.{EntersWith, KnowsStates};
+
+use super::notes::{delivery_in, install_in};
+use address::{Address, ViewId};
+use state_transfer::Receiver;
+use std::alloc::{AllocError, Global};
+use std::collections::BTreeMap;
+use trace_props::{Bytes, Delivery, Happening, Install};
+
+/// An address that a program holds is one.
+pub fn known_address(address: Address)
+    ensures { IsAddress address }
+{
+    let _ = address;
+}
+
+// Puts a receiver for a member.
+fn put<R: Receiver>(
+    states: &mut BTreeMap<Address, R>,
+    member: Address,
+    state: R,
+) -> Result<(), AllocError>
+    ensures { OnOk result ((other : Address) → get address_cmp states.new other ≡ (if same_address member other then Some state else get address_cmp states.old other)) }
+{
+    states.insert(member, state)?;
+    Ok(())
+}
+
+// Puts a receiver in the opening state for a member that has none.
+fn begin<R: Receiver>(
+    alloc: Global,
+    states: &mut BTreeMap<Address, R>,
+    member: Address,
+) -> Result<(), AllocError>
+    ensures has { OnOk result (is_some (get address_cmp states.new member) ≡ true) }
+    ensures same { OnOk result ((other : Address) → unwrap_or (get address_cmp states.new other) R.opening_state ≡ unwrap_or (get address_cmp states.old other) R.opening_state) }
+{
+    if states.contains_key(&member) {
+        return Ok(());
+    }
+    let state = R::opening(alloc)?;
+    put(states, member, state)
+}
+
+// Applies a message at a member that has a receiver.
+fn receive_there<R: Receiver>(
+    states: &mut BTreeMap<Address, R>,
+    member: Address,
+    sender: Address,
+    payload: &[u8],
+) -> Result<(), AllocError>
+    requires has { is_some (get address_cmp states.old member) ≡ true }
+    requires short { length payload.now ≤ PAYLOAD }
+    ensures { OnOk result ((other : Address) → unwrap_or (get address_cmp states.new other) R.opening_state
+        ≡ (if same_address member other then R.apply (unwrap_or (get address_cmp states.old member) R.opening_state) sender payload.now else unwrap_or (get address_cmp states.old other) R.opening_state)) }
+{
+    if let Some(state) = states.get_mut(&member) {
+        state.receive(sender, payload)?;
+    }
+    Ok(())
+}
+
+// Takes a given state at a member that has a receiver, if it can be read.
+fn take_there<R: Receiver>(
+    states: &mut BTreeMap<Address, R>,
+    member: Address,
+    given: &[u8],
+) -> Result<bool, AllocError>
+    requires has { is_some (get address_cmp states.old member) ≡ true }
+    ensures read { IfOk result (λ taken. taken ≡ is_some (R.decode given.now)) }
+    ensures takes { OnOk result ((other : Address) → unwrap_or (get address_cmp states.new other) R.opening_state
+        ≡ (if same_address member other then unwrap_or (R.decode given.now) (unwrap_or (get address_cmp states.old member) R.opening_state) else unwrap_or (get address_cmp states.old other) R.opening_state)) }
+{
+    match states.get_mut(&member) {
+        Some(state) => state.set_state(given),
+        None => Ok(false),
+    }
+}
+
+// The bytes of a member's state.
+fn bytes_of<R: Receiver>(
+    alloc: Global,
+    states: &BTreeMap<Address, R>,
+    member: Address,
+) -> Result<Bytes, AllocError>
+    ensures { IfOk result (λ b. b ≡ R.encode (unwrap_or (get address_cmp states.now member) R.opening_state)) }
+{
+    let mut bytes = Vec::new(alloc);
+    match states.get(&member) {
+        Some(state) => state.get_state(&mut bytes)?,
+        None => R::opening(alloc)?.get_state(&mut bytes)?,
+    }
+    Ok(Bytes::from_vec(bytes))
+}
+
+// Whether a view is entered with the bytes of its entry, which the first member writes.
+fn enter_with(
+    entering: &mut BTreeMap<ViewId, Bytes>,
+    view: ViewId,
+    first: bool,
+    bytes: Bytes,
+) -> Result<bool, AllocError>
+    ensures { IfOk result (λ ok. EntersWith (get view_id_cmp entering.old) (get view_id_cmp entering.new) view first bytes ok) }
+{
+    match entering.get(&view) {
+        Some(entry) => Ok(entry.as_slice() == bytes.as_slice()),
+        None => {
+            if first {
+                entering.insert(view, bytes)?;
+                Ok(true)
+            } else {
+                Ok(false)
+            }
+        }
+    }
+}
+
+// Takes a given state at a member, if there is one and it can be read.
+fn take<R: Receiver>(
+    alloc: Global,
+    states: &mut BTreeMap<Address, R>,
+    member: Address,
+    given: &Option<Bytes>,
+) -> Result<bool, AllocError>
+    ensures read { IfOk result (λ taken. Decides taken (ForSome given.now (λ g. IsSome (R.decode g)))) }
+    ensures takes { OnOk result ((other : Address) → unwrap_or (get address_cmp states.new other) R.opening_state
+        ≡ (if same_address member other then unwrap_or (option_and_then R.decode given.now) (unwrap_or (get address_cmp states.old member) R.opening_state) else unwrap_or (get address_cmp states.old other) R.opening_state)) }
+{
+    match given {
+        None => Ok(true),
+        Some(bytes) => {
+            begin(alloc, states, member)?;
+            take_there(states, member, bytes.as_slice())
+        }
+    }
+}
+
+/// A receiver for each member, and the bytes with which each view was entered.
+#[derive(Drop)]
+pub struct States<R> {
+    states: BTreeMap<Address, R>,
+    entering: BTreeMap<ViewId, Bytes>,
+}
+
+/// Applies a message that is told.
+fn hear<R: Receiver>(
+    alloc: Global,
+    states: &mut States<R>,
+    delivery: &Delivery,
+) -> Result<(), AllocError>
+    requires short { length delivery.now.message.payload ≤ PAYLOAD }
+    ensures { OnOk result ((t : List Happening) → KnowsStates R.opening_state R.apply R.decode R.encode R.is_state (get address_cmp states.old.states) (get view_id_cmp states.old.entering) t
+        → KnowsStates R.opening_state R.apply R.decode R.encode R.is_state (get address_cmp states.new.states) (get view_id_cmp states.new.entering) (t ++ Delivered delivery.now ∷ [])) }
+{
+    known_address(delivery.message.sender);
+    begin(alloc, &mut states.states, delivery.member)?;
+    receive_there(
+        &mut states.states,
+        delivery.member,
+        delivery.message.sender,
+        delivery.message.payload.as_slice(),
+    )?;
+    Ok(())
+}
+
+/// Whether an install enters its view alike; takes its state.
+fn enter<R: Receiver>(
+    alloc: Global,
+    states: &mut States<R>,
+    install: &Install,
+) -> Result<bool, AllocError>
+    ensures { IfOk result (λ ok. (t : List Happening) → KnowsStates R.opening_state R.apply R.decode R.encode R.is_state (get address_cmp states.old.states) (get view_id_cmp states.old.entering) t
+        → MatchBool ok
+        (MayEnter R.opening_state R.apply R.decode t (Installed install.now)
+        × KnowsStates R.opening_state R.apply R.decode R.encode R.is_state (get address_cmp states.new.states) (get view_id_cmp states.new.entering) (t ++ Installed install.now ∷ []))
+        (MayEnter R.opening_state R.apply R.decode t (Installed install.now) → ⊥)) }
+{
+    if !take(alloc, &mut states.states, install.member, &install.given)? {
+        return Ok(false);
+    }
+    let bytes = bytes_of(alloc, &states.states, install.member)?;
+    let view = install.view.id();
+    let first = install.member == install.view.first();
+    let alike = enter_with(&mut states.entering, view, first, bytes)?;
+    Ok(alike)
+}
+
+impl<R: Receiver> States<R> {
+    /// Of nothing. Takes no memory.
+    pub fn new(alloc: Global) -> States<R>
+        ensures { KnowsStates R.opening_state R.apply R.decode R.encode R.is_state (get address_cmp result.states) (get view_id_cmp result.entering) [] }
+    {
+        States {
+            states: BTreeMap::new(alloc),
+            entering: BTreeMap::new(alloc),
+        }
+    }
+
+    /// Goes one happening further, and whether it keeps the rule on states.
+    pub fn advance(&mut self, alloc: Global, happening: &Happening) -> Result<bool, AllocError>
+        requires short { IsShort happening.now }
+        ensures { IfOk result (λ ok. (t : List Happening) → KnowsStates R.opening_state R.apply R.decode R.encode R.is_state (get address_cmp self.old.states) (get view_id_cmp self.old.entering) t
+            → MatchBool ok
+            (MayEnter R.opening_state R.apply R.decode t happening.now
+            × KnowsStates R.opening_state R.apply R.decode R.encode R.is_state (get address_cmp self.new.states) (get view_id_cmp self.new.entering) (t ++ happening.now ∷ []))
+            (MayEnter R.opening_state R.apply R.decode t happening.now → ⊥)) }
+    {
+        match delivery_in(happening) {
+            Some(delivery) => {
+                hear(alloc, self, delivery)?;
+                Ok(true)
+            }
+            None => match install_in(happening) {
+                Some(install) => {
+                    let alike = enter(alloc, self, install)?;
+                    Ok(alike)
+                }
+                None => Ok(true),
+            },
+        }
+    }
+}

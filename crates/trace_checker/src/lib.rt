@@ -1,0 +1,8 @@
+//! The checker of traces: whether a trace is virtually synchronous, and else which rule breaks first and where.
+#![tactic(auto)]
+
+mod checker;
+mod judge;
+mod known;
+
+pub use checker::check;

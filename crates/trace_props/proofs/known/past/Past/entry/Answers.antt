@@ -1,9 +1,0 @@
-use Rattle.trace_props.specs.declared.known.seat.Seat.{Seat}
-use Rattle.trace_props.proofs.known.past.Past.entry.Goals as goal
-
--- the register of the seat
-pub returns : goal.returns
-returns c =
-    let seat : Seat = record { view = c.args.view; member = c.args.member } in
-    let known = c.self.invariant.entries_known seat in
-    cc
