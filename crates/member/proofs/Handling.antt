@@ -1,6 +1,6 @@
 -- What one step promises, from what it does.
-use Rattle.std.proofs.Common.{◌≡◌, ℕ, ◌+◌, ◌<◌, ◌≤◌, ◌^◌, Bool, true, false, leb, cond, Option, Some, None, List, [], ◌∷◌, map, length, zero, suc, Result, Ok, Err, refl, sym, ap, ◌∙◌, subst, arith, Bor}
-use Rattle.std.specs.Prelude.{MatchBool, if◌then◌else◌, IfOk, ◌↔◌}
+use Rattle.std.proofs.Common.{◌≡◌, ℕ, ◌+◌, ◌≤◌, Bool, true, false, Option, Some, None, List, [], ◌∷◌, map, length, zero, suc, Result, Ok, Err, refl, sym, ap, ◌∙◌, subst, arith, Bor}
+use Rattle.std.specs.Prelude.{MatchBool, if◌then◌else◌, ◌↔◌}
 use Rattle.std.specs.List.{AllByRecursion}
 use Rattle.std.specs.Result.{result_err}
 use Rattle.std.proofs.lemmas.Option.{none-some, same_Some}

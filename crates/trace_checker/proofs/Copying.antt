@@ -1,7 +1,6 @@
 -- The states that are kept, one happening further.
 use Rattle.std.proofs.Common.{◌≡◌, ℕ, ◌≤◌, Bool, true, false, cond, List, [], ◌∷◌, ◌++◌, length, Option, Some, None, unwrap_or, option_map, option_and_then, sym, refl, ap, ◌∙◌, subst}
 use Rattle.std.specs.Option.{option_or}
-use Rattle.std.specs.List.{position_from}
 use Rattle.std.proofs.lemmas.Bool.{cond-true, cond-false}
 use Rattle.std.proofs.lemmas.Option.{none-some, same_Some}
 use Rattle.address.specs.Ids.{Address, ViewId, IsAddress, same_address}
@@ -16,7 +15,7 @@ use Rattle.trace_props.specs.Agreeing.{MayEnter}
 use Rattle.trace_checker.specs.Known.{delivery_of}
 use Rattle.trace_checker.specs.Copies.{KnowsStates}
 use Rattle.trace_props.proofs.Observing.{same_address-true}
-use Rattle.trace_props.proofs.Entering.{state_of-push, entry_state-stays, entry_state-new, entry_state-none, entry_state-some, entry_state-push}
+use Rattle.trace_props.proofs.Entering.{state_of-push, entry_state-push}
 
 -- THE STATE OF ENTRY
 

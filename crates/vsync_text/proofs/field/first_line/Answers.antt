@@ -1,5 +1,4 @@
 use Rattle.std.proofs.Common.{rules}
-use Rattle.std.proofs.lemmas.Grind.{common_steps}
 use Rattle.vsync_text.proofs.field.first_line.Goals as goal
 
 pub returns-in-None-clause-shorter : goal.returns-in-None-clause-shorter

@@ -1,5 +1,4 @@
 use Rattle.std.proofs.Common.{rules}
-use Rattle.std.proofs.lemmas.Grind.{common_steps}
 use Rattle.trace_props.proofs.trace.Trace.record.Goals as goal
 
 pub returns-clause-happenings : goal.returns-clause-happenings
