@@ -2,8 +2,9 @@
 use Rattle.std.proofs.Common.{◌≡◌, ℕ, ◌≤◌, length, false, Option, Some, List, subst, sym}
 use Rattle.address.specs.Ids.{Address, IsAddress}
 use Rattle.view.specs.Members.{View}
-use Rattle.wire.specs.declared.limits.TheConstants.{PAYLOAD}
-use Rattle.wire.specs.Values.{Entry, Report}
+use Rattle.packet_values.specs.declared.limits.TheConstants.{PAYLOAD}
+use Rattle.packet_values.specs.Values.{Entry}
+use Rattle.wire.specs.Values.{Report}
 use Rattle.wire.specs.Values as wire
 use Rattle.wire.specs.declared.packet.Body.{Body}
 use Rattle.flush.specs.Flushes.{FlushModel}

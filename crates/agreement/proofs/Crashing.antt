@@ -4,7 +4,8 @@ use Rattle.std.specs.Prelude.{IsSome, slice_get, nat_eq}
 use Rattle.std.proofs.lemmas.Option.{none-some}
 use Rattle.std.proofs.lemmas.Bool.Decides.{nat_tests}
 use Rattle.address.specs.Ids.{Address}
-use Rattle.wire.specs.Values.{Entry, Report}
+use Rattle.packet_values.specs.Values.{Entry}
+use Rattle.wire.specs.Values.{Report}
 use Rattle.flush.specs.Cuts.{held_at, held_among, greatest_stable, IsCut}
 use Rattle.flush.specs.Flushes.{group}
 use Rattle.trace_props.specs.Rules.{IsBelow}

@@ -8,8 +8,9 @@ use Rattle.std.proofs.lemmas.Bool.Decides.{nat_tests}
 use Rattle.std.proofs.lemmas.Option.{none-some, same_Some}
 use Rattle.address.specs.Ids.{Address, ViewId, same_address}
 use Rattle.view.specs.Members.{View, stands_in}
-use Rattle.wire.specs.declared.limits.TheConstants.{WINDOW}
-use Rattle.wire.specs.Values.{Entry, Report}
+use Rattle.packet_values.specs.declared.limits.TheConstants.{WINDOW}
+use Rattle.packet_values.specs.Values.{Entry}
+use Rattle.wire.specs.Values.{Report}
 use Rattle.wire.specs.declared.packet.Body.TheVariants as bodies
 use Rattle.flush.specs.Cuts.{held_at}
 use Rattle.flush.specs.Flushes.{FlushModel}

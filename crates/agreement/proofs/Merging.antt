@@ -3,8 +3,9 @@ use Rattle.std.proofs.Common.{◌≡◌, ℕ, zero, suc, ◌+◌, Option, Some, 
 use Rattle.std.specs.Prelude.{IsSome, slice_get, length, ◌≤◌}
 use Rattle.std.proofs.lemmas.Option.{none-some}
 use Rattle.address.specs.Ids.{Address, IsAddress}
-use Rattle.wire.specs.Values.{Entry, Report}
-use Rattle.wire.specs.declared.limits.TheConstants.{PAYLOAD}
+use Rattle.packet_values.specs.Values.{Entry}
+use Rattle.wire.specs.Values.{Report}
+use Rattle.packet_values.specs.declared.limits.TheConstants.{PAYLOAD}
 use Rattle.flush.specs.Cuts.{held_among, greatest_stable, IsCut}
 use Rattle.flush.specs.Flushes.{group}
 use Rattle.trace_props.specs.Rules.{IsBelow}

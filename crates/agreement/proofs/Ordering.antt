@@ -8,8 +8,8 @@ use Rattle.std.proofs.lemmas.Option.{none-some, same_Some}
 use Rattle.std.proofs.lemmas.List.{append-nil, length_push}
 use Rattle.address.specs.Ids.{Address, ViewId, same_address}
 use Rattle.view.specs.Members.{View}
-use Rattle.wire.specs.declared.limits.TheConstants.{WINDOW}
-use Rattle.wire.specs.Values.{Entry}
+use Rattle.packet_values.specs.declared.limits.TheConstants.{WINDOW}
+use Rattle.packet_values.specs.Values.{Entry}
 use Rattle.flush.specs.Cuts.{held_at}
 use Rattle.trace_props.specs.declared.happening.Happening.{Happening}
 use Rattle.trace_props.specs.declared.happening.Happening.TheVariants.{Delivered}

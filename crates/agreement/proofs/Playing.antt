@@ -7,7 +7,8 @@ use Rattle.std.specs.List.{Contains}
 use Rattle.std.proofs.lemmas.Option.{none-some, same_Some}
 use Rattle.address.specs.Ids.{Address, ViewId, IsAddress, same_address}
 use Rattle.view.specs.Members.{stands_in}
-use Rattle.wire.specs.Values.{Entry, Report}
+use Rattle.packet_values.specs.Values.{Entry}
+use Rattle.wire.specs.Values.{Report}
 use Rattle.flush.specs.Cuts.{held_at, held_among, greatest_stable, IsCut}
 use Rattle.flush.specs.Flushes.{report_from, group}
 use Rattle.flush.proofs.Keeping.{reporter-stands}

@@ -4,8 +4,9 @@ use Rattle.std.specs.Option.{ForSome, IsSomeAnd, option_map}
 use Rattle.address.specs.Ids.{Address, ViewId, same_address}
 use Rattle.view.specs.Members.{View, stands_in}
 use Rattle.view.specs.View.{view_refusal}
-use Rattle.wire.specs.declared.limits.TheConstants.{WINDOW}
-use Rattle.wire.specs.Values.{Entry, Report}
+use Rattle.packet_values.specs.declared.limits.TheConstants.{WINDOW}
+use Rattle.packet_values.specs.Values.{Entry}
+use Rattle.wire.specs.Values.{Report}
 use Rattle.wire.specs.Values as wire
 use Rattle.flush.specs.Cuts.{held_at}
 use Rattle.flush.specs.Flushes.{FlushModel, report_from}

@@ -6,8 +6,9 @@ use Rattle.std.specs.Option.{option_map_or}
 use Rattle.std.proofs.lemmas.Bool.{and_parts}
 use Rattle.std.proofs.lemmas.Bool.Decides.{nat_tests}
 use Rattle.address.specs.Ids.{ViewId}
-use Rattle.wire.specs.declared.limits.TheConstants.{WINDOW}
-use Rattle.wire.specs.Values.{Entry, Report}
+use Rattle.packet_values.specs.declared.limits.TheConstants.{WINDOW}
+use Rattle.packet_values.specs.Values.{Entry}
+use Rattle.wire.specs.Values.{Report}
 use Rattle.wire.specs.Lists.{highest_next, are_held, is_filled, is_nothing, is_report}
 use Rattle.flush.specs.Cuts.{held_at}
 

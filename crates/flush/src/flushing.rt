@@ -1,6 +1,6 @@
 ghost use Rattle.std.specs.Prelude.{◌≡◌, ◌≤◌, ◌+◌, false, [], ◌∷◌, ◌++◌, filter, IfOk, OnOk, OnErr, IfSome, IsSome, IsTrue};
 ghost use Rattle.std.specs.List.{list_all};
-ghost use Rattle.wire.specs.declared.limits.TheConstants.{WINDOW};
+ghost use Rattle.packet_values.specs.declared.limits.TheConstants.{WINDOW};
 ghost use Rattle.flush.specs.Cuts.{IsCut, greatest_stable, held_among};
 ghost use Rattle.flush.specs.Flushes.{IsFlush, has_reported, group, is_awaited, reported, progress_of, has_come_from, together_of};
 
@@ -10,10 +10,11 @@ use crate::progress::Progress;
 use address::{Address, ViewId};
 use indexmap::IndexMap;
 use indexmap::map::Slice;
+use packet_values::{Count, Entry};
 use std::alloc::{AllocError, Global};
 use std::marker::Model;
 use view::Addresses;
-use wire::{Count, Entry, Report};
+use wire::Report;
 
 /// A flush: a proposal, its list, and the reports of those of the list who reported, in order of arrival (docs/PROTOCOL.md, "Flush").
 #[derive(Drop)]

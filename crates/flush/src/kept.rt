@@ -1,13 +1,14 @@
 ghost use Rattle.std.specs.Prelude.{◌≡◌, ◌≤◌, ◌+◌, true, IfOk, OnOk, IfSome};
-ghost use Rattle.wire.specs.declared.limits.TheConstants.{WINDOW};
+ghost use Rattle.packet_values.specs.declared.limits.TheConstants.{WINDOW};
 ghost use Rattle.wire.specs.Lists.{is_report};
 ghost use Rattle.flush.specs.Cuts.{held_at};
 ghost use Rattle.flush.specs.Flushes.{comes_from};
 
 use address::ViewId;
+use packet_values::{Count, Entry};
 use std::alloc::{AllocError, Global};
 use std::marker::Model;
-use wire::{Count, Entry, Held, Report};
+use wire::{Held, Report};
 
 /// A report as a flush keeps it: its counts, and a copy of the bytes that spell its entries.
 #[derive(Drop)]

@@ -9,8 +9,8 @@ use Rattle.std.proofs.Math.Nat.{max-eq_right}
 use mathlib.Core.Path.{fun_ext}
 use Rattle.address.specs.Ids.{Address, same_address}
 use Rattle.view.specs.Members.{stands_in}
-use Rattle.wire.specs.declared.limits.TheConstants.{PAYLOAD}
-use Rattle.wire.specs.Values.{Entry}
+use Rattle.packet_values.specs.declared.limits.TheConstants.{PAYLOAD}
+use Rattle.packet_values.specs.Values.{Entry}
 use Rattle.wire.specs.declared.packet.Body.TheVariants as bodies
 use Rattle.trace_props.specs.declared.happening.Happening.TheVariants.{Sent, Delivered, Installed, Left}
 use Rattle.trace_props.specs.declared.happening.Numbered.{Numbered}

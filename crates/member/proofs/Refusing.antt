@@ -3,7 +3,7 @@ use Rattle.std.proofs.Common.{◌≡◌, ℕ, Bool, true, false, cond, not, Opti
 use Rattle.std.specs.Option.{option_map, option_map_or}
 use Rattle.std.proofs.lemmas.Option.{none-some}
 use Rattle.std.proofs.lemmas.Bool.Decides.{nat_tests}
-use Rattle.wire.specs.declared.limits.TheConstants.{PAYLOAD}
+use Rattle.packet_values.specs.declared.limits.TheConstants.{PAYLOAD}
 use Rattle.wire.specs.declared.error.WireError.{WireError}
 use Rattle.wire.specs.Packets.{wire_refusal}
 use Rattle.agreement.specs.Cores.{Core, is_frozen}

@@ -3,7 +3,7 @@ use Rattle.std.specs.Prelude.{◌≡◌, ℕ, ◌+◌, ◌<◌, ◌≤◌, Bool,
 use Rattle.std.specs.Option.{IsSomeAnd, option_and_then, option_map_or}
 use Rattle.std.specs.List.{list_all, Contains, AllByRecursion}
 use Rattle.address.specs.Ids.{Address, same_address}
-use Rattle.wire.specs.declared.limits.TheConstants.{WINDOW}
+use Rattle.packet_values.specs.declared.limits.TheConstants.{WINDOW}
 use Rattle.wire.specs.declared.packet.Body.TheVariants as bodies
 use Rattle.wire.specs.Packets.{IsPacket}
 use Rattle.trace_props.specs.declared.happening.Happening.{Happening}

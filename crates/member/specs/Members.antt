@@ -2,7 +2,7 @@
 use Rattle.std.specs.Prelude.{◌≡◌, ℕ, ◌^◌, Bool, true, false, not, is_some, [], List, length, Result, Ok, Err, Option, None, Some, nat_lt, nat_le, if◌then◌else◌}
 use Rattle.std.specs.Option.{option_map, option_map_or, option_and_then}
 use Rattle.address.specs.Ids.{Address, same_address}
-use Rattle.wire.specs.declared.limits.TheConstants.{PAYLOAD}
+use Rattle.packet_values.specs.declared.limits.TheConstants.{PAYLOAD}
 use Rattle.wire.specs.declared.error.WireError.{WireError}
 use Rattle.wire.specs.declared.packet.Packet.{Packet}
 use Rattle.wire.specs.Packets.{packet_of, wire_refusal}

@@ -12,11 +12,13 @@ ghost use Rattle.member.specs.Steps.{lone_install, sending, delivery, is_for, is
 use crate::name::KeptName;
 use crate::{Error, Input, Outgoing, Output};
 use address::{Address, GREATEST_NUMBER, ViewId};
+use packet_values::PAYLOAD;
 use state_transfer::Receiver;
 use std::alloc::{AllocError, Global};
 use trace_props::{Bytes, Delivery, HandedBack, Happening, Install, Message, Numbered, Sending};
 use view::{Addresses, View};
-use wire::{Body, PAYLOAD, Packet, decode, encode};
+use wire::{Body, Packet, decode};
+use wire_writer::encode;
 
 // How far a member has come: it has no view; it has none and asks a contact to be let in; or it is alone in its first view, and has sent so
 // many messages there.

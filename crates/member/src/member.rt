@@ -13,11 +13,11 @@ use crate::life::{Identity, Life, Stage};
 use crate::name::KeptName;
 use crate::{Error, Input, Output};
 use address::Address;
+use packet_values::GroupName;
 use state_transfer::Receiver;
 use std::alloc::Global;
 use std::marker::Model;
 use view::View;
-use wire::GroupName;
 
 /// A member of a group, with the receiver that it tells messages and views. Contracts see its address, its group and, while it runs, its core,
 /// which is what it decides by (docs/PROOF.md, "Agreement over acts"), and its book, which is what it notes beside.

@@ -1,8 +1,8 @@
 ghost use Rattle.std.specs.Prelude.{◌≡◌};
 ghost use Rattle.member.specs.Names.{same_name};
 
+use packet_values::{GROUP_NAME, GroupName};
 use std::marker::Model;
-use wire::{GROUP_NAME, GroupName};
 
 // The name of a group, kept: 1 to 32 bytes.
 #[derive(Debug, Drop)]
@@ -13,7 +13,7 @@ pub(crate) struct KeptName {
 
 impl Model for KeptName {
     ghost use Rattle.std.specs.Prelude.{List, ℕ, take, ◌≡◌, ◌≤◌, true};
-    ghost use Rattle.wire.specs.Texts.{is_group_name};
+    ghost use Rattle.packet_values.specs.Names.{is_group_name};
 
     ghost Value = { List ℕ };
 

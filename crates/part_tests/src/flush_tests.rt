@@ -3,8 +3,10 @@ ghost use Rattle.std.specs.Prelude.{◌≤◌};
 use crate::fixtures::{first_of, listed, view_id};
 use address::ViewId;
 use flush::{Flush, Progress, cut_covers};
+use packet_values::{Count, Entry, Number, Payload};
 use std::alloc::Global;
-use wire::{Count, Entry, Held, Number, Payload, Report, put_entry};
+use wire::{Held, Report};
+use wire_writer::put_entry;
 
 /// The flush for `9@1.1` with the first addresses of these nodes as its list.
 fn started(alloc: Global, nodes: &[u16]) -> Option<Flush> {

@@ -4,11 +4,12 @@ use crate::fixtures::first_of;
 use crate::last::Last;
 use address::{Address, ViewId};
 use member::{Error, Input, Member, Output};
+use packet_values::GroupName;
 use state_transfer::Receiver;
 use std::alloc::Global;
 use trace_props::Happening;
 use view::View;
-use wire::{GroupName, WireError};
+use wire::WireError;
 
 // JOIN packets, by hand from the table of docs/WIRE.md: 2.1 to 1.1, 2.1 to 1.2, 1.1 to itself, and 2.1 to 1.1 in the group `night`.
 const JOIN: &[u8] = b"VS\x01\x01\x05world\x00\x02\x00\x00\x00\x01\x00\x01\x00\x00\x00\x01";

@@ -3,12 +3,12 @@ use Rattle.std.proofs.Common.{◌≡◌, ℕ, ◌+◌, ◌-◌, ◌≤◌, Bool,
 use Rattle.std.proofs.lemmas.Bool.{eqb-true}
 use Rattle.std.proofs.lemmas.Bool.Decides.{nat_tests}
 use Rattle.address.specs.declared.TheConstants.{GREATEST_NUMBER}
-use Rattle.wire.specs.declared.limits.TheConstants.{WINDOW, PAYLOAD}
+use Rattle.packet_values.specs.declared.limits.TheConstants.{WINDOW, PAYLOAD}
 use Rattle.wire.specs.declared.error.WireError.{WireError}
 use Rattle.wire.specs.declared.error.WireError.TheVariants.{Value}
 use Rattle.wire.specs.declared.packet.Body.{Body}
 use Rattle.wire.specs.declared.packet.Body.TheVariants as bodies
-use Rattle.wire.specs.Values.{Missing, Progress}
+use Rattle.packet_values.specs.Values.{Missing, Progress}
 use Rattle.wire.specs.Reading.{Read, ◌>>=◌, number_at}
 use Rattle.wire.specs.Fields.{IsAddress, IsViewId, IsEntry, address_bytes, number_bytes, view_id_bytes, payload_bytes, entry_bytes, address_at, view_id_at, payload_at, entry_at}
 use Rattle.wire.specs.Lists.{IsView, IsReport, IsInstall, view_bytes, report_bytes, install_bytes, view_at, report_at, install_at}

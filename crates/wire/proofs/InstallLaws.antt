@@ -11,10 +11,11 @@ use Rattle.address.specs.Ids.{Address, ViewId}
 use Rattle.address.specs.declared.TheConstants.{GREATEST_NUMBER}
 use Rattle.view.specs.Members.{View}
 use Rattle.view.specs.declared.TheConstants.{MEMBERS}
-use Rattle.wire.specs.declared.limits.TheConstants.{WINDOW, STATE}
+use Rattle.packet_values.specs.declared.limits.TheConstants.{WINDOW, STATE}
 use Rattle.wire.specs.declared.error.WireError.{WireError}
 use Rattle.wire.specs.declared.error.WireError.TheVariants.{Length, Value}
-use Rattle.wire.specs.Values.{Entry, Report, Install, nothing_reported}
+use Rattle.packet_values.specs.Values.{Entry}
+use Rattle.wire.specs.Values.{Report, Install, nothing_reported}
 use Rattle.wire.specs.Reading.{◌>>=◌, bytes_at, number_at, list_at}
 use Rattle.wire.specs.Fields.{IsAddress, IsViewId, IsEntry, IsPlaced, address_bytes, number_bytes, entry_bytes, entry_at}
 use Rattle.wire.specs.Lists.{IsReport, IsInstall, is_filled, is_nothing, is_report, filled_bytes, report_bytes, filled_at, report_at, is_in_order, is_install, addresses_bytes, view_bytes, items_bytes, state_bytes, given_bytes, install_bytes, IsView, view_at, together_at, items_count_at, state_at, given_at, install_at}

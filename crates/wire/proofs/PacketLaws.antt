@@ -5,14 +5,16 @@ use Rattle.std.specs.List.{list_all}
 use Rattle.std.proofs.lemmas.Bool.{leb-true, le-leb}
 use Rattle.byteorder.specs.Endian.{big_bytes}
 use Rattle.address.specs.Ids.{Address}
-use Rattle.wire.specs.declared.limits.TheConstants.{GROUP_NAME, MAGIC, VERSION, KINDS}
+use Rattle.packet_values.specs.declared.limits.TheConstants.{GROUP_NAME}
+use Rattle.wire.specs.declared.limits.TheConstants.{MAGIC, VERSION, KINDS}
 use Rattle.wire.specs.declared.error.WireError.TheVariants.{NotOurs, Version, Kind, Length, Value}
 use Rattle.wire.specs.declared.packet.Body.{Body}
 use Rattle.wire.specs.declared.packet.Body.TheVariants as bodies
 use Rattle.wire.specs.declared.packet.Packet.{Packet}
 use Rattle.wire.specs.Reading.{◌>>=◌, bytes_at, number_at}
 use Rattle.wire.specs.Fields.{address_bytes, address_at}
-use Rattle.wire.specs.Texts.{is_name_byte, is_group_name, group_bytes, group_at}
+use Rattle.packet_values.specs.Names.{is_name_byte, is_group_name}
+use Rattle.wire.specs.Texts.{group_bytes, group_at}
 use Rattle.wire.specs.Packets.{kind_of, body_bytes, body_at, IsPacket, front_bytes, header_bytes, spelling, front_at, packet_at}
 use Rattle.wire.proofs.Bytes.{IsBytes, wide1, wide2}
 use Rattle.wire.proofs.FieldLaws.{bind_ok, ok_is, test_ok, both_true, along, back, Takes, Takes-then, IsPart, address_part, bytes_takes, bytes_again, number_takes, number_again}

@@ -3,9 +3,9 @@ use Rattle.std.specs.Prelude.{◌≤◌, ◌<◌, ◌^◌, ℕ, List, ◌++◌, 
 use Rattle.byteorder.specs.Endian.{big_bytes, big_number}
 use Rattle.address.specs.Ids.{Address, ViewId}
 use Rattle.address.specs.declared.TheConstants.{GREATEST_NUMBER}
-use Rattle.wire.specs.declared.limits.TheConstants.{PAYLOAD}
+use Rattle.packet_values.specs.declared.limits.TheConstants.{PAYLOAD}
 use Rattle.wire.specs.declared.error.WireError.TheVariants.{Length, Value}
-use Rattle.wire.specs.Values.{Entry}
+use Rattle.packet_values.specs.Values.{Entry}
 use Rattle.wire.specs.Reading.{Read, ◌>>=◌, bytes_at, number_at}
 
 -- ---- an address: the node in two bytes, the incarnation in four; neither is 0

@@ -2,22 +2,7 @@
 use Rattle.std.specs.Prelude.{ℕ, List, [], Option, None}
 use Rattle.address.specs.Ids.{Address, ViewId}
 use Rattle.view.specs.Members.{View}
-
--- a message as a packet lists it: its sender, its number among the sender's, its payload
-pub record Entry : Type 0 where
-  pub sender : Address
-  pub number : ℕ
-  pub payload : List ℕ
-
--- numbers that are missing, from the first to the last
-pub record Missing : Type 0 where
-  pub first : ℕ
-  pub last : ℕ
-
--- how far a view's order has come: the highest number, and the one up to which all have it
-pub record Progress : Type 0 where
-  pub highest : ℕ
-  pub stable : ℕ
+pub use Rattle.packet_values.specs.Values.{Entry, Missing, Progress}
 
 -- what a member reports of the view that it comes from: its id, its counts there, and the entries past
 -- the stable one, each with its place in the view's order

@@ -1,68 +1,18 @@
 ghost use Rattle.std.specs.Prelude.{◌≡◌, ◌<◌, ◌≤◌, ◌^◌, ◌++◌, [], true, Some, Ok, ℕ, List, length, option_to_list, IfOk, IfNone};
 ghost use Rattle.std.specs.Option.{SomeIff};
 ghost use Rattle.std.specs.List.{flat_map, AllByRecursion};
-ghost use Rattle.wire.specs.Values.{Entry as EntryValue};
+ghost use Rattle.packet_values.specs.Values.{Entry as EntryValue};
 ghost use Rattle.wire.specs.Reading.{Gives, rest_of, listed, is_whole, list_at};
 ghost use Rattle.wire.specs.Fields.{payload_at, entry_at, placed_at, IsEntry, IsPlaced, entry_bytes, placed_bytes};
 ghost use Rattle.wire.specs.Lists.{are_held, held_at, highest_next};
 
-use crate::WINDOW;
 use crate::error::WireError;
 use crate::fields::Reader;
-use crate::numbers::{Number, number_at};
-use crate::text::{Payload, payload_at};
-use address::{Address, GREATEST_NUMBER};
+use crate::numbers::number_at;
+use crate::text::payload_at;
+use address::GREATEST_NUMBER;
+use packet_values::{Entry, Number, WINDOW};
 use std::marker::Model;
-
-/// A message as packets carry it: its sender, its number among the sender's, and its payload in lent bytes.
-#[derive(Drop)]
-pub struct Entry<'a> {
-    sender: Address,
-    number: Number,
-    payload: Payload<'a>,
-}
-
-impl<'a> Model for Entry<'a> {
-    ghost use Rattle.wire.specs.Values.{Entry};
-
-    ghost Value = { Entry };
-
-    ghost view = { λ e. record { sender = e.sender; number = e.number; payload = e.payload } };
-}
-
-impl<'a> Entry<'a> {
-    /// The entry of a sender's message.
-    pub fn new(sender: Address, number: Number, payload: Payload<'a>) -> Entry<'a>
-        ensures { result ≡ record { sender = sender; number = number; payload = payload.entry } }
-    {
-        Entry {
-            sender,
-            number,
-            payload,
-        }
-    }
-
-    /// Who sent it.
-    pub fn sender(&self) -> Address
-        ensures { result ≡ self.now.sender }
-    {
-        self.sender
-    }
-
-    /// Its number among the sender's messages, from 1.
-    pub fn number(&self) -> Number
-        ensures { result ≡ self.now.number }
-    {
-        self.number
-    }
-
-    /// Its payload.
-    pub fn payload(&self) -> &Payload<'a>
-        ensures { result.now ≡ self.now.payload }
-    {
-        &self.payload
-    }
-}
 
 #[tactic(auto, unfolding(crate::specs::Fields::entry_at))]
 pub(crate) fn entry_at<'a>(from: &mut Reader<'a>) -> Result<Entry<'a>, WireError>
@@ -71,11 +21,7 @@ pub(crate) fn entry_at<'a>(from: &mut Reader<'a>) -> Result<Entry<'a>, WireError
     let sender = from.address()?;
     let number = number_at(1, GREATEST_NUMBER, from)?;
     let payload = payload_at(from)?;
-    Ok(Entry {
-        sender,
-        number,
-        payload,
-    })
+    Ok(Entry::new(sender, number, payload))
 }
 
 /// The entries of an INSTALL in lent bytes, spelled one behind the other. Contracts see them as a list.
@@ -87,7 +33,7 @@ pub struct Items<'a> {
 
 impl<'a> Model for Items<'a> {
     ghost use Rattle.std.specs.Prelude.{List, ◌≡◌, true};
-    ghost use Rattle.wire.specs.Values.{Entry};
+    ghost use Rattle.packet_values.specs.Values.{Entry};
     ghost use Rattle.wire.specs.Reading.{listed, is_whole, list_at};
     ghost use Rattle.wire.specs.Fields.{entry_at};
 
@@ -156,8 +102,8 @@ impl<'a> Items<'a> {
         self.count as usize
     }
 
-    // Their spellings, one behind the other.
-    pub(crate) fn text(&self) -> &'a [u8]
+    /// Their spellings, one behind the other.
+    pub fn text(&self) -> &'a [u8]
         ensures text { result.now ≡ flat_map entry_bytes self.now }
         ensures fits { AllByRecursion IsEntry self.now }
         ensures short { length result.now < 2 ^ 18 }
@@ -165,8 +111,8 @@ impl<'a> Items<'a> {
         items_text(self.count, self.bytes)
     }
 
-    /// The same entries once more.
-    pub fn again(&self) -> Items<'a>
+    // The same entries once more.
+    pub(crate) fn again(&self) -> Items<'a>
         ensures { result ≡ self.now }
     {
         Items {
@@ -228,7 +174,7 @@ pub struct Held<'a> {
 
 impl<'a> Model for Held<'a> {
     ghost use Rattle.std.specs.Prelude.{ℕ, List, ◌≡◌, true};
-    ghost use Rattle.wire.specs.Values.{Entry};
+    ghost use Rattle.packet_values.specs.Values.{Entry};
     ghost use Rattle.wire.specs.Reading.{listed, is_whole, list_at};
     ghost use Rattle.wire.specs.Fields.{placed_at};
 
@@ -343,8 +289,8 @@ impl<'a> Held<'a> {
         held_text(self.len, self.text)
     }
 
-    /// The same entries once more.
-    pub fn again(&self) -> Held<'a>
+    // The same entries once more.
+    pub(crate) fn again(&self) -> Held<'a>
         ensures { result ≡ self.now }
     {
         Held {

@@ -3,14 +3,14 @@ ghost use Rattle.std.specs.Option.{SomeIff};
 ghost use Rattle.wire.specs.Reading.{Gives};
 ghost use Rattle.wire.specs.Lists.{is_in_order, is_install, items_count_at, install_at};
 
-use crate::WINDOW;
 use crate::entries::{Items, items_at};
 use crate::error::WireError;
 use crate::fields::Reader;
 use crate::members::{Members, Roster, rest_after, together_at, view_at};
-use crate::numbers::{Count, count_at};
-use crate::text::{State, state_at};
+use crate::numbers::count_at;
+use crate::text::state_at;
 use address::{Address, GREATEST_NUMBER};
+use packet_values::{Count, State, WINDOW};
 use std::marker::Model;
 use view::MEMBERS;
 

@@ -1,13 +1,11 @@
 ghost use Rattle.std.specs.Prelude.{◌≡◌};
 ghost use Rattle.wire.specs.Packets.{kind_of};
 
-use crate::entries::Entry;
 use crate::install::Install;
 use crate::members::Roster;
-use crate::numbers::{Count, Missing, Number, Progress};
 use crate::report::Report;
-use crate::text::{GroupName, Payload};
 use address::{Address, ViewId};
+use packet_values::{Count, Entry, GroupName, Missing, Number, Payload, Progress};
 
 /// What a packet says, by its kind.
 #[derive(Drop)]

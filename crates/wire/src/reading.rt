@@ -10,12 +10,13 @@ use crate::error::WireError;
 use crate::fields::Reader;
 use crate::install::install_at;
 use crate::members::view_at;
-use crate::numbers::{Missing, Progress, count_at, number_at};
+use crate::numbers::{count_at, number_at};
 use crate::packet::{Body, Packet};
 use crate::report::report_at;
 use crate::text::{group_at, payload_at};
-use crate::{DATAGRAM, KINDS, MAGIC, VERSION, WINDOW};
+use crate::{DATAGRAM, KINDS, MAGIC, VERSION};
 use address::GREATEST_NUMBER;
+use packet_values::{Missing, Progress, WINDOW};
 
 #[tactic(auto, unfolding(crate::specs::Packets::redirect_at))]
 fn redirect_at<'a>(from: &mut Reader<'a>) -> Result<Body<'a>, WireError>

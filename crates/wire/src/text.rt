@@ -1,7 +1,3 @@
-ghost use Rattle.std.specs.Prelude.{◌≡◌, ◌≤◌, length, true};
-ghost use Rattle.std.specs.List.{list_all};
-ghost use Rattle.std.specs.Option.{SomeIff};
-ghost use Rattle.wire.specs.Texts.{is_name_byte, is_group_name};
 ghost use Rattle.wire.specs.Reading.{Gives};
 ghost use Rattle.wire.specs.Fields.{payload_at};
 ghost use Rattle.wire.specs.Lists.{state_at};
@@ -9,137 +5,7 @@ ghost use Rattle.wire.specs.Texts.{group_at};
 
 use crate::error::WireError;
 use crate::fields::Reader;
-use crate::{GROUP_NAME, PAYLOAD, STATE};
-use std::marker::Model;
-
-/// A group's name in lent bytes: 1 to 32 letters, digits, `-` and `_` of ASCII.
-#[derive(Drop)]
-pub struct GroupName<'a> {
-    name: &'a [u8],
-}
-
-impl<'a> Model for GroupName<'a> {
-    ghost use Rattle.std.specs.Prelude.{List, ℕ, ◌≡◌, true};
-    ghost use Rattle.wire.specs.Texts.{is_group_name};
-
-    ghost Value = { List ℕ };
-
-    ghost view = { λ n. n.name.now };
-
-    ghost invariant = { λ n. is_group_name n.name.now ≡ true };
-}
-
-fn is_name_byte(byte: u8) -> bool
-    ensures { result ≡ is_name_byte byte }
-{
-    matches!(byte, b'a'..=b'z' | b'A'..=b'Z' | b'0'..=b'9' | b'-' | b'_')
-}
-
-fn is_plain(bytes: &[u8]) -> bool
-    ensures { result ≡ list_all is_name_byte bytes.now }
-{
-    bytes.iter().all(|byte| is_name_byte(*byte))
-}
-
-fn is_group_name(bytes: &[u8]) -> bool
-    ensures { result ≡ is_group_name bytes.now }
-{
-    1 <= bytes.len() && bytes.len() <= GROUP_NAME && is_plain(bytes)
-}
-
-impl<'a> GroupName<'a> {
-    /// The name of these bytes; `None` where they are no name of a group.
-    pub fn new(bytes: &'a [u8]) -> Option<GroupName<'a>>
-        ensures { SomeIff result (is_group_name bytes.now ≡ true) bytes.now }
-    {
-        if !is_group_name(bytes) {
-            return None;
-        }
-        Some(GroupName { name: bytes })
-    }
-
-    /// Its bytes.
-    pub fn as_slice(&self) -> &'a [u8]
-        ensures bytes { result.now ≡ self.now }
-        ensures name { is_group_name result.now ≡ true }
-    {
-        self.name
-    }
-}
-
-/// A message's payload in lent bytes, at most 512 of them.
-#[derive(Drop)]
-pub struct Payload<'a> {
-    payload: &'a [u8],
-}
-
-impl<'a> Model for Payload<'a> {
-    ghost use Rattle.std.specs.Prelude.{List, ℕ, length, ◌≤◌};
-    ghost use Rattle.wire.specs.declared.limits.TheConstants.{PAYLOAD};
-
-    ghost Value = { List ℕ };
-
-    ghost view = { λ p. p.payload.now };
-
-    ghost invariant = { λ p. length p.payload.now ≤ PAYLOAD };
-}
-
-impl<'a> Payload<'a> {
-    /// The payload of these bytes; `None` for more than 512.
-    pub fn new(bytes: &'a [u8]) -> Option<Payload<'a>>
-        ensures { SomeIff result (length bytes.now ≤ PAYLOAD) bytes.now }
-    {
-        if bytes.len() > PAYLOAD {
-            return None;
-        }
-        Some(Payload { payload: bytes })
-    }
-
-    /// Its bytes.
-    pub fn as_slice(&self) -> &'a [u8]
-        ensures bytes { result.now ≡ self.now }
-        ensures short { length result.now ≤ PAYLOAD }
-    {
-        self.payload
-    }
-}
-
-/// A state in lent bytes, at most 16,384 of them.
-#[derive(Drop)]
-pub struct State<'a> {
-    state: &'a [u8],
-}
-
-impl<'a> Model for State<'a> {
-    ghost use Rattle.std.specs.Prelude.{List, ℕ, length, ◌≤◌};
-    ghost use Rattle.wire.specs.declared.limits.TheConstants.{STATE};
-
-    ghost Value = { List ℕ };
-
-    ghost view = { λ s. s.state.now };
-
-    ghost invariant = { λ s. length s.state.now ≤ STATE };
-}
-
-impl<'a> State<'a> {
-    /// The state of these bytes; `None` for more than 16,384.
-    pub fn new(bytes: &'a [u8]) -> Option<State<'a>>
-        ensures { SomeIff result (length bytes.now ≤ STATE) bytes.now }
-    {
-        if bytes.len() > STATE {
-            return None;
-        }
-        Some(State { state: bytes })
-    }
-
-    /// Its bytes.
-    pub fn as_slice(&self) -> &'a [u8]
-        ensures bytes { result.now ≡ self.now }
-        ensures short { length result.now ≤ STATE }
-    {
-        self.state
-    }
-}
+use packet_values::{GROUP_NAME, GroupName, PAYLOAD, Payload, STATE, State};
 
 #[tactic(auto, using(crate::proofs::PacketLaws::name_is), unfolding(crate::specs::Texts::group_at))]
 pub(crate) fn group_at<'a>(from: &mut Reader<'a>) -> Result<GroupName<'a>, WireError>
@@ -147,10 +13,7 @@ pub(crate) fn group_at<'a>(from: &mut Reader<'a>) -> Result<GroupName<'a>, WireE
 {
     let len = from.u8(1, GROUP_NAME as u8, WireError::Length)?;
     let bytes = from.bytes(len as usize)?;
-    if !is_plain(bytes) {
-        return Err(WireError::Value);
-    }
-    Ok(GroupName { name: bytes })
+    GroupName::new(bytes).ok_or(WireError::Value)
 }
 
 #[tactic(auto, unfolding(crate::specs::Fields::payload_at))]
@@ -159,7 +22,7 @@ pub(crate) fn payload_at<'a>(from: &mut Reader<'a>) -> Result<Payload<'a>, WireE
 {
     let len = from.u16(0, PAYLOAD as u16, WireError::Length)?;
     let bytes = from.bytes(len as usize)?;
-    Ok(Payload { payload: bytes })
+    Payload::new(bytes).ok_or(WireError::Length)
 }
 
 #[tactic(auto, unfolding(crate::specs::Lists::state_at))]
@@ -172,5 +35,8 @@ pub(crate) fn state_at<'a>(from: &mut Reader<'a>) -> Result<Option<State<'a>>, W
     }
     let len = from.u32(0, STATE as u32, WireError::Length)?;
     let bytes = from.bytes(len as usize)?;
-    Ok(Some(State { state: bytes }))
+    match State::new(bytes) {
+        Some(state) => Ok(Some(state)),
+        None => Err(WireError::Length),
+    }
 }

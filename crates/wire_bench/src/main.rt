@@ -4,13 +4,12 @@
 
 use address::{Address, Node, ViewId};
 use anyhow::Context;
+use packet_values::{Count, Entry, GroupName, Number, Payload, State};
 use std::alloc::Global;
 use std::env;
 use std::time::Instant;
-use wire::{
-    Body, Count, Entry, GroupName, Held, Install, Items, Members, Number, Packet, Payload, Report,
-    Roster, State, decode, encode, put_entry,
-};
+use wire::{Body, Held, Install, Items, Members, Packet, Report, Roster, decode};
+use wire_writer::{encode, put_entry};
 
 const ROUNDS: u64 = 20_000;
 

@@ -1,8 +1,10 @@
 ghost use Rattle.std.specs.Prelude.{◌≤◌, ◌^◌, length};
 
 use address::{Address, Node, ViewId};
+use packet_values::{Entry, Number, Payload};
 use std::alloc::{AllocError, Global};
-use wire::{Entry, Number, Packet, Payload, decode, encode};
+use wire::{Packet, decode};
+use wire_writer::encode;
 
 // One packet of each kind in the group `world`, between 1.1 and 2.1, spelled by hand from the tables of
 // docs/WIRE.md. JOIN, ORDER and FLUSH are vectors of the format.

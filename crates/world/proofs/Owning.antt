@@ -5,7 +5,7 @@ use Rattle.std.proofs.lemmas.Bool.{and_parts, and_from}
 use Rattle.std.proofs.lemmas.Option.{none-some, same_Some}
 use Rattle.address.specs.Ids.{Address, same_address}
 use Rattle.view.specs.Members.{View}
-use Rattle.wire.specs.Values.{Entry}
+use Rattle.packet_values.specs.Values.{Entry}
 use Rattle.trace_props.specs.declared.happening.Happening.{Happening}
 use Rattle.trace_props.specs.Observed.{member_of, is_start}
 use Rattle.trace_props.proofs.Observing.{same_address-from}

@@ -6,7 +6,7 @@ use Rattle.std.proofs.lemmas.Bool.Decides.{nat_tests}
 use Rattle.std.proofs.lemmas.Option.{none-some, same_Some}
 use Rattle.address.specs.Ids.{Address, ViewId, same_address}
 use Rattle.view.specs.Members.{View}
-use Rattle.wire.specs.declared.limits.TheConstants.{PAYLOAD, WINDOW}
+use Rattle.packet_values.specs.declared.limits.TheConstants.{PAYLOAD, WINDOW}
 use Rattle.trace_props.specs.declared.happening.Happening.{Happening}
 use Rattle.trace_props.specs.declared.happening.Happening.TheVariants.{Delivered, Crashed}
 use Rattle.trace_props.specs.declared.happening.Happening.TheVariants as happening

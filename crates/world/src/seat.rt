@@ -12,10 +12,10 @@ ghost use Rattle.world.specs.Turns.{Steps, Hands, Begins, StartGives, CrashGives
 use crate::pool::Pool;
 use address::{Address, Node};
 use member::{Error, Input, Member, Output};
+use packet_values::GroupName;
 use state_transfer::Receiver;
 use std::alloc::Global;
 use trace_props::{Happening, Trace};
-use wire::GroupName;
 use world_model::{Answer, Refusal, WorldEvent};
 
 /// What runs at a node.

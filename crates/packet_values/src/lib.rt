@@ -1,0 +1,13 @@
+//! The values that packets carry: numbers, counts, names, payloads, states and messages
+//! (docs/WIRE.md, "Fields"). How they are spelled is the crate `wire`'s.
+#![tactic(auto)]
+
+mod entry;
+mod limits;
+mod numbers;
+mod text;
+
+pub use entry::Entry;
+pub use limits::{GROUP_NAME, PAYLOAD, STATE, WINDOW};
+pub use numbers::{Count, Missing, Number, Progress};
+pub use text::{GroupName, Payload, State};
