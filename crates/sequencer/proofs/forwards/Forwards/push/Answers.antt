@@ -1,5 +1,5 @@
-use Rattle.std.proofs.Common.{rules}
-use Rattle.std.proofs.lemmas.Grind.{common_steps}
+use Rattle.std.proofs.Common.{rules, arith}
+use Rattle.std.proofs.lemmas.Grind.{elements}
 use Rattle.sequencer.proofs.forwards.Forwards.push.Goals as goal
 
 pub returns-then-len-eq-OUTSTANDING-clause-number : goal.returns-then-len-eq-OUTSTANDING-clause-number
@@ -13,3 +13,18 @@ returns-in-Ok-clause-number c = search rules
 
 pub returns-in-Err-clause-number : goal.returns-in-Err-clause-number
 returns-in-Err-clause-number c = search rules
+
+pub returns-then-len-eq-OUTSTANDING-clause-refused : goal.returns-then-len-eq-OUTSTANDING-clause-refused
+returns-then-len-eq-OUTSTANDING-clause-refused c = search rules
+
+pub returns-then-self-eq-GREATEST_NUMBER-clause-refused : goal.returns-then-self-eq-GREATEST_NUMBER-clause-refused
+returns-then-self-eq-GREATEST_NUMBER-clause-refused c = search rules
+
+pub returns-in-Ok-clause-refused : goal.returns-in-Ok-clause-refused
+returns-in-Ok-clause-refused c = search rules
+
+pub returns-in-Err-clause-refused : goal.returns-in-Err-clause-refused
+returns-in-Err-clause-refused c = search rules
+
+pub invariant_of-self : goal.invariant_of-self
+invariant_of-self c = grind (arith, elements)
