@@ -9,3 +9,6 @@ returns-in_err-incarnation c = search rules
 
 pub returns-in_err-new : goal.returns-in_err-new
 returns-in_err-new c = search rules
+
+pub returns : goal.returns
+returns c = search rules

@@ -7,3 +7,6 @@ returns-in_err-read_on c = let h' = c.loop-rest-test.ensures in search rules
 
 pub returns : goal.returns
 returns c = let h = c.loop-rest-test.ensures in grind (arith, common_steps)
+
+pub loop-rest-preserved : goal.loop-rest-preserved
+loop-rest-preserved c = search rules
