@@ -1,4 +1,4 @@
-use Rattle.std.proofs.Common.{List, subst}
+use Rattle.std.proofs.Common.{rules, List, subst}
 use Rattle.trace_props.specs.declared.happening.Happening.{Happening}
 use Rattle.trace_props.specs.Verdicts.{IsVerdict}
 use Rattle.trace_props.proofs.Judging.{verdict-exact}
@@ -9,3 +9,7 @@ pub returns-clause-exact : goal.returns-clause-exact
 returns-clause-exact g c =
     verdict-exact g.R.Receiver.opening_state g.R.Receiver.apply g.R.Receiver.decode c.args.trace.now.happenings c.in_ok-verdict.verdict
     (subst (λ (t : List Happening). IsVerdict g.R.Receiver.opening_state g.R.Receiver.apply g.R.Receiver.decode t c.in_ok-verdict.verdict) c.happenings.ensures.value c.in_ok-verdict.ensures)
+
+-- the verdict is of the happenings of the trace
+pub returns-clause-verdict : goal.returns-clause-verdict
+returns-clause-verdict g c = search rules

@@ -21,3 +21,6 @@ returns-then-not-keeps_together c = let h' = c.if-not-keeps_order.ensures in let
 
 pub returns-then-not-keeps_handed_back : goal.returns-then-not-keeps_handed_back
 returns-then-not-keeps_handed_back c = let h' = c.if-not-keeps_next.ensures in let h'' = c.if-not-keeps_together.ensures in let h'3 = c.if-not-keeps_handed_back.ensures in search rules
+
+pub returns : goal.returns
+returns c = search rules
