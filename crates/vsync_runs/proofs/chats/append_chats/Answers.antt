@@ -1,4 +1,4 @@
-use Rattle.std.proofs.Common.{◌≡◌, ◌∙◌, arith}
+use Rattle.std.proofs.Common.{◌≡◌, ◌∙◌, arith, rules}
 use Rattle.vsync_runs.proofs.Chatting.{told-next, told-some, told-all, on-err}
 use Rattle.vsync_runs.proofs.chats.append_chats.Goals as goal
 
@@ -17,3 +17,6 @@ pub returns-clause-ok : goal.returns-clause-ok
 returns-clause-ok g c =
     let all : c.loop-before.before ≡ 65535 = omega (arith, c.loop-before.auto.before-end, c.loop-before-test.false) in
     told-all g.C.Receiver.opening_state g.C.Receiver.apply g.C.Receiver.decode g.C.Chat.lines_of c.args.world.now.trace c.loop-before.before _ _ all c.loop-before.invariant
+
+pub loop-before-init : goal.loop-before-init
+loop-before-init g c = search rules
