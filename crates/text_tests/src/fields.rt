@@ -1,5 +1,5 @@
 use crate::fixtures::address;
-use vsync_text::{
+use script_reader::{
     Fault, address_field, address_in, first_field, first_line, number_in, split_at_first,
 };
 

@@ -1,8 +1,8 @@
 ghost use Rattle.std.specs.Prelude.{◌≤◌};
 
 use address::{Address, Node};
+use script_reader::Unread;
 use std::alloc::{AllocError, Global};
-use vsync_text::Unread;
 
 /// The address of an incarnation at a node.
 pub fn address(node: u16, incarnation: u32) -> Address

@@ -1,6 +1,6 @@
 use crate::fixtures::{fault_text, with_copies};
+use script_reader::{SCRIPT_LINE, Script, read_script};
 use std::alloc::{AllocError, Global};
-use vsync_text::{SCRIPT_LINE, Script, read_script};
 use world_model::WorldEvent;
 
 /// The word of an event, and its node's or packet's number.

@@ -1,8 +1,9 @@
 use crate::fixtures::{address, fault_text, with_copies};
+use script_reader::Unread;
 use std::alloc::{AllocError, Global};
 use trace_props::{Delivery, Happening, Install, Numbered, Trace};
 use trace_reader::{TRACE_LINE, read_trace, reads_what_is_written};
-use vsync_text::{Unread, append_happening};
+use vsync_text::append_happening;
 
 /// The happenings of a trace, printed again.
 fn printed(alloc: Global, trace: &Trace) -> Result<String, AllocError> {

@@ -3,7 +3,7 @@ use Rattle.std.proofs.Common.{◌≡◌, ℕ, ◌+◌, ◌<◌, ◌≤◌, Bool,
 use Rattle.std.proofs.lemmas.Bool.{ne_eqb}
 use Rattle.std.proofs.Math.Seq.{take-append_seam, drop-append_seam}
 use Rattle.std.specs.List.{position_or_len, AllByRecursion, onto_first}
-use Rattle.vsync_text.specs.Lines.{before_byte, behind_byte, behind, lines_of, in_front}
+use Rattle.script_reader.specs.Lines.{before_byte, behind_byte, behind, lines_of, in_front}
 use Rattle.trace_reader.specs.Forms.{parts_of}
 
 -- no byte of a text is this one

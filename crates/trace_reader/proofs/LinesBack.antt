@@ -8,9 +8,9 @@ use Rattle.trace_props.specs.declared.happening.Happening.TheVariants as happeni
 use Rattle.trace_props.specs.declared.happening.Sending.{Sending}
 use Rattle.trace_props.specs.declared.happening.Delivery.{Delivery}
 use Rattle.trace_props.specs.declared.happening.Install.{Install}
-use Rattle.vsync_text.specs.Lines.{field_of, behind_field, behind}
-use Rattle.vsync_text.specs.Script.{is_skipped}
-use Rattle.vsync_text.specs.AddressText.{address_of_text}
+use Rattle.script_reader.specs.Lines.{field_of, behind_field, behind}
+use Rattle.script_reader.specs.Script.{is_skipped}
+use Rattle.script_reader.specs.AddressText.{address_of_text}
 use Rattle.vsync_text.specs.TraceText.{text_of_payload, text_of_previous, text_of_addresses, text_of_handed_back, text_of_given, happening_word, fields_of, field, sending_fields, delivery_fields, install_view, install_rest}
 use Rattle.trace_reader.specs.declared.line.Word.{Word}
 use Rattle.trace_reader.specs.declared.line.Word.TheVariants.{Started, Sent, Delivered, Blocked, Installed, Left, Crashed}

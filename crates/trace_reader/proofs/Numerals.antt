@@ -6,7 +6,7 @@ use Rattle.std.specs.Char.{is_ascii_digit}
 use Rattle.std.specs.Fmt.{decimal, digits, digits_onto, digit_glyph}
 use Rattle.std.specs.List.{list_all, AllByRecursion}
 use Rattle.std.specs.Prelude.{◌==◌}
-use Rattle.vsync_text.specs.Numbers.{is_plain, has_plain_front, value_of, value_after, number_in}
+use Rattle.script_reader.specs.Numbers.{is_plain, has_plain_front, value_of, value_after, number_in}
 use Rattle.vsync_text.specs.TraceText.{hex_digit, hex_of}
 use Rattle.trace_reader.specs.Forms.{hex_value, hex_byte, bytes_of_hex}
 

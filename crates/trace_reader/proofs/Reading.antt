@@ -2,9 +2,9 @@
 use Rattle.std.proofs.Common.{◌≡◌, ℕ, ◌+◌, List, [], ◌∷◌, ◌++◌, Option, None, Some, Result, Ok, Err, slice_get, refl, sym, ◌∙◌, append_assoc, append-nil}
 use Rattle.std.specs.List.{enumerate_from, cons_option}
 use Rattle.trace_props.specs.declared.happening.Happening.{Happening}
-use Rattle.vsync_text.specs.declared.fault.Fault.{Fault}
-use Rattle.vsync_text.specs.Lines.{lines_of}
-use Rattle.vsync_text.specs.Script.{FaultAt}
+use Rattle.script_reader.specs.declared.fault.Fault.{Fault}
+use Rattle.script_reader.specs.Lines.{lines_of}
+use Rattle.script_reader.specs.Script.{FaultAt}
 use Rattle.trace_reader.specs.Traces.{trace_of, reading_of, after_line, fault_in, happening_in, faults_of, happenings_of, unless_fault}
 
 abbrev pub then_on : (List Happening → Result (List Happening) FaultAt) → Result (List Happening) FaultAt → Result (List Happening) FaultAt

@@ -13,7 +13,7 @@ use Rattle.view.specs.Members.{View, is_distinct}
 use Rattle.view.specs.View.{view_refusal}
 use Rattle.state_transfer.specs.declared.TheConstants.{PAYLOAD}
 use Rattle.trace_props.specs.declared.happening.Numbered.{Numbered}
-use Rattle.vsync_text.specs.AddressText.{address_of_text}
+use Rattle.script_reader.specs.AddressText.{address_of_text}
 use Rattle.vsync_text.specs.TraceText.{dash, hex_digit, hex_of, text_of_payload, text_of_previous, text_of_addresses, text_of_numbered, text_of_handed_back, text_of_given}
 use Rattle.trace_reader.specs.Forms.{parts_of, each_of, in_front}
 use Rattle.trace_reader.specs.Spelling.{number_of_text, view_id_of_text, previous_of_text, short_of_hex, payload_of_text, addresses_of_text, view_of_text, together_of_text, message_of_text, messages_of_text, handed_back_of_text, state_of_text, given_of_text}

@@ -6,8 +6,8 @@ use Rattle.std.specs.Fmt.{decimal}
 use Rattle.address.specs.Ids.{text_of_address, text_of_view_id}
 use Rattle.trace_props.specs.declared.happening.Happening.{Happening}
 use Rattle.trace_props.specs.declared.happening.Happening.TheVariants.{Started, Sent, Delivered, Blocked, Installed, Left, Crashed}
-use Rattle.vsync_text.specs.Lines.{lines_of}
-use Rattle.vsync_text.specs.Script.{is_skipped}
+use Rattle.script_reader.specs.Lines.{lines_of}
+use Rattle.script_reader.specs.Script.{is_skipped}
 use Rattle.vsync_text.specs.TraceText.{text_of_payload, text_of_previous, text_of_addresses, text_of_handed_back, text_of_given, happening_word, fields_of, field, install_view, install_rest}
 use Rattle.trace_reader.specs.Traces.{trace_of, reading_of, after_line}
 use Rattle.trace_reader.specs.Spellable.{IsInFormat, IsNote, Tell}

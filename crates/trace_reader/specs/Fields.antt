@@ -5,11 +5,11 @@ use Rattle.view.specs.Members.{View}
 use Rattle.trace_props.specs.declared.happening.Sending.{Sending}
 use Rattle.trace_props.specs.declared.happening.Delivery.{Delivery}
 use Rattle.trace_props.specs.declared.happening.Install.{Install}
-use Rattle.vsync_text.specs.declared.fault.Fault.{Fault}
-use Rattle.vsync_text.specs.declared.fault.Fault.TheVariants.{BadNumber, MissingField}
-use Rattle.vsync_text.specs.Lines.{field_of, behind_field}
-use Rattle.vsync_text.specs.Script.{and_rest}
-use Rattle.vsync_text.specs.AddressText.{address_of_text}
+use Rattle.script_reader.specs.declared.fault.Fault.{Fault}
+use Rattle.script_reader.specs.declared.fault.Fault.TheVariants.{BadNumber, MissingField}
+use Rattle.script_reader.specs.Lines.{field_of, behind_field}
+use Rattle.script_reader.specs.Script.{and_rest}
+use Rattle.script_reader.specs.AddressText.{address_of_text}
 use Rattle.trace_reader.specs.declared.fields.Unheard.{Unheard}
 use Rattle.trace_reader.specs.declared.fields.Unheard.TheVariants as unheard
 use Rattle.trace_reader.specs.Spelling.{number_of_text, view_id_of_text, previous_of_text, payload_of_text, view_of_text, together_of_text, handed_back_of_text, given_of_text}

@@ -8,9 +8,9 @@ use Rattle.view.specs.View.{view_refusal}
 use Rattle.view.specs.declared.ViewError.{ViewError}
 use Rattle.state_transfer.specs.declared.TheConstants.{PAYLOAD}
 use Rattle.trace_props.specs.declared.happening.Numbered.{Numbered}
-use Rattle.vsync_text.specs.Lines.{before_byte, behind_byte}
-use Rattle.vsync_text.specs.Numbers.{number_in}
-use Rattle.vsync_text.specs.AddressText.{address_of_text}
+use Rattle.script_reader.specs.Lines.{before_byte, behind_byte}
+use Rattle.script_reader.specs.Numbers.{number_in}
+use Rattle.script_reader.specs.AddressText.{address_of_text}
 use Rattle.vsync_text.specs.TraceText.{dash}
 use Rattle.trace_reader.specs.Forms.{◌>>=◌, bytes_of_hex, parts_of, each_of}
 

@@ -4,12 +4,12 @@ use Rattle.std.specs.List.{filter_map}
 use Rattle.std.specs.Str.{bytes_eq}
 use Rattle.trace_props.specs.declared.happening.Happening.{Happening}
 use Rattle.trace_props.specs.declared.happening.Happening.TheVariants as happening
-use Rattle.vsync_text.specs.declared.fault.Fault.{Fault}
-use Rattle.vsync_text.specs.declared.fault.Fault.TheVariants.{UnknownWord, LineTooLong}
-use Rattle.vsync_text.specs.declared.fault.Unread.{Unread}
-use Rattle.vsync_text.specs.Lines.{lines_of, field_of, behind_field}
-use Rattle.vsync_text.specs.Script.{FaultAt, numbered_lines, is_skipped, IsUnread}
-use Rattle.vsync_text.specs.AddressText.{address_of_text}
+use Rattle.script_reader.specs.declared.fault.Fault.{Fault}
+use Rattle.script_reader.specs.declared.fault.Fault.TheVariants.{UnknownWord, LineTooLong}
+use Rattle.script_reader.specs.declared.fault.Unread.{Unread}
+use Rattle.script_reader.specs.Lines.{lines_of, field_of, behind_field}
+use Rattle.script_reader.specs.Script.{FaultAt, numbered_lines, is_skipped, IsUnread}
+use Rattle.script_reader.specs.AddressText.{address_of_text}
 use Rattle.trace_reader.specs.declared.line.Word.{Word}
 use Rattle.trace_reader.specs.declared.line.Word.TheVariants.{Started, Sent, Delivered, Blocked, Installed, Left, Crashed}
 use Rattle.trace_reader.specs.declared.TheConstants.{TRACE_LINE}

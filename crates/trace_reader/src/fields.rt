@@ -3,7 +3,7 @@
 ghost use Rattle.std.specs.Prelude.{◌≡◌, ◌≤◌, length, Some, IfOk};
 ghost use Rattle.std.specs.Option.{option_copied};
 ghost use Rattle.state_transfer.specs.declared.TheConstants.{PAYLOAD};
-ghost use Rattle.vsync_text.specs.AddressText.{address_of_text};
+ghost use Rattle.script_reader.specs.AddressText.{address_of_text};
 ghost use Rattle.trace_reader.specs.Spelling.{number_of_text, view_id_of_text, previous_of_text, payload_of_text, view_of_text, together_of_text, handed_back_of_text, given_of_text, AreShort};
 ghost use Rattle.trace_reader.specs.Fields.{Gives, field_at, spelled_at, end_at};
 
@@ -12,11 +12,11 @@ use crate::spelling::{
     view_in,
 };
 use address::{Address, ViewId};
+use script_reader::{Fault, address_in, first_field};
 use std::alloc::{AllocError, Global};
 use std::marker::Model;
 use trace_props::{Bytes, HandedBack};
 use view::{Addresses, View};
-use vsync_text::{Fault, address_in, first_field};
 
 /// Why a line was not heard.
 #[derive(Debug, Drop)]

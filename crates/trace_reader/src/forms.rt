@@ -5,10 +5,10 @@ ghost use Rattle.std.specs.Option.{option_copied};
 ghost use Rattle.trace_reader.specs.Forms.{hex_value, hex_byte, bytes_of_hex, parts_left, left_len};
 ghost use Rattle.trace_reader.specs.Spelling.{addresses_of_text};
 
+use script_reader::{address_in, split_at_first};
 use std::alloc::{AllocError, Global};
 use trace_props::Bytes;
 use view::Addresses;
-use vsync_text::{address_in, split_at_first};
 
 /// The value of a lower case hexadecimal digit.
 fn hex_value(digit: u8) -> Option<u8>

@@ -4,8 +4,8 @@ ghost use Rattle.std.specs.Prelude.{◌≡◌, ◌≤◌, length, None, Some, Ok
 ghost use Rattle.std.specs.Option.{option_copied};
 ghost use Rattle.state_transfer.specs.declared.TheConstants.{PAYLOAD};
 ghost use Rattle.trace_props.specs.Recorded.{IsShort};
-ghost use Rattle.vsync_text.specs.Script.{is_skipped};
-ghost use Rattle.vsync_text.specs.AddressText.{address_of_text};
+ghost use Rattle.script_reader.specs.Script.{is_skipped};
+ghost use Rattle.script_reader.specs.AddressText.{address_of_text};
 ghost use Rattle.trace_reader.specs.Spelling.{AreShort};
 ghost use Rattle.trace_reader.specs.Fields.{Gives, spelled_at, sending_at, delivery_at, view_at, install_at, last};
 ghost use Rattle.trace_reader.specs.Traces.{word_of, happening_of, told, reading_of};
@@ -13,10 +13,10 @@ ghost use Rattle.trace_reader.specs.Traces.{word_of, happening_of, told, reading
 use crate::TRACE_LINE;
 use crate::fields::{Fields, Unheard};
 use address::Address;
+use script_reader::{Fault, first_field};
 use std::alloc::Global;
 use trace_props::{Delivery, Happening, Install, Message, Numbered, Sending};
 use view::View;
-use vsync_text::{Fault, first_field};
 
 /// A word with which a line of a trace begins.
 #[derive(Clone, Copy, Debug, Drop)]

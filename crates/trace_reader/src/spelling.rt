@@ -7,12 +7,12 @@ ghost use Rattle.trace_reader.specs.Spelling.{number_of_text, view_id_of_text, p
 
 use crate::forms::{addresses_in, bytes_in, next_part};
 use address::{Address, GREATEST_NUMBER, ViewId};
+use script_reader::{address_in, number_in, split_at_first};
 use state_transfer::PAYLOAD;
 use std::alloc::{AllocError, Global};
 use std::collections::BTreeSet;
 use trace_props::{Bytes, HandedBack, Numbered};
 use view::{Addresses, View};
-use vsync_text::{address_in, number_in, split_at_first};
 
 /// The number of a message in its view.
 pub(crate) fn message_number_in(field: &[u8]) -> Option<u64>

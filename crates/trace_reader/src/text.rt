@@ -2,14 +2,14 @@
 
 ghost use Rattle.std.specs.Prelude.{◌≡◌, ◌++◌, ◌∷◌, [], Ok, OnOk, MatchResult};
 ghost use Rattle.trace_props.specs.Recorded.{IsShort};
-ghost use Rattle.vsync_text.specs.Script.{IsUnread};
+ghost use Rattle.script_reader.specs.Script.{IsUnread};
 ghost use Rattle.trace_reader.specs.Traces.{reading_of, trace_of, HasRead};
 
 use crate::fields::Unheard;
 use crate::line::read_line;
+use script_reader::{Unread, first_line};
 use std::alloc::{AllocError, Global};
 use trace_props::{Happening, Trace};
-use vsync_text::{Unread, first_line};
 
 /// Adds what happened next.
 fn add(trace: &mut Trace, happening: Happening) -> Result<(), AllocError>

@@ -7,11 +7,11 @@ use Rattle.std.proofs.Math.Seq.{take-append-add, take-append_seam}
 use Rattle.std.specs.Io.KnownBytes.{Appends, Keeps}
 use Rattle.vsync_runs.specs.declared.status.Status.{Status}
 use Rattle.vsync_runs.specs.declared.status.Status.TheVariants.{Done, Memory, Outside}
-use Rattle.vsync_text.specs.declared.script.Script.{Script}
+use Rattle.script_reader.specs.declared.script.Script.{Script}
 use Rattle.trace_props.specs.declared.happening.Happening.{Happening}
 use Rattle.world_model.specs.declared.Reply.{Reply}
-use Rattle.vsync_text.specs.declared.fault.Fault.{Fault}
-use Rattle.vsync_text.specs.Script.{script_of, fault_number}
+use Rattle.script_reader.specs.declared.fault.Fault.{Fault}
+use Rattle.script_reader.specs.Script.{script_of, fault_number}
 use Rattle.vsync_text.specs.Runs.{lines_of_run}
 use Rattle.vsync_runs.specs.Outcomes.{Ends, IsLinesText, IsFaultText, IsUnreadText, IsScriptText, IsAnswer, Written, ReadsScript, memory_line}
 use Rattle.vsync_runs.specs.Outcomes.IsUnreadText.{Faulty, Unread}

@@ -7,7 +7,7 @@ use Rattle.world_model.specs.declared.WorldEvent.{WorldEvent}
 use Rattle.world_model.specs.Histories.{History, no_history}
 use Rattle.world_model.specs.Faithful.{IsFaithful}
 use Rattle.world_model.specs.Steps.{IsStepped}
-use Rattle.vsync_text.specs.declared.script.Script.{Script}
+use Rattle.script_reader.specs.declared.script.Script.{Script}
 use Rattle.vsync_text.specs.Runs.{lines_of_run}
 use Rattle.chat_log.specs.declared.lines.Line.{Line}
 use Rattle.vsync_runs.specs.declared.status.Status.{Status}

@@ -8,7 +8,7 @@ use Rattle.trace_props.specs.State.{state_of}
 use Rattle.world_model.specs.Histories.{History, running}
 use Rattle.chat_log.specs.declared.lines.Line.{Line}
 use Rattle.chat_text.specs.ChatText.{chat_line}
-use Rattle.vsync_text.specs.declared.script.Script.{Script}
+use Rattle.script_reader.specs.declared.script.Script.{Script}
 use Rattle.vsync_runs.specs.declared.status.Status.{Status}
 use Rattle.vsync_runs.specs.declared.status.Status.TheVariants.{Done, Memory}
 use Rattle.vsync_runs.specs.Outcomes.{Ran, IsScriptText, IsAnswer, memory_line}

@@ -10,9 +10,9 @@ use Rattle.world_model.specs.declared.WorldEvent.{WorldEvent}
 use Rattle.world_model.specs.Histories.{History}
 use Rattle.world_model.specs.Faithful.{IsFaithful}
 use Rattle.world_model.specs.Steps.{IsStepped}
-use Rattle.vsync_text.specs.declared.script.Script.{Script}
-use Rattle.vsync_text.specs.declared.fault.Fault.{Fault}
-use Rattle.vsync_text.specs.Script.{script_of, fault_number}
+use Rattle.script_reader.specs.declared.script.Script.{Script}
+use Rattle.script_reader.specs.declared.fault.Fault.{Fault}
+use Rattle.script_reader.specs.Script.{script_of, fault_number}
 use Rattle.vsync_text.specs.Runs.{lines_of_run, text_of_run}
 use Rattle.vsync_runs.specs.declared.status.Status.{Status}
 use Rattle.vsync_runs.specs.declared.status.Status.TheVariants.{Done, Broken, Usage, Refused, Memory, Outside}

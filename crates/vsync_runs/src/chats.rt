@@ -9,9 +9,10 @@ use crate::scripts::script_from;
 use address::Node;
 use chat_log::Chat;
 use chat_text::append_chat;
+use script_reader::Script;
 use std::alloc::{AllocError, Global};
 use std::io::{Read, Write};
-use vsync_text::{Script, put_all};
+use vsync_text::put_all;
 use world::World;
 
 /// Appends the chat line of the member that runs at the node of a number, if one does.

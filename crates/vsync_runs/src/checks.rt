@@ -5,13 +5,13 @@ ghost use Rattle.vsync_runs.specs.Checks.{rule_code, IsVerdictText, IsJudgedText
 
 use crate::Status;
 use crate::ends::{Unreadable, end_in_fault, end_in_memory, end_with, read_all};
+use script_reader::Unread;
 use state_transfer::Receiver;
 use std::alloc::Global;
 use std::io::{Read, Write};
 use trace_checker::check;
 use trace_props::{Rule, Trace, Verdict};
 use trace_reader::read_trace;
-use vsync_text::Unread;
 
 /// The code under which a broken rule is told (docs/GUARANTEES.md, "What check prints").
 fn code_of(rule: Rule) -> &'static str

@@ -2,12 +2,13 @@
 
 ghost use Rattle.std.specs.Prelude.{IfOk, IfSome, ◌≡◌};
 ghost use Rattle.vsync_runs.specs.Outcomes.{Ends, Written, IsFaultText, memory_line};
-ghost use Rattle.vsync_text.specs.Script.{fault_number};
+ghost use Rattle.script_reader.specs.Script.{fault_number};
 
 use crate::Status;
+use script_reader::Fault;
 use std::alloc::Global;
 use std::io::{ErrorKind, Read, Write};
-use vsync_text::{Fault, put_all};
+use vsync_text::put_all;
 
 /// Why an input was not read whole.
 #[derive(Clone, Copy, Debug, PartialEq, Eq)]

@@ -3,10 +3,11 @@ ghost use Rattle.vsync_runs.specs.Outcomes.{Written, IsLinesText, IsRunText, Rea
 
 use crate::Status;
 use crate::ends::{Unreadable, end_in_fault, end_in_memory, end_with, read_all};
+use script_reader::{Script, Unread, read_script};
 use state_transfer::Receiver;
 use std::alloc::Global;
 use std::io::{Read, Write};
-use vsync_text::{Printed, Script, Unread, read_script, write_run};
+use vsync_text::{Printed, write_run};
 use world::World;
 
 /// Reads a script; or ends the command, where it is none or is not read.

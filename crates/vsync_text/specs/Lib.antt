@@ -1,7 +1,3 @@
-pub mod Lines
-pub mod Numbers
-pub mod AddressText
-pub mod Script
 pub mod TraceText
 pub mod Runs
 pub mod Writing

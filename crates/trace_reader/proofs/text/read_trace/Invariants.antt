@@ -1,5 +1,5 @@
 use Rattle.std.proofs.Common.{◌≡◌, ◌+◌, ◌≤◌, length}
-use Rattle.vsync_text.specs.Lines.{lines_of}
+use Rattle.script_reader.specs.Lines.{lines_of}
 use Rattle.trace_reader.specs.Traces.{trace_of}
 use Rattle.trace_reader.proofs.Reading.{going_on}
 use Rattle.trace_reader.proofs.text.read_trace.Given as goal

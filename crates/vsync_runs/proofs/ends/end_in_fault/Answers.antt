@@ -1,5 +1,5 @@
 use Rattle.std.proofs.Common.{◌≡◌, ◌∙◌, ap, sym, subst, List, ℕ}
-use Rattle.vsync_text.specs.Script.{fault_number}
+use Rattle.script_reader.specs.Script.{fault_number}
 use Rattle.vsync_runs.specs.declared.status.Status.TheVariants.{Refused, Memory}
 use Rattle.vsync_runs.specs.Outcomes.{IsFaultText, memory_line, fault_line}
 use Rattle.vsync_runs.specs.Outcomes.IsFaultText.{Told, Untold}

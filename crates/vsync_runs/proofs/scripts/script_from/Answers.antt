@@ -1,5 +1,5 @@
 use Rattle.std.proofs.Common.{◌∙◌, ap, sym}
-use Rattle.vsync_text.specs.Script.{script_of}
+use Rattle.script_reader.specs.Script.{script_of}
 use Rattle.vsync_runs.specs.Outcomes.IsAnswer.{ReaderFails}
 use Rattle.vsync_runs.proofs.Ending.{appends-none, unread-text, fault-text}
 use Rattle.vsync_runs.proofs.scripts.script_from.Goals as goal

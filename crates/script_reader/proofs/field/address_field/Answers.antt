@@ -1,0 +1,11 @@
+use Rattle.std.proofs.Common.{rules}
+use Rattle.script_reader.proofs.field.address_field.Goals as goal
+
+pub returns-in_default : goal.returns-in_default
+returns-in_default c = search rules
+
+pub returns-in-None : goal.returns-in-None
+returns-in-None c = search rules
+
+pub returns-in-Some-address_in : goal.returns-in-Some-address_in
+returns-in-Some-address_in c = search rules

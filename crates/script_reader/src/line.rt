@@ -1,0 +1,178 @@
+ghost use Rattle.std.specs.Prelude.{◌≡◌, Some, MatchOption, MatchResult};
+ghost use Rattle.std.specs.Option.{option_copied};
+ghost use Rattle.script_reader.specs.declared.line.Unheard.TheVariants as unheard;
+ghost use Rattle.script_reader.specs.declared.fault.Fault.TheVariants.{MissingField};
+ghost use Rattle.script_reader.specs.Script.{node_field, packet_field, address_field, only, asked, sent, word_of, event_of, told, is_skipped, reading_of, IsUnheard};
+
+use crate::field::{address_field, first_field, node_field, packet_field};
+use crate::{Fault, SCRIPT_LINE};
+use address::{Address, Node};
+use std::alloc::Global;
+use trace_props::Bytes;
+use world_model::WorldEvent;
+
+/// Why a line was not heard.
+#[derive(Drop)]
+pub(crate) enum Unheard {
+    Fault(Fault),
+    Memory,
+}
+
+/// A word with which a line of a script begins.
+#[derive(Drop)]
+pub(crate) enum Word {
+    Start,
+    Create,
+    Join,
+    Send,
+    Deliver,
+    Tick,
+    Leave,
+    Crash,
+}
+
+fn word_of(name: &[u8]) -> Option<Word>
+    ensures { result ≡ word_of name.now }
+{
+    if name == b"start".as_slice() {
+        Some(Word::Start)
+    } else if name == b"create".as_slice() {
+        Some(Word::Create)
+    } else if name == b"join".as_slice() {
+        Some(Word::Join)
+    } else if name == b"send".as_slice() {
+        Some(Word::Send)
+    } else if name == b"deliver".as_slice() {
+        Some(Word::Deliver)
+    } else if name == b"tick".as_slice() {
+        Some(Word::Tick)
+    } else if name == b"leave".as_slice() {
+        Some(Word::Leave)
+    } else if name == b"crash".as_slice() {
+        Some(Word::Crash)
+    } else {
+        None
+    }
+}
+
+/// The node with which a line ends.
+fn lone_node(rest: Option<&[u8]>) -> Result<Node, Unheard>
+    ensures { MatchResult result (λ n. only (node_field (option_copied rest.entry)) ≡ Ok n) (IsUnheard (only (node_field (option_copied rest.entry)))) }
+{
+    match node_field(rest) {
+        Ok((node, None)) => Ok(node),
+        Ok((_, Some(_))) => Err(Unheard::Fault(Fault::BadNumber)),
+        Err(fault) => Err(Unheard::Fault(fault)),
+    }
+}
+
+/// The number of a packet, with which a line ends.
+fn lone_packet(rest: Option<&[u8]>) -> Result<u64, Unheard>
+    ensures { MatchResult result (λ n. only (packet_field (option_copied rest.entry)) ≡ Ok n) (IsUnheard (only (packet_field (option_copied rest.entry)))) }
+{
+    match packet_field(rest) {
+        Ok((number, None)) => Ok(number),
+        Ok(_) => Err(Unheard::Fault(Fault::BadNumber)),
+        Err(fault) => Err(Unheard::Fault(fault)),
+    }
+}
+
+/// The address with which a line ends.
+fn lone_address(rest: Option<&[u8]>) -> Result<Address, Unheard>
+    ensures { MatchResult result (λ a. only (address_field (option_copied rest.entry)) ≡ Ok a) (IsUnheard (only (address_field (option_copied rest.entry)))) }
+{
+    match address_field(rest) {
+        Ok((address, None)) => Ok(address),
+        Ok(_) => Err(Unheard::Fault(Fault::BadNumber)),
+        Err(fault) => Err(Unheard::Fault(fault)),
+    }
+}
+
+/// The event of `join N ADDR`.
+fn asked(rest: Option<&[u8]>) -> Result<WorldEvent, Unheard>
+    ensures { MatchResult result (λ e. asked (node_field (option_copied rest.entry)) ≡ Ok e) (IsUnheard (asked (node_field (option_copied rest.entry)))) }
+{
+    match node_field(rest) {
+        Err(fault) => Err(Unheard::Fault(fault)),
+        Ok((node, behind)) => {
+            let contact = lone_address(behind)?;
+            Ok(WorldEvent::Join(node, contact))
+        }
+    }
+}
+
+/// The payload of an event: the rest of its line.
+fn payload(alloc: Global, rest: Option<&[u8]>) -> Result<Bytes, Unheard>
+    ensures { MatchResult result (λ bytes. option_copied rest.entry ≡ Some bytes) (λ u. MatchOption (option_copied rest.entry) (u ≡ unheard.Fault MissingField) (λ text. u ≡ unheard.Memory)) }
+{
+    let Some(text) = rest else {
+        return Err(Unheard::Fault(Fault::MissingField));
+    };
+    match Bytes::from_slice(alloc, text) {
+        Err(_) => Err(Unheard::Memory),
+        Ok(bytes) => Ok(bytes),
+    }
+}
+
+/// The event of `send N TEXT`.
+fn sent(alloc: Global, rest: Option<&[u8]>) -> Result<WorldEvent, Unheard>
+    ensures { MatchResult result (λ e. sent (node_field (option_copied rest.entry)) ≡ Ok e) (IsUnheard (sent (node_field (option_copied rest.entry)))) }
+{
+    match node_field(rest) {
+        Err(fault) => Err(Unheard::Fault(fault)),
+        Ok((node, behind)) => {
+            let bytes = payload(alloc, behind)?;
+            Ok(WorldEvent::Send(node, bytes))
+        }
+    }
+}
+
+/// The event of a word and of what is left behind it.
+fn event_of(alloc: Global, word: Word, rest: Option<&[u8]>) -> Result<WorldEvent, Unheard>
+    ensures { MatchResult result (λ e. event_of word (option_copied rest.entry) ≡ Ok e) (IsUnheard (event_of word (option_copied rest.entry))) }
+{
+    match word {
+        Word::Start => Ok(WorldEvent::Start(lone_node(rest)?)),
+        Word::Create => Ok(WorldEvent::Create(lone_node(rest)?)),
+        Word::Join => asked(rest),
+        Word::Send => sent(alloc, rest),
+        Word::Deliver => Ok(WorldEvent::Deliver(lone_packet(rest)?)),
+        Word::Tick => Ok(WorldEvent::Tick(lone_node(rest)?)),
+        Word::Leave => Ok(WorldEvent::Leave(lone_node(rest)?)),
+        Word::Crash => Ok(WorldEvent::Crash(lone_node(rest)?)),
+    }
+}
+
+/// Whether a line says nothing: it is empty, or begins with `#`.
+fn is_skipped(line: &[u8]) -> bool
+    ensures { result ≡ is_skipped line.now }
+{
+    match line.first() {
+        None => true,
+        Some(first) => *first == b'#',
+    }
+}
+
+/// The event of a line that is not skipped.
+fn told(alloc: Global, line: &[u8]) -> Result<WorldEvent, Unheard>
+    ensures { MatchResult result (λ e. told line.now ≡ Ok e) (IsUnheard (told line.now)) }
+{
+    if line.len() > SCRIPT_LINE {
+        return Err(Unheard::Fault(Fault::LineTooLong));
+    }
+    let (name, rest) = first_field(line);
+    match word_of(name) {
+        None => Err(Unheard::Fault(Fault::UnknownWord)),
+        Some(word) => event_of(alloc, word, rest),
+    }
+}
+
+/// What a line says: nothing, or an event.
+pub(crate) fn read_line(alloc: Global, line: &[u8]) -> Result<Option<WorldEvent>, Unheard>
+    ensures { MatchResult result (λ e. reading_of line.now ≡ Ok e) (IsUnheard (reading_of line.now)) }
+{
+    if is_skipped(line) {
+        return Ok(None);
+    }
+    Ok(Some(told(alloc, line)?))
+}

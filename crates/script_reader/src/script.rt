@@ -1,0 +1,103 @@
+ghost use Rattle.std.specs.Prelude.{◌≡◌, [], OnOk, MatchResult};
+ghost use Rattle.script_reader.specs.Script.{script_of, reading_of, with_event, HasRead, IsUnread};
+
+use crate::Unread;
+use crate::field::first_line;
+use crate::line::{Unheard, read_line};
+use std::alloc::{AllocError, Global};
+use std::marker::Model;
+use world_model::WorldEvent;
+
+/// The events of a script in order, and beside each the number of its line, from 1.
+#[derive(Drop)]
+pub struct Script {
+    events: Vec<WorldEvent>,
+    lines: Vec<u64>,
+}
+
+impl Model for Script {
+    ghost use Rattle.script_reader.specs.Script.{Script};
+
+    ghost Value = { Script };
+
+    ghost view = { λ s. record { events = s.events.items; lines = s.lines.items } };
+}
+
+impl Script {
+    /// A script that says nothing.
+    fn nothing(alloc: Global) -> Script
+        ensures { result ≡ record { events = []; lines = [] } }
+    {
+        Script {
+            events: Vec::new(alloc),
+            lines: Vec::new(alloc),
+        }
+    }
+
+    /// Its events, in the order of their lines.
+    pub fn events(&self) -> &[WorldEvent]
+        ensures { result.now ≡ self.now.events }
+    {
+        self.events.as_slice()
+    }
+
+    /// The numbers of the lines of its events, from 1.
+    pub fn lines(&self) -> &[u64]
+        ensures { result.now ≡ self.now.lines }
+    {
+        self.lines.as_slice()
+    }
+
+    /// Goes on with one line.
+    fn read_on(&mut self, alloc: Global, number: u64, line: &[u8]) -> Result<(), Unread>
+        ensures { HasRead self.old number (reading_of line.now) result self.new }
+    {
+        match read_line(alloc, line) {
+            Err(Unheard::Fault(fault)) => Err(Unread::Fault {
+                line: number,
+                fault,
+            }),
+            Err(Unheard::Memory) => Err(Unread::Memory),
+            Ok(None) => Ok(()),
+            Ok(Some(event)) => match self.add(number, event) {
+                Err(_) => Err(Unread::Memory),
+                Ok(()) => Ok(()),
+            },
+        }
+    }
+
+    /// Adds an event and the number of its line.
+    fn add(&mut self, number: u64, event: WorldEvent) -> Result<(), AllocError>
+        ensures { OnOk result (self.new ≡ with_event self.old number event) }
+    {
+        self.lines.push(number)?;
+        self.events.push(event)?;
+        Ok(())
+    }
+}
+
+/// Reads a script, in one pass. It is exactly what its lines say: `start N`, `create N`, `join N ADDR`, `send N TEXT`,
+/// `deliver K`, `tick N`, `leave N` and `crash N` are events, N a node from 1 to 65535, ADDR an address such as `3.1`, K a packet's
+/// number from 1 to 2^62, and lines that are empty or begin with `#` say nothing. A line ends with a line feed, which the last may
+/// lack.
+///
+/// # Errors
+///
+/// `Unread::Fault` has the first line that is none of these and what is wrong with it: it has more than 4,096 bytes (43),
+/// begins with no known word (40), lacks a field (42), or has a field that is no such number or one field too many (41).
+/// `Unread::Memory` where memory was refused.
+#[tactic(auto, using(crate::proofs::Reading::script_is_going_on))]
+pub fn read_script(alloc: Global, text: &[u8]) -> Result<Script, Unread>
+    ensures { MatchResult result (λ script. script_of text.now ≡ Ok script) (IsUnread (script_of text.now)) }
+{
+    let mut script = Script::nothing(alloc);
+    let mut rest = text;
+    let mut number: u64 = 0;
+    while !rest.is_empty() {
+        let (line, behind) = first_line(rest);
+        number += 1;
+        script.read_on(alloc, number, line)?;
+        rest = behind;
+    }
+    Ok(script)
+}
