@@ -1,5 +1,5 @@
 //! The values that packets carry: numbers, counts, names, payloads, states and messages
-//! (docs/WIRE.md, "Fields"). How they are spelled is the crate `wire`'s.
+//! (docs/WIRE.md, "The parts of a body"). How they are spelled is the crate `wire`'s.
 #![tactic(auto)]
 
 mod entry;
