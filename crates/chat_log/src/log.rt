@@ -32,27 +32,12 @@ impl Model for ChatLog {
 }
 
 impl ChatLog {
-    /// Its lines, the oldest first: at most 24, with payloads of at most 512 bytes.
-    pub fn lines(&self) -> &[Line]
-        ensures value { result.now ≡ self.now }
-        ensures chat { IsChat result.now }
-    {
-        self.lines.as_slice()
-    }
-
     /// How many lines there are, 0 to 24.
     pub fn len(&self) -> usize
         ensures value { result ≡ length self.now }
         ensures few { result ≤ LINES }
     {
         self.lines.len()
-    }
-
-    /// Whether there is none.
-    pub fn is_empty(&self) -> bool
-        ensures { result ≡ (length self.now == 0) }
-    {
-        self.lines.is_empty()
     }
 }
 

@@ -65,7 +65,7 @@ fn put_line(line: &Line, out: &mut Vec<u8>)
     ensures room { vec_capacity out.old ≤ vec_capacity out.new }
 {
     put_address(line.sender, out);
-    put_u16(line.payload.len() as u16, out);
+    put_u16(line.payload.as_slice().len() as u16, out);
     put(line.payload.as_slice(), out);
 }
 

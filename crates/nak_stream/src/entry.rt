@@ -51,7 +51,7 @@ impl Entry {
     }
 
     /// A copy of it.
-    pub fn copied(&self, alloc: Global) -> Result<Entry, AllocError>
+    pub(crate) fn copied(&self, alloc: Global) -> Result<Entry, AllocError>
         ensures { IfOk result (λ e. e ≡ self.now) }
     {
         Entry::copy_of(alloc, self.sender, self.number, self.payload.as_slice())

@@ -3,7 +3,7 @@ ghost use Rattle.std.specs.Prelude.{◌≡◌, ◌==◌, length, IfOk};
 use std::alloc::{AllocError, Global};
 use std::marker::Model;
 
-/// Bytes, which contracts see as their list: a payload, or a state. Made from a `Vec`, and gives it back.
+/// Bytes, which contracts see as their list: a payload, or a state. Made from a `Vec`.
 #[derive(Debug, Drop)]
 pub struct Bytes {
     items: Vec<u8>,
@@ -23,14 +23,6 @@ impl Bytes {
         ensures { result ≡ items.items }
     {
         Bytes { items }
-    }
-
-    /// The vector of its bytes. Takes no memory.
-    pub fn into_vec(self) -> Vec<u8>
-        ensures { result.items ≡ self }
-    {
-        let Bytes { items } = self;
-        items
     }
 
     /// A copy of a slice.
@@ -54,19 +46,5 @@ impl Bytes {
         ensures { result.now ≡ self.now }
     {
         self.items.as_slice()
-    }
-
-    /// How many there are.
-    pub fn len(&self) -> usize
-        ensures { result ≡ length self.now }
-    {
-        self.items.len()
-    }
-
-    /// Whether there is none.
-    pub fn is_empty(&self) -> bool
-        ensures { result ≡ (length self.now == 0) }
-    {
-        self.items.is_empty()
     }
 }

@@ -100,25 +100,10 @@ impl HandedBack {
         HandedBack { items }
     }
 
-    /// The vector of its messages. Takes no memory.
-    pub fn into_vec(self) -> Vec<Numbered>
-        ensures { result.items ≡ self }
-    {
-        let HandedBack { items } = self;
-        items
-    }
-
     /// Its messages in order.
     pub fn as_slice(&self) -> &[Numbered]
         ensures { result.now ≡ self.now }
     {
         self.items.as_slice()
-    }
-
-    /// Whether nothing is handed back.
-    pub fn is_empty(&self) -> bool
-        ensures { result ≡ (length self.now == 0) }
-    {
-        self.items.is_empty()
     }
 }

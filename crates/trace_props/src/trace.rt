@@ -58,18 +58,4 @@ impl Trace {
     {
         self.happenings.as_slice()
     }
-
-    /// How many happenings there are: its place.
-    pub fn len(&self) -> usize
-        ensures { result ≡ length self.now.happenings }
-    {
-        self.happenings.len()
-    }
-
-    /// Whether nothing happened.
-    pub fn is_empty(&self) -> bool
-        ensures { result ≡ (length self.now.happenings == 0) }
-    {
-        self.happenings.is_empty()
-    }
 }

@@ -52,7 +52,7 @@ fn short_in(alloc: Global, digits: &[u8]) -> Result<Option<Bytes>, AllocError>
     match bytes_in(alloc, digits)? {
         None => Ok(None),
         Some(bytes) => {
-            if bytes.len() <= PAYLOAD {
+            if bytes.as_slice().len() <= PAYLOAD {
                 Ok(Some(bytes))
             } else {
                 Ok(None)

@@ -5,7 +5,7 @@ use address::Address;
 use std::alloc::{AllocError, Global};
 use std::marker::Model;
 
-/// A list of addresses, which contracts see as that list. It is made from a `Vec` and gives it back.
+/// A list of addresses, which contracts see as that list. It is made from a `Vec`.
 #[derive(Debug, Drop)]
 pub struct Addresses {
     items: Vec<Address>,
@@ -26,13 +26,6 @@ impl Addresses {
         ensures { result ≡ items.items }
     {
         Addresses { items }
-    }
-
-    /// The vector of its addresses. Takes no memory.
-    pub fn into_vec(self) -> Vec<Address>
-        ensures { result.items ≡ self }
-    {
-        self.items
     }
 
     /// The list of one address.
@@ -68,14 +61,14 @@ impl Addresses {
     }
 
     /// Whether there is none.
-    pub fn is_empty(&self) -> bool
+    pub(crate) fn is_empty(&self) -> bool
         ensures { result ≡ (length self.now == 0) }
     {
         self.items.is_empty()
     }
 
     /// The first of them.
-    pub fn first(&self) -> Option<Address>
+    pub(crate) fn first(&self) -> Option<Address>
         ensures { result ≡ slice_get self.now 0 }
     {
         self.items.first().copied()
@@ -89,14 +82,14 @@ impl Addresses {
     }
 
     /// The index of an address, from 0.
-    pub fn rank(&self, address: &Address) -> Option<usize>
+    pub(crate) fn rank(&self, address: &Address) -> Option<usize>
         ensures { result ≡ rank_of address.now self.now }
     {
         self.items.iter().position(|member| *address == *member)
     }
 
     /// Whether no address stands twice.
-    pub fn is_distinct(&self) -> bool
+    pub(crate) fn is_distinct(&self) -> bool
         ensures { result ≡ is_distinct self.now }
     {
         each_once(self.items.as_slice())

@@ -83,7 +83,7 @@ impl Members {
     }
 
     /// The same addresses once more. Takes no memory.
-    pub fn copied(&self) -> Members
+    pub(crate) fn copied(&self) -> Members
         ensures { result ≡ self.now }
     {
         Members {
