@@ -1,4 +1,4 @@
-ghost use Rattle.std.specs.Prelude.{◌≡◌, ◌↔◌, ◌++◌, ◌∷◌, [], IfOk, MatchOption};
+ghost use Rattle.std.specs.Prelude.{◌≡◌, ◌↔◌, ◌++◌, ◌∷◌, [], None, IfOk, MatchOption};
 ghost use Rattle.std.specs.BTreeMap.{get};
 ghost use Rattle.address.specs.Ids.{address_cmp, view_id_cmp};
 ghost use Rattle.trace_props.specs.declared.verdict.Verdict.TheVariants.{Holds};
@@ -13,24 +13,26 @@ use state_transfer::Receiver;
 use std::alloc::{AllocError, Global};
 use trace_props::{Happening, Rule, Trace, Verdict};
 
-// The first rule that the happening breaks after the past; without one the states go on.
-fn judge<R: Receiver>(
+// The first rule that the happening breaks after the past; without one the past and the states go on.
+fn judge<'a, R: Receiver>(
     alloc: Global,
-    past: &Past,
+    past: &mut Past<'a>,
     states: &mut States<R>,
-    happening: &Happening,
+    happening: &'a Happening,
 ) -> Result<Option<Rule>, AllocError>
     requires short { IsShort happening.now }
-    requires known { KnowsStates R.opening_state R.apply R.decode R.encode R.is_state (get address_cmp states.old.states) (get view_id_cmp states.old.entering) past.now }
-    ensures { IfOk result (λ broken. MatchOption broken
-        (GoesOn R.opening_state R.apply R.decode past.now happening.now
-        × KnowsStates R.opening_state R.apply R.decode R.encode R.is_state (get address_cmp states.new.states) (get view_id_cmp states.new.entering) (past.now ++ happening.now ∷ []))
-        (λ rule. BreaksNext R.opening_state R.apply R.decode rule past.now happening.now)) }
+    requires known { KnowsStates R.opening_state R.apply R.decode R.encode R.is_state (get address_cmp states.old.states) (get view_id_cmp states.old.entering) past.old }
+    ensures past { IfOk result (λ broken. broken ≡ None → past.new ≡ past.old ++ happening.now ∷ []) }
+    ensures judged { IfOk result (λ broken. MatchOption broken
+        (GoesOn R.opening_state R.apply R.decode past.old happening.now
+        × KnowsStates R.opening_state R.apply R.decode R.encode R.is_state (get address_cmp states.new.states) (get view_id_cmp states.new.entering) (past.old ++ happening.now ∷ []))
+        (λ rule. BreaksNext R.opening_state R.apply R.decode rule past.old happening.now)) }
 {
     match broken_rule(past, happening) {
         Some(rule) => Ok(Some(rule)),
         None => {
             if states.advance(alloc, happening)? {
+                past.note(alloc, happening)?;
                 Ok(None)
             } else {
                 Ok(Some(Rule::StateOfEntry))
@@ -40,21 +42,24 @@ fn judge<R: Receiver>(
 }
 
 // The verdict on happenings whose payloads are short.
-fn check_all<R: Receiver>(alloc: Global, happenings: &[Happening]) -> Result<Verdict, AllocError>
+fn check_all<'a, R: Receiver>(
+    alloc: Global,
+    past: &mut Past<'a>,
+    states: &mut States<R>,
+    happenings: &'a [Happening],
+) -> Result<Verdict, AllocError>
     requires short { IsRecordable happenings.now }
+    requires none { past.old ≡ [] }
+    requires known { KnowsStates R.opening_state R.apply R.decode R.encode R.is_state (get address_cmp states.old.states) (get view_id_cmp states.old.entering) [] }
     ensures { IfOk result (λ v. IsVerdict R.opening_state R.apply R.decode happenings.now v) }
 {
-    let mut past = Past::new(alloc);
-    let mut states: States<R> = States::new(alloc);
     for (index, happening) in happenings.iter().enumerate() {
-        match judge(alloc, &past, &mut states, happening)? {
+        match judge(alloc, past, states, happening)? {
             Some(rule) => {
                 let place = index as u64 + 1;
                 return Ok(Verdict::Breaks { rule, place });
             }
-            None => {
-                past = past.note(alloc, happening)?;
-            }
+            None => {}
         }
     }
     Ok(Verdict::Holds)
@@ -66,6 +71,8 @@ pub fn check<R: Receiver>(alloc: Global, trace: &Trace) -> Result<Verdict, Alloc
     ensures verdict { IfOk result (λ v. IsVerdict R.opening_state R.apply R.decode trace.now.happenings v) }
     ensures exact { IfOk result (λ v. (v ≡ Holds) ↔ IsVirtuallySynchronous R.opening_state R.apply R.decode trace.now.happenings) }
 {
-    let verdict = check_all::<R>(alloc, trace.happenings())?;
+    let mut past = Past::new(alloc);
+    let mut states: States<R> = States::new(alloc);
+    let verdict = check_all(alloc, &mut past, &mut states, trace.happenings())?;
     Ok(verdict)
 }

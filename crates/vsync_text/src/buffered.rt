@@ -79,7 +79,6 @@ fn give_up<W: Write>(writer: &mut W, buffer: &mut Vec<u8>) -> Unwritten
 }
 
 /// Writes the line of a happening.
-#[tactic(auto, using(crate::proofs::Writing::stops_at_once, crate::proofs::Writing::stops_after, crate::proofs::Writing::went_held))]
 pub(crate) fn write_happening<W: Write>(
     writer: &mut W,
     buffer: &mut Vec<u8>,
@@ -87,17 +86,16 @@ pub(crate) fn write_happening<W: Write>(
 ) -> Result<(), Unwritten>
     ensures { Writes (W.contents writer.old) (W.contents writer.new) buffer.old.items buffer.new.items result (line_of happening.now ∷ []) }
 {
-    if let Err(why) = settle_piece(writer, buffer) {
-        return Err(why);
-    }
-    match append_happening(buffer, happening) {
-        Ok(()) => Ok(()),
-        Err(_) => Err(give_up(writer, buffer)),
+    match settle_piece(writer, buffer) {
+        Err(why) => Err(why),
+        Ok(()) => match append_happening(buffer, happening) {
+            Ok(()) => Ok(()),
+            Err(_) => Err(give_up(writer, buffer)),
+        },
     }
 }
 
 /// Writes the refusal of the event of a line.
-#[tactic(auto, using(crate::proofs::Writing::stops_at_once, crate::proofs::Writing::stops_after, crate::proofs::Writing::went_held))]
 pub(crate) fn write_refusal<W: Write>(
     writer: &mut W,
     buffer: &mut Vec<u8>,
@@ -106,11 +104,11 @@ pub(crate) fn write_refusal<W: Write>(
 ) -> Result<(), Unwritten>
     ensures { Writes (W.contents writer.old) (W.contents writer.new) buffer.old.items buffer.new.items result (refusal_line line number ∷ []) }
 {
-    if let Err(why) = settle_piece(writer, buffer) {
-        return Err(why);
-    }
-    match append_refusal(buffer, line, number) {
-        Ok(()) => Ok(()),
-        Err(_) => Err(give_up(writer, buffer)),
+    match settle_piece(writer, buffer) {
+        Err(why) => Err(why),
+        Ok(()) => match append_refusal(buffer, line, number) {
+            Ok(()) => Ok(()),
+            Err(_) => Err(give_up(writer, buffer)),
+        },
     }
 }

@@ -1,7 +1,7 @@
 //! A world of members: it carries out events one after another and records what happened.
 #![tactic(auto)]
 
-ghost use Rattle.std.specs.Prelude.{◌≡◌, ◌≤◌, ◌++◌, ◌∷◌, [], ℕ, true, false, nat_eq, length, take, is_some, IfOk, OnOk, OnErr, vec_len, vec_capacity};
+ghost use Rattle.std.specs.Prelude.{◌≡◌, ◌+◌, ◌≤◌, ◌++◌, ◌∷◌, [], ℕ, true, false, nat_eq, length, take, is_some, IfOk, OnOk, OnErr, vec_len, vec_capacity};
 ghost use Rattle.std.specs.Ordering.{nat_cmp};
 ghost use Rattle.std.specs.BTreeMap.{get};
 ghost use Rattle.trace_props.specs.Places.{EachPlace};
@@ -187,6 +187,24 @@ fn carry<R: Receiver>(
     }
 }
 
+/// Makes room for the places of a step, for its event and for the reply to it.
+fn reserve_step(
+    trace: &mut Trace,
+    events: &mut Vec<WorldEvent>,
+    replies: &mut Vec<Reply>,
+) -> Result<(), AllocError>
+    ensures room { OnOk result (STEP_PLACES ≤ trace.new.room) }
+    ensures event { OnOk result (vec_len events.new + 1 ≤ vec_capacity events.new) }
+    ensures reply { OnOk result (vec_len replies.new + 1 ≤ vec_capacity replies.new) }
+    ensures trace { trace.new.happenings ≡ trace.old.happenings }
+    ensures events { events.new.items ≡ events.old.items }
+    ensures replies { replies.new.items ≡ replies.old.items }
+{
+    trace.reserve(STEP_PLACES)?;
+    events.reserve(1)?;
+    replies.reserve(1)
+}
+
 impl<R: Receiver> World<R> {
     /// A world in which nothing happened. Takes no memory.
     pub fn new(alloc: Global) -> World<R>
@@ -208,10 +226,8 @@ impl<R: Receiver> World<R> {
         ensures err { OnErr result (self.new ≡ self.old) }
     {
         let alloc = self.alloc;
+        reserve_step(&mut self.trace, &mut self.events, &mut self.replies)?;
         let event = event.copied(alloc)?;
-        self.trace.reserve(STEP_PLACES)?;
-        self.replies.reserve(1)?;
-        self.events.reserve(1)?;
         let answer = carry(
             alloc,
             &mut self.seats,
@@ -219,7 +235,7 @@ impl<R: Receiver> World<R> {
             &mut self.pool,
             &event,
         )?;
-        let place = self.trace.len();
+        let place = self.trace.happenings().len();
         self.replies.push_reserved(Reply { answer, place });
         self.events.push_reserved(event);
         Ok(())

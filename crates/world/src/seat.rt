@@ -6,6 +6,7 @@ ghost use Rattle.trace_props.specs.Recorded.{IsRecordable};
 ghost use Rattle.world.specs.declared.TheConstants.{STEP_PLACES};
 ghost use Rattle.member.specs.Handling.{Handled};
 ghost use Rattle.member.specs.Steps.{leaves};
+ghost use Rattle.world.specs.declared.seat.Seat.TheVariants.{Ended};
 ghost use Rattle.world.specs.Seats.{answer_for, answer_to};
 ghost use Rattle.world.specs.Turns.{Steps, Hands, Begins, StartGives, CrashGives, Acts, Hears};
 
@@ -104,6 +105,13 @@ fn step<R: Receiver>(
     Ok(happenings)
 }
 
+/// Nothing runs at a seat any more.
+fn end<R: Receiver>(seat: &mut Seat<R>, last: Address)
+    ensures { seat.new ≡ Ended last }
+{
+    *seat = Seat::Ended(last);
+}
+
 /// Hands an input to the member at a seat: refused with 1 where none ever ran there, with 6 where it has ended, and else as the member
 /// refuses. Where memory is refused the member has crashed.
 fn hand<R: Receiver>(
@@ -126,12 +134,12 @@ fn hand<R: Receiver>(
                     let answer = answered(&happenings);
                     record_all(trace, happenings);
                     if leaving {
-                        *seat = Seat::Ended(address);
+                        end(seat, address);
                     }
                     answer
                 }
                 Err(Error::Memory) => {
-                    *seat = Seat::Ended(address);
+                    end(seat, address);
                     trace.record(Happening::Crashed(address));
                     Answer::Refused(Refusal::Memory)
                 }
@@ -177,7 +185,7 @@ fn started<R: Receiver>(
             Answer::Done
         }
         Err(_) => {
-            *seat = Seat::Ended(address);
+            end(seat, address);
             trace.record(Happening::Crashed(address));
             Answer::Refused(Refusal::Memory)
         }
@@ -194,7 +202,7 @@ fn crash<R: Receiver>(seat: &mut Seat<R>, trace: &mut Trace) -> Answer
         Seat::Ended(_) => Answer::Refused(Refusal::Closed),
         Seat::Running(member) => {
             let address = member.address();
-            *seat = Seat::Ended(address);
+            end(seat, address);
             trace.record(Happening::Crashed(address));
             Answer::Done
         }

@@ -41,7 +41,7 @@ pub fn may_hand_back(past: &Past, install: &Install) -> bool
     ensures { Decides result (MayHandBack past.now (Installed install.now)) }
 {
     match install.previous {
-        None => install.handed_back.is_empty(),
+        None => install.handed_back.as_slice().is_empty(),
         Some(previous) => {
             let told = past.own_count(install.member, install.member, previous);
             is_rest(

@@ -1,24 +1,21 @@
-ghost use Rattle.std.specs.Prelude.{◌≡◌, ◌++◌, ◌∷◌, [], length, slice_get, IfOk};
+ghost use Rattle.std.specs.Prelude.{◌≡◌, ◌++◌, ◌∷◌, [], length, slice_get, OnOk};
 ghost use Rattle.std.specs.Option.{option_copied};
 ghost use Rattle.trace_props.specs.Observed.{sent_in, delivered_in, own, entry_of, first_install};
 ghost use Rattle.trace_props.specs.Agreeing.{first_from};
 ghost use Rattle.trace_props.specs.Following.{MayCarry};
 ghost use Rattle.trace_checker.specs.Known.{standing_of};
 
-use super::lists::Lists;
 use super::seat::{Pair, Seat, Way};
 use super::standing::{self, Standing};
 use super::tables::{self, Tables};
 use address::{Address, ViewId};
 use std::alloc::{AllocError, Global};
-use std::collections::BTreeMap;
 use std::marker::Model;
 use trace_props::{Happening, Install, Message, Numbered};
 
 /// The happenings so far, kept so that what the rules ask of them is looked up. Contracts see it as their list.
 #[derive(Drop)]
 pub struct Past<'a> {
-    happenings: Vec<&'a Happening>,
     tables: Tables<'a>,
 }
 
@@ -31,10 +28,10 @@ impl<'a> Model for Past<'a> {
 
     ghost Value = { List Happening };
 
-    ghost view = { λ p. pointed p.happenings.items };
+    ghost view = { λ p. pointed p.tables.happenings.items };
 
     ghost invariant = { λ p. KnowsPast (get address_cmp p.tables.standings) (get seat_cmp p.tables.sent.lists) (get seat_cmp p.tables.told.lists) (get pair_cmp p.tables.last)
-        (get seat_cmp p.tables.entries) (get view_id_cmp p.tables.firsts) (get way_cmp p.tables.ways) (pointed p.happenings.items) };
+        (get seat_cmp p.tables.entries) (get view_id_cmp p.tables.firsts) (get way_cmp p.tables.ways) (pointed p.tables.happenings.items) };
 }
 
 impl<'a> Past<'a> {
@@ -43,16 +40,7 @@ impl<'a> Past<'a> {
         ensures { result ≡ [] }
     {
         Past {
-            happenings: Vec::new(alloc),
-            tables: Tables {
-                standings: BTreeMap::new(alloc),
-                sent: Lists::new(alloc),
-                told: Lists::new(alloc),
-                last: BTreeMap::new(alloc),
-                entries: BTreeMap::new(alloc),
-                firsts: BTreeMap::new(alloc),
-                ways: BTreeMap::new(alloc),
-            },
+            tables: Tables::new(alloc),
         }
     }
 
@@ -123,17 +111,17 @@ impl<'a> Past<'a> {
         self.tables.ways.get(&Way { from, to }).copied()
     }
 
-    /// With what happened next, whose message, if it tells one, is its sender's next.
-    pub fn note(self, alloc: Global, happening: &'a Happening) -> Result<Past<'a>, AllocError>
-        requires may { MayCarry self happening.now }
-        ensures { IfOk result (λ p. p ≡ self.entry ++ happening.now ∷ []) }
+    /// Notes what happened next, whose message, if it tells one, is its sender's next. On refusal nothing is known any more.
+    pub fn note(&mut self, alloc: Global, happening: &'a Happening) -> Result<(), AllocError>
+        requires may { MayCarry self.old happening.now }
+        ensures { OnOk result (self.new ≡ self.old ++ happening.now ∷ []) }
     {
-        let Past {
-            mut happenings,
-            mut tables,
-        } = self;
-        tables::keep(alloc, &mut tables, happening)?;
-        happenings.push(happening)?;
-        Ok(Past { happenings, tables })
+        match tables::keep(alloc, &mut self.tables, happening) {
+            Ok(()) => Ok(()),
+            Err(refused) => {
+                self.tables = Tables::new(alloc);
+                Err(refused)
+            }
+        }
     }
 }

@@ -1,9 +1,9 @@
-ghost use Rattle.std.specs.Prelude.{OnOk, List, ◌++◌, ◌∷◌, []};
+ghost use Rattle.std.specs.Prelude.{◌≡◌, OnOk, List, ◌++◌, ◌∷◌, []};
 ghost use Rattle.std.specs.BTreeMap.{get};
 ghost use Rattle.address.specs.Ids.{address_cmp, view_id_cmp};
 ghost use Rattle.trace_props.specs.declared.happening.Happening.{Happening};
 ghost use Rattle.trace_props.specs.Following.{MayCarry};
-ghost use Rattle.trace_checker.specs.Known.{seat_cmp, pair_cmp, way_cmp, KnowsPast, KnowsSent, KnowsTold, KnowsLast, KnowsEntries, KnowsFirsts, KnowsWays};
+ghost use Rattle.trace_checker.specs.Known.{seat_cmp, pair_cmp, way_cmp, KnowsPast, KnowsSent, KnowsTold, KnowsLast, KnowsEntries, KnowsFirsts, KnowsWays, pointed};
 
 use super::lists::Lists;
 use super::seat::{Pair, Seat, Way};
@@ -14,9 +14,10 @@ use std::alloc::{AllocError, Global};
 use std::collections::BTreeMap;
 use trace_props::{Happening, Install, Message, Numbered};
 
-/// What is looked up of the happenings so far: by member, by view, or by both.
+/// The happenings so far, and what is looked up of them: by member, by view, or by both.
 #[derive(Drop)]
 pub struct Tables<'a> {
+    pub happenings: Vec<&'a Happening>,
     pub standings: BTreeMap<Address, Standing>,
     pub sent: Lists<'a, Numbered>,
     pub told: Lists<'a, Message>,
@@ -24,6 +25,26 @@ pub struct Tables<'a> {
     pub entries: BTreeMap<Seat, &'a Install>,
     pub firsts: BTreeMap<ViewId, &'a Install>,
     pub ways: BTreeMap<Way, &'a Install>,
+}
+
+impl<'a> Tables<'a> {
+    /// Of nothing. Takes no memory.
+    pub fn new(alloc: Global) -> Tables<'a>
+        ensures nothing { pointed result.happenings.items ≡ [] }
+        ensures known { KnowsPast (get address_cmp result.standings) (get seat_cmp result.sent.lists) (get seat_cmp result.told.lists) (get pair_cmp result.last)
+            (get seat_cmp result.entries) (get view_id_cmp result.firsts) (get way_cmp result.ways) [] }
+    {
+        Tables {
+            happenings: Vec::new(alloc),
+            standings: BTreeMap::new(alloc),
+            sent: Lists::new(alloc),
+            told: Lists::new(alloc),
+            last: BTreeMap::new(alloc),
+            entries: BTreeMap::new(alloc),
+            firsts: BTreeMap::new(alloc),
+            ways: BTreeMap::new(alloc),
+        }
+    }
 }
 
 // Keeps the message that a happening sends or tells.
@@ -67,7 +88,8 @@ pub fn keep<'a>(
     tables: &mut Tables<'a>,
     happening: &'a Happening,
 ) -> Result<(), AllocError>
-    ensures { OnOk result ((t : List Happening) → MayCarry t happening.now
+    ensures kept { OnOk result (pointed tables.new.happenings.items ≡ pointed tables.old.happenings.items ++ happening.now ∷ []) }
+    ensures known { OnOk result ((t : List Happening) → MayCarry t happening.now
         → KnowsPast (get address_cmp tables.old.standings) (get seat_cmp tables.old.sent.lists) (get seat_cmp tables.old.told.lists) (get pair_cmp tables.old.last)
         (get seat_cmp tables.old.entries) (get view_id_cmp tables.old.firsts) (get way_cmp tables.old.ways) t
         → KnowsPast (get address_cmp tables.new.standings) (get seat_cmp tables.new.sent.lists) (get seat_cmp tables.new.told.lists) (get pair_cmp tables.new.last)
@@ -87,5 +109,6 @@ pub fn keep<'a>(
         &mut tables.ways,
         happening,
     )?;
+    tables.happenings.push(happening)?;
     Ok(())
 }

@@ -12,7 +12,7 @@ pub returns-in-Some : goal.returns-in-Some
 returns-in-Some g c =
     step-broken g.R.Receiver.opening_state g.R.Receiver.apply g.R.Receiver.decode c.args.happenings.now c.loop-index.index c.index-happenings-index.result c.loop-index.past c.in_ok-rule.field-0 c.in-Some.rule _
     (slice_get_read c.args.happenings.now (length c.args.happenings.now) c.loop-index.index c.index-happenings-index.result refl (omega arith) c.index-happenings-index.is)
-    c.loop-index.invariant.so_far c.loop-index.invariant.holds c.in-Some.is c.in_ok-rule.ensures
+    c.loop-index.invariant.so_far c.loop-index.invariant.holds c.in-Some.is c.in_ok-rule.ensures.judged
 
 -- all goes on
 pub loop-index-preserved : goal.loop-index-preserved
@@ -20,9 +20,9 @@ loop-index-preserved g c =
     let at = slice_get_read c.args.happenings.now (length c.args.happenings.now) c.loop-index.index c.index-happenings-index.result refl (omega arith) c.index-happenings-index.is in
     let on = step-on g.R.Receiver.opening_state g.R.Receiver.apply g.R.Receiver.decode c.loop-index.past c.index-happenings-index.result c.in_ok-rule.field-0
     (KnowsStates g.R.Receiver.opening_state g.R.Receiver.apply g.R.Receiver.decode g.R.Receiver.encode g.R.Receiver.is_state (get address_cmp c.judge.new.states.states) (get view_id_cmp c.judge.new.states.entering) (c.loop-index.past ++ c.index-happenings-index.result ∷ []))
-    c.in-None.is c.in_ok-rule.ensures in
+    c.in-None.is c.in_ok-rule.ensures.judged in
     record {
-      so_far = so_far-next g.R.Receiver.opening_state g.R.Receiver.apply g.R.Receiver.decode c.args.happenings.now c.loop-index.index c.index-happenings-index.result c.loop-index.past c.in_ok-past-in-None.past at c.loop-index.invariant.so_far c.in_ok-past-in-None.ensures;
+      so_far = so_far-next g.R.Receiver.opening_state g.R.Receiver.apply g.R.Receiver.decode c.args.happenings.now c.loop-index.index c.index-happenings-index.result c.loop-index.past c.judge.new.past at c.loop-index.invariant.so_far (c.in_ok-rule.ensures.past c.in-None.is);
       holds = holds-next g.R.Receiver.opening_state g.R.Receiver.apply g.R.Receiver.decode c.args.happenings.now c.loop-index.index c.index-happenings-index.result c.loop-index.past at c.loop-index.invariant.so_far c.loop-index.invariant.holds on.0;
       known = known-next g.R.Receiver.opening_state g.R.Receiver.apply g.R.Receiver.decode
           (λ (t : List Happening). KnowsStates g.R.Receiver.opening_state g.R.Receiver.apply g.R.Receiver.decode g.R.Receiver.encode g.R.Receiver.is_state (get address_cmp c.judge.new.states.states) (get view_id_cmp c.judge.new.states.entering) t)
