@@ -71,32 +71,43 @@ fn is_last_taken(alloc: Global, most: &[u8], more: &[u8], copied: &[u8], count: 
     }
 }
 
-fn is_opening(alloc: Global, chat: ChatLog) -> bool {
-    chat.is_empty() && has_state(alloc, &chat, b"\x00")
+fn is_opening(alloc: Global) -> bool {
+    let Ok(chat) = ChatLog::opening(alloc) else {
+        return false;
+    };
+    chat.len() == 0 && has_state(alloc, &chat, b"\x00")
 }
 
 #[test]
 fn opening_is_one_zero(rt: HostRuntime) {
-    let alloc = rt.alloc();
-    assert!(rt; ChatLog::opening(alloc).is_ok_and(|chat| is_opening(alloc, chat)));
+    assert!(rt; is_opening(rt.alloc()));
+}
+
+fn writes_two(alloc: Global) -> bool {
+    match two_lines(alloc) {
+        Ok(chat) => has_state(alloc, &chat, TWO) && chat.len() == 2,
+        Err(_) => false,
+    }
 }
 
 #[test]
 fn two_lines_are_written(rt: HostRuntime) {
-    let alloc = rt.alloc();
-    assert!(rt; two_lines(alloc).is_ok_and(|chat| has_state(alloc, &chat, TWO) && chat.len() == 2));
+    assert!(rt; writes_two(rt.alloc()));
 }
 
-fn reads_two(mut chat: ChatLog) -> bool {
+fn reads_two(alloc: Global) -> bool {
+    let Ok(mut chat) = ChatLog::opening(alloc) else {
+        return false;
+    };
     chat.set_state(TWO) == Ok(true)
         && is_line(&chat, 0, first_of(1), b"hi")
         && chat.line(2).is_none()
-        && chat.lines().len() == 2
+        && chat.len() == 2
 }
 
 #[test]
 fn two_lines_are_read(rt: HostRuntime) {
-    assert!(rt; ChatLog::opening(rt.alloc()).is_ok_and(reads_two));
+    assert!(rt; reads_two(rt.alloc()));
 }
 
 #[test]
@@ -113,7 +124,10 @@ fn beginnings_are_refused(rt: HostRuntime) {
 fn one_byte_more_is_refused(rt: HostRuntime) {
     let alloc = rt.alloc();
     assert!(rt;
-        with_copies(alloc, TWO, b"\x00", 1).is_ok_and(|longer| are_refused(alloc, &longer))
+        are_refused(
+            alloc,
+            b"\x02\x00\x01\x00\x00\x00\x01\x00\x02hi\x00\x02\x00\x00\x00\x07\x00\x00\x00"
+        )
     );
 }
 
@@ -138,7 +152,10 @@ fn states_have_24_lines_at_most(rt: HostRuntime) {
     assert!(rt; is_last_taken(rt.alloc(), b"\x18", b"\x19", line, 24));
 }
 
-fn keeps_the_last_24(mut chat: ChatLog) -> bool {
+fn keeps_the_last_24(alloc: Global) -> bool {
+    let Ok(mut chat) = ChatLog::opening(alloc) else {
+        return false;
+    };
     let sender = first_of(3);
     for number in 1..26u8 {
         if chat.receive(sender, &[number]).is_err() {
@@ -155,7 +172,7 @@ fn keeps_the_last_24(mut chat: ChatLog) -> bool {
 
 #[test]
 fn the_last_24_are_kept(rt: HostRuntime) {
-    assert!(rt; ChatLog::opening(rt.alloc()).is_ok_and(keeps_the_last_24));
+    assert!(rt; keeps_the_last_24(rt.alloc()));
 }
 
 // The state of a chat whose lines are all as long as can be.
@@ -170,29 +187,33 @@ fn longest_state(alloc: Global) -> Result<Vec<u8>, AllocError> {
     Ok(state)
 }
 
-// Whether a chat takes these bytes, and is written as them again.
-fn is_written_back(alloc: Global, state: Vec<u8>) -> bool {
-    match ChatLog::opening(alloc) {
-        Ok(mut copy) => copy.set_state(&state) == Ok(true) && has_state(alloc, &copy, &state),
-        Err(_) => false,
+// Whether a chat takes the longest state, and is written as it again.
+fn takes_the_longest(alloc: Global) -> bool {
+    match (ChatLog::opening(alloc), longest_state(alloc)) {
+        (Ok(mut copy), Ok(state)) => {
+            state.len() == 12_481
+                && copy.set_state(&state) == Ok(true)
+                && has_state(alloc, &copy, &state)
+        }
+        _ => false,
     }
 }
 
 #[test]
 fn the_longest_state(rt: HostRuntime) {
-    let alloc = rt.alloc();
-    let state = longest_state(alloc);
-    assert!(rt; state.is_ok_and(|state| state.len() == 12_481 && is_written_back(alloc, state)));
+    assert!(rt; takes_the_longest(rt.alloc()));
 }
 
-fn leaves_out_a_longer(mut chat: ChatLog, alloc: Global) -> bool {
+fn leaves_out_a_longer(alloc: Global) -> bool {
+    let Ok(mut chat) = two_lines(alloc) else {
+        return false;
+    };
     chat.receive(first_of(1), &[0; 513]).is_ok() && has_state(alloc, &chat, TWO)
 }
 
 #[test]
 fn a_longer_payload_is_left_out(rt: HostRuntime) {
-    let alloc = rt.alloc();
-    assert!(rt; two_lines(alloc).is_ok_and(|chat| leaves_out_a_longer(chat, alloc)));
+    assert!(rt; leaves_out_a_longer(rt.alloc()));
 }
 
 // Whether a view, and that it is blocked, leave a chat of two lines as it was.

@@ -98,40 +98,38 @@ fn is_first(view: Option<&View>) -> bool {
     }
 }
 
-// Whether the receiver was told views of one member in all.
-fn was_told_one(receiver: Option<&Last>) -> bool {
+// Whether a receiver has a value, and was told views of one member in all.
+fn holds(receiver: Option<&Last>, value: u8) -> bool {
     match receiver {
-        Some(last) => last.views == 1,
+        Some(last) => last.value == value && last.views == 1,
         None => false,
     }
 }
 
-fn creates(mut member: Member<Last>) -> bool {
+fn creates(alloc: Global) -> bool {
+    let Some(mut member) = member(alloc, 1) else {
+        return false;
+    };
     let me = first_of(1);
     member.address() == me
         && member.view().is_none()
         && counts(member.handle(Input::Create)) == Some((0, 1))
         && is_first(member.view())
         && !member.is_blocked()
-        && was_told_one(member.receiver())
+        && holds(member.receiver(), 0)
         && refusal(member.handle(Input::Create)) == 5
         && refusal(member.handle(Input::Join(me))) == 5
 }
 
 #[test]
 fn creates_a_view_alone(rt: HostRuntime) {
-    assert!(rt; member(rt.alloc(), 1).is_some_and(creates));
+    assert!(rt; creates(rt.alloc()));
 }
 
-// Whether the last message of a receiver began with a byte.
-fn holds(receiver: Option<&Last>, value: u8) -> bool {
-    match receiver {
-        Some(last) => last.value == value,
-        None => false,
-    }
-}
-
-fn sends(mut member: Member<Last>) -> bool {
+fn sends(alloc: Global) -> bool {
+    let Some(mut member) = alone(alloc) else {
+        return false;
+    };
     is_told(&mut member, b"hi", 1)
         && is_told(&mut member, b"ah", 2)
         && holds(member.receiver(), b'a')
@@ -141,10 +139,13 @@ fn sends(mut member: Member<Last>) -> bool {
 
 #[test]
 fn sends_to_itself(rt: HostRuntime) {
-    assert!(rt; alone(rt.alloc()).is_some_and(sends));
+    assert!(rt; sends(rt.alloc()));
 }
 
-fn refuses_bad_bytes(mut member: Member<Last>) -> bool {
+fn refuses_bad_bytes(alloc: Global) -> bool {
+    let Some(mut member) = alone(alloc) else {
+        return false;
+    };
     for (bytes, number) in BAD {
         if refusal(member.handle(Input::Datagram(bytes))) != number {
             return false;
@@ -155,7 +156,7 @@ fn refuses_bad_bytes(mut member: Member<Last>) -> bool {
 
 #[test]
 fn bad_bytes_change_nothing(rt: HostRuntime) {
-    assert!(rt; alone(rt.alloc()).is_some_and(refuses_bad_bytes));
+    assert!(rt; refuses_bad_bytes(rt.alloc()));
 }
 
 // Whether a leave is taken, and its first happening is that the member left.
@@ -166,7 +167,10 @@ fn leaves(member: &mut Member<Last>) -> bool {
     }
 }
 
-fn answers_6(mut member: Member<Last>) -> bool {
+fn answers_6(alloc: Global) -> bool {
+    let Some(mut member) = alone(alloc) else {
+        return false;
+    };
     let left = leaves(&mut member) && member.view().is_none() && member.receiver().is_none();
     for (bytes, _) in BAD {
         if refusal(member.handle(Input::Datagram(bytes))) != 6 {
@@ -179,35 +183,25 @@ fn answers_6(mut member: Member<Last>) -> bool {
 
 #[test]
 fn answers_6_after_its_end(rt: HostRuntime) {
-    assert!(rt; alone(rt.alloc()).is_some_and(answers_6));
+    assert!(rt; answers_6(rt.alloc()));
 }
 
-// Whether an output is one packet to 1.1, the JOIN of 2.1.
-fn is_join(output: &Output) -> bool {
+// Whether an answer is one packet to 1.1, the JOIN of 2.1.
+fn asks(answer: Result<Output, Error>) -> bool {
+    let Ok(output) = answer else {
+        return false;
+    };
     match output.packets.as_slice() {
         [packet] => packet.destination == first_of(1) && packet.bytes.as_slice() == JOIN,
         _ => false,
     }
 }
 
-// Whether an answer is that output.
-fn asks(answer: Result<Output, Error>) -> bool {
-    match answer {
-        Ok(output) => is_join(&output),
-        Err(_) => false,
-    }
-}
-
-// How many packets an answer has; none where it is a refusal.
-fn packets(answer: Result<Output, Error>) -> Option<usize> {
-    match answer {
-        Ok(output) => Some(output.packets.len()),
-        Err(_) => None,
-    }
-}
-
-fn asks_again(mut member: Member<Last>) -> bool {
-    packets(member.handle(Input::Tick)) == Some(0)
+fn asks_again(alloc: Global) -> bool {
+    let Some(mut member) = member(alloc, 2) else {
+        return false;
+    };
+    counts(member.handle(Input::Tick)) == Some((0, 0))
         && asks(member.handle(Input::Join(first_of(1))))
         && asks(member.handle(Input::Tick))
         && refusal(member.handle(Input::Create)) == 5
@@ -216,10 +210,13 @@ fn asks_again(mut member: Member<Last>) -> bool {
 
 #[test]
 fn asks_again_to_be_let_in(rt: HostRuntime) {
-    assert!(rt; member(rt.alloc(), 2).is_some_and(asks_again));
+    assert!(rt; asks_again(rt.alloc()));
 }
 
-fn ignores(mut member: Member<Last>) -> bool {
+fn ignores(alloc: Global) -> bool {
+    let Some(mut member) = alone(alloc) else {
+        return false;
+    };
     for bytes in [JOIN, JOIN_TO_LATER, JOIN_TO_ITSELF, JOIN_OF_NIGHT] {
         if counts(member.handle(Input::Datagram(bytes))) != Some((0, 0)) {
             return false;
@@ -230,10 +227,13 @@ fn ignores(mut member: Member<Last>) -> bool {
 
 #[test]
 fn ignores_packets(rt: HostRuntime) {
-    assert!(rt; alone(rt.alloc()).is_some_and(ignores));
+    assert!(rt; ignores(rt.alloc()));
 }
 
-fn ends(mut member: Member<Last>) -> bool {
+fn ends(alloc: Global) -> bool {
+    let Some(mut member) = alone(alloc) else {
+        return false;
+    };
     refusal(member.handle(Input::Send(b"\xff"))) == 7
         && member.receiver().is_none()
         && refusal(member.handle(Input::Send(b"hi"))) == 6
@@ -241,13 +241,15 @@ fn ends(mut member: Member<Last>) -> bool {
 
 #[test]
 fn ends_where_memory_is_refused(rt: HostRuntime) {
-    assert!(rt; alone(rt.alloc()).is_some_and(ends));
+    assert!(rt; ends(rt.alloc()));
 }
 
 #[test]
 fn refusals_have_their_numbers(rt: HostRuntime) {
-    assert!(rt; Error::Blocked.number() == 2);
-    assert!(rt; Error::Busy.number() == 3);
-    assert!(rt; Error::Exhausted.number() == 8);
-    assert!(rt; Error::Wire(WireError::NotOurs).number() == 21);
+    assert!(rt;
+        Error::Blocked.number() == 2
+            && Error::Busy.number() == 3
+            && Error::Exhausted.number() == 8
+            && Error::Wire(WireError::NotOurs).number() == 21
+    );
 }

@@ -29,7 +29,10 @@ fn after_three(alloc: Global) -> Result<Window, AllocError> {
     Ok(window)
 }
 
-fn takes_what_is_new(mut window: Window) -> bool {
+fn takes_what_is_new(alloc: Global) -> bool {
+    let Ok(mut window) = Window::new(alloc) else {
+        return false;
+    };
     !offered(&mut window, 33)
         && offered(&mut window, 32)
         && !offered(&mut window, 32)
@@ -40,10 +43,13 @@ fn takes_what_is_new(mut window: Window) -> bool {
 
 #[test]
 fn takes_what_is_new_and_within_reach(rt: HostRuntime) {
-    assert!(rt; Window::new(rt.alloc()).is_ok_and(takes_what_is_new));
+    assert!(rt; takes_what_is_new(rt.alloc()));
 }
 
-fn tells_in_order(mut window: Window) -> bool {
+fn tells_in_order(alloc: Global) -> bool {
+    let Ok(mut window) = Window::new(alloc) else {
+        return false;
+    };
     offered(&mut window, 2)
         && next(&mut window) == 0
         && offered(&mut window, 1)
@@ -57,10 +63,13 @@ fn tells_in_order(mut window: Window) -> bool {
 
 #[test]
 fn delivers_in_order(rt: HostRuntime) {
-    assert!(rt; Window::new(rt.alloc()).is_ok_and(tells_in_order));
+    assert!(rt; tells_in_order(rt.alloc()));
 }
 
-fn has_let_go_two(mut window: Window) -> bool {
+fn has_let_go_two(alloc: Global) -> bool {
+    let Ok(mut window) = after_three(alloc) else {
+        return false;
+    };
     window.delivered() == 3
         && window.stable() == 2
         && window.entry(2).is_none()
@@ -73,21 +82,19 @@ fn has_let_go_two(mut window: Window) -> bool {
 
 #[test]
 fn lets_go_what_is_stable(rt: HostRuntime) {
-    assert!(rt; after_three(rt.alloc()).is_ok_and(has_let_go_two));
+    assert!(rt; has_let_go_two(rt.alloc()));
 }
 
-fn tells_its_parts(entry: Entry, alloc: Global) -> bool {
-    entry.sender() == first_of(1)
-        && entry.payload().len() == 2
-        && entry.copied(alloc).is_ok()
-        && entry.into_payload().len() == 2
+fn tells_its_parts(alloc: Global) -> bool {
+    let Ok(entry) = Entry::copy_of(alloc, first_of(1), 4, &[1, 2]) else {
+        return false;
+    };
+    entry.sender() == first_of(1) && entry.payload().len() == 2 && entry.into_payload().len() == 2
 }
 
 #[test]
 fn an_entry_tells_its_parts(rt: HostRuntime) {
-    let alloc = rt.alloc();
-    let entry = Entry::copy_of(alloc, first_of(1), 4, &[1, 2]);
-    assert!(rt; entry.is_ok_and(|entry| tells_its_parts(entry, alloc)));
+    assert!(rt; tells_its_parts(rt.alloc()));
 }
 
 /// Whether an offer is taken, or is refused for want of memory and leaves the window as it was.

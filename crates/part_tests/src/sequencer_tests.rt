@@ -32,7 +32,10 @@ fn pushed(alloc: Global, forwards: &mut Forwards, byte: u8) -> u64 {
     }
 }
 
-fn orders(mut orderer: Orderer) -> bool {
+fn orders(alloc: Global) -> bool {
+    let Some(mut orderer) = of_two(alloc) else {
+        return false;
+    };
     let (one, two) = (first_of(1), first_of(2));
     offered(&mut orderer, two, 2, 120)
         && ordered(&mut orderer, 0).is_none()
@@ -47,10 +50,13 @@ fn orders(mut orderer: Orderer) -> bool {
 
 #[test]
 fn orders_by_rank_and_number(rt: HostRuntime) {
-    assert!(rt; of_two(rt.alloc()).is_some_and(orders));
+    assert!(rt; orders(rt.alloc()));
 }
 
-fn takes_once(mut orderer: Orderer) -> bool {
+fn takes_once(alloc: Global) -> bool {
+    let Some(mut orderer) = of_two(alloc) else {
+        return false;
+    };
     let one = first_of(1);
     offered(&mut orderer, one, 1, 1)
         && !offered(&mut orderer, one, 1, 1)
@@ -63,7 +69,7 @@ fn takes_once(mut orderer: Orderer) -> bool {
 
 #[test]
 fn takes_each_message_once(rt: HostRuntime) {
-    assert!(rt; of_two(rt.alloc()).is_some_and(takes_once));
+    assert!(rt; takes_once(rt.alloc()));
 }
 
 /// Whether eight messages are taken, a ninth is refused, and is taken once three were delivered.

@@ -13,7 +13,11 @@ fn left(alloc: Global, suspects: &Suspects, view: &View) -> usize {
 }
 
 /// Whether in the view of 1.1, 2.1 and 3.1 the last leads once both others are suspected.
-fn leads_at_last(mut suspects: Suspects, view: View) -> bool {
+fn leads_at_last(alloc: Global) -> bool {
+    let Some(view) = view_of(alloc, &[1, 2, 3]) else {
+        return false;
+    };
+    let mut suspects = Suspects::new(alloc);
     let three = first_of(3);
     suspects.leads(&view, &first_of(1))
         && !suspects.leads(&view, &first_of(2))
@@ -25,14 +29,16 @@ fn leads_at_last(mut suspects: Suspects, view: View) -> bool {
 
 #[test]
 fn leads_where_all_earlier_are_suspected(rt: HostRuntime) {
-    let suspects = Suspects::new(rt.alloc());
-    let view = view_of(rt.alloc(), &[1, 2, 3]);
-    assert!(rt; view.is_some_and(|view| leads_at_last(suspects, view)));
+    assert!(rt; leads_at_last(rt.alloc()));
 }
 
 /// Whether of the view of 1.1, 2.1 and 3.1 two are left while the second is suspected, and then three.
-fn survive(mut suspects: Suspects, alloc: Global, view: View) -> bool {
+fn survive(alloc: Global) -> bool {
+    let Some(view) = view_of(alloc, &[1, 2, 3]) else {
+        return false;
+    };
     let two = first_of(2);
+    let mut suspects = Suspects::new(alloc);
     let first = suspects.add(two).is_ok()
         && suspects.has(&two)
         && left(alloc, &suspects, &view) == 2;
@@ -42,10 +48,7 @@ fn survive(mut suspects: Suspects, alloc: Global, view: View) -> bool {
 
 #[test]
 fn the_unsuspected_survive(rt: HostRuntime) {
-    let alloc = rt.alloc();
-    let suspects = Suspects::new(alloc);
-    let view = view_of(alloc, &[1, 2, 3]);
-    assert!(rt; view.is_some_and(|view| survive(suspects, alloc, view)));
+    assert!(rt; survive(rt.alloc()));
 }
 
 /// Whether an address is suspected, or is refused for want of memory and leaves the suspects as they were.

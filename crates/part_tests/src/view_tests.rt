@@ -1,7 +1,7 @@
 use crate::fixtures::{first_of, listed};
 use address::ViewId;
 use std::alloc::Global;
-use view::{Addresses, View};
+use view::View;
 
 /// Whether a view of these nodes, made by node 1, is refused with a number; with 0 where it is made.
 fn is_refused(alloc: Global, nodes: &[u16], number: u8) -> bool {
@@ -29,9 +29,12 @@ fn a_list_of_sixteen_is_taken(rt: HostRuntime) {
     assert!(rt; is_refused(rt.alloc(), &sixteen, 0));
 }
 
-/// Whether a view is that of 1.1 alone.
-fn is_alone(view: View) -> bool {
+/// Whether the first view of 1.1 is that of 1.1 alone.
+fn is_alone(alloc: Global) -> bool {
     let one = first_of(1);
+    let Ok(view) = View::alone(alloc, ViewId::first_of(one)) else {
+        return false;
+    };
     view.id() == ViewId::first_of(one)
         && view.first() == one
         && view.rank(&one) == Some(0)
@@ -42,21 +45,21 @@ fn is_alone(view: View) -> bool {
 
 #[test]
 fn a_view_tells_its_members(rt: HostRuntime) {
-    let view = View::alone(rt.alloc(), ViewId::first_of(first_of(1)));
-    assert!(rt; view.is_ok_and(is_alone));
+    assert!(rt; is_alone(rt.alloc()));
 }
 
-/// Whether a list is that of 1.1 and 3.1, and a copy of it is made.
-fn is_of_two(members: Addresses, alloc: Global) -> bool {
-    members.first() == Some(first_of(1))
-        && !members.is_empty()
-        && members.is_distinct()
+/// Whether the list of 1.1 and 3.1 tells them, and a copy of it is made.
+fn is_of_two(alloc: Global) -> bool {
+    let Some(members) = listed(alloc, &[1, 3]) else {
+        return false;
+    };
+    members.contains(&first_of(3))
+        && members.len() == 2
         && members.copied(alloc).is_ok()
-        && members.into_vec().len() == 2
+        && members.as_slice() == [first_of(1), first_of(3)].as_slice()
 }
 
 #[test]
 fn a_list_tells_its_addresses(rt: HostRuntime) {
-    let alloc = rt.alloc();
-    assert!(rt; listed(alloc, &[1, 3]).is_some_and(|members| is_of_two(members, alloc)));
+    assert!(rt; is_of_two(rt.alloc()));
 }

@@ -18,38 +18,31 @@ fn is_join(packet: Option<&[u8]>) -> bool {
     }
 }
 
-/// A world in which node 2 asked a contact that is nowhere, and asked again.
-fn asking(alloc: Global) -> Option<World<ChatLog>> {
-    let node = Node::new(2)?;
-    let contact = Address::new(Node::new(9)?, 1)?;
+/// Whether a world in which node 2 asks a contact that is nowhere, and asks again, puts out two packets, the JOIN each time, and has one
+/// running member.
+fn asks_twice(alloc: Global) -> bool {
+    let (Some(node), Some(nowhere)) = (Node::new(2), Node::new(9)) else {
+        return false;
+    };
     let events = [
         WorldEvent::Start(node),
-        WorldEvent::Join(node, contact),
+        WorldEvent::Join(node, Address::first_at(nowhere)),
         WorldEvent::Tick(node),
         WorldEvent::Deliver(1),
     ];
-    let mut world = World::new(alloc);
-    world.run(&events).ok()?;
-    Some(world)
-}
-
-/// Whether a world put out two packets, the JOIN each time, and one member runs in it.
-fn asked_twice(world: &World<ChatLog>) -> Option<bool> {
-    let node = Node::new(2)?;
-    Some(
-        is_join(world.packet(1))
-            && is_join(world.packet(2))
-            && world.packet(0).is_none()
-            && world.packet(3).is_none()
-            && world.running(node) == Some(Address::first_at(node))
-            && world.running(Node::new(9)?).is_none(),
-    )
+    let mut world = World::<ChatLog>::new(alloc);
+    world.run(&events).is_ok()
+        && is_join(world.packet(1))
+        && is_join(world.packet(2))
+        && world.packet(0).is_none()
+        && world.packet(3).is_none()
+        && world.running(node) == Some(Address::first_at(node))
+        && world.running(nowhere).is_none()
 }
 
 #[test]
 fn the_packets_of_a_join(rt: HostRuntime) {
-    let asked = asking(rt.alloc()).and_then(|world| asked_twice(&world));
-    assert_eq!(rt; asked, Some(true));
+    assert!(rt; asks_twice(rt.alloc()));
 }
 
 /// A reader that gives a few bytes and then fails.
@@ -71,8 +64,7 @@ impl Read for Failing {
 fn a_failing_reader_writes_nothing(rt: HostRuntime) {
     let mut output = Vec::new(rt.alloc());
     let status = run_script::<ChatLog, Failing, Vec<u8>>(rt.alloc(), &mut Failing(3), &mut output);
-    assert_eq!(rt; status, Status::Outside);
-    assert_eq!(rt; output.len(), 0);
+    assert!(rt; status == Status::Outside && output.is_empty());
 }
 
 /// A writer that takes so many bytes and then fails.
@@ -98,5 +90,5 @@ impl Write for Full {
 fn a_failing_writer_ends_outside(rt: HostRuntime) {
     let mut reader = b"start 1\ncreate 1\n".as_slice();
     let status = run_script::<ChatLog, &[u8], Full>(rt.alloc(), &mut reader, &mut Full(20));
-    assert_eq!(rt; status, Status::Outside);
+    assert!(rt; status == Status::Outside);
 }

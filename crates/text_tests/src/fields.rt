@@ -29,11 +29,13 @@ fn is_cut(split: (&[u8], Option<&[u8]>), first: &[u8], behind: Option<&[u8]>) ->
 
 #[test]
 fn fields_are_cut(rt: HostRuntime) {
-    assert!(rt; is_cut(first_field(b"ab cd e"), b"ab", Some(b"cd e")));
-    assert!(rt; is_cut(first_field(b" a"), b"", Some(b"a")));
-    assert!(rt; is_cut(first_field(b"a "), b"a", Some(b"")));
-    assert!(rt; is_cut(first_field(b"a"), b"a", None));
-    assert!(rt; is_cut(split_at_first(b'@', b"7@3.1"), b"7", Some(b"3.1")));
+    assert!(rt;
+        is_cut(first_field(b"ab cd e"), b"ab", Some(b"cd e"))
+            && is_cut(first_field(b" a"), b"", Some(b"a"))
+            && is_cut(first_field(b"a "), b"a", Some(b""))
+            && is_cut(first_field(b"a"), b"a", None)
+            && is_cut(split_at_first(b'@', b"7@3.1"), b"7", Some(b"3.1"))
+    );
 }
 
 #[test]
@@ -85,8 +87,10 @@ fn is_refused(rest: Option<&[u8]>, want: Fault) -> bool {
 
 #[test]
 fn address_fields_are_read(rt: HostRuntime) {
-    assert!(rt; is_in_front(Some(b"3.1 7.2")));
-    assert!(rt; is_refused(None, Fault::MissingField));
-    assert!(rt; is_refused(Some(b"3"), Fault::BadNumber));
-    assert!(rt; Fault::UnknownWord.number() == 40);
+    assert!(rt;
+        is_in_front(Some(b"3.1 7.2"))
+            && is_refused(None, Fault::MissingField)
+            && is_refused(Some(b"3"), Fault::BadNumber)
+            && Fault::UnknownWord.number() == 40
+    );
 }

@@ -1,7 +1,7 @@
 use crate::fixtures::address;
 use crate::lines::{alone, delivered, numbered, sent};
 use address::ViewId;
-use std::alloc::Global;
+use std::alloc::{AllocError, Global};
 use std::io;
 use std::io::Write;
 use trace_props::Happening;
@@ -15,7 +15,12 @@ fn first_run(alloc: Global) -> Option<Vec<Happening>> {
     let sending = sent(member, view, numbered(alloc, 1, b"hi")?);
     let delivery = delivered(member, view, member, numbered(alloc, 1, b"hi")?);
     let install = alone(alloc, member)?;
-    vec![in alloc; Happening::Started(member), install, sending, delivery].ok()
+    let mut run = Vec::new(alloc);
+    run.push(Happening::Started(member)).ok()?;
+    run.push(install).ok()?;
+    run.push(sending).ok()?;
+    run.push(delivery).ok()?;
+    Some(run)
 }
 
 fn done(place: usize) -> Reply {
@@ -46,7 +51,10 @@ fn is_written(
 }
 
 /// Whether the first run is written, a line for each happening.
-fn is_first_written(alloc: Global, happenings: Vec<Happening>) -> bool {
+fn is_first_written(alloc: Global) -> bool {
+    let Some(happenings) = first_run(alloc) else {
+        return false;
+    };
     let sent = Reply {
         answer: Answer::Sent(1),
         place: 4,
@@ -62,26 +70,27 @@ fn is_first_written(alloc: Global, happenings: Vec<Happening>) -> bool {
 
 #[test]
 fn runs_are_written(rt: HostRuntime) {
-    let alloc = rt.alloc();
-    assert!(rt; first_run(alloc).is_some_and(|happenings| is_first_written(alloc, happenings)));
+    assert!(rt; is_first_written(rt.alloc()));
 }
 
 /// Happenings of two members.
-fn of_two(alloc: Global) -> Option<Vec<Happening>> {
+fn of_two(alloc: Global) -> Result<Vec<Happening>, AllocError> {
     let (first, second) = (address(1, 1), address(1, 2));
-    vec![in alloc;
-        Happening::Started(first),
-        Happening::Crashed(first),
-        Happening::Started(second),
-        Happening::Crashed(second),
-        Happening::Left(second),
-        Happening::Blocked(second),
-    ]
-    .ok()
+    let mut run = Vec::with_capacity(alloc, 6)?;
+    run.push(Happening::Started(first))?;
+    run.push(Happening::Crashed(first))?;
+    run.push(Happening::Started(second))?;
+    run.push(Happening::Crashed(second))?;
+    run.push(Happening::Left(second))?;
+    run.push(Happening::Blocked(second))?;
+    Ok(run)
 }
 
 /// Whether the refusals of a run are written between its happenings, but not that for want of memory.
-fn are_refusals_written(alloc: Global, happenings: Vec<Happening>) -> bool {
+fn are_refusals_written(alloc: Global) -> bool {
+    let Ok(happenings) = of_two(alloc) else {
+        return false;
+    };
     let replies = [
         done(1),
         done(2),
@@ -101,8 +110,7 @@ fn are_refusals_written(alloc: Global, happenings: Vec<Happening>) -> bool {
 
 #[test]
 fn refusals_stand_at_their_places(rt: HostRuntime) {
-    let alloc = rt.alloc();
-    assert!(rt; of_two(alloc).is_some_and(|happenings| are_refusals_written(alloc, happenings)));
+    assert!(rt; are_refusals_written(rt.alloc()));
 }
 
 /// A writer that takes at most two bytes a call, and fails once it has taken so many.
@@ -128,7 +136,10 @@ impl Write for Failing {
 }
 
 /// Whether a writer that fails behind 15 bytes takes these of a run.
-fn takes_a_beginning(alloc: Global, happenings: Vec<Happening>) -> bool {
+fn takes_a_beginning(alloc: Global) -> bool {
+    let Some(happenings) = first_run(alloc) else {
+        return false;
+    };
     let mut writer = Failing {
         taken: Vec::new(alloc),
         most: 15,
@@ -150,7 +161,5 @@ fn takes_four(alloc: Global) -> bool {
 
 #[test]
 fn failing_writers_take_a_beginning(rt: HostRuntime) {
-    let alloc = rt.alloc();
-    assert!(rt; first_run(alloc).is_some_and(|happenings| takes_a_beginning(alloc, happenings)));
-    assert!(rt; takes_four(alloc));
+    assert!(rt; takes_a_beginning(rt.alloc()) && takes_four(rt.alloc()));
 }

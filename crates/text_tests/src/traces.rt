@@ -73,21 +73,25 @@ fn members_make_a_view(rt: HostRuntime) {
     assert!(rt; are_read_whole(rt.alloc(), &VIEWS));
 }
 
-/// Whether a front with so many digits behind it is read; none where memory was refused.
-fn is_read(alloc: Global, front: &[u8], digits: usize) -> Option<bool> {
-    let text = with_copies(alloc, front, b'0', digits).ok()?;
-    Some(read_trace(alloc, &text).is_ok())
+/// Whether a front with so many digits behind it is read, or is not.
+fn is_read(alloc: Global, front: &[u8], digits: usize, wanted: bool) -> bool {
+    match with_copies(alloc, front, b'0', digits) {
+        Ok(text) => read_trace(alloc, &text).is_ok() == wanted,
+        Err(_) => false,
+    }
 }
 
 /// Whether a front is read with 512 bytes behind it, and not with 513.
 fn has_limit(alloc: Global, front: &[u8]) -> bool {
-    is_read(alloc, front, 1024) == Some(true) && is_read(alloc, front, 1026) == Some(false)
+    is_read(alloc, front, 1024, true) && is_read(alloc, front, 1026, false)
 }
 
 #[test]
 fn payloads_have_a_limit(rt: HostRuntime) {
-    assert!(rt; has_limit(rt.alloc(), b"sent 1.1 1@1.1 1 "));
-    assert!(rt; has_limit(rt.alloc(), b"delivered 1.1 1@1.1 1.1 1 "));
+    let alloc = rt.alloc();
+    assert!(rt;
+        has_limit(alloc, b"sent 1.1 1@1.1 1 ") && has_limit(alloc, b"delivered 1.1 1@1.1 1.1 1 ")
+    );
 }
 
 /// Whether a front with so many digits behind it is too long.
@@ -101,9 +105,11 @@ fn is_too_long(alloc: Global, front: &[u8], digits: usize) -> bool {
 #[test]
 fn lines_have_a_limit(rt: HostRuntime) {
     let front = b"installed 10.1 - 1@1.1 1.1 1.1 - =";
-    assert!(rt; is_read(rt.alloc(), front, TRACE_LINE - 34) == Some(true));
-    assert!(rt; is_too_long(rt.alloc(), front, TRACE_LINE - 33));
-    assert!(rt; is_read(rt.alloc(), b"#", TRACE_LINE) == Some(true));
+    assert!(rt;
+        is_read(rt.alloc(), front, TRACE_LINE - 34, true)
+            && is_too_long(rt.alloc(), front, TRACE_LINE - 33)
+            && is_read(rt.alloc(), b"#", TRACE_LINE, true)
+    );
 }
 
 /// Whether what is handed back is one message 4 with the payload `hi`.
@@ -132,8 +138,11 @@ fn has_the_fields(delivery: &Delivery) -> bool {
         && delivery.message.payload.as_slice() == b"hi".as_slice()
 }
 
-/// Whether a trace is one install or one delivery, with the fields that its line spells.
-fn tells_its_fields(trace: &Trace) -> bool {
+/// Whether a text is read as one install or one delivery, with the fields that its line spells.
+fn tells_its_fields(alloc: Global, text: &[u8]) -> bool {
+    let Ok(trace) = read_trace(alloc, text) else {
+        return false;
+    };
     match trace.happenings() {
         [Happening::Installed(install)] => has_its_fields(install),
         [Happening::Delivered(delivery)] => has_the_fields(delivery),
@@ -144,19 +153,19 @@ fn tells_its_fields(trace: &Trace) -> bool {
 #[test]
 fn an_install_has_its_fields(rt: HostRuntime) {
     let text = b"installed 2.1 6@2.1 7@3.1 3.1,2.1 2.1 4:6869 =0aff\n";
-    assert!(rt; read_trace(rt.alloc(), text).is_ok_and(|trace| tells_its_fields(&trace)));
+    assert!(rt; tells_its_fields(rt.alloc(), text));
 }
 
 #[test]
 fn a_delivery_has_its_fields(rt: HostRuntime) {
     let text = b"delivered 1.1 7@3.1 2.9 12 6869";
-    assert!(rt; read_trace(rt.alloc(), text).is_ok_and(|trace| tells_its_fields(&trace)));
+    assert!(rt; tells_its_fields(rt.alloc(), text));
 }
 
 /// Whether two happenings are read, or memory was refused.
 fn are_two_or_refused(alloc: Global, text: &[u8]) -> bool {
     match read_trace(alloc, text) {
-        Ok(trace) => trace.len() == 2,
+        Ok(trace) => trace.happenings().len() == 2,
         Err(unread) => matches!(&unread, Unread::Memory),
     }
 }

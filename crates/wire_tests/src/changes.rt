@@ -41,9 +41,12 @@ fn is_exact_everywhere(alloc: Global, bytes: &[u8]) -> bool {
     true
 }
 
-/// Whether these bytes with one more behind them are refused for that.
-fn is_longer(mut bytes: Vec<u8>) -> bool {
-    bytes.push(0).is_ok() && refusal(&bytes) == 26
+/// Whether what a text spells is exact everywhere, and with one byte more behind it is refused for that.
+fn is_exact_text(alloc: Global, text: &[u8]) -> bool {
+    let Ok(mut bytes) = unhex(alloc, text) else {
+        return false;
+    };
+    is_exact_everywhere(alloc, &bytes) && bytes.push(0).is_ok() && refusal(&bytes) == 26
 }
 
 // Of one packet of each kind: every proper beginning is short, one byte more trails, and every change of one
@@ -52,10 +55,7 @@ fn is_longer(mut bytes: Vec<u8>) -> bool {
 fn each_kind_is_exact(rt: HostRuntime) {
     let alloc = rt.alloc();
     for text in EACH {
-        let bytes = unhex(alloc, text);
-        assert!(rt;
-            bytes.is_ok_and(|bytes| is_exact_everywhere(alloc, &bytes) && is_longer(bytes))
-        );
+        assert!(rt; is_exact_text(alloc, text));
     }
 }
 
@@ -68,18 +68,20 @@ fn is_refused_with(alloc: Global, bytes: &[u8], index: usize, value: u8, number:
 }
 
 /// Whether the changes of a JOIN are refused, each with its number.
-fn are_refused(alloc: Global, join: &[u8]) -> bool {
-    is_refused_with(alloc, join, 0, 87, 21)
-        && is_refused_with(alloc, join, 2, 9, 22)
-        && is_refused_with(alloc, join, 3, 14, 23)
-        && is_refused_with(alloc, join, 4, 33, 24)
-        && is_refused_with(alloc, join, 5, 32, 25)
+fn are_refused(alloc: Global) -> bool {
+    let Ok(join) = unhex(alloc, JOIN) else {
+        return false;
+    };
+    is_refused_with(alloc, &join, 0, 87, 21)
+        && is_refused_with(alloc, &join, 2, 9, 22)
+        && is_refused_with(alloc, &join, 3, 14, 23)
+        && is_refused_with(alloc, &join, 4, 33, 24)
+        && is_refused_with(alloc, &join, 5, 32, 25)
 }
 
 #[test]
 fn a_changed_join_is_refused(rt: HostRuntime) {
-    let alloc = rt.alloc();
-    assert!(rt; unhex(alloc, JOIN).is_ok_and(|join| are_refused(alloc, &join)));
+    assert!(rt; are_refused(rt.alloc()));
 }
 
 /// Whether so many zeros are refused with a number.
@@ -94,16 +96,14 @@ fn are_zeros_refused(alloc: Global, count: usize, number: u8) -> bool {
 fn no_packets_are_refused(rt: HostRuntime) {
     let alloc = rt.alloc();
     assert!(rt; refusal(&[]) == 20);
-    assert!(rt;
-        unhex(alloc, JOIN).is_ok_and(|join| join.get(..21).is_some_and(|cut| refusal(cut) == 20))
-    );
-    assert!(rt; unhex(alloc, JOIN).is_ok_and(is_longer));
-    assert!(rt; are_zeros_refused(alloc, 40_001, 24));
-    assert!(rt; are_zeros_refused(alloc, 40_000, 21));
+    assert!(rt; are_zeros_refused(alloc, 40_001, 24) && are_zeros_refused(alloc, 40_000, 21));
 }
 
-/// Whether the bytes trail with every count of zeros behind them that was looked at, until they are too many.
-fn is_long_first(mut bytes: Vec<u8>) -> bool {
+/// Whether a JOIN trails with every count of zeros behind it that was looked at, until they are too many.
+fn is_long_first(alloc: Global) -> bool {
+    let Ok(mut bytes) = unhex(alloc, JOIN) else {
+        return false;
+    };
     for length in bytes.len()..40_000 {
         let is_well = length % 4_096 != 0 || refusal(&bytes) == 26;
         if !is_well || bytes.push(0).is_err() {
@@ -116,7 +116,7 @@ fn is_long_first(mut bytes: Vec<u8>) -> bool {
 // A JOIN followed by zeros: what stands behind it is refused, but a datagram too long is refused as that.
 #[test]
 fn too_long_comes_first(rt: HostRuntime) {
-    assert!(rt; unhex(rt.alloc(), JOIN).is_ok_and(is_long_first));
+    assert!(rt; is_long_first(rt.alloc()));
 }
 
 /// Whether the three sevens that stood are kept, and behind them stand these bytes where they were put, or nothing.
@@ -129,14 +129,17 @@ fn stand_behind(out: &[u8], is_put: bool, bytes: &[u8]) -> bool {
     front == [7, 7, 7].as_slice() && behind == want
 }
 
-/// Whether a packet is put behind what stood, or nothing is.
-fn is_put_behind(alloc: Global, bytes: &[u8]) -> bool {
-    match (decode(bytes), vec![in alloc; 7u8; 3]) {
-        (Ok(packet), Ok(mut out)) => {
+/// Whether an ORDER is put behind what stood, or nothing is.
+fn is_put_behind(alloc: Global) -> bool {
+    let (Ok(bytes), Ok(mut out)) = (unhex(alloc, ORDER), vec![in alloc; 7u8; 3]) else {
+        return false;
+    };
+    match decode(&bytes) {
+        Ok(packet) => {
             let is_put = encode(&packet, &mut out).is_ok();
-            stand_behind(&out, is_put, bytes)
+            stand_behind(&out, is_put, &bytes)
         }
-        _ => false,
+        Err(_) => false,
     }
 }
 
@@ -144,29 +147,23 @@ fn is_put_behind(alloc: Global, bytes: &[u8]) -> bool {
 // `rt try --test --fail-alloc 6` refuses the growth in `encode` here: each test counts its own allocations.
 #[test]
 fn encode_keeps_what_stood(rt: HostRuntime) {
-    let alloc = rt.alloc();
-    assert!(rt; unhex(alloc, ORDER).is_ok_and(|bytes| is_put_behind(alloc, &bytes)));
+    assert!(rt; is_put_behind(rt.alloc()));
 }
 
-/// Whether the entry 1 of 1.1 with the payload `a` at the place 1 is put behind what stood as these bytes, or nothing is.
-fn is_entry_put_behind(alloc: Global, bytes: &[u8]) -> bool {
-    match vec![in alloc; 7u8; 3] {
-        Ok(mut out) => {
-            let is_put = put_entry(Some(number(1)), &entry(1, b"a"), &mut out).is_ok();
-            stand_behind(&out, is_put, bytes)
-        }
-        Err(_) => false,
-    }
+// The entry 1 of 1.1 with the payload `a`, at the place 1.
+const ENTRY: &[u8] = b"0000000000000001 000100000001 0000000000000001 0001 61";
+
+/// Whether that entry is put behind what stood, or nothing is.
+fn is_entry_put_behind(alloc: Global) -> bool {
+    let (Ok(bytes), Ok(mut out)) = (unhex(alloc, ENTRY), vec![in alloc; 7u8; 3]) else {
+        return false;
+    };
+    let is_put = put_entry(Some(number(1)), &entry(1, b"a"), &mut out).is_ok();
+    stand_behind(&out, is_put, &bytes)
 }
 
-// The same of an entry, with its place: 1 of the member 1.1, with the payload `a`. The growth in `put_entry`
-// is the fifth allocation here.
+// The same of an entry, with its place. The growth in `put_entry` is the fifth allocation here.
 #[test]
 fn put_entry_keeps_what_stood(rt: HostRuntime) {
-    let alloc = rt.alloc();
-    let bytes = unhex(
-        alloc,
-        b"0000000000000001 000100000001 0000000000000001 0001 61",
-    );
-    assert!(rt; bytes.is_ok_and(|bytes| is_entry_put_behind(alloc, &bytes)));
+    assert!(rt; is_entry_put_behind(rt.alloc()));
 }

@@ -51,23 +51,23 @@ fn report(text: &[u8], delivered: u64) -> Option<Report<'_>> {
 }
 
 /// Whether 32 delivered make the longest report, and 33 would leave one without its entry.
-fn is_longest_report(alloc: Global, text: &[u8]) -> bool {
-    match report(text, 32) {
-        Some(report) => {
-            let proposal = second_view();
-            has_length(alloc, Body::Report { proposal, report }, 11, 17_247)
-        }
-        None => false,
-    }
+fn is_longest_report(alloc: Global) -> bool {
+    let Some(text) = entries(alloc, true) else {
+        return false;
+    };
+    let Some(longest) = report(&text, 32) else {
+        return false;
+    };
+    let body = Body::Report {
+        proposal: second_view(),
+        report: longest,
+    };
+    has_length(alloc, body, 11, 17_247) && report(&text, 33).is_none()
 }
 
 #[test]
 fn longest_report(rt: HostRuntime) {
-    let alloc = rt.alloc();
-    let text = entries(alloc, true);
-    assert!(rt;
-        text.is_some_and(|text| is_longest_report(alloc, &text) && report(&text, 33).is_none())
-    );
+    assert!(rt; is_longest_report(rt.alloc()));
 }
 
 /// The first addresses of the nodes 1 to 16.
@@ -105,10 +105,9 @@ fn is_longest_install(alloc: Global, members: &[Address], text: &[u8]) -> bool {
 fn longest_install(rt: HostRuntime) {
     let alloc = rt.alloc();
     match (sixteen(alloc), entries(alloc, false)) {
-        (Some(members), Some(text)) => {
-            assert!(rt; is_longest_install(alloc, &members, &text));
-            assert!(rt; Items::new(31, &text).is_none());
-        }
+        (Some(members), Some(text)) => assert!(rt;
+            is_longest_install(alloc, &members, &text) && Items::new(31, &text).is_none()
+        ),
         _ => assert!(rt; false),
     }
 }

@@ -73,17 +73,27 @@ fn order() -> Body<'static> {
     }
 }
 
+/// Whether the vectors of the bodies with a view are written.
+fn are_views_written(alloc: Global) -> bool {
+    match (of_two(), install()) {
+        (Some(view), Some(install)) => {
+            is_written_down(alloc, Body::Flush(view), FLUSH)
+                && is_written_down(alloc, Body::Install(install), INSTALL_WITH_STATE)
+        }
+        _ => false,
+    }
+}
+
 // The five vectors, written from their parts.
 #[test]
 fn vectors_are_written(rt: HostRuntime) {
     let alloc = rt.alloc();
-    assert!(rt; is_written_up(alloc, Body::Join, JOIN));
-    assert!(rt; of_two().is_some_and(|view| is_written_down(alloc, Body::Flush(view), FLUSH)));
-    assert!(rt; is_written_up(alloc, report_of_none(), REPORT_OF_NONE));
     assert!(rt;
-        install().is_some_and(|it| is_written_down(alloc, Body::Install(it), INSTALL_WITH_STATE))
+        is_written_up(alloc, Body::Join, JOIN)
+            && is_written_up(alloc, report_of_none(), REPORT_OF_NONE)
+            && is_written_down(alloc, order(), ORDER)
     );
-    assert!(rt; is_written_down(alloc, order(), ORDER));
+    assert!(rt; are_views_written(alloc));
 }
 
 /// Whether a text is a packet of a kind and of a length, and is written back.
@@ -98,11 +108,13 @@ fn is_read(alloc: Global, text: &[u8], kind: u8, length: usize) -> bool {
 #[test]
 fn vectors_are_read(rt: HostRuntime) {
     let alloc = rt.alloc();
-    assert!(rt; is_read(alloc, JOIN, 1, 22));
-    assert!(rt; is_read(alloc, FLUSH, 9, 49));
-    assert!(rt; is_read(alloc, REPORT_OF_NONE, 11, 37));
-    assert!(rt; is_read(alloc, INSTALL_WITH_STATE, 12, 71));
-    assert!(rt; is_read(alloc, ORDER, 5, 61));
+    assert!(rt;
+        is_read(alloc, JOIN, 1, 22)
+            && is_read(alloc, FLUSH, 9, 49)
+            && is_read(alloc, REPORT_OF_NONE, 11, 37)
+            && is_read(alloc, INSTALL_WITH_STATE, 12, 71)
+            && is_read(alloc, ORDER, 5, 61)
+    );
 }
 
 /// Whether each of some texts is a packet of the kind behind the one before it, and is written back.
@@ -145,9 +157,12 @@ fn has_its_parts(report: &Report<'_>) -> bool {
         && held.take_first().is_none()
 }
 
-/// Whether these bytes are a report with the parts that `REPORT` spells.
-fn tells_its_parts(bytes: &[u8]) -> bool {
-    match decode(bytes) {
+/// Whether `REPORT` is read as a report with its parts.
+fn tells_its_parts(alloc: Global) -> bool {
+    let Ok(bytes) = unhex(alloc, REPORT) else {
+        return false;
+    };
+    match decode(&bytes) {
         Ok(packet) => match &packet.body {
             Body::Report { report, .. } => has_its_parts(report),
             _ => false,
@@ -158,5 +173,5 @@ fn tells_its_parts(bytes: &[u8]) -> bool {
 
 #[test]
 fn a_report_tells_its_parts(rt: HostRuntime) {
-    assert!(rt; unhex(rt.alloc(), REPORT).is_ok_and(|bytes| tells_its_parts(&bytes)));
+    assert!(rt; tells_its_parts(rt.alloc()));
 }

@@ -2,15 +2,13 @@ use clap::error::ErrorKind;
 use std::alloc::{AllocError, Global};
 use vsync_words::{Invocation, command};
 
-/// The words of a command line, as the environment gives them; here a space parts them.
-fn words_of(alloc: Global, line: &str) -> Result<Vec<String>, AllocError> {
-    let mut all = Vec::new(alloc);
-    for word in line.split(' ') {
-        if !word.is_empty() {
-            all.push(String::from_str(alloc, word)?)?;
-        }
+/// The words of a command line, as the environment gives them.
+fn words_of(alloc: Global, line: &[&str]) -> Result<Vec<String>, AllocError> {
+    let mut words = Vec::new(alloc);
+    for word in line {
+        words.push(String::from_str(alloc, word)?)?;
     }
-    Ok(all)
+    Ok(words)
 }
 
 /// The subcommand that a command is.
@@ -23,7 +21,7 @@ fn name_of(command: Invocation<'_>) -> &'static str {
 }
 
 /// Whether the words ask for this subcommand on this path.
-fn asks(alloc: Global, line: &str, name: &str, path: &str) -> bool {
+fn asks(alloc: Global, line: &[&str], name: &str, path: &str) -> bool {
     let Ok(words) = words_of(alloc, line) else {
         return false;
     };
@@ -33,55 +31,61 @@ fn asks(alloc: Global, line: &str, name: &str, path: &str) -> bool {
     }
 }
 
-/// The kind of error that the words give.
-fn refusal(alloc: Global, line: &str) -> Option<ErrorKind> {
-    let words = words_of(alloc, line).ok()?;
+/// Whether the words give this kind of error.
+fn is_refused(alloc: Global, line: &[&str], kind: ErrorKind) -> bool {
+    let Ok(words) = words_of(alloc, line) else {
+        return false;
+    };
     match command(alloc, words.as_slice()) {
-        Ok(_) => None,
-        Err(error) => Some(error.kind()),
+        Ok(_) => false,
+        Err(error) => error.kind() == kind,
     }
 }
 
 #[test]
 fn words_are_a_command(rt: HostRuntime) {
-    let lines = [
-        ("", "world", "-"),
-        ("vsync", "world", "-"),
-        ("vsync world a.script", "world", "a.script"),
-        ("vsync world -", "world", "-"),
-        ("vsync world -- --help", "world", "--help"),
-        ("vsync chat a.script", "chat", "a.script"),
-        ("vsync chat -", "chat", "-"),
-        ("vsync check -", "check", "-"),
-        ("vsync check world", "check", "world"),
-    ];
-    for (line, name, path) in lines {
-        assert!(rt; asks(rt.alloc(), line, name, path), "at {line}");
-    }
+    let alloc = rt.alloc();
+    assert!(rt;
+        asks(alloc, &[], "world", "-")
+            && asks(alloc, &["vsync"], "world", "-")
+            && asks(alloc, &["vsync", "world", "a.script"], "world", "a.script")
+            && asks(alloc, &["vsync", "world", "-"], "world", "-")
+            && asks(
+                alloc,
+                &["vsync", "world", "--", "--help"],
+                "world",
+                "--help"
+            )
+            && asks(alloc, &["vsync", "chat", "a.script"], "chat", "a.script")
+            && asks(alloc, &["vsync", "chat", "-"], "chat", "-")
+            && asks(alloc, &["vsync", "check", "-"], "check", "-")
+            && asks(alloc, &["vsync", "check", "world"], "check", "world")
+    );
 }
 
 #[test]
 fn words_are_no_command(rt: HostRuntime) {
-    let lines = [
-        ("vsync fly", ErrorKind::InvalidSubcommand),
-        ("vsync world", ErrorKind::MissingRequiredArgument),
-        ("vsync chat", ErrorKind::MissingRequiredArgument),
-        ("vsync world a b", ErrorKind::UnknownArgument),
-        ("vsync check -x", ErrorKind::UnknownArgument),
-        ("vsync --help", ErrorKind::DisplayHelp),
-        ("vsync world -h", ErrorKind::DisplayHelp),
-        ("vsync chat --help", ErrorKind::DisplayHelp),
-    ];
-    for (line, kind) in lines {
-        assert!(rt; refusal(rt.alloc(), line) == Some(kind), "at {line}");
-    }
-}
-
-#[test]
-fn the_path_of_a_command(rt: HostRuntime) {
+    let alloc = rt.alloc();
     assert!(rt;
-        Invocation::World("a").path() == "a"
-            && Invocation::Chat("b").path() == "b"
-            && Invocation::Check("c").path() == "c"
+        is_refused(alloc, &["vsync", "fly"], ErrorKind::InvalidSubcommand)
+            && is_refused(
+                alloc,
+                &["vsync", "world"],
+                ErrorKind::MissingRequiredArgument
+            )
+            && is_refused(
+                alloc,
+                &["vsync", "chat"],
+                ErrorKind::MissingRequiredArgument
+            )
+            && is_refused(
+                alloc,
+                &["vsync", "world", "a", "b"],
+                ErrorKind::UnknownArgument
+            )
+            && is_refused(alloc, &["vsync", "check", "-x"], ErrorKind::UnknownArgument)
+            && is_refused(alloc, &["vsync", "--help"], ErrorKind::DisplayHelp)
+            && is_refused(alloc, &["vsync", "world", "-h"], ErrorKind::DisplayHelp)
+            && is_refused(alloc, &["vsync", "chat", "--help"], ErrorKind::DisplayHelp)
     );
 }

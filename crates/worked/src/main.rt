@@ -3,6 +3,7 @@
 #![tactic(auto)]
 
 use chat_log::ChatLog;
+use script_reader::first_line;
 use std::alloc::Global;
 use std::io::{self, Read, Write};
 use std::process::ExitCode;
@@ -19,14 +20,12 @@ fn run<W: Write>(alloc: Global, command: &[u8], text: &[u8], writer: &mut W) -> 
     }
 }
 
-/// Answers a section: its command's text, and a line with the exit status.
+/// Answers a section, if it is not empty: its command's text, and a line with the exit status.
 fn answer<W: Write>(alloc: Global, section: &[u8], writer: &mut W) -> io::Result<()> {
-    let line = section
-        .iter()
-        .position(|b| *b == b'\n')
-        .unwrap_or(section.len());
-    let (command, rest) = section.split_at(line);
-    let text = rest.split_first().map_or(rest, |(_, text)| text);
+    if section.is_empty() {
+        return Ok(());
+    }
+    let (command, text) = first_line(section);
     let status = run(alloc, command, text, writer);
     writer.write_all(&[b'~', b'0' + status.code(), b'\n'])
 }
@@ -38,7 +37,7 @@ fn main(rt: HostRuntime) -> ExitCode {
     }
     let mut output = io::writer(&rt);
     for section in sections.split(|b| *b == b'~') {
-        if !section.is_empty() && answer(rt.alloc(), section, &mut output).is_err() {
+        if answer(rt.alloc(), section, &mut output).is_err() {
             return ExitCode::from(5);
         }
     }
