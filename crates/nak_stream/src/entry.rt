@@ -8,9 +8,12 @@ use std::marker::Model;
 /// from 1, and its payload.
 #[derive(Debug, Drop)]
 pub struct Entry {
-    sender: Address,
-    number: u64,
-    payload: Vec<u8>,
+    /// Who sent it.
+    pub sender: Address,
+    /// Its number among its sender's messages of the view.
+    pub number: u64,
+    /// Its payload.
+    pub payload: Vec<u8>,
 }
 
 impl Model for Entry {
@@ -22,17 +25,6 @@ impl Model for Entry {
 }
 
 impl Entry {
-    /// The entry of these parts. Takes no memory.
-    pub fn from_parts(sender: Address, number: u64, payload: Vec<u8>) -> Entry
-        ensures { result ≡ record { sender = sender; number = number; payload = payload.items } }
-    {
-        Entry {
-            sender,
-            number,
-            payload,
-        }
-    }
-
     /// The entry of these parts, with a copy of the payload.
     pub fn copy_of(
         alloc: Global,
@@ -55,34 +47,5 @@ impl Entry {
         ensures { IfOk result (λ e. e ≡ self.now) }
     {
         Entry::copy_of(alloc, self.sender, self.number, self.payload.as_slice())
-    }
-
-    /// Who sent it.
-    pub fn sender(&self) -> Address
-        ensures { result ≡ self.now.sender }
-    {
-        self.sender
-    }
-
-    /// Its number among its sender's messages of the view.
-    pub fn number(&self) -> u64
-        ensures { result ≡ self.now.number }
-    {
-        self.number
-    }
-
-    /// Its payload.
-    pub fn payload(&self) -> &[u8]
-        ensures { result.now ≡ self.now.payload }
-    {
-        self.payload.as_slice()
-    }
-
-    /// Its payload, without the rest. Takes no memory.
-    pub fn into_payload(self) -> Vec<u8>
-        ensures { result.items ≡ self.payload }
-    {
-        let Entry { payload, .. } = self;
-        payload
     }
 }

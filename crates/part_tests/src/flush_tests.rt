@@ -56,7 +56,7 @@ fn is_complete(flush: &mut Flush, node: u16) -> bool
 /// The one byte of an entry's payload; 0 where there is no such entry, and 1 where it has other bytes.
 fn byte_of(entry: Option<&Entry<'_>>) -> u8 {
     match entry {
-        Some(entry) => match entry.payload().as_slice() {
+        Some(entry) => match entry.payload.as_slice() {
             [byte] => *byte,
             _ => 1,
         },

@@ -10,7 +10,7 @@ fn offered(window: &mut Window, g: u64) -> bool {
 /// The number of the message that is delivered next; 0 where there is none.
 fn next(window: &mut Window) -> u64 {
     match window.take_ready() {
-        Ok(Some(entry)) => entry.number(),
+        Ok(Some(entry)) => entry.number,
         Ok(None) => 0,
         Err(_) => 99,
     }
@@ -89,7 +89,9 @@ fn tells_its_parts(alloc: Global) -> bool {
     let Ok(entry) = Entry::copy_of(alloc, first_of(1), 4, &[1, 2]) else {
         return false;
     };
-    entry.sender() == first_of(1) && entry.payload().len() == 2 && entry.into_payload().len() == 2
+    entry.sender == first_of(1)
+        && entry.number == 4
+        && entry.payload.as_slice() == [1, 2].as_slice()
 }
 
 #[test]
@@ -110,7 +112,7 @@ fn told_or_unchanged(window: &mut Window) -> bool {
     let before = window.delivered();
     let next = before.saturating_add(1);
     match window.take_ready() {
-        Ok(Some(entry)) => entry.number() == next && window.delivered() == next,
+        Ok(Some(entry)) => entry.number == next && window.delivered() == next,
         Ok(None) => window.delivered() == before && window.entry(next).is_none(),
         Err(_) => window.delivered() == before && window.entry(next).is_some(),
     }

@@ -16,8 +16,8 @@ fn offered(orderer: &mut Orderer, sender: Address, number: u64, byte: u8) -> boo
 /// The number in the order, the sender's node, the number and the first byte of the message that comes next.
 fn ordered(orderer: &mut Orderer, stable: u64) -> Option<(u64, u16, u64, u8)> {
     let (g, entry) = orderer.ready(stable)?;
-    let byte = entry.payload().first().copied()?;
-    Some((g, entry.sender().node().number(), entry.number(), byte))
+    let byte = entry.payload.first().copied()?;
+    Some((g, entry.sender.node().number(), entry.number, byte))
 }
 
 /// The number that a message of one byte is taken under; 100 and the number of the refusal where it is refused.

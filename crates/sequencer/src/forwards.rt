@@ -72,12 +72,12 @@ impl Forwards {
             return Err((payload, PushRefusal::Exhausted));
         }
         let number = self.sent + 1;
-        match self.rest.push(Forward::from_parts(number, payload)) {
+        match self.rest.push(Forward { number, payload }) {
             Ok(()) => {
                 self.sent = number;
                 Ok(number)
             }
-            Err(refused) => Err((refused.value.into_payload(), PushRefusal::Memory)),
+            Err(refused) => Err((refused.value.payload, PushRefusal::Memory)),
         }
     }
 

@@ -44,9 +44,7 @@ impl Queue {
     fn waits(&self, number: u64) -> bool
         ensures { result ≡ list_any (λ f. nat_eq number f.number) self.now.waiting }
     {
-        self.waiting
-            .iter()
-            .any(|forward| number == forward.number())
+        self.waiting.iter().any(|forward| number == forward.number)
     }
 
     fn takes(&self, number: u64) -> bool
@@ -66,7 +64,7 @@ impl Queue {
             return Ok(false);
         }
         let payload = Vec::from_slice(alloc, payload)?;
-        self.waiting.push(Forward::from_parts(number, payload))?;
+        self.waiting.push(Forward { number, payload })?;
         Ok(true)
     }
 
@@ -76,7 +74,7 @@ impl Queue {
         let ordered = self.ordered;
         self.waiting
             .iter()
-            .position(|forward| follows(ordered, forward.number()))
+            .position(|forward| follows(ordered, forward.number))
     }
 
     /// Whether the next message waits.
@@ -86,7 +84,7 @@ impl Queue {
         let ordered = self.ordered;
         self.waiting
             .iter()
-            .any(|forward| follows(ordered, forward.number()))
+            .any(|forward| follows(ordered, forward.number))
     }
 
     /// Takes out the next message, where it waits, and counts it as ordered.
@@ -95,10 +93,13 @@ impl Queue {
         ensures after { MatchOption result (self.new ≡ self.old) (λ _. self.new ≡ served self.old) }
     {
         let place = self.next_place()?;
-        let forward = self.waiting.remove(place);
-        let number = forward.number();
+        let Forward { number, payload } = self.waiting.remove(place);
         self.ordered = number;
-        Some(Entry::from_parts(self.sender, number, forward.into_payload()))
+        Some(Entry {
+            sender: self.sender,
+            number,
+            payload,
+        })
     }
 }
 

@@ -21,7 +21,11 @@ pub(crate) fn entry_at<'a>(from: &mut Reader<'a>) -> Result<Entry<'a>, WireError
     let sender = from.address()?;
     let number = number_at(1, GREATEST_NUMBER, from)?;
     let payload = payload_at(from)?;
-    Ok(Entry::new(sender, number, payload))
+    Ok(Entry {
+        sender,
+        number,
+        payload,
+    })
 }
 
 /// The entries of an INSTALL in lent bytes, spelled one behind the other. Contracts see them as a list.

@@ -30,7 +30,11 @@ fn has_length(alloc: Global, body: Body<'_>, kind: u8, length: usize) -> bool {
 fn put(value: u64, has_place: bool, out: &mut Vec<u8>) -> Option<()> {
     let number = Number::new(value)?;
     let payload = [7u8; 512];
-    let entry = Entry::new(address(1, 1), number, Payload::new(&payload)?);
+    let entry = Entry {
+        sender: address(1, 1),
+        number,
+        payload: Payload::new(&payload)?,
+    };
     let place = if has_place { Some(number) } else { None };
     put_entry(place, &entry, out).ok()
 }

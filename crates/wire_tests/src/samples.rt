@@ -107,7 +107,11 @@ pub fn entry(value: u64, payload: &[u8]) -> Entry<'_>
     requires high { value ≤ 2 ^ 62 }
     requires short { length payload.now ≤ 512 }
 {
-    Entry::new(address(1, 1), number(value), Payload::new(payload).unwrap())
+    Entry {
+        sender: address(1, 1),
+        number: number(value),
+        payload: Payload::new(payload).unwrap(),
+    }
 }
 
 /// The number with which bytes are refused; 0 where they are a packet.

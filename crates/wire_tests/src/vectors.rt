@@ -139,9 +139,7 @@ fn each_kind_is_read(rt: HostRuntime) {
 fn holds(held: &mut Held<'_>, place: u64, number: u64, payload: &[u8]) -> bool {
     match held.take_first() {
         Some((at, entry)) => {
-            at.get() == place
-                && entry.number().get() == number
-                && entry.payload().as_slice() == payload
+            at.get() == place && entry.number.get() == number && entry.payload.as_slice() == payload
         }
         None => false,
     }

@@ -102,9 +102,9 @@ fn put_entry_text(entry: &Entry<'_>, out: &mut Vec<u8>)
     ensures room { vec_capacity out.old ≤ vec_capacity out.new }
     ensures fits { IsEntry entry.now }
 {
-    put_address(entry.sender(), out);
-    put_u64(entry.number().get(), out);
-    put_payload(entry.payload(), out);
+    put_address(entry.sender, out);
+    put_u64(entry.number.get(), out);
+    put_payload(&entry.payload, out);
 }
 
 /// Appends an entry's spelling to the vector: for a REPORT with its place in the order before it, for an
@@ -119,7 +119,7 @@ pub fn put_entry(
     ensures entry { OnOk result (IsEntry entry.now) }
     ensures place { OnOk result (IfSome place IsNumber) }
 {
-    out.reserve(24 + entry.payload().as_slice().len())?;
+    out.reserve(24 + entry.payload.as_slice().len())?;
     if let Some(place) = place {
         put_u64(place.get(), out);
     }
@@ -434,7 +434,7 @@ fn body_len(body: &Body<'_>) -> usize
         Body::Redirect(_) => 6,
         Body::Leave => 0,
         Body::Forward { payload, .. } => 24 + payload.as_slice().len(),
-        Body::Order { entry, .. } => 38 + entry.payload().as_slice().len(),
+        Body::Order { entry, .. } => 38 + entry.payload.as_slice().len(),
         Body::Nak { .. } => 30,
         Body::Ack { .. } => 22,
         Body::Status { .. } => 30,
