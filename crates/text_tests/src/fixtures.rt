@@ -1,7 +1,6 @@
 ghost use Rattle.std.specs.Prelude.{◌≤◌};
 
 use address::{Address, Node};
-use script_reader::Unread;
 use std::alloc::{AllocError, Global};
 
 /// The address of an incarnation at a node.
@@ -10,17 +9,6 @@ pub fn address(node: u16, incarnation: u32) -> Address
     requires incarnation { 1 ≤ incarnation }
 {
     Address::new(Node::new(node).unwrap(), incarnation).unwrap()
-}
-
-/// Why a text is not read, as a text of its own.
-pub fn fault_text(alloc: Global, unread: Unread) -> Result<String, AllocError> {
-    match unread {
-        Unread::Memory => String::from_str(alloc, "memory"),
-        Unread::Fault { line, fault } => {
-            let number = fault.number();
-            format!(in alloc; "fault {line} {number}")
-        }
-    }
 }
 
 /// A text, and so many copies of a byte behind it.

@@ -1,35 +1,36 @@
-use crate::fixtures::{address, fault_text, with_copies};
+use crate::fixtures::{address, with_copies};
 use script_reader::Unread;
-use std::alloc::{AllocError, Global};
-use trace_props::{Delivery, Happening, Install, Numbered, Trace};
+use std::alloc::Global;
+use trace_props::{Delivery, Happening, Install, Numbered};
 use trace_reader::{TRACE_LINE, read_trace, reads_what_is_written};
 use vsync_text::append_happening;
 
-/// The happenings of a trace, printed again.
-fn printed(alloc: Global, trace: &Trace) -> Result<String, AllocError> {
-    let mut text = Vec::new(alloc);
+/// Whether a text is read, and printed again as this.
+fn says(alloc: Global, text: &[u8], want: &[u8]) -> bool {
+    let Ok(trace) = read_trace(alloc, text) else {
+        return false;
+    };
+    let mut printed = Vec::new(alloc);
     for happening in trace.happenings() {
-        append_happening(&mut text, happening)?;
+        if append_happening(&mut printed, happening).is_err() {
+            return false;
+        }
     }
-    String::from_utf8_lossy(alloc, text.as_slice())
+    printed.as_slice() == want
 }
 
-/// Whether a text is read, and printed again as this, or is refused with this fault.
-fn says(alloc: Global, text: &[u8], want: &str) -> bool {
-    let said = match read_trace(alloc, text) {
-        Ok(trace) => printed(alloc, &trace),
-        Err(unread) => fault_text(alloc, unread),
-    };
-    match said {
-        Ok(said) => said.as_str() == want,
-        Err(_) => false,
+/// Whether a text is refused with a fault of this line, under this number.
+fn is_refused(alloc: Global, text: &[u8], wanted: u64, number: u8) -> bool {
+    match read_trace(alloc, text) {
+        Err(Unread::Fault { line, fault }) => line == wanted && fault.number() == number,
+        _ => false,
     }
 }
 
 /// Whether each of these texts is read, and printed again as it stands.
 fn are_read_whole(alloc: Global, texts: &[&str]) -> bool {
     for text in texts {
-        if !says(alloc, text.as_bytes(), *text) {
+        if !says(alloc, text.as_bytes(), text.as_bytes()) {
             return false;
         }
     }
@@ -37,7 +38,7 @@ fn are_read_whole(alloc: Global, texts: &[&str]) -> bool {
 }
 
 // Lines that are refused stand as text in the sections `check` of the crate `worked`.
-const WHOLE: [&str; 10] = [
+const WHOLE: [&str; 12] = [
     "",
     "started 1.1\n",
     "sent 1.1 7@3.1 1 6869\n",
@@ -48,6 +49,8 @@ const WHOLE: [&str; 10] = [
     "installed 1.1 - 1@1.1 1.1 1.1 - -\n",
     "installed 2.1 6@2.1 7@3.1 3.1,2.1 2.1,9.9 4:6869,4:,2:00 =\n",
     "installed 2.1 6@2.1 7@3.1 3.1 2.1 1: =0aff\n",
+    "installed 3.4294967295 3@1.1 4@2.1 2.1,3.4294967295 2.1,3.4294967295 1:,4611686018427387904:00af =00\n",
+    "sent 2.1 4@2.1 9 -\n",
 ];
 
 #[test]
@@ -58,9 +61,9 @@ fn each_line_is_read_and_printed(rt: HostRuntime) {
 #[test]
 fn lines_are_skipped_and_counted(rt: HostRuntime) {
     let text = b"# refused 3 5\n\nstarted 1.1\n#\n\nleft 1.1";
-    assert!(rt; says(rt.alloc(), text, "started 1.1\nleft 1.1\n"));
+    assert!(rt; says(rt.alloc(), text, b"started 1.1\nleft 1.1\n"));
     let late = b"#\n\nstarted 1.1\n\xff\nfly 1\n";
-    assert!(rt; says(rt.alloc(), late, "fault 4 40"));
+    assert!(rt; is_refused(rt.alloc(), late, 4, 40));
 }
 
 const VIEWS: [&str; 2] = [
@@ -97,7 +100,7 @@ fn payloads_have_a_limit(rt: HostRuntime) {
 /// Whether a front with so many digits behind it is too long.
 fn is_too_long(alloc: Global, front: &[u8], digits: usize) -> bool {
     match with_copies(alloc, front, b'0', digits) {
-        Ok(text) => says(alloc, &text, "fault 1 43"),
+        Ok(text) => is_refused(alloc, &text, 1, 43),
         Err(_) => false,
     }
 }
