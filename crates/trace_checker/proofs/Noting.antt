@@ -2,7 +2,7 @@
 use Rattle.std.proofs.Common.{◌≡◌, ℕ, ◌+◌, Bool, true, false, ◌&&◌, cond, List, [], ◌∷◌, ◌++◌, length, Option, Some, None, Vec, Bor, is_some, is_eq, find, unwrap_or, MatchBool, sym, refl, ap, ap₂, ◌∙◌, subst}
 use Rattle.std.specs.Option.{option_or, option_copied}
 use Rattle.std.proofs.lemmas.Bool.{and_parts, and_right, true≢false}
-use Rattle.std.proofs.lemmas.List.{length_push, map-append}
+use Rattle.std.proofs.lemmas.List.{length_push}
 use Rattle.std.proofs.lemmas.Option.{none-some, same_Some}
 use Rattle.address.specs.Ids.{Address, ViewId, same_address, same_view_id, view_id_cmp}
 use Rattle.trace_props.specs.declared.happening.Happening.{Happening}
@@ -18,7 +18,7 @@ use Rattle.trace_checker.specs.declared.known.seat.Way.{Way}
 use Rattle.trace_props.specs.Observed.{numbered, told, said, delivered_in, sent_in, own, install_of, installs_in}
 use Rattle.trace_props.specs.Following.{MayCarry}
 use Rattle.trace_props.specs.Agreeing.{is_view, goes, first_from}
-use Rattle.trace_checker.specs.Known.{sending_of, delivery_of, listed, seat_cmp, same_seat, same_pair, way_cmp, same_way, pointed, KnowsSent, KnowsTold, KnowsLast, KnowsEntries, KnowsFirsts, KnowsWays}
+use Rattle.trace_checker.specs.Known.{sending_of, delivery_of, listed, seat_cmp, same_seat, same_pair, way_cmp, same_way, KnowsSent, KnowsTold, KnowsLast, KnowsEntries, KnowsFirsts, KnowsWays}
 use Rattle.trace_props.proofs.Observing.{same_address-true, same_view_id-true}
 use Rattle.trace_props.proofs.Telling.{told_to, told_to-true, delivered_in-still, delivered_in-hit, delivered_in-miss, sent_in-still, sent_in-hit, sent_in-miss, own-hit, own-miss, enters, is_of, register-still, register-push, install_of-some}
 use Rattle.trace_props.proofs.Comparing.{is_eq-then, is_eq-view_id}
@@ -294,13 +294,3 @@ a-way m n t h i u v e came same updates r =
 
 pub no-way-from : (m : Way → Option (Bor Install)) (t : List Happening) (h : Happening) (i : Bor Install) → Some i.now ≡ install_of h → i.now.previous ≡ None → KnowsWays m t → KnowsWays m (t ++ h ∷ [])
 no-way-from m t h i e none r = subst (λ (x : Happening). KnowsWays m (t ++ x ∷ [])) (sym (install_of-some h i.now (sym e))) (way-none m t i.now none r)
-
--- ALL THAT IS KEPT
-
--- what is known of what references point to goes on to one more of them
-pub knows-pushed : (Before After : List Happening → Type 0) (past : List Happening) (items more : List (Bor Happening)) (h : Bor Happening) → past ≡ pointed items → more ≡ items ++ h ∷ []
-    → MayCarry past h.now → ((t : List Happening) → MayCarry t h.now → Before t → After (t ++ h.now ∷ [])) → Before (pointed items) → After (pointed more)
-knows-pushed Before After past items more h is pushed may on known =
-    subst (λ (l : List (Bor Happening)). After (pointed l)) (sym pushed)
-    (subst After (sym (map-append (λ b. b.now) items (h ∷ [])))
-    (on (pointed items) (subst (λ (t : List Happening). MayCarry t h.now) is may) known))
