@@ -7,7 +7,6 @@ use Rattle.std.proofs.lemmas.Option.{none-some, same_Some}
 use Rattle.std.proofs.lemmas.List.{append-nil}
 use Rattle.address.specs.Ids.{Address, ViewId, same_address}
 use Rattle.view.specs.Members.{View, stands_in}
-use Rattle.packet_values.specs.Values.{Entry}
 use Rattle.wire.specs.Values.{Report}
 use Rattle.wire.specs.Values as wire
 use Rattle.trace_props.specs.declared.happening.Happening.{Happening}

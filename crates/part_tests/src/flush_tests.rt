@@ -53,28 +53,22 @@ fn is_complete(flush: &mut Flush, node: u16) -> bool
     stands(flush, node, Some(Report::nothing()), Progress::Complete)
 }
 
-/// The one byte of an entry's payload; 0 where there is no such entry, and 1 where it has other bytes.
-fn byte_of(entry: Option<&Entry<'_>>) -> u8 {
-    match entry {
-        Some(entry) => match entry.payload.as_slice() {
-            [byte] => *byte,
-            _ => 1,
-        },
-        None => 0,
+/// Whether these are the only entries, each with one byte as its payload.
+fn are(entries: &[Entry<'_>], bytes: &[u8]) -> bool {
+    for (entry, byte) in entries.iter().zip(bytes) {
+        if entry.payload.as_slice() != [*byte].as_slice() {
+            return false;
+        }
     }
+    entries.len() == bytes.len()
 }
 
-/// Whether the cut of a view has this base and entries with these bytes, up to the first 0.
-fn cuts(flush: &Flush, alloc: Global, view: Option<ViewId>, base: u64, bytes: [u8; 4]) -> bool {
-    let Ok(cut) = flush.cut(alloc, &view) else {
-        return false;
-    };
-    let [first, second, third, fourth] = bytes;
-    cut.base.get() == base
-        && byte_of(cut.entries.get(0)) == first
-        && byte_of(cut.entries.get(1)) == second
-        && byte_of(cut.entries.get(2)) == third
-        && byte_of(cut.entries.get(3)) == fourth
+/// Whether the cut of a view has this base and entries with these bytes.
+fn cuts(flush: &Flush, alloc: Global, view: Option<ViewId>, base: u64, bytes: &[u8]) -> bool {
+    match flush.cut(alloc, &view) {
+        Ok(cut) => cut.base.get() == base && are(&cut.entries, bytes),
+        Err(_) => false,
+    }
 }
 
 /// Whether those together with a node are the first addresses of these nodes.
@@ -119,7 +113,7 @@ fn cuts_at_the_hole(alloc: Global) -> bool {
     stands(&mut flush, 1, report(3, 2, 3, &one), Progress::Waiting)
         && stands(&mut flush, 2, report(3, 0, 1, &two), Progress::Waiting)
         && stands(&mut flush, 3, report(3, 1, 2, &three), Progress::Complete)
-        && cuts(&flush, alloc, Some(view_id(3)), 2, [30, 40, 0, 0])
+        && cuts(&flush, alloc, Some(view_id(3)), 2, &[30, 40])
 }
 
 #[test]
@@ -136,10 +130,10 @@ fn cuts_each(alloc: Global) -> bool {
     stands(&mut flush, 1, report(3, 0, 1, &one), Progress::Waiting)
         && stands(&mut flush, 2, report(4, 5, 5, &two), Progress::Waiting)
         && is_complete(&mut flush, 3)
-        && cuts(&flush, alloc, Some(view_id(3)), 0, [10, 0, 0, 0])
-        && cuts(&flush, alloc, Some(view_id(4)), 5, [60, 0, 0, 0])
-        && cuts(&flush, alloc, None, 0, [0; 4])
-        && cuts(&flush, alloc, Some(view_id(5)), 0, [0; 4])
+        && cuts(&flush, alloc, Some(view_id(3)), 0, &[10])
+        && cuts(&flush, alloc, Some(view_id(4)), 5, &[60])
+        && cuts(&flush, alloc, None, 0, &[])
+        && cuts(&flush, alloc, Some(view_id(5)), 0, &[])
 }
 
 #[test]
@@ -156,7 +150,7 @@ fn cuts_what_came_first(alloc: Global) -> bool {
     let one = [spelled(1, 11), spelled(2, 12), spelled(3, 13)];
     stands(&mut flush, 2, report(3, 0, 1, &two), Progress::Waiting)
         && stands(&mut flush, 1, report(3, 0, 2, &one), Progress::Complete)
-        && cuts(&flush, alloc, Some(view_id(3)), 0, [21, 22, 13, 0])
+        && cuts(&flush, alloc, Some(view_id(3)), 0, &[21, 22, 13])
 }
 
 #[test]

@@ -9,6 +9,8 @@ mod fields;
 #[cfg(test)]
 mod fixtures;
 #[cfg(test)]
+mod lines;
+#[cfg(test)]
 mod runs;
 #[cfg(test)]
 mod scripts;

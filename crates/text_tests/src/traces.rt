@@ -1,7 +1,9 @@
 use crate::fixtures::{address, with_copies};
+use chat_log::ChatLog;
 use script_reader::Unread;
 use std::alloc::Global;
-use trace_props::{Delivery, Happening, Install, Numbered};
+use trace_checker::check;
+use trace_props::{Delivery, Happening, Install, Numbered, Rule, Verdict};
 use trace_reader::{TRACE_LINE, read_trace, reads_what_is_written};
 use vsync_text::append_happening;
 
@@ -177,4 +179,35 @@ fn are_two_or_refused(alloc: Global, text: &[u8]) -> bool {
 fn refused_memory_is_told(rt: HostRuntime) {
     assert!(rt; are_two_or_refused(rt.alloc(), b"sent 1.1 1@1.1 1 6869\nleft 1.1\n"));
     reads_what_is_written();
+}
+
+/// The verdict on the trace of a text; none where there is no such trace, or memory was refused.
+fn verdict_on(alloc: Global, text: &[u8]) -> Option<Verdict> {
+    let trace = read_trace(alloc, text).ok()?;
+    check::<ChatLog>(alloc, &trace).ok()
+}
+
+// What each rule refuses and what it lets pass stands as text in the sections `check` of the crate `worked`.
+#[test]
+fn traces_are_judged(rt: HostRuntime) {
+    let unstarted = Verdict::Breaks {
+        rule: Rule::WellPlaced,
+        place: 2,
+    };
+    assert!(rt;
+        verdict_on(
+            rt.alloc(),
+            b"started 1.1
+left 1.1
+"
+        ) == Some(Verdict::Holds)
+    );
+    assert!(rt;
+        verdict_on(
+            rt.alloc(),
+            b"started 1.1
+left 2.1
+"
+        ) == Some(unstarted)
+    );
 }

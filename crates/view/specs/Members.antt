@@ -1,5 +1,5 @@
 -- Lists of addresses, and the view as contracts see it.
-use Rattle.std.specs.Prelude.{ℕ, Bool, true, false, Option, List, [], ◌∷◌, ◌&&◌, position, not}
+use Rattle.std.specs.Prelude.{ℕ, Bool, true, Option, List, [], ◌∷◌, ◌&&◌, position, not}
 use Rattle.std.specs.List.{list_any}
 use Rattle.address.specs.Ids.{Address, ViewId, same_address}
 

@@ -1,5 +1,5 @@
 -- Which lists of members are views of an id.
-use Rattle.std.specs.Prelude.{ℕ, Bool, List, Option, None, Some, length, slice_get, nat_lt, nat_eq, if◌then◌else◌, MatchOption, not, unwrap_or}
+use Rattle.std.specs.Prelude.{ℕ, Bool, List, Option, None, Some, length, slice_get, nat_lt, nat_eq, if◌then◌else◌, not}
 use Rattle.std.specs.Option.{option_map_or}
 use Rattle.address.specs.Ids.{Address, ViewId, same_address}
 use Rattle.view.specs.Members.{is_distinct}

@@ -21,7 +21,7 @@ fn kind_of(bytes: &[u8]) -> u8 {
 fn reading(rt: &HostRuntime, bytes: &[u8], kinds: &mut u8) -> io::Result<u128> {
     let start = Instant::now(rt)?;
     for _ in 0..ROUNDS {
-        *kinds ^= kind_of(bytes);
+        *kinds = kinds.wrapping_add(kind_of(bytes));
     }
     Ok(start.elapsed(rt)?.as_nanos() / 20_000)
 }
@@ -42,7 +42,7 @@ fn copying(rt: &HostRuntime, bytes: &[u8], out: &mut Vec<u8>, kinds: &mut u8) ->
     for _ in 0..ROUNDS {
         out.clear();
         out.extend_from_slice(bytes)?;
-        *kinds ^= out.last().copied().unwrap_or(0);
+        *kinds = kinds.wrapping_add(out.last().copied().unwrap_or(0));
     }
     Ok(start.elapsed(rt)?.as_nanos() / 20_000)
 }

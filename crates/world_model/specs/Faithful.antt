@@ -1,5 +1,5 @@
 -- When a history is faithful: each event has the answer and the happenings that the table of events gives it.
-use Rattle.std.specs.Prelude.{◌≡◌, ℕ, ◌+◌, ◌-◌, ◌<◌, ◌^◌, ◌⊎◌, Bool, true, false, ◌&&◌, ◌∷◌, [], ◌++◌, Option, None, Some, List, length, nat_eq, nat_lt, nat_le, MatchOption, MatchBool, drop, slice_get, if◌then◌else◌}
+use Rattle.std.specs.Prelude.{◌≡◌, ℕ, ◌+◌, ◌-◌, ◌<◌, ◌^◌, ◌⊎◌, Bool, true, false, ◌&&◌, ◌∷◌, [], None, List, length, nat_lt, nat_le, MatchOption, MatchBool, drop, if◌then◌else◌}
 use Rattle.std.specs.Option.{option_map_or, ForSome}
 use Rattle.std.specs.List.{list_all, Contains}
 use Rattle.address.specs.Ids.{Address, ViewId, same_address}

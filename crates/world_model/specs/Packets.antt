@@ -1,5 +1,5 @@
 -- The packets of a world: the pool of all that was put out, and to whom one of them goes.
-use Rattle.std.specs.Prelude.{ℕ, ◌-◌, List, [], ◌∷◌, Option, None, Some, Result, Ok, Err, codes, nat_eq, slice_get, if◌then◌else◌}
+use Rattle.std.specs.Prelude.{ℕ, ◌-◌, List, Option, None, Some, Result, Ok, Err, codes, nat_eq, slice_get, if◌then◌else◌}
 use Rattle.std.specs.Option.{option_and_then}
 use Rattle.address.specs.Ids.{Address}
 use Rattle.wire.specs.declared.error.WireError.{WireError}

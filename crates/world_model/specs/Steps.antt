@@ -5,9 +5,9 @@ use Rattle.address.specs.Ids.{Address, ViewId}
 use Rattle.trace_props.specs.declared.happening.Happening.{Happening}
 use Rattle.trace_props.specs.Observed.{current_view}
 use Rattle.world_model.specs.declared.WorldEvent.{WorldEvent}
-use Rattle.world_model.specs.declared.WorldEvent.TheVariants.{Start, Create, Join, Send, Deliver, Tick, Leave, Crash}
+use Rattle.world_model.specs.declared.WorldEvent.TheVariants.{Join, Deliver, Tick}
 use Rattle.world_model.specs.declared.Answer.{Answer}
-use Rattle.world_model.specs.declared.Answer.TheVariants.{Done, Sent, Refused}
+use Rattle.world_model.specs.declared.Answer.TheVariants.{Done}
 use Rattle.world_model.specs.Histories.{History, running, contact_of, after, no_history}
 use Rattle.world_model.specs.Packets.{join_packet}
 

@@ -1,5 +1,4 @@
 use Rattle.std.proofs.Common.{rules}
-use Rattle.std.proofs.lemmas.Grind.{common_steps}
 use Rattle.stability.proofs.Acks.new.Goals as goal
 
 pub returns-in_err-collect : goal.returns-in_err-collect

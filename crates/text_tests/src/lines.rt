@@ -1,0 +1,86 @@
+use crate::fixtures::address;
+use address::ViewId;
+use std::alloc::{AllocError, Global};
+use trace_props::{Bytes, Delivery, HandedBack, Happening, Install, Message, Numbered, Sending};
+use view::{Addresses, View};
+use vsync_text::append_happening;
+
+// Happenings made by hand, so that no error of a reader stands against one of the writer.
+
+/// The addresses 2.1 and 3.4294967295.
+fn both(alloc: Global) -> Option<Addresses> {
+    let members = vec![in alloc; address(2, 1), address(3, 4_294_967_295)].ok()?;
+    Some(Addresses::from_vec(members))
+}
+
+/// The message 9 with a payload, handed back.
+fn nine_back(alloc: Global, payload: Bytes) -> Option<HandedBack> {
+    let messages = vec![in alloc; Numbered { number: 9, payload }].ok()?;
+    Some(HandedBack::from_vec(messages))
+}
+
+/// The install of 4@2.1 behind 3@1.1, with a field of each kind.
+fn install(alloc: Global) -> Option<Happening> {
+    let view = View::new(ViewId::new(4, address(2, 1))?, both(alloc)?).ok()?;
+    let together = both(alloc)?;
+    let handed_back = nine_back(alloc, Bytes::from_slice(alloc, b"\x00\xaf").ok()?)?;
+    Some(Happening::Installed(Install {
+        member: address(3, 4_294_967_295),
+        previous: ViewId::new(3, address(1, 1)),
+        view,
+        together,
+        handed_back,
+        given: Some(Bytes::from_slice(alloc, b"\x00").ok()?),
+    }))
+}
+
+/// The sending of an empty message 9 by 2.1, in its first view.
+fn sending(alloc: Global) -> Option<Happening> {
+    let payload = Bytes::from_slice(alloc, b"").ok()?;
+    Some(Happening::Sent(Sending {
+        member: address(2, 1),
+        view: ViewId::first_of(address(2, 1)),
+        message: Numbered { number: 9, payload },
+    }))
+}
+
+/// The delivery of 9 of 2.1 to 1.10, in the first view of 2.1.
+fn delivery(alloc: Global) -> Option<Happening> {
+    let payload = Bytes::from_slice(alloc, b"hi").ok()?;
+    Some(Happening::Delivered(Delivery {
+        member: address(1, 10),
+        view: ViewId::first_of(address(2, 1)),
+        message: Message {
+            sender: address(2, 1),
+            number: 9,
+            payload,
+        },
+    }))
+}
+
+/// Whether a happening is there, and is appended as this line.
+fn is_appended(alloc: Global, happening: Option<Happening>, want: &str) -> bool {
+    let mut out = Vec::new(alloc);
+    match happening {
+        Some(happening) => {
+            append_happening(&mut out, &happening).is_ok() && out.as_slice() == want.as_bytes()
+        }
+        None => false,
+    }
+}
+
+#[test]
+fn happenings_are_printed(rt: HostRuntime) {
+    let alloc = rt.alloc();
+    let all = "installed 3.4294967295 3@1.1 4@2.1 2.1,3.4294967295 2.1,3.4294967295 9:00af =00\n";
+    assert!(rt;
+        is_appended(alloc, install(alloc), all)
+            && is_appended(alloc, sending(alloc), "sent 2.1 1@2.1 9 -\n")
+            && is_appended(alloc, delivery(alloc), "delivered 1.10 1@2.1 2.1 9 6869\n")
+            && is_appended(
+                alloc,
+                Some(Happening::Blocked(address(9, 1))),
+                "blocked 9.1\n"
+            )
+    );
+}
