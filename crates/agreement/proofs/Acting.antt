@@ -60,9 +60,9 @@ module _ {S : Type 0} (opening : S) (apply : S → Address → List ℕ → S) (
   pub sends-keeps : (v : View) (payload : List ℕ) → Keeps (Sends v payload)
   sends-keeps v payload = at-own (Sends v payload) (λ s c which i x a. sends-keep opening apply encode decode is_state s c v payload i x a)
 
-  pub queues-keeps : (v : View) (e : Entry) → Keeps (Queues v e)
-  queues-keeps v e = at-own (Queues v e) (λ s c which i x a.
-      still-keeps opening apply encode decode is_state s c.me _ i (queues-fact opening apply decode is_state s.history c which v e i.trace i.packets x a))
+  pub queues-keeps : (v : View) (e : Entry) (waiting : List Entry) → Keeps (Queues v e waiting)
+  queues-keeps v e waiting = at-own (Queues v e waiting) (λ s c which i x a.
+      still-keeps opening apply encode decode is_state s c.me _ i (queues-fact opening apply decode is_state s.history c which v e waiting i.trace i.packets x a))
 
   pub hears-keeps : (v : View) (q : Address) (n : ℕ) → Keeps (Hears v q n)
   hears-keeps v q n = at-own (Hears v q n) (λ s c which i x a.

@@ -1,12 +1,12 @@
 -- The story of the crash of the first plays: each of its steps is allowed after those before, and the trace is the one that is told.
-use Rattle.std.proofs.Common.{◌≡◌, ℕ, zero, suc, ◌+◌, cond, Option, Some, None, List, [], ◌∷◌, ◌++◌, refl, sym, ◌∙◌, arith}
+use Rattle.std.proofs.Common.{◌≡◌, ℕ, zero, suc, ◌+◌, cond, Option, Some, None, List, [], ◌∷◌, ◌++◌, refl, sym, ◌∙◌, arith, inl}
 use Rattle.std.specs.Prelude.{IsSome, slice_get, nat_eq}
 use Rattle.std.proofs.lemmas.Option.{none-some}
 use Rattle.std.proofs.lemmas.Bool.Decides.{nat_tests}
 use Rattle.address.specs.Ids.{Address}
-use Rattle.packet_values.specs.Values.{Entry}
+use Rattle.packet_values.specs.Values.{Entry, held_at}
 use Rattle.wire.specs.Values.{Report}
-use Rattle.flush.specs.Cuts.{held_at, held_among, greatest_stable, IsCut}
+use Rattle.flush.specs.Cuts.{held_among, greatest_stable, IsCut}
 use Rattle.flush.specs.Flushes.{group}
 use Rattle.trace_props.specs.Rules.{IsBelow}
 use Rattle.agreement.specs.Acts.{HoldsMore, All}
@@ -14,7 +14,7 @@ use Rattle.agreement.specs.Steps.{System, Step}
 use Rattle.agreement.specs.Stories.{view_of_three, view_of_rest, held_first, told_first}
 use Rattle.agreement.specs.CrashStory.{entry_a, entry_b, held_both, told_both, rest_reports, both_cuts, messages_chapter, crash_chapter, CrashPlays}
 use Rattle.agreement.proofs.Playing as playing
-use Rattle.agreement.proofs.Playing.{◌▸◌, for-none, for-some, holds-first, keeps-all, at-least-none, none-waits, all-reported, Each, HasCut, cuts-of}
+use Rattle.agreement.proofs.Playing.{all-wait, ◌▸◌, for-none, for-some, holds-first, keeps-all, at-least-none, none-waits, all-reported, Each, HasCut, cuts-of}
 
 both-now : (k : ℕ) → held_at k held_both ≡ cond (nat_eq k 2) (Some entry_b) (held_at k (held_first entry_a))
 both-now zero = refl
@@ -55,14 +55,14 @@ module _ {S : Type 0} (opening : S) (apply : S → Address → List ℕ → S) (
   messages-run : Runs fourth_system messages_chapter
   messages-run =
       record { open_in = record { view = refl; installed = refl }; short = omega arith }
-      ▸ record { open_in = record { view = refl; installed = refl }; first = refl; member = refl; new = omega arith; sent = (0, omega arith, refl) }
+      ▸ record { open_in = record { view = refl; installed = refl }; first = refl; member = refl; new = omega arith; sent = (0, omega arith, refl); fewer = all-wait (entry_a ∷ []) }
       ▸ record { open_in = record { view = refl; installed = refl }; first = refl; waits = (0, omega arith, refl); next = refl; room = omega arith; fewer = none-waits (entry_a ∷ []); more = holds-first entry_a }
       ▸ (refl, refl, refl)
       ▸ (refl, refl, refl)
       ▸ record { open_in = record { view = refl; installed = refl }; first = refl; member = refl; told = omega arith }
       ▸ record { open_in = record { view = refl; installed = refl }; told = omega arith; stable = All refl (λ q listed. at-least-none _); fewer = keeps-all (held_first entry_a) refl }
       ▸ record { open_in = record { view = refl; installed = refl }; short = omega arith }
-      ▸ record { open_in = record { view = refl; installed = refl }; first = refl; member = refl; new = omega arith; sent = (0, omega arith, refl) }
+      ▸ record { open_in = record { view = refl; installed = refl }; first = refl; member = refl; new = omega arith; sent = (0, omega arith, refl); fewer = all-wait (entry_b ∷ []) }
       ▸ record { open_in = record { view = refl; installed = refl }; first = refl; waits = (0, omega arith, refl); next = refl; room = omega arith; fewer = none-waits (entry_b ∷ []); more = holds-both }
       ▸ (refl, refl, refl)
       ▸ (refl, refl, refl)
@@ -83,7 +83,7 @@ module _ {S : Type 0} (opening : S) (apply : S → Address → List ℕ → S) (
   crash-runs =
       refl
       ▸ record { inside = refl; own = refl; above = for-some (λ p. IsBelow p.id view_of_rest.id) view_of_three refl; view = refl }
-      ▸ record { asked = refl; listed = refl; connected = refl; above = for-some (λ p. IsBelow p.id view_of_rest.id) view_of_three refl }
+      ▸ record { asked = refl; listed = refl; connected = refl; above = inl (for-some (λ p. IsBelow p.id view_of_rest.id) view_of_three refl) }
       ▸ record { flush = refl; told = refl; listed = refl; new = refl }
       ▸ record { view = refl; flush = refl; all = all-reported rest_reports; cut = cuts-of rest_reports both_cuts rest-cuts }
       ▸ record { asked = refl; promised = refl; waiting = refl; fits = omega arith; readable = for-none (λ bytes. IsSome (decode bytes)) }

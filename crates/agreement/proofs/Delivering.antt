@@ -10,8 +10,7 @@ use Rattle.std.proofs.lemmas.List.Sums.{fold-append}
 use Rattle.address.specs.Ids.{Address, ViewId, IsAddress, same_address}
 use Rattle.view.specs.Members.{View}
 use Rattle.packet_values.specs.declared.limits.TheConstants.{PAYLOAD}
-use Rattle.packet_values.specs.Values.{Entry}
-use Rattle.flush.specs.Cuts.{held_at}
+use Rattle.packet_values.specs.Values.{Entry, held_at}
 use Rattle.trace_props.specs.declared.happening.Happening.{Happening}
 use Rattle.trace_props.specs.declared.happening.Happening.TheVariants.{Delivered}
 use Rattle.trace_props.specs.declared.happening.Delivery.{Delivery}

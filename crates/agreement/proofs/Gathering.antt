@@ -9,10 +9,9 @@ use Rattle.std.proofs.lemmas.Option.{none-some, same_Some}
 use Rattle.address.specs.Ids.{Address, ViewId, same_address}
 use Rattle.view.specs.Members.{View, stands_in}
 use Rattle.packet_values.specs.declared.limits.TheConstants.{WINDOW}
-use Rattle.packet_values.specs.Values.{Entry}
+use Rattle.packet_values.specs.Values.{Entry, held_at}
 use Rattle.wire.specs.Values.{Report}
 use Rattle.wire.specs.declared.packet.Body.TheVariants as bodies
-use Rattle.flush.specs.Cuts.{held_at}
 use Rattle.flush.specs.Flushes.{FlushModel}
 use Rattle.trace_props.specs.declared.happening.Happening.{Happening}
 use Rattle.trace_props.specs.declared.happening.Install.{Install}
@@ -95,18 +94,19 @@ queued-by true h c which v e test each numbers sent out k number =
 queued-by false h c which v e test each numbers sent came k number = (said-of h c which e.sender (bodies.Forward v.id e.number e.payload) each came).fact k number
 
 pub queues-fact : {S : Type 0} (opening : S) (apply : S → Address → List ℕ → S) (decode : List ℕ → Option S) (is_state : S → Type 0) (h : History) (c : Core S) (which : Option ℕ) (v : View)
-    (e : Entry) → TraceFact opening apply decode h → EachPacket h → MemberFact opening apply decode is_state h c.me c → MayQueue (came_of c h.pool which) c v e
-    → MemberFact opening apply decode is_state h c.me (with_traffic (record c.traffic { waiting = c.traffic.waiting ++ e ∷ [] }) c)
-queues-fact opening apply decode is_state h c which v e trace each x a =
+    (e : Entry) (waiting : List Entry) → TraceFact opening apply decode h → EachPacket h → MemberFact opening apply decode is_state h c.me c
+    → MayQueue (came_of c h.pool which) c v e waiting → MemberFact opening apply decode is_state h c.me (with_traffic (record c.traffic { waiting = waiting }) c)
+queues-fact opening apply decode is_state h c which v e waiting trace each x a =
     let f = x.view v a.open_in.view in
     let sent = queued-by (same_address e.sender c.me) h c which v e refl each ((rules-of opening apply decode h trace).ordered.messages.numbers c.me v.id) f.mine.sent a.sent in
-    open-fact opening apply decode is_state h c.me c v (record c.traffic { waiting = c.traffic.waiting ++ e ∷ [] }) x a.open_in (record {
+    let all = slice_get-split (IsSent h.trace v.id) c.traffic.waiting (e ∷ []) f.waiting (slice_get-one (IsSent h.trace v.id) e sent) in
+    open-fact opening apply decode is_state h c.me c v (record c.traffic { waiting = waiting }) x a.open_in (record {
       inside = f.inside;
       counts = f.counts;
       mine = f.mine;
       window = f.window;
       acks = f.acks;
-      waiting = slice_get-split (IsSent h.trace v.id) c.traffic.waiting (e ∷ []) f.waiting (slice_get-one (IsSent h.trace v.id) e sent);
+      waiting = λ n z at. let was = place-of (c.traffic.waiting ++ e ∷ []) z (a.fewer n z at) in all was.0 z was.1;
       ordered = f.ordered;
       keeps = f.keeps;
     })

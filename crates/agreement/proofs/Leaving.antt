@@ -1,10 +1,11 @@
 -- The story of the leave of the first plays: each of its steps is allowed after those before, and the trace is the one that is told.
-use Rattle.std.proofs.Common.{◌≡◌, ℕ, zero, suc, ◌≤◌, ◌<◌, max, Bool, true, false, cond, ◌||◌, Option, Some, List, [], ◌∷◌, ◌++◌, refl, arith}
+use Rattle.std.proofs.Common.{◌≡◌, ℕ, zero, suc, ◌≤◌, ◌<◌, max, Bool, true, false, cond, ◌||◌, Option, Some, List, [], ◌∷◌, ◌++◌, refl, arith, inl}
 use Rattle.std.specs.Prelude.{IsSome}
 use Rattle.std.proofs.lemmas.Bool.Decides.{nat_tests}
 use Rattle.address.specs.Ids.{Address, same_address}
 use Rattle.view.specs.Members.{stands_in}
-use Rattle.flush.specs.Cuts.{held_at, IsCut}
+use Rattle.packet_values.specs.Values.{held_at}
+use Rattle.flush.specs.Cuts.{IsCut}
 use Rattle.flush.specs.Flushes.{group}
 use Rattle.trace_props.specs.Rules.{IsBelow}
 use Rattle.agreement.specs.Acts.{HoldsAbove, All, Told, heard}
@@ -12,7 +13,7 @@ use Rattle.agreement.specs.Steps.{System, Step}
 use Rattle.agreement.specs.Stories.{one, two, three, view_of_three, view_of_rest, held_first, told_first}
 use Rattle.agreement.specs.LeaveStory.{entry_of_two, told_stable, rest_reports, stable_cuts, stable_chapter, leave_chapter, LeavePlays}
 use Rattle.agreement.proofs.Playing as playing
-use Rattle.agreement.proofs.Playing.{◌▸◌, for-none, for-some, holds-first, keeps-all, at-least-none, none-waits, all-reported, Each, HasCut, cuts-of, no-items}
+use Rattle.agreement.proofs.Playing.{all-wait, ◌▸◌, for-none, for-some, holds-first, keeps-all, at-least-none, none-waits, all-reported, Each, HasCut, cuts-of, no-items}
 
 -- ---- what is stable
 
@@ -65,7 +66,7 @@ module _ {S : Type 0} (opening : S) (apply : S → Address → List ℕ → S) (
   stable-run =
       record { open_in = record { view = refl; installed = refl }; short = omega arith }
       ▸ (refl, (0, omega arith, refl))
-      ▸ record { open_in = record { view = refl; installed = refl }; first = refl; member = refl; new = omega arith; sent = refl }
+      ▸ record { open_in = record { view = refl; installed = refl }; first = refl; member = refl; new = omega arith; sent = refl; fewer = all-wait (entry_of_two ∷ []) }
       ▸ record { open_in = record { view = refl; installed = refl }; first = refl; waits = (0, omega arith, refl); next = refl; room = omega arith; fewer = none-waits (entry_of_two ∷ []); more = holds-first entry_of_two }
       ▸ (refl, refl, refl)
       ▸ (refl, refl, refl)
@@ -94,7 +95,7 @@ module _ {S : Type 0} (opening : S) (apply : S → Address → List ℕ → S) (
       ▸ tt
       ▸ tt
       ▸ record { inside = refl; own = refl; above = for-some (λ p. IsBelow p.id view_of_rest.id) view_of_three refl; view = refl }
-      ▸ record { asked = refl; listed = refl; connected = refl; above = for-some (λ p. IsBelow p.id view_of_rest.id) view_of_three refl }
+      ▸ record { asked = refl; listed = refl; connected = refl; above = inl (for-some (λ p. IsBelow p.id view_of_rest.id) view_of_three refl) }
       ▸ record { flush = refl; told = refl; listed = refl; new = refl }
       ▸ record { view = refl; flush = refl; all = all-reported rest_reports; cut = cuts-of rest_reports stable_cuts rest-cuts }
       ▸ record { asked = refl; promised = refl; waiting = refl; fits = omega arith; readable = for-none (λ bytes. IsSome (decode bytes)) }

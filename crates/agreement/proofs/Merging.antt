@@ -1,5 +1,5 @@
 -- The story of the two halves plays: each of its steps is allowed after those before, and the trace is the one that is told.
-use Rattle.std.proofs.Common.{◌≡◌, ℕ, zero, suc, ◌+◌, Option, Some, None, List, [], ◌∷◌, ◌++◌, refl, sym, ap, ◌∙◌, is_some, arith}
+use Rattle.std.proofs.Common.{◌≡◌, ℕ, zero, suc, ◌+◌, Option, Some, None, List, [], ◌∷◌, ◌++◌, refl, sym, ap, ◌∙◌, is_some, arith, inl}
 use Rattle.std.specs.Prelude.{IsSome, slice_get, length, ◌≤◌}
 use Rattle.std.proofs.lemmas.Option.{none-some}
 use Rattle.address.specs.Ids.{Address, IsAddress}
@@ -14,7 +14,7 @@ use Rattle.agreement.specs.Steps.{System, Step}
 use Rattle.agreement.specs.Stories.{one, view_of_three, message_a, held_first, told_nothing, told_first, empty_cuts}
 use Rattle.agreement.specs.MergeStory.{four, view_of_four, view_given_up, first_half, second_half, view_of_all, entry_of_one, entry_of_three, four_reports, first_reports, second_reports, all_reports, half_cuts, fourth_chapter, parting_chapter, apart_chapter, merge_chapter, MergePlays}
 use Rattle.agreement.proofs.Playing as playing
-use Rattle.agreement.proofs.Playing.{◌▸◌, for-none, for-some, holds-first, keeps-all, at-least-none, none-waits, all-reported, Each, HasCut, cuts-of, no-items}
+use Rattle.agreement.proofs.Playing.{all-wait, ◌▸◌, for-none, for-some, holds-first, keeps-all, at-least-none, none-waits, all-reported, Each, HasCut, cuts-of, no-items}
 
 four-is : IsAddress four
 four-is = record { node = omega arith; node_fits = omega arith; incarnation = omega arith; incarnation_fits = omega arith }
@@ -89,9 +89,9 @@ module _ {S : Type 0} (opening : S) (apply : S → Address → List ℕ → S) (
       ▸ refl
       ▸ tt
       ▸ record { inside = refl; own = refl; above = for-some (λ p. IsBelow p.id view_of_four.id) view_of_three refl; view = refl }
-      ▸ record { asked = refl; listed = refl; connected = refl; above = for-some (λ p. IsBelow p.id view_of_four.id) view_of_three refl }
-      ▸ record { asked = refl; listed = refl; connected = refl; above = for-some (λ p. IsBelow p.id view_of_four.id) view_of_three refl }
-      ▸ record { asked = refl; listed = refl; connected = refl; above = for-none (λ p. IsBelow p.id view_of_four.id) }
+      ▸ record { asked = refl; listed = refl; connected = refl; above = inl (for-some (λ p. IsBelow p.id view_of_four.id) view_of_three refl) }
+      ▸ record { asked = refl; listed = refl; connected = refl; above = inl (for-some (λ p. IsBelow p.id view_of_four.id) view_of_three refl) }
+      ▸ record { asked = refl; listed = refl; connected = refl; above = inl (for-none (λ p. IsBelow p.id view_of_four.id)) }
       ▸ record { flush = refl; told = refl; listed = refl; new = refl }
       ▸ record { flush = refl; told = refl; listed = refl; new = refl }
       ▸ record { flush = refl; told = refl; listed = refl; new = refl }
@@ -106,11 +106,11 @@ module _ {S : Type 0} (opening : S) (apply : S → Address → List ℕ → S) (
       record { inside = refl; own = refl; above = for-some (λ p. IsBelow p.id view_given_up.id) view_of_four refl; view = refl }
       ▸ record { inside = refl; own = refl; above = for-some (λ p. IsBelow p.id first_half.id) view_given_up refl; view = refl }
       ▸ record { inside = refl; own = refl; above = for-some (λ p. IsBelow p.id second_half.id) view_of_four refl; view = refl }
-      ▸ record { asked = refl; listed = refl; connected = refl; above = for-some (λ p. IsBelow p.id first_half.id) view_of_four refl }
+      ▸ record { asked = refl; listed = refl; connected = refl; above = inl (for-some (λ p. IsBelow p.id first_half.id) view_of_four refl) }
       ▸ record { flush = refl; told = refl; listed = refl; new = refl }
       ▸ record { view = refl; flush = refl; all = all-reported first_reports; cut = cuts-of first_reports empty_cuts first-cuts }
       ▸ record { asked = refl; promised = refl; waiting = refl; fits = omega arith; readable = for-none (λ bytes. IsSome (decode bytes)) }
-      ▸ record { asked = refl; listed = refl; connected = refl; above = for-some (λ p. IsBelow p.id second_half.id) view_of_four refl }
+      ▸ record { asked = refl; listed = refl; connected = refl; above = inl (for-some (λ p. IsBelow p.id second_half.id) view_of_four refl) }
       ▸ record { flush = refl; told = refl; listed = refl; new = refl }
       ▸ record { view = refl; flush = refl; all = all-reported second_reports; cut = cuts-of second_reports empty_cuts second-cuts }
       ▸ record { asked = refl; promised = refl; waiting = refl; fits = omega arith; readable = for-none (λ bytes. IsSome (decode bytes)) }
@@ -119,7 +119,7 @@ module _ {S : Type 0} (opening : S) (apply : S → Address → List ℕ → S) (
   apart-runs : Runs sixth_system apart_chapter
   apart-runs =
       record { open_in = record { view = refl; installed = refl }; short = omega arith }
-      ▸ record { open_in = record { view = refl; installed = refl }; first = refl; member = refl; new = omega arith; sent = (0, omega arith, refl) }
+      ▸ record { open_in = record { view = refl; installed = refl }; first = refl; member = refl; new = omega arith; sent = (0, omega arith, refl); fewer = all-wait (entry_of_one ∷ []) }
       ▸ record { open_in = record { view = refl; installed = refl }; first = refl; waits = (0, omega arith, refl); next = refl; room = omega arith; fewer = none-waits (entry_of_one ∷ []); more = holds-first entry_of_one }
       ▸ (refl, refl, refl)
       ▸ record { open_in = record { view = refl; installed = refl }; first = refl; member = refl; told = omega arith }
@@ -128,7 +128,7 @@ module _ {S : Type 0} (opening : S) (apply : S → Address → List ℕ → S) (
       ▸ record { open_in = record { view = refl; installed = refl }; other = refl; next = refl }
       ▸ (refl, omega arith)
       ▸ record { open_in = record { view = refl; installed = refl }; short = omega arith }
-      ▸ record { open_in = record { view = refl; installed = refl }; first = refl; member = refl; new = omega arith; sent = (0, omega arith, refl) }
+      ▸ record { open_in = record { view = refl; installed = refl }; first = refl; member = refl; new = omega arith; sent = (0, omega arith, refl); fewer = all-wait (entry_of_three ∷ []) }
       ▸ record { open_in = record { view = refl; installed = refl }; first = refl; waits = (0, omega arith, refl); next = refl; room = omega arith; fewer = none-waits (entry_of_three ∷ []); more = holds-first entry_of_three }
       ▸ (refl, refl, refl)
       ▸ record { open_in = record { view = refl; installed = refl }; first = refl; member = refl; told = omega arith }
@@ -139,9 +139,9 @@ module _ {S : Type 0} (opening : S) (apply : S → Address → List ℕ → S) (
   merge-runs reads =
       tt
       ▸ record { inside = refl; own = refl; above = for-some (λ p. IsBelow p.id view_of_all.id) first_half refl; view = refl }
-      ▸ record { asked = refl; listed = refl; connected = refl; above = for-some (λ p. IsBelow p.id view_of_all.id) first_half refl }
-      ▸ record { asked = refl; listed = refl; connected = refl; above = for-some (λ p. IsBelow p.id view_of_all.id) second_half refl }
-      ▸ record { asked = refl; listed = refl; connected = refl; above = for-some (λ p. IsBelow p.id view_of_all.id) second_half refl }
+      ▸ record { asked = refl; listed = refl; connected = refl; above = inl (for-some (λ p. IsBelow p.id view_of_all.id) first_half refl) }
+      ▸ record { asked = refl; listed = refl; connected = refl; above = inl (for-some (λ p. IsBelow p.id view_of_all.id) second_half refl) }
+      ▸ record { asked = refl; listed = refl; connected = refl; above = inl (for-some (λ p. IsBelow p.id view_of_all.id) second_half refl) }
       ▸ record { flush = refl; told = refl; listed = refl; new = refl }
       ▸ record { flush = refl; told = refl; listed = refl; new = refl }
       ▸ record { flush = refl; told = refl; listed = refl; new = refl }

@@ -9,8 +9,7 @@ use Rattle.std.proofs.lemmas.List.{append-nil, length_push}
 use Rattle.address.specs.Ids.{Address, ViewId, same_address}
 use Rattle.view.specs.Members.{View}
 use Rattle.packet_values.specs.declared.limits.TheConstants.{WINDOW}
-use Rattle.packet_values.specs.Values.{Entry}
-use Rattle.flush.specs.Cuts.{held_at}
+use Rattle.packet_values.specs.Values.{Entry, held_at}
 use Rattle.trace_props.specs.declared.happening.Happening.{Happening}
 use Rattle.trace_props.specs.declared.happening.Happening.TheVariants.{Delivered}
 use Rattle.trace_props.specs.declared.happening.Delivery.{Delivery}

@@ -1,15 +1,15 @@
 -- What the stories' steps stand on: who takes part, what is held, what a flush gathers, lists of steps one after another; and the chapters with which
 -- all stories begin. All of it is concrete, so nearly all computes.
-use Rattle.std.proofs.Common.{◌≡◌, ℕ, zero, suc, ◌+◌, ◌≤◌, Bool, true, false, cond, Option, Some, None, List, [], ◌∷◌, ◌++◌, map, refl, sym, ap, ◌∙◌, subst, arith, is_some}
+use Rattle.std.proofs.Common.{◌≡◌, ℕ, zero, suc, ◌+◌, ◌≤◌, Bool, true, false, cond, Option, Some, None, List, [], ◌∷◌, ◌++◌, map, refl, sym, ap, ◌∙◌, subst, arith, is_some, inl}
 use Rattle.std.specs.Prelude.{IsSome, slice_get}
 use Rattle.std.specs.Option.{ForSome}
 use Rattle.std.specs.List.{Contains}
-use Rattle.std.proofs.lemmas.Option.{none-some, same_Some}
+use Rattle.std.proofs.lemmas.Option.{none-some, same_Some, slice_get_within, get_or_from_slice_get}
 use Rattle.address.specs.Ids.{Address, ViewId, IsAddress, same_address}
 use Rattle.view.specs.Members.{stands_in}
-use Rattle.packet_values.specs.Values.{Entry}
+use Rattle.packet_values.specs.Values.{Entry, held_at}
 use Rattle.wire.specs.Values.{Report}
-use Rattle.flush.specs.Cuts.{held_at, held_among, greatest_stable, IsCut}
+use Rattle.flush.specs.Cuts.{held_among, greatest_stable, IsCut}
 use Rattle.flush.specs.Flushes.{report_from, group}
 use Rattle.flush.proofs.Keeping.{reporter-stands}
 use Rattle.trace_props.specs.Rules.{IsBelow}
@@ -57,6 +57,10 @@ keeps-all held none = record { above = λ k high. refl; below = λ k low. below-
 
 pub at-least-none : (n : ℕ) → 0 ≤ n
 at-least-none n = omega arith
+
+-- what waits afterwards is a message that waited or the new one
+pub all-wait : (waiting : List Entry) (k : ℕ) (e : Entry) → slice_get waiting k ≡ Some e → Contains waiting e
+all-wait waiting k e at = (k, slice_get_within waiting k e at, get_or_from_slice_get waiting k e e at)
 
 -- nothing waits afterwards
 pub none-waits : (old : List Entry) (k : ℕ) (e : Entry) → slice_get [] k ≡ Some e → Contains old e
@@ -137,7 +141,7 @@ module _ {S : Type 0} (opening : S) (apply : S → Address → List ℕ → S) (
       ▸ refl
       ▸ tt
       ▸ record { inside = refl; own = refl; above = for-some (λ p. IsBelow p.id view_of_two.id) (lone_view one) refl; view = refl }
-      ▸ record { asked = refl; listed = refl; connected = refl; above = for-none (λ p. IsBelow p.id view_of_two.id) }
+      ▸ record { asked = refl; listed = refl; connected = refl; above = inl (for-none (λ p. IsBelow p.id view_of_two.id)) }
       ▸ record { flush = refl; told = refl; listed = refl; new = refl }
       ▸ record { view = refl; flush = refl; all = all-reported two_reports; cut = cuts-of two_reports empty_cuts two-cuts }
       ▸ record { asked = refl; promised = refl; waiting = refl; fits = record { base = refl; items = refl; state = refl }; readable = for-some (λ bytes. IsSome (decode bytes)) (encode opening) (ap is_some reads) }
@@ -149,8 +153,8 @@ module _ {S : Type 0} (opening : S) (apply : S → Address → List ℕ → S) (
       ▸ refl
       ▸ tt
       ▸ record { inside = refl; own = refl; above = for-some (λ p. IsBelow p.id view_of_three.id) view_of_two refl; view = refl }
-      ▸ record { asked = refl; listed = refl; connected = refl; above = for-some (λ p. IsBelow p.id view_of_three.id) view_of_two refl }
-      ▸ record { asked = refl; listed = refl; connected = refl; above = for-none (λ p. IsBelow p.id view_of_three.id) }
+      ▸ record { asked = refl; listed = refl; connected = refl; above = inl (for-some (λ p. IsBelow p.id view_of_three.id) view_of_two refl) }
+      ▸ record { asked = refl; listed = refl; connected = refl; above = inl (for-none (λ p. IsBelow p.id view_of_three.id)) }
       ▸ record { flush = refl; told = refl; listed = refl; new = refl }
       ▸ record { flush = refl; told = refl; listed = refl; new = refl }
       ▸ record { view = refl; flush = refl; all = all-reported three_reports; cut = cuts-of three_reports empty_cuts three-cuts }

@@ -29,7 +29,7 @@ module _ {S : Type 0} (opening : S) (apply : S → Address → List ℕ → S) (
   act-keeps l Joins = Acting.joins-keeps opening apply encode decode is_state
   act-keeps l (Puts q body) = Acting.puts-keeps opening apply encode decode is_state q body
   act-keeps l (Sends v payload) = Acting.sends-keeps opening apply encode decode is_state v payload
-  act-keeps l (Queues v e) = Acting.queues-keeps opening apply encode decode is_state v e
+  act-keeps l (Queues v e waiting) = Acting.queues-keeps opening apply encode decode is_state v e waiting
   act-keeps l (Orders v e waiting held) = Acting.orders-keeps opening apply encode decode is_state l.applies v e waiting held
   act-keeps l (Hears v q n) = Acting.hears-keeps opening apply encode decode is_state v q n
   act-keeps l (Collects v n held) = Acting.collects-keeps opening apply encode decode is_state v n held

@@ -59,7 +59,7 @@ module _ {S : Type 0} (opening : S) (apply : S → Address → List ℕ → S) (
   act-still c d Joins e = subst (IsStill c) (same_Some _ d e) (record { itself = refl; connected = λ x. refl })
   act-still c d (Puts q body) e = subst (IsStill c) (same_Some _ d e) (record { itself = refl; connected = λ x. x })
   act-still c d (Sends v payload) e = subst (IsStill c) (same_Some _ d e) (record { itself = refl; connected = λ x. x })
-  act-still c d (Queues v m) e = subst (IsStill c) (same_Some _ d e) (record { itself = refl; connected = λ x. x })
+  act-still c d (Queues v m waiting) e = subst (IsStill c) (same_Some _ d e) (record { itself = refl; connected = λ x. x })
   act-still c d (Orders v m waiting held) e = subst (IsStill c) (same_Some _ d e) (record { itself = refl; connected = λ x. x })
   act-still c d (Hears v q n) e = subst (IsStill c) (same_Some _ d e) (record { itself = refl; connected = λ x. x })
   act-still c d (Collects v n held) e = subst (IsStill c) (same_Some _ d e) (record { itself = refl; connected = λ x. x })

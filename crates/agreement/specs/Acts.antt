@@ -1,17 +1,17 @@
 -- The acts: the small things that members do, one after another. When each is allowed, what it leaves, what it puts out and what happens by it.
-use Rattle.std.specs.Prelude.{◌≡◌, ℕ, ◌+◌, ◌-◌, ◌<◌, ◌≤◌, true, false, not, Option, None, Some, List, [], ◌∷◌, ◌++◌, map, filter, length, max, drop, slice_get, IsSome, MatchOption, MatchBool, unwrap_or, nat_eq, if◌then◌else◌}
+use Rattle.std.specs.Prelude.{◌≡◌, ℕ, ◌+◌, ◌-◌, ◌<◌, ◌≤◌, ◌⊎◌, Bool, true, false, not, Option, None, Some, List, [], ◌∷◌, ◌++◌, map, filter, length, max, drop, slice_get, IsSome, MatchOption, MatchBool, unwrap_or, nat_eq, if◌then◌else◌}
 use Rattle.std.specs.Option.{ForSome, option_and_then, option_eq, option_map_or}
 use Rattle.std.specs.List.{Contains}
 use Rattle.address.specs.Ids.{Address, ViewId, same_address, same_view_id}
 use Rattle.view.specs.Members.{View, stands_in}
 use Rattle.view.specs.View.{view_refusal}
 use Rattle.packet_values.specs.declared.limits.TheConstants.{PAYLOAD, WINDOW}
-use Rattle.packet_values.specs.Values.{Entry}
+use Rattle.packet_values.specs.Values.{Entry, held_at}
 use Rattle.wire.specs.Values.{Report, nothing_reported}
 use Rattle.wire.specs.Values as wire
 use Rattle.wire.specs.declared.packet.Body.{Body}
 use Rattle.wire.specs.declared.packet.Body.TheVariants as bodies
-use Rattle.flush.specs.Cuts.{held_at, IsCut}
+use Rattle.flush.specs.Cuts.{IsCut}
 use Rattle.flush.specs.Flushes.{FlushModel, report_from, group, together_of}
 use Rattle.trace_props.specs.declared.happening.Happening.{Happening}
 use Rattle.trace_props.specs.declared.happening.Happening.TheVariants.{Sent, Delivered, Blocked, Installed, Left}
@@ -34,8 +34,8 @@ pub data Act : Type 0 where
   Puts : Address → Body → Act
   -- sends a message in its view
   Sends : View → List ℕ → Act
-  -- takes a message into the queue of what is to be ordered
-  Queues : View → Entry → Act
+  -- takes a message among those that are to be ordered: what waits afterwards
+  Queues : View → Entry → List Entry → Act
   -- orders the next message of a sender: what waits afterwards, what is held afterwards
   Orders : View → Entry → List Entry → List (ℕ × Entry) → Act
   -- takes an acknowledgement
@@ -92,6 +92,10 @@ pub record IsOpenIn {S : Type 0} (c : Core S) (v : View) : Type 0 where
 abbrev pub IsAbovePromise : ViewId → Option View → Type 0
 IsAbovePromise w promise = ForSome promise (λ p. IsBelow p.id w)
 
+-- this very proposal is promised, and not installed
+abbrev pub IsPromised : ViewId → Option View → Bool → Type 0
+IsPromised w promise installed = (id_of promise ≡ Some w) × (installed ≡ false)
+
 -- ---- packets that say again what is known
 
 -- a member may put out this to that address
@@ -132,13 +136,14 @@ pub record MaySend {S : Type 0} (c : Core S) (v : View) (payload : List ℕ) : T
   pub short : length payload ≤ PAYLOAD
 
 -- at the first member, of a member of the view, past what was ordered of it; it came as a FORWARD or is an own one that is outstanding
-pub record MayQueue {S : Type 0} (came : Option Posted) (c : Core S) (v : View) (e : Entry) : Type 0 where
+pub record MayQueue {S : Type 0} (came : Option Posted) (c : Core S) (v : View) (e : Entry) (waiting : List Entry) : Type 0 where
   pub open_in : IsOpenIn c v
   pub first : same_address c.me v.id.creator ≡ true
   pub member : stands_in e.sender v.members ≡ true
   pub new : c.traffic.ordered e.sender < e.number
   pub sent : MatchBool (same_address e.sender c.me) (Contains c.traffic.outstanding (record { number = e.number; payload = e.payload }))
       (Says came c e.sender (bodies.Forward v.id e.number e.payload))
+  pub fewer : (k : ℕ) (x : Entry) → slice_get waiting k ≡ Some x → Contains (c.traffic.waiting ++ e ∷ []) x
 
 -- at the first member, the next of its sender, while fewer lie past the stable ones than the window has places
 pub record MayOrder {S : Type 0} (c : Core S) (v : View) (e : Entry) (waiting : List Entry) (held : List (ℕ × Entry)) : Type 0 where
@@ -185,7 +190,7 @@ pub record MayPromise {S : Type 0} (came : Option Posted) (c : Core S) (w : View
   pub asked : Says came c w.id.creator (bodies.Flush w)
   pub listed : stands_in c.me w.members ≡ true
   pub connected : c.connected ≡ true
-  pub above : IsAbovePromise w.id c.promise
+  pub above : IsAbovePromise w.id c.promise ⊎ IsPromised w.id c.promise c.installed
 
 pub record MayBegin {S : Type 0} (c : Core S) (w : View) : Type 0 where
   pub inside : IsSome c.view
@@ -225,7 +230,7 @@ Allowed decode came c Creates = MayCreate c
 Allowed decode came c Joins = c.view ≡ None
 Allowed decode came c (Puts q body) = Describes c q body
 Allowed decode came c (Sends v payload) = MaySend c v payload
-Allowed decode came c (Queues v e) = MayQueue came c v e
+Allowed decode came c (Queues v e waiting) = MayQueue came c v e waiting
 Allowed decode came c (Orders v e waiting held) = MayOrder c v e waiting held
 Allowed decode came c (Hears v q n) = MayHear came c v q n
 Allowed decode came c (Collects v t held) = MayCollect came c v t held
@@ -330,7 +335,7 @@ after apply encode decode c (Puts q body) = Some c
 after apply encode decode c (Sends v payload) =
     let t = c.traffic in
     Some (with_traffic (record t { sent = t.sent + 1; outstanding = t.outstanding ++ record { number = t.sent + 1; payload = payload } ∷ [] }) c)
-after apply encode decode c (Queues v e) = let t = c.traffic in Some (with_traffic (record t { waiting = t.waiting ++ e ∷ [] }) c)
+after apply encode decode c (Queues v e waiting) = let t = c.traffic in Some (with_traffic (record t { waiting = waiting }) c)
 after apply encode decode c (Orders v e waiting held) =
     let t = told_more c.me (e ∷ []) c.traffic in
     Some (record c {
@@ -355,7 +360,7 @@ packets_of apply encode c Creates = []
 packets_of apply encode c Joins = []
 packets_of apply encode c (Puts q body) = packet c.me body q ∷ []
 packets_of apply encode c (Sends v payload) = []
-packets_of apply encode c (Queues v e) = []
+packets_of apply encode c (Queues v e waiting) = []
 packets_of apply encode c (Orders v e waiting held) = []
 packets_of apply encode c (Hears v q n) = []
 packets_of apply encode c (Collects v n held) = []
@@ -400,7 +405,7 @@ happenings_of c Creates = entering c [] (lone_view c.me) (c.me ∷ []) None
 happenings_of c Joins = []
 happenings_of c (Puts q body) = []
 happenings_of c (Sends v payload) = Sent (record { member = c.me; view = v.id; message = record { number = c.traffic.sent + 1; payload = payload } }) ∷ []
-happenings_of c (Queues v e) = []
+happenings_of c (Queues v e waiting) = []
 happenings_of c (Orders v e waiting held) = delivery c.me v.id e ∷ []
 happenings_of c (Hears v q n) = []
 happenings_of c (Collects v n held) = []

@@ -34,14 +34,14 @@ both_cuts = record { base = λ v. 0; items = λ v. entry_a ∷ entry_b ∷ [] }
 abbrev pub messages_chapter : List Step
 messages_chapter =
     Does one None (Sends view_of_three message_a)
-    ∷ Does one None (Queues view_of_three entry_a)
+    ∷ Does one None (Queues view_of_three entry_a (entry_a ∷ []))
     ∷ Does one None (Orders view_of_three entry_a [] (held_first entry_a))
     ∷ Does one None (Puts two (bodies.Order view_of_three.id 1 entry_a))
     ∷ Does one None (Puts three (bodies.Order view_of_three.id 1 entry_a))
     ∷ Does one None (Hears view_of_three one 1)
     ∷ Does one None (Collects view_of_three 0 (held_first entry_a))
     ∷ Does one None (Sends view_of_three message_b)
-    ∷ Does one None (Queues view_of_three entry_b)
+    ∷ Does one None (Queues view_of_three entry_b (entry_b ∷ []))
     ∷ Does one None (Orders view_of_three entry_b [] held_both)
     ∷ Does one None (Puts two (bodies.Order view_of_three.id 2 entry_b))
     ∷ Does one None (Puts three (bodies.Order view_of_three.id 2 entry_b))

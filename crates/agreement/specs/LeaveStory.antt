@@ -36,7 +36,7 @@ abbrev pub stable_chapter : List Step
 stable_chapter =
     Does two None (Sends view_of_three message_a)
     ∷ Does two None (Puts one (bodies.Forward view_of_three.id 1 message_a))
-    ∷ Does one (Some 11) (Queues view_of_three entry_of_two)
+    ∷ Does one (Some 11) (Queues view_of_three entry_of_two (entry_of_two ∷ []))
     ∷ Does one (Some 11) (Orders view_of_three entry_of_two [] (held_first entry_of_two))
     ∷ Does one (Some 11) (Puts two (bodies.Order view_of_three.id 1 entry_of_two))
     ∷ Does one (Some 11) (Puts three (bodies.Order view_of_three.id 1 entry_of_two))

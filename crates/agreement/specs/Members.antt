@@ -5,10 +5,9 @@ use Rattle.address.specs.Ids.{Address, ViewId, same_address}
 use Rattle.view.specs.Members.{View, stands_in}
 use Rattle.view.specs.View.{view_refusal}
 use Rattle.packet_values.specs.declared.limits.TheConstants.{WINDOW}
-use Rattle.packet_values.specs.Values.{Entry}
+use Rattle.packet_values.specs.Values.{Entry, held_at}
 use Rattle.wire.specs.Values.{Report}
 use Rattle.wire.specs.Values as wire
-use Rattle.flush.specs.Cuts.{held_at}
 use Rattle.flush.specs.Flushes.{FlushModel, report_from}
 use Rattle.trace_props.specs.declared.happening.Happening.{Happening}
 use Rattle.trace_props.specs.declared.happening.Numbered.{Numbered}

@@ -106,7 +106,7 @@ parting_chapter =
 abbrev pub apart_chapter : List Step
 apart_chapter =
     Does one None (Sends first_half message_a)
-    ∷ Does one None (Queues first_half entry_of_one)
+    ∷ Does one None (Queues first_half entry_of_one (entry_of_one ∷ []))
     ∷ Does one None (Orders first_half entry_of_one [] (held_first entry_of_one))
     ∷ Does one None (Puts two (bodies.Order first_half.id 1 entry_of_one))
     ∷ Does one None (Hears first_half one 1)
@@ -115,7 +115,7 @@ apart_chapter =
     ∷ Does two (Some 29) (Delivers first_half entry_of_one)
     ∷ Does two (Some 29) (Puts one (bodies.Ack first_half.id 1))
     ∷ Does three None (Sends second_half message_b)
-    ∷ Does three None (Queues second_half entry_of_three)
+    ∷ Does three None (Queues second_half entry_of_three (entry_of_three ∷ []))
     ∷ Does three None (Orders second_half entry_of_three [] (held_first entry_of_three))
     ∷ Does three None (Puts four (bodies.Order second_half.id 1 entry_of_three))
     ∷ Does three None (Hears second_half three 1)

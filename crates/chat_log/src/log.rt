@@ -1,6 +1,7 @@
 ghost use Rattle.std.specs.Prelude.{◌≡◌, ◌≤◌, ◌<◌, ◌++◌, true, false, length, IsOk, IfOk, OnOk, OnErr, MatchOption};
 ghost use Rattle.chat_log.specs.Chat.{IsChat, chat_apply};
 ghost use Rattle.chat_log.specs.Encoding.{chat_encode, chat_decode};
+ghost use Rattle.state_transfer.specs.declared.TheConstants.{STATE};
 
 use crate::lines::push_line;
 use crate::reading::chat_of;
@@ -96,11 +97,17 @@ impl Receiver for ChatLog {
     fn blocked(&mut self) {}
 
     /// Appends the encoding, at most 12,481 bytes. Where memory is refused, the bytes are as they were.
+    #[tactic(auto, using(crate::specs::ChatLaws::encoded_short))]
     fn get_state(&self, state: &mut Vec<u8>) -> Result<(), AllocError>
         ensures ok { OnOk result (state.new.items ≡ state.old.items ++ chat_encode self.now) }
+        ensures short { OnOk result (length (chat_encode self.now) ≤ STATE) }
         ensures err { OnErr result (state.new.items ≡ state.old.items) }
     {
         put_chat(self.lines.as_slice(), state)
+    }
+
+    fn kept(&self) {
+        let _ = &self.lines;
     }
 
     /// Takes the state that bytes are the encoding of. Where they are none's, or memory is refused, it keeps its own.

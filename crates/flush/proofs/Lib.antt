@@ -2,3 +2,4 @@ pub mod Covers
 pub mod Groups
 pub mod Keeping
 pub mod Reports
+pub mod CutItems

@@ -7,10 +7,9 @@ use Rattle.std.proofs.lemmas.Bool.{and_parts}
 use Rattle.std.proofs.lemmas.Bool.Decides.{nat_tests}
 use Rattle.address.specs.Ids.{ViewId}
 use Rattle.packet_values.specs.declared.limits.TheConstants.{WINDOW}
-use Rattle.packet_values.specs.Values.{Entry}
+use Rattle.packet_values.specs.Values.{Entry, held_at}
 use Rattle.wire.specs.Values.{Report}
 use Rattle.wire.specs.Lists.{highest_next, are_held, is_filled, is_nothing, is_report}
-use Rattle.flush.specs.Cuts.{held_at}
 
 -- the number after the last, until the delivered count is reached
 next-is : (s d last x : ℕ) → last < d → nat_le (last + 1) x ≡ true → nat_le x (highest_next s d last) ≡ true → x ≡ last + 1

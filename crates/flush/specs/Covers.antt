@@ -1,10 +1,10 @@
 -- What a cut is for: whoever delivers it has delivered what the order says, and at least as much as each reporter had.
 use Rattle.std.specs.Prelude.{◌≡◌, ℕ, ◌+◌, ◌≤◌, true, List, length, Option, Some, slice_get}
 use Rattle.address.specs.Ids.{Address, ViewId}
-use Rattle.packet_values.specs.Values.{Entry}
+use Rattle.packet_values.specs.Values.{Entry, held_at}
 use Rattle.wire.specs.Values.{Report}
 use Rattle.wire.specs.Lists.{is_report}
-use Rattle.flush.specs.Cuts.{held_at, IsCut}
+use Rattle.flush.specs.Cuts.{cut_base, cut_items, IsCut}
 use Rattle.flush.specs.Flushes.{FlushModel, IsFlush, report_from, comes_from, group}
 
 -- a fact of each report of a list
@@ -46,3 +46,7 @@ pub record IsGroupOf (v : Option ViewId) (f : FlushModel) (reports : List Report
 
 abbrev pub GroupsAreReported : Type 0
 GroupsAreReported = (f : FlushModel) → IsFlush f → (v : Option ViewId) → IsGroupOf v f (group v f.reports)
+
+-- the base and the items of the reports of a group are its cut
+abbrev pub CutIs : Type 0
+CutIs = (f : FlushModel) → IsFlush f → (v : Option ViewId) → let reports = group v f.reports in IsCut reports (cut_base reports) (cut_items reports)

@@ -1,7 +1,7 @@
 ghost use Rattle.std.specs.Prelude.{◌≡◌, ◌≤◌, ◌+◌, false, [], ◌∷◌, ◌++◌, filter, IfOk, OnOk, OnErr, IfSome, IsSome, IsTrue};
 ghost use Rattle.std.specs.List.{list_all};
 ghost use Rattle.packet_values.specs.declared.limits.TheConstants.{WINDOW};
-ghost use Rattle.flush.specs.Cuts.{IsCut, greatest_stable, held_among};
+ghost use Rattle.flush.specs.Cuts.{greatest_stable, held_among, cut_base, cut_items};
 ghost use Rattle.flush.specs.Flushes.{IsFlush, has_reported, group, is_awaited, reported, progress_of, has_come_from, together_of};
 
 use crate::cut::Cut;
@@ -158,7 +158,8 @@ impl Flush {
     /// report has, each as the first report that came gives it. They lie in the flush's own copies. An
     /// error for want of memory comes only where there is an entry.
     pub fn cut(&self, alloc: Global, previous: &Option<ViewId>) -> Result<Cut<'_>, AllocError>
-        ensures ok { IfOk result (λ c. IsCut (group previous.now self.now.reports) c.base c.entries.items) }
+        ensures base { IfOk result (λ c. c.base ≡ cut_base (group previous.now self.now.reports)) }
+        ensures items { IfOk result (λ c. c.entries.items ≡ cut_items (group previous.now self.now.reports)) }
         ensures err_only { OnErr result (let reports = group previous.now self.now.reports in IsSome (held_among reports (greatest_stable reports + 1))) }
     {
         let base = greatest_stable(self.reports.as_slice(), previous);

@@ -4,7 +4,7 @@ use Rattle.std.specs.Prelude.{if◌then◌else◌}
 use Rattle.std.specs.List.{cons_option}
 use Rattle.std.proofs.lemmas.Bool.{cond-true, cond-false}
 use Rattle.std.proofs.lemmas.Bool.Decides.{nat_tests}
-use Rattle.std.proofs.lemmas.Option.{none-some}
+use Rattle.std.proofs.lemmas.Option.{none-some, slice_get_within, get_or_from_slice_get}
 use Rattle.std.proofs.Math.Nat.{max-eq_right}
 use mathlib.Core.Path.{fun_ext}
 use Rattle.address.specs.Ids.{Address, same_address}
@@ -149,7 +149,7 @@ module _ {S : Type 0} (apply : S → Address → List ℕ → S) (encode : S →
       let own : Numbered = record { number = k + 1; payload = x } in
       let itself = same_address-refl p in
       record {
-        acts = Sends v x ∷ Queues v e ∷ Orders v e [] ((k + 1, e) ∷ []) ∷ Hears v p (k + 1) ∷ Collects v (k + 1) [] ∷ [];
+        acts = Sends v x ∷ Queues v e (e ∷ []) ∷ Orders v e [] ((k + 1, e) ∷ []) ∷ Hears v p (k + 1) ∷ Collects v (k + 1) [] ∷ [];
         chain = (
           record { open_in = record { view = refl; installed = refl }; short = short },
           (
@@ -159,6 +159,7 @@ module _ {S : Type 0} (apply : S → Address → List ℕ → S) (encode : S →
               member = itself-stands p;
               new = rw (only-itself p k) (omega arith);
               sent = rw itself (0, omega arith, refl);
+              fewer = λ n y at. (n, slice_get_within (e ∷ []) n y at, get_or_from_slice_get (e ∷ []) n y y at);
             },
             (
               record {

@@ -1,8 +1,9 @@
 -- What one step promises, from what it does.
-use Rattle.std.proofs.Common.{◌≡◌, ℕ, ◌+◌, ◌≤◌, Bool, true, false, Option, Some, None, List, [], ◌∷◌, map, length, zero, suc, Result, Ok, Err, refl, sym, ap, ◌∙◌, subst, arith, Bor}
-use Rattle.std.specs.Prelude.{MatchBool, if◌then◌else◌, ◌↔◌}
+use Rattle.std.proofs.Common.{◌≡◌, ℕ, ◌+◌, ◌≤◌, Bool, true, false, Option, Some, None, List, [], ◌∷◌, map, length, inl, zero, suc, Result, Ok, Err, refl, sym, ap, ◌∙◌, subst, arith, Bor}
+use Rattle.std.specs.Prelude.{MatchBool, if◌then◌else◌}
 use Rattle.std.specs.List.{AllByRecursion}
 use Rattle.std.specs.Result.{result_err}
+use Rattle.std.proofs.lemmas.Bool.{and_parts}
 use Rattle.std.proofs.lemmas.Option.{none-some, same_Some}
 use Rattle.address.specs.Ids.{Address}
 use Rattle.view.specs.Members.{View}
@@ -23,12 +24,13 @@ use Rattle.member.specs.declared.life.Stage.{Stage}
 use Rattle.member.specs.declared.life.Stage.TheVariants.{Idle, Joining, Alone}
 use Rattle.member.specs.declared.life.Life.{Life}
 use Rattle.member.specs.Errors.{is_memory}
-use Rattle.member.specs.Members.{MemberModel, IsLoneAt, IsLone, core_at, core_in, contact_at, book_in, came_at, refusal_in, is_ignored}
+use Rattle.member.specs.Members.{MemberModel, IsLoneAt, IsLone, core_at, core_in, contact_at, book_in, came_at, refusal_in, is_ignored, is_unreadable, spells_packet}
 use Rattle.member.specs.Outputs.{Puts, packet_in, spelled}
 use Rattle.member.specs.Steps.{lone_install, sending, delivery, Asks, SendsAt, Does, Answers, leaves, ends}
-use Rattle.member.specs.Handling.{Handled, EndsWithout, Replies, IsPrompt, posts, noted, Ignores}
+use Rattle.member.specs.Handling.{Handled, EndsWithout, IsClosed, Replies, IsPrompt, posts, noted, Ignores}
 use Rattle.member.proofs.Acts.{created-acted, joined-acted, asked-acted, left-acted, nothing-acted, sent-acted}
-use Rattle.member.proofs.Refusing.{never-closed, ignored-free, is-short}
+use Rattle.member.proofs.Entering.{never-unreadable}
+use Rattle.member.proofs.Refusing.{never-closed, packet-free, is-short}
 
 module _ {S : Type 0} (apply : S → Address → List ℕ → S) (encode : S → List ℕ) (decode : List ℕ → Option S) where
   abbrev at : Address → List ℕ → Option (Life S) → MemberModel S
@@ -45,11 +47,11 @@ module _ {S : Type 0} (apply : S → Address → List ℕ → S) (encode : S →
 
   -- ---- an input that is not refused
 
-  ok-memory : (input : Input) (new : MemberModel S) (out : Output) → EndsWithout input new (Ok out)
-  ok-memory input new out e = absurd (cc)
+  ok-memory : (old : MemberModel S) (input : Input) (new : MemberModel S) (out : Output) → EndsWithout old input new (Ok out)
+  ok-memory old input new out e = absurd (cc)
 
-  ok-closed : (out : Output) (c : Core S) → (◌≡◌ {A = Result Output Error} (Ok out) (Err Closed)) ↔ (◌≡◌ {A = Option (Core S)} (Some c) None)
-  ok-closed out c = (λ e. absurd (cc), λ e. absurd (none-some c (sym e)))
+  ok-closed : (p : Address) (group : List ℕ) (old : Life S) (input : Input) (out : Output) → IsClosed decode (at p group (Some old)) input (Ok out)
+  ok-closed p group old input out = record { ended = λ none. absurd (none-some _ (sym none)); only = λ e. absurd (cc) }
 
   -- so little happens that a trace takes it
   record IsTaken (happened : List Happening) : Type 0 where
@@ -92,9 +94,9 @@ module _ {S : Type 0} (apply : S → Address → List ℕ → S) (encode : S →
       spelled = x.packets;
       sound = sound;
     };
-    refused = free;
-    memory = ok-memory input (at p group end) out;
-    closed = ok-closed out (core_at p s z);
+    refused = (free, never-unreadable decode p group s z input);
+    memory = ok-memory (at p group (Some (life s z))) input (at p group end) out;
+    closed = ok-closed p group (life s z) input out;
     reply = subst (λ (h : List Happening). Replies (core_at p s z) input h (core_in p end)) (sym x.happenings) reply;
     prompt = subst (λ (h : List Happening). IsPrompt (core_at p s z) input h) (sym x.happenings) prompt;
     puts = x.packets;
@@ -106,7 +108,7 @@ module _ {S : Type 0} (apply : S → Address → List ℕ → S) (encode : S →
     group = refl;
   }
 
-  not-ignored : (o : MemberModel S) (input : Input) (result : Result Output Error) (n : MemberModel S) → is_ignored input ≡ false → Ignores o input result n
+  not-ignored : (o : MemberModel S) (input : Input) (result : Result Output Error) (n : MemberModel S) → is_ignored o input ≡ false → Ignores o input result n
   not-ignored o input result n e i = absurd (let t : true ≡ false = sym i ∙ e in cc)
 
   created : (p : Address) (group : List ℕ) (s : Stage) (z : S) (out : Output) (new : Life S) → refusal_in (core_at p s z) Create ≡ None
@@ -199,42 +201,51 @@ module _ {S : Type 0} (apply : S → Address → List ℕ → S) (encode : S →
   abbrev GivesBy : Bool → Error → Address → Life S → Input → Life S → Type 0
   GivesBy b e p old input new =
       MatchBool b
-      ((refusal_in (core_at p old.stage old.receiver) input ≡ None) × (is_ignored input ≡ false) × (new.stage ≡ old.stage))
+      ((refusal_in (core_at p old.stage old.receiver) input ≡ None) × (spells_packet input ≡ false) × (new.stage ≡ old.stage))
       ((refusal_in (core_at p old.stage old.receiver) input ≡ Some e) × (new ≡ old))
 
-  err-refused : (b : Bool) (e : Error) (p : Address) (group : List ℕ) (old : Life S) (input : Input) (new : Life S) → GivesBy b e p old input new
+  err-refused : (b u : Bool) (e : Error) (p : Address) (group : List ℕ) (old : Life S) (input : Input) (new : Life S) → u ≡ false → GivesBy b e p old input new
       → MatchBool b (refusal_in (core_at p old.stage old.receiver) input ≡ None)
-      ((refusal_in (core_at p old.stage old.receiver) input ≡ Some e) × (at p group (if b then None else Some new) ≡ at p group (Some old)))
-  err-refused true e p group old input new x = x.0
-  err-refused false e p group old input new x = (x.0, ap {B = MemberModel S} (λ (l : Life S). at p group (Some l)) x.1)
+      (MatchBool u ((e ≡ Closed) × (core_in p (if b then None else Some new) ≡ None))
+      ((refusal_in (core_at p old.stage old.receiver) input ≡ Some e) × (at p group (if b then None else Some new) ≡ at p group (Some old))))
+  err-refused true u e p group old input new readable x = x.0
+  err-refused false true e p group old input new readable x = absurd (let n : true ≡ false = readable in cc)
+  err-refused false false e p group old input new readable x = (x.0, ap {B = MemberModel S} (λ (l : Life S). at p group (Some l)) x.1)
 
-  err-memory : (b : Bool) (e : Error) (p : Address) (old : Life S) (input : Input) (new : Life S) → b ≡ true → GivesBy b e p old input new
-      → (core_in p (if b then None else Some new) ≡ None) × (is_ignored input ≡ false)
-  err-memory true e p old input new is x = (refl, x.1)
-  err-memory false e p old input new is x = absurd (let n : false ≡ true = is in cc)
+  -- what spells no packet is not ignored
+  unspelled : (m : MemberModel S) (input : Input) → spells_packet input ≡ false → is_ignored m input ≡ false
+  unspelled m input e = rw e refl
+
+  err-memory : (b : Bool) (e : Error) (p : Address) (group : List ℕ) (old : Life S) (input : Input) (new : Life S) → b ≡ true → GivesBy b e p old input new
+      → (core_in p (if b then None else Some new) ≡ None) × (is_ignored (at p group (Some old)) input ≡ false)
+  err-memory true e p group old input new is x = (refl, unspelled (at p group (Some old)) input x.1)
+  err-memory false e p group old input new is x = absurd (let n : false ≡ true = is in cc)
 
   err-closed : (b : Bool) (e : Error) (p : Address) (old : Life S) (input : Input) (new : Life S) → b ≡ false → e ≡ Closed → GivesBy b e p old input new → ⊥
   err-closed true e p old input new is same x = absurd (let n : true ≡ false = is in cc)
   err-closed false e p old input new is same x = never-closed (core_at p old.stage old.receiver) input (x.0 ∙ ap {B = Option Error} Some same)
 
-  err-ignored : (b : Bool) (e : Error) (p : Address) (old : Life S) (input : Input) (new : Life S) → is_ignored input ≡ true → GivesBy b e p old input new → ⊥
+  err-ignored : (b : Bool) (e : Error) (p : Address) (old : Life S) (input : Input) (new : Life S) → spells_packet input ≡ true → GivesBy b e p old input new → ⊥
   err-ignored true e p old input new i x = let n : true ≡ false = sym i ∙ x.1 in absurd (cc)
-  err-ignored false e p old input new i x = none-some e (sym (ignored-free (core_at p old.stage old.receiver) input i) ∙ x.0)
+  err-ignored false e p old input new i x = none-some e (sym (packet-free (core_at p old.stage old.receiver) input i) ∙ x.0)
 
   err-at : (p : Address) (group : List ℕ) (old : Life S) (input : Input) (e : Error) (new : Life S) → GivesBy (is_memory e) e p old input new
       → Holds (at p group (Some old)) input (Err e) (at p group (if is_memory e then None else Some new))
   err-at p group old input e new x = record {
     acted = tt;
-    refused = err-refused (is_memory e) e p group old input new x;
-    memory = λ same. err-memory (is_memory e) e p old input new (ap is_memory (same_Err e Memory same)) x;
-    closed = (λ same. absurd (err-closed (is_memory e) e p old input new (ap is_memory (same_Err e Closed same)) (same_Err e Closed same) x), λ none. absurd (none-some _ (sym none)));
+    refused = err-refused (is_memory e) (is_unreadable decode (at p group (Some old)) input) e p group old input new (never-unreadable decode p group old.stage old.receiver input) x;
+    memory = λ same. err-memory (is_memory e) e p group old input new (ap is_memory (same_Err e Memory same)) x;
+    closed = record {
+      ended = λ none. absurd (none-some _ (sym none));
+      only = λ same. absurd (err-closed (is_memory e) e p old input new (ap is_memory (same_Err e Closed same)) (same_Err e Closed same) x);
+    };
     reply = tt;
     prompt = tt;
     puts = tt;
     notes = tt;
     few = tt;
     short = tt;
-    ignored = λ i there. absurd (err-ignored (is_memory e) e p old input new i x);
+    ignored = λ i there. absurd (err-ignored (is_memory e) e p old input new (and_parts (spells_packet input) _ i).0 x);
     address = refl;
     group = refl;
   }
@@ -246,7 +257,7 @@ module _ {S : Type 0} (apply : S → Address → List ℕ → S) (encode : S →
     acted = tt;
     refused = (refl, refl);
     memory = λ same. absurd (let n : Closed ≡ Memory = same_Err Closed Memory same in cc);
-    closed = (λ same. refl, λ none. refl);
+    closed = record { ended = λ none. refl; only = λ same. inl refl };
     reply = tt;
     prompt = tt;
     puts = tt;

@@ -1,4 +1,4 @@
--- Why a member refuses: never with 6 while it runs, and nothing that it ignores.
+-- Why a member refuses: never with 6 while it runs, and no packet.
 use Rattle.std.proofs.Common.{◌≡◌, ℕ, Bool, true, false, cond, not, Option, Some, None, length, nat_le, nat_lt, is_some, ◌^◌, refl, sym, ap, ◌∙◌, ◌≤◌, arith}
 use Rattle.std.specs.Option.{option_map, option_map_or}
 use Rattle.std.proofs.lemmas.Option.{none-some}
@@ -12,7 +12,7 @@ use Rattle.member.specs.declared.error.Error.{Error}
 use Rattle.member.specs.declared.error.Error.TheVariants.{NotConnected, Blocked, Busy, TooLong, AlreadyConnected, Closed, Memory, Exhausted, Wire}
 use Rattle.member.specs.declared.input.Input.{Input}
 use Rattle.member.specs.declared.input.Input.TheVariants.{Create, Join, Send, Datagram, Tick, Leave}
-use Rattle.member.specs.Members.{refusal_in, is_ignored}
+use Rattle.member.specs.Members.{refusal_in, spells_packet}
 
 is_closed : Error → Bool
 is_closed NotConnected = false
@@ -60,14 +60,14 @@ wire-free : (o : Option WireError) → not (is_some o) ≡ true → option_map W
 wire-free None e = refl
 wire-free (Some w) e = absurd (let n : false ≡ true = e in cc)
 
--- what is ignored is not refused
-pub ignored-free : {S : Type 0} (c : Core S) (input : Input) → is_ignored input ≡ true → refusal_in c input ≡ None
-ignored-free c Create e = absurd (let n : false ≡ true = e in cc)
-ignored-free c (Join contact) e = absurd (let n : false ≡ true = e in cc)
-ignored-free c (Send payload) e = absurd (let n : false ≡ true = e in cc)
-ignored-free c (Datagram bytes) e = wire-free (wire_refusal bytes.now) e
-ignored-free c Tick e = absurd (let n : false ≡ true = e in cc)
-ignored-free c Leave e = absurd (let n : false ≡ true = e in cc)
+-- what spells a packet is not refused
+pub packet-free : {S : Type 0} (c : Core S) (input : Input) → spells_packet input ≡ true → refusal_in c input ≡ None
+packet-free c Create e = absurd (let n : false ≡ true = e in cc)
+packet-free c (Join contact) e = absurd (let n : false ≡ true = e in cc)
+packet-free c (Send payload) e = absurd (let n : false ≡ true = e in cc)
+packet-free c (Datagram bytes) e = wire-free (wire_refusal bytes.now) e
+packet-free c Tick e = absurd (let n : false ≡ true = e in cc)
+packet-free c Leave e = absurd (let n : false ≡ true = e in cc)
 
 short-by : (b : Bool) (n : ℕ) (o : Option Error) → nat_lt PAYLOAD n ≡ b → cond b (Some TooLong) o ≡ None → n ≤ PAYLOAD
 short-by true n o test e = absurd (none-some TooLong (sym e))

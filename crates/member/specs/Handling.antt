@@ -1,5 +1,5 @@
 -- What one step of a member promises: in the acts and words of agreement, and in the words of traces.
-use Rattle.std.specs.Prelude.{◌≡◌, ℕ, ◌+◌, ◌<◌, ◌≤◌, Bool, true, false, is_some, map, length, [], ◌∷◌, List, Result, Ok, Err, Option, None, Some, MatchBool, IsSome, IfOk, ◌↔◌, drop, if◌then◌else◌}
+use Rattle.std.specs.Prelude.{◌≡◌, ℕ, ◌+◌, ◌<◌, ◌≤◌, Bool, true, false, is_some, map, length, [], ◌∷◌, List, Result, Ok, Err, Option, None, Some, MatchBool, IsSome, IfOk, ◌⊎◌, drop, if◌then◌else◌}
 use Rattle.std.specs.Option.{IsSomeAnd, option_and_then, option_map_or}
 use Rattle.std.specs.List.{list_all, Contains, AllByRecursion}
 use Rattle.address.specs.Ids.{Address, same_address}
@@ -20,7 +20,7 @@ use Rattle.member.specs.declared.input.Input.{Input}
 use Rattle.member.specs.declared.input.Input.TheVariants.{Create, Join, Send, Datagram, Tick, Leave}
 use Rattle.member.specs.declared.output.Output.{Output}
 use Rattle.member.specs.Errors.{is_memory}
-use Rattle.member.specs.Members.{MemberModel, Book, core_of, book_of, came_at, refusal_of, is_ignored}
+use Rattle.member.specs.Members.{MemberModel, Book, core_of, book_of, came_at, refusal_of, is_ignored, is_unreadable}
 use Rattle.member.specs.Outputs.{Puts, packet_in, spelled}
 use Rattle.member.specs.Steps.{lone_install}
 
@@ -36,14 +36,20 @@ pub record HasActed {S : Type 0} (apply : S → Address → List ℕ → S) (enc
 
 -- ---- refused, and memory
 
--- it refuses as it must, and only then, and is as before
-abbrev pub RefusesAs : {S : Type 0} → Option Error → MemberModel S → Result Output Error → MemberModel S → Type 0
-RefusesAs refusal old (Ok out) new = refusal ≡ None
-RefusesAs refusal old (Err e) new = MatchBool (is_memory e) (refusal ≡ None) ((refusal ≡ Some e) × (new ≡ old))
+-- it refuses as it must, and only then, and is as before; where it cannot read a state that it would take, it has ended, with 6
+abbrev pub RefusesAs : {S : Type 0} → Option Error → Bool → MemberModel S → Result Output Error → MemberModel S → Type 0
+RefusesAs refusal unreadable old (Ok out) new = (refusal ≡ None) × (unreadable ≡ false)
+RefusesAs refusal unreadable old (Err e) new =
+    MatchBool (is_memory e) (refusal ≡ None) (MatchBool unreadable ((e ≡ Closed) × (core_of new ≡ None)) ((refusal ≡ Some e) × (new ≡ old)))
 
 -- want of memory ends it; on an input that is ignored there is none
-abbrev pub EndsWithout : {S : Type 0} → Input → MemberModel S → Result Output Error → Type 0
-EndsWithout input new result = result ≡ Err Memory → (core_of new ≡ None) × (is_ignored input ≡ false)
+abbrev pub EndsWithout : {S : Type 0} → MemberModel S → Input → MemberModel S → Result Output Error → Type 0
+EndsWithout old input new result = result ≡ Err Memory → (core_of new ≡ None) × (is_ignored old input ≡ false)
+
+-- 6 after its end, and before it where it cannot read a state that it would take
+pub record IsClosed {S : Type 0} (decode : List ℕ → Option S) (old : MemberModel S) (input : Input) (result : Result Output Error) : Type 0 where
+  pub ended : core_of old ≡ None → result ≡ Err Closed
+  pub only : result ≡ Err Closed → (core_of old ≡ None) ⊎ (is_unreadable decode old input ≡ true)
 
 -- ---- reply
 
@@ -122,16 +128,16 @@ IsNothing (Ok out) = Puts [] [] out
 IsNothing (Err e) = ⊥
 
 abbrev pub Ignores : {S : Type 0} → MemberModel S → Input → Result Output Error → MemberModel S → Type 0
-Ignores old input result new = is_ignored input ≡ true → IsSome (core_of old) → IsNothing result × (new ≡ old)
+Ignores old input result new = is_ignored old input ≡ true → IsSome (core_of old) → IsNothing result × (new ≡ old)
 
 -- ---- all of it
 
 pub record Handled {S : Type 0} (apply : S → Address → List ℕ → S) (encode : S → List ℕ) (decode : List ℕ → Option S) (old : MemberModel S) (input : Input)
     (result : Result Output Error) (new : MemberModel S) : Type 0 where
   pub acted : IfOk result (λ out. HasActed apply encode decode old input out new)
-  pub refused : RefusesAs (refusal_of old input) old result new
-  pub memory : EndsWithout input new result
-  pub closed : (result ≡ Err Closed) ↔ (core_of old ≡ None)
+  pub refused : RefusesAs (refusal_of old input) (is_unreadable decode old input) old result new
+  pub memory : EndsWithout old input new result
+  pub closed : IsClosed decode old input result
   pub reply : IfOk result (λ out. IsSomeAnd (core_of old) (λ c. Replies c input out.happenings.items (core_of new)))
   pub prompt : IfOk result (λ out. IsSomeAnd (core_of old) (λ c. IsPrompt c input out.happenings.items))
   pub puts : IfOk result (λ out. out.packets.items ≡ map (spelled old.group) (posts old input))

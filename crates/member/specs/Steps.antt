@@ -19,7 +19,7 @@ use Rattle.member.specs.declared.life.Stage.TheVariants.{Idle, Joining, Alone}
 use Rattle.member.specs.declared.life.Life.{Life}
 use Rattle.member.specs.declared.output.Output.{Output}
 use Rattle.member.specs.Errors.{is_memory}
-use Rattle.member.specs.Members.{MemberModel, core_at, contact_at, refusal_in, is_ignored, IsLone}
+use Rattle.member.specs.Members.{MemberModel, core_at, contact_at, refusal_in, spells_packet, IsLone}
 use Rattle.member.specs.Names.{same_name}
 use Rattle.member.specs.Outputs.{Puts, packet_in, spelled}
 
@@ -90,7 +90,7 @@ abbrev pub Gives : {S : Type 0} → (S → Address → List ℕ → S) → Addre
 Gives apply p group old input (Ok out) new = (refusal_in (core_at p old.stage old.receiver) input ≡ None) × Does apply p group old input out new
 Gives apply p group old input (Err e) new =
     MatchBool (is_memory e)
-    ((refusal_in (core_at p old.stage old.receiver) input ≡ None) × (is_ignored input ≡ false) × (new.stage ≡ old.stage))
+    ((refusal_in (core_at p old.stage old.receiver) input ≡ None) × (spells_packet input ≡ false) × (new.stage ≡ old.stage))
     ((refusal_in (core_at p old.stage old.receiver) input ≡ Some e) × (new ≡ old))
 
 -- ---- the same of a member: it ends where it leaves and where memory is refused

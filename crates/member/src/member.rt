@@ -4,10 +4,10 @@ ghost use Rattle.trace_props.specs.Recorded.{IsRecordable};
 ghost use Rattle.agreement.specs.Cores.{idle, is_frozen};
 ghost use Rattle.member.specs.declared.TheConstants.{HAPPENINGS};
 ghost use Rattle.member.specs.declared.error.Error.TheVariants as error;
-ghost use Rattle.member.specs.Members.{IsLone, core_of, book_of, refusal_of};
+ghost use Rattle.member.specs.Members.{IsLone, core_of, book_of, refusal_of, is_unreadable};
 ghost use Rattle.member.specs.Outputs.{spelled};
 ghost use Rattle.member.specs.Steps.{Answers, ends};
-ghost use Rattle.member.specs.Handling.{Handled, HasActed, RefusesAs, EndsWithout, Replies, IsPrompt, posts, noted, Ignores};
+ghost use Rattle.member.specs.Handling.{Handled, HasActed, RefusesAs, EndsWithout, IsClosed, Replies, IsPrompt, posts, noted, Ignores};
 
 use crate::life::{Identity, Life, Stage};
 use crate::name::KeptName;
@@ -135,11 +135,11 @@ impl<R: Receiver> Member<R> {
         // It goes on by nothing but acts,
         ensures acted { IfOk result (λ out. HasActed R.apply R.encode R.decode self.old input.entry out self.new) }
         // and refuses exactly where it must, unchanged;
-        ensures refused { RefusesAs (refusal_of self.old input.entry) self.old result self.new }
+        ensures refused { RefusesAs (refusal_of self.old input.entry) (is_unreadable R.decode self.old input.entry) self.old result self.new }
         // want of memory ends it,
-        ensures memory { EndsWithout input.entry self.new result }
-        // and after its end it is closed.
-        ensures closed { (result ≡ Err error.Closed) ↔ (core_of self.old ≡ None) }
+        ensures memory { EndsWithout self.old input.entry self.new result }
+        // and after its end it is closed, or where it cannot read a state that it would take.
+        ensures closed { IsClosed R.decode self.old input.entry result }
         // What happens by each input, and whether the member is connected then;
         ensures reply { IfOk result (λ out. IsSomeAnd (core_of self.old) (λ c. Replies c input.entry out.happenings.items (core_of self.new))) }
         // a coordinator is told its message at once, while the window has room;

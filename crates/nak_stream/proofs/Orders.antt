@@ -1,9 +1,8 @@
 -- Windows that agree with one order of a view's messages: they go on to agree, and what each delivered is a beginning of it.
 use Rattle.std.proofs.Common.{◌≡◌, ℕ, ◌+◌, Bool, true, false, List, [], ◌∷◌, ◌++◌, Some, None, take, refl, sym, ap, ◌∙◌, arith, cond, min}
-use Rattle.std.specs.Prelude.{slice_get, nat_lt, is_some}
-use Rattle.std.specs.Ordering.{nat_cmp, is_eq}
-use Rattle.nak_stream.specs.Entries.{Entry}
-use Rattle.nak_stream.specs.Windows.{WindowModel, held_at, held_with, held_above, offers, taken, delivering, collected, empty_window}
+use Rattle.std.specs.Prelude.{slice_get, nat_eq, nat_lt, is_some}
+use Rattle.packet_values.specs.Values.{Entry, held_at}
+use Rattle.nak_stream.specs.Windows.{WindowModel, held_with, held_above, offers, taken, delivering, collected, empty_window}
 use Rattle.nak_stream.specs.Orders.{Agrees}
 use Rattle.nak_stream.proofs.Lists.{one-more}
 use Rattle.nak_stream.proofs.Windows.{same-number, held_at-with, held_at-above}
@@ -21,8 +20,8 @@ pub agrees-longer : (order more : List Entry) (w : WindowModel) → ((k : ℕ) (
     → Agrees order w → Agrees more w
 agrees-longer order more w kept a k e h = kept k e (a k e h)
 
-with-is : (b : Bool) (order : List Entry) (j k : ℕ) (e f : Entry) (held : List (ℕ × Entry)) → is_eq (nat_cmp (j + 1) (k + 1)) ≡ b → slice_get order j ≡ Some e
-    → (held_at (k + 1) held ≡ Some f → slice_get order k ≡ Some f) → cond (is_eq (nat_cmp (j + 1) (k + 1))) (Some e) (held_at (k + 1) held) ≡ Some f
+with-is : (b : Bool) (order : List Entry) (j k : ℕ) (e f : Entry) (held : List (ℕ × Entry)) → nat_eq (j + 1) (k + 1) ≡ b → slice_get order j ≡ Some e
+    → (held_at (k + 1) held ≡ Some f → slice_get order k ≡ Some f) → cond (nat_eq (j + 1) (k + 1)) (Some e) (held_at (k + 1) held) ≡ Some f
     → slice_get order k ≡ Some f
 with-is true order j k e f held q at old h =
     let n : j ≡ k = omega (arith, same-number (j + 1) (k + 1) q) in
@@ -31,7 +30,7 @@ with-is false order j k e f held q at old h = old (sym (ap (λ b. cond b (Some e
 
 taken-by : (b : Bool) (order : List Entry) (w : WindowModel) (j : ℕ) (e : Entry) → offers (j + 1) w ≡ b → slice_get order j ≡ Some e → Agrees order w
     → Agrees order (cond b (record w { held = held_with (j + 1) e w.held }) w)
-taken-by true order w j e q at a = λ k f h. with-is (is_eq (nat_cmp (j + 1) (k + 1))) order j k e f w.held refl at (a k f) (sym (held_at-with (k + 1) (j + 1) e w.held) ∙ h)
+taken-by true order w j e q at a = λ k f h. with-is (nat_eq (j + 1) (k + 1)) order j k e f w.held refl at (a k f) (sym (held_at-with (k + 1) (j + 1) e w.held) ∙ h)
 taken-by false order w j e q at a = a
 
 -- after an entry was offered at its number in the order

@@ -1,16 +1,30 @@
 -- What holds of each window goes on to hold as entries come, are delivered and are let go.
 use Rattle.std.proofs.Common.{◌≡◌, ℕ, ◌+◌, ◌<◌, ◌≤◌, ◌^◌, Bool, true, false, List, [], ◌∷◌, Some, None, refl, sym, ap, ◌∙◌, subst, arith, cond}
-use Rattle.std.specs.Prelude.{IsSome, is_some, nat_lt}
+use Rattle.std.specs.Prelude.{IsSome, is_some, nat_lt, nat_eq}
 use Rattle.std.specs.Ordering.{nat_cmp, is_eq}
-use Rattle.std.specs.Map.{keys_of}
+use Rattle.std.specs.Map.{keys_of, lookup}
 use Rattle.std.specs.List.Sorted.{IsStrictlySortedBy}
 use Rattle.std.proofs.lemmas.Bool.Decides.{nat_tests}
 use Rattle.std.proofs.lemmas.Map.Entries.{lookup-filter-keys}
-use Rattle.nak_stream.specs.Entries.{Entry}
-use Rattle.nak_stream.specs.Windows.{WindowModel, held_at, held_above, held_with, offers, IsWindow}
+use Rattle.packet_values.specs.Values.{Entry, held_at}
+use Rattle.nak_stream.specs.Windows.{WindowModel, held_above, held_with, offers, IsWindow}
 
-pub same-number : (g k : ℕ) → is_eq (nat_cmp g k) ≡ true → g ≡ k
+pub same-number : (g k : ℕ) → nat_eq g k ≡ true → g ≡ k
 same-number g k h = grind (arith, nat_tests)
+
+-- a map tests its keys as numbers
+test-is : (g k : ℕ) → is_eq (nat_cmp g k) ≡ nat_eq g k
+test-is g k = grind (arith, nat_tests)
+
+-- so what a map has at a number is what is held there
+pub map-holds : (g : ℕ) (held : List (ℕ × Entry)) → lookup (λ k. is_eq (nat_cmp g k)) held ≡ held_at g held
+map-holds g held = λ i. lookup (λ k. test-is g k i) held
+
+-- and what it has after an insertion, too
+pub map-updates : (g k : ℕ) (e : Entry) (held more : List (ℕ × Entry))
+    → lookup (λ n. is_eq (nat_cmp k n)) more ≡ cond (is_eq (nat_cmp g k)) (Some e) (lookup (λ n. is_eq (nat_cmp k n)) held)
+    → held_at k more ≡ cond (nat_eq g k) (Some e) (held_at k held)
+map-updates g k e held more at = sym (map-holds k more) ∙ at ∙ (λ i. cond (test-is g k i) (Some e) (map-holds k held i))
 
 -- the next number was held, and is delivered
 pub delivering-kept : (w : WindowModel) → IsWindow w → IsSome (held_at (w.delivered + 1) w.held) → IsWindow (record w { delivered = w.delivered + 1 })
@@ -25,30 +39,30 @@ delivering-kept w i next = record {
 }
 
 -- a number at which an entry more is held is that entry's, or one that was held
-of-one-more : (b : Bool) (g k low high : ℕ) (e : Entry) (held more : List (ℕ × Entry)) → is_eq (nat_cmp g k) ≡ b
-    → held_at k more ≡ cond (is_eq (nat_cmp g k)) (Some e) (held_at k held) → low ≤ g → g ≤ high
+of-one-more : (b : Bool) (g k low high : ℕ) (e : Entry) (held more : List (ℕ × Entry)) → nat_eq g k ≡ b
+    → held_at k more ≡ cond (nat_eq g k) (Some e) (held_at k held) → low ≤ g → g ≤ high
     → (IsSome (held_at k held) → (low ≤ k) × (k ≤ high)) → IsSome (held_at k more) → (low ≤ k) × (k ≤ high)
 of-one-more true g k low high e held more q at a b old h = (subst (λ n. low ≤ n) (same-number g k q) a, subst (λ n. n ≤ high) (same-number g k q) b)
 of-one-more false g k low high e held more q at a b old h =
     old (ap is_some (sym (at ∙ ap (λ t. cond t (Some e) (held_at k held)) q)) ∙ h)
 
-still-there : (b : Bool) (g k : ℕ) (e : Entry) (held more : List (ℕ × Entry)) → is_eq (nat_cmp g k) ≡ b
-    → held_at k more ≡ cond (is_eq (nat_cmp g k)) (Some e) (held_at k held) → IsSome (held_at k held) → IsSome (held_at k more)
+still-there : (b : Bool) (g k : ℕ) (e : Entry) (held more : List (ℕ × Entry)) → nat_eq g k ≡ b
+    → held_at k more ≡ cond (nat_eq g k) (Some e) (held_at k held) → IsSome (held_at k held) → IsSome (held_at k more)
 still-there true g k e held more q at h = ap is_some (at ∙ ap (λ t. cond t (Some e) (held_at k held)) q)
 still-there false g k e held more q at h = ap is_some (at ∙ ap (λ t. cond t (Some e) (held_at k held)) q) ∙ h
 
 -- a new number is held
 pub taken-kept : (w : WindowModel) (g : ℕ) (e : Entry) (more : List (ℕ × Entry)) → IsWindow w → w.delivered < g → g ≤ w.stable + 32 → g ≤ 2 ^ 62
-    → ((k : ℕ) → held_at k more ≡ cond (is_eq (nat_cmp g k)) (Some e) (held_at k w.held)) → IsStrictlySortedBy nat_cmp (keys_of more)
+    → ((k : ℕ) → held_at k more ≡ cond (nat_eq g k) (Some e) (held_at k w.held)) → IsStrictlySortedBy nat_cmp (keys_of more)
     → IsWindow (record w { held = more })
 taken-kept w g e more i past reach small at rising =
     let low : w.stable + 1 ≤ g = omega (arith, i.counts) in record {
       counts = i.counts;
       last = i.last;
-      above = λ k h. omega (arith, (of-one-more (is_eq (nat_cmp g k)) g k (w.stable + 1) (w.stable + 32) e w.held more refl (at k) low reach (λ x. (omega (arith, i.above k x), i.within k x)) h).0);
-      within = λ k h. (of-one-more (is_eq (nat_cmp g k)) g k (w.stable + 1) (w.stable + 32) e w.held more refl (at k) low reach (λ x. (omega (arith, i.above k x), i.within k x)) h).1;
-      small = λ k h. (of-one-more (is_eq (nat_cmp g k)) g k (w.stable + 1) (2 ^ 62) e w.held more refl (at k) low small (λ x. (omega (arith, i.above k x), i.small k x)) h).1;
-      there = λ k a b. still-there (is_eq (nat_cmp g k)) g k e w.held more refl (at k) (i.there k a b);
+      above = λ k h. omega (arith, (of-one-more (nat_eq g k) g k (w.stable + 1) (w.stable + 32) e w.held more refl (at k) low reach (λ x. (omega (arith, i.above k x), i.within k x)) h).0);
+      within = λ k h. (of-one-more (nat_eq g k) g k (w.stable + 1) (w.stable + 32) e w.held more refl (at k) low reach (λ x. (omega (arith, i.above k x), i.within k x)) h).1;
+      small = λ k h. (of-one-more (nat_eq g k) g k (w.stable + 1) (2 ^ 62) e w.held more refl (at k) low small (λ x. (omega (arith, i.above k x), i.small k x)) h).1;
+      there = λ k a b. still-there (nat_eq g k) g k e w.held more refl (at k) (i.there k a b);
       rising = rising;
     }
 
@@ -84,6 +98,6 @@ pub offered : (g : ℕ) (w : WindowModel) → offers g w ≡ true → Offered g 
 offered g w h = record { past = grind (arith, nat_tests); reach = grind (arith, nat_tests); small = grind (arith, nat_tests) }
 
 -- what is held at a number after an entry was taken in
-pub held_at-with : (k g : ℕ) (e : Entry) (held : List (ℕ × Entry)) → held_at k (held_with g e held) ≡ cond (is_eq (nat_cmp g k)) (Some e) (held_at k held)
+pub held_at-with : (k g : ℕ) (e : Entry) (held : List (ℕ × Entry)) → held_at k (held_with g e held) ≡ cond (nat_eq g k) (Some e) (held_at k held)
 held_at-with k g e [] = grind (arith, nat_tests)
 held_at-with k g e (p ∷ held) = grind (arith, nat_tests, held_at-with k g e held)

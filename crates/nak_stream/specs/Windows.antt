@@ -1,10 +1,10 @@
 -- The receive window: what it is, what is offered to it and what is let go.
 use Rattle.std.specs.Prelude.{◌≡◌, ℕ, ◌+◌, ◌<◌, ◌≤◌, ◌^◌, Bool, not, ◌&&◌, List, [], Option, None, IsSome, is_some, filter, nat_lt, nat_le, min, if◌then◌else◌}
-use Rattle.std.specs.Ordering.{nat_cmp, is_eq}
-use Rattle.std.specs.Map.{lookup, keys_of}
+use Rattle.std.specs.Ordering.{nat_cmp}
+use Rattle.std.specs.Map.{keys_of}
 use Rattle.std.specs.BTreeMap.{insert_entry}
 use Rattle.std.specs.List.Sorted.{IsStrictlySortedBy}
-use Rattle.nak_stream.specs.Entries.{Entry}
+use Rattle.packet_values.specs.Values.{Entry, held_at}
 use Rattle.nak_stream.specs.declared.TheConstants.{REACH}
 
 -- a window: a stable count, a delivered count, and what is held, as pairs of number and entry with rising numbers
@@ -12,10 +12,6 @@ pub record WindowModel : Type 0 where
   pub stable : ℕ
   pub delivered : ℕ
   pub held : List (ℕ × Entry)
-
--- the entry that is held at a number
-abbrev pub held_at : ℕ → List (ℕ × Entry) → Option Entry
-held_at g held = lookup (λ k. is_eq (nat_cmp g k)) held
 
 -- an entry more, at its place among the rising numbers
 abbrev pub held_with : ℕ → Entry → List (ℕ × Entry) → List (ℕ × Entry)

@@ -1,51 +1,59 @@
 ghost use Rattle.std.specs.Prelude.{◌≡◌, IfOk};
 
+use crate::KeptPayload;
 use address::Address;
+use packet_values::{Entry as LentEntry, Number};
 use std::alloc::{AllocError, Global};
 use std::marker::Model;
 
-/// A message as the view's one order has it: its sender, its number among that sender's messages of the view,
-/// from 1, and its payload.
+/// A message as the view's one order has it, kept: its sender, its number among that sender's messages of the view, from 1 to 2^62, and its
+/// payload of at most 512 bytes. Contracts see it as they see a lent one.
 #[derive(Debug, Drop)]
 pub struct Entry {
     /// Who sent it.
     pub sender: Address,
     /// Its number among its sender's messages of the view.
-    pub number: u64,
+    pub number: Number,
     /// Its payload.
-    pub payload: Vec<u8>,
+    pub payload: KeptPayload,
 }
 
 impl Model for Entry {
-    ghost use Rattle.nak_stream.specs.Entries.{Entry};
+    ghost use Rattle.packet_values.specs.Values.{Entry};
 
     ghost Value = { Entry };
 
-    ghost view = { λ e. record { sender = e.sender; number = e.number; payload = e.payload.items } };
+    ghost view = { λ e. record { sender = e.sender; number = e.number; payload = e.payload } };
 }
 
 impl Entry {
-    /// The entry of these parts, with a copy of the payload.
-    pub fn copy_of(
-        alloc: Global,
-        sender: Address,
-        number: u64,
-        payload: &[u8],
-    ) -> Result<Entry, AllocError>
-        ensures { IfOk result (λ e. e ≡ record { sender = sender; number = number; payload = payload.now }) }
+    /// A copy of a lent entry.
+    pub fn copy_of(alloc: Global, entry: &LentEntry<'_>) -> Result<Entry, AllocError>
+        ensures { IfOk result (λ e. e ≡ entry.now) }
     {
-        let payload = Vec::from_slice(alloc, payload)?;
+        let payload = KeptPayload::copy_of(alloc, &entry.payload)?;
         Ok(Entry {
-            sender,
-            number,
+            sender: entry.sender,
+            number: entry.number,
             payload,
         })
+    }
+
+    /// It, lent as packets carry it. Takes no memory.
+    pub fn lent(&self) -> LentEntry<'_>
+        ensures { result ≡ self.now }
+    {
+        LentEntry {
+            sender: self.sender,
+            number: self.number,
+            payload: self.payload.lent(),
+        }
     }
 
     /// A copy of it.
     pub(crate) fn copied(&self, alloc: Global) -> Result<Entry, AllocError>
         ensures { IfOk result (λ e. e ≡ self.now) }
     {
-        Entry::copy_of(alloc, self.sender, self.number, self.payload.as_slice())
+        Entry::copy_of(alloc, &self.lent())
     }
 }

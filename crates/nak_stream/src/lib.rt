@@ -4,10 +4,12 @@
 
 mod entry;
 mod law;
+mod payload;
 mod window;
 
 pub use entry::Entry;
 pub use law::{beginnings_agree, windows_agree};
+pub use payload::KeptPayload;
 pub use window::Window;
 
 /// How many numbers past the stable count a window takes: 32.

@@ -3,10 +3,12 @@ ghost use Rattle.std.specs.Option.{option_copied};
 ghost use Rattle.std.specs.Ordering.{nat_cmp};
 ghost use Rattle.std.specs.Map.{keys_of};
 ghost use Rattle.std.specs.List.Sorted.{IsStrictlySortedBy};
-ghost use Rattle.nak_stream.specs.Windows.{WindowModel, empty_window, held_at, held_above, offers, taken, delivering, collected, IsWindow, IsMissing, IsLeastGap, IsGreatestGap};
+ghost use Rattle.packet_values.specs.Values.{held_at};
+ghost use Rattle.nak_stream.specs.Windows.{WindowModel, empty_window, held_above, offers, taken, delivering, collected, IsWindow, IsMissing, IsLeastGap, IsGreatestGap};
 
 use crate::{Entry, REACH};
-use address::{Address, GREATEST_NUMBER};
+use address::GREATEST_NUMBER;
+use packet_values::Entry as LentEntry;
 use std::alloc::{AllocError, Global};
 use std::collections::BTreeMap;
 use std::marker::Model;
@@ -72,28 +74,22 @@ impl Window {
     pub fn entry(&self, g: u64) -> Option<&Entry>
         ensures { option_copied result ≡ held_at g self.now.held }
     {
-        self.held.get(&g)
+        entry_at(&self.held, g)
     }
 
-    /// Offers the entry of these parts at the number `g`. It is taken, and true is answered, exactly where `g` is above the
-    /// delivered count, at most 32 above the stable count and at most 2^62, and nothing is held there. The payload is copied.
+    /// Offers a lent entry at the number `g`. It is taken, and true is answered, exactly where `g` is above the delivered count, at most
+    /// 32 above the stable count and at most 2^62, and nothing is held there. The entry is copied.
     /// An error for want of memory comes only where it was to be taken; it leaves the window as it was.
-    pub fn accept(
-        &mut self,
-        g: u64,
-        sender: Address,
-        number: u64,
-        payload: &[u8],
-    ) -> Result<bool, AllocError>
+    pub fn accept(&mut self, g: u64, entry: &LentEntry<'_>) -> Result<bool, AllocError>
         ensures answer { IfOk result (λ answer. answer ≡ offers g self.old) }
-        ensures ok { OnOk result (self.new ≡ taken g (record { sender = sender; number = number; payload = payload.now }) self.old) }
+        ensures ok { OnOk result (self.new ≡ taken g entry.now self.old) }
         ensures err { OnErr result (self.new ≡ self.old) }
         ensures err_only { OnErr result (IsTrue (offers g self.old)) }
     {
         if !self.offers(g) {
             return Ok(false);
         }
-        let entry = Entry::copy_of(self.alloc, sender, number, payload)?;
+        let entry = Entry::copy_of(self.alloc, entry)?;
         self.held.insert(g, entry)?;
         Ok(true)
     }
@@ -104,7 +100,7 @@ impl Window {
         self.delivered < g
             && g - self.stable <= REACH
             && g <= GREATEST_NUMBER
-            && !self.held.contains_key(&g)
+            && !holds(&self.held, g)
     }
 
     /// Delivers the next number, where it is held: the delivered count rises by one, and a copy of the entry is answered, which
@@ -116,7 +112,7 @@ impl Window {
         ensures err { OnErr result (self.new ≡ self.old) }
         ensures err_only { OnErr result (IsSome (held_at (self.old.delivered + 1) self.old.held)) }
     {
-        match self.held.get(&(self.delivered + 1)) {
+        match entry_at(&self.held, self.delivered + 1) {
             None => Ok(None),
             Some(entry) => {
                 let copy = entry.copied(self.alloc)?;
@@ -154,7 +150,7 @@ impl Window {
     {
         let mut before = self.delivered;
         while before < highest {
-            if !self.held.contains_key(&(before + 1)) {
+            if !holds(&self.held, before + 1) {
                 return Some(before + 1);
             }
             before += 1;
@@ -167,13 +163,25 @@ impl Window {
     {
         let mut number = highest;
         while number > self.delivered {
-            if !self.held.contains_key(&number) {
+            if !holds(&self.held, number) {
                 return Some(number);
             }
             number -= 1;
         }
         None
     }
+}
+
+fn entry_at(held: &BTreeMap<u64, Entry>, g: u64) -> Option<&Entry>
+    ensures { option_copied result ≡ held_at g held.now.entries }
+{
+    held.get(&g)
+}
+
+fn holds(held: &BTreeMap<u64, Entry>, g: u64) -> bool
+    ensures { result ≡ is_some (held_at g held.now.entries) }
+{
+    entry_at(held, g).is_some()
 }
 
 fn let_go(held: &mut BTreeMap<u64, Entry>, stable: u64)

@@ -6,7 +6,7 @@ use address::GREATEST_NUMBER;
 use std::marker::Model;
 
 /// A number from 1 to 2^62: of a message, of a place in a view's order, or a view's counter.
-#[derive(Clone, Copy)]
+#[derive(Clone, Copy, Debug)]
 pub struct Number {
     value: u64,
 }

@@ -71,6 +71,8 @@ impl Receiver for Last {
         Ok(())
     }
 
+    fn kept(&self) {}
+
     fn set_state(&mut self, state: &[u8]) -> Result<bool, AllocError> {
         if state.len() == 1 {
             self.value = state[0];

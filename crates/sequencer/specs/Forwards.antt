@@ -1,25 +1,21 @@
 -- A member's own messages that were sent in a view and not delivered there.
 use Rattle.std.specs.Prelude.{◌≡◌, ℕ, ◌+◌, ◌-◌, ◌≤◌, ◌^◌, List, [], ◌∷◌, ◌++◌, Option, Some, None, length, drop, nat_eq, slice_get, if◌then◌else◌}
+use Rattle.trace_props.specs.declared.happening.Numbered.{Numbered}
 use Rattle.sequencer.specs.declared.TheConstants.{OUTSTANDING}
 use Rattle.sequencer.specs.declared.forwards.PushRefusal.{PushRefusal}
 use Rattle.sequencer.specs.declared.forwards.PushRefusal.TheVariants.{Busy, Exhausted, Memory}
 
--- a message on its way into the order: its number among its sender's messages, and its payload
-pub record Forward : Type 0 where
-  pub number : ℕ
-  pub payload : List ℕ
-
 -- how many messages were sent, and those of them that are outstanding, by number
 pub record ForwardsModel : Type 0 where
   pub sent : ℕ
-  pub rest : List Forward
+  pub rest : List Numbered
 
 -- the outstanding ones are the last that were sent, at most 8 of them
 pub record IsForwards (w : ForwardsModel) : Type 0 where
   pub some : length w.rest ≤ w.sent
   pub few : length w.rest ≤ OUTSTANDING
   pub last : w.sent ≤ 2 ^ 62
-  pub numbered : (k : ℕ) (f : Forward) → slice_get w.rest k ≡ Some f → f.number + length w.rest ≡ w.sent + k + 1
+  pub numbered : (k : ℕ) (f : Numbered) → slice_get w.rest k ≡ Some f → f.number + length w.rest ≡ w.sent + k + 1
 
 abbrev pub no_forwards : ForwardsModel
 no_forwards = record { sent = 0; rest = [] }

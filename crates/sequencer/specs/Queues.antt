@@ -3,9 +3,9 @@ use Rattle.std.specs.Prelude.{ℕ, ◌+◌, ◌-◌, ◌^◌, Bool, false, not, 
 use Rattle.std.specs.List.{list_any, find}
 use Rattle.std.specs.Option.{option_map, option_map_or}
 use Rattle.address.specs.Ids.{Address, same_address}
-use Rattle.nak_stream.specs.Entries.{Entry}
+use Rattle.packet_values.specs.Values.{Entry}
 use Rattle.nak_stream.specs.declared.TheConstants.{REACH}
-use Rattle.sequencer.specs.Forwards.{Forward}
+use Rattle.trace_props.specs.declared.happening.Numbered.{Numbered}
 use Rattle.sequencer.specs.declared.TheConstants.{OUTSTANDING}
 
 -- a list in which the first element that passes a test is changed
@@ -22,7 +22,7 @@ without_first test (x ∷ xs) = if test x then xs else x ∷ without_first test 
 pub record Queue : Type 0 where
   pub sender : Address
   pub ordered : ℕ
-  pub waiting : List Forward
+  pub waiting : List Numbered
 
 abbrev pub idle : Address → Queue
 idle p = record { sender = p; ordered = 0; waiting = [] }
@@ -36,14 +36,14 @@ abbrev pub offered : ℕ → List ℕ → Queue → Queue
 offered n x q = if takes n q then record { sender = q.sender; ordered = q.ordered; waiting = q.waiting ++ record { number = n; payload = x } ∷ [] } else q
 
 -- whether this is the number that comes next
-abbrev pub follows : Queue → Forward → Bool
+abbrev pub follows : Queue → Numbered → Bool
 follows q f = nat_eq (q.ordered + 1) f.number
 
 -- whether the next message waits
 abbrev pub has_next : Queue → Bool
 has_next q = list_any (follows q) q.waiting
 
-abbrev pub entry_with : Queue → Forward → Entry
+abbrev pub entry_with : Queue → Numbered → Entry
 entry_with q f = record { sender = q.sender; number = f.number; payload = f.payload }
 
 -- the next message, where it waits

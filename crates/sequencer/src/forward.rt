@@ -1,18 +1,21 @@
+use nak_stream::KeptPayload;
+use packet_values::Number;
 use std::marker::Model;
 
-/// A message on its way into the order: its number among its sender's messages of the view, from 1, and its payload.
+/// A message on its way into the order: its number among its sender's messages of the view, from 1 to 2^62, and its payload of at most 512
+/// bytes.
 #[derive(Debug, Drop)]
 pub struct Forward {
     /// Its number among its sender's messages of the view, from 1.
-    pub number: u64,
+    pub number: Number,
     /// Its payload.
-    pub payload: Vec<u8>,
+    pub payload: KeptPayload,
 }
 
 impl Model for Forward {
-    ghost use Rattle.sequencer.specs.Forwards.{Forward};
+    ghost use Rattle.trace_props.specs.declared.happening.Numbered.{Numbered};
 
-    ghost Value = { Forward };
+    ghost Value = { Numbered };
 
-    ghost view = { λ f. record { number = f.number; payload = f.payload.items } };
+    ghost view = { λ f. record { number = f.number; payload = f.payload } };
 }

@@ -3,6 +3,8 @@ ghost use Rattle.sequencer.specs.Forwards.{ForwardsModel, no_forwards, pushed, d
 
 use crate::{Forward, OUTSTANDING};
 use address::GREATEST_NUMBER;
+use nak_stream::KeptPayload;
+use packet_values::Number;
 use std::alloc::Global;
 use std::marker::Model;
 
@@ -60,9 +62,9 @@ impl Forwards {
 
     /// Takes a message under the next number, which is answered. Refused, with the payload given back and all as it was, with 3 exactly where 8
     /// messages are outstanding, else with 8 exactly where 2^62 were sent, else with 7 where memory was refused.
-    pub fn push(&mut self, payload: Vec<u8>) -> Result<u64, (Vec<u8>, PushRefusal)>
-        ensures number { MatchResult result (λ number. number ≡ self.old.sent + 1) (λ refused. refused.0.items ≡ payload.items) }
-        ensures after { MatchResult result (λ _. self.new ≡ pushed payload.items self.old) (λ _. self.new ≡ self.old) }
+    pub fn push(&mut self, payload: KeptPayload) -> Result<Number, (KeptPayload, PushRefusal)>
+        ensures number { MatchResult result (λ number. number ≡ self.old.sent + 1) (λ refused. refused.0 ≡ payload) }
+        ensures after { MatchResult result (λ _. self.new ≡ pushed payload self.old) (λ _. self.new ≡ self.old) }
         ensures refused { MatchResult result (λ _. push_refusal self.old ≡ None) (λ refused. MatchOption (push_refusal self.old) (refused.1 ≡ PushRefusal.Memory) (λ why. refused.1 ≡ why)) }
     {
         if self.rest.len() as u64 == OUTSTANDING {
@@ -71,10 +73,13 @@ impl Forwards {
         if self.sent == GREATEST_NUMBER {
             return Err((payload, PushRefusal::Exhausted));
         }
-        let number = self.sent + 1;
+        let sent = self.sent + 1;
+        let Some(number) = Number::new(sent) else {
+            unreachable!();
+        };
         match self.rest.push(Forward { number, payload }) {
             Ok(()) => {
-                self.sent = number;
+                self.sent = sent;
                 Ok(number)
             }
             Err(refused) => Err((refused.value.payload, PushRefusal::Memory)),

@@ -6,6 +6,7 @@ ghost use Rattle.sequencer.specs.Queues.{OrdererModel, idle, has_next, is_from, 
 use crate::queue::Queue;
 use address::{Address, GREATEST_NUMBER};
 use nak_stream::{Entry, REACH};
+use packet_values::{Number, Payload};
 use std::alloc::{AllocError, Global};
 use std::marker::Model;
 use view::View;
@@ -56,8 +57,8 @@ impl Orderer {
     pub fn forward(
         &mut self,
         sender: &Address,
-        number: u64,
-        payload: &[u8],
+        number: Number,
+        payload: &Payload<'_>,
     ) -> Result<bool, AllocError>
         ensures answer { IfOk result (λ answer. answer ≡ is_taken sender.now number self.old) }
         ensures ok { OnOk result (self.new ≡ forwarded sender.now number payload.now self.old) }
@@ -69,7 +70,7 @@ impl Orderer {
 
     /// Orders one message, where fewer than 32 lie past the `stable` ones and fewer than 2^62 were ordered: that of the member of
     /// lowest rank whose next number waits. Answers its number in the order, from 1, and the message. Takes no memory.
-    pub fn ready(&mut self, stable: u64) -> Option<(u64, Entry)>
+    pub fn ready(&mut self, stable: u64) -> Option<(Number, Entry)>
         ensures answer { result ≡ option_map (λ e. (self.old.ordered + 1, e)) (next_ordered stable self.old) }
         ensures after { self.new ≡ ordering stable self.old }
     {
@@ -78,7 +79,10 @@ impl Orderer {
         }
         let entry = serve(&mut self.queues)?;
         self.ordered += 1;
-        Some((self.ordered, entry))
+        let Some(place) = Number::new(self.ordered) else {
+            unreachable!();
+        };
+        Some((place, entry))
     }
 
     fn may_order(&self, stable: u64) -> bool
@@ -115,8 +119,8 @@ fn offer_to(
     queues: &mut Vec<Queue>,
     alloc: Global,
     sender: &Address,
-    number: u64,
-    payload: &[u8],
+    number: Number,
+    payload: &Payload<'_>,
 ) -> Result<bool, AllocError>
     ensures answer { IfOk result (λ answer. answer ≡ option_map_or (takes number) (find (is_from sender.now) queues.old.items) false) }
     ensures ok { OnOk result (queues.new.items ≡ change_first (is_from sender.now) (offered number payload.now) queues.old.items) }

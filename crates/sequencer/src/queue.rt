@@ -4,7 +4,8 @@ ghost use Rattle.sequencer.specs.Queues.{idle, takes, offered, follows, has_next
 
 use crate::{Forward, OUTSTANDING};
 use address::Address;
-use nak_stream::Entry;
+use nak_stream::{Entry, KeptPayload};
+use packet_values::{Number, Payload};
 use std::alloc::{AllocError, Global};
 use std::marker::Model;
 
@@ -44,7 +45,7 @@ impl Queue {
     fn waits(&self, number: u64) -> bool
         ensures { result ≡ list_any (λ f. nat_eq number f.number) self.now.waiting }
     {
-        self.waiting.iter().any(|forward| number == forward.number)
+        self.waiting.iter().any(|forward| number == forward.number.get())
     }
 
     fn takes(&self, number: u64) -> bool
@@ -54,16 +55,16 @@ impl Queue {
     }
 
     /// Takes a copy of the message, where it is new and at most 8 past what was ordered.
-    pub fn offer(&mut self, alloc: Global, number: u64, payload: &[u8]) -> Result<bool, AllocError>
+    pub fn offer(&mut self, alloc: Global, number: Number, payload: &Payload<'_>) -> Result<bool, AllocError>
         ensures answer { IfOk result (λ answer. answer ≡ takes number self.old) }
         ensures ok { OnOk result (self.new ≡ offered number payload.now self.old) }
         ensures err { OnErr result (self.new ≡ self.old) }
         ensures err_only { OnErr result (IsTrue (takes number self.old)) }
     {
-        if !self.takes(number) {
+        if !self.takes(number.get()) {
             return Ok(false);
         }
-        let payload = Vec::from_slice(alloc, payload)?;
+        let payload = KeptPayload::copy_of(alloc, payload)?;
         self.waiting.push(Forward { number, payload })?;
         Ok(true)
     }
@@ -74,7 +75,7 @@ impl Queue {
         let ordered = self.ordered;
         self.waiting
             .iter()
-            .position(|forward| follows(ordered, forward.number))
+            .position(|forward| follows(ordered, forward.number.get()))
     }
 
     /// Whether the next message waits.
@@ -84,7 +85,7 @@ impl Queue {
         let ordered = self.ordered;
         self.waiting
             .iter()
-            .any(|forward| follows(ordered, forward.number))
+            .any(|forward| follows(ordered, forward.number.get()))
     }
 
     /// Takes out the next message, where it waits, and counts it as ordered.
@@ -93,13 +94,19 @@ impl Queue {
         ensures after { MatchOption result (self.new ≡ self.old) (λ _. self.new ≡ served self.old) }
     {
         let place = self.next_place()?;
-        let Forward { number, payload } = self.waiting.remove(place);
-        self.ordered = number;
-        Some(Entry {
-            sender: self.sender,
-            number,
-            payload,
-        })
+        let forward = self.waiting.remove(place);
+        self.ordered = forward.number.get();
+        Some(entry_of(self.sender, forward))
+    }
+}
+
+fn entry_of(sender: Address, forward: Forward) -> Entry
+    ensures { result ≡ record { sender = sender; number = forward.number; payload = forward.payload } }
+{
+    Entry {
+        sender,
+        number: forward.number,
+        payload: forward.payload,
     }
 }
 

@@ -53,13 +53,19 @@ pub trait Receiver: Drop + Sized {
 
     /// Appends its state as bytes, at most 16,384 of them.
     fn get_state(&self, state: &mut Vec<u8>) -> Result<(), AllocError>
-        ensures { OnOk result (state.new.items ≡ state.old.items ++ encode self.now) };
+        ensures appends { OnOk result (state.new.items ≡ state.old.items ++ encode self.now) }
+        ensures short { OnOk result (length (encode self.now) ≤ STATE) };
 
     /// Takes the state that bytes stand for, and says whether they stand for one. On false its state is as before.
     fn set_state(&mut self, state: &[u8]) -> Result<bool, AllocError>
         ensures { IfOk result (λ taken. MatchOption (decode state.now)
             ((taken ≡ false) × (self.new ≡ self.old))
             (λ s. (taken ≡ true) × (self.new ≡ s))) };
+
+    /// What holds of every receiver, for proofs: its state is one that a receiver can be in. It does nothing: its body is empty, or
+    /// names a field of a type with an invariant.
+    fn kept(&self)
+        ensures { is_state self.now };
 
     ghost opens: { is_state opening_state };
 

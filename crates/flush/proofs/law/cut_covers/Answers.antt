@@ -1,5 +1,6 @@
 use Rattle.flush.proofs.Covers.{cut-covers, base-is-below, one-cut}
 use Rattle.flush.proofs.Groups.{groups-are-reported}
+use Rattle.flush.proofs.CutItems.{cut-is}
 use Rattle.flush.proofs.law.cut_covers.Goals as goal
 
 pub returns-clause-covers : goal.returns-clause-covers
@@ -13,3 +14,6 @@ returns-clause-one c = one-cut
 
 pub returns-clause-groups : goal.returns-clause-groups
 returns-clause-groups c = groups-are-reported
+
+pub returns-clause-cut : goal.returns-clause-cut
+returns-clause-cut c = cut-is

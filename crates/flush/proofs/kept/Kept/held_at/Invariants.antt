@@ -1,5 +1,5 @@
 use Rattle.std.proofs.Common.{◌≡◌, length}
-use Rattle.flush.specs.Cuts.{held_at}
+use Rattle.packet_values.specs.Values.{held_at}
 use Rattle.flush.proofs.kept.Kept.held_at.Given as goal
 
 -- the entries that are left decide

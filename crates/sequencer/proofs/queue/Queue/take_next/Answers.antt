@@ -1,7 +1,7 @@
-use Rattle.std.proofs.Common.{◌≡◌, List, Some, None, sym, ap, ◌∙◌, position}
+use Rattle.std.proofs.Common.{◌≡◌, ℕ, List, Some, None, sym, ap, ◌∙◌, position}
 use Rattle.std.specs.Option.{option_map}
 use Rattle.std.specs.List.{remove}
-use Rattle.sequencer.specs.Forwards.{Forward}
+use Rattle.trace_props.specs.declared.happening.Numbered.{Numbered}
 use Rattle.sequencer.specs.Queues.{Queue, follows, next_of, entry_with, served}
 use Rattle.sequencer.proofs.Firsts.{IsFirst, first-is, none-is, find-none}
 use Rattle.sequencer.proofs.Queues.{served-is, next-is}
@@ -18,18 +18,18 @@ returns-clause-answer c =
     let w : Queue = record { sender = c.self.inside.sender; ordered = c.self.inside.ordered; waiting = c.self.inside.waiting.items } in
     let p : position (follows w) w.waiting ≡ Some c.in_ok-place.place =
     ap (λ (q : Queue). position (follows q) q.waiting) c.self.view_is ∙ sym c.next_place.ensures ∙ c.in_ok-place.was in
-    let f : Forward = c.remove.result in
-    let t : IsFirst (follows w) w.waiting c.in_ok-place.place f = first-is (follows w) w.waiting c.in_ok-place.place f p c.remove.ensures.value in
-    ap (λ (taken : Forward). Some (entry_with w taken)) c.number.view_is ∙ sym (next-is w c.in_ok-place.place f t) ∙ ap next_of c.self.view_is
+    let f : Numbered = c.remove-forward.result in
+    let t : IsFirst (follows w) w.waiting c.in_ok-place.place f = first-is (follows w) w.waiting c.in_ok-place.place f p c.remove-forward.ensures.value in
+    ap Some c.entry_of.ensures ∙ sym (next-is w c.in_ok-place.place f t) ∙ ap next_of c.self.view_is
 
 pub returns-clause-after : goal.returns-clause-after
 returns-clause-after c =
     let w : Queue = record { sender = c.self.inside.sender; ordered = c.self.inside.ordered; waiting = c.self.inside.waiting.items } in
     let p : position (follows w) w.waiting ≡ Some c.in_ok-place.place =
     ap (λ (q : Queue). position (follows q) q.waiting) c.self.view_is ∙ sym c.next_place.ensures ∙ c.in_ok-place.was in
-    let f : Forward = c.remove.result in
-    let t : IsFirst (follows w) w.waiting c.in_ok-place.place f = first-is (follows w) w.waiting c.in_ok-place.place f p c.remove.ensures.value in
-    let counted = ap (λ (taken : Forward). record { sender = w.sender; ordered = taken.number; waiting = c.remove.new.self.items }) c.number.view_is in
-    let removed : record { sender = w.sender; ordered = f.number; waiting = c.remove.new.self.items } ≡ record { sender = w.sender; ordered = f.number; waiting = remove w.waiting c.in_ok-place.place } =
-    ap (λ (fs : List Forward). record { sender = w.sender; ordered = f.number; waiting = fs }) c.remove.ensures.items in
+    let f : Numbered = c.remove-forward.result in
+    let t : IsFirst (follows w) w.waiting c.in_ok-place.place f = first-is (follows w) w.waiting c.in_ok-place.place f p c.remove-forward.ensures.value in
+    let counted = ap (λ (n : ℕ). record { sender = w.sender; ordered = n; waiting = c.remove-forward.new.self.items }) (c.get-self-inside.ensures.value ∙ ap (λ (m : Numbered). m.number) c.forward.view_is) in
+    let removed : record { sender = w.sender; ordered = f.number; waiting = c.remove-forward.new.self.items } ≡ record { sender = w.sender; ordered = f.number; waiting = remove w.waiting c.in_ok-place.place } =
+    ap (λ (fs : List Numbered). record { sender = w.sender; ordered = f.number; waiting = fs }) c.remove-forward.ensures.items in
     counted ∙ removed ∙ served-is w c.in_ok-place.place f t ∙ ap served c.self.view_is

@@ -1,0 +1,43 @@
+ghost use Rattle.std.specs.Prelude.{◌≡◌, IfOk};
+
+use packet_values::Payload;
+use std::alloc::{AllocError, Global};
+use std::marker::Model;
+
+/// A message's payload that is kept: at most 512 bytes.
+#[derive(Debug, Drop)]
+pub struct KeptPayload {
+    bytes: Vec<u8>,
+}
+
+impl Model for KeptPayload {
+    ghost use Rattle.std.specs.Prelude.{List, ℕ, length, ◌≤◌};
+    ghost use Rattle.packet_values.specs.declared.limits.TheConstants.{PAYLOAD};
+
+    ghost Value = { List ℕ };
+
+    ghost view = { λ p. p.bytes.items };
+
+    ghost invariant = { λ p. length p.bytes.items ≤ PAYLOAD };
+}
+
+impl KeptPayload {
+    /// A copy of a payload.
+    pub fn copy_of(alloc: Global, payload: &Payload<'_>) -> Result<KeptPayload, AllocError>
+        ensures { IfOk result (λ kept. kept ≡ payload.now) }
+    {
+        let lent = payload.as_slice();
+        let bytes = Vec::from_slice(alloc, lent)?;
+        Ok(KeptPayload { bytes })
+    }
+
+    /// It, lent as packets carry it. Takes no memory.
+    pub fn lent(&self) -> Payload<'_>
+        ensures { result ≡ self.now }
+    {
+        match Payload::new(self.bytes.as_slice()) {
+            Some(payload) => payload,
+            None => unreachable!(),
+        }
+    }
+}
