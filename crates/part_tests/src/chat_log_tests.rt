@@ -218,6 +218,7 @@ fn a_longer_payload_is_left_out(rt: HostRuntime) {
 
 // Whether a view, and that it is blocked, leave a chat of two lines as it was.
 fn is_left(mut chat: ChatLog, alloc: Global, view: View) -> bool {
+    chat.kept();
     chat.blocked();
     chat.view_accepted(&view);
     has_state(alloc, &chat, TWO)

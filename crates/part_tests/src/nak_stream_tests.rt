@@ -1,16 +1,34 @@
 use crate::fixtures::first_of;
-use nak_stream::{Entry, Window, beginnings_agree, windows_agree};
+use nak_stream::{Entry, KeptPayload, Window, beginnings_agree, windows_agree};
+use packet_values::{Entry as LentEntry, Number, Payload};
 use std::alloc::{AllocError, Global};
 
-/// Offers an entry of 1.1 whose payload is the byte 7; false also where memory was refused.
+/// The entry of 1.1 with a number and a payload, as packets lend it.
+fn lent(number: u64, payload: &[u8]) -> Option<LentEntry<'_>> {
+    Some(LentEntry {
+        sender: first_of(1),
+        number: Number::new(number)?,
+        payload: Payload::new(payload)?,
+    })
+}
+
+/// What a window answers where an entry of 1.1 whose payload is the byte 7 is offered to it.
+fn answer(window: &mut Window, g: u64) -> Result<bool, AllocError> {
+    match lent(g, &[7]) {
+        Some(entry) => window.accept(g, &entry),
+        None => Ok(false),
+    }
+}
+
+/// Whether that entry is taken; false also where memory was refused.
 fn offered(window: &mut Window, g: u64) -> bool {
-    window.accept(g, first_of(1), g, &[7]) == Ok(true)
+    answer(window, g) == Ok(true)
 }
 
 /// The number of the message that is delivered next; 0 where there is none.
 fn next(window: &mut Window) -> u64 {
     match window.take_ready() {
-        Ok(Some(entry)) => entry.number,
+        Ok(Some(entry)) => entry.number.get(),
         Ok(None) => 0,
         Err(_) => 99,
     }
@@ -85,13 +103,36 @@ fn lets_go_what_is_stable(rt: HostRuntime) {
     assert!(rt; has_let_go_two(rt.alloc()));
 }
 
+/// Whether an entry, as it is lent, is that of 1.1 with the number 4 and the bytes 1 and 2.
+fn is_the_fourth(entry: &LentEntry<'_>) -> bool {
+    entry.sender == first_of(1)
+        && entry.number.get() == 4
+        && entry.payload.as_slice() == [1, 2].as_slice()
+}
+
 fn tells_its_parts(alloc: Global) -> bool {
-    let Ok(entry) = Entry::copy_of(alloc, first_of(1), 4, &[1, 2]) else {
+    let Some(lent) = lent(4, &[1, 2]) else {
         return false;
     };
-    entry.sender == first_of(1)
-        && entry.number == 4
-        && entry.payload.as_slice() == [1, 2].as_slice()
+    match Entry::copy_of(alloc, &lent) {
+        Ok(entry) => is_the_fourth(&entry.lent()),
+        Err(_) => false,
+    }
+}
+
+fn keeps_its_bytes(alloc: Global) -> bool {
+    let Some(payload) = Payload::new(&[1, 2, 3]) else {
+        return false;
+    };
+    match KeptPayload::copy_of(alloc, &payload) {
+        Ok(kept) => kept.lent().as_slice() == [1, 2, 3].as_slice(),
+        Err(_) => false,
+    }
+}
+
+#[test]
+fn a_kept_payload_has_the_bytes_of_the_lent_one(rt: HostRuntime) {
+    assert!(rt; keeps_its_bytes(rt.alloc()));
 }
 
 #[test]
@@ -101,7 +142,7 @@ fn an_entry_tells_its_parts(rt: HostRuntime) {
 
 /// Whether an offer is taken, or is refused for want of memory and leaves the window as it was.
 fn taken_or_unchanged(window: &mut Window, g: u64) -> bool {
-    match window.accept(g, first_of(1), g, &[7]) {
+    match answer(window, g) {
         Ok(answer) => answer && window.entry(g).is_some(),
         Err(_) => window.entry(g).is_none() && window.delivered() == 0,
     }
@@ -112,7 +153,7 @@ fn told_or_unchanged(window: &mut Window) -> bool {
     let before = window.delivered();
     let next = before.saturating_add(1);
     match window.take_ready() {
-        Ok(Some(entry)) => entry.number == next && window.delivered() == next,
+        Ok(Some(entry)) => entry.number.get() == next && window.delivered() == next,
         Ok(None) => window.delivered() == before && window.entry(next).is_none(),
         Err(_) => window.delivered() == before && window.entry(next).is_some(),
     }

@@ -1,33 +1,60 @@
 use crate::fixtures::{first_of, view_of};
 use address::Address;
+use nak_stream::KeptPayload;
+use packet_values::{Number, Payload};
 use sequencer::{Forwards, Orderer};
-use std::alloc::Global;
+use std::alloc::{AllocError, Global};
 
 /// The orderer of the view of 1.1 and 2.1.
 fn of_two(alloc: Global) -> Option<Orderer> {
     Orderer::new(alloc, &view_of(alloc, &[1, 2])?).ok()
 }
 
-/// Offers the message of an address with one byte; false also where memory was refused.
+/// What an orderer answers where the message of an address with one byte is offered to it.
+fn answer(
+    orderer: &mut Orderer,
+    sender: Address,
+    number: u64,
+    byte: u8,
+) -> Result<bool, AllocError> {
+    let bytes = [byte];
+    match (Number::new(number), Payload::new(&bytes)) {
+        (Some(number), Some(payload)) => orderer.forward(&sender, number, &payload),
+        _ => Ok(false),
+    }
+}
+
+/// Whether that message is taken; false also where memory was refused.
 fn offered(orderer: &mut Orderer, sender: Address, number: u64, byte: u8) -> bool {
-    orderer.forward(&sender, number, &[byte]) == Ok(true)
+    answer(orderer, sender, number, byte) == Ok(true)
+}
+
+/// The payload of one byte; `None` where memory was refused.
+fn payload_of(alloc: Global, byte: u8) -> Option<KeptPayload> {
+    let bytes = [byte];
+    let payload = Payload::new(&bytes)?;
+    KeptPayload::copy_of(alloc, &payload).ok()
+}
+
+/// The first byte of a payload, if it has one.
+fn first_byte(payload: &KeptPayload) -> Option<u8> {
+    payload.lent().as_slice().first().copied()
 }
 
 /// The number in the order, the sender's node, the number and the first byte of the message that comes next.
 fn ordered(orderer: &mut Orderer, stable: u64) -> Option<(u64, u16, u64, u8)> {
     let (g, entry) = orderer.ready(stable)?;
-    let byte = entry.payload.first().copied()?;
-    Some((g, entry.sender.node().number(), entry.number, byte))
+    let byte = first_byte(&entry.payload)?;
+    Some((g.get(), entry.sender.node().number(), entry.number.get(), byte))
 }
 
 /// The number that a message of one byte is taken under; 100 and the number of the refusal where it is refused.
 fn pushed(alloc: Global, forwards: &mut Forwards, byte: u8) -> u64 {
-    let mut payload = Vec::new(alloc);
-    if payload.push(byte).is_err() {
+    let Some(payload) = payload_of(alloc, byte) else {
         return 0;
-    }
+    };
     match forwards.push(payload) {
-        Ok(number) => number,
+        Ok(number) => number.get(),
         Err((_, refusal)) => 100 + u64::from(refusal.number()),
     }
 }
@@ -94,15 +121,16 @@ fn eight_are_outstanding(rt: HostRuntime) {
 
 /// Whether a payload of one byte is taken, or is given back for want of memory with nothing changed.
 fn pushed_or_given_back(alloc: Global, forwards: &mut Forwards, byte: u8) -> bool {
-    let mut payload = Vec::new(alloc);
-    if payload.push(byte).is_err() {
+    let Some(payload) = payload_of(alloc, byte) else {
         return true;
-    }
+    };
     let before = forwards.sent();
     match forwards.push(payload) {
-        Ok(number) => number == before.saturating_add(1) && forwards.sent() == number,
+        Ok(number) => {
+            number.get() == before.saturating_add(1) && forwards.sent() == number.get()
+        }
         Err((payload, refusal)) => {
-            payload.first().copied() == Some(byte)
+            first_byte(&payload) == Some(byte)
                 && refusal.number() == 7
                 && forwards.sent() == before
         }
@@ -111,7 +139,7 @@ fn pushed_or_given_back(alloc: Global, forwards: &mut Forwards, byte: u8) -> boo
 
 /// Whether a message is taken, or is refused for want of memory and leaves the orderer as it was, so that it is taken afterwards.
 fn taken_or_unchanged(orderer: &mut Orderer, sender: Address, number: u64) -> bool {
-    orderer.forward(&sender, number, &[7]).unwrap_or(false)
+    answer(orderer, sender, number, 7).unwrap_or(false)
         || offered(orderer, sender, number, 7) && orderer.ordered() == 0
 }
 
