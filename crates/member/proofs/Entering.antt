@@ -5,11 +5,10 @@ use Rattle.address.specs.Ids.{Address, same_address}
 use Rattle.view_install.specs.Promises.{may_install}
 use Rattle.wire.specs.Values as wire
 use Rattle.agreement.specs.Histories.{Posted}
-use Rattle.agreement.specs.Cores.{Core}
 use Rattle.member.specs.declared.input.Input.{Input}
 use Rattle.member.specs.declared.life.Stage.{Stage}
 use Rattle.member.specs.declared.life.Stage.TheVariants.{Idle, Joining, Alone}
-use Rattle.member.specs.Members.{MemberModel, core_at, came_at, install_in, promise_of, is_fitting, is_entry, entry_of, entry_at, is_readable, is_unreadable}
+use Rattle.member.specs.Members.{core_at, came_at, install_in, promise_of, is_entry, entry_of, is_readable, is_unreadable}
 
 and-false : (x : Bool) → (x && false) ≡ false
 and-false true = refl

@@ -11,7 +11,6 @@ use Rattle.wire.specs.Packets.{IsPacket}
 use Rattle.trace_props.specs.Recorded.{IsShort, IsRecordable}
 use Rattle.trace_props.specs.declared.happening.Happening.{Happening}
 use Rattle.trace_props.specs.declared.happening.Happening.TheVariants.{Sent, Delivered, Installed, Left}
-use Rattle.agreement.specs.Cores.{Core}
 use Rattle.agreement.specs.Acts.{lone_view}
 use Rattle.agreement.specs.Chains.{Acted}
 use Rattle.member.specs.declared.TheConstants.{HAPPENINGS}

@@ -17,7 +17,7 @@ pub enum Error {
     TooLong,
     /// 5: it has a view, or at a Create has asked to be let into one.
     AlreadyConnected,
-    /// 6: it has ended.
+    /// 6: it has ended, before this input or by it: it would enter a view with a state that its receiver cannot read.
     Closed,
     /// 7: memory was refused, and it has ended.
     Memory,

@@ -130,7 +130,8 @@ impl<R: Receiver> Member<R> {
     /// One step: an input comes in, packets and happenings come out, in order (docs/PROTOCOL.md, "Joining" and "A member alone").
     ///
     /// Refused with 6 after its end, and before it with 1, 4, 5, 8 and 20 to 26 as the inputs say: the member is then as before. Refused with 7
-    /// where memory was: the member has then ended, and what the step would have put out is dropped.
+    /// where memory was, and with 6 where it is handed an INSTALL by which it would enter a view and whose state its receiver cannot read: the
+    /// member has then ended, and what the step would have put out is dropped. No INSTALL has a rule yet, so it never enters by one.
     pub fn handle(&mut self, input: Input<'_>) -> Result<Output, Error>
         // It goes on by nothing but acts,
         ensures acted { IfOk result (λ out. HasActed R.apply R.encode R.decode self.old input.entry out self.new) }

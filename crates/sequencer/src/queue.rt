@@ -45,7 +45,9 @@ impl Queue {
     fn waits(&self, number: u64) -> bool
         ensures { result ≡ list_any (λ f. nat_eq number f.number) self.now.waiting }
     {
-        self.waiting.iter().any(|forward| number == forward.number.get())
+        self.waiting
+            .iter()
+            .any(|forward| number == forward.number.get())
     }
 
     fn takes(&self, number: u64) -> bool
@@ -55,7 +57,12 @@ impl Queue {
     }
 
     /// Takes a copy of the message, where it is new and at most 8 past what was ordered.
-    pub fn offer(&mut self, alloc: Global, number: Number, payload: &Payload<'_>) -> Result<bool, AllocError>
+    pub fn offer(
+        &mut self,
+        alloc: Global,
+        number: Number,
+        payload: &Payload<'_>,
+    ) -> Result<bool, AllocError>
         ensures answer { IfOk result (λ answer. answer ≡ takes number self.old) }
         ensures ok { OnOk result (self.new ≡ offered number payload.now self.old) }
         ensures err { OnErr result (self.new ≡ self.old) }

@@ -1,12 +1,11 @@
 -- What is told of a world that ran a script's events.
-use Rattle.std.proofs.Common.{◌≡◌, ℕ, List, ◌++◌, take, Bool, true, false, Result, Ok, Err, OnOk, is_ok, Option, sym, ap, ◌∙◌, subst}
+use Rattle.std.proofs.Common.{◌≡◌, ℕ, List, take, Bool, true, false, Result, Ok, Err, OnOk, is_ok, Option, sym, ap, ◌∙◌, subst}
 use Rattle.address.specs.Ids.{Address}
 use Rattle.trace_props.specs.Places.{EachPlace}
 use Rattle.trace_props.specs.Synchrony.{IsWellOrdered, IsVirtuallySynchronous}
 use Rattle.world_model.specs.declared.WorldEvent.{WorldEvent}
-use Rattle.world_model.specs.Histories.{History, no_history}
+use Rattle.world.specs.Worlds.{WorldModel, no_world, Runs as WorldRuns}
 use Rattle.world_model.specs.Faithful.{IsFaithful}
-use Rattle.world_model.specs.Steps.{IsStepped}
 use Rattle.script_reader.specs.declared.script.Script.{Script}
 use Rattle.vsync_text.specs.Runs.{lines_of_run}
 use Rattle.chat_log.specs.declared.lines.Line.{Line}
@@ -19,58 +18,64 @@ use Rattle.vsync_runs.specs.Chats.{IsChatText, chats_of}
 use Rattle.vsync_runs.specs.Chats.IsChatText.{All as AllChats, Part as PartOfChats, Stopped}
 use Rattle.vsync_runs.proofs.Ending.{written-as}
 
--- what a world keeps that ran some events
-pub record Kept {S : Type 0} (opening : S) (apply : S → Address → List ℕ → S) (decode : List ℕ → Option S) (h : History) : Type 0 where
-  pub faithful : IsFaithful h
-  pub stepped : IsStepped h
-  pub ordered : EachPlace IsWellOrdered h.trace
-  pub synchronous : IsVirtuallySynchronous opening apply decode h.trace
-
--- it ran these events
-abbrev pub ran-these : {S : Type 0} (opening : S) (apply : S → Address → List ℕ → S) (decode : List ℕ → Option S) (events : List WorldEvent) (h : History)
-    → Kept opening apply decode h → h.events ≡ events → Ran opening apply decode events h
-ran-these opening apply decode events h k e = record { faithful = k.faithful; stepped = k.stepped; ordered = k.ordered; synchronous = k.synchronous; carried = e }
-
--- what a world tells that ran a script's events, all of them or a beginning, is a text of the script's run
-run-text : {S : Type 0} (opening : S) (apply : S → Address → List ℕ → S) (decode : List ℕ → Option S) (script : Script) (h : History) (ran : Bool) (k : ℕ) → Kept opening apply decode h
-    → h.events ≡ take k script.events → (ran ≡ true → h.events ≡ script.events)
-    → (s : Status) (t : List ℕ) → IsLinesText (lines_of_run script.lines h.replies h.trace) ran s t → IsRunText opening apply decode script s t
-run-text opening apply decode script h ran k kept some all s t (Told whole) = All h (ran-these opening apply decode script.events h kept (all whole))
-run-text opening apply decode script h ran k kept some all s t (Untold count) = Part h k count (ran-these opening apply decode (take k script.events) h kept some)
-
+-- an answer that is no error
 on-ok : {A E : Type 0} (r : Result A E) (P : Type 0) (b : Bool) → OnOk r P → b ≡ is_ok r → b ≡ true → P
 on-ok (Ok x) P b p is whole = p
 on-ok (Err x) P b p is whole = absurd (let bad : true ≡ false = sym whole ∙ is in cc)
 
--- what a world tells that ran a script's events from the beginning
-pub played : {A E S : Type 0} (opening : S) (apply : S → Address → List ℕ → S) (decode : List ℕ → Option S) (script : Script) (lines : List ℕ) (given : List WorldEvent) (old h : History)
-    (ran : Bool) (r : Result A E) (k : ℕ) (a b : Option (List ℕ)) (status : Status)
-    → lines ≡ script.lines → given ≡ script.events → old ≡ no_history → Kept opening apply decode h
-    → h.events ≡ old.events ++ take k given → OnOk r (h.events ≡ old.events ++ given) → ran ≡ is_ok r
-    → Written (IsLinesText (lines_of_run lines h.replies h.trace) ran) a b status → Written (IsRunText opening apply decode script) a b status
-played opening apply decode script lines given old h ran r k a b status same all empty kept some whole is w =
-    written-as (IsLinesText (lines_of_run script.lines h.replies h.trace) ran) (IsRunText opening apply decode script) a b status
-    (λ s t says. run-text opening apply decode script h ran k kept
-    (some ∙ ap (λ (o : History). o.events ++ take k given) empty ∙ ap (λ (g : List WorldEvent). take k g) all)
-    (λ yes-ran. on-ok r (h.events ≡ old.events ++ given) ran whole is yes-ran ∙ ap (λ (o : History). o.events ++ given) empty ∙ all) s t says)
-    (subst (λ (l : List ℕ). Written (IsLinesText (lines_of_run l h.replies h.trace) ran) a b status) same w)
+module _ {S : Type 0} (opening : S) (apply : S → Address → List ℕ → S) (encode : S → List ℕ) (decode : List ℕ → Option S) where
+  abbrev RunsFrom : WorldModel S → List WorldEvent → WorldModel S → Type 0
+  RunsFrom old events new = WorldRuns opening apply encode decode old events new
 
--- what is told of its chats
-chat-text : {S : Type 0} (opening : S) (apply : S → Address → List ℕ → S) (decode : List ℕ → Option S) (lines_of : S → List Line) (script : Script) (h : History)
-    → Ran opening apply decode script.events h → (s : Status) (t : List ℕ) → IsLinesText (chats_of opening apply decode lines_of h.trace) true s t → IsChatText opening apply decode lines_of script s t
-chat-text opening apply decode lines_of script h ran s t (Told whole) = AllChats h ran
-chat-text opening apply decode lines_of script h ran s t (Untold count) = PartOfChats h count ran
+  -- what every world keeps that ran some events
+  pub record Kept (w : WorldModel S) : Type 0 where
+    pub faithful : IsFaithful w.history
+    pub ordered : EachPlace IsWellOrdered w.history.trace
+    pub synchronous : IsVirtuallySynchronous opening apply decode w.history.trace
 
--- the chats of a world that ran all of a script's events
-pub played-chats : {S : Type 0} (opening : S) (apply : S → Address → List ℕ → S) (decode : List ℕ → Option S) (lines_of : S → List Line) (script : Script) (given : List WorldEvent) (old h : History)
-    (a b : Option (List ℕ)) (status : Status) → given ≡ script.events → old ≡ no_history → Kept opening apply decode h → h.events ≡ old.events ++ given
-    → Written (IsLinesText (chats_of opening apply decode lines_of h.trace) true) a b status → Written (IsChatText opening apply decode lines_of script) a b status
-played-chats opening apply decode lines_of script given old h a b status all empty kept whole w =
-    written-as (IsLinesText (chats_of opening apply decode lines_of h.trace) true) (IsChatText opening apply decode lines_of script) a b status
-    (chat-text opening apply decode lines_of script h
-    (ran-these opening apply decode script.events h kept (whole ∙ ap (λ (o : History). o.events ++ given) empty ∙ all))) w
+  -- it ran these events from the beginning
+  abbrev ran-these : (events : List WorldEvent) (w : WorldModel S) → Kept w → RunsFrom no_world events w → Ran opening apply encode decode events w
+  ran-these events w k ran = record { ran = ran; faithful = k.faithful; ordered = k.ordered; synchronous = k.synchronous }
 
--- the world could not run them all
-pub stopped-chats : {S : Type 0} (opening : S) (apply : S → Address → List ℕ → S) (decode : List ℕ → Option S) (lines_of : S → List Line) (script : Script) (a b : Option (List ℕ)) (status : Status)
-    → Ends a b memory_line Memory status → Written (IsChatText opening apply decode lines_of script) a b status
-stopped-chats opening apply decode lines_of script a b status e = record { meant = Memory; text = memory_line; says = Stopped; ends = e }
+  -- what was run in a new world was run from nothing
+  from-nothing : (given events : List WorldEvent) (old w : WorldModel S) → given ≡ events → old ≡ no_world → RunsFrom old given w → RunsFrom no_world events w
+  from-nothing given events old w all empty ran =
+      subst (λ (o : WorldModel S). RunsFrom o events w) empty (subst (λ (g : List WorldEvent). RunsFrom old g w) all ran)
+
+  -- ---- a script's run
+
+  -- what a world tells that ran a script's events, all of them or a beginning, is a text of the script's run
+  run-text : (script : Script) (w : WorldModel S) (ran : Bool) (k : ℕ) → Kept w → RunsFrom no_world (take k script.events) w → (ran ≡ true → RunsFrom no_world script.events w)
+      → (s : Status) (t : List ℕ) → IsLinesText (lines_of_run script.lines w.history.replies w.history.trace) ran s t → IsRunText opening apply encode decode script s t
+  run-text script w ran k kept some all s t (Told whole) = All w (ran-these script.events w kept (all whole))
+  run-text script w ran k kept some all s t (Untold count) = Part w k count (ran-these (take k script.events) w kept some)
+
+  -- what a world tells that ran a script's events from the beginning
+  pub played : {A E : Type 0} (script : Script) (lines : List ℕ) (given : List WorldEvent) (old w : WorldModel S) (ran : Bool) (r : Result A E) (k : ℕ) (a b : Option (List ℕ)) (status : Status)
+      → lines ≡ script.lines → given ≡ script.events → old ≡ no_world → Kept w → RunsFrom old (take k given) w → OnOk r (RunsFrom old given w) → ran ≡ is_ok r
+      → Written (IsLinesText (lines_of_run lines w.history.replies w.history.trace) ran) a b status → Written (IsRunText opening apply encode decode script) a b status
+  played script lines given old w ran r k a b status same all empty kept some whole is written =
+      written-as (IsLinesText (lines_of_run script.lines w.history.replies w.history.trace) ran) (IsRunText opening apply encode decode script) a b status
+      (run-text script w ran k kept (from-nothing (take k given) (take k script.events) old w (ap (take k) all) empty some)
+      (λ to-end. from-nothing given script.events old w all empty (on-ok r (RunsFrom old given w) ran whole is to-end)))
+      (subst (λ (l : List ℕ). Written (IsLinesText (lines_of_run l w.history.replies w.history.trace) ran) a b status) same written)
+
+  -- ---- its chats
+
+  module _ (lines_of : S → List Line) (script : Script) where
+    -- what is told of them
+    chat-text : (w : WorldModel S) → Ran opening apply encode decode script.events w → (s : Status) (t : List ℕ)
+        → IsLinesText (chats_of opening apply decode lines_of w.history.trace) true s t → IsChatText opening apply encode decode lines_of script s t
+    chat-text w ran s t (Told whole) = AllChats w ran
+    chat-text w ran s t (Untold count) = PartOfChats w count ran
+
+    -- the chats of a world that ran all of a script's events
+    pub played-chats : (given : List WorldEvent) (old w : WorldModel S) (a b : Option (List ℕ)) (status : Status) → given ≡ script.events → old ≡ no_world → Kept w → RunsFrom old given w
+        → Written (IsLinesText (chats_of opening apply decode lines_of w.history.trace) true) a b status → Written (IsChatText opening apply encode decode lines_of script) a b status
+    played-chats given old w a b status all empty kept whole written =
+        written-as (IsLinesText (chats_of opening apply decode lines_of w.history.trace) true) (IsChatText opening apply encode decode lines_of script) a b status
+        (chat-text w (ran-these script.events w kept (from-nothing given script.events old w all empty whole))) written
+
+    -- the world could not run them all
+    pub stopped-chats : (a b : Option (List ℕ)) (status : Status) → Ends a b memory_line Memory status → Written (IsChatText opening apply encode decode lines_of script) a b status
+    stopped-chats a b status e = record { meant = Memory; text = memory_line; says = Stopped; ends = e }

@@ -5,7 +5,8 @@ use Rattle.std.specs.Option.{option_map}
 use Rattle.address.specs.Ids.{Address}
 use Rattle.trace_props.specs.declared.happening.Happening.{Happening}
 use Rattle.trace_props.specs.State.{state_of}
-use Rattle.world_model.specs.Histories.{History, running}
+use Rattle.world_model.specs.Histories.{running}
+use Rattle.world.specs.Worlds.{WorldModel}
 use Rattle.chat_log.specs.declared.lines.Line.{Line}
 use Rattle.chat_text.specs.ChatText.{chat_line}
 use Rattle.script_reader.specs.declared.script.Script.{Script}
@@ -27,12 +28,12 @@ chats_of opening apply decode lines_of t = chats_to opening apply decode lines_o
 
 -- the texts of the chats after a script's run: all of them; whole lines of a beginning and `# memory`; or `# memory` alone, where the
 -- script was not run to its end for want of memory
-pub data IsChatText {S : Type 0} (opening : S) (apply : S → Address → List ℕ → S) (decode : List ℕ → Option S) (lines_of : S → List Line) (script : Script) : Status → List ℕ → Type 0 where
-  All : (h : History) → Ran opening apply decode script.events h → IsChatText opening apply decode lines_of script Done (concat (chats_of opening apply decode lines_of h.trace))
-  Part : (h : History) (count : ℕ) → Ran opening apply decode script.events h
-      → IsChatText opening apply decode lines_of script Memory (concat (take count (chats_of opening apply decode lines_of h.trace)) ++ memory_line)
-  Stopped : IsChatText opening apply decode lines_of script Memory memory_line
+pub data IsChatText {S : Type 0} (opening : S) (apply : S → Address → List ℕ → S) (encode : S → List ℕ) (decode : List ℕ → Option S) (lines_of : S → List Line) (script : Script) : Status → List ℕ → Type 0 where
+  All : (w : WorldModel S) → Ran opening apply encode decode script.events w → IsChatText opening apply encode decode lines_of script Done (concat (chats_of opening apply decode lines_of w.history.trace))
+  Part : (w : WorldModel S) (count : ℕ) → Ran opening apply encode decode script.events w
+      → IsChatText opening apply encode decode lines_of script Memory (concat (take count (chats_of opening apply decode lines_of w.history.trace)) ++ memory_line)
+  Stopped : IsChatText opening apply encode decode lines_of script Memory memory_line
 
 -- a script is run from a reader, and the chats are told to a writer
-abbrev pub RunsChat : {S : Type 0} → S → (S → Address → List ℕ → S) → (List ℕ → Option S) → (S → List Line) → Option (List ℕ) → Option (List ℕ) → Option (List ℕ) → Status → Type 0
-RunsChat opening apply decode lines_of left old new status = IsAnswer (IsScriptText (IsChatText opening apply decode lines_of)) left old new status
+abbrev pub RunsChat : {S : Type 0} → S → (S → Address → List ℕ → S) → (S → List ℕ) → (List ℕ → Option S) → (S → List Line) → Option (List ℕ) → Option (List ℕ) → Option (List ℕ) → Status → Type 0
+RunsChat opening apply encode decode lines_of left old new status = IsAnswer (IsScriptText (IsChatText opening apply encode decode lines_of)) left old new status

@@ -7,9 +7,8 @@ use Rattle.trace_props.specs.Places.{EachPlace}
 use Rattle.trace_props.specs.Synchrony.{IsWellOrdered, IsVirtuallySynchronous}
 use Rattle.address.specs.Ids.{Address}
 use Rattle.world_model.specs.declared.WorldEvent.{WorldEvent}
-use Rattle.world_model.specs.Histories.{History}
 use Rattle.world_model.specs.Faithful.{IsFaithful}
-use Rattle.world_model.specs.Steps.{IsStepped}
+use Rattle.world.specs.Worlds.{WorldModel, no_world, Runs as WorldRuns}
 use Rattle.script_reader.specs.declared.script.Script.{Script}
 use Rattle.script_reader.specs.declared.fault.Fault.{Fault}
 use Rattle.script_reader.specs.Script.{script_of, fault_number}
@@ -38,14 +37,13 @@ pub data Ends (old new : Option (List ℕ)) (text : List ℕ) (status : Status) 
   Whole : Appends old new text → Ends old new text status status
   Cut : (count : ℕ) → Appends old new (take count text) → Ends old new text status Outside
 
--- a world carried out exactly these events: its history is faithful, each event is a step of it, and its trace is virtually
--- synchronous, well ordered at every place
-pub record Ran {S : Type 0} (opening : S) (apply : S → Address → List ℕ → S) (decode : List ℕ → Option S) (events : List WorldEvent) (h : History) : Type 0 where
-  pub faithful : IsFaithful h
-  pub stepped : IsStepped h
-  pub ordered : EachPlace IsWellOrdered h.trace
-  pub synchronous : IsVirtuallySynchronous opening apply decode h.trace
-  pub carried : h.events ≡ events
+-- a world came from nothing by exactly these events, each a world step: its history is faithful, and its trace is virtually synchronous,
+-- well ordered at every place
+pub record Ran {S : Type 0} (opening : S) (apply : S → Address → List ℕ → S) (encode : S → List ℕ) (decode : List ℕ → Option S) (events : List WorldEvent) (w : WorldModel S) : Type 0 where
+  pub ran : WorldRuns opening apply encode decode no_world events w
+  pub faithful : IsFaithful w.history
+  pub ordered : EachPlace IsWellOrdered w.history.trace
+  pub synchronous : IsVirtuallySynchronous opening apply decode w.history.trace
 
 -- the texts of some lines: all of them, where there is nothing more to say; or the first few and `# memory`
 pub data IsLinesText (lines : List (List ℕ)) (whole : Bool) : Status → List ℕ → Type 0 where
@@ -54,10 +52,10 @@ pub data IsLinesText (lines : List (List ℕ)) (whole : Bool) : Status → List 
 
 -- the texts of a script's run: all of it; or, where memory was refused outside a member's step, whole lines of a beginning
 -- and `# memory`
-pub data IsRunText {S : Type 0} (opening : S) (apply : S → Address → List ℕ → S) (decode : List ℕ → Option S) (script : Script) : Status → List ℕ → Type 0 where
-  All : (h : History) → Ran opening apply decode script.events h → IsRunText opening apply decode script Done (text_of_run script.lines h.replies h.trace)
-  Part : (h : History) (events lines : ℕ) → Ran opening apply decode (take events script.events) h
-      → IsRunText opening apply decode script Memory (concat (take lines (lines_of_run script.lines h.replies h.trace)) ++ memory_line)
+pub data IsRunText {S : Type 0} (opening : S) (apply : S → Address → List ℕ → S) (encode : S → List ℕ) (decode : List ℕ → Option S) (script : Script) : Status → List ℕ → Type 0 where
+  All : (w : WorldModel S) → Ran opening apply encode decode script.events w → IsRunText opening apply encode decode script Done (text_of_run script.lines w.history.replies w.history.trace)
+  Part : (w : WorldModel S) (events lines : ℕ) → Ran opening apply encode decode (take events script.events) w
+      → IsRunText opening apply encode decode script Memory (concat (take lines (lines_of_run script.lines w.history.replies w.history.trace)) ++ memory_line)
 
 -- the texts of an input's first fault: its line; or `# memory`, where memory is refused
 pub data IsFaultText (line number : ℕ) : Status → List ℕ → Type 0 where
@@ -94,5 +92,5 @@ ReadsScript left old new (Ok script) = (bytes : List ℕ) × IfSome left (λ all
 ReadsScript left old new (Err status) = IsAnswer IsUnreadText left old new status
 
 -- a script is run from a reader to a writer
-abbrev pub RunsScript : {S : Type 0} → S → (S → Address → List ℕ → S) → (List ℕ → Option S) → Option (List ℕ) → Option (List ℕ) → Option (List ℕ) → Status → Type 0
-RunsScript opening apply decode left old new status = IsAnswer (IsScriptText (IsRunText opening apply decode)) left old new status
+abbrev pub RunsScript : {S : Type 0} → S → (S → Address → List ℕ → S) → (S → List ℕ) → (List ℕ → Option S) → Option (List ℕ) → Option (List ℕ) → Option (List ℕ) → Status → Type 0
+RunsScript opening apply encode decode left old new status = IsAnswer (IsScriptText (IsRunText opening apply encode decode)) left old new status

@@ -10,12 +10,13 @@ use Rattle.trace_props.proofs.Observing.{same_address-refl}
 use Rattle.agreement.specs.Histories.{Posted}
 use Rattle.agreement.specs.Cores.{Core, idle}
 use Rattle.agreement.specs.Chains.{Acted}
-use Rattle.agreement.specs.Steps.{System, Start, Crash, put}
+use Rattle.agreement.specs.Steps.{System, Start, Crash, put, came_of}
 use Rattle.agreement.proofs.Stepping
 use Rattle.agreement.proofs.Stretching
 use Rattle.world.specs.declared.seat.Seat.{Seat}
-use Rattle.world.specs.Seats.{seat_at, core_here, posts_in, system_of}
-use Rattle.world.proofs.Seats.{OthersStand, OnlyHere, runs, runs-put}
+use Rattle.world.specs.Seats.{core_here, posts_in, system_of}
+use Rattle.world.specs.Turns.{OthersStand}
+use Rattle.world.proofs.Seats.{OnlyHere, runs, runs-put}
 use Rattle.world.proofs.Posts.{EachSound, bytes_for, posts-more}
 use Rattle.world.proofs.Turning
 
@@ -28,27 +29,27 @@ module _ {S : Type 0} (opening : S) (apply : S → Address → List ℕ → S) (
   system_at running pool t = record { running = running; history = record { pool = pool; trace = t } }
 
   -- a node's seat before and after: nobody but this member of the node ran or runs there
-  pub record Moves (at new : ℕ → Option (Seat S)) (n : ℕ) (p : Address) (old : Seat S) (now : Seat S) : Type 0 where
+  pub record Moves (at new : ℕ → Seat S) (n : ℕ) (p : Address) (old : Seat S) (now : Seat S) : Type 0 where
     pub node : p.node ≡ n
-    pub was : seat_at (at n) ≡ old
-    pub is : seat_at (new n) ≡ now
+    pub was : at n ≡ old
+    pub is : new n ≡ now
     pub only_old : OnlyHere p old
     pub only_now : OnlyHere p now
     pub others : OthersStand n at new
 
-  module _ (at new : ℕ → Option (Seat S)) (n : ℕ) (p : Address) (old now : Seat S) (x : Moves at new n p old now) where
+  module _ (at new : ℕ → Seat S) (n : ℕ) (p : Address) (old now : Seat S) (x : Moves at new n p old now) where
     -- who ran, and who runs
     pub ran : runs at p ≡ core_here p old
-    ran = ap (λ (k : ℕ). core_here p (seat_at (at k))) x.node ∙ ap (core_here p) x.was
+    ran = ap (λ (k : ℕ). core_here p (at k)) x.node ∙ ap (core_here p) x.was
 
     pub goes : runs new p ≡ core_here p now
-    goes = ap (λ (k : ℕ). core_here p (seat_at (new k))) x.node ∙ ap (core_here p) x.is
+    goes = ap (λ (k : ℕ). core_here p (new k)) x.node ∙ ap (core_here p) x.is
 
-    only-old : OnlyHere p (seat_at (at p.node))
-    only-old = subst (OnlyHere p) (sym (ap (λ (k : ℕ). seat_at (at k)) x.node ∙ x.was)) x.only_old
+    only-old : OnlyHere p (at p.node)
+    only-old = subst (OnlyHere p) (sym (ap (λ (k : ℕ). at k) x.node ∙ x.was)) x.only_old
 
-    only-now : OnlyHere p (seat_at (new p.node))
-    only-now = subst (OnlyHere p) (sym (ap (λ (k : ℕ). seat_at (new k)) x.node ∙ x.is)) x.only_now
+    only-now : OnlyHere p (new p.node)
+    only-now = subst (OnlyHere p) (sym (ap (λ (k : ℕ). new k) x.node ∙ x.is)) x.only_now
 
     pub moved : runs new ≡ put p (core_here p now) (runs at)
     moved = runs-put at new p (core_here p now) only-old only-now (subst (λ (k : ℕ). OthersStand k at new) (sym x.node) x.others) goes
@@ -60,12 +61,13 @@ module _ {S : Type 0} (opening : S) (apply : S → Address → List ℕ → S) (
         subst (λ (r : Address → Option (Core S)). Holding (system_at r (posts_in pool) t)) (sym (moved ∙ ap (λ (o : Option (Core S)). put p o (runs at)) e))
         (subst (λ (l : List Posted). Holding (system_at (put p end (runs at)) l t)) (sym same) i)
 
-    -- ---- a member took an input
-    pub taken-agreed : (pool : List (List ℕ)) (t : List Happening) (c : Core S) (end : Option (Core S)) (posted : List Posted) (s : List Happening) → core_here p old ≡ Some c → core_here p now ≡ end
-        → EachSound posted → Acted apply encode decode None (Some c) posted s end → Holding (system_of at pool t) → Holding (system_of new (pool ++ bytes_for posted) (t ++ s))
-    taken-agreed pool t c end posted s was is sound acted i =
+    -- ---- a member took an input: a packet of the pool came, or none
+    pub taken-agreed : (pool : List (List ℕ)) (t : List Happening) (c : Core S) (end : Option (Core S)) (which : Option ℕ) (came : Option Posted) (posted : List Posted) (s : List Happening)
+        → core_here p old ≡ Some c → core_here p now ≡ end → came ≡ came_of c (posts_in pool) which → (came ≡ None → which ≡ None) → EachSound posted
+        → Acted apply encode decode came (Some c) posted s end → Holding (system_of at pool t) → Holding (system_of new (pool ++ bytes_for posted) (t ++ s))
+    taken-agreed pool t c end which came posted s was is comes none sound acted i =
         to-system (pool ++ bytes_for posted) (posts_in pool ++ posted) (t ++ s) end is (posts-more pool posted sound)
-        (Stretching.acted-keeps opening apply encode decode is_state laws (system_of at pool t) p c end None None posted s i (ran ∙ was) refl (λ e. refl) acted)
+        (Stretching.acted-keeps opening apply encode decode is_state laws (system_of at pool t) p c end which came posted s i (ran ∙ was) comes none acted)
 
     -- ---- a member crashed
     pub crashed-agreed : (pool : List (List ℕ)) (t : List Happening) (c : Core S) → core_here p old ≡ Some c → core_here p now ≡ None → Holding (system_of at pool t)

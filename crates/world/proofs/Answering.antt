@@ -1,6 +1,7 @@
 -- The table of events, for a running member: what it answers is what the table says.
-use Rattle.std.proofs.Common.{◌≡◌, ℕ, Bool, true, false, cond, Option, Some, None, List, [], ◌∷◌, is_some, refl, sym, ap, ◌∙◌, subst, inl, inr}
+use Rattle.std.proofs.Common.{◌≡◌, ℕ, Bool, true, false, ◌&&◌, cond, nat_eq, Option, Some, None, List, [], ◌∷◌, is_some, refl, sym, ap, ◌∙◌, subst, inl, inr}
 use Rattle.std.specs.List.{list_all}
+use Rattle.std.proofs.lemmas.Bool.{cond-true, eq-eqb, and_from}
 use Rattle.std.proofs.lemmas.Option.{none-some, same_Some}
 use Rattle.address.specs.Ids.{Address}
 use Rattle.view.specs.Members.{View}
@@ -54,6 +55,11 @@ quiet-done (Installed i ∷ s) e = refl
 quiet-done (Left p ∷ s) e = refl
 quiet-done (Crashed p ∷ s) e = refl
 
+-- ---- a node's own event that was done
+
+pub done-here : {X : Type 0} (n : ℕ) (y z : X) → cond (nat_eq n n && true) y z ≡ y
+done-here n y z = cond-true (nat_eq n n && true) y z (and_from (nat_eq n n) true (eq-eqb n n refl) refl)
+
 module _ {S : Type 0} (opening : S) (apply : S → Address → List ℕ → S) (encode : S → List ℕ) (decode : List ℕ → Option S) (is_state : S → Type 0) (h : History) (n : ℕ) (m : MemberModel S)
     (c : Core S) (x : Facts.Runs opening apply encode decode is_state h n m c) where
   me-is : c.me ≡ m.address
@@ -101,10 +107,10 @@ module _ {S : Type 0} (opening : S) (apply : S → Address → List ℕ → S) (
   pub join-not : (err : Error) → cond (is_some c.view) (Some error.AlreadyConnected) None ≡ Some err → AnswersJoin m.address h (answer_for err) []
   join-not err refused = join-not-at c.view err refl refused
 
-  -- ---- a tick and a leave
+  -- ---- a tick, a packet and a leave
 
-  pub tick-taken : (s : List Happening) → EachOwn m.address s → list_all member.is_quiet s ≡ true → AnswersQuietly m.address Done s
-  tick-taken s own quiet = inl (refl, own-quiet m.address s own (quiet-all s quiet))
+  pub quiet-taken : (s : List Happening) → EachOwn m.address s → list_all member.is_quiet s ≡ true → AnswersQuietly m.address Done s
+  quiet-taken s own quiet = inl (refl, own-quiet m.address s own (quiet-all s quiet))
 
   pub leave-taken : (s : List Happening) → s ≡ Left c.me ∷ [] → AnswersLeave m.address Done s
   leave-taken s e = inl (refl, e ∙ ap (λ (p : Address). Left p ∷ []) me-is)

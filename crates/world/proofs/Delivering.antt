@@ -1,107 +1,154 @@
--- A packet that is handed over is ignored: nothing changes.
-use Rattle.std.proofs.Common.{◌≡◌, ℕ, ◌-◌, List, ◌++◌, [], Option, Some, None, Bool, true, false, cond, not, map, is_some, subst, sym, nat_eq, refl, ap, ◌∙◌, inl}
+-- A packet that is handed over, of whatever kind: what is known of it, and the turn that a delivery is.
+use Rattle.std.proofs.Common.{◌≡◌, ℕ, ◌-◌, Bool, true, false, cond, Option, Some, None, Ok, List, [], nat_eq, refl, sym, ap, ◌∙◌, subst, inl, inr}
 use Rattle.std.specs.Borrow.{Bor}
-use Rattle.std.specs.Option.{IsSomeAnd}
+use Rattle.std.specs.Option.{option_map, option_and_then}
 use Rattle.std.specs.List.{slice_get}
-use Rattle.std.proofs.lemmas.Bool.{eqb-true}
 use Rattle.std.proofs.lemmas.Option.{none-some}
 use Rattle.std.proofs.lemmas.List.{append-nil}
 use Rattle.address.specs.Ids.{Address}
-use Rattle.wire.specs.Packets.{wire_refusal}
+use Rattle.wire.specs.Packets.{packet_of, wire_refusal}
 use Rattle.trace_props.specs.declared.happening.Happening.{Happening}
-use Rattle.member.specs.declared.input.Input.TheVariants as input
-use Rattle.member.specs.declared.output.Outgoing.{Outgoing}
-use Rattle.member.specs.Members.{MemberModel, is_ignored}
-use Rattle.member.proofs.Refusing.{ignored-free}
+use Rattle.agreement.specs.Histories.{Posted}
+use Rattle.agreement.specs.Cores.{Core}
+use Rattle.agreement.specs.Steps.{handed, came_of}
+use Rattle.agreement.proofs.Stepping
+use Rattle.member.specs.declared.error.Error.{Error}
+use Rattle.member.specs.declared.error.Error.TheVariants.{Wire}
+use Rattle.member.specs.declared.input.Input.TheVariants.{Datagram}
+use Rattle.member.specs.declared.output.Output.{Output}
+use Rattle.member.specs.Members.{MemberModel, core_of, came_at, refusal_in}
+use Rattle.member.specs.Outputs.{packet_in}
+use Rattle.member.specs.Handling.{Handled}
+use Rattle.world_model.specs.declared.WorldEvent.TheVariants.{Deliver}
 use Rattle.world_model.specs.declared.Answer.{Answer}
 use Rattle.world_model.specs.declared.Answer.TheVariants.{Done}
 use Rattle.world_model.specs.Histories.{History}
-use Rattle.world_model.specs.Packets.{recipient, packet_numbered, destination_of}
+use Rattle.world_model.specs.Packets.{world_group, recipient, packet_numbered, destination_of}
 use Rattle.world_model.specs.Faithful.{AnswersDeliver}
 use Rattle.world.specs.declared.seat.Seat.{Seat}
 use Rattle.world.specs.declared.seat.Seat.TheVariants.{Vacant, Ended, Running}
-use Rattle.world.specs.Seats.{seat_at, answer_to, bytes_of}
-use Rattle.world.specs.Turns.{HandsHere, Taken, Lost, Not, Hears, HearsAt, HandsOver, Delivers, SameSeats}
-use Rattle.world.specs.Invariant.{IsSpelled}
-use Rattle.world.proofs.Posts.{is-read}
+use Rattle.world.specs.Seats.{answer_to, posts_in}
+use Rattle.world.specs.Turns.{OthersStand, SameSeats, Idles, Hears, HandsOver, Delivers}
+use Rattle.world.specs.Invariant.{EachSpelled, IsSpelled}
+use Rattle.world.proofs.Owning.{EachOwn}
+use Rattle.world.proofs.Posts.{is-read, post-at}
+use Rattle.world.proofs.Seats.{same-at}
+use Rattle.world.proofs.Answering
+use Rattle.world.proofs.Answering.{quiet-done}
+use Rattle.world.proofs.Readable.{Comes}
 use Rattle.world.proofs.Turning
 use Rattle.world.proofs.Facts
+use Rattle.world.proofs.Taking
+use Rattle.world.proofs.Tables
 
 -- whoever is handed a packet, nothing may happen
 pub answers-deliver : (k : ℕ) (h : History) (o : Option Address) → recipient k h ≡ o → AnswersDeliver k h Done []
 answers-deliver k h None e = rw e (refl, refl)
 answers-deliver k h (Some p) e = rw e (inl (refl, refl))
 
--- bytes that spell a packet are ignored
-spelled-ignored : (bytes : List ℕ) → IsSpelled bytes → not (is_some (wire_refusal bytes)) ≡ true
-spelled-ignored bytes s = let r = is-read bytes s in rw r.packet refl
+-- bytes that spell a packet are not refused
+spelled-free : (bytes : List ℕ) → IsSpelled bytes → wire_refusal bytes ≡ None
+spelled-free bytes s = let r = is-read bytes s in rw r.packet refl
 
-stands-by : (b : Bool) (o : Option (List ℕ)) (x : List ℕ) → cond b None o ≡ Some x → o ≡ Some x
-stands-by true o x e = absurd (none-some x e)
-stands-by false o x e = e
+numbered-by : (b : Bool) (o : Option (List ℕ)) (x : List ℕ) → cond b None o ≡ Some x → o ≡ Some x
+numbered-by true o x e = absurd (none-some x e)
+numbered-by false o x e = e
 
-module _ {S : Type 0} (opening : S) (apply : S → Address → List ℕ → S) (encode : S → List ℕ) (decode : List ℕ → Option S) (is_state : S → Type 0) (at new : ℕ → Option (Seat S)) (h : History)
-    (w : Turning.World opening apply encode decode is_state at h) where
-  -- all is as it was
-  pub record Ignored (a : Answer) (t : List Happening) (pool : List (List ℕ)) : Type 0 where
-    pub answer : a ≡ Done
-    pub seats : SameSeats at new
-    pub trace : t ≡ h.trace
-    pub puts : pool ≡ h.pool
+-- ---- the packet that comes to a member
 
-  -- and so it is at one seat
-  record IgnoredHere (old now : Seat S) (a : Answer) (t : List Happening) (pool : List (List ℕ)) : Type 0 where
-    answer : a ≡ Done
-    seat : now ≡ old
-    trace : t ≡ h.trace
-    puts : pool ≡ h.pool
+module _ {S : Type 0} (pool : List (List ℕ)) (m : MemberModel S) (c : Core S) (core : core_of m ≡ Some c) (group : m.group ≡ world_group) (each : EachSpelled pool) where
+  comes-by : (k : ℕ) (o came : Option Posted) → came ≡ o → o ≡ came_of c (posts_in pool) (Some k) → Comes (posts_in pool) c came
+  comes-by k o None same from = record { which = None; from = refl; none = λ e. refl }
+  comes-by k o (Some p) same from = record { which = Some k; from = same ∙ from; none = λ e. absurd (none-some p (sym e)) }
 
-  heard-there : (n : ℕ) (m : MemberModel S) (b : Bor (List ℕ)) (a : Answer) (now : Seat S) (t : List Happening) (pool : List (List ℕ)) → seat_at (at n) ≡ Running m
-      → is_ignored (input.Datagram b) ≡ true → HandsHere apply encode decode (input.Datagram b) m h.trace h.pool a now t pool → IgnoredHere (Running m) now a t pool
-  heard-there n m b a now t pool was i (Taken g) =
-      let x = Facts.running-here opening apply encode decode is_state at h n m w was in
-      let y = g.takes.handled.ignored i (ap is_some x.1.core) in
-      let none : g.happened ≡ [] = g.takes.told ∙ y.0.happenings in
-      record {
-        answer = g.answer ∙ ap answer_to none;
-        seat = g.seat ∙ ap {B = Seat S} Running y.1;
-        trace = g.trace ∙ ap (λ (s : List Happening). h.trace ++ s) none ∙ append-nil h.trace;
-        puts = g.takes.puts ∙ ap (λ (l : List Outgoing). h.pool ++ map bytes_of l) y.0.packets ∙ append-nil h.pool;
-      }
-  heard-there n m b a now t pool was i (Lost g) = let e : true ≡ false = sym i ∙ g.heeds in absurd (cc)
-  heard-there n m b a now t pool was i (Not g) =
-      let x = Facts.running-here opening apply encode decode is_state at h n m w was in
-      absurd (none-some g.error (sym (ignored-free x.0 (input.Datagram b) i) ∙ Facts.free-is opening apply encode decode is_state h n m x.0 x.1 (input.Datagram b) (Some g.error) g.refusal))
+  came-is : (b : Bor (List ℕ)) (p : Posted) → packet_of b.now ≡ Ok (packet_in world_group p) → came_at m (Datagram b) ≡ handed c p
+  came-is b p e = rw (e, group, core) refl
 
-  heard-at : (n : ℕ) (bytes : List ℕ) (old : Seat S) (a : Answer) (now : Seat S) (t : List Happening) (pool : List (List ℕ)) → seat_at (at n) ≡ old → IsSpelled bytes
-      → Hears apply encode decode bytes old h.trace h.pool a now t pool → IgnoredHere old now a t pool
-  heard-at n bytes Vacant a now t pool was s g = record { answer = g.answer; seat = g.seat; trace = g.trace; puts = g.puts }
-  heard-at n bytes (Ended p) a now t pool was s g = record { answer = g.answer; seat = g.seat; trace = g.trace; puts = g.puts }
-  heard-at n bytes (Running m) a now t pool was s g =
-      heard-there n m g.0 a now t pool was (subst (λ (l : List ℕ). not (is_some (wire_refusal l)) ≡ true) (sym g.1) (spelled-ignored bytes s)) g.2
+  -- is a packet of the pool, or none
+  pub packet-comes : (k : ℕ) (b : Bor (List ℕ)) → slice_get pool k ≡ Some b.now → Comes (posts_in pool) c (came_at m (Datagram b))
+  packet-comes k b at =
+      let r = is-read b.now (each k b.now at) in
+      comes-by k (handed c r.post) (came_at m (Datagram b)) (came-is b r.post r.packet)
+      (sym (ap (option_and_then (handed c)) (post-at pool k b.now each at ∙ r.read)))
 
-  same-at : (n k : ℕ) (b : Bool) → nat_eq n k ≡ b → ((m : ℕ) → nat_eq n m ≡ false → new m ≡ at m) → seat_at (new n) ≡ seat_at (at n) → seat_at (new k) ≡ seat_at (at k)
-  same-at n k true b others is = subst (λ (j : ℕ). seat_at (new j) ≡ seat_at (at j)) (eqb-true n k b) is
-  same-at n k false b others is = ap seat_at (others k b)
+-- ---- a delivery
 
-  some-heard : (n : ℕ) (bytes : List ℕ) (old : Seat S) (a : Answer) (o : Option (Seat S)) (t : List Happening) (pool : List (List ℕ)) → seat_at (at n) ≡ old → IsSpelled bytes
-      → IsSomeAnd o (λ s'. Hears apply encode decode bytes old h.trace h.pool a s' t pool) → IgnoredHere old (seat_at o) a t pool
-  some-heard n bytes old a None t pool was s g = absurd g
-  some-heard n bytes old a (Some now) t pool was s g = heard-at n bytes old a now t pool was s g
+module _ {S : Type 0} (opening : S) (apply : S → Address → List ℕ → S) (encode : S → List ℕ) (decode : List ℕ → Option S) (is_state : S → Type 0) (at : ℕ → Seat S) (h : History)
+    (w : Turning.World opening apply encode decode is_state at h) (k : ℕ) where
+  -- the packet of that number, and whom it is for
+  pub record IsPacketFor (bytes : List ℕ) (p : Address) : Type 0 where
+    pub there : packet_numbered k h.pool ≡ Some bytes
+    pub goes : destination_of bytes ≡ Some p
 
-  node-heard : (n : ℕ) (bytes : List ℕ) (o : Option (Seat S)) (a : Answer) (t : List Happening) (pool : List (List ℕ)) → at n ≡ o → IsSpelled bytes
-      → HearsAt apply encode decode bytes o h.trace h.pool a (new n) t pool → IgnoredHere (seat_at o) (seat_at (new n)) a t pool
-  node-heard n bytes None a t pool was s g = record { answer = g.0; seat = ap seat_at g.1; trace = g.2; puts = g.3 }
-  node-heard n bytes (Some old) a t pool was s g = some-heard n bytes old a (new n) t pool (ap seat_at was) s g
+  in-pool : (bytes : List ℕ) → packet_numbered k h.pool ≡ Some bytes → slice_get h.pool (k - 1) ≡ Some bytes
+  in-pool bytes e = numbered-by (nat_eq k 0) (slice_get h.pool (k - 1)) bytes e
 
-  over : (bytes : List ℕ) (d : Option Address) (a : Answer) (t : List Happening) (pool : List (List ℕ)) → IsSpelled bytes → HandsOver apply encode decode bytes d at h.trace h.pool a new t pool
-      → Ignored a t pool
-  over bytes None a t pool s g = record { answer = g.0; seats = g.1; trace = g.2; puts = g.3 }
-  over bytes (Some p) a t pool s g =
-      let y = node-heard p.node bytes (at p.node) a t pool refl s g.0 in
-      record { answer = y.answer; seats = λ k. same-at p.node k (nat_eq p.node k) refl g.1 y.seat; trace = y.trace; puts = y.puts }
+  -- what has to be known of a delivery to a member that runs
+  module _ (b : Bor (List ℕ)) (p : Address) (f : IsPacketFor b.now p) (m : MemberModel S) (c : Core S) (x : Facts.Runs opening apply encode decode is_state h p.node m c) where
+    is-recipient : recipient k h ≡ Some m.address
+    is-recipient = rw (f.there, f.goes) (Facts.is-running opening apply encode decode is_state h p.node m c x)
 
-  pub delivered : (k : ℕ) (o : Option (List ℕ)) (a : Answer) (t : List Happening) (pool : List (List ℕ)) → packet_numbered k h.pool ≡ o → Delivers apply encode decode o at h.trace h.pool a new t pool
-      → Ignored a t pool
-  delivered k None a t pool e g = record { answer = g.0; seats = g.1; trace = g.2; puts = g.3 }
-  delivered k (Some bytes) a t pool e g = over bytes (destination_of bytes) a t pool (w.spelled (k - 1) bytes (stands-by (nat_eq k 0) (slice_get h.pool (k - 1)) bytes e)) g
+    spelled : IsSpelled b.now
+    spelled = w.spelled (k - 1) b.now (in-pool b.now f.there)
+
+    deliver-taken : (out : Output) (left : MemberModel S) → Handled apply encode decode m (Datagram b) (Ok out) left → EachOwn m.address out.happenings.items
+        → Taking.TakesSo opening apply encode decode is_state h p.node m (Deliver k) (Datagram b) (answer_to out.happenings.items) out.happenings.items left
+    deliver-taken out left handled own =
+        let r = Tables.replies opening apply encode decode is_state h p.node m c x (Datagram b) out left handled in
+        let s = out.happenings.items in
+        subst (λ (a : Answer). Taking.TakesSo opening apply encode decode is_state h p.node m (Deliver k) (Datagram b) a s left) (sym (quiet-done s r.0)) (record {
+          answers = rw is-recipient (Answering.quiet-taken opening apply encode decode is_state h p.node m c x s own r.0);
+          prompt = tt;
+          ends = λ e. absurd (let bad : false ≡ true = e in cc);
+          stays = λ e. Tables.stays-so opening apply encode decode is_state h p.node m c x left handled.group r.1;
+        })
+
+    not-refused : (err : Error) → refusal_in c (Datagram b) ≡ Some err → ⊥
+    not-refused err e = none-some err (sym (ap (option_map Wire) (spelled-free b.now spelled)) ∙ e)
+
+    deliver-table : Taking.Tabled opening apply encode decode is_state h p.node m c (Deliver k) (Datagram b)
+    deliver-table = record {
+      elsewhere = λ a j o. refl;
+      comes = packet-comes h.pool m c x.core x.group w.spelled (k - 1) b (in-pool b.now f.there);
+      lost = λ free. rw is-recipient (inr (refl, refl));
+      not = λ err refused. absurd (not-refused err refused);
+      taken = λ out left handled free own. deliver-taken out left handled own;
+    }
+
+  module _ (laws : Stepping.Laws opening apply encode decode is_state) (new : ℕ → Seat S) where
+    abbrev Turned : ℕ → Answer → List Happening → List (List ℕ) → Type 0
+    Turned n a t pool = Taking.Turned opening apply encode decode is_state new n h (Deliver k) a t pool
+
+    -- where nothing changes
+    still : (n : ℕ) (a : Answer) (t : List Happening) (pool : List (List ℕ)) → a ≡ Done → SameSeats at new → t ≡ h.trace → pool ≡ h.pool → Turned n a t pool
+    still n a t pool answer same trace puts = subst (λ (b : Answer). Turned n b t pool) (sym answer) (record {
+      ps = [];
+      s = [];
+      trace = trace ∙ sym (append-nil h.trace);
+      puts = puts ∙ sym (append-nil h.pool);
+      turn = Turning.turn-still opening apply encode decode is_state at new n h (Deliver k) Done w same (answers-deliver k h (recipient k h) refl) tt (λ m. refl);
+    })
+
+    idle : (n : ℕ) (s : Seat S) (a : Answer) (t : List Happening) (pool : List (List ℕ)) → at n ≡ s → OthersStand n at new → Idles s h.trace h.pool a (new n) t pool → Turned n a t pool
+    idle n s a t pool was others g = still n a t pool g.answer (same-at at new n others (g.seat ∙ sym was)) g.trace g.puts
+
+    -- at the seat of whom it is for
+    heard : (bytes : List ℕ) (p : Address) (s : Seat S) (a : Answer) (t : List Happening) (pool : List (List ℕ)) → IsPacketFor bytes p → at p.node ≡ s → OthersStand p.node at new
+        → Hears apply encode decode bytes s h.trace h.pool a (new p.node) t pool → Turned p.node a t pool
+    heard bytes p Vacant a t pool f was others g = idle p.node Vacant a t pool was others g
+    heard bytes p (Ended q) a t pool f was others g = idle p.node (Ended q) a t pool was others g
+    heard bytes p (Running m) a t pool f was others g =
+        let x = Facts.running-here opening apply encode decode is_state at h p.node m w was in
+        let table = deliver-table g.0 p (subst (λ (l : List ℕ). IsPacketFor l p) (sym g.1) f) m x.0 x.1 in
+        Taking.hands-turn opening apply encode decode is_state laws at new p.node h (Deliver k) (Datagram g.0) m x.0 w was x.1 table others a (new p.node) t pool refl g.2
+
+    over : (bytes : List ℕ) (d : Option Address) (a : Answer) (t : List Happening) (pool : List (List ℕ)) → packet_numbered k h.pool ≡ Some bytes → destination_of bytes ≡ d
+        → HandsOver apply encode decode bytes d at h.trace h.pool a new t pool → (n : ℕ) × OthersStand n at new × Turned n a t pool
+    over bytes None a t pool there goes g = (0, λ m o. g.seats m, still 0 a t pool g.answer g.seats g.trace g.puts)
+    over bytes (Some p) a t pool there goes g = (p.node, g.1, heard bytes p (at p.node) a t pool (record { there = there; goes = goes }) refl g.1 g.0)
+
+    -- a delivery is a turn at some node
+    pub delivered : (o : Option (List ℕ)) (a : Answer) (t : List Happening) (pool : List (List ℕ)) → packet_numbered k h.pool ≡ o → Delivers apply encode decode o at h.trace h.pool a new t pool
+        → (n : ℕ) × OthersStand n at new × Turned n a t pool
+    delivered None a t pool there g = (0, λ m o. g.seats m, still 0 a t pool g.answer g.seats g.trace g.puts)
+    delivered (Some bytes) a t pool there g = over bytes (destination_of bytes) a t pool there refl g

@@ -1,6 +1,6 @@
 -- What is known of a running member: by its seat, and by agreement.
 use Rattle.std.proofs.Common.{◌≡◌, ℕ, ◌+◌, false, Option, Some, None, List, length, refl, sym, ap, ◌∙◌, subst, arith, length-append}
-use Rattle.std.specs.Option.{IsSomeAnd, option_map_or, option_and_then}
+use Rattle.std.specs.Option.{IsSomeAnd, option_map_or}
 use Rattle.address.specs.Ids.{Address}
 use Rattle.view.specs.Members.{View}
 use Rattle.trace_props.specs.declared.happening.Happening.{Happening}
@@ -11,15 +11,15 @@ use Rattle.agreement.proofs.Order.{told-many}
 use Rattle.member.specs.declared.error.Error.{Error}
 use Rattle.member.specs.declared.error.Error.TheVariants.{Closed}
 use Rattle.member.specs.declared.input.Input.{Input}
-use Rattle.member.specs.Members.{MemberModel, core_of, book_of, refusal_in, refusal_of}
-use Rattle.world_model.specs.Histories.{History, last_of, is_connected, contact_of, running}
+use Rattle.member.specs.Members.{MemberModel, core_of, refusal_in, refusal_of}
+use Rattle.world_model.specs.Histories.{History, last_of, is_connected, running}
 use Rattle.world_model.specs.Packets.{world_group}
 use Rattle.world_model.specs.Faithful.{outstanding, AtMember}
 use Rattle.world_model.specs.declared.Answer.{Answer}
 use Rattle.world.specs.declared.seat.Seat.{Seat}
 use Rattle.world.specs.declared.seat.Seat.TheVariants.{Running}
-use Rattle.world.specs.Seats.{seat_at, core_here, posts_in}
-use Rattle.world.specs.Invariant.{calls_of, IsSeatOf}
+use Rattle.world.specs.Seats.{core_here, posts_in}
+use Rattle.world.specs.Invariant.{IsSeatOf}
 use Rattle.world.proofs.Seats.{runs, core-running}
 use Rattle.world.proofs.Turning
 
@@ -36,17 +36,16 @@ module _ {S : Type 0} (opening : S) (apply : S → Address → List ℕ → S) (
     pub group : m.group ≡ world_group
     pub core : core_of m ≡ Some c
     pub joined : is_connected n h ≡ c.connected
-    pub asks : contact_of n h ≡ option_and_then (λ b. b.contact) (book_of m)
     pub fact : MemberFact opening apply decode is_state (record { pool = posts_in h.pool; trace = h.trace }) m.address c
 
-  runs-at : (at : ℕ → Option (Seat S)) (h : History) (n : ℕ) (m : MemberModel S) → Turning.World opening apply encode decode is_state at h → seat_at (at n) ≡ Running m → m.address.node ≡ n
+  runs-at : (at : ℕ → Seat S) (h : History) (n : ℕ) (m : MemberModel S) → Turning.World opening apply encode decode is_state at h → at n ≡ Running m → m.address.node ≡ n
       → runs at m.address ≡ core_of m
-  runs-at at h n m w there node = subst (λ (k : ℕ). core_here m.address (seat_at (at k)) ≡ core_of m) (sym node) (ap (core_here m.address) there ∙ core-running m.address m refl)
+  runs-at at h n m w there node = subst (λ (k : ℕ). core_here m.address (at k) ≡ core_of m) (sym node) (ap (core_here m.address) there ∙ core-running m.address m refl)
 
-  pub running-here : (at : ℕ → Option (Seat S)) (h : History) (n : ℕ) (m : MemberModel S) → Turning.World opening apply encode decode is_state at h → seat_at (at n) ≡ Running m
+  pub running-here : (at : ℕ → Seat S) (h : History) (n : ℕ) (m : MemberModel S) → Turning.World opening apply encode decode is_state at h → at n ≡ Running m
       → (c : Core S) × Runs h n m c
   running-here at h n m w there =
-      let k : IsSeatOf n (last_of n h.trace) (calls_of n h) h.trace (Running m) = subst (IsSeatOf n (last_of n h.trace) (calls_of n h) h.trace) there (w.seats n) in
+      let k : IsSeatOf n (last_of n h.trace) (is_connected n h) h.trace (Running m) = subst (IsSeatOf n (last_of n h.trace) (is_connected n h) h.trace) there (w.seats n) in
       let x = core-there (core_of m) (λ c. is_connected n h ≡ c.connected) k.2.joined in (
         x.0,
         record {
@@ -55,7 +54,6 @@ module _ {S : Type 0} (opening : S) (apply : S → Address → List ℕ → S) (
           group = k.2.group;
           core = x.1;
           joined = x.2;
-          asks = k.2.asks;
           fact = w.agreed.members m.address x.0 (runs-at at h n m w there k.1 ∙ x.1);
         },
       )

@@ -1,4 +1,7 @@
 pub mod Loops
+pub mod Widening
+pub mod Doing
+pub mod Running
 pub mod Handing
 pub mod Posts
 pub mod Owning
@@ -16,3 +19,5 @@ pub mod Starting
 pub mod Acting
 pub mod Delivering
 pub mod Carrying
+pub mod Keeping
+pub mod Readable

@@ -46,7 +46,7 @@ module _ {S : Type 0} (apply : S → Address → List ℕ → S) (encode : S →
   own-act c Joins = tt
   own-act c (Puts q body) = tt
   own-act c (Sends v payload) = ((refl, refl), tt)
-  own-act c (Queues v e) = tt
+  own-act c (Queues v e waiting) = tt
   own-act c (Orders v e waiting held) = ((refl, refl), tt)
   own-act c (Hears v q n) = tt
   own-act c (Collects v n held) = tt
@@ -68,7 +68,7 @@ module _ {S : Type 0} (apply : S → Address → List ℕ → S) (encode : S →
   me-stays c d Joins e = sym (ap me_of (same_Some _ d e))
   me-stays c d (Puts q body) e = sym (ap me_of (same_Some _ d e))
   me-stays c d (Sends v payload) e = sym (ap me_of (same_Some _ d e))
-  me-stays c d (Queues v m) e = sym (ap me_of (same_Some _ d e))
+  me-stays c d (Queues v m waiting) e = sym (ap me_of (same_Some _ d e))
   me-stays c d (Orders v m waiting held) e = sym (ap me_of (same_Some _ d e))
   me-stays c d (Hears v q n) e = sym (ap me_of (same_Some _ d e))
   me-stays c d (Collects v n held) e = sym (ap me_of (same_Some _ d e))

@@ -8,13 +8,13 @@ use Rattle.agreement.specs.Steps.{put}
 use Rattle.member.specs.Members.{MemberModel, core_of}
 use Rattle.world.specs.declared.seat.Seat.{Seat}
 use Rattle.world.specs.declared.seat.Seat.TheVariants.{Ended, Running}
-use Rattle.world.specs.Seats.{seat_at, core_here}
-use Rattle.world.specs.Turns.{SameSeats}
+use Rattle.world.specs.Seats.{core_here}
+use Rattle.world.specs.Turns.{SameSeats, OthersStand}
 
 module _ {S : Type 0} where
   -- the members that run at these seats
-  abbrev pub runs : (ℕ → Option (Seat S)) → Address → Option (Core S)
-  runs at p = core_here p (seat_at (at p.node))
+  abbrev pub runs : (ℕ → Seat S) → Address → Option (Core S)
+  runs at p = core_here p (at p.node)
 
   -- nobody but this one runs at a seat
   abbrev pub OnlyHere : Address → Seat S → Type 0
@@ -29,26 +29,30 @@ module _ {S : Type 0} where
   pub core-running : (p : Address) (m : MemberModel S) → m.address ≡ p → core_here p (Running m) ≡ core_of m
   core-running p m is = cond-true (same_address p m.address) (core_of m) None (ap (same_address p) is ∙ same_address-refl p)
 
-  -- all seats but one node's stand as they stood
-  abbrev pub OthersStand : ℕ → (ℕ → Option (Seat S)) → (ℕ → Option (Seat S)) → Type 0
-  OthersStand n at new = (m : ℕ) → nat_eq n m ≡ false → seat_at (new m) ≡ seat_at (at m)
-
-  module _ (at new : ℕ → Option (Seat S)) (p : Address) (end : Option (Core S)) where
-    apart : (q : Address) → OnlyHere p (seat_at (at p.node)) → OnlyHere p (seat_at (new p.node)) → OthersStand p.node at new → same_address q p ≡ false
+  module _ (at new : ℕ → Seat S) (p : Address) (end : Option (Core S)) where
+    apart : (q : Address) → OnlyHere p (at p.node) → OnlyHere p (new p.node) → OthersStand p.node at new → same_address q p ≡ false
         → (b : Bool) → nat_eq p.node q.node ≡ b → runs new q ≡ runs at q
     apart q old now others e true b =
         let node : p.node ≡ q.node = eqb-true p.node q.node b in
-        subst (λ (m : ℕ). core_here q (seat_at (new m)) ≡ core_here q (seat_at (at m))) node (now q e ∙ sym (old q e))
+        subst (λ (m : ℕ). core_here q (new m) ≡ core_here q (at m)) node (now q e ∙ sym (old q e))
     apart q old now others e false b = ap (core_here q) (others q.node b)
 
-    seen : (q : Address) → OnlyHere p (seat_at (at p.node)) → OnlyHere p (seat_at (new p.node)) → OthersStand p.node at new → runs new p ≡ end
+    seen : (q : Address) → OnlyHere p (at p.node) → OnlyHere p (new p.node) → OthersStand p.node at new → runs new p ≡ end
         → (b : Bool) → same_address q p ≡ b → runs new q ≡ cond b end (runs at q)
     seen q old now others is true e = ap (runs new) (same_address-true q p e) ∙ is
     seen q old now others is false e = apart q old now others e (nat_eq p.node q.node) refl
 
     -- where one member goes on, the members that run are those before with that one changed
-    pub runs-put : OnlyHere p (seat_at (at p.node)) → OnlyHere p (seat_at (new p.node)) → OthersStand p.node at new → runs new p ≡ end → runs new ≡ put p end (runs at)
+    pub runs-put : OnlyHere p (at p.node) → OnlyHere p (new p.node) → OthersStand p.node at new → runs new p ≡ end → runs new ≡ put p end (runs at)
     runs-put old now others is = λ i q. seen q old now others is (same_address q p) refl i
 
-  pub runs-same : (at new : ℕ → Option (Seat S)) → SameSeats at new → runs new ≡ runs at
+  -- all nodes stand as they stood where one node does and the others do
+  pub same-at : (at new : ℕ → Seat S) (n : ℕ) → OthersStand n at new → new n ≡ at n → SameSeats at new
+  same-at at new n others is k = by (nat_eq n k) refl
+    where
+      by : (b : Bool) → nat_eq n k ≡ b → new k ≡ at k
+      by true b = subst (λ (j : ℕ). new j ≡ at j) (eqb-true n k b) is
+      by false b = others k b
+
+  pub runs-same : (at new : ℕ → Seat S) → SameSeats at new → runs new ≡ runs at
   runs-same at new same = λ i q. core_here q (same q.node i)

@@ -1,7 +1,7 @@
 -- A start keeps what a world keeps.
 use Rattle.std.proofs.Common.{◌≡◌, ℕ, ◌+◌, ◌<◌, ◌≤◌, ◌^◌, Bool, true, false, Option, Some, None, List, [], ◌∷◌, ◌++◌, nat_eq, nat_lt, sym, refl, ap, ◌∙◌, subst, arith, inl, inr}
-use Rattle.std.specs.Option.{IsSomeAnd, option_map_or, option_and_then}
-use Rattle.std.proofs.lemmas.Bool.{cond-true, eq-eqb, eqb-true}
+use Rattle.std.specs.Option.{IsSomeAnd, option_map_or}
+use Rattle.std.proofs.lemmas.Bool.{cond-true, eq-eqb}
 use Rattle.std.proofs.lemmas.List.{append-nil, append_assoc}
 use Rattle.address.specs.Ids.{Address, IsAddress}
 use Rattle.trace_props.specs.declared.happening.Happening.{Happening}
@@ -10,23 +10,22 @@ use Rattle.trace_props.specs.Observed.{has_started, has_ended}
 use Rattle.trace_props.proofs.Observing.{has_ended-now}
 use Rattle.agreement.specs.Cores.{Core}
 use Rattle.agreement.proofs.Stepping
-use Rattle.member.specs.Members.{Book}
 use Rattle.world_model.specs.declared.WorldEvent.TheVariants.{Start}
 use Rattle.world_model.specs.declared.Answer.{Answer}
 use Rattle.world_model.specs.declared.Answer.TheVariants.{Done, Sent, Refused}
 use Rattle.world_model.specs.declared.Refusal.{Refusal}
 use Rattle.world_model.specs.declared.Refusal.TheVariants.{NotConnected, Blocked, Busy, TooLong, AlreadyConnected, Closed, Memory, Exhausted}
-use Rattle.world_model.specs.Histories.{History, last_of, is_connected, contact_of}
+use Rattle.world_model.specs.Histories.{History, last_of, is_connected, connects_after}
 use Rattle.world_model.specs.Faithful.{Answers}
 use Rattle.world.specs.declared.seat.Seat.{Seat}
 use Rattle.world.specs.declared.seat.Seat.TheVariants.{Vacant, Ended, Running}
-use Rattle.world.specs.Seats.{seat_at, core_here}
-use Rattle.world.specs.Turns.{Begun, BeginsSo, Begins, Stays, StartGives}
-use Rattle.world.specs.Invariant.{calls_of, IsSeatOf, EachSpelled, StartsInTurn, top_of}
-use Rattle.world.proofs.Calls.{calls_after, calls_after-other, refused-calls}
+use Rattle.world.specs.Seats.{core_here}
+use Rattle.world.specs.Turns.{Begun, BeginsSo, Begins, Stays, StartGives, OthersStand}
+use Rattle.world.specs.Invariant.{IsSeatOf, EachSpelled, StartsInTurn, top_of}
+use Rattle.world.proofs.Calls.{connects_after-other, refused-connects}
 use Rattle.world.proofs.Traces.{last_of-push, last_of-still, last_of-other, starts-push}
-use Rattle.world.proofs.Seats.{OthersStand, OnlyHere, only-ended, only-running, core-running}
-use Rattle.world.proofs.Tables.{done-here}
+use Rattle.world.proofs.Seats.{OnlyHere, only-ended, only-running, core-running, same-at}
+use Rattle.world.proofs.Answering.{done-here}
 use Rattle.world.proofs.Turning
 use Rattle.world.proofs.Facts
 use Rattle.world.proofs.Agreeing
@@ -41,7 +40,7 @@ last-now : (q : Address) (n : ℕ) (t : List Happening) → q.node ≡ n → las
 last-now q n t e = last_of-push n t (Started q) ∙ cond-true (nat_eq q.node n) (Some q) (last_of n t) (eq-eqb q.node n e)
 
 module _ {S : Type 0} (opening : S) (apply : S → Address → List ℕ → S) (encode : S → List ℕ) (decode : List ℕ → Option S) (is_state : S → Type 0)
-    (laws : Stepping.Laws opening apply encode decode is_state) (at new : ℕ → Option (Seat S)) (n : ℕ) (h : History) (w : Turning.World opening apply encode decode is_state at h)
+    (laws : Stepping.Laws opening apply encode decode is_state) (at new : ℕ → Seat S) (n : ℕ) (h : History) (w : Turning.World opening apply encode decode is_state at h)
     (others : OthersStand n at new) where
   abbrev Turned : Answer → List Happening → List (List ℕ) → Type 0
   Turned a t pool = Taking.Turned opening apply encode decode is_state new n h (Start n) a t pool
@@ -50,7 +49,7 @@ module _ {S : Type 0} (opening : S) (apply : S → Address → List ℕ → S) (
   record IsNext (q : Address) (old : Seat S) : Type 0 where
     node : q.node ≡ n
     real : IsAddress q
-    was : seat_at (at n) ≡ old
+    was : at n ≡ old
     nobody : (p : Address) → core_here p old ≡ None
     above : top_of n h.trace < q.incarnation
     done : Answers h (Start n) Done (Started q ∷ [])
@@ -63,7 +62,7 @@ module _ {S : Type 0} (opening : S) (apply : S → Address → List ℕ → S) (
     new-one : has_started q h.trace ≡ false
     new-one = unstarted q h.trace w.starts higher (has_started q h.trace) refl
 
-    moves-to : (now : Seat S) → seat_at (new n) ≡ now → OnlyHere q now → Agreeing.Moves opening apply encode decode is_state laws at new n q old now
+    moves-to : (now : Seat S) → new n ≡ now → OnlyHere q now → Agreeing.Moves opening apply encode decode is_state laws at new n q old now
     moves-to now is only = record { node = x.node; was = x.was; is = is; only_old = λ p e. x.nobody p; only_now = only; others = others }
 
     starts-now : StartsInTurn (h.trace ++ Started q ∷ [])
@@ -73,10 +72,10 @@ module _ {S : Type 0} (opening : S) (apply : S → Address → List ℕ → S) (
     lasts-now k o = last_of-other k h.trace (Started q) (subst (λ (j : ℕ). nat_eq j k ≡ false) (sym x.node) o)
 
     -- it runs
-    begun : (t : List Happening) (now : Seat S) → seat_at (new n) ≡ now → Begun opening q h.trace now t → Turned Done t h.pool
+    begun : (t : List Happening) (now : Seat S) → new n ≡ now → Begun opening q h.trace now t → Turned Done t h.pool
     begun t now is g =
         let m = g.member in
-        let here : seat_at (new n) ≡ Running g.member = is ∙ g.seat in
+        let here : new n ≡ Running g.member = is ∙ g.seat in
         record {
           ps = [];
           s = Started q ∷ [];
@@ -85,28 +84,25 @@ module _ {S : Type 0} (opening : S) (apply : S → Address → List ℕ → S) (
           turn = record {
             answers = x.done;
             prompt = tt;
-            put = refl;
-            ignored = tt;
             agreed = Agreeing.started-agreed opening apply encode decode is_state laws at new n q old (Running g.member) (moves-to (Running g.member) here (only-running q g.member g.address))
                 h.pool h.trace x.real new-one (core-running q g.member g.address ∙ g.core) w.agreed;
             spelled = subst EachSpelled (sym (append-nil h.pool)) w.spelled;
             starts = starts-now;
             lasts = lasts-now;
-            calls = λ k o. calls_after-other k (calls_of k h) (Start n) Done o;
-            seat = subst (IsSeatOf n (last_of n (h.trace ++ Started q ∷ [])) (calls_after n (calls_of n h) (Start n) Done) (h.trace ++ Started q ∷ [])) (sym here) (
+            connected = λ k o. connects_after-other k (is_connected k h) (Start n) Done o;
+            seat = subst (IsSeatOf n (last_of n (h.trace ++ Started q ∷ [])) (connects_after n (is_connected n h) (Start n) Done) (h.trace ++ Started q ∷ [])) (sym here) (
               last-now q n h.trace x.node ∙ ap Some (sym g.address),
               ap (λ (p : Address). p.node) g.address ∙ x.node,
               record {
                 group = g.group;
-                joined = subst (λ (o : Option (Core S)). IsSomeAnd o (λ d. (calls_after n (calls_of n h) (Start n) Done).connected ≡ d.connected)) (sym g.core) (done-here n false (is_connected n h));
-                asks = done-here n None (contact_of n h) ∙ sym (ap (option_and_then (λ (b : Book). b.contact)) g.book);
+                joined = subst (λ (o : Option (Core S)). IsSomeAnd o (λ d. connects_after n (is_connected n h) (Start n) Done ≡ d.connected)) (sym g.core) (done-here n false (is_connected n h));
               },
             );
           };
         }
 
     -- or it crashed
-    failed : (t : List Happening) → seat_at (new n) ≡ Ended q → t ≡ h.trace ++ Started q ∷ [] ++ Crashed q ∷ [] → Turned (Refused Memory) t h.pool
+    failed : (t : List Happening) → new n ≡ Ended q → t ≡ h.trace ++ Started q ∷ [] ++ Crashed q ∷ [] → Turned (Refused Memory) t h.pool
     failed t is trace =
         let one = h.trace ++ Started q ∷ [] in
         let two : (h.trace ++ Started q ∷ []) ++ Crashed q ∷ [] ≡ h.trace ++ Started q ∷ Crashed q ∷ [] = append_assoc h.trace (Started q ∷ []) (Crashed q ∷ []) in
@@ -120,19 +116,17 @@ module _ {S : Type 0} (opening : S) (apply : S → Address → List ℕ → S) (
           turn = record {
             answers = x.memory;
             prompt = tt;
-            put = refl;
-            ignored = tt;
             agreed = Agreeing.failed-agreed opening apply encode decode is_state laws at new n q old (Ended q) (moves-to (Ended q) is (only-ended q q)) h.pool h.trace x.real new-one refl w.agreed;
             spelled = subst EachSpelled (sym (append-nil h.pool)) w.spelled;
             starts = subst StartsInTurn two (starts-push (h.trace ++ Started q ∷ []) (Crashed q) starts-now tt);
             lasts = λ k o. ap (last_of k) (sym two) ∙ last_of-still k (h.trace ++ Started q ∷ []) (Crashed q) refl ∙ lasts-now k o;
-            calls = λ k o. calls_after-other k (calls_of k h) (Start n) (Refused Memory) o;
-            seat = subst (IsSeatOf n (last_of n (h.trace ++ Started q ∷ Crashed q ∷ [])) (calls_after n (calls_of n h) (Start n) (Refused Memory)) (h.trace ++ Started q ∷ Crashed q ∷ [])) (sym is)
+            connected = λ k o. connects_after-other k (is_connected k h) (Start n) (Refused Memory) o;
+            seat = subst (IsSeatOf n (last_of n (h.trace ++ Started q ∷ Crashed q ∷ [])) (connects_after n (is_connected n h) (Start n) (Refused Memory)) (h.trace ++ Started q ∷ Crashed q ∷ [])) (sym is)
                 (last, x.node, subst (λ (t : List Happening). has_ended q t ≡ true) two (has_ended-now (h.trace ++ Started q ∷ []) (Crashed q) refl));
           };
         }
 
-    begins : (a : Answer) (t : List Happening) (now : Seat S) → seat_at (new n) ≡ now → BeginsSo opening q h.trace a now t → Turned a t h.pool
+    begins : (a : Answer) (t : List Happening) (now : Seat S) → new n ≡ now → BeginsSo opening q h.trace a now t → Turned a t h.pool
     begins Done t now is g = begun t now is g
     begins (Sent k) t now is g = absurd g
     begins (Refused Memory) t now is g = failed t (is ∙ g.0) g.1
@@ -149,23 +143,19 @@ module _ {S : Type 0} (opening : S) (apply : S → Address → List ℕ → S) (
   top-at : (o : Option Address) → last_of n h.trace ≡ o → top_of n h.trace ≡ option_map_or (λ (p : Address). p.incarnation) o 0
   top-at o e = ap (λ l. option_map_or (λ (p : Address). p.incarnation) l 0) e
 
-  same-at : (k : ℕ) (b : Bool) → nat_eq n k ≡ b → seat_at (new n) ≡ seat_at (at n) → seat_at (new k) ≡ seat_at (at k)
-  same-at k true b is = subst (λ (j : ℕ). seat_at (new j) ≡ seat_at (at j)) (eqb-true n k b) is
-  same-at k false b is = others k b
-
   -- it is refused
-  refused : (r : Refusal) (old now : Seat S) (a : Answer) (t : List Happening) → seat_at (at n) ≡ old → seat_at (new n) ≡ now → Answers h (Start n) (Refused r) [] → Stays r old h.trace a now t
+  refused : (r : Refusal) (old now : Seat S) (a : Answer) (t : List Happening) → at n ≡ old → new n ≡ now → Answers h (Start n) (Refused r) [] → Stays r old h.trace a now t
       → Turned a t h.pool
   refused r old now a t was is answers g = subst (λ (b : Answer). Turned b t h.pool) (sym g.answer) (record {
     ps = [];
     s = [];
     trace = g.trace ∙ sym (append-nil h.trace);
     puts = sym (append-nil h.pool);
-    turn = Turning.turn-still opening apply encode decode is_state at new n h (Start n) (Refused r) w (λ k. same-at k (nat_eq n k) refl (is ∙ g.seat ∙ sym was)) answers tt refl tt
-        (λ k. refused-calls k (calls_of k h) (Start n) r);
+    turn = Turning.turn-still opening apply encode decode is_state at new n h (Start n) (Refused r) w (same-at at new n others (is ∙ g.seat ∙ sym was)) answers tt
+        (λ k. refused-connects k (is_connected k h) (Start n) r);
   })
 
-  first-at : (a : Answer) (now : Seat S) (t : List Happening) → seat_at (at n) ≡ Vacant → seat_at (new n) ≡ now → last_of n h.trace ≡ None
+  first-at : (a : Answer) (now : Seat S) (t : List Happening) → at n ≡ Vacant → new n ≡ now → last_of n h.trace ≡ None
       → Begins opening (record { node = n; incarnation = 1 }) h.trace a now t → Turned a t h.pool
   first-at a now t was is k g =
       let top : top_of n h.trace ≡ 0 = top-at None k in
@@ -180,7 +170,7 @@ module _ {S : Type 0} (opening : S) (apply : S → Address → List ℕ → S) (
       }) a t now is g.1
 
   -- after an ended member, by whether there is a next incarnation
-  after-ended : (p : Address) (a : Answer) (now : Seat S) (t : List Happening) → seat_at (at n) ≡ Ended p → seat_at (new n) ≡ now → IsSeatOf {S = S} n (last_of n h.trace) (calls_of n h) h.trace (Ended p)
+  after-ended : (p : Address) (a : Answer) (now : Seat S) (t : List Happening) → at n ≡ Ended p → new n ≡ now → IsSeatOf {S = S} n (last_of n h.trace) (is_connected n h) h.trace (Ended p)
       → (b : Bool) → nat_lt (p.incarnation + 1) (2 ^ 32) ≡ b → StartGives opening n (Ended p) h.trace a now t → Turned a t h.pool
   after-ended p a now t was is k true e g =
       let top : top_of n h.trace ≡ p.incarnation = top-at (Some p) k.0 in
@@ -198,7 +188,7 @@ module _ {S : Type 0} (opening : S) (apply : S → Address → List ℕ → S) (
       let stays : Stays Exhausted (Ended p) h.trace a now t = rw e at g in
       refused Exhausted (Ended p) now a t was is (rw (k.0, k.2, e) (refl, refl)) stays
 
-  start-here : (old : Seat S) (a : Answer) (now : Seat S) (t : List Happening) → seat_at (at n) ≡ old → seat_at (new n) ≡ now → IsSeatOf n (last_of n h.trace) (calls_of n h) h.trace old
+  start-here : (old : Seat S) (a : Answer) (now : Seat S) (t : List Happening) → at n ≡ old → new n ≡ now → IsSeatOf n (last_of n h.trace) (is_connected n h) h.trace old
       → StartGives opening n old h.trace a now t → Turned a t h.pool
   start-here Vacant a now t was is k g = first-at a now t was is k g
   start-here (Ended p) a now t was is k g = after-ended p a now t was is k (nat_lt (p.incarnation + 1) (2 ^ 32)) refl g
@@ -206,5 +196,5 @@ module _ {S : Type 0} (opening : S) (apply : S → Address → List ℕ → S) (
       let x = Facts.running-here opening apply encode decode is_state at h n m w was in
       refused AlreadyConnected (Running m) now a t was is (rw (k.0, Facts.going opening apply encode decode is_state h n m x.0 x.1) (refl, refl)) g
 
-  pub start-turns : (a : Answer) (t : List Happening) → StartGives opening n (seat_at (at n)) h.trace a (seat_at (new n)) t → Turned a t h.pool
-  start-turns a t g = start-here (seat_at (at n)) a (seat_at (new n)) t refl refl (w.seats n) g
+  pub start-turns : (a : Answer) (t : List Happening) → StartGives opening n (at n) h.trace a (new n) t → Turned a t h.pool
+  start-turns a t g = start-here (at n) a (new n) t refl refl (w.seats n) g

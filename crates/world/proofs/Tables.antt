@@ -1,43 +1,39 @@
 -- For each event: what has to be known where its input is handed to a running member.
-use Rattle.std.proofs.Common.{◌≡◌, ℕ, ◌+◌, true, false, ◌&&◌, cond, Option, Some, None, Ok, List, [], ◌∷◌, ◌++◌, nat_eq, is_some, refl, sym, ap, ◌∙◌, subst, inr}
+use Rattle.std.proofs.Common.{◌≡◌, ℕ, ◌+◌, Bool, true, false, cond, Option, Some, None, Ok, List, [], ◌∷◌, ◌++◌, is_some, refl, sym, ap, ◌∙◌, subst, inr}
 use Rattle.std.specs.Borrow.{Bor}
-use Rattle.std.specs.Option.{IsSomeAnd, option_map_or, option_and_then}
-use Rattle.std.proofs.lemmas.Bool.{cond-true, eq-eqb, and_from}
+use Rattle.std.specs.Option.{IsSomeAnd}
 use Rattle.std.proofs.lemmas.Option.{none-some}
 use Rattle.address.specs.Ids.{Address}
 use Rattle.view.specs.Members.{View}
-use Rattle.wire.specs.declared.packet.Body.TheVariants as bodies
 use Rattle.trace_props.specs.declared.happening.Happening.{Happening}
 use Rattle.trace_props.specs.declared.happening.Happening.TheVariants.{Left, Crashed}
 use Rattle.trace_props.specs.Observed.{has_ended}
 use Rattle.trace_props.proofs.Observing.{has_ended-now}
-use Rattle.agreement.specs.Cores.{Core, id_of}
-use Rattle.agreement.specs.Acts.{packet}
+use Rattle.agreement.specs.Cores.{Core}
 use Rattle.agreement.proofs.Registers.{passed-by}
 use Rattle.member.specs.declared.error.Error.{Error}
 use Rattle.member.specs.declared.error.Error.TheVariants as error
 use Rattle.member.specs.declared.input.Input.{Input}
 use Rattle.member.specs.declared.input.Input.TheVariants as input
 use Rattle.member.specs.declared.output.Output.{Output}
-use Rattle.member.specs.Members.{MemberModel, Book, core_of, book_of, refusal_in}
+use Rattle.member.specs.Members.{MemberModel, core_of, refusal_in}
 use Rattle.std.specs.List.{list_all}
 use Rattle.member.specs.Handling as member
-use Rattle.member.specs.Handling.{Handled, Replies, StaysSo, IsConnected, posts, noted, asked_by}
+use Rattle.member.specs.Handling.{Handled, Replies, StaysSo, IsConnected}
 use Rattle.world_model.specs.declared.WorldEvent.{WorldEvent}
 use Rattle.world_model.specs.declared.WorldEvent.TheVariants.{Create, Join, Send, Tick, Leave}
 use Rattle.world_model.specs.declared.Answer.{Answer}
 use Rattle.world_model.specs.declared.Answer.TheVariants.{Done, Sent, Refused}
 use Rattle.world_model.specs.declared.Refusal.TheVariants.{Memory, AlreadyConnected}
-use Rattle.world_model.specs.Histories.{History, is_connected, contact_of}
+use Rattle.world_model.specs.Histories.{History, is_connected}
 use Rattle.world_model.specs.Faithful.{AnswersCreate, AnswersJoin, AnswersQuietly, AnswersLeave, AnswersSend, IsPrompt}
-use Rattle.world_model.specs.Steps.{put_out, put_at_tick}
-use Rattle.world.specs.Seats.{answer_for, answer_to}
-use Rattle.world.specs.Invariant.{Calls, calls_of, IsMember}
-use Rattle.world.proofs.Calls.{refused-calls}
+use Rattle.world.specs.Seats.{answer_for, answer_to, posts_in}
+use Rattle.world.specs.Invariant.{IsMember}
+use Rattle.world.proofs.Calls.{connects_after-other, refused-connects}
 use Rattle.world.proofs.Owning.{EachOwn}
-use Rattle.world.proofs.Posts.{bytes_for}
+use Rattle.world.proofs.Readable.{nothing-comes}
 use Rattle.world.proofs.Answering
-use Rattle.world.proofs.Answering.{free-of, quiet-done}
+use Rattle.world.proofs.Answering.{free-of, quiet-done, done-here}
 use Rattle.world.proofs.Sending
 use Rattle.world.proofs.Facts
 use Rattle.world.proofs.Taking
@@ -46,10 +42,6 @@ use Rattle.world.proofs.Taking
 some-map : {X : Type 0} (o : Option X) (P Q : X → Type 0) → ((y : X) → P y → Q y) → IsSomeAnd o P → IsSomeAnd o Q
 some-map None P Q f y = absurd y
 some-map (Some z) P Q f y = f z y
-
--- a node's own event that was done
-pub done-here : {X : Type 0} (n : ℕ) (y z : X) → cond (nat_eq n n && true) y z ≡ y
-done-here n y z = cond-true (nat_eq n n && true) y z (and_from (nat_eq n n) true (eq-eqb n n refl) refl)
 
 module _ {S : Type 0} (opening : S) (apply : S → Address → List ℕ → S) (encode : S → List ℕ) (decode : List ℕ → Option S) (is_state : S → Type 0) (h : History) (n : ℕ) (m : MemberModel S)
     (c : Core S) (x : Facts.Runs opening apply encode decode is_state h n m c) where
@@ -62,24 +54,21 @@ module _ {S : Type 0} (opening : S) (apply : S → Address → List ℕ → S) (
   abbrev RefusesSo : WorldEvent → Answer → Type 0
   RefusesSo e a = Taking.RefusesSo opening apply encode decode is_state h e a
 
-  replies : (i : Input) (out : Output) (left : MemberModel S) → Handled apply encode decode m i (Ok out) left → Replies c i out.happenings.items (core_of left)
+  pub replies : (i : Input) (out : Output) (left : MemberModel S) → Handled apply encode decode m i (Ok out) left → Replies c i out.happenings.items (core_of left)
   replies i out left handled = subst (λ (o : Option (Core S)). IsSomeAnd o (λ d. Replies d i out.happenings.items (core_of left))) x.core handled.reply
 
-  -- the member runs on as before, and its book is as before
-  stays-so : (left : MemberModel S) → left.group ≡ m.group → StaysSo c (core_of left) → book_of left ≡ book_of m → IsMember (calls_of n h) left
-  stays-so left group core book = record {
+  -- the member runs on as before
+  pub stays-so : (left : MemberModel S) → left.group ≡ m.group → StaysSo c (core_of left) → IsMember (is_connected n h) left
+  stays-so left group core = record {
     group = group ∙ x.group;
     joined = some-map (core_of left) (λ d. d.connected ≡ c.connected) (λ d. is_connected n h ≡ d.connected) (λ d e. x.joined ∙ sym e) core;
-    asks = x.asks ∙ ap (option_and_then (λ (b : Book). b.contact)) (sym book);
   }
 
   -- it runs on connected
-  connected-so : (left : MemberModel S) (calls : Calls) → left.group ≡ m.group → IsConnected (core_of left) → calls.connected ≡ true
-      → calls.contact ≡ option_and_then (λ (b : Book). b.contact) (book_of left) → IsMember calls left
-  connected-so left calls group core on asks = record {
+  connected-so : (left : MemberModel S) (connected : Bool) → left.group ≡ m.group → IsConnected (core_of left) → connected ≡ true → IsMember connected left
+  connected-so left connected group core on = record {
     group = group ∙ x.group;
-    joined = some-map (core_of left) (λ d. d.connected ≡ true) (λ d. calls.connected ≡ d.connected) (λ d e. on ∙ sym e) core;
-    asks = asks;
+    joined = some-map (core_of left) (λ d. d.connected ≡ true) (λ d. connected ≡ d.connected) (λ d e. on ∙ sym e) core;
   }
 
   -- ---- a create
@@ -92,9 +81,8 @@ module _ {S : Type 0} (opening : S) (apply : S → Address → List ℕ → S) (
         answers = Facts.at-member opening apply encode decode is_state h n m c x Done out.happenings.items (λ p. AnswersCreate p h Done out.happenings.items)
             (Answering.create-taken opening apply encode decode is_state h n m c x out.happenings.items free r.0);
         prompt = tt;
-        put = refl;
         ends = λ e. absurd (let bad : false ≡ true = e in cc);
-        stays = λ e. connected-so left _ handled.group r.1 (done-here n true (is_connected n h)) (x.asks ∙ ap (option_and_then (λ (b : Book). b.contact)) (sym handled.notes));
+        stays = λ e. connected-so left _ handled.group r.1 (done-here n true (is_connected n h));
       })
 
   create-not : (err : Error) → refusal_in c input.Create ≡ Some err → RefusesSo (Create n) (answer_for err)
@@ -105,16 +93,13 @@ module _ {S : Type 0} (opening : S) (apply : S → Address → List ℕ → S) (
         answers = Facts.at-member opening apply encode decode is_state h n m c x (Refused AlreadyConnected) [] (λ p. AnswersCreate p h (Refused AlreadyConnected) [])
             (subst (λ (b : Error). AnswersCreate m.address h (answer_for b) []) (sym p.1) y);
         prompt = tt;
-        put = refl;
-        calls = λ k. refused-calls k (calls_of k h) (Create n) AlreadyConnected;
+        connected = λ k. refused-connects k (is_connected k h) (Create n) AlreadyConnected;
       })
 
   pub create-table : Tabled (Create n) input.Create
   create-table = record {
-    node = refl;
-    heeds = λ a s. tt;
-    none_came = refl;
-    none_put = refl;
+    elsewhere = λ a k o. connects_after-other k (is_connected k h) (Create n) a o;
+    comes = nothing-comes (posts_in h.pool) c;
     lost = λ free. Facts.at-member opening apply encode decode is_state h n m c x (Refused Memory) (Crashed m.address ∷ []) (λ p. AnswersCreate p h (Refused Memory) (Crashed m.address ∷ []))
         (Answering.create-lost opening apply encode decode is_state h n m c x free);
     not = λ err refused. create-not err refused;
@@ -123,22 +108,16 @@ module _ {S : Type 0} (opening : S) (apply : S → Address → List ℕ → S) (
 
   -- ---- a join
 
-  join-bytes : (contact : Address) → bytes_for (packet m.address bodies.Join contact ∷ []) ≡ put_out h (Join n contact) Done
-  join-bytes contact = rw (Facts.is-running opening apply encode decode is_state h n m c x) refl
-
   join-taken : (contact : Address) (out : Output) (left : MemberModel S) → Handled apply encode decode m (input.Join contact) (Ok out) left → refusal_in c (input.Join contact) ≡ None
       → TakesSo (Join n contact) (input.Join contact) (answer_to out.happenings.items) out.happenings.items left
   join-taken contact out left handled free =
       let r = replies (input.Join contact) out left handled in
-      let book : book_of left ≡ Some (record { contact = Some contact }) = handled.notes in
       subst (λ (l : List Happening). TakesSo (Join n contact) (input.Join contact) (answer_to l) l left) (sym r.0) (record {
         answers = Facts.at-member opening apply encode decode is_state h n m c x Done [] (λ p. AnswersJoin p h Done [])
             (Answering.join-taken opening apply encode decode is_state h n m c x free);
         prompt = tt;
-        put = join-bytes contact;
         ends = λ e. absurd (let bad : false ≡ true = e in cc);
-        stays = λ e. connected-so left _ handled.group r.1 (done-here n true (is_connected n h))
-            (done-here n (Some contact) (contact_of n h) ∙ sym (ap (option_and_then (λ (b : Book). b.contact)) book));
+        stays = λ e. connected-so left _ handled.group r.1 (done-here n true (is_connected n h));
       })
 
   join-not-at : (contact : Address) (err : Error) (o : Option View) → c.view ≡ o → cond (is_some o) (Some error.AlreadyConnected) None ≡ Some err
@@ -149,16 +128,13 @@ module _ {S : Type 0} (opening : S) (apply : S → Address → List ℕ → S) (
         answers = Facts.at-member opening apply encode decode is_state h n m c x (Refused AlreadyConnected) [] (λ p. AnswersJoin p h (Refused AlreadyConnected) [])
             (subst (λ (b : Error). AnswersJoin m.address h (answer_for b) []) (sym p.1) y);
         prompt = tt;
-        put = refl;
-        calls = λ k. refused-calls k (calls_of k h) (Join n contact) AlreadyConnected;
+        connected = λ k. refused-connects k (is_connected k h) (Join n contact) AlreadyConnected;
       })
 
   pub join-table : (contact : Address) → Tabled (Join n contact) (input.Join contact)
   join-table contact = record {
-    node = refl;
-    heeds = λ a s. tt;
-    none_came = refl;
-    none_put = refl;
+    elsewhere = λ a k o. connects_after-other k (is_connected k h) (Join n contact) a o;
+    comes = nothing-comes (posts_in h.pool) c;
     lost = λ free. Facts.at-member opening apply encode decode is_state h n m c x (Refused Memory) (Crashed m.address ∷ []) (λ p. AnswersJoin p h (Refused Memory) (Crashed m.address ∷ []))
         (Answering.join-lost opening apply encode decode is_state h n m c x free);
     not = λ err refused. join-not-at contact err c.view refl refused (Answering.join-not opening apply encode decode is_state h n m c x err refused);
@@ -188,9 +164,8 @@ module _ {S : Type 0} (opening : S) (apply : S → Address → List ℕ → S) (
       subst (λ (a : Answer). TakesSo (Send n b.now) (input.Send b) a s left) (sym t.answer) (record {
         answers = Facts.at-member opening apply encode decode is_state h n m c x (Sent (c.traffic.sent + 1)) s (λ p. AnswersSend b.now p h (Sent (c.traffic.sent + 1)) s) t.answers;
         prompt = t.prompt;
-        put = refl;
         ends = λ e. absurd (let bad : false ≡ true = e in cc);
-        stays = λ e. stays-so left handled.group r.1 handled.notes;
+        stays = λ e. stays-so left handled.group r.1;
       })
 
   send-not : (b : Bor (List ℕ)) (err : Error) → refusal_in c (input.Send b) ≡ Some err → RefusesSo (Send n b.now) (answer_for err)
@@ -198,16 +173,13 @@ module _ {S : Type 0} (opening : S) (apply : S → Address → List ℕ → S) (
     answers = Facts.at-member opening apply encode decode is_state h n m c x (answer_for err) [] (λ p. AnswersSend b.now p h (answer_for err) [])
         (Sending.send-not opening apply encode decode is_state h n m c x b.now err refused);
     prompt = send-prompt err b.now;
-    put = refl;
-    calls = λ k. refl;
+    connected = λ k. refl;
   }
 
   pub send-table : (b : Bor (List ℕ)) → Tabled (Send n b.now) (input.Send b)
   send-table b = record {
-    node = refl;
-    heeds = λ a s. tt;
-    none_came = refl;
-    none_put = refl;
+    elsewhere = λ a k o. connects_after-other k (is_connected k h) (Send n b.now) a o;
+    comes = nothing-comes (posts_in h.pool) c;
     lost = λ free. Facts.at-member opening apply encode decode is_state h n m c x (Refused Memory) (Crashed m.address ∷ []) (λ p. AnswersSend b.now p h (Refused Memory) (Crashed m.address ∷ []))
         (Sending.send-lost opening apply encode decode is_state h n m c x b.now free);
     not = λ err refused. send-not b err refused;
@@ -216,21 +188,6 @@ module _ {S : Type 0} (opening : S) (apply : S → Address → List ℕ → S) (
 
   -- ---- a tick
 
-  tick-bytes-by : (o : Option View) (k : Option Address) → bytes_for (option_map_or (λ contact. packet m.address bodies.Join contact ∷ []) (cond (is_some o) None k) []) ≡ put_at_tick m.address (id_of o) k
-  tick-bytes-by (Some v) k = refl
-  tick-bytes-by None None = refl
-  tick-bytes-by None (Some contact) = refl
-
-  asked-is : asked_by m ≡ cond (is_some c.view) None (contact_of n h)
-  asked-is =
-      ap (option_and_then (λ (d : Core S). cond (is_some d.view) None (option_and_then (λ (b : Book). b.contact) (book_of m)))) x.core
-      ∙ ap (λ (k : Option Address). cond (is_some c.view) None k) (sym x.asks)
-
-  tick-bytes : bytes_for (posts m input.Tick) ≡ put_out h (Tick n) Done
-  tick-bytes =
-      rw (Facts.is-running opening apply encode decode is_state h n m c x, Facts.view-is opening apply encode decode is_state h n m c x c.view refl)
-      (ap (λ (k : Option Address). bytes_for (option_map_or (λ contact. packet m.address bodies.Join contact ∷ []) k [])) asked-is ∙ tick-bytes-by c.view (contact_of n h))
-
   tick-taken : (out : Output) (left : MemberModel S) → Handled apply encode decode m input.Tick (Ok out) left → EachOwn m.address out.happenings.items
       → TakesSo (Tick n) input.Tick (answer_to out.happenings.items) out.happenings.items left
   tick-taken out left handled own =
@@ -238,19 +195,16 @@ module _ {S : Type 0} (opening : S) (apply : S → Address → List ℕ → S) (
       let quiet : list_all member.is_quiet out.happenings.items ≡ true = ap (list_all member.is_quiet) r.0 in
       subst (λ (a : Answer). TakesSo (Tick n) input.Tick a out.happenings.items left) (sym (quiet-done out.happenings.items quiet)) (record {
         answers = Facts.at-member opening apply encode decode is_state h n m c x Done out.happenings.items (λ p. AnswersQuietly p Done out.happenings.items)
-            (Answering.tick-taken opening apply encode decode is_state h n m c x out.happenings.items own quiet);
+            (Answering.quiet-taken opening apply encode decode is_state h n m c x out.happenings.items own quiet);
         prompt = tt;
-        put = tick-bytes;
         ends = λ e. absurd (let bad : false ≡ true = e in cc);
-        stays = λ e. stays-so left handled.group r.1 handled.notes;
+        stays = λ e. stays-so left handled.group r.1;
       })
 
   pub tick-table : Tabled (Tick n) input.Tick
   tick-table = record {
-    node = refl;
-    heeds = λ a s. tt;
-    none_came = refl;
-    none_put = refl;
+    elsewhere = λ a k o. connects_after-other k (is_connected k h) (Tick n) a o;
+    comes = nothing-comes (posts_in h.pool) c;
     lost = λ free. Facts.at-member opening apply encode decode is_state h n m c x (Refused Memory) (Crashed m.address ∷ []) (λ p. AnswersQuietly p (Refused Memory) (Crashed m.address ∷ [])) (inr (refl, refl));
     not = λ err refused. absurd (none-some err refused);
     taken = λ out left handled free own. tick-taken out left handled own;
@@ -267,17 +221,14 @@ module _ {S : Type 0} (opening : S) (apply : S → Address → List ℕ → S) (
       subst (λ (a : Answer). TakesSo (Leave n) input.Leave a s left) (sym done) (record {
         answers = Facts.at-member opening apply encode decode is_state h n m c x Done s (λ p. AnswersLeave p Done s) (Answering.leave-taken opening apply encode decode is_state h n m c x s r.0);
         prompt = tt;
-        put = refl;
         ends = λ e. (r.1, ap (λ (l : List Happening). has_ended m.address (h.trace ++ l)) is ∙ has_ended-now h.trace (Left m.address) refl);
         stays = λ e. absurd (let bad : true ≡ false = e in cc);
       })
 
   pub leave-table : Tabled (Leave n) input.Leave
   leave-table = record {
-    node = refl;
-    heeds = λ a s. tt;
-    none_came = refl;
-    none_put = refl;
+    elsewhere = λ a k o. connects_after-other k (is_connected k h) (Leave n) a o;
+    comes = nothing-comes (posts_in h.pool) c;
     lost = λ free. Facts.at-member opening apply encode decode is_state h n m c x (Refused Memory) (Crashed m.address ∷ []) (λ p. AnswersLeave p (Refused Memory) (Crashed m.address ∷ [])) (inr (refl, refl));
     not = λ err refused. absurd (none-some err refused);
     taken = λ out left handled free own. leave-taken out left handled;

@@ -1,8 +1,9 @@
 -- An input that is handed to a running member, for any event: what has to be known of the event, and the turn that it is then.
-use Rattle.std.proofs.Common.{◌≡◌, ℕ, true, false, Bool, cond, Option, Some, None, Ok, List, [], ◌∷◌, ◌++◌, map, nat_eq, refl, sym, ap, ◌∙◌, subst}
+use Rattle.std.proofs.Common.{◌≡◌, ℕ, true, false, Bool, cond, Option, Some, None, Result, Ok, Err, List, [], ◌∷◌, ◌++◌, map, nat_eq, inl, inr, ◌⊎◌, refl, sym, ap, ◌∙◌, subst}
+use Rattle.std.specs.Prelude.{MatchBool}
 use Rattle.std.specs.List.{AllByRecursion}
-use Rattle.std.proofs.lemmas.Bool.{eqb-true}
 use Rattle.std.proofs.lemmas.List.{append-nil}
+use Rattle.std.proofs.lemmas.Option.{none-some}
 use Rattle.address.specs.Ids.{Address}
 use Rattle.wire.specs.Packets.{IsPacket}
 use Rattle.trace_props.specs.declared.happening.Happening.{Happening}
@@ -14,76 +15,95 @@ use Rattle.agreement.specs.Cores.{Core}
 use Rattle.agreement.specs.Chains.{Acted}
 use Rattle.agreement.proofs.Stepping
 use Rattle.member.specs.declared.error.Error.{Error}
+use Rattle.member.specs.declared.error.Error.TheVariants as error
 use Rattle.member.specs.declared.input.Input.{Input}
 use Rattle.member.specs.declared.output.Outgoing.{Outgoing}
 use Rattle.member.specs.declared.output.Output.{Output}
-use Rattle.member.specs.Members.{MemberModel, core_of, came_at, refusal_in}
+use Rattle.member.specs.Errors.{is_memory}
+use Rattle.member.specs.Members.{MemberModel, core_of, came_at, refusal_in, refusal_of, is_unreadable}
 use Rattle.member.specs.Outputs.{packet_in, spelled}
 use Rattle.member.specs.Steps.{leaves}
-use Rattle.member.specs.Handling.{Handled, posts}
+use Rattle.member.specs.Handling.{Handled}
 use Rattle.world_model.specs.declared.WorldEvent.{WorldEvent}
 use Rattle.world_model.specs.declared.Answer.{Answer}
 use Rattle.world_model.specs.declared.Answer.TheVariants.{Refused}
 use Rattle.world_model.specs.declared.Refusal.TheVariants.{Memory}
-use Rattle.world_model.specs.Histories.{History, last_of, node_of}
+use Rattle.world_model.specs.Histories.{History, last_of, is_connected, connects_after}
 use Rattle.world_model.specs.Faithful.{Answers, SendsPromptly}
-use Rattle.world_model.specs.Steps.{Ignores, put_out}
 use Rattle.world.specs.declared.seat.Seat.{Seat}
 use Rattle.world.specs.declared.seat.Seat.TheVariants.{Ended, Running}
-use Rattle.world.specs.Seats.{seat_at, core_here, bytes_of, answer_for, answer_to, system_of}
-use Rattle.world.specs.Turns.{HandsHere, Taken, Lost, Not}
-use Rattle.world.specs.Invariant.{Calls, calls_of, IsMember, IsSeatOf, EachSpelled}
-use Rattle.world.proofs.Calls.{calls_after, calls_after-other, refused-prompt}
+use Rattle.world.specs.Seats.{core_here, bytes_of, posts_in, answer_for, is_closed, answer_to, system_of}
+use Rattle.world.specs.Turns.{OthersStand, Takes, Crashes, Refuses, Gives, HandsHere}
+use Rattle.world.specs.Invariant.{IsMember, IsSeatOf, EachSpelled}
+use Rattle.world.proofs.Calls.{refused-prompt}
 use Rattle.world.proofs.Owning.{EachOwn, own-acted}
 use Rattle.world.proofs.Traces.{last_of-own, starts-own}
 use Rattle.world.proofs.Posts.{EachSound, bytes_for, posted-spelled, spelled-more}
-use Rattle.world.proofs.Seats.{OthersStand, OnlyHere, only-ended, only-running, core-running}
+use Rattle.world.proofs.Seats.{OnlyHere, only-ended, only-running, core-running, same-at}
 use Rattle.world.proofs.Turning
 use Rattle.world.proofs.Facts
 use Rattle.world.proofs.Agreeing
+use Rattle.world.proofs.Readable
+use Rattle.world.proofs.Readable.{Comes}
+
+-- ---- what a call that answered an error says
+
+-- one that is closed
+closed-is : (e : Error) → is_closed e ≡ true → e ≡ error.Closed
+closed-is error.NotConnected x = absurd (let bad : false ≡ true = x in cc)
+closed-is error.Blocked x = absurd (let bad : false ≡ true = x in cc)
+closed-is error.Busy x = absurd (let bad : false ≡ true = x in cc)
+closed-is error.TooLong x = absurd (let bad : false ≡ true = x in cc)
+closed-is error.AlreadyConnected x = absurd (let bad : false ≡ true = x in cc)
+closed-is error.Closed x = refl
+closed-is error.Memory x = absurd (let bad : false ≡ true = x in cc)
+closed-is error.Exhausted x = absurd (let bad : false ≡ true = x in cc)
+closed-is (error.Wire w) x = absurd (let bad : false ≡ true = x in cc)
+
+-- by a test
+when-true : (b : Bool) (P Q : Type 0) → b ≡ true → MatchBool b P Q → P
+when-true true P Q e x = x
+when-true false P Q e x = absurd (let bad : false ≡ true = e in cc)
+
+when-false : (b : Bool) (P Q : Type 0) → b ≡ false → MatchBool b P Q → Q
+when-false true P Q e x = absurd (let bad : true ≡ false = e in cc)
+when-false false P Q e x = x
 
 module _ {S : Type 0} (opening : S) (apply : S → Address → List ℕ → S) (encode : S → List ℕ) (decode : List ℕ → Option S) (is_state : S → Type 0) where
   -- what an event comes to whose input a running member takes
   pub record TakesSo (h : History) (n : ℕ) (m : MemberModel S) (e : WorldEvent) (input : Input) (a : Answer) (s : List Happening) (left : MemberModel S) : Type 0 where
     pub answers : Answers h e a s
     pub prompt : SendsPromptly h.trace e a s
-    pub put : bytes_for (posts m input) ≡ put_out h e a
     pub ends : leaves input ≡ true → (core_of left ≡ None) × (has_ended m.address (h.trace ++ s) ≡ true)
-    pub stays : leaves input ≡ false → IsMember (calls_after n (calls_of n h) e a) left
+    pub stays : leaves input ≡ false → IsMember (connects_after n (is_connected n h) e a) left
 
   -- and where it refuses it
   pub record RefusesSo (h : History) (e : WorldEvent) (a : Answer) : Type 0 where
     pub answers : Answers h e a []
     pub prompt : SendsPromptly h.trace e a []
-    pub put : [] ≡ put_out h e a
-    pub calls : (k : ℕ) → calls_after k (calls_of k h) e a ≡ calls_of k h
+    pub connected : (k : ℕ) → connects_after k (is_connected k h) e a ≡ is_connected k h
 
   -- what has to be known of an event and its input
   pub record Tabled (h : History) (n : ℕ) (m : MemberModel S) (c : Core S) (e : WorldEvent) (input : Input) : Type 0 where
-    pub node : node_of e ≡ n
-    pub heeds : (a : Answer) (s : List Happening) → Ignores e a s
-    pub none_came : came_at m input ≡ None
-    pub none_put : [] ≡ put_out h e (Refused Memory)
+    pub elsewhere : (a : Answer) (k : ℕ) → nat_eq n k ≡ false → connects_after k (is_connected k h) e a ≡ is_connected k h
+    pub comes : Comes (posts_in h.pool) c (came_at m input)
     pub lost : refusal_in c input ≡ None → Answers h e (Refused Memory) (Crashed m.address ∷ [])
     pub not : (err : Error) → refusal_in c input ≡ Some err → RefusesSo h e (answer_for err)
     pub taken : (out : Output) (left : MemberModel S) → Handled apply encode decode m input (Ok out) left → refusal_in c input ≡ None → EachOwn m.address out.happenings.items
         → TakesSo h n m e input (answer_to out.happenings.items) out.happenings.items left
 
   -- an event is a turn: what it put out, what happened
-  pub record Turned (new : ℕ → Option (Seat S)) (n : ℕ) (h : History) (e : WorldEvent) (a : Answer) (t : List Happening) (pool : List (List ℕ)) : Type 0 where
+  pub record Turned (new : ℕ → Seat S) (n : ℕ) (h : History) (e : WorldEvent) (a : Answer) (t : List Happening) (pool : List (List ℕ)) : Type 0 where
     pub ps : List (List ℕ)
     pub s : List Happening
     pub trace : t ≡ h.trace ++ s
     pub puts : pool ≡ h.pool ++ ps
     pub turn : Turning.Turn opening apply encode decode is_state new n h e a ps s
 
-  module _ (laws : Stepping.Laws opening apply encode decode is_state) (at new : ℕ → Option (Seat S)) (n : ℕ) (h : History) (e : WorldEvent) (m : MemberModel S) (c : Core S)
-      (w : Turning.World opening apply encode decode is_state at h) (there : seat_at (at n) ≡ Running m) (x : Facts.Runs opening apply encode decode is_state h n m c)
-      (others : OthersStand n at new) (node : node_of e ≡ n) (heeds : (a : Answer) (s : List Happening) → Ignores e a s) where
-    calls-other : (a : Answer) (k : ℕ) → nat_eq n k ≡ false → calls_after k (calls_of k h) e a ≡ calls_of k h
-    calls-other a k o = calls_after-other k (calls_of k h) e a (subst (λ (j : ℕ). nat_eq j k ≡ false) (sym node) o)
-
-    moves-to : (now : Seat S) → seat_at (new n) ≡ now → OnlyHere m.address now → Agreeing.Moves opening apply encode decode is_state laws at new n m.address (Running m) now
+  module _ (laws : Stepping.Laws opening apply encode decode is_state) (at new : ℕ → Seat S) (n : ℕ) (h : History) (e : WorldEvent) (m : MemberModel S) (c : Core S)
+      (w : Turning.World opening apply encode decode is_state at h) (there : at n ≡ Running m) (x : Facts.Runs opening apply encode decode is_state h n m c)
+      (others : OthersStand n at new) (elsewhere : (a : Answer) (k : ℕ) → nat_eq n k ≡ false → connects_after k (is_connected k h) e a ≡ is_connected k h) where
+    pub moves-to : (now : Seat S) → new n ≡ now → OnlyHere m.address now → Agreeing.Moves opening apply encode decode is_state laws at new n m.address (Running m) now
     moves-to now is only = record { node = x.node; was = there; is = is; only_old = only-running m.address m refl; only_now = only; others = others }
 
     core-was : core_here m.address (Running m) ≡ Some c
@@ -94,31 +114,26 @@ module _ {S : Type 0} (opening : S) (apply : S → Address → List ℕ → S) (
     crash-own : EachOwn m.address (Crashed m.address ∷ [])
     crash-own = ((refl, refl), tt)
 
-    pub crash-turn : (a : Answer) → seat_at (new n) ≡ Ended m.address → Answers h e a (Crashed m.address ∷ []) → SendsPromptly h.trace e a (Crashed m.address ∷ []) → [] ≡ put_out h e a
+    pub crash-turn : (a : Answer) → new n ≡ Ended m.address → Answers h e a (Crashed m.address ∷ []) → SendsPromptly h.trace e a (Crashed m.address ∷ [])
         → Turning.Turn opening apply encode decode is_state new n h e a [] (Crashed m.address ∷ [])
-    crash-turn a is answers prompt put =
+    crash-turn a is answers prompt =
         let last : last_of n (h.trace ++ Crashed m.address ∷ []) ≡ Some m.address = last_of-own n m.address h.trace (Crashed m.address ∷ []) crash-own ∙ x.last in
         record {
           answers = answers;
           prompt = prompt;
-          put = put;
-          ignored = heeds a (Crashed m.address ∷ []);
           agreed = Agreeing.crashed-agreed opening apply encode decode is_state laws at new n m.address (Running m) (Ended m.address) (moves-to (Ended m.address) is (only-ended m.address m.address))
               h.pool h.trace c core-was refl w.agreed;
           spelled = subst EachSpelled (sym (append-nil h.pool)) w.spelled;
           starts = starts-own m.address h.trace (Crashed m.address ∷ []) crash-own w.starts;
           lasts = λ k o. last_of-own k m.address h.trace (Crashed m.address ∷ []) crash-own;
-          calls = λ k o. calls-other a k o;
-          seat = subst (IsSeatOf n (last_of n (h.trace ++ Crashed m.address ∷ [])) (calls_after n (calls_of n h) e a) (h.trace ++ Crashed m.address ∷ [])) (sym is)
+          connected = λ k o. elsewhere a k o;
+          seat = subst (IsSeatOf n (last_of n (h.trace ++ Crashed m.address ∷ [])) (connects_after n (is_connected n h) e a) (h.trace ++ Crashed m.address ∷ [])) (sym is)
               (last, x.node, has_ended-now h.trace (Crashed m.address) refl);
         }
 
-  module _ (laws : Stepping.Laws opening apply encode decode is_state) (at new : ℕ → Option (Seat S)) (n : ℕ) (h : History) (e : WorldEvent) (input : Input) (m : MemberModel S) (c : Core S)
-      (w : Turning.World opening apply encode decode is_state at h) (there : seat_at (at n) ≡ Running m) (x : Facts.Runs opening apply encode decode is_state h n m c)
+  module _ (laws : Stepping.Laws opening apply encode decode is_state) (at new : ℕ → Seat S) (n : ℕ) (h : History) (e : WorldEvent) (input : Input) (m : MemberModel S) (c : Core S)
+      (w : Turning.World opening apply encode decode is_state at h) (there : at n ≡ Running m) (x : Facts.Runs opening apply encode decode is_state h n m c)
       (table : Tabled h n m c e input) (others : OthersStand n at new) where
-    move-to : (now : Seat S) → seat_at (new n) ≡ now → OnlyHere m.address now → Agreeing.Moves opening apply encode decode is_state laws at new n m.address (Running m) now
-    move-to now is only = moves-to laws at new n h e m c w there x others table.node table.heeds now is only
-
     -- ---- it takes the input
 
     left-only : (b : Bool) (left : MemberModel S) → left.address ≡ m.address → OnlyHere m.address (cond b (Ended m.address) (Running left))
@@ -130,11 +145,11 @@ module _ {S : Type 0} (opening : S) (apply : S → Address → List ℕ → S) (
     left-core true left e same ends = sym (ends e)
     left-core false left e same ends = core-running m.address left same
 
-    left-seat : (b : Bool) (calls : Calls) (s : List Happening) (left : MemberModel S) → leaves input ≡ b → left.address ≡ m.address → last_of n (h.trace ++ s) ≡ Some m.address
-        → (leaves input ≡ true → has_ended m.address (h.trace ++ s) ≡ true) → (leaves input ≡ false → IsMember calls left)
-        → IsSeatOf n (last_of n (h.trace ++ s)) calls (h.trace ++ s) (cond b (Ended m.address) (Running left))
-    left-seat true calls s left e same last ended stays = (last, x.node, ended e)
-    left-seat false calls s left e same last ended stays = (last ∙ ap Some (sym same), ap (λ (p : Address). p.node) same ∙ x.node, stays e)
+    left-seat : (b connected : Bool) (s : List Happening) (left : MemberModel S) → leaves input ≡ b → left.address ≡ m.address → last_of n (h.trace ++ s) ≡ Some m.address
+        → (leaves input ≡ true → has_ended m.address (h.trace ++ s) ≡ true) → (leaves input ≡ false → IsMember connected left)
+        → IsSeatOf n (last_of n (h.trace ++ s)) connected (h.trace ++ s) (cond b (Ended m.address) (Running left))
+    left-seat true connected s left e same last ended stays = (last, x.node, ended e)
+    left-seat false connected s left e same last ended stays = (last ∙ ap Some (sym same), ap (λ (p : Address). p.node) same ∙ x.node, stays e)
 
     group-sound : (posted : List Posted) → AllByRecursion (λ k. IsPacket (packet_in m.group k)) posted → EachSound posted
     group-sound posted sound = subst (λ (g : List ℕ). AllByRecursion (λ k. IsPacket (packet_in g k)) posted) x.group sound
@@ -142,12 +157,7 @@ module _ {S : Type 0} (opening : S) (apply : S → Address → List ℕ → S) (
     group-bytes : (packets : List Outgoing) (posted : List Posted) → packets ≡ map (spelled m.group) posted → map bytes_of packets ≡ bytes_for posted
     group-bytes packets posted e = ap (map bytes_of) e ∙ ap (λ (g : List ℕ). map bytes_of (map (spelled g) posted)) x.group
 
-    from-core : (came : Option Posted) (posted : List Posted) (s : List Happening) (end : Option (Core S)) → came ≡ None → Acted apply encode decode came (core_of m) posted s end
-        → Acted apply encode decode None (Some c) posted s end
-    from-core came posted s end none acted =
-        subst (λ (o : Option Posted). Acted apply encode decode o (Some c) posted s end) none (subst (λ (o : Option (Core S)). Acted apply encode decode came o posted s end) x.core acted)
-
-    taken-turn : (out : Output) (left : MemberModel S) (now : Seat S) → seat_at (new n) ≡ now → now ≡ cond (leaves input) (Ended m.address) (Running left)
+    taken-turn : (out : Output) (left : MemberModel S) (now : Seat S) → new n ≡ now → now ≡ cond (leaves input) (Ended m.address) (Running left)
         → Handled apply encode decode m input (Ok out) left → refusal_in c input ≡ None
         → Turning.Turn opening apply encode decode is_state new n h e (answer_to out.happenings.items) (map bytes_of out.packets.items) out.happenings.items
     taken-turn out left now is seat handled free =
@@ -156,65 +166,95 @@ module _ {S : Type 0} (opening : S) (apply : S → Address → List ℕ → S) (
         let did = handled.acted in
         let sound : EachSound did.posted = group-sound did.posted did.sound in
         let same : ps ≡ bytes_for did.posted = group-bytes out.packets.items did.posted did.spelled in
-        let acted : Acted apply encode decode None (Some c) did.posted s (core_of left) = from-core (came_at m input) did.posted s (core_of left) table.none_came did.acted in
-        let own : EachOwn m.address s = own-acted apply encode decode m.address c None did.posted s (core_of left) x.fact.seat.itself acted in
+        let acted : Acted apply encode decode (came_at m input) (Some c) did.posted s (core_of left) =
+        subst (λ (o : Option (Core S)). Acted apply encode decode (came_at m input) o did.posted s (core_of left)) x.core did.acted in
+        let own : EachOwn m.address s = own-acted apply encode decode m.address c (came_at m input) did.posted s (core_of left) x.fact.seat.itself acted in
         let so : TakesSo h n m e input (answer_to s) s left = table.taken out left handled free own in
         let last : last_of n (h.trace ++ s) ≡ Some m.address = last_of-own n m.address h.trace s own ∙ x.last in
-        let seated : seat_at (new n) ≡ cond (leaves input) (Ended m.address) (Running left) = is ∙ seat in
+        let seated : new n ≡ cond (leaves input) (Ended m.address) (Running left) = is ∙ seat in
         record {
           answers = so.answers;
           prompt = so.prompt;
-          put = group-bytes out.packets.items (posts m input) handled.puts ∙ so.put;
-          ignored = table.heeds (answer_to s) s;
           agreed = subst (λ (l : List (List ℕ)). Turning.Holding opening apply encode decode is_state (system_of new (h.pool ++ l) (h.trace ++ s))) (sym same)
               (Agreeing.taken-agreed opening apply encode decode is_state laws at new n m.address (Running m) (cond (leaves input) (Ended m.address) (Running left))
-              (move-to (cond (leaves input) (Ended m.address) (Running left)) seated (left-only (leaves input) left handled.address))
-              h.pool h.trace c (core_of left) did.posted s (core-running m.address m refl ∙ x.core) (left-core (leaves input) left refl handled.address (λ l. (so.ends l).0)) sound acted w.agreed);
+              (moves-to laws at new n h e m c w there x others table.elsewhere (cond (leaves input) (Ended m.address) (Running left)) seated (left-only (leaves input) left handled.address))
+              h.pool h.trace c (core_of left) table.comes.which (came_at m input) did.posted s (core-running m.address m refl ∙ x.core)
+              (left-core (leaves input) left refl handled.address (λ l. (so.ends l).0)) table.comes.from table.comes.none sound acted w.agreed);
           spelled = subst (λ (l : List (List ℕ)). EachSpelled (h.pool ++ l)) (sym same) (spelled-more h.pool (bytes_for did.posted) w.spelled (posted-spelled did.posted sound));
           starts = starts-own m.address h.trace s own w.starts;
           lasts = λ k o. last_of-own k m.address h.trace s own;
-          calls = λ k o. calls-other laws at new n h e m c w there x others table.node table.heeds (answer_to s) k o;
-          seat = subst (IsSeatOf n (last_of n (h.trace ++ s)) (calls_after n (calls_of n h) e (answer_to s)) (h.trace ++ s)) (sym seated)
-              (left-seat (leaves input) (calls_after n (calls_of n h) e (answer_to s)) s left refl handled.address last (λ l. (so.ends l).1) so.stays);
+          connected = λ k o. table.elsewhere (answer_to s) k o;
+          seat = subst (IsSeatOf n (last_of n (h.trace ++ s)) (connects_after n (is_connected n h) e (answer_to s)) (h.trace ++ s)) (sym seated)
+              (left-seat (leaves input) (connects_after n (is_connected n h) e (answer_to s)) s left refl handled.address last (λ l. (so.ends l).1) so.stays);
         }
 
-    -- ---- all three
+    -- ---- whatever it answers
 
-    same-at : (k : ℕ) (b : Bool) → nat_eq n k ≡ b → seat_at (new n) ≡ seat_at (at n) → seat_at (new k) ≡ seat_at (at k)
-    same-at k true b is = subst (λ (j : ℕ). seat_at (new j) ≡ seat_at (at j)) (eqb-true n k b) is
-    same-at k false b is = others k b
+    is-free : refusal_of m input ≡ None → refusal_in c input ≡ None
+    is-free free = Facts.free-is opening apply encode decode is_state h n m c x input None free
 
-    pub hands-turn : (a : Answer) (now : Seat S) (t : List Happening) (pool : List (List ℕ)) → seat_at (new n) ≡ now → HandsHere apply encode decode input m h.trace h.pool a now t pool
+    readable : is_unreadable decode m input ≡ false
+    readable = Readable.never-unreadable opening apply encode decode is_state laws (system_of at h.pool h.trace) m c input w.agreed x.core table.comes
+
+    taken : (out : Output) (left : MemberModel S) (a : Answer) (now : Seat S) (t : List Happening) (pool : List (List ℕ)) → new n ≡ now → Handled apply encode decode m input (Ok out) left
+        → Takes m.address input out left h.trace h.pool a now t pool → Turned new n h e a t pool
+    taken out left a now t pool is handled g = record {
+      ps = map bytes_of out.packets.items;
+      s = out.happenings.items;
+      trace = g.trace;
+      puts = g.puts;
+      turn = subst (λ (b : Answer). Turning.Turn opening apply encode decode is_state new n h e b (map bytes_of out.packets.items) out.happenings.items) (sym g.answer)
+          (taken-turn out left now is g.seat handled (is-free handled.refused.0));
+    }
+
+    lost : (a : Answer) (now : Seat S) (t : List Happening) (pool : List (List ℕ)) → new n ≡ now → refusal_of m input ≡ None → Crashes m.address h.trace h.pool a now t pool
         → Turned new n h e a t pool
-    hands-turn a now t pool is (Taken g) =
-        let out = g.takes.out in
-        let e1 : g.happened ≡ out.happenings.items = g.takes.told in
-        record {
-          ps = map bytes_of out.packets.items;
-          s = out.happenings.items;
-          trace = g.trace ∙ ap (λ (l : List Happening). h.trace ++ l) e1;
-          puts = g.takes.puts;
-          turn = subst (λ (b : Answer). Turning.Turn opening apply encode decode is_state new n h e b (map bytes_of out.packets.items) out.happenings.items) (sym (g.answer ∙ ap answer_to e1))
-              (taken-turn out g.left now is g.seat g.takes.handled (Facts.free-is opening apply encode decode is_state h n m c x input None g.takes.handled.refused));
-        }
-    hands-turn a now t pool is (Lost g) =
-        let free = Facts.free-is opening apply encode decode is_state h n m c x input None g.free in
-        record {
-          ps = [];
-          s = Crashed m.address ∷ [];
-          trace = g.trace;
-          puts = g.puts ∙ sym (append-nil h.pool);
-          turn = subst (λ (b : Answer). Turning.Turn opening apply encode decode is_state new n h e b [] (Crashed m.address ∷ [])) (sym g.answer)
-              (crash-turn laws at new n h e m c w there x others table.node table.heeds (Refused Memory) (is ∙ g.seat) (table.lost free) (refused-prompt h.trace e Memory (Crashed m.address ∷ [])) table.none_put);
-        }
-    hands-turn a now t pool is (Not g) =
-        let so : RefusesSo h e (answer_for g.error) = table.not g.error (Facts.free-is opening apply encode decode is_state h n m c x input (Some g.error) g.refusal) in
+    lost a now t pool is free g = record {
+      ps = [];
+      s = Crashed m.address ∷ [];
+      trace = g.trace;
+      puts = g.puts ∙ sym (append-nil h.pool);
+      turn = subst (λ (b : Answer). Turning.Turn opening apply encode decode is_state new n h e b [] (Crashed m.address ∷ [])) (sym g.answer)
+          (crash-turn laws at new n h e m c w there x others table.elsewhere (Refused Memory) (is ∙ g.seat) (table.lost (is-free free)) (refused-prompt h.trace e Memory (Crashed m.address ∷ [])));
+    }
+
+    refused : (err : Error) (left : MemberModel S) (a : Answer) (now : Seat S) (t : List Happening) (pool : List (List ℕ)) → new n ≡ now → is_closed err ≡ false
+        → (refusal_of m input ≡ Some err) × (left ≡ m) → Refuses m.address err left h.trace h.pool a now t pool → Turned new n h e a t pool
+    refused err left a now t pool is runs says g =
+        let so : RefusesSo h e (answer_for err) = table.not err (Facts.free-is opening apply encode decode is_state h n m c x input (Some err) says.0) in
+        let stays : now ≡ Running m = g.seat ∙ ap {B = Seat S} (λ (b : Bool). cond b (Ended m.address) (Running left)) runs ∙ ap {B = Seat S} Running says.1 in
         record {
           ps = [];
           s = [];
           trace = g.trace ∙ sym (append-nil h.trace);
           puts = g.puts ∙ sym (append-nil h.pool);
           turn = subst (λ (b : Answer). Turning.Turn opening apply encode decode is_state new n h e b [] []) (sym g.answer)
-              (Turning.turn-still opening apply encode decode is_state at new n h e (answer_for g.error) w (λ k. same-at k (nat_eq n k) refl (is ∙ g.seat ∙ sym there))
-              so.answers so.prompt so.put (table.heeds (answer_for g.error) []) so.calls);
+              (Turning.turn-still opening apply encode decode is_state at new n h e (answer_for err) w (same-at at new n others (is ∙ stays ∙ sym there)) so.answers so.prompt so.connected);
         }
+
+    -- a running member of a world is not closed
+    never-closed : (err : Error) (left : MemberModel S) → Handled apply encode decode m input (Err err) left → is_closed err ≡ true → ⊥
+    never-closed err left handled is = by (handled.closed.only (ap {B = Result Output Error} Err (closed-is err is)))
+      where
+        by : (core_of m ≡ None) ⊎ (is_unreadable decode m input ≡ true) → ⊥
+        by (inl none) = none-some c (sym none ∙ x.core)
+        by (inr bad) = let n : true ≡ false = sym bad ∙ readable in absurd (cc)
+
+    not-taken : (err : Error) (left : MemberModel S) (a : Answer) (now : Seat S) (t : List Happening) (pool : List (List ℕ)) (b k : Bool) → new n ≡ now → is_memory err ≡ b → is_closed err ≡ k
+        → Handled apply encode decode m input (Err err) left → Gives m.address input (Err err) left h.trace h.pool a now t pool → Turned new n h e a t pool
+    not-taken err left a now t pool true k is memory closed handled g =
+        lost a now t pool is (when-true (is_memory err) (refusal_of m input ≡ None) _ memory handled.refused) (when-true (is_memory err) _ _ memory g)
+    not-taken err left a now t pool false true is memory closed handled g = absurd (never-closed err left handled closed)
+    not-taken err left a now t pool false false is memory closed handled g =
+        refused err left a now t pool is closed (when-false (is_unreadable decode m input) _ _ readable (when-false (is_memory err) _ _ memory handled.refused)) (when-false (is_memory err) _ _ memory g)
+
+    called : (result : Result Output Error) (left : MemberModel S) (a : Answer) (now : Seat S) (t : List Happening) (pool : List (List ℕ)) → new n ≡ now
+        → Handled apply encode decode m input result left → Gives m.address input result left h.trace h.pool a now t pool → Turned new n h e a t pool
+    called (Ok out) left a now t pool is handled (inl g) = taken out left a now t pool is handled g
+    called (Ok out) left a now t pool is handled (inr g) = lost a now t pool is handled.refused.0 g.1
+    called (Err err) left a now t pool is handled g = not-taken err left a now t pool (is_memory err) (is_closed err) is refl refl handled g
+
+    -- one call of `handle` is a turn
+    pub hands-turn : (a : Answer) (now : Seat S) (t : List Happening) (pool : List (List ℕ)) → new n ≡ now → HandsHere apply encode decode input m h.trace h.pool a now t pool
+        → Turned new n h e a t pool
+    hands-turn a now t pool is g = called g.result g.left a now t pool is g.handled g.gives

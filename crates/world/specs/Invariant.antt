@@ -1,41 +1,30 @@
--- What every world keeps between events: its history is faithful and made of steps, agreement's invariant holds of its members, and each seat is what
--- the history says.
+-- What every world keeps between events: its history is faithful, agreement's invariant holds of its members, and each seat is what the history says.
 use Rattle.std.specs.Prelude.{◌≡◌, ℕ, ◌≤◌, Bool, true, Option, None, Some, List, length, Ok, slice_get}
-use Rattle.std.specs.Option.{IsSomeAnd, option_map_or, option_and_then}
+use Rattle.std.specs.Option.{IsSomeAnd, option_map_or}
 use Rattle.address.specs.Ids.{Address}
 use Rattle.wire.specs.Packets.{packet_of}
 use Rattle.trace_props.specs.declared.happening.Happening.{Happening}
 use Rattle.trace_props.specs.Observed.{has_started, has_ended}
 use Rattle.agreement.specs.Invariant.{Invariant}
-use Rattle.member.specs.Members.{MemberModel, core_of, book_of}
+use Rattle.member.specs.Members.{MemberModel, core_of}
 use Rattle.member.specs.Outputs.{packet_in}
-use Rattle.world_model.specs.Histories.{History, last_of, is_connected, contact_of}
+use Rattle.world_model.specs.Histories.{History, last_of, is_connected}
 use Rattle.world_model.specs.Faithful.{IsFaithful}
 use Rattle.world_model.specs.Packets.{world_group}
-use Rattle.world_model.specs.Steps.{IsStepped}
 use Rattle.world.specs.declared.seat.Seat.{Seat}
 use Rattle.world.specs.declared.seat.Seat.TheVariants.{Vacant, Ended, Running}
-use Rattle.world.specs.Seats.{seat_at, read_as, system_of}
+use Rattle.world.specs.Seats.{read_as, system_of}
 
--- what the answers to a node's events say of its member: whether it is connected, and whom it asked last to be let in
-pub record Calls : Type 0 where
-  pub connected : Bool
-  pub contact : Option Address
-
-abbrev pub calls_of : ℕ → History → Calls
-calls_of n h = record { connected = is_connected n h; contact = contact_of n h }
-
--- a member runs as the answers say
-pub record IsMember {S : Type 0} (calls : Calls) (m : MemberModel S) : Type 0 where
+-- a member runs in the group of the world, and is connected as the answers to its node's events say
+pub record IsMember {S : Type 0} (connected : Bool) (m : MemberModel S) : Type 0 where
   pub group : m.group ≡ world_group
-  pub joined : IsSomeAnd (core_of m) (λ c. calls.connected ≡ c.connected)
-  pub asks : calls.contact ≡ option_and_then (λ b. b.contact) (book_of m)
+  pub joined : IsSomeAnd (core_of m) (λ c. connected ≡ c.connected)
 
--- the history says of a node what its seat says; the last member there is given by `last`
-abbrev pub IsSeatOf : {S : Type 0} → ℕ → Option Address → Calls → List Happening → Seat S → Type 0
-IsSeatOf n last calls t Vacant = last ≡ None
-IsSeatOf n last calls t (Ended p) = (last ≡ Some p) × (p.node ≡ n) × (has_ended p t ≡ true)
-IsSeatOf n last calls t (Running m) = (last ≡ Some m.address) × (m.address.node ≡ n) × IsMember calls m
+-- the history says of a node what its seat says: the last member there is given by `last`
+abbrev pub IsSeatOf : {S : Type 0} → ℕ → Option Address → Bool → List Happening → Seat S → Type 0
+IsSeatOf n last connected t Vacant = last ≡ None
+IsSeatOf n last connected t (Ended p) = (last ≡ Some p) × (p.node ≡ n) × (has_ended p t ≡ true)
+IsSeatOf n last connected t (Running m) = (last ≡ Some m.address) × (m.address.node ≡ n) × IsMember connected m
 
 -- the greatest incarnation of a node so far, 0 for none
 abbrev pub top_of : ℕ → List Happening → ℕ
@@ -52,12 +41,11 @@ IsSpelled bytes = IsSomeAnd (read_as bytes) (λ m. packet_of bytes ≡ Ok (packe
 abbrev pub EachSpelled : List (List ℕ) → Type 0
 EachSpelled pool = (k : ℕ) (bytes : List ℕ) → slice_get pool k ≡ Some bytes → IsSpelled bytes
 
-pub record IsWorld {S : Type 0} (opening : S) (apply : S → Address → List ℕ → S) (encode : S → List ℕ) (decode : List ℕ → Option S) (is_state : S → Type 0) (at : ℕ → Option (Seat S))
+pub record IsWorld {S : Type 0} (opening : S) (apply : S → Address → List ℕ → S) (encode : S → List ℕ) (decode : List ℕ → Option S) (is_state : S → Type 0) (at : ℕ → Seat S)
     (h : History) : Type 0 where
   pub faithful : IsFaithful h
-  pub stepped : IsStepped h
   pub paired : length h.events ≡ length h.replies
   pub agreed : Invariant opening apply encode decode is_state (system_of at h.pool h.trace)
   pub spelled : EachSpelled h.pool
   pub starts : StartsInTurn h.trace
-  pub seats : (n : ℕ) → IsSeatOf n (last_of n h.trace) (calls_of n h) h.trace (seat_at (at n))
+  pub seats : (n : ℕ) → IsSeatOf n (last_of n h.trace) (is_connected n h) h.trace (at n)

@@ -1,3 +1,4 @@
 pub mod Seats
 pub mod Turns
 pub mod Invariant
+pub mod Worlds

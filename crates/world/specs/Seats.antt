@@ -1,5 +1,5 @@
 -- What stands at the nodes of a world, and the system of agreement that it makes.
-use Rattle.std.specs.Prelude.{ℕ, List, [], ◌∷◌, Option, None, Some, Result, Ok, Err, unwrap_or, if◌then◌else◌}
+use Rattle.std.specs.Prelude.{ℕ, Bool, true, false, List, [], ◌∷◌, Option, None, Some, Result, Ok, Err, unwrap_or, if◌then◌else◌}
 use Rattle.std.specs.List.{filter_map}
 use Rattle.address.specs.Ids.{Address, same_address}
 use Rattle.wire.specs.declared.error.WireError.{WireError}
@@ -35,6 +35,18 @@ answer_for error.Memory = Refused refusal.Memory
 answer_for error.Exhausted = Refused refusal.Exhausted
 answer_for (error.Wire e) = Done
 
+-- it has ended
+abbrev pub is_closed : Error → Bool
+is_closed error.NotConnected = false
+is_closed error.Blocked = false
+is_closed error.Busy = false
+is_closed error.TooLong = false
+is_closed error.AlreadyConnected = false
+is_closed error.Closed = true
+is_closed error.Memory = false
+is_closed error.Exhausted = false
+is_closed (error.Wire e) = false
+
 -- what an event is answered by which these happened: a message that was sent comes first
 abbrev pub answer_to : List Happening → Answer
 answer_to [] = Done
@@ -51,6 +63,9 @@ answer_to (Crashed p ∷ rest) = Done
 -- what stands at a node: nothing where there is no seat
 abbrev pub seat_at : {S : Type 0} → Option (Seat S) → Seat S
 seat_at o = unwrap_or o Vacant
+
+abbrev pub seats_in : {S : Type 0} → (ℕ → Option (Seat S)) → ℕ → Seat S
+seats_in at n = seat_at (at n)
 
 -- the core of the member that runs at a seat, if it has this address
 abbrev pub core_here : {S : Type 0} → Address → Seat S → Option (Core S)
@@ -77,5 +92,5 @@ posts_in pool = filter_map read_as pool
 -- ---- both
 
 -- the system of agreement: the members at these seats, the packets that the pool's bytes spell, what happened
-abbrev pub system_of : {S : Type 0} → (ℕ → Option (Seat S)) → List (List ℕ) → List Happening → System S
-system_of at pool t = record { running = λ p. core_here p (seat_at (at p.node)); history = record { pool = posts_in pool; trace = t } }
+abbrev pub system_of : {S : Type 0} → (ℕ → Seat S) → List (List ℕ) → List Happening → System S
+system_of at pool t = record { running = λ p. core_here p (at p.node); history = record { pool = posts_in pool; trace = t } }

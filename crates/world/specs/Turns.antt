@@ -1,17 +1,18 @@
--- What each event does at the seat of its node, to the trace and to the pool: local, exact, and without a word on the history.
-use Rattle.std.specs.Prelude.{◌≡◌, ℕ, ◌+◌, ◌^◌, false, ◌∷◌, [], ◌++◌, List, map, nat_lt, nat_eq, Result, Ok, Err, MatchBool, Option, None, Some, Vec, if◌then◌else◌}
+-- What each event does at the seat of its node, to the trace and to the pool: local, exact, and without a word on the history. Whatever a member does is
+-- one call of its `handle`, with the whole of its contract.
+use Rattle.std.specs.Prelude.{◌≡◌, ℕ, ◌+◌, ◌^◌, false, ◌∷◌, [], ◌++◌, List, map, nat_lt, nat_eq, Result, Ok, Err, ◌⊎◌, MatchBool, Option, None, Some, Vec, if◌then◌else◌}
 use Rattle.std.specs.Borrow.{Bor}
-use Rattle.std.specs.Option.{IsSomeAnd}
 use Rattle.address.specs.Ids.{Address, IsAddress}
 use Rattle.trace_props.specs.declared.happening.Happening.{Happening}
 use Rattle.trace_props.specs.declared.happening.Happening.TheVariants.{Started, Crashed}
 use Rattle.agreement.specs.Cores.{idle}
 use Rattle.member.specs.declared.error.Error.{Error}
+use Rattle.member.specs.declared.error.Error.TheVariants as error
 use Rattle.member.specs.declared.input.Input.{Input}
 use Rattle.member.specs.declared.input.Input.TheVariants as input
 use Rattle.member.specs.declared.output.Output.{Output}
 use Rattle.member.specs.Errors.{is_memory}
-use Rattle.member.specs.Members.{MemberModel, core_of, book_of, refusal_of, is_ignored}
+use Rattle.member.specs.Members.{MemberModel, core_of, book_of}
 use Rattle.member.specs.Handling.{Handled}
 use Rattle.member.specs.Steps.{leaves}
 use Rattle.world_model.specs.declared.Answer.{Answer}
@@ -26,28 +27,38 @@ use Rattle.world_model.specs.Histories.{starts}
 use Rattle.world_model.specs.Packets.{world_group, destination_of, packet_numbered}
 use Rattle.world.specs.declared.seat.Seat.{Seat}
 use Rattle.world.specs.declared.seat.Seat.TheVariants.{Vacant, Ended, Running}
-use Rattle.world.specs.Seats.{answer_for, answer_to, seat_at, bytes_of}
+use Rattle.world.specs.Seats.{answer_for, is_closed, answer_to, seat_at, bytes_of}
 
 -- ---- a member is handed an input
 
--- it takes the input: what it puts out joins the pool
-pub record Takes {S : Type 0} (apply : S → Address → List ℕ → S) (encode : S → List ℕ) (decode : List ℕ → Option S) (input : Input) (old : MemberModel S) (pool : List (List ℕ))
-    (happened : List Happening) (new : MemberModel S) (pool' : List (List ℕ)) : Type 0 where
+-- why a step of a member comes to an error: the call of `handle` answered it, or the pool was refused growth for what the call puts out
+abbrev pub IsWhy : Error → Result Output Error → Type 0
+IsWhy e (Ok out) = (e ≡ error.Memory) × (out.packets.items ≡ [] → ⊥)
+IsWhy e (Err f) = f ≡ e
+
+-- one call of `handle`, with its whole contract, whose packets joined the pool
+pub record HasPut {S : Type 0} (apply : S → Address → List ℕ → S) (encode : S → List ℕ) (decode : List ℕ → Option S) (input : Input) (m : MemberModel S) (pool : List (List ℕ))
+    (happened : List Happening) (left : MemberModel S) (pool' : List (List ℕ)) : Type 0 where
   pub out : Output
-  pub handled : Handled apply encode decode old input (Ok out) new
+  pub handled : Handled apply encode decode m input (Ok out) left
   pub told : happened ≡ out.happenings.items
   pub puts : pool' ≡ pool ++ map bytes_of out.packets.items
 
--- it does not: for want of memory, on an input that it would take and would not ignore; or since it must refuse, unchanged
-abbrev pub RefusesStep : {S : Type 0} → Input → MemberModel S → Error → MemberModel S → Type 0
-RefusesStep input old e new = MatchBool (is_memory e) ((refusal_of old input ≡ None) × (is_ignored input ≡ false)) ((refusal_of old input ≡ Some e) × (new ≡ old))
+-- one that comes to an error: nothing joined the pool
+pub record HasFailed {S : Type 0} (apply : S → Address → List ℕ → S) (encode : S → List ℕ) (decode : List ℕ → Option S) (input : Input) (m : MemberModel S) (pool : List (List ℕ)) (e : Error)
+    (left : MemberModel S) (pool' : List (List ℕ)) : Type 0 where
+  pub result : Result Output Error
+  pub handled : Handled apply encode decode m input result left
+  pub why : IsWhy e result
+  pub puts : pool' ≡ pool
 
+-- a step of a member, by what of it is told further: what happened, or the error
 abbrev pub Steps : {S Z : Type 0} → (S → Address → List ℕ → S) → (S → List ℕ) → (List ℕ → Option S) → Input → MemberModel S → List (List ℕ) → Result (Vec Happening Z) Error
     → MemberModel S → List (List ℕ) → Type 0
-Steps apply encode decode input old pool (Ok happened) new pool' = Takes apply encode decode input old pool happened.items new pool'
-Steps apply encode decode input old pool (Err e) new pool' = RefusesStep input old e new × (pool' ≡ pool)
+Steps apply encode decode input m pool (Ok happened) left pool' = HasPut apply encode decode input m pool happened.items left pool'
+Steps apply encode decode input m pool (Err e) left pool' = HasFailed apply encode decode input m pool e left pool'
 
--- ---- a seat is handed one
+-- ---- a seat is handed an input
 
 -- nothing changes
 pub record Stays {S : Type 0} (r : Refusal) (old : Seat S) (t : List Happening) (a : Answer) (new : Seat S) (t' : List Happening) : Type 0 where
@@ -55,42 +66,41 @@ pub record Stays {S : Type 0} (r : Refusal) (old : Seat S) (t : List Happening) 
   pub seat : new ≡ old
   pub trace : t' ≡ t
 
--- the member takes the input: it runs on, or has left
-pub record TakesHere {S : Type 0} (apply : S → Address → List ℕ → S) (encode : S → List ℕ) (decode : List ℕ → Option S) (input : Input) (m : MemberModel S) (t : List Happening)
-    (pool : List (List ℕ)) (a : Answer) (new : Seat S) (t' : List Happening) (pool' : List (List ℕ)) : Type 0 where
-  pub happened : List Happening
-  pub left : MemberModel S
-  pub takes : Takes apply encode decode input m pool happened left pool'
-  pub answer : a ≡ answer_to happened
-  pub seat : new ≡ (if leaves input then Ended m.address else Running left)
-  pub trace : t' ≡ t ++ happened
+-- TAKEN: what happened joins the trace, what was put out joins the pool; the member runs on, or has left
+pub record Takes {S : Type 0} (p : Address) (input : Input) (out : Output) (left : MemberModel S) (t : List Happening) (pool : List (List ℕ)) (a : Answer) (new : Seat S)
+    (t' : List Happening) (pool' : List (List ℕ)) : Type 0 where
+  pub answer : a ≡ answer_to out.happenings.items
+  pub seat : new ≡ (if leaves input then Ended p else Running left)
+  pub trace : t' ≡ t ++ out.happenings.items
+  pub puts : pool' ≡ pool ++ map bytes_of out.packets.items
 
--- the member crashes
-pub record CrashesHere {S : Type 0} (input : Input) (m : MemberModel S) (t : List Happening) (pool : List (List ℕ)) (a : Answer) (new : Seat S) (t' : List Happening)
-    (pool' : List (List ℕ)) : Type 0 where
-  pub free : refusal_of m input ≡ None
-  pub heeds : is_ignored input ≡ false
+-- LOST: memory was refused, and the member has crashed
+pub record Crashes {S : Type 0} (p : Address) (t : List Happening) (pool : List (List ℕ)) (a : Answer) (new : Seat S) (t' : List Happening) (pool' : List (List ℕ)) : Type 0 where
   pub answer : a ≡ Refused Memory
-  pub seat : new ≡ Ended m.address
-  pub trace : t' ≡ t ++ Crashed m.address ∷ []
+  pub seat : new ≡ Ended p
+  pub trace : t' ≡ t ++ Crashed p ∷ []
   pub puts : pool' ≡ pool
 
--- the member refuses
-pub record RefusesHere {S : Type 0} (input : Input) (m : MemberModel S) (t : List Happening) (pool : List (List ℕ)) (a : Answer) (new : Seat S) (t' : List Happening)
+-- REFUSED: nothing happened; the member runs on as the call left it, or has ended, if it is closed
+pub record Refuses {S : Type 0} (p : Address) (e : Error) (left : MemberModel S) (t : List Happening) (pool : List (List ℕ)) (a : Answer) (new : Seat S) (t' : List Happening)
     (pool' : List (List ℕ)) : Type 0 where
-  pub error : Error
-  pub refusal : refusal_of m input ≡ Some error
-  pub other : is_memory error ≡ false
-  pub answer : a ≡ answer_for error
-  pub seat : new ≡ Running m
+  pub answer : a ≡ answer_for e
+  pub seat : new ≡ (if is_closed e then Ended p else Running left)
   pub trace : t' ≡ t
   pub puts : pool' ≡ pool
 
-pub data HandsHere {S : Type 0} (apply : S → Address → List ℕ → S) (encode : S → List ℕ) (decode : List ℕ → Option S) (input : Input) (m : MemberModel S) (t : List Happening)
+-- what comes of a call at the seat, by what it answered; what it would put out is lost where the pool is refused growth for it
+abbrev pub Gives : {S : Type 0} → Address → Input → Result Output Error → MemberModel S → List Happening → List (List ℕ) → Answer → Seat S → List Happening → List (List ℕ) → Type 0
+Gives p input (Ok out) left t pool a new t' pool' = Takes p input out left t pool a new t' pool' ⊎ ((out.packets.items ≡ [] → ⊥) × Crashes p t pool a new t' pool')
+Gives p input (Err e) left t pool a new t' pool' = MatchBool (is_memory e) (Crashes p t pool a new t' pool') (Refuses p e left t pool a new t' pool')
+
+-- one call of `handle` on the member that runs there, with its whole contract, and what comes of it
+pub record HandsHere {S : Type 0} (apply : S → Address → List ℕ → S) (encode : S → List ℕ) (decode : List ℕ → Option S) (input : Input) (m : MemberModel S) (t : List Happening)
     (pool : List (List ℕ)) (a : Answer) (new : Seat S) (t' : List Happening) (pool' : List (List ℕ)) : Type 0 where
-  Taken : TakesHere apply encode decode input m t pool a new t' pool' → HandsHere apply encode decode input m t pool a new t' pool'
-  Lost : CrashesHere input m t pool a new t' pool' → HandsHere apply encode decode input m t pool a new t' pool'
-  Not : RefusesHere input m t pool a new t' pool' → HandsHere apply encode decode input m t pool a new t' pool'
+  pub result : Result Output Error
+  pub left : MemberModel S
+  pub handled : Handled apply encode decode m input result left
+  pub gives : Gives m.address input result left t pool a new t' pool'
 
 abbrev pub Hands : {S : Type 0} → (S → Address → List ℕ → S) → (S → List ℕ) → (List ℕ → Option S) → Input → Seat S → List Happening → List (List ℕ) → Answer → Seat S → List Happening
     → List (List ℕ) → Type 0
@@ -142,7 +152,9 @@ CrashGives (Running m) t a new t' = Ends m.address (Crashed m.address) t a new t
 -- what is handed to the member at the seat, with a payload that is lent
 abbrev pub HandsLent : {S : Type 0} → (S → Address → List ℕ → S) → (S → List ℕ) → (List ℕ → Option S) → (Bor (List ℕ) → Input) → List ℕ → Seat S → List Happening → List (List ℕ) → Answer → Seat S
     → List Happening → List (List ℕ) → Type 0
-HandsLent apply encode decode input bytes s t pool a new t' pool' = (b : Bor (List ℕ)) × (b.now ≡ bytes) × Hands apply encode decode (input b) s t pool a new t' pool'
+HandsLent apply encode decode input bytes Vacant t pool a new t' pool' = Stays NotConnected Vacant t a new t' × (pool' ≡ pool)
+HandsLent apply encode decode input bytes (Ended p) t pool a new t' pool' = Stays Closed (Ended p) t a new t' × (pool' ≡ pool)
+HandsLent apply encode decode input bytes (Running m) t pool a new t' pool' = (b : Bor (List ℕ)) × (b.now ≡ bytes) × HandsHere apply encode decode (input b) m t pool a new t' pool'
 
 -- an event at the seat of its node
 abbrev pub Acts : {S : Type 0} → S → (S → Address → List ℕ → S) → (S → List ℕ) → (List ℕ → Option S) → WorldEvent → Seat S → List Happening → List (List ℕ) → Answer → Seat S → List Happening
@@ -172,51 +184,53 @@ Hears apply encode decode bytes (Running m) t pool a new t' pool' = HandsLent ap
 
 -- ---- nodes
 
+-- an event at its node, which may have no seat
+abbrev pub ActsAt : {S : Type 0} → S → (S → Address → List ℕ → S) → (S → List ℕ) → (List ℕ → Option S) → WorldEvent → Option (Seat S) → List Happening → List (List ℕ) → Answer → Option (Seat S)
+    → List Happening → List (List ℕ) → Type 0
+ActsAt opening apply encode decode e None t pool a new t' pool' = (a ≡ Refused NotConnected) × (new ≡ None) × (t' ≡ t) × (pool' ≡ pool)
+ActsAt opening apply encode decode e (Some s) t pool a new t' pool' = Acts opening apply encode decode e s t pool a (seat_at new) t' pool'
+
 -- a node without a seat gets a vacant one
 abbrev pub KeepsSeat : {S : Type 0} → Option (Seat S) → Option (Seat S) → Type 0
 KeepsSeat None new = new ≡ Some Vacant
 KeepsSeat (Some s) new = new ≡ Some s
 
--- an event at its node, which may have no seat
-abbrev pub ActsAt : {S : Type 0} → S → (S → Address → List ℕ → S) → (S → List ℕ) → (List ℕ → Option S) → WorldEvent → Option (Seat S) → List Happening → List (List ℕ) → Answer → Option (Seat S)
-    → List Happening → List (List ℕ) → Type 0
-ActsAt opening apply encode decode e None t pool a new t' pool' = (a ≡ Refused NotConnected) × (new ≡ None) × (t' ≡ t) × (pool' ≡ pool)
-ActsAt opening apply encode decode e (Some s) t pool a new t' pool' = IsSomeAnd new (λ s'. Acts opening apply encode decode e s t pool a s' t' pool')
-
 -- a start finds a seat, which was vacant if it is new
 abbrev pub CarriesOut : {S : Type 0} → S → (S → Address → List ℕ → S) → (S → List ℕ) → (List ℕ → Option S) → WorldEvent → Option (Seat S) → List Happening → List (List ℕ) → Answer → Option (Seat S)
     → List Happening → List (List ℕ) → Type 0
 CarriesOut opening apply encode decode e o t pool a new t' pool' =
-    MatchBool (starts e) (ActsAt opening apply encode decode e (Some (seat_at o)) t pool a new t' pool') (ActsAt opening apply encode decode e o t pool a new t' pool')
-
--- the bytes of a packet at a node
-abbrev pub HearsAt : {S : Type 0} → (S → Address → List ℕ → S) → (S → List ℕ) → (List ℕ → Option S) → List ℕ → Option (Seat S) → List Happening → List (List ℕ) → Answer → Option (Seat S)
-    → List Happening → List (List ℕ) → Type 0
-HearsAt apply encode decode bytes None t pool a new t' pool' = (a ≡ Done) × (new ≡ None) × (t' ≡ t) × (pool' ≡ pool)
-HearsAt apply encode decode bytes (Some s) t pool a new t' pool' = IsSomeAnd new (λ s'. Hears apply encode decode bytes s t pool a s' t' pool')
+    MatchBool (starts e) (Acts opening apply encode decode e (seat_at o) t pool a (seat_at new) t' pool') (ActsAt opening apply encode decode e o t pool a new t' pool')
 
 -- ---- all nodes
 
-abbrev pub SameSeats : {S : Type 0} → (ℕ → Option (Seat S)) → (ℕ → Option (Seat S)) → Type 0
-SameSeats at new = (m : ℕ) → seat_at (new m) ≡ seat_at (at m)
+abbrev pub SameSeats : {S : Type 0} → (ℕ → Seat S) → (ℕ → Seat S) → Type 0
+SameSeats at new = (m : ℕ) → new m ≡ at m
 
--- all nodes' seats but one stand as they stood
-abbrev pub OtherSeats : {S : Type 0} → ℕ → (ℕ → Option (Seat S)) → (ℕ → Option (Seat S)) → Type 0
-OtherSeats n at new = (m : ℕ) → nat_eq n m ≡ false → new m ≡ at m
+-- all nodes but one stand as they stood
+abbrev pub OthersStand : {S : Type 0} → ℕ → (ℕ → Seat S) → (ℕ → Seat S) → Type 0
+OthersStand n at new = (m : ℕ) → nat_eq n m ≡ false → new m ≡ at m
 
--- some bytes are handed to whom they are for
-abbrev pub HandsOver : {S : Type 0} → (S → Address → List ℕ → S) → (S → List ℕ) → (List ℕ → Option S) → List ℕ → Option Address → (ℕ → Option (Seat S)) → List Happening → List (List ℕ) → Answer
-    → (ℕ → Option (Seat S)) → List Happening → List (List ℕ) → Type 0
-HandsOver apply encode decode bytes None at t pool a new t' pool' = (a ≡ Done) × SameSeats at new × (t' ≡ t) × (pool' ≡ pool)
-HandsOver apply encode decode bytes (Some p) at t pool a new t' pool' = HearsAt apply encode decode bytes (at p.node) t pool a (new p.node) t' pool' × OtherSeats p.node at new
+-- no node, no happening and no packet changes
+pub record Rests {S : Type 0} (at : ℕ → Seat S) (t : List Happening) (pool : List (List ℕ)) (a : Answer) (new : ℕ → Seat S) (t' : List Happening) (pool' : List (List ℕ)) : Type 0 where
+  pub answer : a ≡ Done
+  pub seats : SameSeats at new
+  pub trace : t' ≡ t
+  pub puts : pool' ≡ pool
 
-abbrev pub Delivers : {S : Type 0} → (S → Address → List ℕ → S) → (S → List ℕ) → (List ℕ → Option S) → Option (List ℕ) → (ℕ → Option (Seat S)) → List Happening → List (List ℕ) → Answer
-    → (ℕ → Option (Seat S)) → List Happening → List (List ℕ) → Type 0
-Delivers apply encode decode None at t pool a new t' pool' = (a ≡ Done) × SameSeats at new × (t' ≡ t) × (pool' ≡ pool)
+-- some bytes are handed to the member that runs at the node of whom they are for
+abbrev pub HandsOver : {S : Type 0} → (S → Address → List ℕ → S) → (S → List ℕ) → (List ℕ → Option S) → List ℕ → Option Address → (ℕ → Seat S) → List Happening → List (List ℕ) → Answer
+    → (ℕ → Seat S) → List Happening → List (List ℕ) → Type 0
+HandsOver apply encode decode bytes None at t pool a new t' pool' = Rests at t pool a new t' pool'
+HandsOver apply encode decode bytes (Some p) at t pool a new t' pool' = Hears apply encode decode bytes (at p.node) t pool a (new p.node) t' pool' × OthersStand p.node at new
+
+-- a packet is delivered, if there is one of that number
+abbrev pub Delivers : {S : Type 0} → (S → Address → List ℕ → S) → (S → List ℕ) → (List ℕ → Option S) → Option (List ℕ) → (ℕ → Seat S) → List Happening → List (List ℕ) → Answer
+    → (ℕ → Seat S) → List Happening → List (List ℕ) → Type 0
+Delivers apply encode decode None at t pool a new t' pool' = Rests at t pool a new t' pool'
 Delivers apply encode decode (Some bytes) at t pool a new t' pool' = HandsOver apply encode decode bytes (destination_of bytes) at t pool a new t' pool'
 
--- one event
-abbrev pub Carries : {S : Type 0} → S → (S → Address → List ℕ → S) → (S → List ℕ) → (List ℕ → Option S) → Target → WorldEvent → (ℕ → Option (Seat S)) → List Happening → List (List ℕ) → Answer
-    → (ℕ → Option (Seat S)) → List Happening → List (List ℕ) → Type 0
-Carries opening apply encode decode (target.Member n) e at t pool a new t' pool' = CarriesOut opening apply encode decode e (at n) t pool a (new n) t' pool' × OtherSeats n at new
+-- one event: at its node's seat, or with the packet of its number
+abbrev pub Carries : {S : Type 0} → S → (S → Address → List ℕ → S) → (S → List ℕ) → (List ℕ → Option S) → Target → WorldEvent → (ℕ → Seat S) → List Happening → List (List ℕ) → Answer
+    → (ℕ → Seat S) → List Happening → List (List ℕ) → Type 0
+Carries opening apply encode decode (target.Member n) e at t pool a new t' pool' = Acts opening apply encode decode e (at n) t pool a (new n) t' pool' × OthersStand n at new
 Carries opening apply encode decode (target.Packet k) e at t pool a new t' pool' = Delivers apply encode decode (packet_numbered k pool) at t pool a new t' pool'

@@ -8,12 +8,13 @@ ghost use Rattle.trace_props.specs.Places.{EachPlace};
 ghost use Rattle.trace_props.specs.Synchrony.{IsWellOrdered, IsVirtuallySynchronous};
 ghost use Rattle.trace_props.specs.State.{state_of};
 ghost use Rattle.std.specs.Option.{option_copied, option_map};
-ghost use Rattle.world_model.specs.Histories.{no_history, target_of, running};
+ghost use Rattle.world_model.specs.Histories.{target_of, running};
+ghost use Rattle.world.specs.Worlds.{shown, no_world, IsLonger, WorldStep, Runs};
 ghost use Rattle.world_model.specs.Packets.{packet_numbered, destination_of};
 ghost use Rattle.world_model.specs.Faithful.{IsFaithful};
-ghost use Rattle.world_model.specs.Steps.{IsStepped};
 ghost use Rattle.world.specs.declared.TheConstants.{STEP_PLACES};
-ghost use Rattle.world.specs.Turns.{ActsAt, KeepsSeat, CarriesOut, Carries, HearsAt, HandsOver, Delivers, SameSeats};
+ghost use Rattle.world.specs.Seats.{seat_at, seats_in};
+ghost use Rattle.world.specs.Turns.{ActsAt, KeepsSeat, CarriesOut, Carries, Hears, HandsOver, Delivers, SameSeats};
 
 mod pool;
 mod seat;
@@ -32,7 +33,8 @@ use world_model::{Answer, Refusal, Reply, Target, WorldEvent};
 /// How many places of the trace are reserved before each step: as many as a step of a member may need.
 pub const STEP_PLACES: usize = member::HAPPENINGS;
 
-/// A world of members, one at a node at a time, each with its receiver (docs/GUARANTEES.md, "The world").
+/// A world of members, one at a node at a time, each with its receiver (docs/GUARANTEES.md, "The world"). Contracts see its history and
+/// what stands at each node: nothing yet, one that has ended, or the member that runs.
 #[derive(Drop)]
 pub struct World<R: Receiver> {
     alloc: Global,
@@ -46,14 +48,15 @@ pub struct World<R: Receiver> {
 impl<R: Receiver> Model for World<R> {
     ghost use Rattle.std.specs.Ordering.{nat_cmp};
     ghost use Rattle.std.specs.BTreeMap.{get};
-    ghost use Rattle.world_model.specs.Histories.{History};
-    ghost use Rattle.world.specs.Invariant.{IsWorld};
+    ghost use Rattle.world.specs.Worlds.{WorldValue, IsReached, shown};
 
-    ghost Value = { History };
+    // Its seats as data, which `shown` shows by node.
+    ghost Value = { WorldValue R };
 
-    ghost view = { λ w. record { events = w.events.items; replies = w.replies.items; pool = w.pool; trace = w.trace.happenings } };
+    ghost view = { λ w. record { history = record { events = w.events.items; replies = w.replies.items; pool = w.pool; trace = w.trace.happenings }; table = w.seats.entries } };
 
-    ghost invariant = { λ w. IsWorld R.opening_state R.apply R.encode R.decode R.is_state (get nat_cmp w.seats) (record { events = w.events.items; replies = w.replies.items; pool = w.pool; trace = w.trace.happenings }) };
+    // It came from nothing by world steps. All that is kept follows from that alone (proofs/Keeping.antt).
+    ghost invariant = { λ w. IsReached R.opening_state R.apply R.encode R.decode (shown (record { history = record { events = w.events.items; replies = w.replies.items; pool = w.pool; trace = w.trace.happenings }; table = w.seats.entries })) };
 }
 
 /// Makes a seat for a node, where it has none yet.
@@ -120,7 +123,7 @@ fn hear_at<R: Receiver>(
     bytes: &[u8],
 ) -> Answer
     requires room { STEP_PLACES ≤ trace.old.room }
-    ensures hears { HearsAt R.apply R.encode R.decode bytes.now (get nat_cmp seats.old node) trace.old.happenings pool.old result (get nat_cmp seats.new node) trace.new.happenings pool.new }
+    ensures hears { Hears R.apply R.encode R.decode bytes.now (seat_at (get nat_cmp seats.old node)) trace.old.happenings pool.old result (seat_at (get nat_cmp seats.new node)) trace.new.happenings pool.new }
     ensures others { (m : ℕ) → nat_eq node m ≡ false → get nat_cmp seats.new m ≡ get nat_cmp seats.old m }
 {
     match seats.get_mut(&node) {
@@ -137,7 +140,7 @@ fn hand_over<R: Receiver>(
     bytes: &[u8],
 ) -> Answer
     requires room { STEP_PLACES ≤ trace.old.room }
-    ensures { HandsOver R.apply R.encode R.decode bytes.now (destination_of bytes.now) (get nat_cmp seats.old) trace.old.happenings pool.old result (get nat_cmp seats.new) trace.new.happenings pool.new }
+    ensures { HandsOver R.apply R.encode R.decode bytes.now (destination_of bytes.now) (seats_in (get nat_cmp seats.old)) trace.old.happenings pool.old result (seats_in (get nat_cmp seats.new)) trace.new.happenings pool.new }
 {
     match decode(bytes) {
         Ok(packet) => hear_at(seats, trace, pool, packet.destination.node(), bytes),
@@ -155,8 +158,8 @@ fn deliver<R: Receiver>(
     number: u64,
 ) -> Result<Answer, AllocError>
     requires room { STEP_PLACES ≤ trace.old.room }
-    ensures ok { IfOk result (λ a. Delivers R.apply R.encode R.decode (packet_numbered number pool.old) (get nat_cmp seats.old) trace.old.happenings pool.old a (get nat_cmp seats.new) trace.new.happenings pool.new) }
-    ensures err { OnErr result (SameSeats (get nat_cmp seats.old) (get nat_cmp seats.new)) }
+    ensures ok { IfOk result (λ a. Delivers R.apply R.encode R.decode (packet_numbered number pool.old) (seats_in (get nat_cmp seats.old)) trace.old.happenings pool.old a (seats_in (get nat_cmp seats.new)) trace.new.happenings pool.new) }
+    ensures err { OnErr result (SameSeats (seats_in (get nat_cmp seats.old)) (seats_in (get nat_cmp seats.new))) }
     ensures err_trace { OnErr result (trace.new.happenings ≡ trace.old.happenings) }
     ensures err_pool { OnErr result (pool.new ≡ pool.old) }
 {
@@ -176,8 +179,8 @@ fn carry<R: Receiver>(
     event: &WorldEvent,
 ) -> Result<Answer, AllocError>
     requires room { STEP_PLACES ≤ trace.old.room }
-    ensures ok { IfOk result (λ a. Carries R.opening_state R.apply R.encode R.decode (target_of event.now) event.now (get nat_cmp seats.old) trace.old.happenings pool.old a (get nat_cmp seats.new) trace.new.happenings pool.new) }
-    ensures err { OnErr result (SameSeats (get nat_cmp seats.old) (get nat_cmp seats.new)) }
+    ensures ok { IfOk result (λ a. Carries R.opening_state R.apply R.encode R.decode (target_of event.now) event.now (seats_in (get nat_cmp seats.old)) trace.old.happenings pool.old a (seats_in (get nat_cmp seats.new)) trace.new.happenings pool.new) }
+    ensures err { OnErr result (SameSeats (seats_in (get nat_cmp seats.old)) (seats_in (get nat_cmp seats.new))) }
     ensures err_trace { OnErr result (trace.new.happenings ≡ trace.old.happenings) }
     ensures err_pool { OnErr result (pool.new ≡ pool.old) }
 {
@@ -208,7 +211,7 @@ fn reserve_step(
 impl<R: Receiver> World<R> {
     /// A world in which nothing happened. Takes no memory.
     pub fn new(alloc: Global) -> World<R>
-        ensures { result ≡ no_history }
+        ensures { shown result ≡ no_world }
     {
         World {
             alloc,
@@ -220,10 +223,10 @@ impl<R: Receiver> World<R> {
         }
     }
 
-    /// Carries out one event. On refusal of the places of a step, or of a copy of the packet that is handed over, nothing has changed.
+    /// Carries out one event: a world step. On refusal of the places of a step, or of a copy of the packet that is handed over, nothing has changed.
     fn step(&mut self, event: &WorldEvent) -> Result<(), AllocError>
-        ensures ok { OnOk result (self.new.events ≡ self.old.events ++ event.now ∷ []) }
-        ensures err { OnErr result (self.new ≡ self.old) }
+        ensures ok { OnOk result (WorldStep R.opening_state R.apply R.encode R.decode (shown self.old) event.now (shown self.new)) }
+        ensures err { OnErr result (shown self.new ≡ shown self.old) }
     {
         let alloc = self.alloc;
         reserve_step(&mut self.trace, &mut self.events, &mut self.replies)?;
@@ -241,12 +244,11 @@ impl<R: Receiver> World<R> {
         Ok(())
     }
 
-    /// What the history of every world keeps.
+    /// What every world keeps.
     fn kept(&self)
-        ensures faithful { IsFaithful self.now }
-        ensures stepped { IsStepped self.now }
-        ensures ordered { EachPlace IsWellOrdered self.now.trace }
-        ensures synchronous { IsVirtuallySynchronous R.opening_state R.apply R.decode self.now.trace }
+        ensures faithful { IsFaithful self.now.history }
+        ensures ordered { EachPlace IsWellOrdered self.now.history.trace }
+        ensures synchronous { IsVirtuallySynchronous R.opening_state R.apply R.decode self.now.history.trace }
     {
         let _ = &self.trace;
     }
@@ -254,12 +256,15 @@ impl<R: Receiver> World<R> {
     /// Carries out events in order, from where the world stands. Answers an error (7) where the places of a step are
     /// refused, or a copy of the packet that is handed over: then the events before it are carried out, and all stands as before that step.
     pub fn run(&mut self, events: &[WorldEvent]) -> Result<(), AllocError>
-        ensures all { OnOk result (self.new.events ≡ self.old.events ++ events.now) }
-        ensures some { (k : ℕ) × (self.new.events ≡ self.old.events ++ take k events.now) }
-        ensures faithful { IsFaithful self.new }
-        ensures stepped { IsStepped self.new }
-        ensures ordered { EachPlace IsWellOrdered self.new.trace }
-        ensures synchronous { IsVirtuallySynchronous R.opening_state R.apply R.decode self.new.trace }
+        // It comes from where it stood by a world step for each event, of all of them or of the first few;
+        ensures all { OnOk result (Runs R.opening_state R.apply R.encode R.decode (shown self.old) events.now (shown self.new)) }
+        ensures some { (k : ℕ) × Runs R.opening_state R.apply R.encode R.decode (shown self.old) (take k events.now) (shown self.new) }
+        // so what was there is the beginning of what is there,
+        ensures longer { IsLonger self.old.history self.new.history }
+        // each event is answered as the table says, and all rules hold at every place.
+        ensures faithful { IsFaithful self.new.history }
+        ensures ordered { EachPlace IsWellOrdered self.new.history.trace }
+        ensures synchronous { IsVirtuallySynchronous R.opening_state R.apply R.decode self.new.history.trace }
     {
         for event in events {
             if let Err(refused) = self.step(event) {
@@ -273,14 +278,14 @@ impl<R: Receiver> World<R> {
 
     /// The events carried out, in order.
     pub fn events(&self) -> &[WorldEvent]
-        ensures { result.now ≡ self.now.events }
+        ensures { result.now ≡ self.now.history.events }
     {
         self.events.as_slice()
     }
 
     /// The reply to each event carried out, in order.
     pub fn replies(&self) -> &[Reply]
-        ensures { result.now ≡ self.now.replies }
+        ensures { result.now ≡ self.now.history.replies }
     {
         self.replies.as_slice()
     }
@@ -288,14 +293,14 @@ impl<R: Receiver> World<R> {
     /// The packet of a number, from 1, among all that were ever put out, in the order in which they were; None for 0 and where
     /// so many were not put out.
     pub fn packet(&self, number: u64) -> Option<&[u8]>
-        ensures { option_copied result ≡ packet_numbered number self.now.pool }
+        ensures { option_copied result ≡ packet_numbered number self.now.history.pool }
     {
         self.pool.packet(number)
     }
 
     /// The member that runs at a node; None where none runs there.
     pub fn running(&self, node: Node) -> Option<Address>
-        ensures { result ≡ running node self.now.trace }
+        ensures { result ≡ running node self.now.history.trace }
     {
         match self.seats.get(&node)? {
             Seat::Running(member) => Some(member.address()),
@@ -305,7 +310,7 @@ impl<R: Receiver> World<R> {
 
     /// The receiver of the member that runs at a node, as it was told all that happened to that member; None where none runs there.
     pub fn receiver(&self, node: Node) -> Option<&R>
-        ensures { option_copied result ≡ option_map (λ p. state_of R.opening_state R.apply R.decode p self.now.trace) (running node self.now.trace) }
+        ensures { option_copied result ≡ option_map (λ p. state_of R.opening_state R.apply R.decode p self.now.history.trace) (running node self.now.history.trace) }
     {
         match self.seats.get(&node)? {
             Seat::Vacant | Seat::Ended(_) => None,
@@ -315,7 +320,7 @@ impl<R: Receiver> World<R> {
 
     /// What happened.
     pub fn trace(&self) -> &Trace
-        ensures { result.now.happenings ≡ self.now.trace }
+        ensures { result.now.happenings ≡ self.now.history.trace }
     {
         &self.trace
     }

@@ -113,7 +113,7 @@ fn end<R: Receiver>(seat: &mut Seat<R>, last: Address)
 }
 
 /// Hands an input to the member at a seat: refused with 1 where none ever ran there, with 6 where it has ended, and else as the member
-/// refuses. Where memory is refused the member has crashed.
+/// refuses; with 6 it has ended. Where memory is refused the member has crashed.
 fn hand<R: Receiver>(
     seat: &mut Seat<R>,
     trace: &mut Trace,
@@ -142,6 +142,11 @@ fn hand<R: Receiver>(
                     end(seat, address);
                     trace.record(Happening::Crashed(address));
                     Answer::Refused(Refusal::Memory)
+                }
+                // It was to enter a view with a state that cannot be read, which no packet of a world says.
+                Err(Error::Closed) => {
+                    end(seat, address);
+                    Answer::Refused(Refusal::Closed)
                 }
                 Err(error) => refused(error),
             }

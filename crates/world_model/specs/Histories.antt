@@ -95,24 +95,6 @@ connected_after n c row = connects_after n c row.0 row.1.answer
 abbrev pub is_connected : ℕ → History → Bool
 is_connected n h = fold (connected_after n) false (zip h.events h.replies)
 
--- whom an answered event leaves a node's member asking to be let in
-abbrev pub asks_after : ℕ → Option Address → WorldEvent → Answer → Option Address
-asks_after n c (Start m) a = if nat_eq m n && is_done a then None else c
-asks_after n c (Create m) a = c
-asks_after n c (Join m contact) a = if nat_eq m n && is_done a then Some contact else c
-asks_after n c (Send m x) a = c
-asks_after n c (Deliver k) a = c
-asks_after n c (Tick m) a = c
-asks_after n c (Leave m) a = c
-asks_after n c (Crash m) a = c
-
-abbrev pub asked_after : ℕ → Option Address → WorldEvent × Reply → Option Address
-asked_after n c row = asks_after n c row.0 row.1.answer
-
--- the contact of the last join of the node that was answered Done since the node's last start
-abbrev pub contact_of : ℕ → History → Option Address
-contact_of n h = fold (asked_after n) None (zip h.events h.replies)
-
 -- the history after one more event, its answer, the packets that its step put out, and what happened in it
 abbrev pub after : History → WorldEvent → Answer → List (List ℕ) → List Happening → History
 after h event a packets stretch = record {

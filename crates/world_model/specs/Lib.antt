@@ -2,4 +2,3 @@ pub mod Refusals
 pub mod Histories
 pub mod Packets
 pub mod Faithful
-pub mod Steps

@@ -3,18 +3,13 @@ use Rattle.std.specs.Prelude.{ℕ, ◌-◌, List, Option, None, Some, Result, Ok
 use Rattle.std.specs.Option.{option_and_then}
 use Rattle.address.specs.Ids.{Address}
 use Rattle.wire.specs.declared.error.WireError.{WireError}
-use Rattle.wire.specs.declared.packet.Body.TheVariants as bodies
 use Rattle.wire.specs.declared.packet.Packet.{Packet}
-use Rattle.wire.specs.Packets.{spelling, packet_of}
+use Rattle.wire.specs.Packets.{packet_of}
 use Rattle.world_model.specs.Histories.{History, running}
 
 -- the name of the world's group
 abbrev pub world_group : List ℕ
 world_group = codes "world"
-
--- the JOIN with which a member asks its contact to be let in
-abbrev pub join_packet : Address → Address → List ℕ
-join_packet p contact = spelling (record { group = world_group; source = p; destination = contact; body = bodies.Join })
 
 -- the packet of a number, from 1
 abbrev pub packet_numbered : ℕ → List (List ℕ) → Option (List ℕ)

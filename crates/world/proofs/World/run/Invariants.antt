@@ -1,6 +1,7 @@
-use Rattle.std.proofs.Common.{◌≡◌, ◌++◌, take}
+use Rattle.std.proofs.Common.{take}
+use Rattle.world.specs.Worlds.{Runs, shown}
 use Rattle.world.proofs.World.run.Given as goal
 
 -- the events so far are carried out
 abbrev pub invariant-loop-event : goal.invariant-loop-event
-invariant-loop-event g l = l.self.events ≡ l.fn.self.events ++ take l.event-index l.events
+invariant-loop-event g l = Runs g.R.Receiver.opening_state g.R.Receiver.apply g.R.Receiver.encode g.R.Receiver.decode (shown l.fn.self) (take l.event-index l.events) (shown l.self)
