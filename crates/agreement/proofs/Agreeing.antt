@@ -44,7 +44,7 @@ pub goes-passes : (o : Option (Option ViewId)) (v : Option ViewId) → option_ma
 goes-passes None v e = absurd (let n : false ≡ true = e in cc)
 goes-passes (Some u) v e = ap Some (same-previous u v e)
 
--- a maker that came from a view had installed it
+-- a coordinator that came from a view had installed it
 came-entered : (o : Option Install) (k : History) (w v : ViewId) (q : Address) (f : Install) (n : ℕ) → entry_of q w k.trace ≡ o → HasRisingViews k.trace
     → option_map (λ (e : Install). e.previous) o ≡ Some (Some v) → slice_get k.trace n ≡ Some (Installed f) → f.view.id ≡ v → stands_in q f.view.members ≡ true
 came-entered None k w v q f n entry views from stands same = absurd (none-some (Some v) from)

@@ -24,7 +24,7 @@ use Rattle.agreement.proofs.Quiet.{quiet-refl}
 use Rattle.agreement.proofs.Proposing.{or-cases}
 use Rattle.agreement.proofs.Installing.{entry-now}
 use Rattle.agreement.proofs.Making.{none-of, unentered}
-use Rattle.agreement.proofs.Founding.{made_on, maker-goes, made}
+use Rattle.agreement.proofs.Founding.{made_on, coordinator-goes, made}
 
 -- the install by which a member is alone in its first view
 abbrev pub lone_install : Address → Install
@@ -68,7 +68,7 @@ module _ {S : Type 0} (opening : S) (apply : S → Address → List ℕ → S) (
       let alone : stands_in p (p ∷ []) ≡ true = or_left (same_address p p) false (same_address-refl p) in
       let above : EntersAbove t i = record { inside = alone; previous = sym outside; rises = λ v e. absurd (none-some v e) } in
       let none : entry_of p w t ≡ None = none-of (entry_of p w t) (not-entered t i (views-of opening apply decode h inv.trace) above) in
-      let goes : goes_from k w p ≡ Some None = maker-goes k w p i (same_address-refl p) (entry-now h i none) in
+      let goes : goes_from k w p ≡ Some None = coordinator-goes k w p i (same_address-refl p) (entry-now h i none) in
       let past : (u : ViewId) → IsNotPast c.promise u → ⊥ = λ u y. subst (λ (o : Option View). IsNotPast o u) a.unpromised y in
       subst (λ (u : List Happening). Invariant opening apply encode decode is_state (record { running = put p (Some (gone_into (lone_view p) c.state [] c)) s.running; history = record { pool = h.pool ++ []; trace = t ++ u } }))
       (sym (entering-lone c a.outside))

@@ -1,4 +1,4 @@
--- The maker of a flush goes from its view into its proposal: its install may follow.
+-- The coordinator of a flush goes from its view into its proposal: its install may follow.
 use Rattle.std.proofs.Common.{◌≡◌, ℕ, Bool, true, false, Option, Some, None, List, [], ◌++◌, length, drop, filter, refl, sym, ap, ◌∙◌, subst, MatchOption}
 use Rattle.std.specs.Prelude.{MatchBool}
 use Rattle.std.specs.Option.{ForSome, IsSomeAnd, option_map_or}
@@ -32,7 +32,7 @@ use Rattle.agreement.proofs.Traces.{views-of}
 use Rattle.agreement.proofs.Moving.{entries-later}
 use Rattle.agreement.proofs.Registers.{report-fact}
 use Rattle.agreement.proofs.Blocking.{tells}
-use Rattle.agreement.proofs.Proposing.{maker-in}
+use Rattle.agreement.proofs.Proposing.{coordinator-in}
 use Rattle.agreement.proofs.Meeting.{found, filter-passes, filter-keeps, same-previous, previous-refl}
 use Rattle.agreement.proofs.Cutting.{flush-cut}
 use Rattle.agreement.proofs.Catching.{GoesOut}
@@ -87,9 +87,9 @@ back-by None t p rest entries sent = refl
 back-by (Some v) t p rest entries sent =
     sym (ap (drop (length (own p (delivered_in p v.id t)))) (sent v refl) ∙ drop-append_seam (own p (delivered_in p v.id t)) (left_of p entries rest))
 
--- ---- the maker goes
+-- ---- the coordinator goes
 
--- the entries of its view that the maker is told last
+-- the entries of its view that the coordinator is told last
 abbrev pub last_entries : {S : Type 0} → Core S → View → Cuts → List Entry
 last_entries c v cuts = undelivered c.traffic.delivered (cuts.base v.id) (cuts.items v.id)
 
@@ -129,7 +129,7 @@ module _ {S : Type 0} (opening : S) (apply : S → Address → List ℕ → S) (
             flush-cut h c.me c.promise c.view c.traffic c.kept f u (cuts.base u) (cuts.items u) each runs inside (a.cut q r u said from) at.0 r at.1;
       }
 
-  -- nobody has installed the proposal, and its maker may
+  -- nobody has installed the proposal, and its coordinator may
   pub departs : (s : System S) (h : History) (c : Core S) (v : View) (f : FlushModel) (cuts : Cuts) → Invariant opening apply encode decode is_state s → MayFinish c v f cuts
       → IsReady s.history c v f cuts → GoesOut opening apply encode decode is_state s.history h c (last_entries c v cuts) → MayMake h.trace (maker_install c v f cuts)
   departs s h c v f cuts inv a x out =
@@ -141,7 +141,7 @@ module _ {S : Type 0} (opening : S) (apply : S → Address → List ℕ → S) (
       let mine = report_with c.view c.traffic in
       let runs = x.runs in
       let views = views-of opening apply decode h out.quiet.trace in
-      let listed : stands_in p f.members ≡ true = ap (λ z. stands_in z f.members) (sym runs.own) ∙ maker-in w f.members runs.list in
+      let listed : stands_in p f.members ≡ true = ap (λ z. stands_in z f.members) (sym runs.own) ∙ coordinator-in w f.members runs.list in
       let above : EntersAbove t i = record {
         inside = listed;
         previous = sym out.current;

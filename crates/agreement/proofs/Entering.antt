@@ -1,4 +1,4 @@
--- The act Enters: a member goes into the view that it promised, as the view's maker told it.
+-- The act Enters: a member goes into the view that it promised, as the view's coordinator told it.
 use Rattle.std.proofs.Common.{◌≡◌, ℕ, ◌+◌, false, Option, Some, None, List, [], ◌∷◌, ◌++◌, length, refl, sym, ap, ◌∙◌, subst}
 use Rattle.std.specs.Prelude.{MatchOption, IsSome}
 use Rattle.std.specs.Option.{ForSome, IsSomeAnd, option_map, option_map_or}
@@ -151,7 +151,7 @@ module _ {S : Type 0} (opening : S) (apply : S → Address → List ℕ → S) (
       let goes = install-goes opening apply encode decode is_state k p i r back st y reads in
       let m = later-happening k (Installed mine) (views-of opening apply decode k y.trace) (stands-of opening apply decode k.trace (Installed mine) goes) in
       let none = not-yet opening apply encode decode is_state k p i r back st y in
-      let maker = y.instruction.other in
+      let coordinator = y.instruction.other in
       record {
         later = later-trans h k z out.quiet.later m;
         only = only-trans p h k z out.quiet.only (only-happening p k (Installed mine) refl);
@@ -159,7 +159,7 @@ module _ {S : Type 0} (opening : S) (apply : S → Address → List ℕ → S) (
         trace = trace-push opening apply decode k (Installed mine) y.trace goes tt;
         packets = packets-later k z [] m (sym (append-nil k.pool)) y.packets (λ n q at. absurd (none-some q at));
         entries = entries-installed k mine m y.entries none (install-entry opening apply encode decode is_state k p i r back st y m);
-        states = states-entered opening apply encode decode is_state k mine m maker y.packets y.states;
+        states = states-entered opening apply encode decode is_state k mine m coordinator y.packets y.states;
         member = λ d e. subst (λ (w : Core S). Fact z p w) (same_Some _ d e)
             (arrives opening apply decode is_state k c mine (state_into apply decode c (last_told c i) i.state) [] (record {
               itself = refl;
@@ -173,7 +173,7 @@ module _ {S : Type 0} (opening : S) (apply : S → Address → List ℕ → S) (
               keeps = λ q j there. absurd (none-some j there);
               now = has-taken opening apply encode decode is_state k p i r back st y;
               is = takes-state opening apply encode decode is_state k p i r back st y reads;
-              begins = begun-same opening apply encode decode is_state k mine maker i.view.id ∙ view-begins opening apply encode decode is_state k p i r back st y reads;
+              begins = begun-same opening apply encode decode is_state k mine coordinator i.view.id ∙ view-begins opening apply encode decode is_state k p i r back st y reads;
             }));
       }
 

@@ -1,4 +1,4 @@
--- What each of the list of a flush reported, and what is so of the instructions once its maker has installed the proposal.
+-- What each of the list of a flush reported, and what is so of the instructions once its coordinator has installed the proposal.
 use Rattle.std.proofs.Common.{◌≡◌, ℕ, zero, suc, ◌+◌, Bool, true, false, cond, not, Option, Some, None, List, [], ◌∷◌, length, map, filter, refl, sym, ap, ◌∙◌, subst, is_some, unwrap_or}
 use Rattle.std.specs.Prelude.{slice_get, MatchBool}
 use Rattle.std.specs.Option.{ForSome, option_map_or, option_eq}
@@ -18,7 +18,7 @@ use Rattle.agreement.specs.Packets.{end_of, IsCutOf, AllAnswered, IsFitting, IsI
 use Rattle.agreement.specs.Members.{IsRecorded}
 use Rattle.agreement.proofs.Lists.{filter-same}
 use Rattle.agreement.proofs.Meeting.{found, goes-reported, previous-refl}
-use Rattle.agreement.proofs.Founding.{maker-goes}
+use Rattle.agreement.proofs.Founding.{coordinator-goes}
 use Rattle.agreement.proofs.Instructing.{filter-within, others-other}
 
 -- ---- where a report stands
@@ -68,7 +68,7 @@ in-group reports q r v e from =
     filter-at (comes_from v) (map (λ x. x.1) reports) y.place r (reports-at reports y.place y.it y.stands ∙ ap Some y.report)
     (ap (λ (o : Option ViewId). option_eq same_view_id o v) from ∙ previous-refl v)
 
--- ---- once the maker has installed the proposal
+-- ---- once the coordinator has installed the proposal
 
 pub record IsFinished (k : History) (p : Address) (mine : Report) (f : FlushModel) (e : Install) : Type 0 where
   pub own : f.proposal.creator ≡ p
@@ -86,7 +86,7 @@ reported-by b k p q w mine r x test at is fact =
     (subst (λ (s : Report). MatchBool (same_address q p) (s ≡ mine) (report_of q w k.pool ≡ Some s)) is
     (subst (λ (a : Address). MatchBool (same_address a p) (x.1 ≡ mine) (report_of a w k.pool ≡ Some x.1)) at fact))
 
--- the report that a flush has of another was put out, and that of its maker is its own
+-- the report that a flush has of another was put out, and that of its coordinator is its own
 pub reported-other : (k : History) (p q : Address) (mine r : Report) (f : FlushModel) (e : Install) → IsFinished k p mine f e → same_address q p ≡ false → report_from q f.reports ≡ Some r
     → report_of q f.proposal k.pool ≡ Some r
 reported-other k p q mine r f e x other from =
@@ -97,7 +97,7 @@ goes-by : (b : Bool) (k : History) (p q : Address) (mine r : Report) (f : FlushM
 goes-by true k p q mine r f e test x from =
     let same = same_address-true q p test in
     let is : mine ≡ r = same_Some mine r (sym x.itself ∙ ap (λ z. report_from z f.reports) (sym same) ∙ from) in
-    maker-goes k f.proposal q e (ap (λ z. same_address z f.proposal.creator) same ∙ same_address-from p f.proposal.creator (sym x.own)) (ap (λ z. entry_of z f.proposal k.trace) same ∙ x.entry)
+    coordinator-goes k f.proposal q e (ap (λ z. same_address z f.proposal.creator) same ∙ same_address-from p f.proposal.creator (sym x.own)) (ap (λ z. entry_of z f.proposal k.trace) same ∙ x.entry)
     ∙ ap Some x.previous ∙ ap (λ (z : Report). Some z.previous) is
 goes-by false k p q mine r f e test x from =
     goes-reported k f.proposal q r (ap (same_address q) x.own ∙ test) (reported-other k p q mine r f e x test from)
@@ -130,7 +130,7 @@ pub record IsPutOut (k : History) (p : Address) (mine : Report) (f : FlushModel)
   pub each : (q : Address) → stands_in q (others_of p f.members) ≡ true → install_of f.proposal q k.pool ≡ Some (instruction_for f cuts v state q)
   pub only : (q : Address) (j : wire.Install) → install_of f.proposal q k.pool ≡ Some j → (stands_in q (others_of p f.members) ≡ true) × (j ≡ instruction_for f cuts v state q)
   pub cut : (q : Address) (r : Report) (u : ViewId) → report_from q f.reports ≡ Some r → r.previous ≡ Some u → IsCutOf k.trace (cuts.base u) (cuts.items u) r u
-  -- the maker too was told its view's order up to the cut's end
+  -- the coordinator too was told its view's order up to the cut's end
   pub own_end : (u : ViewId) → mine.previous ≡ Some u → length (list_of p u k.trace) ≡ cuts.base u + length (cuts.items u)
 
 cut-as : (k : History) (cuts : Cuts) (r : Report) (o : Option ViewId) → ((u : ViewId) → o ≡ Some u → IsCutOf k.trace (cuts.base u) (cuts.items u) r u)
@@ -159,7 +159,7 @@ fits-as k p q mine r f cuts v state e x y from = record {
       let t = told-report k p m mine f cuts v state e j x y install in
       let is : t.0 ≡ s = same_Some t.0 s (sym t.2 ∙ report) in
       ap end_of t.3 ∙ ap (λ (z : Report). end_for cuts z.previous) is ∙ ap (end_for cuts) came;
-  maker = λ g u entry left came.
+  coordinator = λ g u entry left came.
       let owner = ap (λ z. entry_of z f.proposal k.trace) x.own in
       let is : e ≡ g = same_Some e g (sym x.entry ∙ sym owner ∙ entry) in
       let mine_from : mine.previous ≡ Some u = sym x.previous ∙ ap (λ (z : Install). z.previous) is ∙ left in

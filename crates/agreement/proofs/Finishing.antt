@@ -47,7 +47,7 @@ state_with-append {S} opening apply decode v entries more t s is = by (entry_sta
     by (Some z) x =
         ap Some (fold-append (λ y (w : Entry). apply y w.sender w.payload) z entries more ∙ ap (λ y. applied apply y more) (same_Some (applied apply z entries) s x))
 
--- nobody was told to go into a view that its maker has not installed
+-- nobody was told to go into a view that its coordinator has not installed
 no-install : (h : History) (w : ViewId) (q : Address) → EachPacket h → entry_of w.creator w h.trace ≡ None → install_of w q h.pool ≡ None
 no-install h w q each none =
     none-of (install_of w q h.pool) (λ j e.
@@ -82,7 +82,7 @@ module _ {S : Type 0} (opening : S) (apply : S → Address → List ℕ → S) (
       (undelivered-follow s.history.trace c.me v.id c.traffic.delivered (cuts.base v.id) (cuts.items v.id) (y.inside v a.view).counts.told own.low own.order))
       (λ none. absurd (none-some v (sym none ∙ a.view)))
 
-  -- an instruction gives the state with which the view begins to all who come from another view than its maker
+  -- an instruction gives the state with which the view begins to all who come from another view than its coordinator
   gives-to : (k : History) (p q : Address) (mine : Report) (f : FlushModel) (cuts : Cuts) (v : ViewId) (z : S) (i : Install) → IsFinished k p mine f i
       → IsPutOut k p mine f cuts v (encode z) → mine.previous ≡ Some v → entry_state opening apply decode f.proposal k.trace ≡ Some z → stands_in q (others_of p f.members) ≡ true
       → GivesState opening apply encode decode k q (instruction_for f cuts v (encode z) q)
@@ -108,7 +108,7 @@ module _ {S : Type 0} (opening : S) (apply : S → Address → List ℕ → S) (
       inr (subst (λ (a : wire.Install). GivesState opening apply encode decode k q a) (sym told.1) (gives-to k p q mine f cuts v z i x y inside begun told.0))
   gives-by false h k p q mine f cuts v z i u j test x y inside begun still there = inl (sym (still test) ∙ there)
 
-  -- the view begins with the state that its maker had at the end of the one from which it came
+  -- the view begins with the state that its coordinator had at the end of the one from which it came
   begins-as : (h h1 : History) (c : Core S) (v : View) (f : FlushModel) (entries : List Entry) (i : Install) (z : S) → Fact h c.me c → c.view ≡ Some v → f.proposal.creator ≡ c.me
       → GoesOut opening apply encode decode is_state h h1 c entries → z ≡ applied apply c.state entries → i.previous ≡ id_of c.view
       → entry_state opening apply decode f.proposal (h1.trace ++ Installed i ∷ []) ≡ Some z → BeginsWith opening apply decode (h1.trace ++ Installed i ∷ []) f.proposal i
@@ -126,7 +126,7 @@ module _ {S : Type 0} (opening : S) (apply : S → Address → List ℕ → S) (
       subst (λ (a : ViewId). state_with opening apply decode a (list_of f.proposal.creator a t) t ≡ entry_state opening apply decode f.proposal t)
       (same_Some v.id u (sym (ap id_of is) ∙ sym from ∙ left)) now
 
-  -- the maker was told its view's order up to the end of its cut
+  -- the coordinator was told its view's order up to the end of its cut
   ends-at : (h h1 : History) (c : Core S) (v : View) (f : FlushModel) (cuts : Cuts) (i : Install) → c.view ≡ Some v → IsReady opening apply encode decode is_state h c v f cuts
       → GoesOut opening apply encode decode is_state h h1 c (last_entries c v cuts) → (u : ViewId) → id_of c.view ≡ Some u
       → length (list_of c.me u (h1.trace ++ Installed i ∷ [])) ≡ cuts.base u + length (cuts.items u)

@@ -44,9 +44,9 @@ entry-other t i q u other =
     ∙ ap (λ b. option_or (entry_of q u t) (cond b (Some i) None)) (and_right (same_address i.member q) (same_view_id i.view.id u) other)
     ∙ or-none (entry_of q u t)
 
--- the maker goes from where it says
-pub maker-goes : (h : History) (w : ViewId) (p : Address) (e : Install) → same_address p w.creator ≡ true → entry_of p w h.trace ≡ Some e → goes_from h w p ≡ Some e.previous
-maker-goes h w p e mine entry = cond-true (same_address p w.creator) _ _ mine ∙ ap (option_map (λ (z : Install). z.previous)) entry
+-- the coordinator goes from where it says
+pub coordinator-goes : (h : History) (w : ViewId) (p : Address) (e : Install) → same_address p w.creator ≡ true → entry_of p w h.trace ≡ Some e → goes_from h w p ≡ Some e.previous
+coordinator-goes h w p e mine entry = cond-true (same_address p w.creator) _ _ mine ∙ ap (option_map (λ (z : Install). z.previous)) entry
 
 module _ {S : Type 0} (opening : S) (apply : S → Address → List ℕ → S) (encode : S → List ℕ) (decode : List ℕ → Option S) (is_state : S → Type 0) where
   -- ---- states
@@ -64,7 +64,7 @@ module _ {S : Type 0} (opening : S) (apply : S → Address → List ℕ → S) (
       ∙ ap is_some (made-state opening apply decode h.trace i may)
   there-by false h i w e test may x entry = begun-later h.trace i w (x.there w e (sym (entry-other h.trace i w.creator w test) ∙ entry))
 
-  -- the new install is its maker's
+  -- the new install is its coordinator's
   made-entry : (h : History) (i : Install) → MayMake h.trace i → entry_of i.view.id.creator i.view.id (h.trace ++ Installed i ∷ []) ≡ Some i
   made-entry h i may = ap (λ q. entry_of q i.view.id (h.trace ++ Installed i ∷ [])) (sym may.mine) ∙ entry-now h i (may.new i.member)
 
@@ -89,7 +89,7 @@ module _ {S : Type 0} (opening : S) (apply : S → Address → List ℕ → S) (
       subst is_state (same_Some (state_of opening apply decode i.member h.trace) s (sym there ∙ e)) is
   are-by false h i w s test may is x e = x.are w s (sym (other-state opening apply decode h.trace i w test) ∙ e)
 
-  -- what holds of states holds after a maker's install
+  -- what holds of states holds after a coordinator's install
   pub states-made : (h : History) (more : List Posted) (i : Install) → MayMake h.trace i → Later h (made_on h more i) → EachPacket h
       → is_state (state_of opening apply decode i.member h.trace)
       → ((w : ViewId) (q : Address) (j : wire.Install) → install_of w q (h.pool ++ more) ≡ Some j → (install_of w q h.pool ≡ Some j) ⊎ GivesState opening apply encode decode (made_on h more i) q j)
@@ -117,7 +117,7 @@ module _ {S : Type 0} (opening : S) (apply : S → Address → List ℕ → S) (
     pub may : MayMake h.trace i
     pub state : state_of opening apply decode c.me h.trace ≡ z
     pub is : is_state z
-    -- the packets are the maker's, and tell nobody to go into another view
+    -- the packets are the coordinator's, and tell nobody to go into another view
     pub from : (n : ℕ) (m : Posted) → slice_get more n ≡ Some m → IsFrom c.me m
     pub tells : (w : ViewId) (q : Address) → same_view_id i.view.id w ≡ false → install_of w q (h.pool ++ more) ≡ install_of w q h.pool
     pub below : LiesBelow (h.pool ++ more) c.me (Some i.view)
@@ -137,7 +137,7 @@ module _ {S : Type 0} (opening : S) (apply : S → Address → List ℕ → S) (
       let same = same_view_id-true i.view.id w test in
       absurd (let n : false ≡ true = sym (ap (λ (u : ViewId). is_some (entry_of u.creator u t)) (sym same) ∙ ap is_some (may.new i.view.id.creator)) ∙ there in cc)
 
-  -- the packets say nothing new of a view that its maker has installed
+  -- the packets say nothing new of a view that its coordinator has installed
   packed-later : (h : History) (more : List Posted) (i : Install) → MayMake h.trace i
       → ((w : ViewId) (q : Address) → same_view_id i.view.id w ≡ false → install_of w q (h.pool ++ more) ≡ install_of w q h.pool) → Later h (record { pool = h.pool ++ more; trace = h.trace })
   packed-later h more i may tells = later-packets h more (record { same = λ u q there. tells u q (not-it (same_view_id i.view.id u) h.trace i u refl may there) })
@@ -172,7 +172,7 @@ module _ {S : Type 0} (opening : S) (apply : S → Address → List ℕ → S) (
       let mine = same_address-from i.member w.creator may.mine in
       let new : IsEntry k i.member w i = record {
         led = ap is_some entry;
-        from = maker-goes k w i.member i mine (entry-now k2 i (may.new i.member));
+        from = coordinator-goes k w i.member i mine (entry-now k2 i (may.new i.member));
         complete = x.complete;
         together = x.together;
         told = λ other. absurd (let n : true ≡ false = sym mine ∙ other in cc);

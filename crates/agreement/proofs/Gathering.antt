@@ -47,7 +47,7 @@ open-fact opening apply decode is_state h p c v t x o fact = record {
   state = x.state;
 }
 
--- the members of the view are those of its first member's install
+-- the members of the view are those of its coordinator's install
 pub members-are : (t : List Happening) (v : View) → installed_as v.id.creator v.id t ≡ Some v → members_of v.id t ≡ v.members
 members-are t v x = by (entry_of v.id.creator v.id t) x
   where

@@ -1,4 +1,4 @@
--- Who goes into a view as its maker told it agrees with all who went there: on the members, on the messages, on who came along, on the state.
+-- Who goes into a view as its coordinator told it agrees with all who went there: on the members, on the messages, on who came along, on the state.
 use Rattle.std.proofs.Common.{◌≡◌, ℕ, Bool, true, false, cond, Option, Some, None, List, [], ◌∷◌, ◌++◌, length, drop, refl, sym, ap, ◌∙◌, subst, is_some}
 use Rattle.std.specs.Prelude.{slice_get, MatchOption, IsSome, unwrap_or}
 use Rattle.std.specs.Option.{ForSome, option_map, option_and_then, option_eq}
@@ -155,12 +155,12 @@ module _ {S : Type 0} (opening : S) (apply : S → Address → List ℕ → S) (
 
     -- ---- states
 
-    -- the maker's install, and the state with which the view begins
-    maker : (e : Install) × (entry_of w.creator w k.trace ≡ Some e)
-    maker = found (entry_of w.creator w k.trace) x.instruction.led.entered
+    -- the coordinator's install, and the state with which the view begins
+    coordinator : (e : Install) × (entry_of w.creator w k.trace ≡ Some e)
+    coordinator = found (entry_of w.creator w k.trace) x.instruction.led.entered
 
     begun : (z : S) × (entry_state opening apply decode w k.trace ≡ Some z)
-    begun = found (entry_state opening apply decode w k.trace) (x.states.there w maker.0 maker.1)
+    begun = found (entry_state opening apply decode w k.trace) (x.states.there w coordinator.0 coordinator.1)
 
     -- the state that it takes: a given one, else its own
     abbrev taken : S
@@ -172,10 +172,10 @@ module _ {S : Type 0} (opening : S) (apply : S → Address → List ℕ → S) (
         ∙ cond-true (same_address p p) (unwrap_or (option_and_then decode i.state) (state_of opening apply decode p k.trace)) (state_of opening apply decode p k.trace) (same_address-refl p)
         ∙ ap (λ z. unwrap_or (option_and_then decode i.state) z) x.now
 
-    -- who comes along with the maker has the maker's state
+    -- who comes along with the coordinator has the coordinator's state
     along : (e : Install) (v : ViewId) (z : S) → entry_of w.creator w k.trace ≡ Some e → e.previous ≡ Some v → r.previous ≡ Some v → entry_state opening apply decode w k.trace ≡ Some z → s ≡ z
     along e v z entry theirs ours begins =
-        let lists = same-list k.trace p w.creator v (rules-of opening apply decode k x.trace).ordered.order (x.end v ours ∙ sym (fits.maker e v entry theirs ours)) in
+        let lists = same-list k.trace p w.creator v (rules-of opening apply decode k x.trace).ordered.order (x.end v ours ∙ sym (fits.coordinator e v entry theirs ours)) in
         same_Some s z
         (sym (x.in_view v ours) ∙ ap (λ l. state_with opening apply decode v l k.trace) lists ∙ x.states.begins w e entry v theirs ∙ begins)
 
@@ -193,8 +193,8 @@ module _ {S : Type 0} (opening : S) (apply : S → Address → List ℕ → S) (
     -- it takes the state with which the view begins
     takes : ((y : S) → is_state y → decode (encode y) ≡ Some y) → taken ≡ begun.0
     takes reads =
-        takes-by (option_eq same_view_id r.previous maker.0.previous) maker.0 begun.0 reads maker.1 begun.1 refl
-        (x.states.given w p i x.instruction.one maker.0 r maker.1 x.report)
+        takes-by (option_eq same_view_id r.previous coordinator.0.previous) coordinator.0 begun.0 reads coordinator.1 begun.1 refl
+        (x.states.given w p i x.instruction.one coordinator.0 r coordinator.1 x.report)
 
     -- ---- all of it
 
@@ -229,10 +229,10 @@ module _ {S : Type 0} (opening : S) (apply : S → Address → List ℕ → S) (
           ap length (list_of-still p v k.trace (Installed mine) refl) ∙ x.end v from ∙ ap end_of (same_Some i j (sym x.instruction.one ∙ install));
     }
 
-    -- the maker installed the same view
+    -- the coordinator installed the same view
     pub same-view : Later k (installed_on k mine) → installed_as w.creator w (installed_on k mine).trace ≡ Some i.view
     same-view m =
-        let e = maker in
+        let e = coordinator in
         let at = register-stands (enters w.creator w) k.trace e.0 e.1 in
         let parts = and_parts (same_address e.0.member w.creator) (same_view_id e.0.view.id w) at.passes in
         let id = same_view_id-true e.0.view.id w parts.1 in

@@ -55,7 +55,7 @@ pub record Later (h k : History) : Type 0 where
   pub left : (p : Address) (v w : ViewId) (e : Install) → entry_of p w h.trace ≡ Some e → e.previous ≡ Some v → list_of p v k.trace ≡ list_of p v h.trace
   pub count : (p : Address) (v : ViewId) → open_count p v h.trace ≤ open_count p v k.trace
   pub closed : (p : Address) (v : ViewId) → IsClosed p v h.trace → tally_of p v k.trace ≡ tally_of p v h.trace
-  -- once a view's maker has installed it nobody else is told to
+  -- once a view's coordinator has installed it nobody else is told to
   pub installs : (w : ViewId) (q : Address) → is_some (entry_of w.creator w h.trace) ≡ true → install_of w q k.pool ≡ install_of w q h.pool
 
 pub later-refl : (h : History) → Later h h
@@ -96,7 +96,7 @@ later-trans h k l a b = record {
 
 -- ---- packets more
 
--- no packet tells one to go into a view that its maker has installed
+-- no packet tells one to go into a view that its coordinator has installed
 pub record TellsNobodyNew (h : History) (more : List Posted) : Type 0 where
   pub same : (w : ViewId) (q : Address) → is_some (entry_of w.creator w h.trace) ≡ true → install_of w q (h.pool ++ more) ≡ install_of w q h.pool
 

@@ -52,12 +52,12 @@ pub entries-installed : (h : History) (i : Install) → Later h (installed_on h 
 entries-installed h i m each none new q w e there =
     entries-by (entry_of q w h.trace) (enters q w i) h i q w e refl refl m each new (sym (register-push (enters q w) h.trace i) ∙ there)
 
--- ---- by one who is not the view's maker
+-- ---- by one who is not the view's coordinator
 
--- it is no maker's install of its view
-no-maker : (i : Install) (v : ViewId) (b : Bool) → enters v.creator v i ≡ b → same_address i.member i.view.id.creator ≡ false → enters v.creator v i ≡ false
-no-maker i v false test other = test
-no-maker i v true test other =
+-- it is no coordinator's install of its view
+no-coordinator : (i : Install) (v : ViewId) (b : Bool) → enters v.creator v i ≡ b → same_address i.member i.view.id.creator ≡ false → enters v.creator v i ≡ false
+no-coordinator i v false test other = test
+no-coordinator i v true test other =
     let parts = and_parts (same_address i.member v.creator) (same_view_id i.view.id v) test in
     let same : same_address i.member i.view.id.creator ≡ true = ap (λ (u : ViewId). same_address i.member u.creator) (same_view_id-true i.view.id v parts.1) ∙ parts.0 in
     absurd (let n : true ≡ false = sym same ∙ other in cc)
@@ -66,21 +66,21 @@ or-none : (o : Option Install) → option_or o None ≡ o
 or-none None = refl
 or-none (Some e) = refl
 
--- what makers installed is as before
-pub makers-same : (h : History) (i : Install) → same_address i.member i.view.id.creator ≡ false → (w : ViewId) → entry_of w.creator w (installed_on h i).trace ≡ entry_of w.creator w h.trace
-makers-same h i other w =
+-- what coordinators installed is as before
+pub coordinators-same : (h : History) (i : Install) → same_address i.member i.view.id.creator ≡ false → (w : ViewId) → entry_of w.creator w (installed_on h i).trace ≡ entry_of w.creator w h.trace
+coordinators-same h i other w =
     register-push (enters w.creator w) h.trace i
-    ∙ ap (option_or (entry_of w.creator w h.trace)) (cond-false (enters w.creator w i) (Some i) None (no-maker i w (enters w.creator w i) refl other))
+    ∙ ap (option_or (entry_of w.creator w h.trace)) (cond-false (enters w.creator w i) (Some i) None (no-coordinator i w (enters w.creator w i) refl other))
     ∙ or-none (entry_of w.creator w h.trace)
 
 module _ {S : Type 0} (opening : S) (apply : S → Address → List ℕ → S) (encode : S → List ℕ) (decode : List ℕ → Option S) (is_state : S → Type 0) where
-  -- one who is not the view's maker begins no view
+  -- one who is not the view's coordinator begins no view
   pub begun-same : (h : History) (i : Install) → same_address i.member i.view.id.creator ≡ false → (v : ViewId)
       → entry_state opening apply decode v (installed_on h i).trace ≡ entry_state opening apply decode v h.trace
   begun-same h i other v =
-      no-entry opening apply encode decode is_state v h.trace (Installed i) (no-maker i v (enters v.creator v i) refl other) (position_from (installs v.creator v) 0 h.trace) refl
+      no-entry opening apply encode decode is_state v h.trace (Installed i) (no-coordinator i v (enters v.creator v i) refl other) (position_from (installs v.creator v) 0 h.trace) refl
 
   pub states-entered : (h : History) (i : Install) → Later h (installed_on h i) → same_address i.member i.view.id.creator ≡ false → EachPacket h
       → StateFact opening apply encode decode is_state h → StateFact opening apply encode decode is_state (installed_on h i)
   states-entered h i m other each x =
-      states-kept opening apply encode decode is_state h (installed_on h i) m (begun-same h i other) (makers-same h i other) (λ w q. refl) each x
+      states-kept opening apply encode decode is_state h (installed_on h i) m (begun-same h i other) (coordinators-same h i other) (λ w q. refl) each x

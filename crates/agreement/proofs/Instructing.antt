@@ -1,4 +1,4 @@
--- The maker of a view puts out an instruction to each of a list: what is then first put out for each, and what it keeps.
+-- The coordinator of a view puts out an instruction to each of a list: what is then first put out for each, and what it keeps.
 use Rattle.std.proofs.Common.{◌≡◌, ℕ, zero, suc, Bool, true, false, cond, not, Option, Some, None, List, [], ◌∷◌, ◌++◌, map, filter, refl, sym, ap, ◌∙◌, subst, ◌⊎◌, inl, inr}
 use Rattle.std.specs.Prelude.{slice_get}
 use Rattle.std.specs.Option.{option_or}

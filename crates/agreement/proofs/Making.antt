@@ -32,7 +32,7 @@ none-of (Some x) nothing = absurd (nothing x refl)
 abbrev pub IsUnentered : ViewId → List Happening → Type 0
 IsUnentered w t = (q : Address) → entry_of q w t ≡ None
 
--- where its maker has not installed it, nobody has
+-- where its coordinator has not installed it, nobody has
 pub unentered : (h : History) (w : ViewId) → EachEntry h → entry_of w.creator w h.trace ≡ None → IsUnentered w h.trace
 unentered h w each none q =
     none-of (entry_of q w h.trace) (λ e x. let n : false ≡ true = sym (ap is_some none) ∙ (each q w e x).led in absurd cc)
@@ -55,7 +55,7 @@ pub from-none : (v w : ViewId) (t : List Happening) → IsUnentered w t → firs
 from-none v w t new =
     none-of (first_from v w t) (no-first w t (goes v w) new (λ f e. (and_parts (same_view_id f.view.id w) (is_view v f.previous) e).0))
 
--- ---- the maker's install
+-- ---- the coordinator's install
 
 -- what is to be shown of the install by which a member makes a view
 pub record MayMake (t : List Happening) (i : Install) : Type 0 where
@@ -152,7 +152,7 @@ module _ {S : Type 0} (opening : S) (apply : S → Address → List ℕ → S) (
         );
       }
 
-  -- its maker's state stays as it was
+  -- its coordinator's state stays as it was
   pub kept-state : (t : List Happening) (i : Install) → i.given ≡ None → state_of opening apply decode i.member (t ++ Installed i ∷ []) ≡ state_of opening apply decode i.member t
   kept-state t i none =
       let s = state_of opening apply decode i.member t in
@@ -160,7 +160,7 @@ module _ {S : Type 0} (opening : S) (apply : S → Address → List ℕ → S) (
       ∙ cond-true (same_address i.member i.member) (unwrap_or (option_and_then decode i.given) s) s (same_address-refl i.member)
       ∙ ap (λ g. unwrap_or (option_and_then decode g) s) none
 
-  -- the view begins with the state that its maker has
+  -- the view begins with the state that its coordinator has
   pub made-state : (t : List Happening) (i : Install) → MayMake t i → entry_state opening apply decode i.view.id (t ++ Installed i ∷ []) ≡ Some (state_of opening apply decode i.member t)
   made-state t i x =
       let w = i.view.id in

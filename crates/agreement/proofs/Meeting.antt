@@ -23,7 +23,7 @@ pub found : {X : Type 0} (o : Option X) → is_some o ≡ true → (x : X) × (o
 found None e = absurd (let n : false ≡ true = e in cc)
 found (Some x) e = (x, refl)
 
--- who is no maker goes from where it reported
+-- who is no coordinator goes from where it reported
 pub goes-reported : (h : History) (w : ViewId) (q : Address) (r : Report) → same_address q w.creator ≡ false → report_of q w h.pool ≡ Some r → goes_from h w q ≡ Some r.previous
 goes-reported h w q r other report = cond-false (same_address q w.creator) _ _ other ∙ ap (option_map (λ (z : Report). z.previous)) report
 
@@ -33,8 +33,8 @@ goes-reported h w q r other report = cond-false (same_address q w.creator) _ _ o
 same-end-by : (b : Bool) (h : History) (w v : ViewId) (p q : Address) (i : wire.Install) (r : Report) (f : Install) → same_address q w.creator ≡ b → IsLed h w i → IsFitting h w p i r
     → r.previous ≡ Some v → IsEntry h q w f → entry_of q w h.trace ≡ Some f → f.previous ≡ Some v → length (list_of q v h.trace) ≡ end_of i
 same-end-by true h w v p q i r f test led fits mine x entry from =
-    let maker = same_address-true q w.creator test in
-    ap (λ z. length (list_of z v h.trace)) maker ∙ fits.maker f v (ap (λ z. entry_of z w h.trace) (sym maker) ∙ entry) from mine
+    let coordinator = same_address-true q w.creator test in
+    ap (λ z. length (list_of z v h.trace)) coordinator ∙ fits.coordinator f v (ap (λ z. entry_of z w h.trace) (sym coordinator) ∙ entry) from mine
 same-end-by false h w v p q i r f test led fits mine x entry from =
     let j = found (install_of w q h.pool) (x.told test) in
     let s = found (report_of q w h.pool) (led.answered q j.0 j.1) in

@@ -74,19 +74,19 @@ begins-later opening apply decode h k w e m kept entry there x v from =
     (x v from) there
     ∙ sym (state-same opening apply decode w h k kept there)
 
--- where no view's maker installed anything, and nobody was told to
+-- where no view's coordinator installed anything, and nobody was told to
 pub states-kept : {S : Type 0} (opening : S) (apply : S → Address → List ℕ → S) (encode : S → List ℕ) (decode : List ℕ → Option S) (is_state : S → Type 0) (h k : History) → Later h k
     → ((v : ViewId) → entry_state opening apply decode v k.trace ≡ entry_state opening apply decode v h.trace)
     → ((w : ViewId) → entry_of w.creator w k.trace ≡ entry_of w.creator w h.trace)
     → ((w : ViewId) (q : Address) → histories.install_of w q k.pool ≡ histories.install_of w q h.pool) → EachPacket h
     → StateFact opening apply encode decode is_state h → StateFact opening apply encode decode is_state k
-states-kept opening apply encode decode is_state h k m same makers told each x = record {
-  there = λ w e entry. ap is_some (same w) ∙ x.there w e (sym (makers w) ∙ entry);
+states-kept opening apply encode decode is_state h k m same coordinators told each x = record {
+  there = λ w e entry. ap is_some (same w) ∙ x.there w e (sym (coordinators w) ∙ entry);
   given = λ w q i install.
       let was = sym (told w q) ∙ install in
       given-later opening apply encode decode h k w q i m (λ v s y. same v ∙ y) each (λ e y. x.there i.view.id e y) was (x.given w q i was);
   begins = λ w e entry.
-      let was = sym (makers w) ∙ entry in
+      let was = sym (coordinators w) ∙ entry in
       begins-later opening apply decode h k w e m (λ v s y. same v ∙ y) was (x.there w e was) (x.begins w e was);
   are = λ w s y. x.are w s (sym (same w) ∙ y);
 }

@@ -14,7 +14,7 @@ use Rattle.trace_props.proofs.Places.{IsBeginningOf-at}
 use Rattle.trace_props.proofs.Observing.{same_address-refl}
 use Rattle.agreement.specs.Words.{entry_for, message_for, list_of, order_of}
 
--- an entry of the order is the message that its first member was told there
+-- an entry of the order is the message that its coordinator was told there
 message-at : (l : List Message) (k : ℕ) (e : Entry) → slice_get (map entry_for l) k ≡ Some e → slice_get l k ≡ Some (message_for e)
 message-at [] k e at = absurd (none-some e at)
 message-at (m ∷ l) zero e at = ap Some (ap message_for (same_Some (entry_for m) e at))

@@ -1,4 +1,4 @@
--- The act Orders: a view's first member orders the next message of a sender, and is told it by that.
+-- The act Orders: a view's coordinator orders the next message of a sender, and is told it by that.
 use Rattle.std.proofs.Common.{◌≡◌, ℕ, ◌+◌, ◌<◌, ◌≤◌, Bool, true, false, cond, Option, Some, List, [], ◌∷◌, ◌++◌, length, refl, sym, ap, ◌∙◌, subst, arith, is_some, nat_eq}
 use Rattle.std.specs.Prelude.{slice_get}
 use Rattle.std.specs.Option.{option_map}
@@ -41,7 +41,7 @@ use Rattle.agreement.proofs.Catching.{Law}
 
 -- ---- what may be ordered
 
--- what is needed of a message that the first member orders: it was sent, and it is its sender's next there
+-- what is needed of a message that the coordinator orders: it was sent, and it is its sender's next there
 record IsDue (t : List Happening) (p : Address) (v : ViewId) (m : Message) : Type 0 where
   number : m.number ≡ length (own m.sender (delivered_in p v t)) + 1
   sent : slice_get (sent_in m.sender v t) (length (own m.sender (delivered_in p v t))) ≡ Some (numbered m)
@@ -56,7 +56,7 @@ due-of t c v e waiting held waits ordered a =
 
 -- ---- what is held and counted afterwards
 
--- at the view's first member the order is its own list, so it ends with the new entry
+-- at the view's coordinator the order is its own list, so it ends with the new entry
 ordered-last : (t u : List Happening) (p : Address) (v : ViewId) (d : ℕ) (e : Entry) → same_address p v.creator ≡ true → list_of p v u ≡ list_of p v t ++ e ∷ [] → length (list_of p v t) ≡ d
     → IsOrdered u v (d + 1) e
 ordered-last t u p v d e first list told k number =

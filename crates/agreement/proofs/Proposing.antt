@@ -131,8 +131,8 @@ unrefused false false false true x y z u e = refl
 unrefused false false false false x y z u e = absurd (none-some u (sym e))
 
 -- who makes a view stands in its list
-pub maker-in : (w : ViewId) (list : List Address) → view_refusal w list ≡ None → stands_in w.creator list ≡ true
-maker-in w list e =
+pub coordinator-in : (w : ViewId) (list : List Address) → view_refusal w list ≡ None → stands_in w.creator list ≡ true
+coordinator-in w list e =
     first-in w.creator list
     (unrefused (nat_eq (length list) 0) (nat_lt MEMBERS (length list)) (not (is_distinct list)) (begins_with w.creator list) Empty TooMany Repeated NotFirst e)
 
@@ -178,7 +178,7 @@ module _ {S : Type 0} (opening : S) (apply : S → Address → List ℕ → S) (
           inside = λ e. absurd (let n : false ≡ true = e in cc);
           is = λ e. absurd (let n : false ≡ true = e in cc);
           above = λ e v y. view-below c.installed p c.promise c.view c.installed w refl x.promise a.above v y;
-          listed = λ u e. subst (λ (z : View). stands_in p z.members ≡ true) (same_Some w u e) (ap (λ z. stands_in z w.members) (sym a.own) ∙ maker-in w.id w.members a.view);
+          listed = λ u e. subst (λ (z : View). stands_in p z.members ≡ true) (same_Some w u e) (ap (λ z. stands_in z w.members) (sym a.own) ∙ coordinator-in w.id w.members a.view);
         };
         announced = λ u e other.
             absurd (let n : true ≡ false = sym mine ∙ ap (λ (z : View). same_address z.id.creator p) (same_Some w u e) ∙ other in cc);

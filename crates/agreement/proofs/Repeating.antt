@@ -92,7 +92,7 @@ module _ {S : Type 0} (opening : S) (apply : S → Address → List ℕ → S) (
       let f = x.view u.0 u.1 in
       let leads : c.me ≡ v.creator = same_address-true c.me v.creator a.1 in
       subst (λ (w : ViewId). IsOrder h.trace c.me w g e) u.2 (record {
-        leader = record { own = ap (λ (w : ViewId). w.creator) u.2 ∙ sym leads; entered = first-entered h.trace c.me u.0 f.inside.own };
+        coordinator = record { own = ap (λ (w : ViewId). w.creator) u.2 ∙ sym leads; entered = first-entered h.trace c.me u.0 f.inside.own };
         order = f.window.order g e a.2;
         near = λ q there. let near = f.window.near g (ap is_some a.2) in let told = f.window.told q there in omega arith;
       })
@@ -110,7 +110,7 @@ module _ {S : Type 0} (opening : S) (apply : S → Address → List ℕ → S) (
       let f = x.view u.0 u.1 in
       let leads : c.me ≡ v.creator = same_address-true c.me v.creator a.1 in
       subst (λ (w : ViewId). IsStatus h.trace c.me w s.stable) u.2 (record {
-        leader = record { own = ap (λ (w : ViewId). w.creator) u.2 ∙ sym leads; entered = first-entered h.trace c.me u.0 f.inside.own };
+        coordinator = record { own = ap (λ (w : ViewId). w.creator) u.2 ∙ sym leads; entered = first-entered h.trace c.me u.0 f.inside.own };
         all = λ q there. let told = f.window.told q there in let low = a.2 in omega arith;
       })
 

@@ -14,7 +14,7 @@ use Rattle.trace_props.specs.declared.happening.Install.{Install}
 use Rattle.trace_props.specs.Observed.{entry_of}
 use Rattle.agreement.specs.Words.{Tally, members_of, open_count}
 use Rattle.agreement.specs.Histories.{Posted, History, report_of, goes_from, goes_with}
-use Rattle.agreement.specs.Packets.{IsOrdered, IsSent, AllHave, HoldsOrder, IsProposal, TellsOf, IsAnswer, IsCutOf, AllAnswered, IsLed, IsFitting, IsInstruction, IsLeader, IsOrder, IsStatus, BodyFact, PacketFact, IsEntry}
+use Rattle.agreement.specs.Packets.{IsOrdered, IsSent, AllHave, HoldsOrder, IsProposal, TellsOf, IsAnswer, IsCutOf, AllAnswered, IsLed, IsFitting, IsInstruction, IsCoordinator, IsOrder, IsStatus, BodyFact, PacketFact, IsEntry}
 use Rattle.agreement.proofs.Lists.{filter-same}
 use Rattle.agreement.proofs.Growing.{Later, entered-later}
 
@@ -45,7 +45,7 @@ in-members : (q : Address) (o : Option Install) → stands_in q (option_map_or (
 in-members q None s = absurd (let n : false ≡ true = s in cc)
 in-members q (Some e) s = refl
 
--- who is among the members of a view is so because its first member installed it
+-- who is among the members of a view is so because its coordinator installed it
 pub members-entered : (q : Address) (v : ViewId) (t : List Happening) → stands_in q (members_of v t) ≡ true → is_some (entry_of v.creator v t) ≡ true
 members-entered q v t s = in-members q (entry_of v.creator v t) s
 
@@ -143,9 +143,9 @@ fitting-later h k w q i r m led x = record {
   same = λ n j s install report from.
       let was = sym (m.installs w n led.entered) ∙ install in
       x.same n j s was (sym (report-same h k n w m (led.answered n j was)) ∙ report) from;
-  maker = λ e v entry from came.
+  coordinator = λ e v entry from came.
       let was = sym (entry-same h k w.creator w m led.entered) ∙ entry in
-      ap length (m.left w.creator v w e was from) ∙ x.maker e v was from came;
+      ap length (m.left w.creator v w e was from) ∙ x.coordinator e v was from came;
 }
 
 pub instruction-later : (h k : History) (p q : Address) (i : wire.Install) → Later h k → IsInstruction h p q i → IsInstruction k p q i
@@ -162,23 +162,23 @@ instruction-later h k p q i m x =
 
 -- ---- the order's packets
 
-pub leader-later : (h k : History) (p : Address) (v : ViewId) → Later h k → IsLeader h.trace p v → IsLeader k.trace p v
-leader-later h k p v m x = record { own = x.own; entered = entered-later h k p v m x.entered }
+pub coordinator-later : (h k : History) (p : Address) (v : ViewId) → Later h k → IsCoordinator h.trace p v → IsCoordinator k.trace p v
+coordinator-later h k p v m x = record { own = x.own; entered = entered-later h k p v m x.entered }
 
-leader-entered : (t : List Happening) (p : Address) (v : ViewId) → IsLeader t p v → is_some (entry_of v.creator v t) ≡ true
-leader-entered t p v x = ap (λ q. is_some (entry_of q v t)) x.own ∙ x.entered
+coordinator-entered : (t : List Happening) (p : Address) (v : ViewId) → IsCoordinator t p v → is_some (entry_of v.creator v t) ≡ true
+coordinator-entered t p v x = ap (λ q. is_some (entry_of q v t)) x.own ∙ x.entered
 
 pub order-later : (h k : History) (p : Address) (v : ViewId) (g : ℕ) (e : Entry) → Later h k → IsOrder h.trace p v g e → IsOrder k.trace p v g e
 order-later h k p v g e m x = record {
-  leader = leader-later h k p v m x.leader;
+  coordinator = coordinator-later h k p v m x.coordinator;
   order = ordered-later h k v g e m x.order;
-  near = all_have-later h k v g _ m (leader-entered h.trace p v x.leader) x.near;
+  near = all_have-later h k v g _ m (coordinator-entered h.trace p v x.coordinator) x.near;
 }
 
 pub status-later : (h k : History) (p : Address) (v : ViewId) (n : ℕ) → Later h k → IsStatus h.trace p v n → IsStatus k.trace p v n
 status-later h k p v n m x = record {
-  leader = leader-later h k p v m x.leader;
-  all = all_have-later h k v n 0 m (leader-entered h.trace p v x.leader) x.all;
+  coordinator = coordinator-later h k p v m x.coordinator;
+  all = all_have-later h k v n 0 m (coordinator-entered h.trace p v x.coordinator) x.all;
 }
 
 ack-later : (h k : History) (p : Address) (v : ViewId) (n : ℕ) → Later h k → n ≤ open_count p v h.trace → n ≤ open_count p v k.trace

@@ -135,7 +135,7 @@ pub record MaySend {S : Type 0} (c : Core S) (v : View) (payload : List ℕ) : T
   pub open_in : IsOpenIn c v
   pub short : length payload ≤ PAYLOAD
 
--- at the first member, of a member of the view, past what was ordered of it; it came as a FORWARD or is an own one that is outstanding
+-- at the coordinator, of a member of the view, past what was ordered of it; it came as a FORWARD or is an own one that is outstanding
 pub record MayQueue {S : Type 0} (came : Option Posted) (c : Core S) (v : View) (e : Entry) (waiting : List Entry) : Type 0 where
   pub open_in : IsOpenIn c v
   pub first : same_address c.me v.id.creator ≡ true
@@ -145,7 +145,7 @@ pub record MayQueue {S : Type 0} (came : Option Posted) (c : Core S) (v : View) 
       (Says came c e.sender (bodies.Forward v.id e.number e.payload))
   pub fewer : (k : ℕ) (x : Entry) → slice_get waiting k ≡ Some x → Contains (c.traffic.waiting ++ e ∷ []) x
 
--- at the first member, the next of its sender, while fewer lie past the stable ones than the window has places
+-- at the coordinator, the next of its sender, while fewer lie past the stable ones than the window has places
 pub record MayOrder {S : Type 0} (c : Core S) (v : View) (e : Entry) (waiting : List Entry) (held : List (ℕ × Entry)) : Type 0 where
   pub open_in : IsOpenIn c v
   pub first : same_address c.me v.id.creator ≡ true
@@ -161,7 +161,7 @@ pub record MayHear {S : Type 0} (came : Option Posted) (c : Core S) (v : View) (
   pub member : stands_in q v.members ≡ true
   pub told : MatchBool (same_address q c.me) (n ≤ c.traffic.delivered) (Says came c q (bodies.Ack v.id n))
 
--- why a count is stable: each member of the view has acknowledged it; or the first member says so, or orders a number that lies so far ahead
+-- why a count is stable: each member of the view has acknowledged it; or the coordinator says so, or orders a number that lies so far ahead
 pub data IsStable {S : Type 0} (came : Option Posted) (c : Core S) (v : View) (t : ℕ) : Type 0 where
   All : same_address c.me v.id.creator ≡ true → ((q : Address) → stands_in q v.members ≡ true → t ≤ c.traffic.acks q) → IsStable came c v t
   Ordered : (g : ℕ) (e : Entry) → Says came c v.id.creator (bodies.Order v.id g e) → t + WINDOW ≤ g → IsStable came c v t
@@ -293,7 +293,7 @@ base_for cuts v = option_map_or cuts.base v 0
 abbrev pub items_for : Cuts → Option ViewId → List Entry
 items_for cuts v = option_map_or cuts.items v []
 
--- the instruction to go into the proposal of a flush, for one who reported this: with a state if it comes from another view than the flush's maker
+-- the instruction to go into the proposal of a flush, for one who reported this: with a state if it comes from another view than the flush's coordinator
 abbrev pub instruction : FlushModel → Cuts → ViewId → List ℕ → Address → Report → wire.Install
 instruction f cuts v state q r = record {
   view = proposed f;

@@ -13,7 +13,7 @@ use Rattle.trace_props.specs.Observed.{own}
 use Rattle.agreement.specs.Words.{message_for}
 
 -- what is kept of the current view: the counts of messages that are stable, delivered and sent; what is held, by number; the own messages that
--- were sent and not delivered; and at the first member, what each has acknowledged, how many of each were ordered, and what waits to be
+-- were sent and not delivered; and at the coordinator, what each has acknowledged, how many of each were ordered, and what waits to be
 pub record Traffic : Type 0 where
   pub stable : ℕ
   pub delivered : ℕ

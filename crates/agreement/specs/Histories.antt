@@ -91,7 +91,7 @@ report_of p w pool = first_of (report_by p w) pool
 unfoldable pub install_of : ViewId → Address → List Posted → Option wire.Install
 install_of w q pool = first_of (install_to q w) pool
 
--- the previous view with which a member goes into a view, as it reported, or as the view's first member installed; None where neither is there
+-- the previous view with which a member goes into a view, as it reported, or as the view's coordinator installed; None where neither is there
 abbrev pub goes_from : History → ViewId → Address → Option (Option ViewId)
 goes_from h w q =
     if same_address q w.creator then option_map (λ e. e.previous) (entry_of q w h.trace)

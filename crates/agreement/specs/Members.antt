@@ -34,7 +34,7 @@ pub record HasSeat (t : List Happening) (p me : Address) (view : Option View) (i
 abbrev pub installed_as : Address → ViewId → List Happening → Option View
 installed_as p v t = option_map (λ e. e.view) (entry_of p v t)
 
--- it installed it, so did the view's first member, and it is one of the members
+-- it installed it, so did the view's coordinator, and it is one of the members
 pub record IsInside (t : List Happening) (p : Address) (v : View) : Type 0 where
   pub own : installed_as p v.id t ≡ Some v
   pub first : installed_as v.id.creator v.id t ≡ Some v
@@ -108,7 +108,7 @@ pub record HasWindow (t : List Happening) (v : ViewId) (stable delivered : ℕ) 
   pub near : (g : ℕ) → is_some (held_at g held) ≡ true → g ≤ stable + WINDOW
   pub told : AllHave t v stable 0
 
--- what the first member knows of others: acknowledgements are at most what was told, what waits was sent, what was ordered is counted
+-- what the coordinator knows of others: acknowledgements are at most what was told, what waits was sent, what was ordered is counted
 abbrev pub HasAcks : List Happening → ViewId → (Address → ℕ) → Type 0
 HasAcks t v acks = (q : Address) → acks q ≤ open_count q v t
 

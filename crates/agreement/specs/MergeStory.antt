@@ -33,7 +33,7 @@ second_half = record { id = record { counter = 5; creator = three }; members = t
 abbrev pub view_of_all : View
 view_of_all = record { id = record { counter = 7; creator = one }; members = one ∷ two ∷ three ∷ four ∷ [] }
 
--- of the first member, in its half
+-- of the coordinator, in its half
 abbrev pub entry_of_one : Entry
 entry_of_one = record { sender = one; number = 1; payload = message_a }
 

@@ -60,7 +60,7 @@ pub record TellsOf (t : List Happening) (p : Address) (r : Report) (v : ViewId) 
   pub order : HoldsOrder t v r.held
   pub stable : AllHave t v r.stable 0
 
--- its source is not the maker, reports once, and says what is so
+-- its source is not the coordinator, reports once, and says what is so
 pub record IsAnswer (h : History) (p : Address) (w : ViewId) (r : Report) : Type 0 where
   pub other : same_address p w.creator ≡ false
   pub one : report_of p w h.pool ≡ Some r
@@ -82,7 +82,7 @@ end_of i = i.base + length i.items
 abbrev pub AllAnswered : History → ViewId → List Address → Type 0
 AllAnswered h w members = (m : Address) → stands_in m members ≡ true → is_some (goes_from h w m) ≡ true
 
--- the maker of the view is in it, with the same members and from some view; all have reported, and so have those who are told to go into it
+-- the coordinator of the view is in it, with the same members and from some view; all have reported, and so have those who are told to go into it
 pub record IsLed (h : History) (w : ViewId) (i : wire.Install) : Type 0 where
   pub entered : is_some (entry_of w.creator w h.trace) ≡ true
   pub members : members_of w h.trace ≡ i.view.members
@@ -96,8 +96,8 @@ pub record IsFitting (h : History) (w : ViewId) (q : Address) (i : wire.Install)
   pub together : i.together ≡ filter (goes_with h w r.previous) i.view.members
   -- all who come from there go on at one end
   pub same : (m : Address) (j : wire.Install) (s : Report) → install_of w m h.pool ≡ Some j → report_of m w h.pool ≡ Some s → s.previous ≡ r.previous → end_of j ≡ end_of i
-  -- the maker too
-  pub maker : (e : Install) (v : ViewId) → entry_of w.creator w h.trace ≡ Some e → e.previous ≡ Some v → r.previous ≡ Some v
+  -- the coordinator too
+  pub coordinator : (e : Install) (v : ViewId) → entry_of w.creator w h.trace ≡ Some e → e.previous ≡ Some v → r.previous ≡ Some v
       → length (list_of w.creator v h.trace) ≡ end_of i
 
 -- its source made the view, sends one instruction to each, and it fits what that one reported
@@ -111,18 +111,18 @@ pub record IsInstruction (h : History) (p q : Address) (i : wire.Install) : Type
 
 -- ---- packets of the order
 
--- the first member of the view, which is in it, says this
-pub record IsLeader (t : List Happening) (p : Address) (v : ViewId) : Type 0 where
+-- the coordinator of the view, which is in it, says this
+pub record IsCoordinator (t : List Happening) (p : Address) (v : ViewId) : Type 0 where
   pub own : v.creator ≡ p
   pub entered : is_some (entry_of p v t) ≡ true
 
 pub record IsOrder (t : List Happening) (p : Address) (v : ViewId) (g : ℕ) (e : Entry) : Type 0 where
-  pub leader : IsLeader t p v
+  pub coordinator : IsCoordinator t p v
   pub order : IsOrdered t v g e
   pub near : AllHave t v g WINDOW
 
 pub record IsStatus (t : List Happening) (p : Address) (v : ViewId) (stable : ℕ) : Type 0 where
-  pub leader : IsLeader t p v
+  pub coordinator : IsCoordinator t p v
   pub all : AllHave t v stable 0
 
 -- ---- what holds of a packet from one address to another
@@ -148,12 +148,12 @@ PacketFact h m = BodyFact h m.source m.destination m.body
 -- ---- what holds of a member's install of a view
 
 pub record IsEntry (h : History) (q : Address) (w : ViewId) (e : Install) : Type 0 where
-  -- the maker has installed it
+  -- the coordinator has installed it
   pub led : is_some (entry_of w.creator w h.trace) ≡ true
   pub from : goes_from h w q ≡ Some e.previous
   pub complete : AllAnswered h w e.view.members
   pub together : e.together ≡ filter (goes_with h w e.previous) e.view.members
-  -- all but the maker were told to, and had then been told the order up to its end
+  -- all but the coordinator were told to, and had then been told the order up to its end
   pub told : same_address q w.creator ≡ false → is_some (install_of w q h.pool) ≡ true
   pub end : (i : wire.Install) (v : ViewId) → same_address q w.creator ≡ false → install_of w q h.pool ≡ Some i → e.previous ≡ Some v
       → length (list_of q v h.trace) ≡ end_of i
@@ -164,12 +164,12 @@ pub record IsEntry (h : History) (q : Address) (w : ViewId) (e : Install) : Type
 abbrev pub state_with : {S : Type 0} → S → (S → Address → List ℕ → S) → (List ℕ → Option S) → ViewId → List Entry → List Happening → Option S
 state_with opening apply decode v entries t = option_map (λ s. applied apply s entries) (entry_state opening apply decode v t)
 
--- an INSTALL gives the state with which its view begins to all who come from another view than its maker
+-- an INSTALL gives the state with which its view begins to all who come from another view than its coordinator
 abbrev pub GivesState : {S : Type 0} → S → (S → Address → List ℕ → S) → (S → List ℕ) → (List ℕ → Option S) → History → Address → wire.Install → Type 0
 GivesState opening apply encode decode h q i = (e : Install) (r : Report) → entry_of i.view.id.creator i.view.id h.trace ≡ Some e → report_of q i.view.id h.pool ≡ Some r
     → i.state ≡ (if option_eq same_view_id r.previous e.previous then None else option_map encode (entry_state opening apply decode i.view.id h.trace))
 
--- a view begins with the state that its maker had at the end of the view from which it came
+-- a view begins with the state that its coordinator had at the end of the view from which it came
 abbrev pub BeginsWith : {S : Type 0} → S → (S → Address → List ℕ → S) → (List ℕ → Option S) → List Happening → ViewId → Install → Type 0
 BeginsWith opening apply decode t w e = (v : ViewId) → e.previous ≡ Some v
     → state_with opening apply decode v (list_of w.creator v t) t ≡ entry_state opening apply decode w t

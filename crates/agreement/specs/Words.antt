@@ -22,11 +22,11 @@ message_for e = record { sender = e.sender; number = e.number; payload = e.paylo
 unfoldable pub list_of : Address → ViewId → List Happening → List Entry
 list_of p v t = map entry_for (delivered_in p v t)
 
--- the one order of a view: what its first member was told
+-- the one order of a view: what its coordinator was told
 abbrev pub order_of : ViewId → List Happening → List Entry
 order_of v t = list_of v.creator v t
 
--- the members of a view, as its first member installed it; nobody before that
+-- the members of a view, as its coordinator installed it; nobody before that
 abbrev pub members_of : ViewId → List Happening → List Address
 members_of v t = option_map_or (λ i. i.view.members) (entry_of v.creator v t) []
 

@@ -1,6 +1,8 @@
 ghost use Rattle.std.specs.Prelude.{◌≡◌};
 ghost use Rattle.member.specs.Errors.{number_of};
+ghost use Rattle.member.specs.declared.error.Error.TheVariants as error;
 
+use std::alloc::AllocError;
 use wire::WireError;
 
 /// Why a member refused an input (docs/FORMATS.md, "Refusals"; docs/WIRE.md, "Reading, and which refusal comes first"). After 6 and 7 it has
@@ -25,6 +27,14 @@ pub enum Error {
     Exhausted,
     /// 20 to 26: the bytes spell no packet.
     Wire(WireError),
+}
+
+impl From<AllocError> for Error {
+    ghost from_gives = { λ _ e. e ≡ error.Memory };
+
+    fn from(_refused: AllocError) -> Error {
+        Error::Memory
+    }
 }
 
 impl Error {

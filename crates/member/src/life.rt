@@ -175,9 +175,7 @@ impl<R: Receiver> Life<R> {
         match self.stage {
             Stage::Joining(_) | Stage::Alone { .. } => Err(Error::AlreadyConnected),
             Stage::Idle => {
-                let Ok((view, output)) = first_view(who.alloc, who.address) else {
-                    return Err(Error::Memory);
-                };
+                let (view, output) = first_view(who.alloc, who.address)?;
                 self.receiver.view_accepted(&view);
                 self.stage = Stage::Alone { view, sent: 0 };
                 Ok(output)
@@ -192,9 +190,7 @@ impl<R: Receiver> Life<R> {
         match self.stage {
             Stage::Alone { .. } => Err(Error::AlreadyConnected),
             Stage::Idle | Stage::Joining(_) => {
-                let Ok(output) = who.asking(contact) else {
-                    return Err(Error::Memory);
-                };
+                let output = who.asking(contact)?;
                 self.stage = Stage::Joining(contact);
                 Ok(output)
             }
@@ -215,12 +211,8 @@ impl<R: Receiver> Life<R> {
                     return Err(Error::Exhausted);
                 }
                 let number = *sent + 1;
-                let Ok(output) = said(who.alloc, who.address, view.id(), number, payload) else {
-                    return Err(Error::Memory);
-                };
-                if self.receiver.receive(who.address, payload).is_err() {
-                    return Err(Error::Memory);
-                }
+                let output = said(who.alloc, who.address, view.id(), number, payload)?;
+                self.receiver.receive(who.address, payload)?;
                 *sent = number;
                 Ok(output)
             }
@@ -276,20 +268,17 @@ impl<R: Receiver> Life<R> {
         let Some(contact) = self.contact() else {
             return Ok(Output::nothing(who.alloc));
         };
-        let Ok(output) = who.asking(contact) else {
-            return Err(Error::Memory);
-        };
-        Ok(output)
+        Ok(who.asking(contact)?)
     }
 
     // Leaves the group.
     fn leave(&self, who: &Identity) -> Result<Output, Error>
         ensures { Gives R.apply who.now.address who.now.group self.now input.Leave result self.now }
     {
-        match Output::happening(who.alloc, Happening::Left(who.address)) {
-            Ok(output) => Ok(output),
-            Err(_) => Err(Error::Memory),
-        }
+        Ok(Output::happening(
+            who.alloc,
+            Happening::Left(who.address),
+        )?)
     }
 
     // What it does on an input, before it ends.

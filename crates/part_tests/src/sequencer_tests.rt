@@ -45,7 +45,12 @@ fn first_byte(payload: &KeptPayload) -> Option<u8> {
 fn ordered(orderer: &mut Orderer, stable: u64) -> Option<(u64, u16, u64, u8)> {
     let (g, entry) = orderer.ready(stable)?;
     let byte = first_byte(&entry.payload)?;
-    Some((g.get(), entry.sender.node().number(), entry.number.get(), byte))
+    Some((
+        g.get(),
+        entry.sender.node().number(),
+        entry.number.get(),
+        byte,
+    ))
 }
 
 /// The number that a message of one byte is taken under; 100 and the number of the refusal where it is refused.
@@ -130,9 +135,7 @@ fn pushed_or_given_back(alloc: Global, forwards: &mut Forwards, byte: u8) -> boo
             number.get() == before.saturating_add(1) && forwards.sent() == number.get()
         }
         Err((payload, refusal)) => {
-            first_byte(&payload) == Some(byte)
-                && refusal.number() == 7
-                && forwards.sent() == before
+            first_byte(&payload) == Some(byte) && refusal.number() == 7 && forwards.sent() == before
         }
     }
 }

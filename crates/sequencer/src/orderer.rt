@@ -11,7 +11,7 @@ use std::alloc::{AllocError, Global};
 use std::marker::Model;
 use view::View;
 
-/// The orderer of a view, which its first member keeps: how many messages it ordered, 0 to 2^62, and for each member how many
+/// The orderer of a view, which its coordinator keeps: how many messages it ordered, 0 to 2^62, and for each member how many
 /// of its messages were ordered and which wait (docs/PROTOCOL.md, "Order").
 #[derive(Debug, Drop)]
 pub struct Orderer {

@@ -13,7 +13,7 @@ pub record KnowsStates {S : Type 0} (opening : S) (apply : S → Address → Lis
   pub entering_known : (v : ViewId) → entering v ≡ option_map encode (entry_state opening apply decode v t)
   pub are_entered : (v : ViewId) (s : S) → entry_state opening apply decode v t ≡ Some s → is_state s
 
--- a view is entered: by its first member first, by all others with equal bytes
+-- a view is entered: by its coordinator first, by all others with equal bytes
 abbrev pub EntersWith : (old new : ViewId → Option (List ℕ)) → ViewId → Bool → List ℕ → Bool → Type 0
 EntersWith old new view first bytes ok =
     MatchOption (old view)

@@ -1,4 +1,4 @@
--- State of entry: it goes one happening further exactly when who enters is the view's first member, or has the state with which that one entered.
+-- State of entry: it goes one happening further exactly when who enters is the view's coordinator, or has the state with which that one entered.
 use Rattle.std.proofs.Common.{◌≡◌, ℕ, ◌+◌, ◌<◌, Bool, true, false, ◌&&◌, cond, List, [], ◌∷◌, ◌++◌, length, take, Option, Some, None, MatchOption, option_and_then, sym, refl, ap, ◌∙◌, subst, arith}
 use Rattle.std.specs.Option.{option_or}
 use Rattle.std.specs.List.{position_from}
@@ -176,7 +176,7 @@ entry-by opening apply decode v t h (Some k) e =
     ∙ entry_state-some opening apply decode v t k e
     ∙ ap (λ o. option_or o (cond (installs v.creator v h) (Some (state_of opening apply decode v.creator (t ++ h ∷ []))) None)) (sym (entry_state-some opening apply decode v t k e))
 
--- the first install of a view by its first member makes the state of entry
+-- the first install of a view by its coordinator makes the state of entry
 pub entry_state-push : {S : Type 0} (opening : S) (apply : S → Address → List ℕ → S) (decode : List ℕ → Option S) (v : ViewId) (t : List Happening) (h : Happening)
     → entry_state opening apply decode v (t ++ h ∷ []) ≡ option_or (entry_state opening apply decode v t) (cond (installs v.creator v h) (Some (state_of opening apply decode v.creator (t ++ h ∷ []))) None)
 entry_state-push opening apply decode v t h = entry-by opening apply decode v t h (position_from (installs v.creator v) 0 t) refl

@@ -206,14 +206,14 @@ messages-push t h r m = record {
 
 -- ONE ORDER
 
--- who is told nothing stays at a beginning of what the first member was told
+-- who is told nothing stays at a beginning of what the coordinator was told
 order-still : (t : List Happening) (h : Happening) (p : Address) (v : ViewId) → HasOneOrder t → told p v h ≡ None → IsBeginningOf (delivered_in p v (t ++ h ∷ [])) (delivered_in v.creator v (t ++ h ∷ []))
 order-still t h p v r e =
     subst (λ (ms : List Message). IsBeginningOf ms (delivered_in v.creator v (t ++ h ∷ []))) (sym (delivered_in-still p v t h e))
     (subst (λ (ns : List Message). IsBeginningOf (delivered_in p v t) ns) (sym (filter_map-append (told v.creator v) t (h ∷ [])))
     (IsBeginningOf-grow (delivered_in p v t) (delivered_in v.creator v t) (filter_map (told v.creator v) (h ∷ [])) (r p v)))
 
--- the first member goes before, all others are told the next of what it was told
+-- the coordinator goes before, all others are told the next of what it was told
 order-hit : (t : List Happening) (d : Delivery) (b : Bool) → same_address d.member d.view.creator ≡ b → HasOneOrder t → MayOrder t (Delivered d)
     → IsBeginningOf (delivered_in d.member d.view (t ++ Delivered d ∷ [])) (delivered_in d.view.creator d.view (t ++ Delivered d ∷ []))
 order-hit t d true e r m =

@@ -71,7 +71,7 @@ messages-needed t (Installed i) r = tt
 messages-needed t (Left p) r = tt
 messages-needed t (Crashed p) r = tt
 
--- who is told a message under one order, and is not the first member, is told the next of what that one was told
+-- who is told a message under one order, and is not the coordinator, is told the next of what that one was told
 told-in-order : (t : List Happening) (d : Delivery) → HasOneOrder (t ++ Delivered d ∷ []) → same_address d.member d.view.creator ≡ false
     → slice_get (delivered_in d.view.creator d.view t) (length (delivered_in d.member d.view t)) ≡ Some d.message
 told-in-order t d r e =

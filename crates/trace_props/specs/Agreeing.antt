@@ -74,7 +74,7 @@ MayHandBack past (Crashed p) = Unit {0}
 
 -- STATE OF ENTRY
 
--- a given state can be read; the first member enters first, all others with its state
+-- a given state can be read; the coordinator enters first, all others with its state
 abbrev pub MayEnter : {S : Type 0} → S → (S → Address → List ℕ → S) → (List ℕ → Option S) → List Happening → Happening → Type 0
 MayEnter opening apply decode past (Started p) = Unit {0}
 MayEnter opening apply decode past (Sent m) = Unit {0}

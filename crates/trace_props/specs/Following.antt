@@ -29,7 +29,7 @@ MayCarry past (Installed i) = Unit {0}
 MayCarry past (Left p) = Unit {0}
 MayCarry past (Crashed p) = Unit {0}
 
--- one order: the view's first member goes before, all others are told the next of what it was told
+-- one order: the view's coordinator goes before, all others are told the next of what it was told
 abbrev pub MayOrder : List Happening → Happening → Type 0
 MayOrder past (Started p) = Unit {0}
 MayOrder past (Sent s) = Unit {0}

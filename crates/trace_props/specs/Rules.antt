@@ -92,7 +92,7 @@ pub record HasSoundMessages (t : List Happening) : Type 0 where
 
 -- ONE ORDER
 
--- what a member was told in a view is a beginning of what the view's first member was told there
+-- what a member was told in a view is a beginning of what the view's coordinator was told there
 abbrev pub HasOneOrder : List Happening → Type 0
 HasOneOrder t = (p : Address) (v : ViewId) → IsBeginningOf (delivered_in p v t) (delivered_in v.creator v t)
 

@@ -29,12 +29,12 @@ installs p v (Installed i) = same_address i.member p && same_view_id i.view.id v
 installs p v (Left q) = false
 installs p v (Crashed q) = false
 
--- the state that a view's first member had right after it installed the view: None where it has not
+-- the state that a view's coordinator had right after it installed the view: None where it has not
 abbrev pub entry_state : {S : Type 0} → S → (S → Address → List ℕ → S) → (List ℕ → Option S) → ViewId → List Happening → Option S
 entry_state opening apply decode v t =
     option_and_then (λ k. Some (state_of opening apply decode v.creator (take (k + 1) t))) (position (installs v.creator v) t)
 
--- a given state can be read; and whoever installs a view has then the state that the view's first member had after its own install,
+-- a given state can be read; and whoever installs a view has then the state that the view's coordinator had after its own install,
 -- which is this one or stands before
 abbrev pub EntersAlike : {S : Type 0} → S → (S → Address → List ℕ → S) → (List ℕ → Option S) → List Happening → Happening → Type 0
 EntersAlike opening apply decode past (Started p) = Unit {0}

@@ -15,7 +15,7 @@ pub enum Rule {
     Together,
     /// Who enters gets back its own messages that it was not told.
     HandedBack,
-    /// Who enters has the state of the view's first member.
+    /// Who enters has the state of the view's coordinator.
     StateOfEntry,
 }
 

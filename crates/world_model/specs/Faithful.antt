@@ -138,7 +138,7 @@ Answers h (Tick n) a stretch = AtMember n h a stretch (λ p. AnswersQuietly p a 
 Answers h (Leave n) a stretch = AtMember n h a stretch (λ p. AnswersLeave p a stretch)
 Answers h (Crash n) a stretch = AtMember n h a stretch (λ p. AnswersCrash p a stretch)
 
--- PROMPT SEND: a message that the first member of a view sends is delivered to it in the same step,
+-- PROMPT SEND: a message that the coordinator of a view sends is delivered to it in the same step,
 -- if it was told fewer messages in that view than the reach
 abbrev pub IsPrompt : ℕ → List ℕ → List Happening → Answer → List Happening → Type 0
 IsPrompt n payload t (answer.Sent k) stretch =

@@ -74,7 +74,7 @@ fn is_next_of(past: &Past, other: Address, delivery: &Delivery) -> bool
     is_same_message(past.told_at(other, delivery.view, count), &delivery.message)
 }
 
-/// Whether a message that is told is the next that the view's first member was told.
+/// Whether a message that is told is the next that the view's coordinator was told.
 pub fn may_order(past: &Past, delivery: &Delivery) -> bool
     ensures { result
         ≡ (same_address delivery.now.member delivery.now.view.creator

@@ -103,7 +103,7 @@ fn bytes_of<R: Receiver>(
     Ok(Bytes::from_vec(bytes))
 }
 
-// Whether a view is entered with the bytes of its entry, which the first member writes.
+// Whether a view is entered with the bytes of its entry, which the coordinator writes.
 fn enter_with(
     entering: &mut BTreeMap<ViewId, Bytes>,
     view: ViewId,

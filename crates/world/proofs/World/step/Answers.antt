@@ -1,10 +1,7 @@
-use Rattle.std.proofs.Common.{subst, sym, List}
+use Rattle.std.proofs.Common.{sym}
 use Rattle.std.specs.Ordering.{nat_cmp}
 use Rattle.std.specs.BTreeMap.{get}
-use Rattle.trace_props.specs.declared.happening.Happening.{Happening}
-use Rattle.world_model.specs.Histories.{target_of}
 use Rattle.world.specs.Seats.{seats_in}
-use Rattle.world.specs.Turns.{Carries}
 use Rattle.world.proofs.Doing.{steps-so}
 use Rattle.world.proofs.Running.{reached-on, reached-same}
 use Rattle.world.proofs.World.step.Goals as goal
@@ -20,26 +17,12 @@ pub invariant_of-self-2 : goal.invariant_of-self-2
 invariant_of-self-2 g c =
     rw (c.push_reserved-2.ensures.items, c.reserve_step.ensures.events, c.push_reserved.ensures.items, c.reserve_step.ensures.replies, c.happenings-place.ensures.value)
     (reached-on g.R.Receiver.opening_state g.R.Receiver.apply g.R.Receiver.encode g.R.Receiver.decode _ _ c.in_ok-event.event c.self.invariant
-    (steps-so g.R.Receiver.opening_state g.R.Receiver.apply g.R.Receiver.encode g.R.Receiver.decode (seats_in (get nat_cmp c.self.inside.seats)) (seats_in (get nat_cmp c.carry.new.seats)) _ c.in_ok-event.event
-    c.in_ok-answer.answer c.carry.new.trace.happenings c.carry.new.pool
-    (subst (λ (t : List Happening). Carries g.R.Receiver.opening_state g.R.Receiver.apply g.R.Receiver.encode g.R.Receiver.decode (target_of c.in_ok-event.event) c.in_ok-event.event
-    (seats_in (get nat_cmp c.self.inside.seats)) t c.self.inside.pool c.in_ok-answer.answer (seats_in (get nat_cmp c.carry.new.seats)) c.carry.new.trace.happenings c.carry.new.pool)
-    c.reserve_step.ensures.trace c.in_ok-answer.ensures.ok)))
+    (steps-so g.R.Receiver.opening_state g.R.Receiver.apply g.R.Receiver.encode g.R.Receiver.decode (seats_in (get nat_cmp c.self.inside.seats)) _ _ c.in_ok-event.event
+    c.in_ok-answer.answer _ c.carry.new.trace.happenings c.carry.new.pool c.reserve_step.ensures.trace c.in_ok-answer.ensures.ok))
 
 -- and that is a step of the world
 pub returns-clause-ok : goal.returns-clause-ok
 returns-clause-ok g c =
-    rw (
-      sym c.self.view_is,
-      sym c.in_ok-event.ensures,
-      c.push_reserved-2.ensures.items,
-      c.reserve_step.ensures.events,
-      c.push_reserved.ensures.items,
-      c.reserve_step.ensures.replies,
-      c.happenings-place.ensures.value,
-    )
-    (steps-so g.R.Receiver.opening_state g.R.Receiver.apply g.R.Receiver.encode g.R.Receiver.decode (seats_in (get nat_cmp c.self.inside.seats)) (seats_in (get nat_cmp c.carry.new.seats)) _ c.in_ok-event.event
-    c.in_ok-answer.answer c.carry.new.trace.happenings c.carry.new.pool
-    (subst (λ (t : List Happening). Carries g.R.Receiver.opening_state g.R.Receiver.apply g.R.Receiver.encode g.R.Receiver.decode (target_of c.in_ok-event.event) c.in_ok-event.event
-    (seats_in (get nat_cmp c.self.inside.seats)) t c.self.inside.pool c.in_ok-answer.answer (seats_in (get nat_cmp c.carry.new.seats)) c.carry.new.trace.happenings c.carry.new.pool)
-    c.reserve_step.ensures.trace c.in_ok-answer.ensures.ok))
+    rw (sym c.self.view_is, sym c.in_ok-event.ensures, c.push_reserved-2.ensures.items, c.reserve_step.ensures.events, c.push_reserved.ensures.items, c.reserve_step.ensures.replies, c.happenings-place.ensures.value)
+    (steps-so g.R.Receiver.opening_state g.R.Receiver.apply g.R.Receiver.encode g.R.Receiver.decode (seats_in (get nat_cmp c.self.inside.seats)) _ _ c.in_ok-event.event
+    c.in_ok-answer.answer _ c.carry.new.trace.happenings c.carry.new.pool c.reserve_step.ensures.trace c.in_ok-answer.ensures.ok)

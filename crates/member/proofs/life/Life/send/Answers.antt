@@ -10,14 +10,14 @@ returns-then-sent-ge-GREATEST_NUMBER g c = search rules
 pub overflow_add-number : goal.overflow_add-number
 overflow_add-number g c = search rules
 
-pub returns-in_default : goal.returns-in_default
-returns-in_default g c = search rules
+pub returns-in_err-output-in-Alone : goal.returns-in_err-output-in-Alone
+returns-in_err-output-in-Alone g c = search rules
 
-pub returns-then-is_err : goal.returns-then-is_err
-returns-then-is_err g c = search rules
+pub returns-in_err-receive-in-Alone : goal.returns-in_err-receive-in-Alone
+returns-in_err-receive-in-Alone g c = search rules
 
-pub returns-else-is_err : goal.returns-else-is_err
-returns-else-is_err g c = search rules
+pub returns-in_ok-receive-in-Alone : goal.returns-in_ok-receive-in-Alone
+returns-in_ok-receive-in-Alone g c = search rules
 
 pub returns-in-Idle : goal.returns-in-Idle
 returns-in-Idle g c = search rules
