@@ -1,21 +1,20 @@
 -- A member as contracts see it: who it is, what it decides by while it runs, and why it refuses an input.
-use Rattle.std.specs.Prelude.{◌≡◌, ℕ, ◌^◌, Bool, true, false, not, is_some, [], List, length, Result, Ok, Err, Option, None, Some, nat_eq, nat_lt, nat_le, ◌&&◌, if◌then◌else◌}
+use Rattle.std.specs.Prelude.{◌≡◌, ℕ, ◌^◌, Bool, true, false, not, is_some, [], List, length, Result, Ok, Err, Option, None, Some, nat_lt, nat_le, ◌&&◌, if◌then◌else◌}
 use Rattle.std.specs.Option.{option_map, option_map_or, option_and_then}
 use Rattle.address.specs.Ids.{Address, same_address}
-use Rattle.view.specs.Members.{View}
 use Rattle.packet_values.specs.declared.limits.TheConstants.{PAYLOAD}
 use Rattle.wire.specs.declared.error.WireError.{WireError}
 use Rattle.wire.specs.declared.packet.Packet.{Packet}
 use Rattle.wire.specs.declared.packet.Body.{Body}
 use Rattle.wire.specs.declared.packet.Body.TheVariants as bodies
 use Rattle.wire.specs.Values as wire
-use Rattle.view_install.specs.Promises.{PromiseModel, may_install}
 use Rattle.wire.specs.Packets.{packet_of, wire_refusal}
 use Rattle.agreement.specs.Histories.{Posted}
 use Rattle.agreement.specs.Cores.{Traffic, Core, idle, is_frozen}
 use Rattle.agreement.specs.Acts.{lone_view}
 use Rattle.agreement.specs.Steps.{handed}
 use Rattle.sequencer.specs.declared.TheConstants.{OUTSTANDING}
+pub use Rattle.member_acts.specs.Decisions.{promise_of, is_fitting, is_entry, is_readable}
 use Rattle.member.specs.declared.error.Error.{Error}
 use Rattle.member.specs.declared.error.Error.TheVariants.{NotConnected, Blocked, Busy, TooLong, AlreadyConnected, Closed, Exhausted, Wire}
 use Rattle.member.specs.declared.input.Input.{Input}
@@ -134,29 +133,12 @@ install_in (bodies.Report proposal report) = None
 install_in (bodies.Install install) = Some install
 install_in (bodies.Merge view) = None
 
--- what it has promised
-abbrev pub promise_of : {S : Type 0} → Core S → PromiseModel
-promise_of c = record { member = c.me; proposal = c.promise; is_installed = c.installed }
-
--- who comes from a view is told what follows a number that it has reached; who comes from none is told no messages and given a state
-abbrev pub is_fitting : Option View → ℕ → wire.Install → Bool
-is_fitting (Some v) delivered i = nat_le i.base delivered
-is_fitting None delivered i = nat_eq i.base 0 && nat_eq (length i.items) 0 && is_some i.state
-
--- whether it would enter by an INSTALL: the creator of the view says so, the view is promised with its list and not installed, and it fits
-abbrev pub is_entry : {S : Type 0} → Core S → Address → wire.Install → Bool
-is_entry c source i = same_address source i.view.id.creator && may_install i.view (promise_of c) && is_fitting c.view c.traffic.delivered i
-
 -- the INSTALL that came, if it would enter by it
 abbrev pub entry_of : {S : Type 0} → Core S → Posted → Option wire.Install
 entry_of c m = option_and_then (λ i. if is_entry c m.source i then Some i else None) (install_in m.body)
 
 abbrev pub entry_at : {S : Type 0} → MemberModel S → Input → Option wire.Install
 entry_at m input = option_and_then (λ c. option_and_then (entry_of c) (came_at m input)) (core_of m)
-
--- whether there is no state, or one that can be read
-abbrev pub is_readable : {S : Type 0} → (List ℕ → Option S) → Option (List ℕ) → Bool
-is_readable decode given = option_map_or (λ bytes. is_some (decode bytes)) given true
 
 -- whether it is handed an INSTALL that it would enter, whose state the receiver cannot read
 abbrev pub is_unreadable : {S : Type 0} → (List ℕ → Option S) → MemberModel S → Input → Bool

@@ -275,10 +275,7 @@ impl<R: Receiver> Life<R> {
     fn leave(&self, who: &Identity) -> Result<Output, Error>
         ensures { Gives R.apply who.now.address who.now.group self.now input.Leave result self.now }
     {
-        Ok(Output::happening(
-            who.alloc,
-            Happening::Left(who.address),
-        )?)
+        Ok(Output::happening(who.alloc, Happening::Left(who.address))?)
     }
 
     // What it does on an input, before it ends.

@@ -5,6 +5,8 @@
 #[cfg(test)]
 mod address_tests;
 #[cfg(test)]
+mod candidates_tests;
+#[cfg(test)]
 mod chat_log_tests;
 #[cfg(test)]
 mod fixtures;

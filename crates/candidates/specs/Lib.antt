@@ -1,0 +1,4 @@
+pub mod Notes
+pub mod Candidates
+pub mod Noting
+pub mod Law
