@@ -62,33 +62,47 @@ fn is_damaged_answered(alloc: Global, index: usize, byte: u8) -> bool {
     is_answered(alloc, damaged.as_slice())
 }
 
-/// Whether the text with each of some other bytes at an index is answered so.
-fn are_answered(alloc: Global, index: usize) -> bool {
-    for byte in [b'\n', b' ', b'0', b'9', b'-', b',', 0, 255] {
+/// The bytes that are put in the place of one.
+const DAMAGES: [u8; 8] = [b'\n', b' ', b'0', b'9', b'-', b',', 0, 255];
+
+/// The first of these bytes that is not answered so at an index.
+fn unanswered(alloc: Global, index: usize) -> Option<u8> {
+    for byte in DAMAGES {
         if !is_damaged_answered(alloc, index, byte) {
-            return false;
+            return Some(byte);
         }
     }
-    true
+    None
 }
 
 #[test]
 fn texts_damaged_early_are_answered(rt: HostRuntime) {
     for index in 0..425 {
-        assert!(rt; are_answered(rt.alloc(), index));
+        assert_eq!(rt;
+            unanswered(rt.alloc(), index),
+            None,
+            "a byte put at {index}"
+        );
     }
 }
 
 #[test]
 fn texts_damaged_late_are_answered(rt: HostRuntime) {
     for index in 425..TWO_FLUSHES_CROSS.len() {
-        assert!(rt; are_answered(rt.alloc(), index));
+        assert_eq!(rt;
+            unanswered(rt.alloc(), index),
+            None,
+            "a byte put at {index}"
+        );
     }
 }
 
 #[test]
 fn texts_cut_short_are_answered(rt: HostRuntime) {
     for length in 0..TWO_FLUSHES_CROSS.len() {
-        assert!(rt; is_answered(rt.alloc(), &TWO_FLUSHES_CROSS[..length]));
+        assert!(rt;
+            is_answered(rt.alloc(), &TWO_FLUSHES_CROSS[..length]),
+            "the first {length} bytes"
+        );
     }
 }

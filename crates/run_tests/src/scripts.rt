@@ -11,19 +11,16 @@ const JOIN: [u8; 22] = [
     b'V', b'S', 1, 1, 5, b'w', b'o', b'r', b'l', b'd', 0, 2, 0, 0, 0, 1, 0, 9, 0, 0, 0, 1,
 ];
 
-fn is_join(packet: Option<&[u8]>) -> bool {
-    match packet {
+/// The packet K that a world put out.
+fn packet_is_the_join(world: &World<ChatLog>, k: u64) -> bool {
+    match world.packet(k) {
         Some(bytes) => bytes == JOIN.as_slice(),
         None => false,
     }
 }
 
-/// Whether a world in which node 2 asks a contact that is nowhere, and asks again, puts out two packets, the JOIN each time, and has one
-/// running member.
-fn asks_twice(alloc: Global) -> bool {
-    let (Some(node), Some(nowhere)) = (Node::new(2), Node::new(9)) else {
-        return false;
-    };
+/// The world in which node 2 asks a contact that is nowhere, and asks again.
+fn world_of_two_joins(alloc: Global, node: Node, nowhere: Node) -> Option<World<ChatLog>> {
     let events = [
         WorldEvent::Start(node),
         WorldEvent::Join(node, Address::first_at(nowhere)),
@@ -31,18 +28,47 @@ fn asks_twice(alloc: Global) -> bool {
         WorldEvent::Deliver(1),
     ];
     let mut world = World::<ChatLog>::new(alloc);
-    world.run(&events).is_ok()
-        && is_join(world.packet(1))
-        && is_join(world.packet(2))
-        && world.packet(0).is_none()
-        && world.packet(3).is_none()
-        && world.running(node) == Some(Address::first_at(node))
-        && world.running(nowhere).is_none()
+    world.run(&events).ok()?;
+    Some(world)
 }
 
 #[test]
-fn the_packets_of_a_join(rt: HostRuntime) {
-    assert!(rt; asks_twice(rt.alloc()));
+fn a_join_and_a_tick_put_out_the_same_packet(rt: HostRuntime) {
+    let (node, nowhere) = (Node::new(2).unwrap(), Node::new(9).unwrap());
+    let world = world_of_two_joins(rt.alloc(), node, nowhere).expect(&rt, "the events are done");
+    assert!(rt;
+        packet_is_the_join(&world, 1),
+        "the first packet is the JOIN"
+    );
+    assert!(rt;
+        packet_is_the_join(&world, 2),
+        "the second packet is the JOIN again"
+    );
+}
+
+#[test]
+fn packets_are_numbered_from_1_to_the_last(rt: HostRuntime) {
+    let (node, nowhere) = (Node::new(2).unwrap(), Node::new(9).unwrap());
+    let world = world_of_two_joins(rt.alloc(), node, nowhere).expect(&rt, "the events are done");
+    assert!(rt; world.packet(0).is_none(), "there is no packet 0");
+    assert!(rt;
+        world.packet(3).is_none(),
+        "there is no packet behind the last"
+    );
+}
+
+#[test]
+fn a_node_runs_once_it_was_started(rt: HostRuntime) {
+    let (node, nowhere) = (Node::new(2).unwrap(), Node::new(9).unwrap());
+    let world = world_of_two_joins(rt.alloc(), node, nowhere).expect(&rt, "the events are done");
+    assert!(rt;
+        world.running(node) == Some(Address::first_at(node)),
+        "the started node runs"
+    );
+    assert!(rt;
+        world.running(nowhere).is_none(),
+        "a node that was never started does not run"
+    );
 }
 
 /// A reader that gives a few bytes and then fails.
@@ -64,7 +90,8 @@ impl Read for Failing {
 fn a_failing_reader_writes_nothing(rt: HostRuntime) {
     let mut output = Vec::new(rt.alloc());
     let status = run_script::<ChatLog, Failing, Vec<u8>>(rt.alloc(), &mut Failing(3), &mut output);
-    assert!(rt; status == Status::Outside && output.is_empty());
+    assert!(rt; status == Status::Outside, "the status");
+    assert!(rt; output.is_empty(), "nothing is written");
 }
 
 /// A writer that takes so many bytes and then fails.

@@ -20,72 +20,116 @@ fn name_of(command: Invocation<'_>) -> &'static str {
     }
 }
 
-/// Whether the words ask for this subcommand on this path.
-fn asks(alloc: Global, line: &[&str], name: &str, path: &str) -> bool {
-    let Ok(words) = words_of(alloc, line) else {
-        return false;
-    };
+/// The subcommand that the words ask for on this path; `None` where they ask for another path, or are no command.
+fn asked(alloc: Global, line: &[&str], path: &str) -> Option<&'static str> {
+    let words = words_of(alloc, line).ok()?;
     match command(alloc, words.as_slice()) {
-        Ok(command) => name_of(command) == name && command.path() == path,
-        Err(_) => false,
+        Ok(command) => {
+            if command.path() == path {
+                Some(name_of(command))
+            } else {
+                None
+            }
+        }
+        Err(_) => None,
     }
 }
 
-/// Whether the words give this kind of error.
-fn is_refused(alloc: Global, line: &[&str], kind: ErrorKind) -> bool {
-    let Ok(words) = words_of(alloc, line) else {
-        return false;
-    };
+/// The kind of error that the words give; `None` where they are a command.
+fn refusal(alloc: Global, line: &[&str]) -> Option<ErrorKind> {
+    let words = words_of(alloc, line).ok()?;
     match command(alloc, words.as_slice()) {
-        Ok(_) => false,
-        Err(error) => error.kind() == kind,
+        Ok(_) => None,
+        Err(error) => Some(error.kind()),
     }
 }
 
 #[test]
-fn words_are_a_command(rt: HostRuntime) {
+fn without_words_a_script_is_read_from_the_standard_input(rt: HostRuntime) {
     let alloc = rt.alloc();
+    assert!(rt; asked(alloc, &[], "-") == Some("world"), "no word at all");
     assert!(rt;
-        asks(alloc, &[], "world", "-")
-            && asks(alloc, &["vsync"], "world", "-")
-            && asks(alloc, &["vsync", "world", "a.script"], "world", "a.script")
-            && asks(alloc, &["vsync", "world", "-"], "world", "-")
-            && asks(
-                alloc,
-                &["vsync", "world", "--", "--help"],
-                "world",
-                "--help"
-            )
-            && asks(alloc, &["vsync", "chat", "a.script"], "chat", "a.script")
-            && asks(alloc, &["vsync", "chat", "-"], "chat", "-")
-            && asks(alloc, &["vsync", "check", "-"], "check", "-")
-            && asks(alloc, &["vsync", "check", "world"], "check", "world")
+        asked(alloc, &["vsync"], "-") == Some("world"),
+        "the program's name alone"
     );
 }
 
 #[test]
-fn words_are_no_command(rt: HostRuntime) {
+fn each_subcommand_takes_a_path(rt: HostRuntime) {
     let alloc = rt.alloc();
     assert!(rt;
-        is_refused(alloc, &["vsync", "fly"], ErrorKind::InvalidSubcommand)
-            && is_refused(
-                alloc,
-                &["vsync", "world"],
-                ErrorKind::MissingRequiredArgument
-            )
-            && is_refused(
-                alloc,
-                &["vsync", "chat"],
-                ErrorKind::MissingRequiredArgument
-            )
-            && is_refused(
-                alloc,
-                &["vsync", "world", "a", "b"],
-                ErrorKind::UnknownArgument
-            )
-            && is_refused(alloc, &["vsync", "check", "-x"], ErrorKind::UnknownArgument)
-            && is_refused(alloc, &["vsync", "--help"], ErrorKind::DisplayHelp)
-            && is_refused(alloc, &["vsync", "world", "-h"], ErrorKind::DisplayHelp)
-            && is_refused(alloc, &["vsync", "chat", "--help"], ErrorKind::DisplayHelp)
+        asked(alloc, &["vsync", "world", "a.script"], "a.script") == Some("world"),
+        "world"
+    );
+    assert!(rt;
+        asked(alloc, &["vsync", "chat", "a.script"], "a.script") == Some("chat"),
+        "chat"
+    );
+    assert!(rt;
+        asked(alloc, &["vsync", "check", "world"], "world") == Some("check"),
+        "check"
+    );
+}
+
+#[test]
+fn each_subcommand_takes_the_standard_input(rt: HostRuntime) {
+    let alloc = rt.alloc();
+    assert!(rt;
+        asked(alloc, &["vsync", "world", "-"], "-") == Some("world"),
+        "world"
+    );
+    assert!(rt;
+        asked(alloc, &["vsync", "chat", "-"], "-") == Some("chat"),
+        "chat"
+    );
+    assert!(rt;
+        asked(alloc, &["vsync", "check", "-"], "-") == Some("check"),
+        "check"
+    );
+}
+
+#[test]
+fn a_word_behind_two_dashes_is_a_path(rt: HostRuntime) {
+    assert!(rt; asked(rt.alloc(), &["vsync", "world", "--", "--help"], "--help") == Some("world"));
+}
+
+#[test]
+fn an_unknown_subcommand_is_refused(rt: HostRuntime) {
+    assert!(rt; refusal(rt.alloc(), &["vsync", "fly"]) == Some(ErrorKind::InvalidSubcommand));
+}
+
+#[test]
+fn a_subcommand_without_a_path_is_refused(rt: HostRuntime) {
+    let (alloc, wanted) = (rt.alloc(), Some(ErrorKind::MissingRequiredArgument));
+    assert!(rt; refusal(alloc, &["vsync", "world"]) == wanted, "world");
+    assert!(rt; refusal(alloc, &["vsync", "chat"]) == wanted, "chat");
+}
+
+#[test]
+fn a_second_path_is_refused(rt: HostRuntime) {
+    assert!(rt;
+        refusal(rt.alloc(), &["vsync", "world", "a", "b"]) == Some(ErrorKind::UnknownArgument)
+    );
+}
+
+#[test]
+fn an_unknown_option_is_refused(rt: HostRuntime) {
+    assert!(rt; refusal(rt.alloc(), &["vsync", "check", "-x"]) == Some(ErrorKind::UnknownArgument));
+}
+
+#[test]
+fn help_is_told_of_the_program_and_of_each_subcommand(rt: HostRuntime) {
+    let (alloc, wanted) = (rt.alloc(), Some(ErrorKind::DisplayHelp));
+    assert!(rt;
+        refusal(alloc, &["vsync", "--help"]) == wanted,
+        "the program"
+    );
+    assert!(rt;
+        refusal(alloc, &["vsync", "world", "-h"]) == wanted,
+        "world"
+    );
+    assert!(rt;
+        refusal(alloc, &["vsync", "chat", "--help"]) == wanted,
+        "chat"
     );
 }

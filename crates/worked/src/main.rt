@@ -1,45 +1,52 @@
-//! Runs the worked scripts and traces of the formats, and prints what the commands write of each, with its exit status.
-//! Sections come on the standard input, each behind a `~`: the line of its command, and the text that the command reads.
+//! Runs the scenarios: the worked scripts and traces of the formats, one named file each, with what must be printed; and the examples, beside each its
+//! output. They lie in the folder that the first word names; with no word in the folder where the program runs. Prints a line for each file, with how many
+//! runs it has. A run that is not as written is shown, and the program then ends with status 1.
 #![tactic(auto)]
 
-use chat_log::ChatLog;
-use script_reader::first_line;
-use std::alloc::Global;
-use std::io::{self, Read, Write};
-use std::process::ExitCode;
-use vsync_runs::{Status, run_chat, run_check, run_script};
+mod commands;
+mod examples;
+mod files;
+mod report;
+mod scenario;
+mod scenarios;
 
-/// Runs a command on a text.
-fn run<W: Write>(alloc: Global, command: &[u8], text: &[u8], writer: &mut W) -> Status {
-    let mut reader = text;
-    match command {
-        b"world" => run_script::<ChatLog, &[u8], W>(alloc, &mut reader, writer),
-        b"chat" => run_chat::<ChatLog, &[u8], W>(alloc, &mut reader, writer),
-        b"check" => run_check::<ChatLog, &[u8], W>(alloc, &mut reader, writer),
-        _ => Status::Usage,
+use examples::run_examples;
+use report::Report;
+use scenarios::run_scenarios;
+use std::env;
+use std::io::{self, Write};
+use std::process::ExitCode;
+
+/// The folder that the command line names.
+fn folder_of(rt: &HostRuntime) -> io::Result<String> {
+    for word in env::args(rt)?.skip(1) {
+        return Ok(word);
     }
+    Ok(String::from_str(rt.alloc(), ".")?)
 }
 
-/// Answers a section, if it is not empty: its command's text, and a line with the exit status.
-fn answer<W: Write>(alloc: Global, section: &[u8], writer: &mut W) -> io::Result<()> {
-    if section.is_empty() {
-        return Ok(());
-    }
-    let (command, text) = first_line(section);
-    let status = run(alloc, command, text, writer);
-    writer.write_all(&[b'~', b'0' + status.code(), b'\n'])
+/// Runs all that lies in the folder, and prints how many runs there were; answers whether all were as written.
+fn run_all(rt: &HostRuntime) -> io::Result<bool> {
+    let mut report = Report::new();
+    let folder = folder_of(rt)?;
+    run_scenarios(rt, folder.as_str(), &mut report)?;
+    run_examples(rt, folder.as_str(), &mut report)?;
+    writeln!(
+        io::writer(rt),
+        "{} runs, {} not as written",
+        report.runs(),
+        report.failures()
+    )?;
+    Ok(report.failures() == 0)
 }
 
 fn main(rt: HostRuntime) -> ExitCode {
-    let mut sections = Vec::new(rt.alloc());
-    if rt.reader().read_to_end(&mut sections).is_err() {
-        return ExitCode::from(5);
-    }
-    let mut output = io::writer(&rt);
-    for section in sections.split(|b| *b == b'~') {
-        if answer(rt.alloc(), section, &mut output).is_err() {
-            return ExitCode::from(5);
+    match run_all(&rt) {
+        Ok(true) => ExitCode::from(0),
+        Ok(false) => ExitCode::from(1),
+        Err(error) => {
+            let _ = eprintln!(rt; "worked: a file or the output failed: {error}");
+            ExitCode::from(5)
         }
     }
-    ExitCode::from(0)
 }
