@@ -2,30 +2,55 @@ use crate::fixtures::{address, first_of};
 use address::{Address, Exhausted, GREATEST_NUMBER, Node, ViewId, next_after};
 use std::alloc::Global;
 
-fn tells_its_parts(last: Address) -> bool {
-    let node = last.node();
-    node.number() == 65535
-        && last.incarnation() == 4_294_967_295
-        && last.next_incarnation().is_none()
-        && Address::new(node, 0).is_none()
-        && Address::first_at(node).next_incarnation() == Address::new(node, 2)
+#[test]
+fn the_node_0_is_none(rt: HostRuntime) {
+    assert!(rt; Node::new(0).is_none());
 }
 
 #[test]
-fn addresses_are_made_in_range(rt: HostRuntime) {
-    assert!(rt; Node::new(0).is_none());
-    assert!(rt; tells_its_parts(address(65535, 4_294_967_295)));
+fn the_incarnation_0_is_none(rt: HostRuntime) {
+    assert!(rt; Address::new(first_of(1).node(), 0).is_none());
 }
 
-/// Whether two addresses, and the first view ids made of them, are in order.
-fn are_ordered(low: Address, high: Address) -> bool {
-    let first = ViewId::first_of(high);
-    match next_after(&first, low) {
-        Ok(second) => {
-            low < high && first < second && second.counter() == 2 && second.creator() == low
-        }
-        Err(_) => false,
-    }
+#[test]
+fn the_greatest_address_tells_its_parts(rt: HostRuntime) {
+    let last = address(65535, 4_294_967_295);
+    assert_eq!(rt; last.node().number(), 65535, "the node");
+    assert_eq!(rt; last.incarnation(), 4_294_967_295, "the incarnation");
+}
+
+#[test]
+fn the_second_incarnation_is_behind_the_first(rt: HostRuntime) {
+    let node = address(65535, 4_294_967_295).node();
+    assert!(rt; Address::first_at(node).next_incarnation() == Address::new(node, 2));
+}
+
+#[test]
+fn no_incarnation_is_behind_the_last(rt: HostRuntime) {
+    assert!(rt; address(65535, 4_294_967_295).next_incarnation().is_none());
+}
+
+#[test]
+fn addresses_are_ordered_by_node_first(rt: HostRuntime) {
+    assert!(rt; address(2, 9) < first_of(3));
+}
+
+/// The view id that 2.9 makes behind the first one of 3.1.
+fn second_id() -> Option<ViewId> {
+    next_after(&ViewId::first_of(first_of(3)), address(2, 9)).ok()
+}
+
+#[test]
+fn view_ids_are_ordered_by_counter_first(rt: HostRuntime) {
+    let second = second_id().expect(&rt, "a second id");
+    assert!(rt; ViewId::first_of(first_of(3)) < second);
+}
+
+#[test]
+fn the_next_view_id_has_the_next_counter_and_its_maker(rt: HostRuntime) {
+    let second = second_id().expect(&rt, "a second id");
+    assert_eq!(rt; second.counter(), 2, "the counter");
+    assert!(rt; second.creator() == address(2, 9), "the creator");
 }
 
 /// Whether an address, and the view id behind its first one, are written as this text.
@@ -40,23 +65,27 @@ fn are_written(alloc: Global, low: Address, high: Address, want: &str) -> bool {
 }
 
 #[test]
-fn ids_are_ordered_and_written(rt: HostRuntime) {
-    assert!(rt; are_ordered(address(2, 9), first_of(3)));
+fn addresses_and_view_ids_are_written(rt: HostRuntime) {
     assert!(rt; are_written(rt.alloc(), address(2, 9), first_of(3), "3.1 2@2.9"));
 }
 
-/// Whether the last view id of a creator has none behind it, and no counter is 0 or above the last one's.
-fn are_used_up(creator: Address) -> bool {
-    ViewId::new(0, creator).is_none()
-        && ViewId::new(GREATEST_NUMBER + 1, creator).is_none()
-        && match ViewId::new(4_611_686_018_427_387_904, creator) {
-            Some(last) => next_after(&last, creator) == Err(Exhausted),
-            None => false,
-        }
+#[test]
+fn no_view_id_has_the_counter_0(rt: HostRuntime) {
+    assert!(rt; ViewId::new(0, first_of(1)).is_none());
 }
 
 #[test]
-fn counters_are_used_up(rt: HostRuntime) {
-    assert!(rt; are_used_up(first_of(1)));
-    assert!(rt; Exhausted.number() == 8);
+fn no_view_id_has_a_counter_above_the_greatest(rt: HostRuntime) {
+    assert!(rt; ViewId::new(GREATEST_NUMBER + 1, first_of(1)).is_none());
+}
+
+#[test]
+fn no_view_id_is_behind_the_greatest_counter(rt: HostRuntime) {
+    let last = ViewId::new(4_611_686_018_427_387_904, first_of(1)).expect(&rt, "the last id");
+    assert!(rt; next_after(&last, first_of(1)) == Err(Exhausted));
+}
+
+#[test]
+fn used_up_counters_are_told_as_8(rt: HostRuntime) {
+    assert_eq!(rt; Exhausted.number(), 8);
 }

@@ -59,55 +59,41 @@ fn with_copies(
     Ok(bytes)
 }
 
-// Whether a front with so many copies behind it is taken, and one with a copy more and another front is refused.
-fn is_last_taken(alloc: Global, most: &[u8], more: &[u8], copied: &[u8], count: u16) -> bool {
-    let count = usize::from(count);
-    match (
-        with_copies(alloc, most, copied, count),
-        with_copies(alloc, more, copied, count + 1),
-    ) {
-        (Ok(most), Ok(more)) => are_taken(alloc, &most) && are_refused(alloc, &more),
-        _ => false,
-    }
-}
-
-fn is_opening(alloc: Global) -> bool {
-    let Ok(chat) = ChatLog::opening(alloc) else {
-        return false;
-    };
-    chat.len() == 0 && has_state(alloc, &chat, b"\x00")
+#[test]
+fn a_chat_opens_without_lines(rt: HostRuntime) {
+    let chat = ChatLog::opening(rt.alloc()).ok().expect(&rt, "a chat");
+    assert_eq!(rt; chat.len(), 0);
 }
 
 #[test]
-fn opening_is_one_zero(rt: HostRuntime) {
-    assert!(rt; is_opening(rt.alloc()));
+fn the_opening_state_is_one_zero(rt: HostRuntime) {
+    let chat = ChatLog::opening(rt.alloc()).ok().expect(&rt, "a chat");
+    assert!(rt; has_state(rt.alloc(), &chat, b"\x00"));
 }
 
-fn writes_two(alloc: Global) -> bool {
-    match two_lines(alloc) {
-        Ok(chat) => has_state(alloc, &chat, TWO) && chat.len() == 2,
-        Err(_) => false,
-    }
+#[test]
+fn each_message_is_a_line(rt: HostRuntime) {
+    let chat = two_lines(rt.alloc())
+        .ok()
+        .expect(&rt, "a chat of two lines");
+    assert_eq!(rt; chat.len(), 2);
 }
 
 #[test]
 fn two_lines_are_written(rt: HostRuntime) {
-    assert!(rt; writes_two(rt.alloc()));
-}
-
-fn reads_two(alloc: Global) -> bool {
-    let Ok(mut chat) = ChatLog::opening(alloc) else {
-        return false;
-    };
-    chat.set_state(TWO) == Ok(true)
-        && is_line(&chat, 0, first_of(1), b"hi")
-        && chat.line(2).is_none()
-        && chat.len() == 2
+    let chat = two_lines(rt.alloc())
+        .ok()
+        .expect(&rt, "a chat of two lines");
+    assert!(rt; has_state(rt.alloc(), &chat, TWO));
 }
 
 #[test]
 fn two_lines_are_read(rt: HostRuntime) {
-    assert!(rt; reads_two(rt.alloc()));
+    let mut chat = ChatLog::opening(rt.alloc()).ok().expect(&rt, "a chat");
+    assert!(rt; chat.set_state(TWO) == Ok(true), "the state is taken");
+    assert_eq!(rt; chat.len(), 2, "how many lines there are");
+    assert!(rt; is_line(&chat, 0, first_of(1), b"hi"), "the first line");
+    assert!(rt; chat.line(2).is_none(), "there is no third line");
 }
 
 #[test]
@@ -132,47 +118,72 @@ fn one_byte_more_is_refused(rt: HostRuntime) {
 }
 
 #[test]
-fn wrong_addresses_are_refused(rt: HostRuntime) {
-    let node = b"\x01\x00\x00\x00\x00\x00\x01\x00\x00";
-    let incarnation = b"\x01\x00\x01\x00\x00\x00\x00\x00\x00";
-    assert!(rt; are_refused(rt.alloc(), node));
-    assert!(rt; are_refused(rt.alloc(), incarnation));
+fn the_node_0_is_refused(rt: HostRuntime) {
+    assert!(rt; are_refused(rt.alloc(), b"\x01\x00\x00\x00\x00\x00\x01\x00\x00"));
 }
 
 #[test]
-fn payloads_have_512_bytes_at_most(rt: HostRuntime) {
-    let longest = b"\x01\x00\x01\x00\x00\x00\x01\x02\x00";
-    let longer = b"\x01\x00\x01\x00\x00\x00\x01\x02\x01";
-    assert!(rt; is_last_taken(rt.alloc(), longest, longer, b"x", 512));
+fn the_incarnation_0_is_refused(rt: HostRuntime) {
+    assert!(rt; are_refused(rt.alloc(), b"\x01\x00\x01\x00\x00\x00\x00\x00\x00"));
 }
 
 #[test]
-fn states_have_24_lines_at_most(rt: HostRuntime) {
-    let line = b"\x00\x01\x00\x00\x00\x01\x00\x00";
-    assert!(rt; is_last_taken(rt.alloc(), b"\x18", b"\x19", line, 24));
+fn a_payload_of_512_bytes_is_taken(rt: HostRuntime) {
+    let front = b"\x01\x00\x01\x00\x00\x00\x01\x02\x00";
+    let state = with_copies(rt.alloc(), front, b"x", 512)
+        .ok()
+        .expect(&rt, "a state");
+    assert!(rt; are_taken(rt.alloc(), &state));
 }
 
-fn keeps_the_last_24(alloc: Global) -> bool {
-    let Ok(mut chat) = ChatLog::opening(alloc) else {
-        return false;
-    };
-    let sender = first_of(3);
+#[test]
+fn a_payload_of_513_bytes_is_refused(rt: HostRuntime) {
+    let front = b"\x01\x00\x01\x00\x00\x00\x01\x02\x01";
+    let state = with_copies(rt.alloc(), front, b"x", 513)
+        .ok()
+        .expect(&rt, "a state");
+    assert!(rt; are_refused(rt.alloc(), &state));
+}
+
+// An empty line of 1.1.
+const LINE: &[u8] = b"\x00\x01\x00\x00\x00\x01\x00\x00";
+
+#[test]
+fn a_state_of_24_lines_is_taken(rt: HostRuntime) {
+    let state = with_copies(rt.alloc(), b"\x18", LINE, 24)
+        .ok()
+        .expect(&rt, "a state");
+    assert!(rt; are_taken(rt.alloc(), &state));
+}
+
+#[test]
+fn a_state_of_25_lines_is_refused(rt: HostRuntime) {
+    let state = with_copies(rt.alloc(), b"\x19", LINE, 25)
+        .ok()
+        .expect(&rt, "a state");
+    assert!(rt; are_refused(rt.alloc(), &state));
+}
+
+// A chat that was told the bytes 1 to 25 by a sender, one a message.
+fn told_25(alloc: Global, sender: Address) -> Result<ChatLog, AllocError> {
+    let mut chat = ChatLog::opening(alloc)?;
     for number in 1..26u8 {
-        if chat.receive(sender, &[number]).is_err() {
-            return false;
-        }
+        chat.receive(sender, &[number])?;
     }
-    for i in 0..24u8 {
-        if !is_line(&chat, usize::from(i), sender, &[i + 2]) {
-            return false;
-        }
-    }
-    chat.len() == 24
+    Ok(chat)
 }
 
 #[test]
-fn the_last_24_are_kept(rt: HostRuntime) {
-    assert!(rt; keeps_the_last_24(rt.alloc()));
+fn the_last_24_lines_are_kept(rt: HostRuntime) {
+    let sender = first_of(3);
+    let chat = told_25(rt.alloc(), sender).ok().expect(&rt, "a chat");
+    assert_eq!(rt; chat.len(), 24, "how many lines there are");
+    for i in 0..24u8 {
+        assert!(rt;
+            is_line(&chat, usize::from(i), sender, &[i + 2]),
+            "the line {i}"
+        );
+    }
 }
 
 // The state of a chat whose lines are all as long as can be.
@@ -187,67 +198,48 @@ fn longest_state(alloc: Global) -> Result<Vec<u8>, AllocError> {
     Ok(state)
 }
 
-// Whether a chat takes the longest state, and is written as it again.
-fn takes_the_longest(alloc: Global) -> bool {
-    match (ChatLog::opening(alloc), longest_state(alloc)) {
-        (Ok(mut copy), Ok(state)) => {
-            state.len() == 12_481
-                && copy.set_state(&state) == Ok(true)
-                && has_state(alloc, &copy, &state)
-        }
-        _ => false,
-    }
+#[test]
+fn the_longest_state_has_12481_bytes(rt: HostRuntime) {
+    let state = longest_state(rt.alloc()).ok().expect(&rt, "a state");
+    assert_eq!(rt; state.len(), 12_481);
 }
 
 #[test]
-fn the_longest_state(rt: HostRuntime) {
-    assert!(rt; takes_the_longest(rt.alloc()));
-}
-
-fn leaves_out_a_longer(alloc: Global) -> bool {
-    let Ok(mut chat) = two_lines(alloc) else {
-        return false;
-    };
-    chat.receive(first_of(1), &[0; 513]).is_ok() && has_state(alloc, &chat, TWO)
+fn the_longest_state_is_taken_and_written_again(rt: HostRuntime) {
+    let state = longest_state(rt.alloc()).ok().expect(&rt, "a state");
+    let mut copy = ChatLog::opening(rt.alloc()).ok().expect(&rt, "a chat");
+    assert!(rt; copy.set_state(&state) == Ok(true), "it is taken");
+    assert!(rt; has_state(rt.alloc(), &copy, &state), "it is written again");
 }
 
 #[test]
-fn a_longer_payload_is_left_out(rt: HostRuntime) {
-    assert!(rt; leaves_out_a_longer(rt.alloc()));
-}
-
-// Whether a view, and that it is blocked, leave a chat of two lines as it was.
-fn is_left(mut chat: ChatLog, alloc: Global, view: View) -> bool {
-    chat.kept();
-    chat.blocked();
-    chat.view_accepted(&view);
-    has_state(alloc, &chat, TWO)
+fn a_payload_that_is_too_long_is_left_out(rt: HostRuntime) {
+    let mut chat = two_lines(rt.alloc())
+        .ok()
+        .expect(&rt, "a chat of two lines");
+    assert!(rt;
+        chat.receive(first_of(1), &[0; 513]).is_ok(),
+        "the message is taken"
+    );
+    assert!(rt;
+        has_state(rt.alloc(), &chat, TWO),
+        "the lines are as they were"
+    );
 }
 
 #[test]
 fn views_leave_the_lines(rt: HostRuntime) {
-    let alloc = rt.alloc();
-    match (
-        two_lines(alloc),
-        View::alone(alloc, ViewId::first_of(first_of(1))),
-    ) {
-        (Ok(chat), Ok(view)) => assert!(rt; is_left(chat, alloc, view)),
-        _ => assert!(rt; false),
-    }
+    let mut chat = two_lines(rt.alloc())
+        .ok()
+        .expect(&rt, "a chat of two lines");
+    let view = View::alone(rt.alloc(), ViewId::first_of(first_of(1)))
+        .ok()
+        .expect(&rt, "a view");
+    chat.kept();
+    chat.blocked();
+    chat.view_accepted(&view);
+    assert!(rt; has_state(rt.alloc(), &chat, TWO));
     one_encoding();
-}
-
-// Whether each of some calls does its work, or is refused for want of memory and leaves what was there.
-fn are_done_or_leave(alloc: Global, mut chat: ChatLog) -> bool {
-    let received = usize::from(chat.receive(first_of(3), b"x").is_ok());
-    let kept = chat.len() == received;
-    let mut state = Vec::new(alloc);
-    let given = chat.get_state(&mut state).is_ok();
-    kept && state.is_empty() == !given
-        && match chat.set_state(TWO) {
-            Ok(taken) => taken && chat.len() == 2,
-            Err(_) => chat.len() == received,
-        }
 }
 
 // With no refusal each call does its work. Run by `rt try --test --fail-alloc N` for N from 1, one call is refused
@@ -255,7 +247,26 @@ fn are_done_or_leave(alloc: Global, mut chat: ChatLog) -> bool {
 #[test]
 fn refused_growths_leave_what_was(rt: HostRuntime) {
     let alloc = rt.alloc();
-    if let Ok(chat) = ChatLog::opening(alloc) {
-        assert!(rt; are_done_or_leave(alloc, chat));
+    if let Ok(mut chat) = ChatLog::opening(alloc) {
+        let received = usize::from(chat.receive(first_of(3), b"x").is_ok());
+        assert_eq!(rt;
+            chat.len(),
+            received,
+            "a message is a line, or refused and none"
+        );
+        let mut state = Vec::new(alloc);
+        let given = chat.get_state(&mut state).is_ok();
+        assert_eq!(rt;
+            state.is_empty(),
+            !given,
+            "a state is written whole, or refused and not at all"
+        );
+        match chat.set_state(TWO) {
+            Ok(taken) => {
+                assert!(rt; taken, "a state is taken");
+                assert_eq!(rt; chat.len(), 2, "the lines are those of the state");
+            }
+            Err(_) => assert_eq!(rt; chat.len(), received, "a refused state leaves the lines"),
+        }
     }
 }

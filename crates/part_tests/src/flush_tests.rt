@@ -84,96 +84,144 @@ fn goes_with(flush: &Flush, alloc: Global, node: u16, nodes: &[u16]) -> bool
     }
 }
 
-fn awaits_all(alloc: Global) -> bool {
-    let Some(mut flush) = started(alloc, &[1, 2]) else {
-        return false;
-    };
+#[test]
+fn a_flush_tells_its_proposal_and_its_list(rt: HostRuntime) {
+    let flush = started(rt.alloc(), &[1, 2]).expect(&rt, "a flush");
     flush.kept();
-    flush.proposal() == view_id(9)
-        && flush.members().len() == 2
-        && waits(&mut flush, 3)
-        && waits(&mut flush, 2)
-        && flush.has_reported(&first_of(2))
-        && waits(&mut flush, 2)
-        && is_complete(&mut flush, 1)
+    assert!(rt; flush.proposal() == view_id(9), "the proposal");
+    assert_eq!(rt; flush.members().len(), 2, "the length of the list");
 }
 
 #[test]
 fn all_of_the_list_are_awaited(rt: HostRuntime) {
-    assert!(rt; awaits_all(rt.alloc()));
-}
-
-fn cuts_at_the_hole(alloc: Global) -> bool {
-    let Some(mut flush) = started(alloc, &[1, 2, 3]) else {
-        return false;
-    };
-    let one = [spelled(3, 30), spelled(6, 60)];
-    let two = [spelled(1, 10), spelled(4, 40)];
-    let three = [spelled(2, 20), spelled(7, 70)];
-    stands(&mut flush, 1, report(3, 2, 3, &one), Progress::Waiting)
-        && stands(&mut flush, 2, report(3, 0, 1, &two), Progress::Waiting)
-        && stands(&mut flush, 3, report(3, 1, 2, &three), Progress::Complete)
-        && cuts(&flush, alloc, Some(view_id(3)), 2, &[30, 40])
+    let mut flush = started(rt.alloc(), &[1, 2]).expect(&rt, "a flush");
+    assert!(rt;
+        waits(&mut flush, 3),
+        "a stranger's report completes nothing"
+    );
+    assert!(rt; waits(&mut flush, 2), "one report of two");
+    assert!(rt; flush.has_reported(&first_of(2)), "that one has reported");
+    assert!(rt; waits(&mut flush, 2), "the same report again");
+    assert!(rt; is_complete(&mut flush, 1), "both reports");
 }
 
 #[test]
 fn a_cut_goes_up_to_the_first_hole(rt: HostRuntime) {
-    assert!(rt; cuts_at_the_hole(rt.alloc()));
+    let alloc = rt.alloc();
+    let mut flush = started(alloc, &[1, 2, 3]).expect(&rt, "a flush");
+    let one = [spelled(3, 30), spelled(6, 60)];
+    let two = [spelled(1, 10), spelled(4, 40)];
+    let three = [spelled(2, 20), spelled(7, 70)];
+    assert!(rt;
+        stands(&mut flush, 1, report(3, 2, 3, &one), Progress::Waiting),
+        "the first report"
+    );
+    assert!(rt;
+        stands(&mut flush, 2, report(3, 0, 1, &two), Progress::Waiting),
+        "the second report"
+    );
+    assert!(rt;
+        stands(&mut flush, 3, report(3, 1, 2, &three), Progress::Complete),
+        "the third report"
+    );
+    assert!(rt;
+        cuts(&flush, alloc, Some(view_id(3)), 2, &[30, 40]),
+        "the cut"
+    );
 }
 
-fn cuts_each(alloc: Global) -> bool {
-    let Some(mut flush) = started(alloc, &[1, 2, 3]) else {
-        return false;
-    };
-    let one = [spelled(1, 10)];
-    let two = [spelled(6, 60)];
-    stands(&mut flush, 1, report(3, 0, 1, &one), Progress::Waiting)
-        && stands(&mut flush, 2, report(4, 5, 5, &two), Progress::Waiting)
+/// The flush that a member of 3@1.1, a member of 4@1.1 and one of no view have reported to, with what the first two hold.
+fn of_three_views(alloc: Global, one: &[[u8; 25]], two: &[[u8; 25]]) -> Option<Flush> {
+    let mut flush = started(alloc, &[1, 2, 3])?;
+    if stands(&mut flush, 1, report(3, 0, 1, one), Progress::Waiting)
+        && stands(&mut flush, 2, report(4, 5, 5, two), Progress::Waiting)
         && is_complete(&mut flush, 3)
-        && cuts(&flush, alloc, Some(view_id(3)), 0, &[10])
-        && cuts(&flush, alloc, Some(view_id(4)), 5, &[60])
-        && cuts(&flush, alloc, None, 0, &[])
-        && cuts(&flush, alloc, Some(view_id(5)), 0, &[])
+    {
+        return Some(flush);
+    }
+    None
 }
 
 #[test]
 fn each_view_has_its_own_cut(rt: HostRuntime) {
-    assert!(rt; cuts_each(rt.alloc()));
+    let alloc = rt.alloc();
+    let (one, two) = ([spelled(1, 10)], [spelled(6, 60)]);
+    let flush = of_three_views(alloc, &one, &two).expect(
+        &rt,
+        "two reports waited and the third completed",
+    );
+    assert!(rt;
+        cuts(&flush, alloc, Some(view_id(3)), 0, &[10]),
+        "the cut of 3@1.1"
+    );
+    assert!(rt;
+        cuts(&flush, alloc, Some(view_id(4)), 5, &[60]),
+        "the cut of 4@1.1"
+    );
     cut_covers();
 }
 
-fn cuts_what_came_first(alloc: Global) -> bool {
-    let Some(mut flush) = started(alloc, &[1, 2]) else {
-        return false;
-    };
-    let two = [spelled(1, 21), spelled(2, 22)];
-    let one = [spelled(1, 11), spelled(2, 12), spelled(3, 13)];
-    stands(&mut flush, 2, report(3, 0, 1, &two), Progress::Waiting)
-        && stands(&mut flush, 1, report(3, 0, 2, &one), Progress::Complete)
-        && cuts(&flush, alloc, Some(view_id(3)), 0, &[21, 22, 13])
+#[test]
+fn the_cut_of_no_view_and_of_a_stranger_is_empty(rt: HostRuntime) {
+    let alloc = rt.alloc();
+    let (one, two) = ([spelled(1, 10)], [spelled(6, 60)]);
+    let flush = of_three_views(alloc, &one, &two).expect(
+        &rt,
+        "two reports waited and the third completed",
+    );
+    assert!(rt; cuts(&flush, alloc, None, 0, &[]), "no view");
+    assert!(rt;
+        cuts(&flush, alloc, Some(view_id(5)), 0, &[]),
+        "a view of which nobody came"
+    );
 }
 
 #[test]
 fn the_first_report_that_came_counts(rt: HostRuntime) {
-    assert!(rt; cuts_what_came_first(rt.alloc()));
-}
-
-fn go_together(alloc: Global) -> bool {
-    let Some(mut flush) = started(alloc, &[1, 2, 3, 4]) else {
-        return false;
-    };
-    stands(&mut flush, 3, report(3, 0, 0, &[]), Progress::Waiting)
-        && stands(&mut flush, 1, report(3, 0, 0, &[]), Progress::Waiting)
-        && waits(&mut flush, 4)
-        && goes_with(&flush, alloc, 1, &[1, 3])
-        && goes_with(&flush, alloc, 2, &[])
-        && is_complete(&mut flush, 2)
-        && goes_with(&flush, alloc, 4, &[2, 4])
+    let alloc = rt.alloc();
+    let mut flush = started(alloc, &[1, 2]).expect(&rt, "a flush");
+    let two = [spelled(1, 21), spelled(2, 22)];
+    let one = [spelled(1, 11), spelled(2, 12), spelled(3, 13)];
+    assert!(rt;
+        stands(&mut flush, 2, report(3, 0, 1, &two), Progress::Waiting),
+        "the first report"
+    );
+    assert!(rt;
+        stands(&mut flush, 1, report(3, 0, 2, &one), Progress::Complete),
+        "the second report"
+    );
+    assert!(rt;
+        cuts(&flush, alloc, Some(view_id(3)), 0, &[21, 22, 13]),
+        "the cut"
+    );
 }
 
 #[test]
 fn those_of_one_view_go_together(rt: HostRuntime) {
-    assert!(rt; go_together(rt.alloc()));
+    let alloc = rt.alloc();
+    let mut flush = started(alloc, &[1, 2, 3, 4]).expect(&rt, "a flush");
+    assert!(rt;
+        stands(&mut flush, 3, report(3, 0, 0, &[]), Progress::Waiting),
+        "the first report"
+    );
+    assert!(rt;
+        stands(&mut flush, 1, report(3, 0, 0, &[]), Progress::Waiting),
+        "the second report"
+    );
+    assert!(rt; waits(&mut flush, 4), "the third report, of no view");
+    assert!(rt;
+        goes_with(&flush, alloc, 1, &[1, 3]),
+        "those who come from one view"
+    );
+    assert!(rt;
+        goes_with(&flush, alloc, 2, &[]),
+        "one who has not reported"
+    );
+    assert!(rt; is_complete(&mut flush, 2), "the last report, of no view");
+    assert!(rt;
+        goes_with(&flush, alloc, 4, &[2, 4]),
+        "those who come from no view"
+    );
 }
 
 /// Whether a report is recorded, or is refused for want of memory and leaves the flush as it was, so that it is recorded afterwards.
@@ -187,19 +235,16 @@ fn told_or_unchanged(flush: &mut Flush, node: u16, report: &Report<'_>) -> bool
     }
 }
 
-fn keeps_what_was(mut flush: Flush) -> bool {
-    match report(3, 0, 1, &[spelled(1, 10)]) {
-        Some(told) => {
-            told_or_unchanged(&mut flush, 1, &told) && told_or_unchanged(&mut flush, 2, &told)
-        }
-        None => false,
-    }
-}
-
 // With each allocation refused in turn (`rt try --test --fail-alloc N`) it still holds.
 #[test]
 fn a_refused_growth_changes_nothing(rt: HostRuntime) {
-    if let Some(flush) = started(rt.alloc(), &[1, 2]) {
-        assert!(rt; keeps_what_was(flush));
+    if let Some(mut flush) = started(rt.alloc(), &[1, 2]) {
+        let held = [spelled(1, 10)];
+        let told = report(3, 0, 1, &held).expect(&rt, "a report");
+        assert!(rt; told_or_unchanged(&mut flush, 1, &told), "the first report");
+        assert!(rt;
+            told_or_unchanged(&mut flush, 2, &told),
+            "the second report"
+        );
     }
 }

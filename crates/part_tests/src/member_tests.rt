@@ -106,57 +106,82 @@ fn holds(receiver: Option<&Last>, value: u8) -> bool {
     }
 }
 
-fn creates(alloc: Global) -> bool {
-    let Some(mut member) = member(alloc, 1) else {
-        return false;
-    };
-    let me = first_of(1);
-    member.address() == me
-        && member.view().is_none()
-        && counts(member.handle(Input::Create)) == Some((0, 1))
-        && is_first(member.view())
-        && !member.is_blocked()
-        && holds(member.receiver(), 0)
-        && refusal(member.handle(Input::Create)) == 5
-        && refusal(member.handle(Input::Join(me))) == 5
+#[test]
+fn a_member_begins_without_a_view(rt: HostRuntime) {
+    let member = member(rt.alloc(), 1).expect(&rt, "a member");
+    assert!(rt; member.address() == first_of(1), "its address");
+    assert!(rt; member.view().is_none(), "it has no view");
 }
 
 #[test]
-fn creates_a_view_alone(rt: HostRuntime) {
-    assert!(rt; creates(rt.alloc()));
-}
-
-fn sends(alloc: Global) -> bool {
-    let Some(mut member) = alone(alloc) else {
-        return false;
-    };
-    is_told(&mut member, b"hi", 1)
-        && is_told(&mut member, b"ah", 2)
-        && holds(member.receiver(), b'a')
-        && refusal(member.handle(Input::Send(&[7; 513]))) == 4
-        && is_told(&mut member, &[7; 512], 3)
+fn a_create_installs_the_first_view(rt: HostRuntime) {
+    let mut member = member(rt.alloc(), 1).expect(&rt, "a member");
+    assert!(rt;
+        counts(member.handle(Input::Create)) == Some((0, 1)),
+        "one happening and no packet"
+    );
+    assert!(rt;
+        is_first(member.view()),
+        "the view is the first one, of itself alone"
+    );
+    assert!(rt; !member.is_blocked(), "it is not blocked");
+    assert!(rt;
+        holds(member.receiver(), 0),
+        "the receiver is told the view, and has its opening state"
+    );
 }
 
 #[test]
-fn sends_to_itself(rt: HostRuntime) {
-    assert!(rt; sends(rt.alloc()));
+fn a_member_with_a_view_creates_and_joins_no_more(rt: HostRuntime) {
+    let mut member = alone(rt.alloc()).expect(&rt, "a member alone");
+    assert_eq!(rt; refusal(member.handle(Input::Create)), 5, "a create");
+    assert_eq!(rt;
+        refusal(member.handle(Input::Join(first_of(1)))),
+        5,
+        "a join"
+    );
 }
 
-fn refuses_bad_bytes(alloc: Global) -> bool {
-    let Some(mut member) = alone(alloc) else {
-        return false;
-    };
-    for (bytes, number) in BAD {
-        if refusal(member.handle(Input::Datagram(bytes))) != number {
-            return false;
-        }
+#[test]
+fn a_member_alone_is_told_what_it_sends(rt: HostRuntime) {
+    let mut member = alone(rt.alloc()).expect(&rt, "a member alone");
+    assert!(rt; is_told(&mut member, b"hi", 1), "the first message");
+    assert!(rt; is_told(&mut member, b"ah", 2), "the second message");
+    assert!(rt;
+        holds(member.receiver(), b'a'),
+        "the receiver has the second"
+    );
+}
+
+#[test]
+fn a_payload_of_513_bytes_is_refused(rt: HostRuntime) {
+    let mut member = alone(rt.alloc()).expect(&rt, "a member alone");
+    assert_eq!(rt; refusal(member.handle(Input::Send(&[7; 513]))), 4);
+}
+
+#[test]
+fn a_payload_of_512_bytes_is_sent_under_the_next_number(rt: HostRuntime) {
+    let mut member = alone(rt.alloc()).expect(&rt, "a member alone");
+    for payload in [b"hi".as_slice(), b"ah".as_slice(), &[7; 513]] {
+        refusal(member.handle(Input::Send(payload)));
     }
-    is_told(&mut member, b"hi", 1)
+    assert!(rt; is_told(&mut member, &[7; 512], 3));
 }
 
 #[test]
 fn bad_bytes_change_nothing(rt: HostRuntime) {
-    assert!(rt; refuses_bad_bytes(rt.alloc()));
+    let mut member = alone(rt.alloc()).expect(&rt, "a member alone");
+    for (bytes, number) in BAD {
+        assert_eq!(rt;
+            refusal(member.handle(Input::Datagram(bytes))),
+            number,
+            "bytes that are refused with {number}"
+        );
+    }
+    assert!(rt;
+        is_told(&mut member, b"hi", 1),
+        "the first message afterwards"
+    );
 }
 
 // Whether a leave is taken, and its first happening is that the member left.
@@ -167,23 +192,38 @@ fn leaves(member: &mut Member<Last>) -> bool {
     }
 }
 
-fn answers_6(alloc: Global) -> bool {
-    let Some(mut member) = alone(alloc) else {
-        return false;
-    };
-    let left = leaves(&mut member) && member.view().is_none() && member.receiver().is_none();
-    for (bytes, _) in BAD {
-        if refusal(member.handle(Input::Datagram(bytes))) != 6 {
-            return false;
-        }
-    }
-    left && refusal(member.handle(Input::Tick)) == 6
-        && refusal(member.handle(Input::Send(b"hi"))) == 6
+// A member that was alone and left.
+fn left(alloc: Global) -> Option<Member<Last>> {
+    let mut member = alone(alloc)?;
+    member.handle(Input::Leave).ok()?;
+    Some(member)
 }
 
 #[test]
-fn answers_6_after_its_end(rt: HostRuntime) {
-    assert!(rt; answers_6(rt.alloc()));
+fn a_leave_is_the_first_happening(rt: HostRuntime) {
+    let mut member = alone(rt.alloc()).expect(&rt, "a member alone");
+    assert!(rt; leaves(&mut member));
+}
+
+#[test]
+fn a_member_that_left_has_no_view_and_no_receiver(rt: HostRuntime) {
+    let member = left(rt.alloc()).expect(&rt, "a member that left");
+    assert!(rt; member.view().is_none(), "no view");
+    assert!(rt; member.receiver().is_none(), "no receiver");
+}
+
+#[test]
+fn a_member_that_left_answers_6(rt: HostRuntime) {
+    let mut member = left(rt.alloc()).expect(&rt, "a member that left");
+    for (bytes, number) in BAD {
+        assert_eq!(rt;
+            refusal(member.handle(Input::Datagram(bytes))),
+            6,
+            "bytes that were refused with {number}"
+        );
+    }
+    assert_eq!(rt; refusal(member.handle(Input::Tick)), 6, "a tick");
+    assert_eq!(rt; refusal(member.handle(Input::Send(b"hi"))), 6, "a send");
 }
 
 // Whether an answer is one packet to 1.1, the JOIN of 2.1.
@@ -197,59 +237,80 @@ fn asks(answer: Result<Output, Error>) -> bool {
     }
 }
 
-fn asks_again(alloc: Global) -> bool {
-    let Some(mut member) = member(alloc, 2) else {
-        return false;
-    };
-    counts(member.handle(Input::Tick)) == Some((0, 0))
-        && asks(member.handle(Input::Join(first_of(1))))
-        && asks(member.handle(Input::Tick))
-        && refusal(member.handle(Input::Create)) == 5
-        && refusal(member.handle(Input::Send(b"hi"))) == 1
+#[test]
+fn a_tick_of_a_member_that_asked_nobody_does_nothing(rt: HostRuntime) {
+    let mut member = member(rt.alloc(), 2).expect(&rt, "a member");
+    assert!(rt; counts(member.handle(Input::Tick)) == Some((0, 0)));
 }
 
 #[test]
-fn asks_again_to_be_let_in(rt: HostRuntime) {
-    assert!(rt; asks_again(rt.alloc()));
+fn a_tick_asks_again_to_be_let_in(rt: HostRuntime) {
+    let mut member = member(rt.alloc(), 2).expect(&rt, "a member");
+    assert!(rt;
+        asks(member.handle(Input::Join(first_of(1)))),
+        "the join asks"
+    );
+    assert!(rt; asks(member.handle(Input::Tick)), "the tick asks again");
 }
 
-fn ignores(alloc: Global) -> bool {
-    let Some(mut member) = alone(alloc) else {
-        return false;
-    };
-    for bytes in [JOIN, JOIN_TO_LATER, JOIN_TO_ITSELF, JOIN_OF_NIGHT] {
-        if counts(member.handle(Input::Datagram(bytes))) != Some((0, 0)) {
-            return false;
-        }
+#[test]
+fn a_member_that_asks_may_not_create_nor_send(rt: HostRuntime) {
+    let mut member = member(rt.alloc(), 2).expect(&rt, "a member");
+    assert!(rt;
+        asks(member.handle(Input::Join(first_of(1)))),
+        "the join asks"
+    );
+    assert_eq!(rt; refusal(member.handle(Input::Create)), 5, "a create");
+    assert_eq!(rt; refusal(member.handle(Input::Send(b"hi"))), 1, "a send");
+}
+
+// Packets that a member alone takes and does nothing for, each with what it is.
+const IGNORED: [(&[u8], &str); 4] = [
+    (JOIN, "a join"),
+    (JOIN_TO_LATER, "a join to its next incarnation"),
+    (JOIN_TO_ITSELF, "a join of itself"),
+    (JOIN_OF_NIGHT, "a join in another group"),
+];
+
+#[test]
+fn some_packets_are_ignored(rt: HostRuntime) {
+    let mut member = alone(rt.alloc()).expect(&rt, "a member alone");
+    for (bytes, what) in IGNORED {
+        assert!(rt;
+            counts(member.handle(Input::Datagram(bytes))) == Some((0, 0)),
+            "{what}"
+        );
     }
-    is_told(&mut member, b"hi", 1)
+    assert!(rt;
+        is_told(&mut member, b"hi", 1),
+        "the first message afterwards"
+    );
 }
 
 #[test]
-fn ignores_packets(rt: HostRuntime) {
-    assert!(rt; ignores(rt.alloc()));
-}
-
-fn ends(alloc: Global) -> bool {
-    let Some(mut member) = alone(alloc) else {
-        return false;
-    };
-    refusal(member.handle(Input::Send(b"\xff"))) == 7
-        && member.receiver().is_none()
-        && refusal(member.handle(Input::Send(b"hi"))) == 6
-}
-
-#[test]
-fn ends_where_memory_is_refused(rt: HostRuntime) {
-    assert!(rt; ends(rt.alloc()));
+fn a_member_whose_receiver_is_refused_memory_has_ended(rt: HostRuntime) {
+    let mut member = alone(rt.alloc()).expect(&rt, "a member alone");
+    assert_eq!(rt;
+        refusal(member.handle(Input::Send(b"\xff"))),
+        7,
+        "the refusal"
+    );
+    assert!(rt; member.receiver().is_none(), "the receiver is gone");
+    assert_eq!(rt;
+        refusal(member.handle(Input::Send(b"hi"))),
+        6,
+        "the next send"
+    );
 }
 
 #[test]
 fn refusals_have_their_numbers(rt: HostRuntime) {
-    assert!(rt;
-        Error::Blocked.number() == 2
-            && Error::Busy.number() == 3
-            && Error::Exhausted.number() == 8
-            && Error::Wire(WireError::NotOurs).number() == 21
+    assert_eq!(rt; Error::Blocked.number(), 2, "blocked");
+    assert_eq!(rt; Error::Busy.number(), 3, "busy");
+    assert_eq!(rt; Error::Exhausted.number(), 8, "a number is used up");
+    assert_eq!(rt;
+        Error::Wire(WireError::NotOurs).number(),
+        21,
+        "a packet of another protocol"
     );
 }

@@ -47,97 +47,99 @@ fn after_three(alloc: Global) -> Result<Window, AllocError> {
     Ok(window)
 }
 
-fn takes_what_is_new(alloc: Global) -> bool {
-    let Ok(mut window) = Window::new(alloc) else {
-        return false;
-    };
-    !offered(&mut window, 33)
-        && offered(&mut window, 32)
-        && !offered(&mut window, 32)
-        && offered(&mut window, 1)
-        && next(&mut window) == 1
-        && next(&mut window) == 0
+#[test]
+fn an_entry_out_of_reach_is_not_taken(rt: HostRuntime) {
+    let mut window = Window::new(rt.alloc()).ok().expect(&rt, "a window");
+    assert!(rt; !offered(&mut window, 33), "33 of a window of 32");
+    assert!(rt; offered(&mut window, 32), "32 of a window of 32");
 }
 
 #[test]
-fn takes_what_is_new_and_within_reach(rt: HostRuntime) {
-    assert!(rt; takes_what_is_new(rt.alloc()));
+fn an_entry_is_taken_once(rt: HostRuntime) {
+    let mut window = Window::new(rt.alloc()).ok().expect(&rt, "a window");
+    assert!(rt; offered(&mut window, 32), "first");
+    assert!(rt; !offered(&mut window, 32), "again");
 }
 
-fn tells_in_order(alloc: Global) -> bool {
-    let Ok(mut window) = Window::new(alloc) else {
-        return false;
-    };
-    offered(&mut window, 2)
-        && next(&mut window) == 0
-        && offered(&mut window, 1)
-        && offered(&mut window, 3)
-        && next(&mut window) == 1
-        && next(&mut window) == 2
-        && next(&mut window) == 3
-        && next(&mut window) == 0
-        && window.delivered() == 3
+#[test]
+fn nothing_is_delivered_behind_a_gap(rt: HostRuntime) {
+    let mut window = Window::new(rt.alloc()).ok().expect(&rt, "a window");
+    assert!(rt; offered(&mut window, 32), "32 is taken");
+    assert!(rt; offered(&mut window, 1), "1 is taken");
+    assert_eq!(rt; next(&mut window), 1, "1 is delivered");
+    assert_eq!(rt; next(&mut window), 0, "32 is not");
 }
 
 #[test]
 fn delivers_in_order(rt: HostRuntime) {
-    assert!(rt; tells_in_order(rt.alloc()));
+    let mut window = Window::new(rt.alloc()).ok().expect(&rt, "a window");
+    assert!(rt; offered(&mut window, 2), "2 is taken");
+    assert_eq!(rt;
+        next(&mut window),
+        0,
+        "nothing is delivered before 1 has come"
+    );
+    assert!(rt; offered(&mut window, 1), "1 is taken");
+    assert!(rt; offered(&mut window, 3), "3 is taken");
+    for number in 1..4 {
+        assert_eq!(rt; next(&mut window), number, "delivered in its turn");
+    }
+    assert_eq!(rt; next(&mut window), 0, "nothing is left");
+    assert_eq!(rt; window.delivered(), 3, "how many were delivered");
 }
 
-fn has_let_go_two(alloc: Global) -> bool {
-    let Ok(mut window) = after_three(alloc) else {
-        return false;
-    };
-    window.delivered() == 3
-        && window.stable() == 2
-        && window.entry(2).is_none()
-        && window.entry(3).is_some()
-        && offered(&mut window, 34)
-        && !offered(&mut window, 35)
-        && window.gaps(34) == Some((4, 33))
-        && window.gaps(3).is_none()
+#[test]
+fn tells_what_is_delivered_and_stable(rt: HostRuntime) {
+    let window = after_three(rt.alloc()).ok().expect(&rt, "a window");
+    assert_eq!(rt; window.delivered(), 3, "delivered");
+    assert_eq!(rt; window.stable(), 2, "stable");
 }
 
 #[test]
 fn lets_go_what_is_stable(rt: HostRuntime) {
-    assert!(rt; has_let_go_two(rt.alloc()));
-}
-
-/// Whether an entry, as it is lent, is that of 1.1 with the number 4 and the bytes 1 and 2.
-fn is_the_fourth(entry: &LentEntry<'_>) -> bool {
-    entry.sender == first_of(1)
-        && entry.number.get() == 4
-        && entry.payload.as_slice() == [1, 2].as_slice()
-}
-
-fn tells_its_parts(alloc: Global) -> bool {
-    let Some(lent) = lent(4, &[1, 2]) else {
-        return false;
-    };
-    match Entry::copy_of(alloc, &lent) {
-        Ok(entry) => is_the_fourth(&entry.lent()),
-        Err(_) => false,
-    }
-}
-
-fn keeps_its_bytes(alloc: Global) -> bool {
-    let Some(payload) = Payload::new(&[1, 2, 3]) else {
-        return false;
-    };
-    match KeptPayload::copy_of(alloc, &payload) {
-        Ok(kept) => kept.lent().as_slice() == [1, 2, 3].as_slice(),
-        Err(_) => false,
-    }
+    let window = after_three(rt.alloc()).ok().expect(&rt, "a window");
+    assert!(rt; window.entry(2).is_none(), "a stable entry is let go");
+    assert!(rt;
+        window.entry(3).is_some(),
+        "a delivered entry that is not stable is kept"
+    );
 }
 
 #[test]
-fn a_kept_payload_has_the_bytes_of_the_lent_one(rt: HostRuntime) {
-    assert!(rt; keeps_its_bytes(rt.alloc()));
+fn reaches_32_behind_what_is_stable(rt: HostRuntime) {
+    let mut window = after_three(rt.alloc()).ok().expect(&rt, "a window");
+    assert!(rt; offered(&mut window, 34), "34 behind 2");
+    assert!(rt; !offered(&mut window, 35), "35 behind 2");
+}
+
+#[test]
+fn tells_its_gaps(rt: HostRuntime) {
+    let mut window = after_three(rt.alloc()).ok().expect(&rt, "a window");
+    assert!(rt; offered(&mut window, 34), "34 is taken");
+    assert!(rt; window.gaps(34) == Some((4, 33)), "what lacks before 34");
+    assert!(rt; window.gaps(3).is_none(), "nothing lacks up to 3");
 }
 
 #[test]
 fn an_entry_tells_its_parts(rt: HostRuntime) {
-    assert!(rt; tells_its_parts(rt.alloc()));
+    let lent = lent(4, &[1, 2]).expect(&rt, "a lent entry");
+    let entry = Entry::copy_of(rt.alloc(), &lent).ok().expect(&rt, "a copy");
+    let again = entry.lent();
+    assert!(rt; again.sender == first_of(1), "the sender");
+    assert_eq!(rt; again.number.get(), 4, "the number");
+    assert!(rt;
+        again.payload.as_slice() == [1, 2].as_slice(),
+        "the payload"
+    );
+}
+
+#[test]
+fn a_kept_payload_has_the_bytes_of_the_lent_one(rt: HostRuntime) {
+    let payload = Payload::new(&[1, 2, 3]).expect(&rt, "a payload");
+    let kept = KeptPayload::copy_of(rt.alloc(), &payload)
+        .ok()
+        .expect(&rt, "a copy");
+    assert!(rt; kept.lent().as_slice() == [1, 2, 3].as_slice());
 }
 
 /// Whether an offer is taken, or is refused for want of memory and leaves the window as it was.
@@ -164,10 +166,13 @@ fn told_or_unchanged(window: &mut Window) -> bool {
 fn a_refused_growth_changes_nothing(rt: HostRuntime) {
     if let Ok(mut window) = Window::new(rt.alloc()) {
         for g in 1..4 {
-            assert!(rt; taken_or_unchanged(&mut window, g));
+            assert!(rt; taken_or_unchanged(&mut window, g), "the offer of {g}");
         }
-        for _ in 0..3 {
-            assert!(rt; told_or_unchanged(&mut window));
+        for turn in 0..3 {
+            assert!(rt;
+                told_or_unchanged(&mut window),
+                "the delivery in the turn {turn}"
+            );
         }
     }
     windows_agree();

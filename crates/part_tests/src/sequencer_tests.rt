@@ -64,64 +64,101 @@ fn pushed(alloc: Global, forwards: &mut Forwards, byte: u8) -> u64 {
     }
 }
 
-fn orders(alloc: Global) -> bool {
-    let Some(mut orderer) = of_two(alloc) else {
-        return false;
-    };
-    let (one, two) = (first_of(1), first_of(2));
-    offered(&mut orderer, two, 2, 120)
-        && ordered(&mut orderer, 0).is_none()
-        && offered(&mut orderer, two, 1, 121)
-        && offered(&mut orderer, one, 1, 122)
-        && ordered(&mut orderer, 0) == Some((1, 1, 1, 122))
-        && ordered(&mut orderer, 0) == Some((2, 2, 1, 121))
-        && ordered(&mut orderer, 0) == Some((3, 2, 2, 120))
-        && ordered(&mut orderer, 0).is_none()
-        && orderer.ordered() == 3
-}
-
 #[test]
 fn orders_by_rank_and_number(rt: HostRuntime) {
-    assert!(rt; orders(rt.alloc()));
-}
-
-fn takes_once(alloc: Global) -> bool {
-    let Some(mut orderer) = of_two(alloc) else {
-        return false;
-    };
-    let one = first_of(1);
-    offered(&mut orderer, one, 1, 1)
-        && !offered(&mut orderer, one, 1, 1)
-        && !offered(&mut orderer, one, 9, 1)
-        && !offered(&mut orderer, first_of(3), 1, 1)
-        && ordered(&mut orderer, 0).is_some()
-        && !offered(&mut orderer, one, 1, 1)
-        && offered(&mut orderer, one, 9, 1)
+    let mut orderer = of_two(rt.alloc()).expect(&rt, "an orderer");
+    let (one, two) = (first_of(1), first_of(2));
+    assert!(rt; offered(&mut orderer, two, 2, 120), "2 of 2.1 is taken");
+    assert!(rt;
+        ordered(&mut orderer, 0).is_none(),
+        "it is not ordered before 1 of 2.1"
+    );
+    assert!(rt; offered(&mut orderer, two, 1, 121), "1 of 2.1 is taken");
+    assert!(rt; offered(&mut orderer, one, 1, 122), "1 of 1.1 is taken");
+    assert!(rt;
+        ordered(&mut orderer, 0) == Some((1, 1, 1, 122)),
+        "1 of 1.1 comes first"
+    );
+    assert!(rt;
+        ordered(&mut orderer, 0) == Some((2, 2, 1, 121)),
+        "then 1 of 2.1"
+    );
+    assert!(rt;
+        ordered(&mut orderer, 0) == Some((3, 2, 2, 120)),
+        "then 2 of 2.1"
+    );
+    assert!(rt; ordered(&mut orderer, 0).is_none(), "then none");
+    assert_eq!(rt; orderer.ordered(), 3, "how many were ordered");
 }
 
 #[test]
 fn takes_each_message_once(rt: HostRuntime) {
-    assert!(rt; takes_once(rt.alloc()));
-}
-
-/// Whether eight messages are taken, a ninth is refused, and is taken once three were delivered.
-fn takes_eight(alloc: Global, mut forwards: Forwards) -> bool {
-    for number in 1..9 {
-        if pushed(alloc, &mut forwards, 7) != number {
-            return false;
-        }
-    }
-    let refused = pushed(alloc, &mut forwards, 7) == 103;
-    forwards.delivered(3);
-    refused
-        && forwards.rest().len() == 5
-        && pushed(alloc, &mut forwards, 7) == 9
-        && forwards.sent() == 9
+    let mut orderer = of_two(rt.alloc()).expect(&rt, "an orderer");
+    let one = first_of(1);
+    assert!(rt; offered(&mut orderer, one, 1, 1), "first");
+    assert!(rt; !offered(&mut orderer, one, 1, 1), "again");
+    assert!(rt; ordered(&mut orderer, 0).is_some(), "it is ordered");
+    assert!(rt;
+        !offered(&mut orderer, one, 1, 1),
+        "again, once it was ordered"
+    );
 }
 
 #[test]
-fn eight_are_outstanding(rt: HostRuntime) {
-    assert!(rt; takes_eight(rt.alloc(), Forwards::new(rt.alloc())));
+fn takes_no_message_of_a_stranger(rt: HostRuntime) {
+    let mut orderer = of_two(rt.alloc()).expect(&rt, "an orderer");
+    assert!(rt; !offered(&mut orderer, first_of(3), 1, 1));
+}
+
+#[test]
+fn takes_eight_behind_what_is_ordered(rt: HostRuntime) {
+    let mut orderer = of_two(rt.alloc()).expect(&rt, "an orderer");
+    let one = first_of(1);
+    assert!(rt; offered(&mut orderer, one, 1, 1), "1 is taken");
+    assert!(rt; !offered(&mut orderer, one, 9, 1), "9 is out of reach");
+    assert!(rt; ordered(&mut orderer, 0).is_some(), "1 is ordered");
+    assert!(rt; offered(&mut orderer, one, 9, 1), "9 is within reach");
+}
+
+/// What was taken of eight messages.
+fn eight(alloc: Global) -> Forwards {
+    let mut forwards = Forwards::new(alloc);
+    for _ in 0..8 {
+        pushed(alloc, &mut forwards, 7);
+    }
+    forwards
+}
+
+#[test]
+fn messages_are_numbered_from_1(rt: HostRuntime) {
+    let mut forwards = Forwards::new(rt.alloc());
+    for number in 1..9 {
+        assert_eq!(rt; pushed(rt.alloc(), &mut forwards, 7), number);
+    }
+}
+
+#[test]
+fn a_ninth_outstanding_message_is_refused(rt: HostRuntime) {
+    let mut forwards = eight(rt.alloc());
+    assert_eq!(rt; pushed(rt.alloc(), &mut forwards, 7), 103);
+}
+
+#[test]
+fn a_message_is_taken_once_others_were_delivered(rt: HostRuntime) {
+    let mut forwards = eight(rt.alloc());
+    assert_eq!(rt;
+        pushed(rt.alloc(), &mut forwards, 7),
+        103,
+        "the ninth is refused"
+    );
+    forwards.delivered(3);
+    assert_eq!(rt; forwards.rest().len(), 5, "how many are outstanding");
+    assert_eq!(rt;
+        pushed(rt.alloc(), &mut forwards, 7),
+        9,
+        "it is taken as the ninth"
+    );
+    assert_eq!(rt; forwards.sent(), 9, "how many were sent");
 }
 
 /// Whether a payload of one byte is taken, or is given back for want of memory with nothing changed.
@@ -151,10 +188,19 @@ fn taken_or_unchanged(orderer: &mut Orderer, sender: Address, number: u64) -> bo
 fn a_refused_growth_gives_the_payload_back(rt: HostRuntime) {
     let mut forwards = Forwards::new(rt.alloc());
     for byte in 1..4 {
-        assert!(rt; pushed_or_given_back(rt.alloc(), &mut forwards, byte));
+        assert!(rt;
+            pushed_or_given_back(rt.alloc(), &mut forwards, byte),
+            "the payload {byte}"
+        );
     }
     if let Some(mut orderer) = of_two(rt.alloc()) {
-        assert!(rt; taken_or_unchanged(&mut orderer, first_of(2), 1));
-        assert!(rt; taken_or_unchanged(&mut orderer, first_of(2), 2));
+        assert!(rt;
+            taken_or_unchanged(&mut orderer, first_of(2), 1),
+            "the message 1"
+        );
+        assert!(rt;
+            taken_or_unchanged(&mut orderer, first_of(2), 2),
+            "the message 2"
+        );
     }
 }

@@ -15,17 +15,31 @@ fn noted(acks: &mut Acks, node: u16, count: u64) -> u64 {
     acks.stable()
 }
 
-fn tells_the_least(alloc: Global) -> bool {
-    let Some(mut acks) = of_two(alloc) else {
-        return false;
-    };
-    noted(&mut acks, 1, 5) == 0
-        && noted(&mut acks, 2, 3) == 3
-        && noted(&mut acks, 2, 1) == 3
-        && noted(&mut acks, 3, 1) == 3
+#[test]
+fn nothing_is_stable_until_all_have_told(rt: HostRuntime) {
+    let mut acks = of_two(rt.alloc()).expect(&rt, "the view of two");
+    assert_eq!(rt; noted(&mut acks, 1, 5), 0);
 }
 
 #[test]
 fn stable_is_the_least_count(rt: HostRuntime) {
-    assert!(rt; tells_the_least(rt.alloc()));
+    let mut acks = of_two(rt.alloc()).expect(&rt, "the view of two");
+    noted(&mut acks, 1, 5);
+    assert_eq!(rt; noted(&mut acks, 2, 3), 3);
+}
+
+#[test]
+fn a_count_that_falls_is_passed_over(rt: HostRuntime) {
+    let mut acks = of_two(rt.alloc()).expect(&rt, "the view of two");
+    noted(&mut acks, 1, 5);
+    noted(&mut acks, 2, 3);
+    assert_eq!(rt; noted(&mut acks, 2, 1), 3);
+}
+
+#[test]
+fn a_count_of_a_stranger_is_passed_over(rt: HostRuntime) {
+    let mut acks = of_two(rt.alloc()).expect(&rt, "the view of two");
+    noted(&mut acks, 1, 5);
+    noted(&mut acks, 2, 3);
+    assert_eq!(rt; noted(&mut acks, 3, 1), 3);
 }

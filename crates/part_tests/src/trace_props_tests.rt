@@ -2,7 +2,7 @@ use crate::fixtures::first_of;
 use std::alloc::{AllocError, Global};
 use trace_props::{Bytes, HandedBack, Happening, Numbered, Trace};
 
-// What each rule refuses and what it lets pass is tested as text, in the sections `check` of the crate `worked`.
+// What each rule refuses and what it lets pass is tested as text, by the files `check-*.txt` of the crate `worked`.
 
 /// The trace of one start.
 fn started(alloc: Global) -> Result<Trace, AllocError> {
@@ -22,10 +22,8 @@ fn is_started(happenings: &[Happening]) -> bool {
 
 #[test]
 fn a_trace_tells_what_was_recorded(rt: HostRuntime) {
-    match started(rt.alloc()) {
-        Ok(trace) => assert!(rt; is_started(trace.happenings())),
-        Err(_) => assert!(rt; false),
-    }
+    let trace = started(rt.alloc()).ok().expect(&rt, "a trace");
+    assert!(rt; is_started(trace.happenings()));
 }
 
 /// One message handed back, whose payload is a copy.
@@ -36,19 +34,19 @@ fn one_back(alloc: Global) -> Result<HandedBack, AllocError> {
     Ok(HandedBack::from_vec(messages))
 }
 
-/// Whether that message is what is handed back.
-fn is_one(messages: &[Numbered]) -> bool {
-    match messages {
-        [message] => message.number == 4 && message.payload.as_slice() == b"hi".as_slice(),
-        _ => false,
-    }
+#[test]
+fn nothing_handed_back_is_no_message(rt: HostRuntime) {
+    assert_eq!(rt; HandedBack::nothing(rt.alloc()).as_slice().len(), 0);
 }
 
 #[test]
 fn what_is_handed_back_is_told(rt: HostRuntime) {
-    assert!(rt; HandedBack::nothing(rt.alloc()).as_slice().len() == 0);
-    match one_back(rt.alloc()) {
-        Ok(back) => assert!(rt; is_one(back.as_slice())),
-        Err(_) => assert!(rt; false),
-    }
+    let back = one_back(rt.alloc()).ok().expect(&rt, "a message");
+    let messages = back.as_slice();
+    assert_eq!(rt; messages.len(), 1, "how many messages there are");
+    assert_eq!(rt; messages[0].number, 4, "the number");
+    assert!(rt;
+        messages[0].payload.as_slice() == b"hi".as_slice(),
+        "the payload"
+    );
 }

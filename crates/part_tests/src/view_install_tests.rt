@@ -31,54 +31,125 @@ fn installed(promise: &mut Promise, counter: u64, node: u16) -> bool
     }
 }
 
-/// Whether 2.1 promises the greatest of the offers.
-fn promises_the_greatest(mut promise: Promise) -> bool {
-    promise.proposal().is_none()
-        && offered(&mut promise, 5) == OfferAnswer::Accept
-        && offered(&mut promise, 5) == OfferAnswer::Accept
-        && offered(&mut promise, 4) == OfferAnswer::Behind(5)
-        && offered(&mut promise, 6) == OfferAnswer::Accept
-        && offered(&mut promise, 5) == OfferAnswer::Behind(6)
-        && promise.is_frozen()
-        && promise
-            .proposal()
-            .is_some_and(|roster| roster.id().counter() == 6)
+#[test]
+fn nothing_is_promised_at_first(rt: HostRuntime) {
+    let promise = Promise::new(first_of(2));
+    assert!(rt; promise.proposal().is_none());
+}
+
+#[test]
+fn an_offer_is_accepted_again(rt: HostRuntime) {
+    let mut promise = Promise::new(first_of(2));
+    assert!(rt; offered(&mut promise, 5) == OfferAnswer::Accept, "first");
+    assert!(rt; offered(&mut promise, 5) == OfferAnswer::Accept, "again");
+}
+
+/// The promise of 2.1 that was offered 5, 5, 4 and 6.
+fn of_six() -> Promise {
+    let mut promise = Promise::new(first_of(2));
+    for counter in [5, 5, 4, 6] {
+        offered(&mut promise, counter);
+    }
+    promise
+}
+
+#[test]
+fn a_lower_offer_is_behind(rt: HostRuntime) {
+    let mut promise = Promise::new(first_of(2));
+    offered(&mut promise, 5);
+    assert!(rt;
+        offered(&mut promise, 4) == OfferAnswer::Behind(5),
+        "4 behind 5"
+    );
+    assert!(rt;
+        offered(&mut promise, 6) == OfferAnswer::Accept,
+        "6 after 5"
+    );
+    assert!(rt;
+        offered(&mut promise, 5) == OfferAnswer::Behind(6),
+        "5 behind 6"
+    );
 }
 
 #[test]
 fn the_greatest_offer_is_promised(rt: HostRuntime) {
-    assert!(rt; promises_the_greatest(Promise::new(first_of(2))));
-}
-
-/// Whether an offer without 2.1 is ignored, and leaves it free.
-fn ignores(mut promise: Promise) -> bool {
-    match proposal(7, 3) {
-        Some(other) => promise.offer(&other) == OfferAnswer::Ignore && !promise.is_frozen(),
-        None => false,
-    }
-}
-
-#[test]
-fn a_stranger_is_ignored(rt: HostRuntime) {
-    assert!(rt; ignores(Promise::new(first_of(2))));
-}
-
-/// Whether the promised view alone is installed, once, and is passed only by a later offer.
-fn installs_once(mut promise: Promise) -> bool {
-    !installed(&mut promise, 5, 2)
-        && offered(&mut promise, 5) == OfferAnswer::Accept
-        && !installed(&mut promise, 4, 2)
-        && !installed(&mut promise, 5, 3)
-        && promise.is_frozen()
-        && installed(&mut promise, 5, 2)
-        && !promise.is_frozen()
-        && !installed(&mut promise, 5, 2)
-        && offered(&mut promise, 5) == OfferAnswer::Ignore
-        && offered(&mut promise, 6) == OfferAnswer::Accept
+    let mut promise = of_six();
+    assert!(rt;
+        offered(&mut promise, 5) == OfferAnswer::Behind(6),
+        "a lower one is behind"
+    );
+    assert!(rt; promise.is_frozen(), "the promise binds");
+    assert!(rt;
+        promise
+            .proposal()
+            .is_some_and(|roster| roster.id().counter() == 6),
+        "the greatest is promised"
+    );
 }
 
 #[test]
-fn the_promised_view_is_installed_once(rt: HostRuntime) {
-    assert!(rt; installs_once(Promise::new(first_of(2))));
+fn an_offer_without_the_member_is_ignored(rt: HostRuntime) {
+    let mut promise = Promise::new(first_of(2));
+    let other = proposal(7, 3).expect(&rt, "a proposal without 2.1");
+    assert!(rt;
+        promise.offer(&other) == OfferAnswer::Ignore,
+        "it is ignored"
+    );
+    assert!(rt; !promise.is_frozen(), "it binds nothing");
+}
+
+#[test]
+fn nothing_is_installed_without_a_promise(rt: HostRuntime) {
+    let mut promise = Promise::new(first_of(2));
+    assert!(rt; !installed(&mut promise, 5, 2));
+}
+
+#[test]
+fn only_the_promised_view_is_installed(rt: HostRuntime) {
+    let mut promise = Promise::new(first_of(2));
+    offered(&mut promise, 5);
+    assert!(rt; !installed(&mut promise, 4, 2), "a lower view is not");
+    assert!(rt;
+        !installed(&mut promise, 5, 3),
+        "a view without the member is not"
+    );
+    assert!(rt; promise.is_frozen(), "the promise still binds");
+    assert!(rt; installed(&mut promise, 5, 2), "the promised view is");
+}
+
+/// The promise of 2.1 that was offered 5 and installed it.
+fn installed_five() -> Promise {
+    let mut promise = Promise::new(first_of(2));
+    installed(&mut promise, 5, 2);
+    offered(&mut promise, 5);
+    installed(&mut promise, 4, 2);
+    installed(&mut promise, 5, 3);
+    installed(&mut promise, 5, 2);
+    promise
+}
+
+#[test]
+fn an_installed_view_frees_the_promise(rt: HostRuntime) {
+    let promise = installed_five();
+    assert!(rt; !promise.is_frozen());
     promises_rise();
+}
+
+#[test]
+fn a_view_is_installed_once(rt: HostRuntime) {
+    let mut promise = installed_five();
+    assert!(rt; !installed(&mut promise, 5, 2));
+}
+
+#[test]
+fn an_installed_view_is_passed_by_a_later_offer_alone(rt: HostRuntime) {
+    let mut promise = installed_five();
+    assert!(rt;
+        offered(&mut promise, 5) == OfferAnswer::Ignore,
+        "its own offer is ignored"
+    );
+    assert!(rt;
+        offered(&mut promise, 6) == OfferAnswer::Accept,
+        "a later one is accepted"
+    );
 }

@@ -33,7 +33,11 @@ fn is(text: Result<Vec<u8>, AllocError>, wanted: &[u8]) -> bool {
 }
 
 #[test]
-fn chats_are_spelled(rt: HostRuntime) {
+fn a_chat_is_spelled_with_its_lines(rt: HostRuntime) {
     assert!(rt; is(two_said(rt.alloc()), b"chat 2.7 1.1:6869,2.7:\n"));
+}
+
+#[test]
+fn parts_are_spelled_one_behind_the_other(rt: HostRuntime) {
     assert!(rt; is(parts(rt.alloc()), b"x 65535.3ab0f"));
 }

@@ -13,8 +13,12 @@ fn has_first_line(text: &[u8], line: &[u8], behind: &[u8]) -> bool {
 }
 
 #[test]
-fn lines_are_cut(rt: HostRuntime) {
+fn a_line_ends_at_its_line_feed(rt: HostRuntime) {
     assert!(rt; has_first_line(b"a b\nc\n", b"a b", b"c\n"));
+}
+
+#[test]
+fn the_last_line_may_lack_its_line_feed(rt: HostRuntime) {
     assert!(rt; has_first_line(b"c", b"c", b""));
 }
 
@@ -28,19 +32,38 @@ fn is_cut(split: (&[u8], Option<&[u8]>), first: &[u8], behind: Option<&[u8]>) ->
 }
 
 #[test]
-fn fields_are_cut(rt: HostRuntime) {
+fn a_field_ends_at_its_first_space(rt: HostRuntime) {
     assert!(rt;
-        is_cut(first_field(b"ab cd e"), b"ab", Some(b"cd e"))
-            && is_cut(first_field(b" a"), b"", Some(b"a"))
-            && is_cut(first_field(b"a "), b"a", Some(b""))
-            && is_cut(first_field(b"a"), b"a", None)
-            && is_cut(split_at_first(b'@', b"7@3.1"), b"7", Some(b"3.1"))
+        is_cut(first_field(b"ab cd e"), b"ab", Some(b"cd e")),
+        "three fields"
+    );
+    assert!(rt; is_cut(first_field(b"a"), b"a", None), "the last field");
+}
+
+#[test]
+fn a_field_may_be_empty(rt: HostRuntime) {
+    assert!(rt;
+        is_cut(first_field(b" a"), b"", Some(b"a")),
+        "before the space"
+    );
+    assert!(rt;
+        is_cut(first_field(b"a "), b"a", Some(b"")),
+        "behind the space"
     );
 }
 
 #[test]
-fn numbers_are_read(rt: HostRuntime) {
+fn a_view_id_is_cut_at_its_sign(rt: HostRuntime) {
+    assert!(rt; is_cut(split_at_first(b'@', b"7@3.1"), b"7", Some(b"3.1")));
+}
+
+#[test]
+fn the_greatest_number_of_a_range_is_read(rt: HostRuntime) {
     assert!(rt; number_in(1, 40, b"40") == Some(40));
+}
+
+#[test]
+fn a_number_below_its_range_is_refused(rt: HostRuntime) {
     assert!(rt; number_in(2, 40, b"1").is_none());
 }
 
@@ -62,10 +85,20 @@ const NO_ADDRESSES: [&[u8]; 13] = [
 
 #[test]
 fn addresses_are_read(rt: HostRuntime) {
-    assert!(rt; address_in(b"3.1") == Some(address(3, 1)));
-    assert!(rt; address_in(b"65535.4294967295") == Some(address(65535, 4_294_967_295)));
-    for text in NO_ADDRESSES {
-        assert!(rt; address_in(text).is_none());
+    assert!(rt; address_in(b"3.1") == Some(address(3, 1)), "a small one");
+    assert!(rt;
+        address_in(b"65535.4294967295") == Some(address(65535, 4_294_967_295)),
+        "the greatest"
+    );
+}
+
+#[test]
+fn what_is_no_address_is_refused(rt: HostRuntime) {
+    for (i, text) in NO_ADDRESSES.iter().enumerate() {
+        assert!(rt;
+            address_in(text).is_none(),
+            "the text {i} of NO_ADDRESSES, counted from 0"
+        );
     }
 }
 
@@ -86,11 +119,21 @@ fn is_refused(rest: Option<&[u8]>, want: Fault) -> bool {
 }
 
 #[test]
-fn address_fields_are_read(rt: HostRuntime) {
-    assert!(rt;
-        is_in_front(Some(b"3.1 7.2"))
-            && is_refused(None, Fault::MissingField)
-            && is_refused(Some(b"3"), Fault::BadNumber)
-            && Fault::UnknownWord.number() == 40
-    );
+fn an_address_in_front_is_read(rt: HostRuntime) {
+    assert!(rt; is_in_front(Some(b"3.1 7.2")));
+}
+
+#[test]
+fn an_address_that_is_not_there_is_a_missing_field(rt: HostRuntime) {
+    assert!(rt; is_refused(None, Fault::MissingField));
+}
+
+#[test]
+fn a_field_that_is_no_address_is_a_bad_number(rt: HostRuntime) {
+    assert!(rt; is_refused(Some(b"3"), Fault::BadNumber));
+}
+
+#[test]
+fn an_unknown_word_is_told_as_40(rt: HostRuntime) {
+    assert_eq!(rt; Fault::UnknownWord.number(), 40);
 }

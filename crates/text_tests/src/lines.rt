@@ -70,17 +70,29 @@ fn is_appended(alloc: Global, happening: Option<Happening>, want: &str) -> bool 
 }
 
 #[test]
-fn happenings_are_printed(rt: HostRuntime) {
-    let alloc = rt.alloc();
-    let all = "installed 3.4294967295 3@1.1 4@2.1 2.1,3.4294967295 2.1,3.4294967295 9:00af =00\n";
+fn an_install_is_printed_with_all_its_fields(rt: HostRuntime) {
+    let want = "installed 3.4294967295 3@1.1 4@2.1 2.1,3.4294967295 2.1,3.4294967295 9:00af =00\n";
+    assert!(rt; is_appended(rt.alloc(), install(rt.alloc()), want));
+}
+
+#[test]
+fn a_send_of_an_empty_payload_is_printed_with_a_dash(rt: HostRuntime) {
+    assert!(rt; is_appended(rt.alloc(), sending(rt.alloc()), "sent 2.1 1@2.1 9 -\n"));
+}
+
+#[test]
+fn a_delivery_is_printed_with_its_payload(rt: HostRuntime) {
     assert!(rt;
-        is_appended(alloc, install(alloc), all)
-            && is_appended(alloc, sending(alloc), "sent 2.1 1@2.1 9 -\n")
-            && is_appended(alloc, delivery(alloc), "delivered 1.10 1@2.1 2.1 9 6869\n")
-            && is_appended(
-                alloc,
-                Some(Happening::Blocked(address(9, 1))),
-                "blocked 9.1\n"
-            )
+        is_appended(
+            rt.alloc(),
+            delivery(rt.alloc()),
+            "delivered 1.10 1@2.1 2.1 9 6869\n"
+        )
     );
+}
+
+#[test]
+fn a_block_is_printed(rt: HostRuntime) {
+    let blocked = Some(Happening::Blocked(address(9, 1)));
+    assert!(rt; is_appended(rt.alloc(), blocked, "blocked 9.1\n"));
 }

@@ -80,31 +80,39 @@ impl Write for Failing {
     }
 }
 
-/// Whether a writer that fails behind 15 bytes takes these of a run.
-fn takes_a_beginning(alloc: Global) -> bool {
-    let Ok(trace) = read_trace(alloc, FIRST_RUN.as_bytes()) else {
-        return false;
-    };
-    let mut writer = Failing {
-        taken: Vec::new(alloc),
-        most: 15,
-    };
-    write_run(alloc, &mut writer, &[1], &[done(4)], trace.happenings()) == Printed::Failed
-        && writer.taken.as_slice() == b"started 1.1\nins".as_slice()
-}
-
-/// Whether a writer takes four bytes, and then no more.
-fn takes_four(alloc: Global) -> bool {
-    let mut small = Failing {
-        taken: Vec::new(alloc),
-        most: 4,
-    };
-    put_all(&mut small, b"abcd").is_ok()
-        && put_all(&mut small, b"e").is_err()
-        && small.taken.as_slice() == b"abcd".as_slice()
+#[test]
+fn a_writer_that_fails_has_taken_a_beginning_of_the_run(rt: HostRuntime) {
+    let alloc = rt.alloc();
+    match read_trace(alloc, FIRST_RUN.as_bytes()) {
+        Ok(trace) => {
+            let mut writer = Failing {
+                taken: Vec::new(alloc),
+                most: 15,
+            };
+            let printed = write_run(alloc, &mut writer, &[1], &[done(4)], trace.happenings());
+            assert!(rt; printed == Printed::Failed, "the failure is told");
+            assert!(rt;
+                writer.taken.as_slice() == b"started 1.1\nins".as_slice(),
+                "what it has taken"
+            );
+        }
+        Err(_) => assert!(rt; false, "the trace is read"),
+    }
 }
 
 #[test]
-fn failing_writers_take_a_beginning(rt: HostRuntime) {
-    assert!(rt; takes_a_beginning(rt.alloc()) && takes_four(rt.alloc()));
+fn a_text_is_put_whole_or_a_failure_is_told(rt: HostRuntime) {
+    let mut small = Failing {
+        taken: Vec::new(rt.alloc()),
+        most: 4,
+    };
+    assert!(rt;
+        put_all(&mut small, b"abcd").is_ok(),
+        "four bytes are taken"
+    );
+    assert!(rt; put_all(&mut small, b"e").is_err(), "the fifth is refused");
+    assert!(rt;
+        small.taken.as_slice() == b"abcd".as_slice(),
+        "what was taken"
+    );
 }

@@ -1,22 +1,31 @@
 use crate::fixtures::address;
-use address::Address;
 use script_reader::{Script, read_script};
+use std::process::Abort;
 use world_model::WorldEvent;
 
-// What other scripts say, and which are refused, stands as text in the sections `world` of the crate `worked`.
+// What other scripts say, and which are refused, stands as text in the files of the crate `worked`.
 
 const EACH: &[u8] =
     b"start 1\n\n# a comment\ncreate 2\njoin 65535 65535.4294967295\nsend 7  \xff# 1\n#\ndeliver 4611686018427387904\ntick 9\nleave 65534\ncrash 10";
 
-/// Whether a join's contact, a send's payload and the number of a packet are those of `EACH`.
-fn has_its_parts(contact: Address, payload: &[u8], packet: u64) -> bool {
-    contact == address(65535, 4_294_967_295)
-        && payload == b" \xff# 1".as_slice()
-        && packet == 4_611_686_018_427_387_904
+#[test]
+fn events_have_the_numbers_of_their_lines(rt: HostRuntime) {
+    match read_script(rt.alloc(), EACH) {
+        Ok(script) => assert!(rt; script.lines() == [1, 4, 5, 6, 8, 9, 10, 11].as_slice()),
+        Err(_) => assert!(rt; false, "the script is read"),
+    }
 }
 
-/// Whether a script has the events that the lines of `EACH` spell.
-fn has_its_events(script: &Script) -> bool {
+#[test]
+fn each_event_is_read_with_its_parts(rt: HostRuntime) {
+    match read_script(rt.alloc(), EACH) {
+        Ok(script) => are_parts_read(&rt, &script),
+        Err(_) => assert!(rt; false, "the script is read"),
+    }
+}
+
+/// Asserts each part that the lines of `EACH` spell.
+fn are_parts_read(rt: &impl Abort, script: &Script) {
     match script.events() {
         [
             WorldEvent::Start(start),
@@ -28,21 +37,22 @@ fn has_its_events(script: &Script) -> bool {
             WorldEvent::Leave(leave),
             WorldEvent::Crash(crash),
         ] => {
-            let nodes = [start, create, join, send, tick, leave, crash];
-            nodes.map(|node| node.number()) == [1, 2, 65535, 7, 9, 65534, 10]
-                && has_its_parts(*contact, payload.as_slice(), *packet)
+            let nodes = [start, create, join, send, tick, leave, crash].map(|node| node.number());
+            assert!(rt; nodes == [1, 2, 65535, 7, 9, 65534, 10], "the nodes");
+            assert!(rt;
+                *contact == address(65535, 4_294_967_295),
+                "the contact of the join"
+            );
+            assert!(rt;
+                payload.as_slice() == b" \xff# 1".as_slice(),
+                "the payload of the send"
+            );
+            assert_eq!(rt;
+                *packet,
+                4_611_686_018_427_387_904,
+                "the packet of the delivery"
+            );
         }
-        _ => false,
-    }
-}
-
-#[test]
-fn scripts_are_read(rt: HostRuntime) {
-    match read_script(rt.alloc(), EACH) {
-        Ok(script) => {
-            let lines = [1, 4, 5, 6, 8, 9, 10, 11];
-            assert!(rt; script.lines() == lines.as_slice() && has_its_events(&script))
-        }
-        Err(_) => assert!(rt; false),
+        _ => assert!(rt; false, "an event of each kind is read, in order"),
     }
 }

@@ -2,8 +2,9 @@ use crate::fixtures::{address, with_copies};
 use chat_log::ChatLog;
 use script_reader::Unread;
 use std::alloc::Global;
+use std::process::Abort;
 use trace_checker::check;
-use trace_props::{Delivery, Happening, Install, Numbered, Rule, Verdict};
+use trace_props::{Happening, Install, Rule, Verdict};
 use trace_reader::{TRACE_LINE, read_trace, reads_what_is_written};
 use vsync_text::append_happening;
 
@@ -29,17 +30,17 @@ fn is_refused(alloc: Global, text: &[u8], wanted: u64, number: u8) -> bool {
     }
 }
 
-/// Whether each of these texts is read, and printed again as it stands.
-fn are_read_whole(alloc: Global, texts: &[&str]) -> bool {
+/// The first of these texts that is not read, or not printed again as it stands.
+fn first_unlike<'a>(alloc: Global, texts: &[&'a str]) -> Option<&'a str> {
     for text in texts {
         if !says(alloc, text.as_bytes(), text.as_bytes()) {
-            return false;
+            return Some(*text);
         }
     }
-    true
+    None
 }
 
-// Lines that are refused stand as text in the sections `check` of the crate `worked`.
+// Lines that are refused stand as text in the files `faults-check-*.txt` of the crate `worked`.
 const WHOLE: [&str; 12] = [
     "",
     "started 1.1\n",
@@ -57,15 +58,18 @@ const WHOLE: [&str; 12] = [
 
 #[test]
 fn each_line_is_read_and_printed(rt: HostRuntime) {
-    assert!(rt; are_read_whole(rt.alloc(), &WHOLE));
+    assert_eq!(rt; first_unlike(rt.alloc(), &WHOLE), None);
 }
 
 #[test]
-fn lines_are_skipped_and_counted(rt: HostRuntime) {
+fn empty_lines_and_notes_are_skipped(rt: HostRuntime) {
     let text = b"# refused 3 5\n\nstarted 1.1\n#\n\nleft 1.1";
     assert!(rt; says(rt.alloc(), text, b"started 1.1\nleft 1.1\n"));
-    let late = b"#\n\nstarted 1.1\n\xff\nfly 1\n";
-    assert!(rt; is_refused(rt.alloc(), late, 4, 40));
+}
+
+#[test]
+fn empty_lines_and_notes_are_counted(rt: HostRuntime) {
+    assert!(rt; is_refused(rt.alloc(), b"#\n\nstarted 1.1\n\xff\nfly 1\n", 4, 40));
 }
 
 const VIEWS: [&str; 2] = [
@@ -75,7 +79,7 @@ const VIEWS: [&str; 2] = [
 
 #[test]
 fn members_make_a_view(rt: HostRuntime) {
-    assert!(rt; are_read_whole(rt.alloc(), &VIEWS));
+    assert_eq!(rt; first_unlike(rt.alloc(), &VIEWS), None);
 }
 
 /// Whether a front with so many digits behind it is read, or is not.
@@ -86,16 +90,19 @@ fn is_read(alloc: Global, front: &[u8], digits: usize, wanted: bool) -> bool {
     }
 }
 
-/// Whether a front is read with 512 bytes behind it, and not with 513.
-fn has_limit(alloc: Global, front: &[u8]) -> bool {
-    is_read(alloc, front, 1024, true) && is_read(alloc, front, 1026, false)
-}
-
 #[test]
-fn payloads_have_a_limit(rt: HostRuntime) {
+fn payloads_have_512_bytes_at_most(rt: HostRuntime) {
     let alloc = rt.alloc();
+    let (sent, delivered) = (b"sent 1.1 1@1.1 1 ", b"delivered 1.1 1@1.1 1.1 1 ");
+    assert!(rt; is_read(alloc, sent, 1024, true), "512 bytes sent");
+    assert!(rt; is_read(alloc, sent, 1026, false), "513 bytes sent");
     assert!(rt;
-        has_limit(alloc, b"sent 1.1 1@1.1 1 ") && has_limit(alloc, b"delivered 1.1 1@1.1 1.1 1 ")
+        is_read(alloc, delivered, 1024, true),
+        "512 bytes delivered"
+    );
+    assert!(rt;
+        is_read(alloc, delivered, 1026, false),
+        "513 bytes delivered"
     );
 }
 
@@ -111,60 +118,74 @@ fn is_too_long(alloc: Global, front: &[u8], digits: usize) -> bool {
 fn lines_have_a_limit(rt: HostRuntime) {
     let front = b"installed 10.1 - 1@1.1 1.1 1.1 - =";
     assert!(rt;
-        is_read(rt.alloc(), front, TRACE_LINE - 34, true)
-            && is_too_long(rt.alloc(), front, TRACE_LINE - 33)
-            && is_read(rt.alloc(), b"#", TRACE_LINE, true)
+        is_read(rt.alloc(), front, TRACE_LINE - 34, true),
+        "the longest line"
+    );
+    assert!(rt;
+        is_too_long(rt.alloc(), front, TRACE_LINE - 33),
+        "a byte more"
     );
 }
 
-/// Whether what is handed back is one message 4 with the payload `hi`.
-fn is_one(messages: &[Numbered]) -> bool {
-    match messages {
-        [message] => message.number == 4 && message.payload.as_slice() == b"hi".as_slice(),
-        _ => false,
-    }
-}
-
-/// Whether an install has the fields that its line spells.
-fn has_its_fields(install: &Install) -> bool {
-    install.member == address(2, 1)
-        && install.view.id().counter() == 7
-        && install.view.first() == address(3, 1)
-        && install.together.len() == 1
-        && is_one(install.handed_back.as_slice())
-}
-
-/// Whether a delivery has the fields that its line spells.
-fn has_the_fields(delivery: &Delivery) -> bool {
-    delivery.member == address(1, 1)
-        && delivery.view.creator() == address(3, 1)
-        && delivery.message.sender == address(2, 9)
-        && delivery.message.number == 12
-        && delivery.message.payload.as_slice() == b"hi".as_slice()
-}
-
-/// Whether a text is read as one install or one delivery, with the fields that its line spells.
-fn tells_its_fields(alloc: Global, text: &[u8]) -> bool {
-    let Ok(trace) = read_trace(alloc, text) else {
-        return false;
-    };
-    match trace.happenings() {
-        [Happening::Installed(install)] => has_its_fields(install),
-        [Happening::Delivered(delivery)] => has_the_fields(delivery),
-        _ => false,
-    }
+#[test]
+fn notes_have_no_limit(rt: HostRuntime) {
+    assert!(rt; is_read(rt.alloc(), b"#", TRACE_LINE, true));
 }
 
 #[test]
 fn an_install_has_its_fields(rt: HostRuntime) {
     let text = b"installed 2.1 6@2.1 7@3.1 3.1,2.1 2.1 4:6869 =0aff\n";
-    assert!(rt; tells_its_fields(rt.alloc(), text));
+    match read_trace(rt.alloc(), text) {
+        Ok(trace) => match trace.happenings() {
+            [Happening::Installed(install)] => are_fields_told(&rt, install),
+            _ => assert!(rt; false, "one install is read"),
+        },
+        Err(_) => assert!(rt; false, "the line is read"),
+    }
+}
+
+/// Asserts each field that the line of an install spells.
+fn are_fields_told(rt: &impl Abort, install: &Install) {
+    assert!(rt; install.member == address(2, 1), "the member");
+    assert_eq!(rt; install.view.id().counter(), 7, "the view's counter");
+    assert!(rt;
+        install.view.first() == address(3, 1),
+        "the view's coordinator"
+    );
+    assert_eq!(rt; install.together.len(), 1, "how many come along");
+    match install.handed_back.as_slice() {
+        [message] => {
+            assert_eq!(rt; message.number, 4, "the number of the message handed back");
+            assert!(rt;
+                message.payload.as_slice() == b"hi".as_slice(),
+                "its payload"
+            );
+        }
+        _ => assert!(rt; false, "one message is handed back"),
+    }
 }
 
 #[test]
 fn a_delivery_has_its_fields(rt: HostRuntime) {
-    let text = b"delivered 1.1 7@3.1 2.9 12 6869";
-    assert!(rt; tells_its_fields(rt.alloc(), text));
+    match read_trace(rt.alloc(), b"delivered 1.1 7@3.1 2.9 12 6869") {
+        Ok(trace) => match trace.happenings() {
+            [Happening::Delivered(delivery)] => {
+                assert!(rt; delivery.member == address(1, 1), "the member");
+                assert!(rt;
+                    delivery.view.creator() == address(3, 1),
+                    "the view's creator"
+                );
+                assert!(rt; delivery.message.sender == address(2, 9), "the sender");
+                assert_eq!(rt; delivery.message.number, 12, "the number");
+                assert!(rt;
+                    delivery.message.payload.as_slice() == b"hi".as_slice(),
+                    "the payload"
+                );
+            }
+            _ => assert!(rt; false, "one delivery is read"),
+        },
+        Err(_) => assert!(rt; false, "the line is read"),
+    }
 }
 
 /// Whether two happenings are read, or memory was refused.
@@ -187,27 +208,17 @@ fn verdict_on(alloc: Global, text: &[u8]) -> Option<Verdict> {
     check::<ChatLog>(alloc, &trace).ok()
 }
 
-// What each rule refuses and what it lets pass stands as text in the sections `check` of the crate `worked`.
+// What each rule refuses and what it lets pass stands as text in the files `check-*.txt` of the crate `worked`.
 #[test]
-fn traces_are_judged(rt: HostRuntime) {
+fn a_trace_that_keeps_the_rules_holds(rt: HostRuntime) {
+    assert!(rt; verdict_on(rt.alloc(), b"started 1.1\nleft 1.1\n") == Some(Verdict::Holds));
+}
+
+#[test]
+fn a_leave_of_a_member_that_never_started_breaks_a_rule(rt: HostRuntime) {
     let unstarted = Verdict::Breaks {
         rule: Rule::WellPlaced,
         place: 2,
     };
-    assert!(rt;
-        verdict_on(
-            rt.alloc(),
-            b"started 1.1
-left 1.1
-"
-        ) == Some(Verdict::Holds)
-    );
-    assert!(rt;
-        verdict_on(
-            rt.alloc(),
-            b"started 1.1
-left 2.1
-"
-        ) == Some(unstarted)
-    );
+    assert!(rt; verdict_on(rt.alloc(), b"started 1.1\nleft 2.1\n") == Some(unstarted));
 }

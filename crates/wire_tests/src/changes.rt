@@ -31,92 +31,116 @@ fn is_exact_at(alloc: Global, bytes: &[u8], index: usize) -> bool {
     true
 }
 
-/// Whether at every index a proper beginning is short, and a change of the byte is refused or another packet's spelling.
-fn is_exact_everywhere(alloc: Global, bytes: &[u8]) -> bool {
-    for end in 0..bytes.len() {
-        if refusal(&bytes[..end]) != 20 || !is_exact_at(alloc, bytes, end) {
-            return false;
+// Of one packet of each kind. The texts stand in the order of their kinds, and are counted from 0.
+#[test]
+fn each_beginning_of_a_packet_is_short(rt: HostRuntime) {
+    for (i, text) in EACH.iter().enumerate() {
+        let bytes = unhex(rt.alloc(), text).ok().expect(&rt, "the bytes");
+        for end in 0..bytes.len() {
+            assert_eq!(rt;
+                refusal(&bytes[..end]),
+                20,
+                "the first {end} bytes of the packet {i}"
+            );
         }
     }
-    true
 }
 
-/// Whether what a text spells is exact everywhere, and with one byte more behind it is refused for that.
-fn is_exact_text(alloc: Global, text: &[u8]) -> bool {
-    let Ok(mut bytes) = unhex(alloc, text) else {
-        return false;
-    };
-    is_exact_everywhere(alloc, &bytes) && bytes.push(0).is_ok() && refusal(&bytes) == 26
-}
-
-// Of one packet of each kind: every proper beginning is short, one byte more trails, and every change of one
-// byte is refused or another packet's spelling.
 #[test]
-fn each_kind_is_exact(rt: HostRuntime) {
-    let alloc = rt.alloc();
-    for text in EACH {
-        assert!(rt; is_exact_text(alloc, text));
+fn each_changed_byte_is_refused_or_another_packet(rt: HostRuntime) {
+    for (i, text) in EACH.iter().enumerate() {
+        let bytes = unhex(rt.alloc(), text).ok().expect(&rt, "the bytes");
+        for index in 0..bytes.len() {
+            assert!(rt;
+                is_exact_at(rt.alloc(), &bytes, index),
+                "the byte {index} of the packet {i}"
+            );
+        }
     }
 }
 
-/// Whether a packet is refused with a number once a byte is changed.
-fn is_refused_with(alloc: Global, bytes: &[u8], index: usize, value: u8, number: u8) -> bool {
-    match with_byte(alloc, bytes, index, value) {
-        Ok(changed) => refusal(&changed) == number,
-        Err(_) => false,
+#[test]
+fn a_byte_behind_a_packet_is_refused(rt: HostRuntime) {
+    for (i, text) in EACH.iter().enumerate() {
+        let mut bytes = unhex(rt.alloc(), text).ok().expect(&rt, "the bytes");
+        assert!(rt;
+            bytes.push(0).is_ok(),
+            "a byte is put behind the packet {i}"
+        );
+        assert_eq!(rt; refusal(&bytes), 26, "the packet {i}");
     }
 }
 
-/// Whether the changes of a JOIN are refused, each with its number.
-fn are_refused(alloc: Global) -> bool {
-    let Ok(join) = unhex(alloc, JOIN) else {
-        return false;
-    };
-    is_refused_with(alloc, &join, 0, 87, 21)
-        && is_refused_with(alloc, &join, 2, 9, 22)
-        && is_refused_with(alloc, &join, 3, 14, 23)
-        && is_refused_with(alloc, &join, 4, 33, 24)
-        && is_refused_with(alloc, &join, 5, 32, 25)
+/// The number with which a JOIN is refused once a byte is changed; 99 where memory was refused.
+fn changed(alloc: Global, index: usize, value: u8) -> u8 {
+    match unhex(alloc, JOIN) {
+        Ok(join) => match with_byte(alloc, &join, index, value) {
+            Ok(bytes) => refusal(&bytes),
+            Err(_) => 99,
+        },
+        Err(_) => 99,
+    }
 }
 
 #[test]
 fn a_changed_join_is_refused(rt: HostRuntime) {
-    assert!(rt; are_refused(rt.alloc()));
+    let alloc = rt.alloc();
+    assert_eq!(rt; changed(alloc, 0, 87), 21, "another protocol");
+    assert_eq!(rt; changed(alloc, 2, 9), 22, "another version");
+    assert_eq!(rt; changed(alloc, 3, 14), 23, "an unknown kind");
+    assert_eq!(rt; changed(alloc, 4, 33), 24, "a name that is too long");
+    assert_eq!(rt; changed(alloc, 5, 32), 25, "a blank in the name");
 }
 
-/// Whether so many zeros are refused with a number.
-fn are_zeros_refused(alloc: Global, count: usize, number: u8) -> bool {
+/// The number with which so many zeros are refused; 99 where memory was refused.
+fn zeros(alloc: Global, count: usize) -> u8 {
     match vec![in alloc; 0u8; count] {
-        Ok(zeros) => refusal(&zeros) == number,
-        Err(_) => false,
+        Ok(zeros) => refusal(&zeros),
+        Err(_) => 99,
     }
 }
 
 #[test]
-fn no_packets_are_refused(rt: HostRuntime) {
-    let alloc = rt.alloc();
-    assert!(rt; refusal(&[]) == 20);
-    assert!(rt; are_zeros_refused(alloc, 40_001, 24) && are_zeros_refused(alloc, 40_000, 21));
+fn no_bytes_are_too_short(rt: HostRuntime) {
+    assert_eq!(rt; refusal(&[]), 20);
 }
 
-/// Whether a JOIN trails with every count of zeros behind it that was looked at, until they are too many.
-fn is_long_first(alloc: Global) -> bool {
-    let Ok(mut bytes) = unhex(alloc, JOIN) else {
-        return false;
-    };
-    for length in bytes.len()..40_000 {
-        let is_well = length % 4_096 != 0 || refusal(&bytes) == 26;
-        if !is_well || bytes.push(0).is_err() {
-            return false;
-        }
-    }
-    bytes.len() == 40_000 && refusal(&bytes) == 26 && bytes.push(0).is_ok() && refusal(&bytes) == 24
+#[test]
+fn a_datagram_of_40001_bytes_is_too_long(rt: HostRuntime) {
+    assert_eq!(rt; zeros(rt.alloc(), 40_001), 24, "40,001 zeros");
+    assert_eq!(rt;
+        zeros(rt.alloc(), 40_000),
+        21,
+        "40,000 zeros are of another protocol"
+    );
 }
 
 // A JOIN followed by zeros: what stands behind it is refused, but a datagram too long is refused as that.
 #[test]
 fn too_long_comes_first(rt: HostRuntime) {
-    assert!(rt; is_long_first(rt.alloc()));
+    let mut bytes = unhex(rt.alloc(), JOIN).ok().expect(&rt, "the bytes");
+    for length in bytes.len()..40_000 {
+        if length % 4_096 == 0 {
+            assert_eq!(rt;
+                refusal(&bytes),
+                26,
+                "a JOIN and zeros, {length} bytes in all"
+            );
+        }
+        assert!(rt; bytes.push(0).is_ok(), "a byte more");
+    }
+    assert_eq!(rt; bytes.len(), 40_000, "the length");
+    assert_eq!(rt;
+        refusal(&bytes),
+        26,
+        "a JOIN and zeros, 40,000 bytes in all"
+    );
+    assert!(rt; bytes.push(0).is_ok(), "a byte more");
+    assert_eq!(rt;
+        refusal(&bytes),
+        24,
+        "a JOIN and zeros, 40,001 bytes in all"
+    );
 }
 
 /// Whether the three sevens that stood are kept, and behind them stand these bytes where they were put, or nothing.

@@ -54,24 +54,20 @@ fn report(text: &[u8], delivered: u64) -> Option<Report<'_>> {
     Report::new(second_view(), Count::zero(), Count::new(delivered)?, held)
 }
 
-/// Whether 32 delivered make the longest report, and 33 would leave one without its entry.
-fn is_longest_report(alloc: Global) -> bool {
-    let Some(text) = entries(alloc, true) else {
-        return false;
-    };
-    let Some(longest) = report(&text, 32) else {
-        return false;
-    };
+#[test]
+fn the_longest_report_has_17247_bytes(rt: HostRuntime) {
+    let text = entries(rt.alloc(), true).expect(&rt, "the entries");
     let body = Body::Report {
         proposal: second_view(),
-        report: longest,
+        report: report(&text, 32).expect(&rt, "the report of 32 delivered"),
     };
-    has_length(alloc, body, 11, 17_247) && report(&text, 33).is_none()
+    assert!(rt; has_length(rt.alloc(), body, 11, 17_247));
 }
 
 #[test]
-fn longest_report(rt: HostRuntime) {
-    assert!(rt; is_longest_report(rt.alloc()));
+fn a_report_of_more_delivered_than_it_has_entries_is_none(rt: HostRuntime) {
+    let text = entries(rt.alloc(), true).expect(&rt, "the entries");
+    assert!(rt; report(&text, 33).is_none());
 }
 
 /// The first addresses of the nodes 1 to 16.
@@ -106,12 +102,14 @@ fn is_longest_install(alloc: Global, members: &[Address], text: &[u8]) -> bool {
 }
 
 #[test]
-fn longest_install(rt: HostRuntime) {
-    let alloc = rt.alloc();
-    match (sixteen(alloc), entries(alloc, false)) {
-        (Some(members), Some(text)) => assert!(rt;
-            is_longest_install(alloc, &members, &text) && Items::new(31, &text).is_none()
-        ),
-        _ => assert!(rt; false),
-    }
+fn the_longest_install_has_33551_bytes(rt: HostRuntime) {
+    let members = sixteen(rt.alloc()).expect(&rt, "the members");
+    let text = entries(rt.alloc(), false).expect(&rt, "the entries");
+    assert!(rt; is_longest_install(rt.alloc(), &members, &text));
+}
+
+#[test]
+fn entries_are_as_many_as_is_told(rt: HostRuntime) {
+    let text = entries(rt.alloc(), false).expect(&rt, "the entries");
+    assert!(rt; Items::new(31, &text).is_none());
 }

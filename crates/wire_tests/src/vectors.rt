@@ -73,27 +73,37 @@ fn order() -> Body<'static> {
     }
 }
 
-/// Whether the vectors of the bodies with a view are written.
-fn are_views_written(alloc: Global) -> bool {
-    match (of_two(), install()) {
-        (Some(view), Some(install)) => {
-            is_written_down(alloc, Body::Flush(view), FLUSH)
-                && is_written_down(alloc, Body::Install(install), INSTALL_WITH_STATE)
-        }
-        _ => false,
-    }
-}
-
 // The five vectors, written from their parts.
 #[test]
-fn vectors_are_written(rt: HostRuntime) {
-    let alloc = rt.alloc();
-    assert!(rt;
-        is_written_up(alloc, Body::Join, JOIN)
-            && is_written_up(alloc, report_of_none(), REPORT_OF_NONE)
-            && is_written_down(alloc, order(), ORDER)
-    );
-    assert!(rt; are_views_written(alloc));
+fn a_join_is_written(rt: HostRuntime) {
+    assert!(rt; is_written_up(rt.alloc(), Body::Join, JOIN));
+}
+
+#[test]
+fn a_report_of_nothing_is_written(rt: HostRuntime) {
+    assert!(rt; is_written_up(rt.alloc(), report_of_none(), REPORT_OF_NONE));
+}
+
+#[test]
+fn an_order_is_written(rt: HostRuntime) {
+    assert!(rt; is_written_down(rt.alloc(), order(), ORDER));
+}
+
+#[test]
+fn a_flush_is_written(rt: HostRuntime) {
+    let view = of_two().expect(&rt, "a view");
+    assert!(rt; is_written_down(rt.alloc(), Body::Flush(view), FLUSH));
+}
+
+#[test]
+fn an_install_with_a_state_is_written(rt: HostRuntime) {
+    match install() {
+        Some(install) => {
+            let body = Body::Install(install);
+            assert!(rt; is_written_down(rt.alloc(), body, INSTALL_WITH_STATE));
+        }
+        None => assert!(rt; false, "the install is made of its parts"),
+    }
 }
 
 /// Whether a text is a packet of a kind and of a length, and is written back.
@@ -108,31 +118,35 @@ fn is_read(alloc: Global, text: &[u8], kind: u8, length: usize) -> bool {
 #[test]
 fn vectors_are_read(rt: HostRuntime) {
     let alloc = rt.alloc();
+    assert!(rt; is_read(alloc, JOIN, 1, 22), "the JOIN");
+    assert!(rt; is_read(alloc, FLUSH, 9, 49), "the FLUSH");
     assert!(rt;
-        is_read(alloc, JOIN, 1, 22)
-            && is_read(alloc, FLUSH, 9, 49)
-            && is_read(alloc, REPORT_OF_NONE, 11, 37)
-            && is_read(alloc, INSTALL_WITH_STATE, 12, 71)
-            && is_read(alloc, ORDER, 5, 61)
+        is_read(alloc, REPORT_OF_NONE, 11, 37),
+        "the REPORT of nothing"
     );
+    assert!(rt;
+        is_read(alloc, INSTALL_WITH_STATE, 12, 71),
+        "the INSTALL with a state"
+    );
+    assert!(rt; is_read(alloc, ORDER, 5, 61), "the ORDER");
 }
 
-/// Whether each of some texts is a packet of the kind behind the one before it, and is written back.
-fn are_read_in_turn(alloc: Global, texts: &[&[u8]]) -> bool {
-    let mut kind = 0u8;
-    for text in texts {
-        kind = kind.saturating_add(1);
-        match unhex(alloc, text) {
-            Ok(bytes) if is_exact(alloc, &bytes, kind) => {}
-            _ => return false,
-        }
+/// Whether a text is a packet of a kind, and is written back.
+fn is_of_kind(alloc: Global, text: &[u8], kind: u8) -> bool {
+    match unhex(alloc, text) {
+        Ok(bytes) => is_exact(alloc, &bytes, kind),
+        Err(_) => false,
     }
-    true
 }
 
+// The texts stand in the order of their kinds, which begin at 1.
 #[test]
 fn each_kind_is_read(rt: HostRuntime) {
-    assert!(rt; are_read_in_turn(rt.alloc(), &EACH));
+    let mut kind = 0u8;
+    for text in EACH {
+        kind = kind.saturating_add(1);
+        assert!(rt; is_of_kind(rt.alloc(), text, kind), "the kind {kind}");
+    }
 }
 
 /// Whether the next entry held has a place, a number and a payload.
@@ -145,31 +159,21 @@ fn holds(held: &mut Held<'_>, place: u64, number: u64, payload: &[u8]) -> bool {
     }
 }
 
-/// Whether a report has the parts that `REPORT` spells.
-fn has_its_parts(report: &Report<'_>) -> bool {
-    let mut held = report.held();
-    report.stable().get() == 4
-        && report.delivered().get() == 5
-        && holds(&mut held, 5, 1, b"a")
-        && holds(&mut held, 8, 2, b"")
-        && held.take_first().is_none()
-}
-
-/// Whether `REPORT` is read as a report with its parts.
-fn tells_its_parts(alloc: Global) -> bool {
-    let Ok(bytes) = unhex(alloc, REPORT) else {
-        return false;
-    };
-    match decode(&bytes) {
-        Ok(packet) => match &packet.body {
-            Body::Report { report, .. } => has_its_parts(report),
-            _ => false,
-        },
-        Err(_) => false,
-    }
-}
-
 #[test]
 fn a_report_tells_its_parts(rt: HostRuntime) {
-    assert!(rt; tells_its_parts(rt.alloc()));
+    let bytes = unhex(rt.alloc(), REPORT).ok().expect(&rt, "the bytes");
+    match decode(&bytes) {
+        Ok(packet) => match &packet.body {
+            Body::Report { report, .. } => {
+                let mut held = report.held();
+                assert_eq!(rt; report.stable().get(), 4, "how many are stable");
+                assert_eq!(rt; report.delivered().get(), 5, "how many were delivered");
+                assert!(rt; holds(&mut held, 5, 1, b"a"), "the first entry held");
+                assert!(rt; holds(&mut held, 8, 2, b""), "the second entry held");
+                assert!(rt; held.take_first().is_none(), "there is no third");
+            }
+            _ => assert!(rt; false, "it is a report"),
+        },
+        Err(_) => assert!(rt; false, "it is a packet"),
+    }
 }

@@ -19,10 +19,10 @@ use std::process::ExitCode;
 
 /// The folder that the command line names.
 fn folder_of(rt: &HostRuntime) -> io::Result<String> {
-    for word in env::args(rt)?.skip(1) {
-        return Ok(word);
+    match env::args(rt)?.nth(1) {
+        Some(word) => Ok(word),
+        None => Ok(String::from_str(rt.alloc(), ".")?),
     }
-    Ok(String::from_str(rt.alloc(), ".")?)
 }
 
 /// Runs all that lies in the folder, and prints how many runs there were; answers whether all were as written.
