@@ -20,7 +20,7 @@ use Rattle.agreement.specs.Cores.{Traffic, Core, kept_for, is_frozen, id_of, rep
 use Rattle.agreement.specs.Acts.{proposed}
 use Rattle.agreement.specs.Packets.{IsSent, AllHave, HoldsOrder, HoldsAll, state_with}
 
--- ---- its seat: what the trace says of it
+-- ---- what the trace says of it
 
 pub record HasSeat (t : List Happening) (p me : Address) (view : Option View) (installed : Bool) : Type 0 where
   pub itself : me ≡ p

@@ -111,7 +111,7 @@ posts m (Datagram bytes) = []
 posts m Tick = option_map_or (λ contact. packet m.address bodies.Join contact ∷ []) (asked_by m) []
 posts m Leave = []
 
--- its book afterwards, while it runs
+-- its notes afterwards, while it runs
 abbrev pub noted : Option Book → Input → Option Book
 noted b Create = b
 noted b (Join contact) = Some (record { contact = Some contact })

@@ -68,7 +68,7 @@ core_in p (Some life) = Some (core_at p life.stage life.receiver)
 abbrev pub core_of : {S : Type 0} → MemberModel S → Option (Core S)
 core_of m = core_in m.address m.life
 
--- ---- the book: what it notes beside
+-- ---- what it notes beside
 
 -- whom it asks to be let in
 pub record Book : Type 0 where

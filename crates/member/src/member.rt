@@ -20,7 +20,7 @@ use std::marker::Model;
 use view::View;
 
 /// A member of a group, with the receiver that it tells messages and views. Contracts see its address, its group and, while it runs, its core,
-/// which is what it decides by (docs/PROOF.md, "Agreement over acts"), and its book, which is what it notes beside.
+/// which is what it decides by (docs/PROOF.md, "Agreement over acts"), and its notes beside.
 #[derive(Drop)]
 pub struct Member<R: Receiver> {
     identity: Identity,

@@ -173,7 +173,7 @@ way_of v i = record { from = v; to = i.view.id }
 way-tests : (v : ViewId) (i : Install) (k : Way) → i.previous ≡ Some v → same_way (way_of v i) k ≡ goes k.from k.to i
 way-tests v i k e = and-swap (same_view_id v k.from) (same_view_id i.view.id k.to) ∙ ap (λ o. same_view_id i.view.id k.to && is_view k.from o) (sym e)
 
--- the first install that goes a way is kept
+-- the first install of a change of view is kept
 pub way-noted : (m n : Way → Option (Bor Install)) (t : List Happening) (i : Bor Install) (v : ViewId) → i.now.previous ≡ Some v
     → MatchBool (is_some (m (way_of v i.now))) ((k : Way) → n k ≡ m k) ((k : Way) → n k ≡ cond (is_eq (way_cmp (way_of v i.now) k)) (Some i) (m k))
     → KnowsWays m t → KnowsWays n (t ++ Installed i.now ∷ [])
@@ -183,7 +183,7 @@ way-noted m n t i v came updates r =
     (λ k e. sym (same_way-true (way_of v i.now) k (way-tests v i.now k came ∙ e)))
     refl updates r
 
--- an install from nowhere goes no way
+-- an install from no view is no change of view
 pub way-none : (m : Way → Option (Bor Install)) (t : List Happening) (i : Install) → i.previous ≡ None → KnowsWays m t → KnowsWays m (t ++ Installed i ∷ [])
 way-none m t i none r k =
     r k ∙ sym (register-push (goes k.from k.to) t i ∙ ap (λ b. option_or (first_from k.from k.to t) (cond b (Some i) None)) (ap (λ o. same_view_id i.view.id k.to && is_view k.from o) none ∙ and_right (same_view_id i.view.id k.to) false refl) ∙ or-none (first_from k.from k.to t))

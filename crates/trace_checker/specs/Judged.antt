@@ -63,7 +63,7 @@ is_message (Some n) m = same_address n.sender m.sender && nat_eq n.number m.numb
 
 -- SAME NEXT VIEW
 
--- as many messages as the first who went the same way, if there is one
+-- as many messages as the first who went from the same view to the same next, if there is one
 abbrev pub is_level : Option Install → ViewId → Address → List Happening → Bool
 is_level None v p t = true
 is_level (Some f) v p t = nat_eq (length (delivered_in f.member v t)) (length (delivered_in p v t))

@@ -19,7 +19,7 @@ use Rattle.trace_checker.specs.declared.known.standing.Standing.{Standing}
 use Rattle.trace_props.specs.Observed.{has_started, has_ended, is_blocked, current_view, delivered_in, sent_in, own, entry_of, first_install}
 use Rattle.trace_props.specs.Agreeing.{first_from}
 
--- the order of seats
+-- the order of members in views
 abbrev pub seat_cmp : Seat → Seat → Ordering
 seat_cmp a b = ordering_then (view_id_cmp a.view b.view) (address_cmp a.member b.member)
 
@@ -33,14 +33,14 @@ pair_cmp a b = ordering_then (seat_cmp a.seat b.seat) (address_cmp a.sender b.se
 abbrev pub same_pair : Pair → Pair → Bool
 same_pair a b = same_seat a.seat b.seat && same_address a.sender b.sender
 
--- the order of ways
+-- the order of changes of view
 abbrev pub way_cmp : Way → Way → Ordering
 way_cmp a b = ordering_then (view_id_cmp a.from b.from) (view_id_cmp a.to b.to)
 
 abbrev pub same_way : Way → Way → Bool
 same_way a b = same_view_id a.from b.from && same_view_id a.to b.to
 
--- the list at a seat, empty where none is kept
+-- the list kept for a member in a view, empty where none is
 abbrev pub listed : {T Z : Type 0} → Option (Vec (Bor T) Z) → List T
 listed None = []
 listed (Some l) = map (λ b. b.now) l.items

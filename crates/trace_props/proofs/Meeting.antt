@@ -1,4 +1,4 @@
--- Same next view, same list: it goes one happening further exactly when who enters was told as many messages as the first who went the same way.
+-- Same next view, same list: it goes one happening further exactly when who enters was told as many messages as the first who went from the same view to the same next.
 use Rattle.std.proofs.Common.{◌≡◌, ℕ, Bool, true, false, List, [], ◌∷◌, ◌++◌, length, take, Option, Some, None, slice_get, sym, refl, ap, ◌∙◌}
 use Rattle.std.proofs.lemmas.Bool.{and_from, and_parts, true≢false}
 use Rattle.std.proofs.lemmas.Option.{none-some, same_Some}
@@ -52,7 +52,7 @@ gone-told t d true k e v test views stands s came =
 
 -- WHO ENTERS
 
--- each who went the same way before was told the same
+-- each who went from the same view to the same next before was told the same
 meets-old : (t : List Happening) (i : Install) → HasOneOrder t → HasSameNext t → MayMeet t (Installed i) → EachInstall (λ e. SameList t e i) t
 meets-old t i order r m k e s next v left right =
     let first = register-written (goes v i.view.id) t k e s (and_from (same_view_id e.view.id i.view.id) (is_view v e.previous) (same_view_id-from e.view.id i.view.id next) (is_view-from v e.previous left)) in

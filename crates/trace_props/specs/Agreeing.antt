@@ -25,7 +25,7 @@ goes v w i = same_view_id i.view.id w && is_view v i.previous
 abbrev pub first_from : ViewId → ViewId → List Happening → Option Install
 first_from v w t = find (goes v w) (installs_in t)
 
--- as many messages as the first who went the same way
+-- as many messages as the first who went from the same view to the same next
 abbrev pub MayMeet : List Happening → Happening → Type 0
 MayMeet past (Started p) = Unit {0}
 MayMeet past (Sent s) = Unit {0}

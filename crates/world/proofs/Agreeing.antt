@@ -28,7 +28,7 @@ module _ {S : Type 0} (opening : S) (apply : S → Address → List ℕ → S) (
   abbrev system_at : (Address → Option (Core S)) → List Posted → List Happening → System S
   system_at running pool t = record { running = running; history = record { pool = pool; trace = t } }
 
-  -- a node's seat before and after: nobody but this member of the node ran or runs there
+  -- what stands at a node before and after: nobody but this member of the node ran or runs there
   pub record Moves (at new : ℕ → Seat S) (n : ℕ) (p : Address) (old : Seat S) (now : Seat S) : Type 0 where
     pub node : p.node ≡ n
     pub was : at n ≡ old

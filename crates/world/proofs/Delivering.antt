@@ -132,7 +132,7 @@ module _ {S : Type 0} (opening : S) (apply : S → Address → List ℕ → S) (
     idle : (n : ℕ) (s : Seat S) (a : Answer) (t : List Happening) (pool : List (List ℕ)) → at n ≡ s → OthersStand n at new → Idles s h.trace h.pool a (new n) t pool → Turned n a t pool
     idle n s a t pool was others g = still n a t pool g.answer (same-at at new n others (g.seat ∙ sym was)) g.trace g.puts
 
-    -- at the seat of whom it is for
+    -- at the node of whom it is for
     heard : (bytes : List ℕ) (p : Address) (s : Seat S) (a : Answer) (t : List Happening) (pool : List (List ℕ)) → IsPacketFor bytes p → at p.node ≡ s → OthersStand p.node at new
         → Hears apply encode decode bytes s h.trace h.pool a (new p.node) t pool → Turned p.node a t pool
     heard bytes p Vacant a t pool f was others g = idle p.node Vacant a t pool was others g

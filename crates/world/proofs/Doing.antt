@@ -1,4 +1,4 @@
--- From what the code did at the seats to a step of the world.
+-- From what the code did at the nodes to a step of the world.
 use Rattle.std.proofs.Common.{◌≡◌, ℕ, List, ◌++◌, Option, Some, None, subst}
 use Rattle.address.specs.Ids.{Address}
 use Rattle.trace_props.specs.declared.happening.Happening.{Happening}

@@ -1,4 +1,4 @@
--- What is known of a running member: by its seat, and by agreement.
+-- What is known of a running member: by its node, and by agreement.
 use Rattle.std.proofs.Common.{◌≡◌, ℕ, ◌+◌, false, Option, Some, None, List, length, refl, sym, ap, ◌∙◌, subst, arith, length-append}
 use Rattle.std.specs.Option.{IsSomeAnd, option_map_or}
 use Rattle.address.specs.Ids.{Address}

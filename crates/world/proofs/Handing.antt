@@ -1,4 +1,4 @@
--- What a seat gives where its member takes an input, or hears some bytes.
+-- What a node gives where its member takes an input, or hears some bytes.
 use Rattle.std.proofs.Common.{◌≡◌, ℕ, Bool, true, false, cond, Option, List, ◌++◌, Result, Ok, Err, inl, refl, sym, ap, ◌∙◌, subst}
 use Rattle.std.specs.Prelude.{OnOk}
 use Rattle.std.specs.Borrow.{Bor}

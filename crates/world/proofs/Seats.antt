@@ -1,4 +1,4 @@
--- The members that run at the seats, as a system of agreement.
+-- The members that run at the nodes, as a system of agreement.
 use Rattle.std.proofs.Common.{◌≡◌, ℕ, Bool, true, false, cond, Option, None, refl, sym, ap, ◌∙◌, subst, nat_eq}
 use Rattle.std.proofs.lemmas.Bool.{cond-true, cond-false, eqb-true}
 use Rattle.address.specs.Ids.{Address, same_address}
@@ -12,11 +12,11 @@ use Rattle.world.specs.Seats.{core_here}
 use Rattle.world.specs.Turns.{SameSeats, OthersStand}
 
 module _ {S : Type 0} where
-  -- the members that run at these seats
+  -- the members that run at these nodes
   abbrev pub runs : (ℕ → Seat S) → Address → Option (Core S)
   runs at p = core_here p (at p.node)
 
-  -- nobody but this one runs at a seat
+  -- nobody but this one runs at a node
   abbrev pub OnlyHere : Address → Seat S → Type 0
   OnlyHere p s = (q : Address) → same_address q p ≡ false → core_here q s ≡ None
 

@@ -138,7 +138,7 @@ module _ {S : Type 0} (opening : S) (apply : S → Address → List ℕ → S) (
     begins (Refused Closed) t now is g = absurd g
     begins (Refused Exhausted) t now is g = absurd g
 
-  -- ---- a start, at any seat
+  -- ---- a start, at any node
 
   top-at : (o : Option Address) → last_of n h.trace ≡ o → top_of n h.trace ≡ option_map_or (λ (p : Address). p.incarnation) o 0
   top-at o e = ap (λ l. option_map_or (λ (p : Address). p.incarnation) l 0) e

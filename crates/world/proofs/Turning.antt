@@ -22,7 +22,7 @@ use Rattle.world.specs.Invariant.{IsSeatOf, IsWorld, EachSpelled, StartsInTurn}
 use Rattle.world.proofs.Calls.{is_connected-push}
 use Rattle.world.proofs.Seats.{runs, runs-same}
 
--- a seat at another node stays what it was
+-- what stands at another node stays what it was
 seat-kept : {S : Type 0} (n : ℕ) (last : Option Address) (connected : Bool) (t s : List Happening) (seat : Seat S) → IsSeatOf n last connected t seat → IsSeatOf n last connected (t ++ s) seat
 seat-kept n last connected t s Vacant k = k
 seat-kept n last connected t s (Ended p) k = (k.0, k.1, has_ended-stays p t s k.2)
@@ -76,7 +76,7 @@ module _ {S : Type 0} (opening : S) (apply : S → Address → List ℕ → S) (
       (subst (λ (l : List (List ℕ)). Holding (system_at (runs at) (posts_in l) (t ++ []))) (sym (append-nil pool))
       (subst (λ (u : List Happening). Holding (system_at (runs at) (posts_in pool) u)) (sym (append-nil t)) i))
 
-  -- an event in whose step nothing happens, nothing is put out, and no seat changes
+  -- an event in whose step nothing happens, nothing is put out, and no node changes
   pub turn-still : (at new : ℕ → Seat S) (n : ℕ) (h : History) (e : WorldEvent) (a : Answer) → World at h → SameSeats at new → Answers h e a [] → SendsPromptly h.trace e a []
       → ((m : ℕ) → connects_after m (is_connected m h) e a ≡ is_connected m h) → Turn new n h e a [] []
   turn-still at new n h e a w same answers prompt same_answers = record {

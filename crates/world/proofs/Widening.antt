@@ -1,4 +1,4 @@
--- Whatever is done at a seat, what happened joins the trace and what is put out joins the pool; no fact on worlds is asked.
+-- Whatever is done at a node, what happened joins the trace and what is put out joins the pool; no fact on worlds is asked.
 use Rattle.std.proofs.Common.{◌≡◌, ℕ, List, [], ◌∷◌, ◌++◌, Bool, true, false, MatchBool, Result, Ok, Err, inl, inr, map, length, nat_lt, append_assoc, ◌+◌, ◌^◌, sym, ◌∙◌}
 use Rattle.std.specs.Borrow.{Bor}
 use Rattle.std.specs.Prelude.{Option}
@@ -96,7 +96,7 @@ module _ {S : Type 0} (opening : S) (apply : S → Address → List ℕ → S) (
   lent-widens i bytes (Ended p) new a g = still t u pool more g.0.trace g.1
   lent-widens i bytes (Running m) new a g = here-widens (i g.0) m new a g.2
 
-  -- ---- any event at a seat, and some bytes
+  -- ---- any event at a node, and some bytes
 
   pub acts-widen : (e : WorldEvent) (old new : Seat S) (a : Answer) → Acts opening apply encode decode e old t pool a new u more → Wider t u pool more
   acts-widen (Start n) old new a g = start-widens n old new a g.0 g.1

@@ -1,4 +1,4 @@
--- What every world keeps between events: its history is faithful, agreement's invariant holds of its members, and each seat is what the history says.
+-- What every world keeps between events: its history is faithful, agreement's invariant holds of its members, and each node is as the history says.
 use Rattle.std.specs.Prelude.{◌≡◌, ℕ, ◌≤◌, Bool, true, Option, None, Some, List, length, Ok, slice_get}
 use Rattle.std.specs.Option.{IsSomeAnd, option_map_or}
 use Rattle.address.specs.Ids.{Address}
@@ -20,7 +20,7 @@ pub record IsMember {S : Type 0} (connected : Bool) (m : MemberModel S) : Type 0
   pub group : m.group ≡ world_group
   pub joined : IsSomeAnd (core_of m) (λ c. connected ≡ c.connected)
 
--- the history says of a node what its seat says: the last member there is given by `last`
+-- the history says of a node what stands there: the last member there is given by `last`
 abbrev pub IsSeatOf : {S : Type 0} → ℕ → Option Address → Bool → List Happening → Seat S → Type 0
 IsSeatOf n last connected t Vacant = last ≡ None
 IsSeatOf n last connected t (Ended p) = (last ≡ Some p) × (p.node ≡ n) × (has_ended p t ≡ true)

@@ -58,16 +58,16 @@ answer_to (Installed i ∷ rest) = Done
 answer_to (Left p ∷ rest) = Done
 answer_to (Crashed p ∷ rest) = Done
 
--- ---- seats
+-- ---- nodes
 
--- what stands at a node: nothing where there is no seat
+-- what stands at a node: nothing where the node is not kept
 abbrev pub seat_at : {S : Type 0} → Option (Seat S) → Seat S
 seat_at o = unwrap_or o Vacant
 
 abbrev pub seats_in : {S : Type 0} → (ℕ → Option (Seat S)) → ℕ → Seat S
 seats_in at n = seat_at (at n)
 
--- the core of the member that runs at a seat, if it has this address
+-- the core of the member that runs at a node, if it has this address
 abbrev pub core_here : {S : Type 0} → Address → Seat S → Option (Core S)
 core_here p Vacant = None
 core_here p (Ended q) = None
@@ -91,6 +91,6 @@ posts_in pool = filter_map read_as pool
 
 -- ---- both
 
--- the system of agreement: the members at these seats, the packets that the pool's bytes spell, what happened
+-- the system of agreement: the members at these nodes, the packets that the pool's bytes spell, what happened
 abbrev pub system_of : {S : Type 0} → (ℕ → Seat S) → List (List ℕ) → List Happening → System S
 system_of at pool t = record { running = λ p. core_here p (at p.node); history = record { pool = posts_in pool; trace = t } }

@@ -1,4 +1,4 @@
--- What each event does at the seat of its node, to the trace and to the pool: local, exact, and without a word on the history. Whatever a member does is
+-- What each event does at its node, to the trace and to the pool: local, exact, and without a word on the history. Whatever a member does is
 -- one call of its `handle`, with the whole of its contract.
 use Rattle.std.specs.Prelude.{◌≡◌, ℕ, ◌+◌, ◌^◌, false, ◌∷◌, [], ◌++◌, List, map, nat_lt, nat_eq, Result, Ok, Err, ◌⊎◌, MatchBool, Option, None, Some, Vec, if◌then◌else◌}
 use Rattle.std.specs.Borrow.{Bor}
@@ -58,7 +58,7 @@ abbrev pub Steps : {S Z : Type 0} → (S → Address → List ℕ → S) → (S 
 Steps apply encode decode input m pool (Ok happened) left pool' = HasPut apply encode decode input m pool happened.items left pool'
 Steps apply encode decode input m pool (Err e) left pool' = HasFailed apply encode decode input m pool e left pool'
 
--- ---- a seat is handed an input
+-- ---- a node is handed an input
 
 -- nothing changes
 pub record Stays {S : Type 0} (r : Refusal) (old : Seat S) (t : List Happening) (a : Answer) (new : Seat S) (t' : List Happening) : Type 0 where
@@ -89,7 +89,7 @@ pub record Refuses {S : Type 0} (p : Address) (e : Error) (left : MemberModel S)
   pub trace : t' ≡ t
   pub puts : pool' ≡ pool
 
--- what comes of a call at the seat, by what it answered; what it would put out is lost where the pool is refused growth for it
+-- what comes of a call at the node, by what it answered; what it would put out is lost where the pool is refused growth for it
 abbrev pub Gives : {S : Type 0} → Address → Input → Result Output Error → MemberModel S → List Happening → List (List ℕ) → Answer → Seat S → List Happening → List (List ℕ) → Type 0
 Gives p input (Ok out) left t pool a new t' pool' = Takes p input out left t pool a new t' pool' ⊎ ((out.packets.items ≡ [] → ⊥) × Crashes p t pool a new t' pool')
 Gives p input (Err e) left t pool a new t' pool' = MatchBool (is_memory e) (Crashes p t pool a new t' pool') (Refuses p e left t pool a new t' pool')
@@ -149,14 +149,14 @@ CrashGives (Running m) t a new t' = Ends m.address (Crashed m.address) t a new t
 
 -- ---- events
 
--- what is handed to the member at the seat, with a payload that is lent
+-- what is handed to the member at the node, with a payload that is lent
 abbrev pub HandsLent : {S : Type 0} → (S → Address → List ℕ → S) → (S → List ℕ) → (List ℕ → Option S) → (Bor (List ℕ) → Input) → List ℕ → Seat S → List Happening → List (List ℕ) → Answer → Seat S
     → List Happening → List (List ℕ) → Type 0
 HandsLent apply encode decode input bytes Vacant t pool a new t' pool' = Stays NotConnected Vacant t a new t' × (pool' ≡ pool)
 HandsLent apply encode decode input bytes (Ended p) t pool a new t' pool' = Stays Closed (Ended p) t a new t' × (pool' ≡ pool)
 HandsLent apply encode decode input bytes (Running m) t pool a new t' pool' = (b : Bor (List ℕ)) × (b.now ≡ bytes) × HandsHere apply encode decode (input b) m t pool a new t' pool'
 
--- an event at the seat of its node
+-- an event at its node
 abbrev pub Acts : {S : Type 0} → S → (S → Address → List ℕ → S) → (S → List ℕ) → (List ℕ → Option S) → WorldEvent → Seat S → List Happening → List (List ℕ) → Answer → Seat S → List Happening
     → List (List ℕ) → Type 0
 Acts opening apply encode decode (Start n) old t pool a new t' pool' = StartGives opening n old t a new t' × (pool' ≡ pool)
@@ -175,7 +175,7 @@ pub record Idles {S : Type 0} (old : Seat S) (t : List Happening) (pool : List (
   pub trace : t' ≡ t
   pub puts : pool' ≡ pool
 
--- the bytes of a packet at a seat
+-- the bytes of a packet at a node
 abbrev pub Hears : {S : Type 0} → (S → Address → List ℕ → S) → (S → List ℕ) → (List ℕ → Option S) → List ℕ → Seat S → List Happening → List (List ℕ) → Answer → Seat S → List Happening
     → List (List ℕ) → Type 0
 Hears apply encode decode bytes Vacant t pool a new t' pool' = Idles Vacant t pool a new t' pool'
@@ -184,18 +184,18 @@ Hears apply encode decode bytes (Running m) t pool a new t' pool' = HandsLent ap
 
 -- ---- nodes
 
--- an event at its node, which may have no seat
+-- an event at its node, which may not be kept yet
 abbrev pub ActsAt : {S : Type 0} → S → (S → Address → List ℕ → S) → (S → List ℕ) → (List ℕ → Option S) → WorldEvent → Option (Seat S) → List Happening → List (List ℕ) → Answer → Option (Seat S)
     → List Happening → List (List ℕ) → Type 0
 ActsAt opening apply encode decode e None t pool a new t' pool' = (a ≡ Refused NotConnected) × (new ≡ None) × (t' ≡ t) × (pool' ≡ pool)
 ActsAt opening apply encode decode e (Some s) t pool a new t' pool' = Acts opening apply encode decode e s t pool a (seat_at new) t' pool'
 
--- a node without a seat gets a vacant one
+-- a node that is not kept is kept, and vacant
 abbrev pub KeepsSeat : {S : Type 0} → Option (Seat S) → Option (Seat S) → Type 0
 KeepsSeat None new = new ≡ Some Vacant
 KeepsSeat (Some s) new = new ≡ Some s
 
--- a start finds a seat, which was vacant if it is new
+-- a start finds its node kept, and vacant if it is new
 abbrev pub CarriesOut : {S : Type 0} → S → (S → Address → List ℕ → S) → (S → List ℕ) → (List ℕ → Option S) → WorldEvent → Option (Seat S) → List Happening → List (List ℕ) → Answer → Option (Seat S)
     → List Happening → List (List ℕ) → Type 0
 CarriesOut opening apply encode decode e o t pool a new t' pool' =
@@ -229,7 +229,7 @@ abbrev pub Delivers : {S : Type 0} → (S → Address → List ℕ → S) → (S
 Delivers apply encode decode None at t pool a new t' pool' = Rests at t pool a new t' pool'
 Delivers apply encode decode (Some bytes) at t pool a new t' pool' = HandsOver apply encode decode bytes (destination_of bytes) at t pool a new t' pool'
 
--- one event: at its node's seat, or with the packet of its number
+-- one event: at its node, or with the packet of its number
 abbrev pub Carries : {S : Type 0} → S → (S → Address → List ℕ → S) → (S → List ℕ) → (List ℕ → Option S) → Target → WorldEvent → (ℕ → Seat S) → List Happening → List (List ℕ) → Answer
     → (ℕ → Seat S) → List Happening → List (List ℕ) → Type 0
 Carries opening apply encode decode (target.Member n) e at t pool a new t' pool' = Acts opening apply encode decode e (at n) t pool a (new n) t' pool' × OthersStand n at new

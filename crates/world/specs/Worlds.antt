@@ -19,7 +19,7 @@ pub record WorldModel (S : Type 0) : Type 0 where
   pub history : History
   pub seats : ℕ → Seat S
 
--- the same as data: the seats by node
+-- the same as data: what stands there, by node
 pub record WorldValue (S : Type 0) : Type 0 where
   pub history : History
   pub table : List (ℕ × Seat S)

@@ -50,7 +50,7 @@ impl<R: Receiver> Model for World<R> {
     ghost use Rattle.std.specs.BTreeMap.{get};
     ghost use Rattle.world.specs.Worlds.{WorldValue, IsReached, shown};
 
-    // Its seats as data, which `shown` shows by node.
+    // What stands at its nodes, as data, which `shown` shows by node.
     ghost Value = { WorldValue R };
 
     ghost view = { λ w. record { history = record { events = w.events.items; replies = w.replies.items; pool = w.pool; trace = w.trace.happenings }; table = w.seats.entries } };
@@ -59,7 +59,7 @@ impl<R: Receiver> Model for World<R> {
     ghost invariant = { λ w. IsReached R.opening_state R.apply R.encode R.decode (shown (record { history = record { events = w.events.items; replies = w.replies.items; pool = w.pool; trace = w.trace.happenings }; table = w.seats.entries })) };
 }
 
-/// Makes a seat for a node, where it has none yet.
+/// Makes room for what runs at a node, where there is none yet.
 fn keep_seat<R: Receiver>(seats: &mut BTreeMap<Node, Seat<R>>, node: Node) -> Result<(), AllocError>
     ensures kept { OnOk result (KeepsSeat (get nat_cmp seats.old node) (get nat_cmp seats.new node)) }
     ensures others { (m : ℕ) → nat_eq node m ≡ false → get nat_cmp seats.new m ≡ get nat_cmp seats.old m }
@@ -71,7 +71,7 @@ fn keep_seat<R: Receiver>(seats: &mut BTreeMap<Node, Seat<R>>, node: Node) -> Re
     Ok(())
 }
 
-/// Carries out an event at the seat of its node. Without a seat the node was never started: 1.
+/// Carries out an event at its node. A node that is not kept was never started: 1.
 fn act_at<R: Receiver>(
     alloc: Global,
     seats: &mut BTreeMap<Node, Seat<R>>,
@@ -90,7 +90,7 @@ fn act_at<R: Receiver>(
     }
 }
 
-/// Carries out an event at its node: for a start a seat is kept first, which memory may refuse: then nothing is carried out.
+/// Carries out an event at its node: for a start the node is kept first, which memory may refuse: then nothing is carried out.
 fn carry_out<R: Receiver>(
     alloc: Global,
     seats: &mut BTreeMap<Node, Seat<R>>,
@@ -170,7 +170,7 @@ fn deliver<R: Receiver>(
     Ok(hand_over(seats, trace, pool, bytes.as_slice()))
 }
 
-/// Carries out an event. Memory may be refused for a new seat, or for a copy of the packet: then nothing is carried out.
+/// Carries out an event. Memory may be refused for a new node, or for a copy of the packet: then nothing is carried out.
 fn carry<R: Receiver>(
     alloc: Global,
     seats: &mut BTreeMap<Node, Seat<R>>,

@@ -105,14 +105,14 @@ fn step<R: Receiver>(
     Ok(happenings)
 }
 
-/// Nothing runs at a seat any more.
+/// Nothing runs at a node any more.
 fn end<R: Receiver>(seat: &mut Seat<R>, last: Address)
     ensures { seat.new ≡ Ended last }
 {
     *seat = Seat::Ended(last);
 }
 
-/// Hands an input to the member at a seat: refused with 1 where none ever ran there, with 6 where it has ended, and else as the member
+/// Hands an input to the member at a node: refused with 1 where none ever ran there, with 6 where it has ended, and else as the member
 /// refuses; with 6 it has ended. Where memory is refused the member has crashed.
 fn hand<R: Receiver>(
     seat: &mut Seat<R>,
@@ -230,7 +230,7 @@ pub fn hear<R: Receiver>(
     }
 }
 
-/// Carries out an event at the seat of its node. A delivery has none, and does nothing here.
+/// Carries out an event at its node. A delivery has none, and does nothing here.
 pub fn act<R: Receiver>(
     alloc: Global,
     seat: &mut Seat<R>,

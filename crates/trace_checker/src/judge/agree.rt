@@ -20,7 +20,7 @@ fn is_as_far(past: &Past, other: Option<&Install>, view: ViewId, member: Address
     }
 }
 
-/// Whether who enters was told as many messages as the first who went the same way.
+/// Whether who enters was told as many messages as the first who went from the same view to the same next.
 pub fn may_meet(past: &Past, install: &Install) -> bool
     ensures { result ≡ meets install.now.previous install.now past.now }
 {

@@ -64,7 +64,7 @@ impl<'a, T> Lists<'a, T> {
     }
 }
 
-// Puts a list of one at a seat that has none.
+// Keeps a list of one for a member in a view that has none.
 fn begin<'a, T>(
     alloc: Global,
     lists: &mut BTreeMap<Seat, Vec<&'a T>>,

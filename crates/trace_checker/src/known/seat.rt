@@ -14,7 +14,7 @@ pub struct Pair {
     pub sender: Address,
 }
 
-/// A way from a view to another.
+/// A change of view: from one to the next.
 #[derive(Clone, Copy, PartialEq, Eq, PartialOrd, Ord)]
 pub struct Way {
     pub from: ViewId,

@@ -9,7 +9,7 @@ use Rattle.world.proofs.Keeping.{reached-keeps}
 use Rattle.world.proofs.Carrying.{running-is, nobody-yet, nobody-runs}
 use Rattle.world.proofs.World.running.Goals as goal
 
--- the node has no seat
+-- the node is not kept
 pub returns-in_err-member : goal.returns-in_err-member
 returns-in_err-member g c =
     c.from_residual.ensures

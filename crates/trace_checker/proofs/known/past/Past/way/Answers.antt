@@ -1,7 +1,7 @@
 use Rattle.trace_checker.specs.declared.known.seat.Way.{Way}
 use Rattle.trace_checker.proofs.known.past.Past.way.Goals as goal
 
--- the register of the way
+-- what is kept of the change of view
 pub returns : goal.returns
 returns c =
     let way : Way = record { from = c.args.from; to = c.args.to } in
