@@ -1,0 +1,34 @@
+-- What a step puts out, and what happens by it.
+use Rattle.std.specs.Prelude.{◌≡◌, ℕ, Bool, ◌&&◌, not, List, ◌++◌, map}
+use Rattle.std.specs.List.{AllByRecursion}
+use Rattle.address.specs.Ids.{Address, same_address}
+use Rattle.wire.specs.declared.packet.Packet.{Packet}
+use Rattle.wire.specs.Packets.{IsPacket, spelling}
+use Rattle.trace_props.specs.declared.happening.Happening.{Happening}
+use Rattle.agreement.specs.Histories.{Posted}
+use Rattle.output.specs.declared.output.Outgoing.{Outgoing}
+use Rattle.output.specs.declared.output.Output.{Output}
+use Rattle.output.specs.Names.{same_name}
+
+-- these packets and these happenings, and no others
+pub record Puts (posted : List Outgoing) (happened : List Happening) (out : Output) : Type 0 where
+  pub packets : out.packets.items ≡ posted
+  pub happenings : out.happenings.items ≡ happened
+
+-- a packet of a group
+abbrev pub packet_in : List ℕ → Posted → Packet
+packet_in group m = record { group = group; source = m.source; destination = m.destination; body = m.body }
+
+-- the same as bytes
+abbrev pub spelled : List ℕ → Posted → Outgoing
+spelled group m = record { destination = m.destination; bytes = spelling (packet_in group m) }
+
+-- these packets more, each of which is read back, and these happenings more
+pub record Grows (group : List ℕ) (old new : Output) (posted : List Posted) (happened : List Happening) : Type 0 where
+  pub packets : new.packets.items ≡ old.packets.items ++ map (spelled group) posted
+  pub sound : AllByRecursion (λ m. IsPacket (packet_in group m)) posted
+  pub happenings : new.happenings.items ≡ old.happenings.items ++ happened
+
+-- a packet of its group, to its address, from another
+abbrev pub is_for : Address → List ℕ → Packet → Bool
+is_for p group m = same_name m.group group && same_address m.destination p && not (same_address m.source p)

@@ -1,0 +1,71 @@
+ghost use Rattle.std.specs.Prelude.{◌≡◌, [], ◌∷◌, IfOk, OnOk};
+ghost use Rattle.wire.specs.Packets.{IsPacket};
+ghost use Rattle.agreement.specs.Acts.{packet};
+ghost use Rattle.output.specs.Outputs.{Grows, packet_in, spelled, is_for};
+
+use crate::{KeptName, Outgoing, Output};
+use address::Address;
+use std::alloc::{AllocError, Global};
+use trace_props::{Bytes, Happening};
+use wire::{Body, Packet};
+use wire_writer::encode;
+
+/// Who a member is, its address and its group, and from where it takes memory.
+#[derive(Debug, Drop)]
+pub struct Identity {
+    pub alloc: Global,
+    pub address: Address,
+    pub group: KeptName,
+}
+
+impl Identity {
+    // A packet of this member, in bytes.
+    fn spelled(&self, destination: Address, body: Body<'_>) -> Result<Outgoing, AllocError>
+        ensures { IfOk result (λ o. let m = packet self.now.address body.entry destination in (o ≡ spelled self.now.group m) × IsPacket (packet_in self.now.group m)) }
+    {
+        let packet = Packet {
+            group: self.group.lent(),
+            source: self.address,
+            destination,
+            body,
+        };
+        let mut bytes = Vec::new(self.alloc);
+        encode(&packet, &mut bytes)?;
+        Ok(Outgoing {
+            destination,
+            bytes: Bytes::from_vec(bytes),
+        })
+    }
+
+    /// Puts out a packet, behind those before. After an error for want of memory nothing is said of the output.
+    pub fn put(
+        &self,
+        destination: Address,
+        body: Body<'_>,
+        out: &mut Output,
+    ) -> Result<(), AllocError>
+        ensures { OnOk result (Grows self.now.group out.old out.new (packet self.now.address body.entry destination ∷ []) []) }
+    {
+        let packet = self.spelled(destination, body)?;
+        out.packets.push(packet)?;
+        Ok(())
+    }
+
+    /// Something happens to the member, behind what happened before. After an error for want of memory nothing is said of the output.
+    pub fn record(&self, happening: Happening, out: &mut Output) -> Result<(), AllocError>
+        ensures { OnOk result (Grows self.now.group out.old out.new [] (happening ∷ [])) }
+    {
+        out.happenings.push(happening)?;
+        let _ = &self.group;
+        Ok(())
+    }
+
+    /// Whether a packet is for this member: of its group, to its address, from another.
+    pub fn is_for(&self, packet: &Packet<'_>) -> bool
+        ensures { result ≡ is_for self.now.address self.now.group packet.now }
+    {
+        self.group.is(&packet.group)
+            && packet.destination == self.address
+            && packet.source != self.address
+    }
+}

@@ -1,0 +1,50 @@
+ghost use Rattle.std.specs.Prelude.{◌≡◌};
+ghost use Rattle.output.specs.Names.{same_name};
+
+use packet_values::{GROUP_NAME, GroupName};
+use std::marker::Model;
+
+/// The name of a group, kept: 1 to 32 bytes.
+#[derive(Debug, Drop)]
+pub struct KeptName {
+    bytes: [u8; GROUP_NAME],
+    len: usize,
+}
+
+impl Model for KeptName {
+    ghost use Rattle.std.specs.Prelude.{List, ℕ, take, ◌≡◌, ◌≤◌, true};
+    ghost use Rattle.packet_values.specs.Names.{is_group_name};
+
+    ghost Value = { List ℕ };
+
+    ghost view = { λ n. take n.len n.bytes };
+
+    ghost invariant = { λ n. (n.len ≤ 32) × (is_group_name (take n.len n.bytes) ≡ true) };
+}
+
+impl KeptName {
+    /// A copy of a name. Takes no memory.
+    pub fn of(name: &GroupName<'_>) -> KeptName
+        ensures { result ≡ name.now }
+    {
+        let text = name.as_slice();
+        let len = text.len();
+        let mut bytes = [0; GROUP_NAME];
+        bytes[..len].copy_from_slice(text);
+        KeptName { bytes, len }
+    }
+
+    /// The name, lent.
+    pub fn lent(&self) -> GroupName<'_>
+        ensures { result ≡ self.now }
+    {
+        GroupName::new(&self.bytes[..self.len]).unwrap()
+    }
+
+    /// Whether a packet's group is this one.
+    pub fn is(&self, name: &GroupName<'_>) -> bool
+        ensures { result ≡ same_name name.now self.now }
+    {
+        name.as_slice() == &self.bytes[..self.len]
+    }
+}
