@@ -2,7 +2,7 @@
 use Rattle.std.specs.Prelude.{◌≡◌, true, false, Bool, not, ◌&&◌, List, [], ◌∷◌, ◌++◌, map, filter, Option, is_some, if◌then◌else◌}
 use Rattle.std.specs.List.{list_all}
 use Rattle.std.specs.Map.{lookup}
-use Rattle.std.specs.Option.{option_eq, option_map_or}
+use Rattle.std.specs.Option.{option_eq, option_map_or, option_and_then}
 use Rattle.address.specs.Ids.{Address, ViewId, same_address, same_view_id}
 use Rattle.view.specs.Members.{stands_in, is_distinct}
 use Rattle.wire.specs.Values.{Report}
@@ -56,3 +56,7 @@ has_come_from v p reports = option_map_or (comes_from v) (report_from p reports)
 -- those of the list who reported the same previous view as an address, itself among them; nobody where it did not report
 abbrev pub together_of : Address → FlushModel → List Address
 together_of p f = option_map_or (λ r. filter (λ m. has_come_from r.previous m f.reports) f.members) (report_from p f.reports) []
+
+-- the view from which an address reported that it comes; none where it did not report
+abbrev pub previous_of : Address → FlushModel → Option ViewId
+previous_of p f = option_and_then (λ r. r.previous) (report_from p f.reports)

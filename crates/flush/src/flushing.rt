@@ -2,7 +2,7 @@ ghost use Rattle.std.specs.Prelude.{◌≡◌, ◌≤◌, ◌+◌, false, [], �
 ghost use Rattle.std.specs.List.{list_all};
 ghost use Rattle.packet_values.specs.declared.limits.TheConstants.{WINDOW};
 ghost use Rattle.flush.specs.Cuts.{greatest_stable, held_among, cut_base, cut_items};
-ghost use Rattle.flush.specs.Flushes.{IsFlush, has_reported, group, is_awaited, reported, progress_of, has_come_from, together_of};
+ghost use Rattle.flush.specs.Flushes.{IsFlush, has_reported, group, is_awaited, reported, progress_of, has_come_from, together_of, previous_of};
 
 use crate::cut::Cut;
 use crate::kept::Kept;
@@ -84,6 +84,16 @@ impl Flush {
         ensures { result ≡ has_reported address.now self.now.reports }
     {
         self.reports.contains_key(address)
+    }
+
+    /// The view from which an address reported that it comes; `None` where it comes from none, and where it did not report. Takes no memory.
+    pub fn previous(&self, address: &Address) -> Option<ViewId>
+        ensures { result ≡ previous_of address.now self.now }
+    {
+        match self.reports.get(address) {
+            None => None,
+            Some(report) => *report.previous(),
+        }
     }
 
     /// Takes a report from an address. It is recorded, behind those that came before, exactly where the address stands in the list and has not

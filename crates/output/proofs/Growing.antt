@@ -4,6 +4,7 @@ use Rattle.std.proofs.lemmas.List.{append-nil}
 use Rattle.std.specs.List.{AllByRecursion}
 use Rattle.wire.specs.Packets.{IsPacket}
 use Rattle.trace_props.specs.declared.happening.Happening.{Happening}
+use Rattle.trace_props.specs.Recorded.{IsShort}
 use Rattle.agreement.specs.Histories.{Posted}
 use Rattle.output.specs.declared.output.Output.{Output}
 use Rattle.output.specs.Outputs.{packet_in, spelled, Grows}
@@ -17,7 +18,7 @@ all-then P [] ys a b = b
 all-then P (x ∷ xs) ys a b = (a.0, all-then P xs ys a.1 b)
 
 pub grows-nothing : (group : List ℕ) (out : Output) → Grows group out out [] []
-grows-nothing group out = record { packets = sym (append-nil out.packets.items); sound = tt; happenings = sym (append-nil out.happenings.items) }
+grows-nothing group out = record { packets = sym (append-nil out.packets.items); sound = tt; happenings = sym (append-nil out.happenings.items); short = tt }
 
 pub grows-then : (group : List ℕ) (a b c : Output) (ps qs : List Posted) (hs js : List Happening) → Grows group a b ps hs → Grows group b c qs js → Grows group a c (ps ++ qs) (hs ++ js)
 grows-then group a b c ps qs hs js x y = record {
@@ -25,4 +26,5 @@ grows-then group a b c ps qs hs js x y = record {
       ∙ ap (λ l. a.packets.items ++ l) (sym (map-append (spelled group) ps qs));
   sound = all-then (λ m. IsPacket (packet_in group m)) ps qs x.sound y.sound;
   happenings = y.happenings ∙ ap (λ l. l ++ js) x.happenings ∙ append_assoc a.happenings.items hs js;
+  short = all-then IsShort hs js x.short y.short;
 }

@@ -5,6 +5,7 @@ use Rattle.address.specs.Ids.{Address, same_address}
 use Rattle.wire.specs.declared.packet.Packet.{Packet}
 use Rattle.wire.specs.Packets.{IsPacket, spelling}
 use Rattle.trace_props.specs.declared.happening.Happening.{Happening}
+use Rattle.trace_props.specs.Recorded.{IsShort}
 use Rattle.agreement.specs.Histories.{Posted}
 use Rattle.output.specs.declared.output.Outgoing.{Outgoing}
 use Rattle.output.specs.declared.output.Output.{Output}
@@ -23,11 +24,12 @@ packet_in group m = record { group = group; source = m.source; destination = m.d
 abbrev pub spelled : List ℕ → Posted → Outgoing
 spelled group m = record { destination = m.destination; bytes = spelling (packet_in group m) }
 
--- these packets more, each of which is read back, and these happenings more
+-- these packets more, each of which is read back, and these happenings more, each of which a trace takes
 pub record Grows (group : List ℕ) (old new : Output) (posted : List Posted) (happened : List Happening) : Type 0 where
   pub packets : new.packets.items ≡ old.packets.items ++ map (spelled group) posted
   pub sound : AllByRecursion (λ m. IsPacket (packet_in group m)) posted
   pub happenings : new.happenings.items ≡ old.happenings.items ++ happened
+  pub short : AllByRecursion IsShort happened
 
 -- a packet of its group, to its address, from another
 abbrev pub is_for : Address → List ℕ → Packet → Bool

@@ -1,5 +1,6 @@
 ghost use Rattle.std.specs.Prelude.{◌≡◌, [], ◌∷◌, IfOk, OnOk};
 ghost use Rattle.wire.specs.Packets.{IsPacket};
+ghost use Rattle.trace_props.specs.Recorded.{IsShort};
 ghost use Rattle.agreement.specs.Acts.{packet};
 ghost use Rattle.output.specs.Outputs.{Grows, packet_in, spelled, is_for};
 
@@ -51,8 +52,9 @@ impl Identity {
         Ok(())
     }
 
-    /// Something happens to the member, behind what happened before. After an error for want of memory nothing is said of the output.
+    /// Something happens to the member, behind what happened before; a payload that it carries has at most 512 bytes. After an error for want of memory nothing is said of the output.
     pub fn record(&self, happening: Happening, out: &mut Output) -> Result<(), AllocError>
+        requires short { IsShort happening }
         ensures { OnOk result (Grows self.now.group out.old out.new [] (happening ∷ [])) }
     {
         out.happenings.push(happening)?;

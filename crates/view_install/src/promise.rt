@@ -69,6 +69,13 @@ impl Promise {
         self.proposal.as_ref()
     }
 
+    /// Whether the proposal that was promised last is installed; false before the first.
+    pub fn is_installed(&self) -> bool
+        ensures { result ≡ self.now.is_installed }
+    {
+        self.is_installed
+    }
+
     /// Whether a proposal was promised that is not installed.
     pub fn is_frozen(&self) -> bool
         ensures { result ≡ is_frozen self.now }
@@ -92,7 +99,8 @@ impl Promise {
         answer
     }
 
-    fn answer_to(&self, proposal: &Roster) -> OfferAnswer
+    /// What the offer of a proposal would be answered with. Takes no memory.
+    pub fn answer_to(&self, proposal: &Roster) -> OfferAnswer
         ensures { result ≡ offered proposal.now self.now }
     {
         if !proposal.members().as_slice().contains(&self.member) {
