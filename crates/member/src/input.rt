@@ -1,6 +1,6 @@
 use address::Address;
 
-/// What a member is handed: a wish of its application, a datagram, what it is told of others, or that time passes (docs/PROTOCOL.md, "Joining" and "A member alone").
+/// What a member is handed: a wish of its application, a datagram, what it is told of others, or that time passes (docs/PROTOCOL.md, "Joining", "Told of others" and "A member alone").
 /// Payloads and bytes are lent. Whatever grows may be refused with 7, and after its end a member refuses all with 6.
 #[derive(Clone, Copy, Debug)]
 pub enum Input<'a> {
