@@ -8,7 +8,7 @@ use Rattle.std.proofs.lemmas.Option.{none-some, slice_get_within, get_or_from_sl
 use Rattle.std.proofs.Math.Nat.{max-eq_right}
 use mathlib.Core.Path.{fun_ext}
 use Rattle.address.specs.Ids.{Address, same_address}
-use Rattle.view.specs.Members.{stands_in}
+use Rattle.view.specs.Members.{View, stands_in}
 use Rattle.packet_values.specs.declared.limits.TheConstants.{PAYLOAD}
 use Rattle.packet_values.specs.Values.{Entry}
 use Rattle.wire.specs.declared.packet.Body.TheVariants as bodies
@@ -21,8 +21,8 @@ use Rattle.agreement.specs.Acts.{Creates, Joins, Puts, Sends, Queues, Orders, He
 use Rattle.agreement.specs.Chains.{Acted}
 use Rattle.member.specs.declared.life.Stage.{Stage}
 use Rattle.member.specs.declared.life.Stage.TheVariants.{Idle, Joining, Alone}
-use Rattle.member.specs.Members.{core_at, alone_traffic}
-use Rattle.member.specs.Steps.{lone_install, sending, delivery}
+use Rattle.member.specs.Members.{core_at, alone_traffic, lone_install}
+use Rattle.member.specs.Steps.{sending, delivery}
 
 -- ---- counts by address
 
@@ -133,6 +133,9 @@ module _ {S : Type 0} (apply : S → Address → List ℕ → S) (encode : S →
 
   pub asked-acted : (came : Option Posted) (c : Core S) (contact : Address) → Acted apply encode decode came (Some c) (packet c.me bodies.Join contact ∷ []) [] (Some c)
   asked-acted came c contact = record { acts = Puts contact bodies.Join ∷ []; chain = (tt, refl); puts = refl; happens = refl }
+
+  pub told-acted : (came : Option Posted) (c : Core S) (v : View) (q : Address) → Acted apply encode decode came (Some c) (packet c.me (bodies.Merge v) q ∷ []) [] (Some c)
+  told-acted came c v q = record { acts = Puts q (bodies.Merge v) ∷ []; chain = (tt, refl); puts = refl; happens = refl }
 
   pub left-acted : (came : Option Posted) (c : Core S) → Acted apply encode decode came (Some c) [] (Left c.me ∷ []) None
   left-acted came c = record { acts = Leaves ∷ []; chain = (tt, refl); puts = refl; happens = refl }

@@ -5,7 +5,7 @@ use Rattle.std.specs.List.{AllByRecursion}
 use Rattle.std.specs.Result.{result_err}
 use Rattle.std.proofs.lemmas.Bool.{and_parts}
 use Rattle.std.proofs.lemmas.Option.{none-some, same_Some}
-use Rattle.address.specs.Ids.{Address}
+use Rattle.address.specs.Ids.{Address, same_address}
 use Rattle.view.specs.Members.{View}
 use Rattle.wire.specs.Packets.{IsPacket}
 use Rattle.trace_props.specs.Recorded.{IsShort, IsRecordable}
@@ -17,17 +17,17 @@ use Rattle.member.specs.declared.TheConstants.{HAPPENINGS}
 use Rattle.member.specs.declared.error.Error.{Error}
 use Rattle.member.specs.declared.error.Error.TheVariants.{Memory, Closed}
 use Rattle.member.specs.declared.input.Input.{Input}
-use Rattle.member.specs.declared.input.Input.TheVariants.{Create, Join, Send, Datagram, Tick, Leave}
+use Rattle.member.specs.declared.input.Input.TheVariants.{Create, Join, Send, Datagram, Tick, Suspect, MergeHint, Leave}
 use Rattle.member.specs.declared.output.Output.{Output}
 use Rattle.member.specs.declared.life.Stage.{Stage}
 use Rattle.member.specs.declared.life.Stage.TheVariants.{Idle, Joining, Alone}
 use Rattle.member.specs.declared.life.Life.{Life}
 use Rattle.member.specs.Errors.{is_memory}
-use Rattle.member.specs.Members.{MemberModel, IsLoneAt, IsLone, core_at, core_in, contact_at, book_in, came_at, refusal_in, is_ignored, is_unreadable, spells_packet}
+use Rattle.member.specs.Members.{MemberModel, IsLoneAt, IsLone, lone_install, core_at, core_in, contact_at, book_in, came_at, refusal_in, is_ignored, is_unreadable, spells_packet, leaves}
 use Rattle.member.specs.Outputs.{Puts, packet_in, spelled}
-use Rattle.member.specs.Steps.{lone_install, sending, delivery, Asks, SendsAt, Does, Answers, leaves, ends}
+use Rattle.member.specs.Steps.{sending, delivery, Asks, announced, SendsAt, Does, Answers, ends}
 use Rattle.member.specs.Handling.{Handled, EndsWithout, IsClosed, Replies, IsPrompt, posts, noted, Ignores}
-use Rattle.member.proofs.Acts.{created-acted, joined-acted, asked-acted, left-acted, nothing-acted, sent-acted}
+use Rattle.member.proofs.Acts.{created-acted, joined-acted, asked-acted, told-acted, left-acted, nothing-acted, sent-acted}
 use Rattle.member.proofs.Entering.{never-unreadable}
 use Rattle.member.proofs.Refusing.{never-closed, packet-free, is-short}
 
@@ -177,6 +177,32 @@ module _ {S : Type 0} (apply : S → Address → List ℕ → S) (encode : S →
       subst (λ (n : Life S). Holds (at p group (Some (life (Alone v k) z))) Tick (Ok out) (at p group (Some n))) (sym x.1)
       (ok-handled p group (Alone v k) z Tick out (Some (life (Alone v k) z)) [] x.0 refl (nothing-acted apply encode decode None _) (refl, refl) tt tt refl (not-ignored _ Tick (Ok out) _ refl) none-taken)
 
+  suspected : (p : Address) (group : List ℕ) (s : Stage) (z : S) (q : Address) (out : Output) (new : Life S) → Does apply p group (life s z) (Suspect q) out new
+      → Holds (at p group (Some (life s z))) (Suspect q) (Ok out) (at p group (Some new))
+  suspected p group s z q out new x =
+      subst (λ (n : Life S). Holds (at p group (Some (life s z))) (Suspect q) (Ok out) (at p group (Some n))) (sym x.1)
+      (ok-handled p group s z (Suspect q) out (Some (life s z)) [] x.0 refl (nothing-acted apply encode decode None _) (refl, refl) tt tt refl (not-ignored _ (Suspect q) (Ok out) _ refl) none-taken)
+
+  hinted-acted : (p : Address) (v : View) (k : ℕ) (z : S) (q : Address) (b : Bool) → same_address q p ≡ b
+      → Acted apply encode decode None (Some (core_at p (Alone v k) z)) (announced p (Some v) q) [] (Some (core_at p (Alone v k) z))
+  hinted-acted p v k z q true e = rw e (nothing-acted apply encode decode None _)
+  hinted-acted p v k z q false e = rw e (told-acted apply encode decode None _ v q)
+
+  hinted : (p : Address) (group : List ℕ) (s : Stage) (z : S) (q : Address) (out : Output) (new : Life S) → Does apply p group (life s z) (MergeHint q) out new
+      → Holds (at p group (Some (life s z))) (MergeHint q) (Ok out) (at p group (Some new))
+  hinted p group Idle z q out new x =
+      subst (λ (n : Life S). Holds (at p group (Some (life Idle z))) (MergeHint q) (Ok out) (at p group (Some n))) (sym x.1)
+      (ok-handled p group Idle z (MergeHint q) out (Some (life Idle z)) [] x.0.0 refl (nothing-acted apply encode decode None _) (refl, refl) tt tt refl
+      (not-ignored _ (MergeHint q) (Ok out) _ refl) none-taken)
+  hinted p group (Joining contact) z q out new x =
+      subst (λ (n : Life S). Holds (at p group (Some (life (Joining contact) z))) (MergeHint q) (Ok out) (at p group (Some n))) (sym x.1)
+      (ok-handled p group (Joining contact) z (MergeHint q) out (Some (life (Joining contact) z)) [] x.0.0 refl (nothing-acted apply encode decode None _) (refl, refl) tt tt refl
+      (not-ignored _ (MergeHint q) (Ok out) _ refl) none-taken)
+  hinted p group (Alone v k) z q out new x =
+      subst (λ (n : Life S). Holds (at p group (Some (life (Alone v k) z))) (MergeHint q) (Ok out) (at p group (Some n))) (sym x.1)
+      (ok-handled p group (Alone v k) z (MergeHint q) out (Some (life (Alone v k) z)) [] x.0.0 refl (hinted-acted p v k z q (same_address q p) refl) (refl, refl) tt x.0.1 refl
+      (not-ignored _ (MergeHint q) (Ok out) _ refl) none-taken)
+
   left : (p : Address) (group : List ℕ) (s : Stage) (z : S) (out : Output) → Puts [] (Left p ∷ []) out → Holds (at p group (Some (life s z))) Leave (Ok out) (at p group None)
   left p group Idle z out x = ok-handled p group Idle z Leave out None (Left p ∷ []) x refl (left-acted apply encode decode None _) (refl, refl) tt tt refl (not-ignored _ Leave (Ok out) _ refl) (one-taken (Left p) tt)
   left p group (Joining contact) z out x =
@@ -192,6 +218,8 @@ module _ {S : Type 0} (apply : S → Address → List ℕ → S) (encode : S →
   ok-at p group old (Send payload) out new lone free x = sent p group old.stage old.receiver payload out new lone free x
   ok-at p group old (Datagram bytes) out new lone free x = heard p group old.stage old.receiver bytes out new free x
   ok-at p group old Tick out new lone free x = ticked p group old.stage old.receiver out new x
+  ok-at p group old (Suspect q) out new lone free x = suspected p group old.stage old.receiver q out new x
+  ok-at p group old (MergeHint q) out new lone free x = hinted p group old.stage old.receiver q out new x
   ok-at p group old Leave out new lone free x = left p group old.stage old.receiver out x.0
 
   -- ---- an input that is refused, or for which memory is

@@ -3,7 +3,7 @@ use Rattle.std.proofs.Common.{◌≡◌, ℕ, ◌+◌, Bool, true, false, List, 
 use Rattle.address.specs.Ids.{Address}
 use Rattle.member.specs.declared.error.Error.{Error}
 use Rattle.member.specs.declared.input.Input.{Input}
-use Rattle.member.specs.declared.input.Input.TheVariants.{Create, Join, Send, Datagram, Tick, Leave}
+use Rattle.member.specs.declared.input.Input.TheVariants.{Create, Join, Send, Datagram, Tick, Suspect, MergeHint, Leave}
 use Rattle.member.specs.declared.life.Stage.{Stage}
 use Rattle.member.specs.declared.life.Stage.TheVariants.{Idle, Joining, Alone}
 use Rattle.member.specs.declared.life.Life.{Life}
@@ -29,6 +29,8 @@ module _ {S : Type 0} (apply : S → Address → List ℕ → S) where
   does-lone p group old (Send payload) out new lone x = sends-lone p payload.now old.stage old.receiver out new lone x
   does-lone p group old (Datagram bytes) out new lone x = same-lone p old.stage new.stage (ap (λ (l : Life S). l.stage) x.1) lone
   does-lone p group old Tick out new lone x = same-lone p old.stage new.stage (ap (λ (l : Life S). l.stage) x.1) lone
+  does-lone p group old (Suspect q) out new lone x = same-lone p old.stage new.stage (ap (λ (l : Life S). l.stage) x.1) lone
+  does-lone p group old (MergeHint q) out new lone x = same-lone p old.stage new.stage (ap (λ (l : Life S). l.stage) x.1) lone
   does-lone p group old Leave out new lone x = same-lone p old.stage new.stage (ap (λ (l : Life S). l.stage) x.1) lone
 
   err-lone : (b : Bool) (p : Address) (old new : Life S) (A B C : Type 0) → IsLoneAt p old.stage → MatchBool b (A × B × (new.stage ≡ old.stage)) (C × (new ≡ old)) → IsLoneAt p new.stage

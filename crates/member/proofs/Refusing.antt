@@ -11,7 +11,7 @@ use Rattle.sequencer.specs.declared.TheConstants.{OUTSTANDING}
 use Rattle.member.specs.declared.error.Error.{Error}
 use Rattle.member.specs.declared.error.Error.TheVariants.{NotConnected, Blocked, Busy, TooLong, AlreadyConnected, Closed, Memory, Exhausted, Wire}
 use Rattle.member.specs.declared.input.Input.{Input}
-use Rattle.member.specs.declared.input.Input.TheVariants.{Create, Join, Send, Datagram, Tick, Leave}
+use Rattle.member.specs.declared.input.Input.TheVariants.{Create, Join, Send, Datagram, Tick, Suspect, MergeHint, Leave}
 use Rattle.member.specs.Members.{refusal_in, spells_packet}
 
 is_closed : Error → Bool
@@ -49,6 +49,8 @@ opens c (Send payload) =
     (either (nat_le (2 ^ 62) c.traffic.sent) (Some Exhausted) None refl refl))))
 opens c (Datagram bytes) = wired (wire_refusal bytes.now)
 opens c Tick = refl
+opens c (Suspect q) = refl
+opens c (MergeHint q) = refl
 opens c Leave = refl
 
 -- one that runs is not refused with 6
@@ -67,6 +69,8 @@ packet-free c (Join contact) e = absurd (let n : false ≡ true = e in cc)
 packet-free c (Send payload) e = absurd (let n : false ≡ true = e in cc)
 packet-free c (Datagram bytes) e = wire-free (wire_refusal bytes.now) e
 packet-free c Tick e = absurd (let n : false ≡ true = e in cc)
+packet-free c (Suspect q) e = absurd (let n : false ≡ true = e in cc)
+packet-free c (MergeHint q) e = absurd (let n : false ≡ true = e in cc)
 packet-free c Leave e = absurd (let n : false ≡ true = e in cc)
 
 short-by : (b : Bool) (n : ℕ) (o : Option Error) → nat_lt PAYLOAD n ≡ b → cond b (Some TooLong) o ≡ None → n ≤ PAYLOAD

@@ -17,12 +17,12 @@ use Rattle.member.specs.declared.TheConstants.{HAPPENINGS}
 use Rattle.member.specs.declared.error.Error.{Error}
 use Rattle.member.specs.declared.error.Error.TheVariants.{Memory, Closed}
 use Rattle.member.specs.declared.input.Input.{Input}
-use Rattle.member.specs.declared.input.Input.TheVariants.{Create, Join, Send, Datagram, Tick, Leave}
+use Rattle.member.specs.declared.input.Input.TheVariants.{Create, Join, Send, Datagram, Tick, Suspect, MergeHint, Leave}
 use Rattle.member.specs.declared.output.Output.{Output}
 use Rattle.member.specs.Errors.{is_memory}
-use Rattle.member.specs.Members.{MemberModel, Book, core_of, book_of, came_at, refusal_of, is_ignored, is_unreadable}
+use Rattle.member.specs.Members.{MemberModel, Book, core_of, book_of, came_at, refusal_of, is_ignored, is_unreadable, lone_install}
 use Rattle.member.specs.Outputs.{Puts, packet_in, spelled}
-use Rattle.member.specs.Steps.{lone_install}
+use Rattle.member.specs.Steps.{announced}
 
 -- ---- acted
 
@@ -83,7 +83,9 @@ Replies c Create happened end = (happened ≡ Installed (lone_install c.me) ∷ 
 Replies c (Join contact) happened end = (happened ≡ []) × IsConnected end
 Replies c (Send payload) happened end = SendsNext c payload.now happened × StaysSo c end
 Replies c (Datagram bytes) happened end = (list_all is_quiet happened ≡ true) × StaysSo c end
-Replies c Tick happened end = (happened ≡ []) × StaysSo c end
+Replies c Tick happened end = (list_all is_quiet happened ≡ true) × StaysSo c end
+Replies c (Suspect q) happened end = (list_all is_quiet happened ≡ true) × StaysSo c end
+Replies c (MergeHint q) happened end = (happened ≡ []) × StaysSo c end
 Replies c Leave happened end = (happened ≡ Left c.me ∷ []) × (end ≡ None)
 
 -- ---- prompt
@@ -96,6 +98,8 @@ IsPrompt c (Send payload) happened = IsSomeAnd c.view (λ v. same_address c.me v
     → Contains happened (Delivered (record { member = c.me; view = v.id; message = record { sender = c.me; number = c.traffic.sent + 1; payload = payload.now } })))
 IsPrompt c (Datagram bytes) happened = Unit {0}
 IsPrompt c Tick happened = Unit {0}
+IsPrompt c (Suspect q) happened = Unit {0}
+IsPrompt c (MergeHint q) happened = Unit {0}
 IsPrompt c Leave happened = Unit {0}
 
 -- the contact, while it has no view and asks one
@@ -109,6 +113,8 @@ posts m (Join contact) = packet m.address bodies.Join contact ∷ []
 posts m (Send payload) = []
 posts m (Datagram bytes) = []
 posts m Tick = option_map_or (λ contact. packet m.address bodies.Join contact ∷ []) (asked_by m) []
+posts m (Suspect q) = []
+posts m (MergeHint q) = option_map_or (λ c. announced m.address c.view q) (core_of m) []
 posts m Leave = []
 
 -- its notes afterwards, while it runs
@@ -118,6 +124,8 @@ noted b (Join contact) = Some (record { contact = Some contact })
 noted b (Send payload) = b
 noted b (Datagram bytes) = b
 noted b Tick = b
+noted b (Suspect q) = b
+noted b (MergeHint q) = b
 noted b Leave = None
 
 -- ---- ignored

@@ -1,5 +1,5 @@
 -- A member as contracts see it: who it is, what it decides by while it runs, and why it refuses an input.
-use Rattle.std.specs.Prelude.{◌≡◌, ℕ, ◌^◌, Bool, true, false, not, is_some, [], List, length, Result, Ok, Err, Option, None, Some, nat_lt, nat_le, ◌&&◌, if◌then◌else◌}
+use Rattle.std.specs.Prelude.{◌≡◌, ℕ, ◌^◌, Bool, true, false, not, is_some, [], ◌∷◌, List, length, Result, Ok, Err, Option, None, Some, nat_lt, nat_le, ◌&&◌, if◌then◌else◌}
 use Rattle.std.specs.Option.{option_map, option_map_or, option_and_then}
 use Rattle.address.specs.Ids.{Address, same_address}
 use Rattle.packet_values.specs.declared.limits.TheConstants.{PAYLOAD}
@@ -9,6 +9,7 @@ use Rattle.wire.specs.declared.packet.Body.{Body}
 use Rattle.wire.specs.declared.packet.Body.TheVariants as bodies
 use Rattle.wire.specs.Values as wire
 use Rattle.wire.specs.Packets.{packet_of, wire_refusal}
+use Rattle.trace_props.specs.declared.happening.Install.{Install}
 use Rattle.agreement.specs.Histories.{Posted}
 use Rattle.agreement.specs.Cores.{Traffic, Core, idle, is_frozen}
 use Rattle.agreement.specs.Acts.{lone_view}
@@ -18,7 +19,7 @@ pub use Rattle.member_acts.specs.Decisions.{promise_of, is_fitting, is_entry, is
 use Rattle.member.specs.declared.error.Error.{Error}
 use Rattle.member.specs.declared.error.Error.TheVariants.{NotConnected, Blocked, Busy, TooLong, AlreadyConnected, Closed, Exhausted, Wire}
 use Rattle.member.specs.declared.input.Input.{Input}
-use Rattle.member.specs.declared.input.Input.TheVariants.{Create, Join, Send, Datagram, Tick, Leave}
+use Rattle.member.specs.declared.input.Input.TheVariants.{Create, Join, Send, Datagram, Tick, Suspect, MergeHint, Leave}
 use Rattle.member.specs.declared.life.Stage.{Stage}
 use Rattle.member.specs.declared.life.Stage.TheVariants.{Idle, Joining, Alone}
 use Rattle.member.specs.declared.life.Life.{Life}
@@ -97,6 +98,30 @@ abbrev pub IsLone : {S : Type 0} → Address → Option (Life S) → Type 0
 IsLone p None = Unit {0}
 IsLone p (Some life) = IsLoneAt p life.stage
 
+-- ---- what each input is
+
+-- the install of a member's first view
+abbrev pub lone_install : Address → Install
+lone_install p = record {
+  member = p;
+  previous = None;
+  view = lone_view p;
+  together = p ∷ [];
+  handed_back = [];
+  given = None;
+}
+
+-- whether a member ends by an input that it takes
+abbrev pub leaves : Input → Bool
+leaves Create = false
+leaves (Join contact) = false
+leaves (Send payload) = false
+leaves (Datagram bytes) = false
+leaves Tick = false
+leaves (Suspect q) = false
+leaves (MergeHint q) = false
+leaves Leave = true
+
 -- ---- the packet that came
 
 -- a packet of its group is handed to it, where it is connected, for it and from another
@@ -113,6 +138,8 @@ came_at m (Join contact) = None
 came_at m (Send payload) = None
 came_at m (Datagram bytes) = came_in m (packet_of bytes.now)
 came_at m Tick = None
+came_at m (Suspect q) = None
+came_at m (MergeHint q) = None
 came_at m Leave = None
 
 -- ---- an INSTALL that it would enter
@@ -163,6 +190,8 @@ refusal_in c (Join contact) = if is_some c.view then Some AlreadyConnected else 
 refusal_in c (Send payload) = send_refusal c payload.now
 refusal_in c (Datagram bytes) = option_map Wire (wire_refusal bytes.now)
 refusal_in c Tick = None
+refusal_in c (Suspect q) = None
+refusal_in c (MergeHint q) = None
 refusal_in c Leave = None
 
 abbrev pub refusal_of : {S : Type 0} → MemberModel S → Input → Option Error
@@ -175,6 +204,8 @@ spells_packet (Join contact) = false
 spells_packet (Send payload) = false
 spells_packet (Datagram bytes) = not (is_some (wire_refusal bytes.now))
 spells_packet Tick = false
+spells_packet (Suspect q) = false
+spells_packet (MergeHint q) = false
 spells_packet Leave = false
 
 -- a datagram that spells a packet by which it would enter no view: no other kind of packet has a rule yet

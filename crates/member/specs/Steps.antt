@@ -1,11 +1,12 @@
 -- What each input does to a member: local, exact, by cases on the answer.
-use Rattle.std.specs.Prelude.{◌≡◌, ℕ, ◌+◌, Bool, true, false, ◌&&◌, not, ◌∷◌, [], List, Result, Ok, Err, Option, None, Some, MatchBool, if◌then◌else◌}
+use Rattle.std.specs.Prelude.{◌≡◌, ℕ, ◌+◌, Bool, true, false, ◌&&◌, not, ◌∷◌, [], List, map, Result, Ok, Err, Option, None, Some, MatchBool, if◌then◌else◌}
+use Rattle.std.specs.List.{AllByRecursion}
 use Rattle.address.specs.Ids.{Address, ViewId, same_address}
+use Rattle.view.specs.Members.{View}
 use Rattle.wire.specs.declared.packet.Packet.{Packet}
 use Rattle.wire.specs.declared.packet.Body.TheVariants as bodies
 use Rattle.wire.specs.Packets.{IsPacket}
 use Rattle.trace_props.specs.declared.happening.Happening.TheVariants.{Sent, Delivered, Installed, Left}
-use Rattle.trace_props.specs.declared.happening.Install.{Install}
 use Rattle.trace_props.specs.declared.happening.Sending.{Sending}
 use Rattle.trace_props.specs.declared.happening.Delivery.{Delivery}
 use Rattle.agreement.specs.Histories.{Posted}
@@ -13,26 +14,15 @@ use Rattle.agreement.specs.Acts.{lone_view, packet}
 use Rattle.member.specs.declared.error.Error.{Error}
 use Rattle.member.specs.declared.error.Error.TheVariants.{Closed}
 use Rattle.member.specs.declared.input.Input.{Input}
-use Rattle.member.specs.declared.input.Input.TheVariants.{Create, Join, Send, Datagram, Tick, Leave}
+use Rattle.member.specs.declared.input.Input.TheVariants.{Create, Join, Send, Datagram, Tick, Suspect, MergeHint, Leave}
 use Rattle.member.specs.declared.life.Stage.{Stage}
 use Rattle.member.specs.declared.life.Stage.TheVariants.{Idle, Joining, Alone}
 use Rattle.member.specs.declared.life.Life.{Life}
 use Rattle.member.specs.declared.output.Output.{Output}
 use Rattle.member.specs.Errors.{is_memory}
-use Rattle.member.specs.Members.{MemberModel, core_at, contact_at, refusal_in, spells_packet, IsLone}
+use Rattle.member.specs.Members.{MemberModel, core_at, contact_at, refusal_in, spells_packet, IsLone, lone_install, leaves}
 use Rattle.member.specs.Names.{same_name}
 use Rattle.member.specs.Outputs.{Puts, packet_in, spelled}
-
--- the install of a member's first view
-abbrev pub lone_install : Address → Install
-lone_install p = record {
-  member = p;
-  previous = None;
-  view = lone_view p;
-  together = p ∷ [];
-  handed_back = [];
-  given = None;
-}
 
 abbrev pub sending : Address → ViewId → ℕ → List ℕ → Sending
 sending p v n payload = record { member = p; view = v; message = record { number = n; payload = payload } }
@@ -56,6 +46,20 @@ join_to p contact = packet p bodies.Join contact
 -- it is put out alone, and can be read back
 abbrev pub Asks : Address → List ℕ → Address → Output → Type 0
 Asks p group contact out = Puts (spelled group (join_to p contact) ∷ []) [] out × IsPacket (packet_in group (join_to p contact))
+
+-- the MERGE of a view to an address: none where there is no view, and none to itself
+abbrev pub announced : Address → Option View → Address → List Posted
+announced p None q = []
+announced p (Some v) q = if same_address q p then [] else packet p (bodies.Merge v) q ∷ []
+
+-- it is put out alone, and can be read back
+abbrev pub Announces : Address → List ℕ → Option View → Address → Output → Type 0
+Announces p group view q out = Puts (map (spelled group) (announced p view q)) [] out × AllByRecursion (λ m. IsPacket (packet_in group m)) (announced p view q)
+
+abbrev pub view_at : Stage → Option View
+view_at Idle = None
+view_at (Joining contact) = None
+view_at (Alone v k) = Some v
 
 -- ---- what each input does where it is not refused: to one that runs, with what comes out, and what is left of it
 
@@ -82,6 +86,8 @@ Does apply p group old (Join contact) out new = Joins p group contact old out ne
 Does apply p group old (Send payload) out new = SendsAt apply p payload.now old.stage old.receiver out new
 Does apply p group old (Datagram bytes) out new = Puts [] [] out × (new ≡ old)
 Does apply p group old Tick out new = TicksAt p group (contact_at old.stage) out × (new ≡ old)
+Does apply p group old (Suspect q) out new = Puts [] [] out × (new ≡ old)
+Does apply p group old (MergeHint q) out new = Announces p group (view_at old.stage) q out × (new ≡ old)
 Does apply p group old Leave out new = Puts [] (Left p ∷ []) out × (new ≡ old)
 
 -- ---- with the refusals: an answer and what it leaves of one that runs
@@ -94,14 +100,6 @@ Gives apply p group old input (Err e) new =
     ((refusal_in (core_at p old.stage old.receiver) input ≡ Some e) × (new ≡ old))
 
 -- ---- the same of a member: it ends where it leaves and where memory is refused
-
-abbrev pub leaves : Input → Bool
-leaves Create = false
-leaves (Join contact) = false
-leaves (Send payload) = false
-leaves (Datagram bytes) = false
-leaves Tick = false
-leaves Leave = true
 
 abbrev pub ends : Input → Result Output Error → Bool
 ends input (Ok out) = leaves input

@@ -1,6 +1,6 @@
 use address::Address;
 
-/// What a member is handed: a wish of its application, a datagram, or that time passes (docs/PROTOCOL.md, "Joining" and "A member alone").
+/// What a member is handed: a wish of its application, a datagram, what it is told of others, or that time passes (docs/PROTOCOL.md, "Joining", "Told of others" and "A member alone").
 /// Payloads and bytes are lent. Whatever grows may be refused with 7, and after its end a member refuses all with 6.
 #[derive(Clone, Copy, Debug)]
 pub enum Input<'a> {
@@ -16,6 +16,10 @@ pub enum Input<'a> {
     Datagram(&'a [u8]),
     /// Time passes: what may be lost is put out again. Never refused but with 6 and 7.
     Tick,
+    /// Its failure detector says that the member of this address has failed. Never refused but with 6 and 7.
+    Suspect(Address),
+    /// A member of another view of the group may be reached at this address. Never refused but with 6 and 7.
+    MergeHint(Address),
     /// Leaves the group, for good. Never refused but with 6 and 7.
     Leave,
 }

@@ -2,12 +2,13 @@
 
 ghost use Rattle.std.specs.Prelude.{◌≡◌, [], ◌∷◌, Some, is_some, Ok, IfOk};
 ghost use Rattle.wire.specs.Packets.{IsPacket};
+ghost use Rattle.wire.specs.declared.packet.Body.TheVariants as bodies;
 ghost use Rattle.trace_props.specs.declared.happening.Happening.TheVariants.{Sent, Delivered, Installed};
 ghost use Rattle.agreement.specs.Acts.{lone_view, packet};
 ghost use Rattle.member.specs.declared.input.Input.TheVariants as input;
-ghost use Rattle.member.specs.Members.{contact_at, came_in};
+ghost use Rattle.member.specs.Members.{lone_install, contact_at, came_in};
 ghost use Rattle.member.specs.Outputs.{Puts, packet_in, spelled};
-ghost use Rattle.member.specs.Steps.{lone_install, sending, delivery, is_for, is_connected, Asks, Gives};
+ghost use Rattle.member.specs.Steps.{sending, delivery, is_for, is_connected, Asks, Announces, Gives};
 
 use crate::name::KeptName;
 use crate::{Error, Input, Outgoing, Output};
@@ -17,7 +18,7 @@ use state_transfer::Receiver;
 use std::alloc::{AllocError, Global};
 use trace_props::{Bytes, Delivery, HandedBack, Happening, Install, Message, Numbered, Sending};
 use view::{Addresses, View};
-use wire::{Body, Packet, decode};
+use wire::{Body, Packet, Roster, decode};
 use wire_writer::encode;
 
 // How far a member has come: it has no view; it has none and asks a contact to be let in; or it is alone in its first view, and has sent so
@@ -130,6 +131,13 @@ fn said(
     )
 }
 
+// A MERGE of a view.
+fn merge_of(view: &View) -> Body<'_>
+    ensures { result ≡ bodies.Merge view.now }
+{
+    Body::Merge(Roster::new(view.id(), view.members().as_slice()).unwrap())
+}
+
 impl Identity {
     // A packet of this member, in bytes.
     fn spelled(&self, destination: Address, body: Body<'_>) -> Result<Outgoing, AllocError>
@@ -155,6 +163,24 @@ impl Identity {
     {
         let join = self.spelled(contact, Body::Join)?;
         Output::packet(self.alloc, join)
+    }
+
+    // The MERGE of a view to an address, put out.
+    fn merging(&self, view: &View, address: Address) -> Result<Output, AllocError>
+        ensures { IfOk result (λ out. let m = packet self.now.address (bodies.Merge view.now) address in Puts (spelled self.now.group m ∷ []) [] out × IsPacket (packet_in self.now.group m)) }
+    {
+        let merge = self.spelled(address, merge_of(view))?;
+        Output::packet(self.alloc, merge)
+    }
+
+    // The same, but nothing to itself.
+    fn announcing(&self, view: &View, address: Address) -> Result<Output, AllocError>
+        ensures { IfOk result (λ out. Announces self.now.address self.now.group (Some view.now) address out) }
+    {
+        if address == self.address {
+            return Ok(Output::nothing(self.alloc));
+        }
+        self.merging(view, address)
     }
 
     // Whether a packet is for this member: of its group, to its address, from another.
@@ -271,6 +297,24 @@ impl<R: Receiver> Life<R> {
         Ok(who.asking(contact)?)
     }
 
+    // Its failure detector suspects an address. No other stands in a view of one, so nothing is done.
+    fn suspect(&self, who: &Identity, suspect: Address) -> Result<Output, Error>
+        ensures { Gives R.apply who.now.address who.now.group self.now (input.Suspect suspect) result self.now }
+    {
+        let _ = suspect;
+        Ok(Output::nothing(who.alloc))
+    }
+
+    // A member of another view may be reached at an address: it is told of this one's view, if there is one.
+    fn merge_hint(&self, who: &Identity, address: Address) -> Result<Output, Error>
+        ensures { Gives R.apply who.now.address who.now.group self.now (input.MergeHint address) result self.now }
+    {
+        match &self.stage {
+            Stage::Idle | Stage::Joining(_) => Ok(Output::nothing(who.alloc)),
+            Stage::Alone { view, .. } => Ok(who.announcing(view, address)?),
+        }
+    }
+
     // Leaves the group.
     fn leave(&self, who: &Identity) -> Result<Output, Error>
         ensures { Gives R.apply who.now.address who.now.group self.now input.Leave result self.now }
@@ -288,6 +332,8 @@ impl<R: Receiver> Life<R> {
             Input::Send(payload) => self.send(who, payload),
             Input::Datagram(bytes) => self.datagram(who, bytes),
             Input::Tick => self.tick(who),
+            Input::Suspect(address) => self.suspect(who, *address),
+            Input::MergeHint(address) => self.merge_hint(who, *address),
             Input::Leave => self.leave(who),
         }
     }

@@ -163,6 +163,8 @@ impl<R: Receiver> Member<R> {
             Input::Send(payload) => self.step(&Input::Send(payload)),
             Input::Datagram(bytes) => self.step(&Input::Datagram(bytes)),
             Input::Tick => self.step(&Input::Tick),
+            Input::Suspect(address) => self.step(&Input::Suspect(address)),
+            Input::MergeHint(address) => self.step(&Input::MergeHint(address)),
             Input::Leave => self.step(&Input::Leave),
         }
     }

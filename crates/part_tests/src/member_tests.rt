@@ -21,6 +21,10 @@ const JOIN_TO_ITSELF: &[u8] =
 
 const JOIN_OF_NIGHT: &[u8] = b"VS\x01\x01\x05night\x00\x02\x00\x00\x00\x01\x00\x01\x00\x00\x00\x01";
 
+// A MERGE, by hand from the same table: of the first view of 1.1, from 1.1 to 2.1.
+const MERGE: &[u8] =
+    b"VS\x01\x0d\x05world\x00\x01\x00\x00\x00\x01\x00\x02\x00\x00\x00\x01\x00\x00\x00\x00\x00\x00\x00\x01\x00\x01\x00\x00\x00\x01\x01\x00\x01\x00\x00\x00\x01";
+
 // No packets: nothing, a JOIN and a byte, version 9, a JOIN that is cut, kind 14. Each with its refusal.
 const BAD: [(&[u8], u8); 5] = [
     (b"", 20),
@@ -224,6 +228,16 @@ fn a_member_that_left_answers_6(rt: HostRuntime) {
     }
     assert_eq!(rt; refusal(member.handle(Input::Tick)), 6, "a tick");
     assert_eq!(rt; refusal(member.handle(Input::Send(b"hi"))), 6, "a send");
+    assert_eq!(rt;
+        refusal(member.handle(Input::Suspect(first_of(2)))),
+        6,
+        "a suspect"
+    );
+    assert_eq!(rt;
+        refusal(member.handle(Input::MergeHint(first_of(2)))),
+        6,
+        "a hint"
+    );
 }
 
 // Whether an answer is one packet to 1.1, the JOIN of 2.1.
@@ -262,6 +276,48 @@ fn a_member_that_asks_may_not_create_nor_send(rt: HostRuntime) {
     );
     assert_eq!(rt; refusal(member.handle(Input::Create)), 5, "a create");
     assert_eq!(rt; refusal(member.handle(Input::Send(b"hi"))), 1, "a send");
+}
+
+#[test]
+fn a_suspect_of_a_member_alone_does_nothing(rt: HostRuntime) {
+    let mut member = alone(rt.alloc()).expect(&rt, "a member alone");
+    for node in [2, 1] {
+        assert!(rt;
+            counts(member.handle(Input::Suspect(first_of(node)))) == Some((0, 0)),
+            "the member of node {node}"
+        );
+    }
+    assert!(rt; is_first(member.view()), "the view is as before");
+}
+
+// Whether an answer is one packet to 2.1, the MERGE of the first view of 1.1.
+fn announces(answer: Result<Output, Error>) -> bool {
+    let Ok(output) = answer else {
+        return false;
+    };
+    match output.packets.as_slice() {
+        [packet] => packet.destination == first_of(2) && packet.bytes.as_slice() == MERGE,
+        _ => false,
+    }
+}
+
+#[test]
+fn a_hint_puts_out_the_view_to_another(rt: HostRuntime) {
+    let mut member = alone(rt.alloc()).expect(&rt, "a member alone");
+    assert!(rt;
+        announces(member.handle(Input::MergeHint(first_of(2)))),
+        "to 2.1"
+    );
+    assert!(rt;
+        counts(member.handle(Input::MergeHint(first_of(1)))) == Some((0, 0)),
+        "nothing to itself"
+    );
+}
+
+#[test]
+fn a_hint_to_a_member_without_a_view_does_nothing(rt: HostRuntime) {
+    let mut member = member(rt.alloc(), 1).expect(&rt, "a member");
+    assert!(rt; counts(member.handle(Input::MergeHint(first_of(2)))) == Some((0, 0)));
 }
 
 // Packets that a member alone takes and does nothing for, each with what it is.

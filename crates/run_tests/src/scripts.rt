@@ -71,6 +71,39 @@ fn a_node_runs_once_it_was_started(rt: HostRuntime) {
     );
 }
 
+/// The MERGE of the first view of 1.1 to 2.1.
+const MERGE: [u8; 43] = [
+    b'V', b'S', 1, 13, 5, b'w', b'o', b'r', b'l', b'd', 0, 1, 0, 0, 0, 1, 0, 2, 0, 0, 0, 1, 0, 0,
+    0, 0, 0, 0, 0, 1, 0, 1, 0, 0, 0, 1, 1, 0, 1, 0, 0, 0, 1,
+];
+
+/// The world in which the member of a node is alone, suspects another and is told that it may be reached.
+fn world_of_a_hint(alloc: Global, node: Node, other: Address) -> Option<World<ChatLog>> {
+    let events = [
+        WorldEvent::Start(node),
+        WorldEvent::Create(node),
+        WorldEvent::Suspect(node, other),
+        WorldEvent::MergeHint(node, other),
+    ];
+    let mut world = World::<ChatLog>::new(alloc);
+    world.run(&events).ok()?;
+    Some(world)
+}
+
+#[test]
+fn a_hint_puts_out_the_view_and_a_suspect_nothing(rt: HostRuntime) {
+    let (node, other) = (Node::new(1).unwrap(), Node::new(2).unwrap());
+    let world = world_of_a_hint(rt.alloc(), node, Address::first_at(other)).expect(
+        &rt,
+        "the events are done",
+    );
+    match world.packet(1) {
+        Some(bytes) => assert!(rt; bytes == MERGE.as_slice(), "the first packet is the MERGE"),
+        None => assert!(rt; false, "there is a packet"),
+    }
+    assert!(rt; world.packet(2).is_none(), "there is no other packet");
+}
+
 /// A reader that gives a few bytes and then fails.
 #[derive(Drop)]
 struct Failing(u8);

@@ -5,7 +5,7 @@ use Rattle.std.specs.Str.{bytes_eq}
 use Rattle.world_model.specs.declared.WorldEvent.{WorldEvent}
 use Rattle.world_model.specs.declared.WorldEvent.TheVariants as event
 use Rattle.script_reader.specs.declared.line.Word.{Word}
-use Rattle.script_reader.specs.declared.line.Word.TheVariants.{Start, Create, Join, Send, Deliver, Tick, Leave, Crash}
+use Rattle.script_reader.specs.declared.line.Word.TheVariants.{Start, Create, Join, Send, Deliver, Tick, Suspect, Hint, Leave, Crash}
 use Rattle.script_reader.specs.declared.line.Unheard.{Unheard}
 use Rattle.script_reader.specs.declared.line.Unheard.TheVariants as unheard
 use Rattle.script_reader.specs.declared.fault.Fault.{Fault}
@@ -61,14 +61,19 @@ abbrev pub made : (ℕ → WorldEvent) → Result ℕ Fault → Result WorldEven
 made event (Ok n) = Ok (event n)
 made event (Err f) = Err f
 
--- the event of a node and of the contact with which its line ends
-abbrev pub joins : ℕ → Result Address Fault → Result WorldEvent Fault
-joins n (Ok contact) = Ok (event.Join n contact)
-joins n (Err f) = Err f
+-- a node, and the address with which its line ends
+abbrev pub with_address : ℕ → Result Address Fault → Result (ℕ × Address) Fault
+with_address n (Ok address) = Ok (n, address)
+with_address n (Err f) = Err f
 
-abbrev pub asked : Result (ℕ × Option (List ℕ)) Fault → Result WorldEvent Fault
-asked (Ok read) = joins read.0 (only (address_field read.1))
-asked (Err f) = Err f
+abbrev pub node_and_address : Result (ℕ × Option (List ℕ)) Fault → Result (ℕ × Address) Fault
+node_and_address (Ok read) = with_address read.0 (only (address_field read.1))
+node_and_address (Err f) = Err f
+
+-- an event of both
+abbrev pub of_other : (ℕ → Address → WorldEvent) → Result (ℕ × Address) Fault → Result WorldEvent Fault
+of_other event (Ok read) = Ok (event read.0 read.1)
+of_other event (Err f) = Err f
 
 -- the rest of the line, whatever it holds, is the payload
 abbrev pub sent : Result (ℕ × Option (List ℕ)) Fault → Result WorldEvent Fault
@@ -86,19 +91,23 @@ word_of name =
     else if bytes_eq name (codes "send") then Some Send
     else if bytes_eq name (codes "deliver") then Some Deliver
     else if bytes_eq name (codes "tick") then Some Tick
+    else if bytes_eq name (codes "suspect") then Some Suspect
+    else if bytes_eq name (codes "hint") then Some Hint
     else if bytes_eq name (codes "leave") then Some Leave
     else if bytes_eq name (codes "crash") then Some Crash
     else None
 
 -- the event of a word and of what is left behind it: `start N`, `create N`, `join N ADDR`, `send N TEXT`, `deliver K`,
--- `tick N`, `leave N`, `crash N`
+-- `tick N`, `suspect N ADDR`, `hint N ADDR`, `leave N`, `crash N`
 abbrev pub event_of : Word → Option (List ℕ) → Result WorldEvent Fault
 event_of Start rest = made event.Start (only (node_field rest))
 event_of Create rest = made event.Create (only (node_field rest))
-event_of Join rest = asked (node_field rest)
+event_of Join rest = of_other event.Join (node_and_address (node_field rest))
 event_of Send rest = sent (node_field rest)
 event_of Deliver rest = made event.Deliver (only (packet_field rest))
 event_of Tick rest = made event.Tick (only (node_field rest))
+event_of Suspect rest = of_other event.Suspect (node_and_address (node_field rest))
+event_of Hint rest = of_other event.MergeHint (node_and_address (node_field rest))
 event_of Leave rest = made event.Leave (only (node_field rest))
 event_of Crash rest = made event.Crash (only (node_field rest))
 

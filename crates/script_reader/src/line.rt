@@ -1,8 +1,9 @@
 ghost use Rattle.std.specs.Prelude.{◌≡◌, Some, MatchOption, MatchResult};
 ghost use Rattle.std.specs.Option.{option_copied};
+ghost use Rattle.world_model.specs.declared.WorldEvent.TheVariants as event;
 ghost use Rattle.script_reader.specs.declared.line.Unheard.TheVariants as unheard;
 ghost use Rattle.script_reader.specs.declared.fault.Fault.TheVariants.{MissingField};
-ghost use Rattle.script_reader.specs.Script.{node_field, packet_field, address_field, only, asked, sent, word_of, event_of, told, is_skipped, reading_of, IsUnheard};
+ghost use Rattle.script_reader.specs.Script.{node_field, packet_field, address_field, only, node_and_address, of_other, sent, word_of, event_of, told, is_skipped, reading_of, IsUnheard};
 
 use crate::field::{address_field, first_field, node_field, packet_field};
 use crate::{Fault, SCRIPT_LINE};
@@ -27,6 +28,8 @@ pub(crate) enum Word {
     Send,
     Deliver,
     Tick,
+    Suspect,
+    Hint,
     Leave,
     Crash,
 }
@@ -46,6 +49,10 @@ fn word_of(name: &[u8]) -> Option<Word>
         Some(Word::Deliver)
     } else if name == b"tick".as_slice() {
         Some(Word::Tick)
+    } else if name == b"suspect".as_slice() {
+        Some(Word::Suspect)
+    } else if name == b"hint".as_slice() {
+        Some(Word::Hint)
     } else if name == b"leave".as_slice() {
         Some(Word::Leave)
     } else if name == b"crash".as_slice() {
@@ -88,17 +95,41 @@ fn lone_address(rest: Option<&[u8]>) -> Result<Address, Unheard>
     }
 }
 
-/// The event of `join N ADDR`.
-fn asked(rest: Option<&[u8]>) -> Result<WorldEvent, Unheard>
-    ensures { MatchResult result (λ e. asked (node_field (option_copied rest.entry)) ≡ Ok e) (IsUnheard (asked (node_field (option_copied rest.entry)))) }
+/// The node and the address with which a line ends.
+fn node_and_address(rest: Option<&[u8]>) -> Result<(Node, Address), Unheard>
+    ensures { MatchResult result (λ r. node_and_address (node_field (option_copied rest.entry)) ≡ Ok r) (IsUnheard (node_and_address (node_field (option_copied rest.entry)))) }
 {
     match node_field(rest) {
         Err(fault) => Err(Unheard::Fault(fault)),
         Ok((node, behind)) => {
-            let contact = lone_address(behind)?;
-            Ok(WorldEvent::Join(node, contact))
+            let address = lone_address(behind)?;
+            Ok((node, address))
         }
     }
+}
+
+/// The event of `join N ADDR`.
+fn asked(rest: Option<&[u8]>) -> Result<WorldEvent, Unheard>
+    ensures { MatchResult result (λ e. of_other event.Join (node_and_address (node_field (option_copied rest.entry))) ≡ Ok e) (IsUnheard (of_other event.Join (node_and_address (node_field (option_copied rest.entry))))) }
+{
+    let (node, contact) = node_and_address(rest)?;
+    Ok(WorldEvent::Join(node, contact))
+}
+
+/// The event of `suspect N ADDR`.
+fn suspected(rest: Option<&[u8]>) -> Result<WorldEvent, Unheard>
+    ensures { MatchResult result (λ e. of_other event.Suspect (node_and_address (node_field (option_copied rest.entry))) ≡ Ok e) (IsUnheard (of_other event.Suspect (node_and_address (node_field (option_copied rest.entry))))) }
+{
+    let (node, address) = node_and_address(rest)?;
+    Ok(WorldEvent::Suspect(node, address))
+}
+
+/// The event of `hint N ADDR`.
+fn hinted(rest: Option<&[u8]>) -> Result<WorldEvent, Unheard>
+    ensures { MatchResult result (λ e. of_other event.MergeHint (node_and_address (node_field (option_copied rest.entry))) ≡ Ok e) (IsUnheard (of_other event.MergeHint (node_and_address (node_field (option_copied rest.entry))))) }
+{
+    let (node, address) = node_and_address(rest)?;
+    Ok(WorldEvent::MergeHint(node, address))
 }
 
 /// The payload of an event: the rest of its line.
@@ -138,6 +169,8 @@ fn event_of(alloc: Global, word: Word, rest: Option<&[u8]>) -> Result<WorldEvent
         Word::Send => sent(alloc, rest),
         Word::Deliver => Ok(WorldEvent::Deliver(lone_packet(rest)?)),
         Word::Tick => Ok(WorldEvent::Tick(lone_node(rest)?)),
+        Word::Suspect => suspected(rest),
+        Word::Hint => hinted(rest),
         Word::Leave => Ok(WorldEvent::Leave(lone_node(rest)?)),
         Word::Crash => Ok(WorldEvent::Crash(lone_node(rest)?)),
     }

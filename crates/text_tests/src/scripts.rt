@@ -56,3 +56,30 @@ fn are_parts_read(rt: &impl Abort, script: &Script) {
         _ => assert!(rt; false, "an event of each kind is read, in order"),
     }
 }
+
+// A suspect and a hint. A pattern of more events than `EACH` has is more than one check takes.
+const OF_OTHERS: &[u8] = b"suspect 3 4.5\nhint 5 6.7";
+
+#[test]
+fn a_suspect_and_a_hint_are_read_with_their_parts(rt: HostRuntime) {
+    match read_script(rt.alloc(), OF_OTHERS) {
+        Ok(script) => are_others_read(&rt, &script),
+        Err(_) => assert!(rt; false, "the script is read"),
+    }
+}
+
+/// Asserts each part that the lines of `OF_OTHERS` spell.
+fn are_others_read(rt: &impl Abort, script: &Script) {
+    match script.events() {
+        [
+            WorldEvent::Suspect(suspect, suspected),
+            WorldEvent::MergeHint(hint, hinted),
+        ] => {
+            let nodes = [suspect, hint].map(|node| node.number());
+            assert!(rt; nodes == [3, 5], "the nodes");
+            assert!(rt; *suspected == address(4, 5), "the address of the suspect");
+            assert!(rt; *hinted == address(6, 7), "the address of the hint");
+        }
+        _ => assert!(rt; false, "a suspect and a hint are read, in order"),
+    }
+}

@@ -11,7 +11,7 @@ use Rattle.member.specs.declared.input.Input.{Input}
 use Rattle.member.specs.declared.input.Input.TheVariants as input
 use Rattle.member.specs.Members.{MemberModel}
 use Rattle.world_model.specs.declared.WorldEvent.{WorldEvent}
-use Rattle.world_model.specs.declared.WorldEvent.TheVariants.{Start, Create, Join, Send, Deliver, Tick, Leave, Crash}
+use Rattle.world_model.specs.declared.WorldEvent.TheVariants.{Start, Create, Join, Send, Deliver, Tick, Suspect, MergeHint, Leave, Crash}
 use Rattle.world_model.specs.declared.Target.TheVariants as target
 use Rattle.world_model.specs.declared.Answer.{Answer}
 use Rattle.world_model.specs.declared.Answer.TheVariants.{Done, Refused}
@@ -104,6 +104,20 @@ module _ {S : Type 0} (opening : S) (apply : S → Address → List ℕ → S) (
     table = λ m c x. Tables.tick-table opening apply encode decode is_state h n m c x;
   }
 
+  suspect-handed : (q : Address) → Handed (Suspect n q) (input.Suspect q)
+  suspect-handed q = record {
+    never = at-none _;
+    over = λ p e k. at-ended _ p k;
+    table = λ m c x. Tables.suspect-table opening apply encode decode is_state h n m c x q;
+  }
+
+  hint-handed : (q : Address) → Handed (MergeHint n q) (input.MergeHint q)
+  hint-handed q = record {
+    never = at-none _;
+    over = λ p e k. at-ended _ p k;
+    table = λ m c x. Tables.hint-table opening apply encode decode is_state h n m c x q;
+  }
+
   leave-handed : Handed (Leave n) input.Leave
   leave-handed = record {
     never = at-none _;
@@ -156,6 +170,8 @@ module _ {S : Type 0} (opening : S) (apply : S → Address → List ℕ → S) (
       (sent-at payload a t pool (at n) refl (w.seats n) g)
   acts-turn (Deliver k) a t pool here g = absurd (let bad : target.Packet k ≡ target.Member n = here in cc)
   acts-turn (Tick k) a t pool here g = to-node k (λ j. Turned (Tick j) a t pool) here (handed (Tick n) input.Tick a t pool tick-handed g)
+  acts-turn (Suspect k q) a t pool here g = to-node k (λ j. Turned (Suspect j q) a t pool) here (handed (Suspect n q) (input.Suspect q) a t pool (suspect-handed q) g)
+  acts-turn (MergeHint k q) a t pool here g = to-node k (λ j. Turned (MergeHint j q) a t pool) here (handed (MergeHint n q) (input.MergeHint q) a t pool (hint-handed q) g)
   acts-turn (Leave k) a t pool here g = to-node k (λ j. Turned (Leave j) a t pool) here (handed (Leave n) input.Leave a t pool leave-handed g)
   acts-turn (Crash k) a t pool here g =
       to-node k (λ j. Turned (Crash j) a t pool) here (crash-at (at n) (new n) a t pool refl refl (w.seats n) g.0 g.1)

@@ -12,8 +12,7 @@ use Rattle.agreement.specs.Cores.{Core}
 use Rattle.agreement.proofs.Registers.{passed-by}
 use Rattle.member.specs.declared.error.Error.{Error}
 use Rattle.member.specs.declared.error.Error.TheVariants as error
-use Rattle.member.specs.Members.{MemberModel}
-use Rattle.member.specs.Steps.{lone_install}
+use Rattle.member.specs.Members.{MemberModel, lone_install}
 use Rattle.member.specs.Handling as member
 use Rattle.world_model.specs.declared.Answer.TheVariants.{Done, Refused}
 use Rattle.world_model.specs.declared.Refusal.TheVariants.{Memory}
@@ -107,7 +106,7 @@ module _ {S : Type 0} (opening : S) (apply : S → Address → List ℕ → S) (
   pub join-not : (err : Error) → cond (is_some c.view) (Some error.AlreadyConnected) None ≡ Some err → AnswersJoin m.address h (answer_for err) []
   join-not err refused = join-not-at c.view err refl refused
 
-  -- ---- a tick, a packet and a leave
+  -- ---- a tick, a packet, what is told of others, and a leave
 
   pub quiet-taken : (s : List Happening) → EachOwn m.address s → list_all member.is_quiet s ≡ true → AnswersQuietly m.address Done s
   quiet-taken s own quiet = inl (refl, own-quiet m.address s own (quiet-all s quiet))

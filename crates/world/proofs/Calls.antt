@@ -5,7 +5,7 @@ use Rattle.std.proofs.lemmas.Bool.{cond-false, and_left, and_right}
 use Rattle.std.proofs.lemmas.List.Sums.{fold-append}
 use Rattle.trace_props.specs.declared.happening.Happening.{Happening}
 use Rattle.world_model.specs.declared.WorldEvent.{WorldEvent}
-use Rattle.world_model.specs.declared.WorldEvent.TheVariants.{Start, Create, Join, Send, Deliver, Tick, Leave, Crash}
+use Rattle.world_model.specs.declared.WorldEvent.TheVariants.{Start, Create, Join, Send, Deliver, Tick, Suspect, MergeHint, Leave, Crash}
 use Rattle.world_model.specs.declared.Answer.{Answer}
 use Rattle.world_model.specs.declared.Answer.TheVariants.{Refused}
 use Rattle.world_model.specs.declared.Refusal.{Refusal}
@@ -35,6 +35,8 @@ connects_after-other n c (Join m x) a o = cond-false (nat_eq m n && is_done a) t
 connects_after-other n c (Send m x) a o = refl
 connects_after-other n c (Deliver k) a o = refl
 connects_after-other n c (Tick m) a o = refl
+connects_after-other n c (Suspect m q) a o = refl
+connects_after-other n c (MergeHint m q) a o = refl
 connects_after-other n c (Leave m) a o = refl
 connects_after-other n c (Crash m) a o = refl
 
@@ -46,6 +48,8 @@ refused-connects n c (Join m x) r = cond-false (nat_eq m n && false) true c (and
 refused-connects n c (Send m x) r = refl
 refused-connects n c (Deliver k) r = refl
 refused-connects n c (Tick m) r = refl
+refused-connects n c (Suspect m q) r = refl
+refused-connects n c (MergeHint m q) r = refl
 refused-connects n c (Leave m) r = refl
 refused-connects n c (Crash m) r = refl
 
@@ -56,5 +60,7 @@ refused-prompt t (Join m x) r s = tt
 refused-prompt t (Send m x) r s = tt
 refused-prompt t (Deliver k) r s = tt
 refused-prompt t (Tick m) r s = tt
+refused-prompt t (Suspect m q) r s = tt
+refused-prompt t (MergeHint m q) r s = tt
 refused-prompt t (Leave m) r s = tt
 refused-prompt t (Crash m) r s = tt

@@ -10,7 +10,7 @@ use Rattle.agreement.proofs.Stepping
 use Rattle.agreement.proofs.Beginning.{nothing-holds}
 use Rattle.member.specs.Members.{MemberModel, core_of}
 use Rattle.world_model.specs.declared.WorldEvent.{WorldEvent}
-use Rattle.world_model.specs.declared.WorldEvent.TheVariants.{Deliver, Start, Create, Join, Send, Tick, Leave, Crash}
+use Rattle.world_model.specs.declared.WorldEvent.TheVariants.{Deliver, Start, Create, Join, Send, Tick, Suspect, MergeHint, Leave, Crash}
 use Rattle.world_model.specs.declared.Target.{Target}
 use Rattle.world_model.specs.declared.Target.TheVariants as target
 use Rattle.world_model.specs.declared.Answer.{Answer}
@@ -76,6 +76,8 @@ module _ {S : Type 0} (opening : S) (apply : S → Address → List ℕ → S) (
   packet-is (Send m x) k e = absurd (let bad : target.Member m ≡ target.Packet k = e in cc)
   packet-is (Deliver j) k e = let same : target.Packet j ≡ target.Packet k = e in cc
   packet-is (Tick m) k e = absurd (let bad : target.Member m ≡ target.Packet k = e in cc)
+  packet-is (Suspect m q) k e = absurd (let bad : target.Member m ≡ target.Packet k = e in cc)
+  packet-is (MergeHint m q) k e = absurd (let bad : target.Member m ≡ target.Packet k = e in cc)
   packet-is (Leave m) k e = absurd (let bad : target.Member m ≡ target.Packet k = e in cc)
   packet-is (Crash m) k e = absurd (let bad : target.Member m ≡ target.Packet k = e in cc)
 

@@ -7,8 +7,7 @@ use Rattle.address.specs.Ids.{Address}
 use Rattle.trace_props.specs.declared.happening.Happening.{Happening}
 use Rattle.member.specs.declared.input.Input.{Input}
 use Rattle.member.specs.declared.input.Input.TheVariants.{Datagram}
-use Rattle.member.specs.Members.{MemberModel}
-use Rattle.member.specs.Steps.{leaves}
+use Rattle.member.specs.Members.{MemberModel, leaves}
 use Rattle.world_model.specs.declared.Answer.{Answer}
 use Rattle.world.specs.declared.seat.Seat.{Seat}
 use Rattle.world.specs.declared.seat.Seat.TheVariants.{Vacant, Ended, Running}

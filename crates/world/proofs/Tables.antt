@@ -1,5 +1,5 @@
 -- For each event: what has to be known where its input is handed to a running member.
-use Rattle.std.proofs.Common.{◌≡◌, ℕ, ◌+◌, Bool, true, false, cond, Option, Some, None, Ok, List, [], ◌∷◌, ◌++◌, is_some, refl, sym, ap, ◌∙◌, subst, inr}
+use Rattle.std.proofs.Common.{◌≡◌, ℕ, ◌+◌, Bool, true, false, cond, Option, Some, None, Ok, List, [], ◌∷◌, ◌++◌, is_some, refl, sym, ap, ◌∙◌, subst, inl, inr}
 use Rattle.std.specs.Borrow.{Bor}
 use Rattle.std.specs.Option.{IsSomeAnd}
 use Rattle.std.proofs.lemmas.Option.{none-some}
@@ -17,11 +17,10 @@ use Rattle.member.specs.declared.input.Input.{Input}
 use Rattle.member.specs.declared.input.Input.TheVariants as input
 use Rattle.member.specs.declared.output.Output.{Output}
 use Rattle.member.specs.Members.{MemberModel, core_of, refusal_in}
-use Rattle.std.specs.List.{list_all}
 use Rattle.member.specs.Handling as member
 use Rattle.member.specs.Handling.{Handled, Replies, StaysSo, IsConnected}
 use Rattle.world_model.specs.declared.WorldEvent.{WorldEvent}
-use Rattle.world_model.specs.declared.WorldEvent.TheVariants.{Create, Join, Send, Tick, Leave}
+use Rattle.world_model.specs.declared.WorldEvent.TheVariants.{Create, Join, Send, Tick, Suspect, MergeHint, Leave}
 use Rattle.world_model.specs.declared.Answer.{Answer}
 use Rattle.world_model.specs.declared.Answer.TheVariants.{Done, Sent, Refused}
 use Rattle.world_model.specs.declared.Refusal.TheVariants.{Memory, AlreadyConnected}
@@ -192,10 +191,9 @@ module _ {S : Type 0} (opening : S) (apply : S → Address → List ℕ → S) (
       → TakesSo (Tick n) input.Tick (answer_to out.happenings.items) out.happenings.items left
   tick-taken out left handled own =
       let r = replies input.Tick out left handled in
-      let quiet : list_all member.is_quiet out.happenings.items ≡ true = ap (list_all member.is_quiet) r.0 in
-      subst (λ (a : Answer). TakesSo (Tick n) input.Tick a out.happenings.items left) (sym (quiet-done out.happenings.items quiet)) (record {
+      subst (λ (a : Answer). TakesSo (Tick n) input.Tick a out.happenings.items left) (sym (quiet-done out.happenings.items r.0)) (record {
         answers = Facts.at-member opening apply encode decode is_state h n m c x Done out.happenings.items (λ p. AnswersQuietly p Done out.happenings.items)
-            (Answering.quiet-taken opening apply encode decode is_state h n m c x out.happenings.items own quiet);
+            (Answering.quiet-taken opening apply encode decode is_state h n m c x out.happenings.items own r.0);
         prompt = tt;
         ends = λ e. absurd (let bad : false ≡ true = e in cc);
         stays = λ e. stays-so left handled.group r.1;
@@ -208,6 +206,49 @@ module _ {S : Type 0} (opening : S) (apply : S → Address → List ℕ → S) (
     lost = λ free. Facts.at-member opening apply encode decode is_state h n m c x (Refused Memory) (Crashed m.address ∷ []) (λ p. AnswersQuietly p (Refused Memory) (Crashed m.address ∷ [])) (inr (refl, refl));
     not = λ err refused. absurd (none-some err refused);
     taken = λ out left handled free own. tick-taken out left handled own;
+  }
+
+  -- ---- what a member is told of others: a suspect, and a member of another view
+
+  suspect-taken : (q : Address) (out : Output) (left : MemberModel S) → Handled apply encode decode m (input.Suspect q) (Ok out) left → EachOwn m.address out.happenings.items
+      → TakesSo (Suspect n q) (input.Suspect q) (answer_to out.happenings.items) out.happenings.items left
+  suspect-taken q out left handled own =
+      let r = replies (input.Suspect q) out left handled in
+      subst (λ (a : Answer). TakesSo (Suspect n q) (input.Suspect q) a out.happenings.items left) (sym (quiet-done out.happenings.items r.0)) (record {
+        answers = Facts.at-member opening apply encode decode is_state h n m c x Done out.happenings.items (λ p. AnswersQuietly p Done out.happenings.items)
+            (Answering.quiet-taken opening apply encode decode is_state h n m c x out.happenings.items own r.0);
+        prompt = tt;
+        ends = λ e. absurd (let bad : false ≡ true = e in cc);
+        stays = λ e. stays-so left handled.group r.1;
+      })
+
+  pub suspect-table : (q : Address) → Tabled (Suspect n q) (input.Suspect q)
+  suspect-table q = record {
+    elsewhere = λ a k o. connects_after-other k (is_connected k h) (Suspect n q) a o;
+    comes = nothing-comes (posts_in h.pool) c;
+    lost = λ free. Facts.at-member opening apply encode decode is_state h n m c x (Refused Memory) (Crashed m.address ∷ []) (λ p. AnswersQuietly p (Refused Memory) (Crashed m.address ∷ [])) (inr (refl, refl));
+    not = λ err refused. absurd (none-some err refused);
+    taken = λ out left handled free own. suspect-taken q out left handled own;
+  }
+
+  hint-taken : (q : Address) (out : Output) (left : MemberModel S) → Handled apply encode decode m (input.MergeHint q) (Ok out) left
+      → TakesSo (MergeHint n q) (input.MergeHint q) (answer_to out.happenings.items) out.happenings.items left
+  hint-taken q out left handled =
+      let r = replies (input.MergeHint q) out left handled in
+      subst (λ (l : List Happening). TakesSo (MergeHint n q) (input.MergeHint q) (answer_to l) l left) (sym r.0) (record {
+        answers = Facts.at-member opening apply encode decode is_state h n m c x Done [] (λ p. AnswersQuietly p Done []) (inl (refl, refl));
+        prompt = tt;
+        ends = λ e. absurd (let bad : false ≡ true = e in cc);
+        stays = λ e. stays-so left handled.group r.1;
+      })
+
+  pub hint-table : (q : Address) → Tabled (MergeHint n q) (input.MergeHint q)
+  hint-table q = record {
+    elsewhere = λ a k o. connects_after-other k (is_connected k h) (MergeHint n q) a o;
+    comes = nothing-comes (posts_in h.pool) c;
+    lost = λ free. Facts.at-member opening apply encode decode is_state h n m c x (Refused Memory) (Crashed m.address ∷ []) (λ p. AnswersQuietly p (Refused Memory) (Crashed m.address ∷ [])) (inr (refl, refl));
+    not = λ err refused. absurd (none-some err refused);
+    taken = λ out left handled free own. hint-taken q out left handled;
   }
 
   -- ---- a leave

@@ -20,9 +20,8 @@ use Rattle.member.specs.declared.input.Input.{Input}
 use Rattle.member.specs.declared.output.Outgoing.{Outgoing}
 use Rattle.member.specs.declared.output.Output.{Output}
 use Rattle.member.specs.Errors.{is_memory}
-use Rattle.member.specs.Members.{MemberModel, core_of, came_at, refusal_in, refusal_of, is_unreadable}
+use Rattle.member.specs.Members.{MemberModel, core_of, leaves, came_at, refusal_in, refusal_of, is_unreadable}
 use Rattle.member.specs.Outputs.{packet_in, spelled}
-use Rattle.member.specs.Steps.{leaves}
 use Rattle.member.specs.Handling.{Handled}
 use Rattle.world_model.specs.declared.WorldEvent.{WorldEvent}
 use Rattle.world_model.specs.declared.Answer.{Answer}

@@ -13,7 +13,7 @@ use Rattle.member.specs.declared.output.Output.{Output}
 use Rattle.member.specs.Errors.{is_memory}
 use Rattle.member.specs.Members.{MemberModel}
 use Rattle.world_model.specs.declared.WorldEvent.{WorldEvent}
-use Rattle.world_model.specs.declared.WorldEvent.TheVariants.{Start, Create, Join, Send, Deliver, Tick, Leave, Crash}
+use Rattle.world_model.specs.declared.WorldEvent.TheVariants.{Start, Create, Join, Send, Deliver, Tick, Suspect, MergeHint, Leave, Crash}
 use Rattle.world_model.specs.declared.Answer.{Answer}
 use Rattle.world_model.specs.declared.Answer.TheVariants.{Done, Sent, Refused}
 use Rattle.world_model.specs.declared.Refusal.TheVariants.{NotConnected, Blocked, Busy, TooLong, AlreadyConnected, Closed, Memory, Exhausted}
@@ -105,6 +105,8 @@ module _ {S : Type 0} (opening : S) (apply : S → Address → List ℕ → S) (
   acts-widen (Send n payload) old new a g = lent-widens input.Send payload old new a g
   acts-widen (Deliver k) old new a g = still t u pool more g.2 g.3
   acts-widen (Tick n) old new a g = hands-widens input.Tick old new a g
+  acts-widen (Suspect n q) old new a g = hands-widens (input.Suspect q) old new a g
+  acts-widen (MergeHint n q) old new a g = hands-widens (input.MergeHint q) old new a g
   acts-widen (Leave n) old new a g = hands-widens input.Leave old new a g
   acts-widen (Crash n) old new a g = crash-widens old new a g.0 g.1
 

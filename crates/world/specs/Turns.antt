@@ -12,15 +12,14 @@ use Rattle.member.specs.declared.input.Input.{Input}
 use Rattle.member.specs.declared.input.Input.TheVariants as input
 use Rattle.member.specs.declared.output.Output.{Output}
 use Rattle.member.specs.Errors.{is_memory}
-use Rattle.member.specs.Members.{MemberModel, core_of, book_of}
+use Rattle.member.specs.Members.{MemberModel, core_of, leaves}
 use Rattle.member.specs.Handling.{Handled}
-use Rattle.member.specs.Steps.{leaves}
 use Rattle.world_model.specs.declared.Answer.{Answer}
 use Rattle.world_model.specs.declared.Answer.TheVariants.{Done, Sent, Refused}
 use Rattle.world_model.specs.declared.Refusal.{Refusal}
 use Rattle.world_model.specs.declared.Refusal.TheVariants.{NotConnected, AlreadyConnected, Closed, Memory, Exhausted}
 use Rattle.world_model.specs.declared.WorldEvent.{WorldEvent}
-use Rattle.world_model.specs.declared.WorldEvent.TheVariants.{Start, Create, Join, Send, Deliver, Tick, Leave, Crash}
+use Rattle.world_model.specs.declared.WorldEvent.TheVariants.{Start, Create, Join, Send, Deliver, Tick, Suspect, MergeHint, Leave, Crash}
 use Rattle.world_model.specs.declared.Target.{Target}
 use Rattle.world_model.specs.declared.Target.TheVariants as target
 use Rattle.world_model.specs.Histories.{starts}
@@ -117,7 +116,6 @@ pub record Begun {S : Type 0} (opening : S) (p : Address) (t : List Happening) (
   pub address : member.address ≡ p
   pub group : member.group ≡ world_group
   pub core : core_of member ≡ Some (idle opening p)
-  pub book : book_of member ≡ Some (record { contact = None })
   pub trace : t' ≡ t ++ Started p ∷ []
 
 -- the member of an address begins, or begins and crashes
@@ -165,6 +163,8 @@ Acts opening apply encode decode (Join n contact) old t pool a new t' pool' = Ha
 Acts opening apply encode decode (Send n payload) old t pool a new t' pool' = HandsLent apply encode decode input.Send payload old t pool a new t' pool'
 Acts opening apply encode decode (Deliver k) old t pool a new t' pool' = (a ≡ Done) × (new ≡ old) × (t' ≡ t) × (pool' ≡ pool)
 Acts opening apply encode decode (Tick n) old t pool a new t' pool' = Hands apply encode decode input.Tick old t pool a new t' pool'
+Acts opening apply encode decode (Suspect n q) old t pool a new t' pool' = Hands apply encode decode (input.Suspect q) old t pool a new t' pool'
+Acts opening apply encode decode (MergeHint n q) old t pool a new t' pool' = Hands apply encode decode (input.MergeHint q) old t pool a new t' pool'
 Acts opening apply encode decode (Leave n) old t pool a new t' pool' = Hands apply encode decode input.Leave old t pool a new t' pool'
 Acts opening apply encode decode (Crash n) old t pool a new t' pool' = CrashGives old t a new t' × (pool' ≡ pool)
 

@@ -5,7 +5,7 @@ ghost use Rattle.address.specs.Ids.{IsAddress};
 ghost use Rattle.trace_props.specs.Recorded.{IsRecordable};
 ghost use Rattle.world.specs.declared.TheConstants.{STEP_PLACES};
 ghost use Rattle.member.specs.Handling.{Handled};
-ghost use Rattle.member.specs.Steps.{leaves};
+ghost use Rattle.member.specs.Members.{leaves};
 ghost use Rattle.world.specs.declared.seat.Seat.TheVariants.{Ended};
 ghost use Rattle.world.specs.Seats.{answer_for, answer_to};
 ghost use Rattle.world.specs.Turns.{Steps, Hands, Begins, StartGives, CrashGives, Acts, Hears};
@@ -76,6 +76,8 @@ fn handled<R: Receiver>(member: &mut Member<R>, input: &Input<'_>) -> Result<Out
         Input::Send(payload) => member.handle(Input::Send(payload)),
         Input::Datagram(bytes) => member.handle(Input::Datagram(bytes)),
         Input::Tick => member.handle(Input::Tick),
+        Input::Suspect(address) => member.handle(Input::Suspect(*address)),
+        Input::MergeHint(address) => member.handle(Input::MergeHint(*address)),
         Input::Leave => member.handle(Input::Leave),
     }
 }
@@ -248,6 +250,8 @@ pub fn act<R: Receiver>(
         WorldEvent::Send(_, payload) => hand(seat, trace, pool, &Input::Send(payload.as_slice())),
         WorldEvent::Deliver(_) => Answer::Done,
         WorldEvent::Tick(_) => hand(seat, trace, pool, &Input::Tick),
+        WorldEvent::Suspect(_, address) => hand(seat, trace, pool, &Input::Suspect(*address)),
+        WorldEvent::MergeHint(_, address) => hand(seat, trace, pool, &Input::MergeHint(*address)),
         WorldEvent::Leave(_) => hand(seat, trace, pool, &Input::Leave),
         WorldEvent::Crash(_) => crash(seat, trace),
     }

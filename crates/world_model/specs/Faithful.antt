@@ -9,7 +9,7 @@ use Rattle.trace_props.specs.declared.happening.Happening.TheVariants.{Started, 
 use Rattle.trace_props.specs.declared.happening.Install.{Install}
 use Rattle.trace_props.specs.Observed.{member_of, has_ended, current_view, is_blocked, sent_in, delivered_in, own}
 use Rattle.world_model.specs.declared.WorldEvent.{WorldEvent}
-use Rattle.world_model.specs.declared.WorldEvent.TheVariants.{Start, Create, Join, Send, Deliver, Tick, Leave, Crash}
+use Rattle.world_model.specs.declared.WorldEvent.TheVariants.{Start, Create, Join, Send, Deliver, Tick, Suspect, MergeHint, Leave, Crash}
 use Rattle.world_model.specs.declared.Answer.{Answer}
 use Rattle.world_model.specs.declared.Answer.TheVariants.{Done, Refused}
 use Rattle.world_model.specs.declared.Answer.TheVariants as answer
@@ -135,6 +135,8 @@ Answers h (Join n contact) a stretch = AtMember n h a stretch (λ p. AnswersJoin
 Answers h (Send n payload) a stretch = AtMember n h a stretch (λ p. AnswersSend payload p h a stretch)
 Answers h (Deliver k) a stretch = AnswersDeliver k h a stretch
 Answers h (Tick n) a stretch = AtMember n h a stretch (λ p. AnswersQuietly p a stretch)
+Answers h (Suspect n q) a stretch = AtMember n h a stretch (λ p. AnswersQuietly p a stretch)
+Answers h (MergeHint n q) a stretch = AtMember n h a stretch (λ p. AnswersQuietly p a stretch)
 Answers h (Leave n) a stretch = AtMember n h a stretch (λ p. AnswersLeave p a stretch)
 Answers h (Crash n) a stretch = AtMember n h a stretch (λ p. AnswersCrash p a stretch)
 
@@ -155,6 +157,8 @@ SendsPromptly t (Join n contact) a stretch = Unit {0}
 SendsPromptly t (Send n payload) a stretch = IsPrompt n payload t a stretch
 SendsPromptly t (Deliver k) a stretch = Unit {0}
 SendsPromptly t (Tick n) a stretch = Unit {0}
+SendsPromptly t (Suspect n q) a stretch = Unit {0}
+SendsPromptly t (MergeHint n q) a stretch = Unit {0}
 SendsPromptly t (Leave n) a stretch = Unit {0}
 SendsPromptly t (Crash n) a stretch = Unit {0}
 

@@ -7,7 +7,7 @@ use Rattle.trace_props.specs.declared.happening.Happening.{Happening}
 use Rattle.trace_props.specs.declared.happening.Happening.TheVariants.{Started, Sent, Delivered, Blocked, Installed, Left, Crashed}
 use Rattle.trace_props.specs.Observed.{has_ended}
 use Rattle.world_model.specs.declared.WorldEvent.{WorldEvent}
-use Rattle.world_model.specs.declared.WorldEvent.TheVariants.{Start, Create, Join, Send, Deliver, Tick, Leave, Crash}
+use Rattle.world_model.specs.declared.WorldEvent.TheVariants.{Start, Create, Join, Send, Deliver, Tick, Suspect, MergeHint, Leave, Crash}
 use Rattle.world_model.specs.declared.Target.{Target}
 use Rattle.world_model.specs.declared.Target.TheVariants.{Member, Packet}
 use Rattle.world_model.specs.declared.Answer.{Answer}
@@ -30,6 +30,8 @@ target_of (Join n contact) = Member n
 target_of (Send n payload) = Member n
 target_of (Deliver k) = Packet k
 target_of (Tick n) = Member n
+target_of (Suspect n q) = Member n
+target_of (MergeHint n q) = Member n
 target_of (Leave n) = Member n
 target_of (Crash n) = Member n
 
@@ -41,6 +43,8 @@ node_of (Join n contact) = n
 node_of (Send n payload) = n
 node_of (Deliver k) = 0
 node_of (Tick n) = n
+node_of (Suspect n q) = n
+node_of (MergeHint n q) = n
 node_of (Leave n) = n
 node_of (Crash n) = n
 
@@ -52,6 +56,8 @@ starts (Join n contact) = false
 starts (Send n payload) = false
 starts (Deliver k) = false
 starts (Tick n) = false
+starts (Suspect n q) = false
+starts (MergeHint n q) = false
 starts (Leave n) = false
 starts (Crash n) = false
 
@@ -85,6 +91,8 @@ connects_after n c (Join m contact) a = if nat_eq m n && is_done a then true els
 connects_after n c (Send m x) a = c
 connects_after n c (Deliver k) a = c
 connects_after n c (Tick m) a = c
+connects_after n c (Suspect m q) a = c
+connects_after n c (MergeHint m q) a = c
 connects_after n c (Leave m) a = c
 connects_after n c (Crash m) a = c
 

@@ -30,6 +30,10 @@ pub enum WorldEvent {
     Deliver(u64),
     /// Time passes for the node's member.
     Tick(Node),
+    /// The failure detector of the node's member says that the member of the address has failed.
+    Suspect(Node, Address),
+    /// The node's member is told that a member of another view may be reached at the address.
+    MergeHint(Node, Address),
     /// The node's member leaves.
     Leave(Node),
     /// The node's member crashes.
@@ -57,6 +61,8 @@ impl WorldEvent {
             WorldEvent::Send(node, _) => Target::Member(*node),
             WorldEvent::Deliver(number) => Target::Packet(*number),
             WorldEvent::Tick(node) => Target::Member(*node),
+            WorldEvent::Suspect(node, _) => Target::Member(*node),
+            WorldEvent::MergeHint(node, _) => Target::Member(*node),
             WorldEvent::Leave(node) => Target::Member(*node),
             WorldEvent::Crash(node) => Target::Member(*node),
         }
@@ -73,6 +79,8 @@ impl WorldEvent {
             WorldEvent::Send(_, _) => false,
             WorldEvent::Deliver(_) => false,
             WorldEvent::Tick(_) => false,
+            WorldEvent::Suspect(_, _) => false,
+            WorldEvent::MergeHint(_, _) => false,
             WorldEvent::Leave(_) => false,
             WorldEvent::Crash(_) => false,
         }
@@ -89,6 +97,8 @@ impl WorldEvent {
             WorldEvent::Send(node, payload) => Ok(WorldEvent::Send(*node, payload.copied(alloc)?)),
             WorldEvent::Deliver(number) => Ok(WorldEvent::Deliver(*number)),
             WorldEvent::Tick(node) => Ok(WorldEvent::Tick(*node)),
+            WorldEvent::Suspect(node, address) => Ok(WorldEvent::Suspect(*node, *address)),
+            WorldEvent::MergeHint(node, address) => Ok(WorldEvent::MergeHint(*node, *address)),
             WorldEvent::Leave(node) => Ok(WorldEvent::Leave(*node)),
             WorldEvent::Crash(node) => Ok(WorldEvent::Crash(*node)),
         }

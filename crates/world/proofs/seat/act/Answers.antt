@@ -21,6 +21,12 @@ returns-in-Send g c =
 pub returns-in-Tick : goal.returns-in-Tick
 returns-in-Tick g c = rw c.in-Tick.is c.hand-in-Tick.ensures
 
+pub returns-in-Suspect : goal.returns-in-Suspect
+returns-in-Suspect g c = rw c.in-Suspect.is c.hand-in-Suspect.ensures
+
+pub returns-in-MergeHint : goal.returns-in-MergeHint
+returns-in-MergeHint g c = rw c.in-MergeHint.is c.hand-in-MergeHint.ensures
+
 pub returns-in-Leave : goal.returns-in-Leave
 returns-in-Leave g c = rw c.in-Leave.is c.hand-in-Leave.ensures
 
