@@ -70,6 +70,13 @@ impl Window {
         let _ = &self.stable;
     }
 
+    /// What is held: each entry at its number in the view's one order.
+    pub fn held(&self) -> &BTreeMap<u64, Entry>
+        ensures { result.now.entries ≡ self.now.held }
+    {
+        &self.held
+    }
+
     /// The entry that is held at a number.
     pub fn entry(&self, g: u64) -> Option<&Entry>
         ensures { option_copied result ≡ held_at g self.now.held }

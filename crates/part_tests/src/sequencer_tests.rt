@@ -161,6 +161,37 @@ fn a_message_is_taken_once_others_were_delivered(rt: HostRuntime) {
     assert_eq!(rt; forwards.sent(), 9, "how many were sent");
 }
 
+/// The number of the oldest message that is outstanding.
+fn oldest(forwards: &Forwards) -> Option<u64> {
+    let forward = forwards.rest().first()?;
+    Some(forward.number.get())
+}
+
+#[test]
+fn the_oldest_message_is_outstanding_no_longer(rt: HostRuntime) {
+    let mut forwards = eight(rt.alloc());
+    forwards.told();
+    assert_eq!(rt; forwards.rest().len(), 7, "how many are outstanding");
+    assert_eq!(rt; oldest(&forwards), Some(2), "the oldest of them");
+    assert_eq!(rt; forwards.sent(), 8, "how many were sent");
+}
+
+#[test]
+fn nothing_changes_where_none_is_outstanding(rt: HostRuntime) {
+    let mut forwards = Forwards::new(rt.alloc());
+    forwards.told();
+    assert!(rt; forwards.rest().is_empty(), "none is outstanding");
+}
+
+#[test]
+fn all_but_the_delivered_messages_are_handed_back(rt: HostRuntime) {
+    let forwards = eight(rt.alloc());
+    let handed_back = forwards.handed_back(6).expect(&rt, "memory");
+    assert_eq!(rt; handed_back.as_slice().len(), 2, "how many");
+    let oldest = handed_back.as_slice().first().expect(&rt, "a message");
+    assert_eq!(rt; oldest.number, 7, "the oldest of them");
+}
+
 /// Whether a payload of one byte is taken, or is given back for want of memory with nothing changed.
 fn pushed_or_given_back(alloc: Global, forwards: &mut Forwards, byte: u8) -> bool {
     let Some(payload) = payload_of(alloc, byte) else {

@@ -1,5 +1,6 @@
 -- A member's own messages that were sent in a view and not delivered there.
 use Rattle.std.specs.Prelude.{◌≡◌, ℕ, ◌+◌, ◌-◌, ◌≤◌, ◌^◌, List, [], ◌∷◌, ◌++◌, Option, Some, None, length, drop, nat_eq, slice_get, if◌then◌else◌}
+use Rattle.state_transfer.specs.declared.TheConstants.{PAYLOAD}
 use Rattle.trace_props.specs.declared.happening.Numbered.{Numbered}
 use Rattle.sequencer.specs.declared.TheConstants.{OUTSTANDING}
 use Rattle.sequencer.specs.declared.forwards.PushRefusal.{PushRefusal}
@@ -17,6 +18,10 @@ pub record IsForwards (w : ForwardsModel) : Type 0 where
   pub last : w.sent ≤ 2 ^ 62
   pub numbered : (k : ℕ) (f : Numbered) → slice_get w.rest k ≡ Some f → f.number + length w.rest ≡ w.sent + k + 1
 
+-- each payload has at most 512 bytes
+abbrev pub AreShort : List Numbered → Type 0
+AreShort messages = (k : ℕ) (m : Numbered) → slice_get messages k ≡ Some m → length m.payload ≤ PAYLOAD
+
 abbrev pub no_forwards : ForwardsModel
 no_forwards = record { sent = 0; rest = [] }
 
@@ -27,6 +32,10 @@ pushed x w = record { sent = w.sent + 1; rest = w.rest ++ record { number = w.se
 -- those with numbers up to n are outstanding no longer
 abbrev pub delivered_to : ℕ → ForwardsModel → ForwardsModel
 delivered_to n w = record { sent = w.sent; rest = drop (n - (w.sent - length w.rest)) w.rest }
+
+-- the oldest of them is outstanding no longer
+abbrev pub one_told : ForwardsModel → ForwardsModel
+one_told w = record { sent = w.sent; rest = drop 1 w.rest }
 
 -- why one more message is refused, but for want of memory: the first of these that applies
 abbrev pub push_refusal : ForwardsModel → Option PushRefusal

@@ -1,12 +1,14 @@
-ghost use Rattle.std.specs.Prelude.{◌≡◌, ◌+◌, ◌≤◌, None, drop, length, MatchResult, MatchOption};
-ghost use Rattle.sequencer.specs.Forwards.{ForwardsModel, no_forwards, pushed, delivered_to, push_refusal, push_number, IsForwards};
+ghost use Rattle.std.specs.Prelude.{◌≡◌, ◌+◌, ◌≤◌, ◌++◌, None, drop, length, IfOk, OnOk, MatchResult, MatchOption};
+ghost use Rattle.state_transfer.specs.declared.TheConstants.{PAYLOAD};
+ghost use Rattle.sequencer.specs.Forwards.{ForwardsModel, no_forwards, pushed, delivered_to, one_told, push_refusal, push_number, IsForwards, AreShort};
 
 use crate::{Forward, OUTSTANDING};
 use address::GREATEST_NUMBER;
 use nak_stream::KeptPayload;
 use packet_values::Number;
-use std::alloc::Global;
+use std::alloc::{AllocError, Global};
 use std::marker::Model;
+use trace_props::{Bytes, HandedBack, Numbered};
 
 /// Why a message is not taken among the outstanding ones.
 #[derive(Clone, Copy, Debug, PartialEq, Eq)]
@@ -95,6 +97,26 @@ impl Forwards {
         let_go(&mut self.rest, gone as usize);
     }
 
+    /// The oldest outstanding message was delivered: it is outstanding no longer. Nothing changes where none is. Takes no memory.
+    pub fn told(&mut self)
+        ensures { self.new ≡ one_told self.old }
+    {
+        if !self.rest.is_empty() {
+            let _oldest = self.rest.remove(0);
+        }
+    }
+
+    /// Copies of the outstanding messages but the oldest `told`, by number, as they are handed back. An error comes for want of memory.
+    pub fn handed_back(&self, told: usize) -> Result<HandedBack, AllocError>
+        ensures value { IfOk result (λ h. h ≡ drop told self.now.rest) }
+        ensures short { IfOk result AreShort }
+    {
+        let mut items = Vec::new(*self.rest.allocator());
+        let told = told.min(self.rest.len());
+        copy_all(&self.rest.as_slice()[told..], &mut items)?;
+        Ok(HandedBack::from_vec(items))
+    }
+
     /// How many were sent, 0 to 2^62.
     pub fn sent(&self) -> u64
         ensures { result ≡ self.now.sent }
@@ -108,6 +130,30 @@ impl Forwards {
         ensures kept { IsForwards self.now }
     {
         self.rest.as_slice()
+    }
+}
+
+fn numbered(alloc: Global, forward: &Forward) -> Result<Numbered, AllocError>
+    ensures value { IfOk result (λ n. n ≡ forward.now) }
+    ensures short { OnOk result (length forward.now.payload ≤ PAYLOAD) }
+{
+    Ok(Numbered {
+        number: forward.number.get(),
+        payload: Bytes::from_slice(alloc, forward.payload.lent().as_slice())?,
+    })
+}
+
+fn copy_all(rest: &[Forward], items: &mut Vec<Numbered>) -> Result<(), AllocError>
+    ensures appends { OnOk result (items.new.items ≡ items.old.items ++ rest.now) }
+    ensures short { OnOk result (AreShort rest.now) }
+{
+    match rest.split_first() {
+        None => Ok(()),
+        Some((oldest, later)) => {
+            items.push(numbered(*items.allocator(), oldest)?)?;
+            copy_all(later, items)?;
+            Ok(())
+        }
     }
 }
 

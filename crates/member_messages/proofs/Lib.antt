@@ -1,0 +1,5 @@
+pub mod Opening
+pub mod Heard
+pub mod Calming
+pub mod Sent
+pub mod Fresh

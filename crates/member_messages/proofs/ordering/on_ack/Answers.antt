@@ -1,0 +1,42 @@
+use Rattle.std.proofs.Common.{Some, sym}
+use Rattle.wire.specs.declared.packet.Body.TheVariants as bodies
+use Rattle.agreement.specs.Acts.{packet}
+use Rattle.member_messages.proofs.Opening.{there-is, orderly-in, nothing-did}
+use Rattle.member_messages.proofs.Heard.{heard-in, heard-life, heard-did}
+use Rattle.member_messages.proofs.Calming.{acks-calm}
+use Rattle.member_messages.proofs.ordering.on_ack.Goals as goal
+
+pub returns-then-not-takes_ack-clause-did : goal.returns-then-not-takes_ack-clause-did
+returns-then-not-takes_ack-clause-did g c = nothing-did _ _ _ _ _ _ _ _
+
+pub ack-requires-clause-coordinator : goal.ack-requires-clause-coordinator
+ack-requires-clause-coordinator g c =
+    let there = there-is _ _ _ c.in-Some-Coordinator.is c.in-Some-Coordinator.field-0-is in
+    (orderly-in _ _ _ c.requires.ordered there).0
+
+pub ack-requires-clause-settled : goal.ack-requires-clause-settled
+ack-requires-clause-settled g c =
+    let there = there-is _ _ _ c.in-Some-Coordinator.is c.in-Some-Coordinator.field-0-is in
+    (orderly-in _ _ _ c.requires.ordered there).1
+
+pub returns-in_ok-ack-in-Some-Coordinator-clause-life : goal.returns-in_ok-ack-in-Some-Coordinator-clause-life
+returns-in_ok-ack-in-Some-Coordinator-clause-life g c =
+    let there = there-is _ _ _ c.in-Some-Coordinator.is c.in-Some-Coordinator.field-0-is in
+    let heard = heard-in _ _ _ _ _ there (sym c.if-not-takes_ack.ensures) in
+    let does = c.in_ok-ack-in-Some-Coordinator.ensures in
+    heard-life _ _ _ _ _ _ _ _ c.requires.life heard there does.goes.view
+
+pub returns-in_ok-ack-in-Some-Coordinator-clause-did : goal.returns-in_ok-ack-in-Some-Coordinator-clause-did
+returns-in_ok-ack-in-Some-Coordinator-clause-did g c =
+    let there = there-is _ _ _ c.in-Some-Coordinator.is c.in-Some-Coordinator.field-0-is in
+    let heard = heard-in _ _ _ _ _ there (sym c.if-not-takes_ack.ensures) in
+    let does = c.in_ok-ack-in-Some-Coordinator.ensures in
+    let same = c.get-count.ensures.value in
+    rw (sym same)
+    (heard-did _ _ _ (λ i. Some (packet c.args.source.now (bodies.Ack i c.get-count.result) c.args.who.now.address)) _ _ _ _ _ _ _ _ _ _
+    c.requires.life heard there does.goes.view does.goes.goes)
+
+pub returns-in_ok-ack-in-Some-Coordinator-clause-calm : goal.returns-in_ok-ack-in-Some-Coordinator-clause-calm
+returns-in_ok-ack-in-Some-Coordinator-clause-calm g c =
+    let does = c.in_ok-ack-in-Some-Coordinator.ensures in
+    acks-calm _ _ _ _ _ _ _ _ _ _ _ does.orders does.few

@@ -1,0 +1,39 @@
+use Rattle.std.proofs.Common.{Some, sym}
+use Rattle.wire.specs.declared.packet.Body.TheVariants as bodies
+use Rattle.agreement.specs.Acts.{packet}
+use Rattle.member_messages.proofs.Opening.{there-is, orderly-in, nothing-did}
+use Rattle.member_messages.proofs.Heard.{heard-in, heard-life, heard-did}
+use Rattle.member_messages.proofs.Calming.{ordering-calm}
+use Rattle.member_messages.proofs.ordering.on_forward.Goals as goal
+
+pub returns-then-not-takes_forward-clause-did : goal.returns-then-not-takes_forward-clause-did
+returns-then-not-takes_forward-clause-did g c = nothing-did _ _ _ _ _ _ _ _
+
+pub forward-requires-clause-coordinator : goal.forward-requires-clause-coordinator
+forward-requires-clause-coordinator g c =
+    let there = there-is _ _ _ c.in-Some-Coordinator.is c.in-Some-Coordinator.field-0-is in
+    (orderly-in _ _ _ c.requires.ordered there).0
+
+pub forward-requires-clause-settled : goal.forward-requires-clause-settled
+forward-requires-clause-settled g c =
+    let there = there-is _ _ _ c.in-Some-Coordinator.is c.in-Some-Coordinator.field-0-is in
+    (orderly-in _ _ _ c.requires.ordered there).1
+
+pub returns-in_ok-forward-in-Some-Coordinator-clause-life : goal.returns-in_ok-forward-in-Some-Coordinator-clause-life
+returns-in_ok-forward-in-Some-Coordinator-clause-life g c =
+    let there = there-is _ _ _ c.in-Some-Coordinator.is c.in-Some-Coordinator.field-0-is in
+    let heard = heard-in _ _ _ _ _ there (sym c.if-not-takes_forward.ensures) in
+    let does = c.in_ok-forward-in-Some-Coordinator.ensures in
+    heard-life _ _ _ _ _ _ _ _ c.requires.life heard there does.goes.view
+
+pub returns-in_ok-forward-in-Some-Coordinator-clause-did : goal.returns-in_ok-forward-in-Some-Coordinator-clause-did
+returns-in_ok-forward-in-Some-Coordinator-clause-did g c =
+    let there = there-is _ _ _ c.in-Some-Coordinator.is c.in-Some-Coordinator.field-0-is in
+    let heard = heard-in _ _ _ _ _ there (sym c.if-not-takes_forward.ensures) in
+    let does = c.in_ok-forward-in-Some-Coordinator.ensures in
+    heard-did _ _ _ (λ i. Some (packet c.args.source.now (bodies.Forward i c.args.number c.args.payload.now) c.args.who.now.address)) _ _ _ _ _ _ _ _ _ _ c.requires.life heard there does.goes.view does.goes.goes
+
+pub returns-in_ok-forward-in-Some-Coordinator-clause-calm : goal.returns-in_ok-forward-in-Some-Coordinator-clause-calm
+returns-in_ok-forward-in-Some-Coordinator-clause-calm g c =
+    let does = c.in_ok-forward-in-Some-Coordinator.ensures in
+    ordering-calm _ _ _ _ _ _ _ _ _ does.orders does.few

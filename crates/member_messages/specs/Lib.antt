@@ -1,0 +1,4 @@
+pub mod Ordered
+pub mod Refusals
+pub mod Hears
+pub mod Messages

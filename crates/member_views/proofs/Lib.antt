@@ -1,0 +1,4 @@
+pub mod Noting
+pub mod Living
+pub mod Steady
+pub mod Calming

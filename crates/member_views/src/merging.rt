@@ -1,0 +1,173 @@
+//! A member finds others of its group in other views.
+
+ghost use Rattle.std.specs.Prelude.{◌≡◌, [], ◌∷◌, Ok, IfOk, OnOk, true};
+ghost use Rattle.std.specs.Option.{option_map_or, option_copied};
+ghost use Rattle.candidates.specs.Noting.{noting_view};
+ghost use Rattle.wire.specs.declared.packet.Body.TheVariants as bodies;
+ghost use Rattle.agreement.specs.Acts.{packet};
+ghost use Rattle.output.specs.Outputs.{Grows};
+ghost use Rattle.membership.specs.Lives.{IsLife, view_in};
+ghost use Rattle.membership.specs.Changes.{StaysAs};
+ghost use Rattle.member_views.specs.Views.{TellsView, Meets, OnMerge, is_less, has_member, view_for, merged};
+ghost use Rattle.member_views.specs.Ignoring.{is_hint_ignored, is_merge_ignored};
+
+use crate::joining::{leads_now, redirect};
+use address::Address;
+use candidates::Notes;
+use membership::Life;
+use output::{Identity, Output};
+use state_transfer::Receiver;
+use std::alloc::{AllocError, Global};
+use std::cmp::Ordering;
+use traffic::Traffic;
+use view::{Addresses, View};
+use wire::{Body, Roster};
+
+// Whether an address is in its view.
+pub(crate) fn has_member<R: Receiver>(life: &Life<R>, address: &Address) -> bool
+    ensures { result ≡ has_member address.now life.now }
+{
+    match &life.traffic {
+        None => false,
+        Some(traffic) => traffic.view().contains(address),
+    }
+}
+
+// Its view, if it leads it, is not blocked, and the address is not in it.
+fn view_for<'a, R: Receiver>(
+    life: &'a Life<R>,
+    who: &Identity,
+    address: &Address,
+) -> Option<&'a View>
+    ensures { option_copied result ≡ view_for who.now.address address.now life.now }
+{
+    if life.promise.is_installed() && leads_now(life, who) && !has_member(life, address) {
+        life.view()
+    } else {
+        None
+    }
+}
+
+// Says to an address what its view is.
+fn say(
+    who: &Identity,
+    view: &View,
+    address: Address,
+    out: &mut Output,
+) -> Result<(), AllocError>
+    ensures { OnOk result (Grows who.now.group out.old out.new (packet who.now.address (bodies.Merge view.now) address ∷ []) []) }
+{
+    let roster = Roster::new(view.id(), view.members().as_slice()).unwrap();
+    who.put(address, Body::Merge(roster), out)?;
+    Ok(())
+}
+
+// A member of another view may be at an address: it is told of this view, where this member leads it and is not blocked.
+pub fn tell_view<R: Receiver>(
+    life: &Life<R>,
+    who: &Identity,
+    address: Address,
+    out: &mut Output,
+) -> Result<(), AllocError>
+    ensures does { OnOk result (TellsView who.now.group who.now.address address life.now life.now out.old out.new) }
+    ensures ignored { is_hint_ignored who.now.address address life.now ≡ true → (result ≡ Ok tt) × (out.new ≡ out.old) }
+{
+    match view_for(life, who, &address) {
+        None => Ok(()),
+        Some(view) => {
+            say(who, view, address, out)?;
+            Ok(())
+        }
+    }
+}
+
+// The view that a MERGE tells of.
+fn view_from(alloc: Global, roster: &Roster) -> Result<View, AllocError>
+    ensures { IfOk result (λ v. v ≡ roster.now) }
+{
+    let members = Vec::from_slice(alloc, roster.members().as_slice())?;
+    Ok(View::new(roster.id(), Addresses::from_vec(members)).unwrap())
+}
+
+// Notes those of another view, where there is an own one.
+fn note_in(
+    notes: &mut Notes,
+    who: &Identity,
+    traffic: &Option<Traffic>,
+    other: &View,
+) -> Result<(), AllocError>
+    ensures { OnOk result (notes.new ≡ option_map_or (λ v. noting_view who.now.address v.members other.now notes.old) (view_in traffic.now) notes.old) }
+{
+    match traffic {
+        None => Ok(()),
+        Some(traffic) => {
+            notes.note_view(who.alloc, &who.address, traffic.view(), other)?;
+            Ok(())
+        }
+    }
+}
+
+// Notes those of another view.
+fn note_view<R: Receiver>(
+    life: &mut Life<R>,
+    who: &Identity,
+    other: &Roster,
+) -> Result<(), AllocError>
+    ensures { OnOk result (life.new ≡ merged who.now.address other.now life.old) }
+{
+    let other = view_from(who.alloc, other)?;
+    note_in(&mut life.notes, who, &life.traffic, &other)?;
+    Ok(())
+}
+
+fn is_less(one: &Address, other: &Address) -> bool
+    ensures { result ≡ is_less one.now other.now }
+{
+    one.cmp(other) == Ordering::Less
+}
+
+// It leads its view, and hears of another.
+fn meet<R: Receiver>(
+    life: &mut Life<R>,
+    who: &Identity,
+    source: Address,
+    other: &Roster,
+    out: &mut Output,
+) -> Result<(), AllocError>
+    requires life { IsLife who.now.group who.now.address life.old }
+    ensures life { OnOk result (IsLife who.now.group who.now.address life.new) }
+    ensures does { OnOk result (Meets R.apply R.encode who.now.group who.now.address source other.now life.old life.new out.old out.new) }
+    ensures ignored { is_less source who.now.address ≡ true → is_hint_ignored who.now.address source life.old ≡ true → (result ≡ Ok tt) × StaysAs life.old life.new out.old out.new }
+{
+    if is_less(&source, &who.address) {
+        tell_view(life, who, source, out)?;
+    } else {
+        note_view(life, who, other)?;
+        life.regroup(who, out)?;
+    }
+    Ok(())
+}
+
+// MERGE: there is another view.
+pub fn on_merge<R: Receiver>(
+    life: &mut Life<R>,
+    who: &Identity,
+    source: Address,
+    other: &Roster,
+    out: &mut Output,
+) -> Result<(), AllocError>
+    requires life { IsLife who.now.group who.now.address life.old }
+    ensures life { OnOk result (IsLife who.now.group who.now.address life.new) }
+    ensures does { OnOk result (OnMerge R.apply R.encode who.now.group who.now.address source other.now life.old life.new out.old out.new) }
+    ensures ignored { is_merge_ignored who.now.address source life.old ≡ true → (result ≡ Ok tt) × StaysAs life.old life.new out.old out.new }
+{
+    if life.traffic.is_none() || has_member(life, &source) {
+        return Ok(());
+    }
+    if leads_now(life, who) {
+        meet(life, who, source, other, out)?;
+    } else {
+        redirect(life, who, source, out)?;
+    }
+    Ok(())
+}

@@ -1,0 +1,105 @@
+//! Time passes: what may be lost is put out again, while a member asks to be let in and while it is blocked.
+
+ghost use Rattle.std.specs.Prelude.{◌≡◌, OnOk, [], ◌∷◌, map, not, filter};
+ghost use Rattle.wire.specs.declared.packet.Body.TheVariants as bodies;
+ghost use Rattle.flush.specs.Flushes.{has_reported};
+ghost use Rattle.agreement.specs.Acts.{packet, proposed};
+ghost use Rattle.view.specs.View.{view_refusal};
+ghost use Rattle.output.specs.Outputs.{Grows};
+ghost use Rattle.membership.specs.Lives.{IsLife};
+ghost use Rattle.member_views.specs.Views.{reports_again, asks_again, proposes_again, flushes_again};
+
+use address::Address;
+use flush::Flush;
+use membership::Life;
+use output::{Identity, Output};
+use state_transfer::Receiver;
+use std::alloc::AllocError;
+use wire::{Body, Roster};
+
+// Its report for what it promised goes out again.
+fn report_again<R: Receiver>(
+    life: &Life<R>,
+    who: &Identity,
+    out: &mut Output,
+) -> Result<(), AllocError>
+    ensures { OnOk result (Grows who.now.group out.old out.new (reports_again who.now.address life.now) []) }
+{
+    match life.promise.proposal() {
+        None => Ok(()),
+        Some(proposal) => {
+            life.report(who, proposal.id(), out)?;
+            Ok(())
+        }
+    }
+}
+
+// While it asks to be let in.
+pub fn ask_again<R: Receiver>(
+    life: &Life<R>,
+    who: &Identity,
+    out: &mut Output,
+) -> Result<(), AllocError>
+    ensures { OnOk result (Grows who.now.group out.old out.new (asks_again who.now.address life.now) []) }
+{
+    match life.contact {
+        None => Ok(()),
+        Some(contact) => {
+            who.put(contact, Body::Join, out)?;
+            report_again(life, who, out)?;
+            Ok(())
+        }
+    }
+}
+
+// Its own proposal goes to one of its list.
+fn propose_to(
+    flush: &Flush,
+    who: &Identity,
+    member: Address,
+    out: &mut Output,
+) -> Result<(), AllocError>
+    requires list { view_refusal flush.now.proposal flush.now.members ≡ None }
+    ensures { OnOk result (Grows who.now.group out.old out.new (packet who.now.address (bodies.Flush (proposed flush.now)) member ∷ []) []) }
+{
+    let proposal = Roster::new(flush.proposal(), flush.members().as_slice()).unwrap();
+    who.put(member, Body::Flush(proposal), out)
+}
+
+// Its own proposal goes again to those who have not reported.
+fn propose_again(
+    flush: &Flush,
+    who: &Identity,
+    out: &mut Output,
+) -> Result<(), AllocError>
+    requires list { view_refusal flush.now.proposal flush.now.members ≡ None }
+    ensures { OnOk result (Grows who.now.group out.old out.new (proposes_again who.now.address flush.now) []) }
+{
+    for member in flush.members().as_slice() {
+        if !flush.has_reported(member) {
+            propose_to(flush, who, *member, out)?;
+        }
+    }
+    Ok(())
+}
+
+// While it is blocked.
+pub fn flush_again<R: Receiver>(
+    life: &Life<R>,
+    who: &Identity,
+    out: &mut Output,
+) -> Result<(), AllocError>
+    requires life { IsLife who.now.group who.now.address life.now }
+    ensures { OnOk result (Grows who.now.group out.old out.new (flushes_again who.now.address life.now) []) }
+{
+    match &life.flush {
+        Some(flush) => {
+            propose_again(flush, who, out)?;
+            Ok(())
+        }
+        None => {
+            report_again(life, who, out)?;
+            Ok(())
+        }
+    }
+}

@@ -1,0 +1,9 @@
+pub mod Putting
+pub mod Doing
+pub mod Saying
+pub mod Proposed
+pub mod Living
+pub mod Noting
+pub mod Behind
+pub mod Keeping
+pub mod Acting

@@ -1,0 +1,19 @@
+use Rattle.std.proofs.Common.{ap, subst, rules}
+use Rattle.candidates.specs.Notes.{NotesModel}
+use Rattle.membership.specs.Changes.{BeginsAnew}
+use Rattle.membership.proofs.Noting.{heard-life}
+use Rattle.membership.proofs.life.Life.take_behind.Goals as goal
+
+pub begin_anew-requires : goal.begin_anew-requires
+begin_anew-requires g c = record {
+  life = heard-life c.args.who.now.group c.args.who.now.address c.args.self.now _ c.args.counter c.requires.life (ap (λ (b : NotesModel). record c.args.self.now { notes = b }) (search rules));
+}
+
+pub returns-clause-takes : goal.returns-clause-takes
+returns-clause-takes g c = record {
+  mid = c.begin_anew.new.self;
+  between = c.begin_anew.new.out;
+  begins = subst (λ (b : NotesModel). BeginsAnew c.args.who.now.group c.args.who.now.address (record c.args.self.now { notes = b }) c.begin_anew.new.self c.args.out.now c.begin_anew.new.out)
+      (search rules) c.in_ok-begin_anew.ensures.begins;
+  goes_on = c.in_ok-go_on.ensures.goes_on;
+}

@@ -1,0 +1,163 @@
+-- What a member does in a change of view: exactly what it puts out, what happens to it, and what is left of it.
+use Rattle.std.specs.Prelude.{◌≡◌, ℕ, Bool, true, false, ◌++◌, List, [], ◌∷◌, map, find, Option, None, Some, MatchBool, MatchOption}
+use Rattle.std.specs.Option.{option_map, option_to_list}
+use Rattle.address.specs.Ids.{Address, ViewId}
+use Rattle.view.specs.Members.{View}
+use Rattle.candidates.specs.Notes.{no_notes, settled, suspecting, having_heard}
+use Rattle.wire.specs.Values as wire
+use Rattle.wire.specs.declared.packet.Body.TheVariants as bodies
+use Rattle.flush.specs.Flushes.{FlushModel, IsFlush}
+use Rattle.view_install.specs.declared.promise.OfferAnswer.{OfferAnswer}
+use Rattle.view_install.specs.declared.promise.OfferAnswer.TheVariants.{Accept, Behind, Ignore}
+use Rattle.view_install.specs.Promises.{offered, promising, after_install}
+use Rattle.agreement.specs.Acts.{packet, others_of, proposed}
+use Rattle.member_acts.specs.Decisions.{due_proposal, is_entry, is_readable}
+use Rattle.output.specs.declared.output.Output.{Output}
+use Rattle.output.specs.Outputs.{Grows, spelled}
+use Rattle.traffic.specs.declared.traffic.Traffic.{Traffic}
+use Rattle.traffic.specs.Traffics.{fresh_in}
+use Rattle.membership.specs.declared.life.Life.{Life}
+use Rattle.membership.specs.Lives.{core_of, report_in, blocked_by, begun_with, is_kept_for, is_complete, recording, anew_proposal}
+use Rattle.membership.specs.Installs.{finished_state, finish_packets, finish_events, state_by, arriving, enter_events}
+
+-- nothing is done
+abbrev pub StaysAs : {S : Type 0} → Life S → Life S → Output → Output → Type 0
+StaysAs old new out later = (new ≡ old) × (later ≡ out)
+
+-- ---- a FLUSH
+
+-- it promises the proposal, is blocked, and reports to who proposed it
+pub record Promises {S : Type 0} (group : List ℕ) (me : Address) (w : View) (old new : Life S) (out later : Output) : Type 0 where
+  pub life : new ≡ record old { promise = promising w old.promise; flush = None }
+  pub grows : Grows group out later (packet me (bodies.Report w.id (report_in old)) w.id.creator ∷ []) (blocked_by me old)
+
+-- by the answer to its offer: it promises, or says how far it is, or ignores it
+abbrev pub TakesBy : {S : Type 0} → OfferAnswer → List ℕ → Address → View → Life S → Life S → Output → Output → Type 0
+TakesBy Accept group me w old new out later = Promises group me w old new out later
+TakesBy (Behind counter) group me w old new out later = (new ≡ old) × Grows group out later (packet me (bodies.Behind w.id counter) w.id.creator ∷ []) []
+TakesBy Ignore group me w old new out later = StaysAs old new out later
+
+abbrev pub is_behind : OfferAnswer → Bool
+is_behind Accept = false
+is_behind (Behind counter) = true
+is_behind Ignore = false
+
+abbrev pub is_ignored_offer : OfferAnswer → Bool
+is_ignored_offer Accept = false
+is_ignored_offer (Behind counter) = false
+is_ignored_offer Ignore = true
+
+abbrev pub TakesFlush : {S : Type 0} → List ℕ → Address → View → Life S → Life S → Output → Output → Type 0
+TakesFlush group me w old new out later = TakesBy (offered w old.promise) group me w old new out later
+
+-- ---- a flush of its own
+
+-- it proposes: it is blocked, its own report is in the flush, and the proposal goes to the others of the list
+pub record Begins {S : Type 0} (group : List ℕ) (me : Address) (w : View) (old new : Life S) (out later : Output) : Type 0 where
+  pub life : new ≡ record old { promise = promising w old.promise; flush = Some (begun_with me w (report_in old)) }
+  pub grows : Grows group out later (map (packet me (bodies.Flush w)) (others_of me w.members)) (blocked_by me old)
+
+-- it proposes what is due, and nothing where nothing is
+abbrev pub ProposesIf : {S : Type 0} → List ℕ → Address → Life S → Life S → Output → Output → Type 0
+ProposesIf group me old new out later =
+    MatchOption (due_proposal (core_of me old) old.notes) (StaysAs old new out later) (λ w. Begins group me w old new out later)
+
+-- it proposes its candidates anew, where the counters are not used up
+abbrev pub BeginsAnew : {S : Type 0} → List ℕ → Address → Life S → Life S → Output → Output → Type 0
+BeginsAnew group me old new out later = MatchOption (anew_proposal me old) (StaysAs old new out later) (λ w. Begins group me w old new out later)
+
+-- it goes into its own proposal: it is delivered what it lacks of its view's cut, and says to each other of the list how to go into the view, with its
+-- state for those who come from another view; what it said is kept
+pub record Finishes {S : Type 0} (apply : S → Address → List ℕ → S) (encode : S → List ℕ) (group : List ℕ) (me : Address) (f : FlushModel) (t : Traffic) (old new : Life S)
+    (out later : Output) : Type 0 where
+  pub flush : IsFlush f
+  pub life : new ≡ record old {
+    traffic = Some (fresh_in me (proposed f));
+    promise = after_install (proposed f) old.promise;
+    flush = None;
+    kept = new.kept;
+    receiver = finished_state apply f t old.receiver;
+    notes = settled f.members old.notes;
+  }
+  pub kept : new.kept.items ≡ map (spelled group) (finish_packets me f t (encode (finished_state apply f t old.receiver)))
+  pub grows : Grows group out later (finish_packets me f t (encode (finished_state apply f t old.receiver))) (finish_events me f t)
+
+-- where all have reported it goes into its own proposal
+abbrev pub FinishesIf : {S : Type 0} → (S → Address → List ℕ → S) → (S → List ℕ) → List ℕ → Address → Life S → Life S → Output → Output → Type 0
+FinishesIf apply encode group me old new out later =
+    MatchOption old.flush (StaysAs old new out later)
+    (λ f. MatchBool (is_complete f) (MatchOption old.traffic ⊥ (λ t. Finishes apply encode group me f t old new out later)) (StaysAs old new out later))
+
+-- it finishes where all have reported, and proposes what is due then
+pub record GoesOn {S : Type 0} (apply : S → Address → List ℕ → S) (encode : S → List ℕ) (group : List ℕ) (me : Address) (old new : Life S) (out later : Output) : Type 0 where
+  pub mid : Life S
+  pub between : Output
+  pub finishes : FinishesIf apply encode group me old mid out between
+  pub proposes : ProposesIf group me mid new between later
+
+-- it proposes what is due; alone in the list it finishes, and proposes what is due then
+pub record Regroups {S : Type 0} (apply : S → Address → List ℕ → S) (encode : S → List ℕ) (group : List ℕ) (me : Address) (old new : Life S) (out later : Output) : Type 0 where
+  pub mid : Life S
+  pub between : Output
+  pub proposes : ProposesIf group me old mid out between
+  pub goes_on : GoesOn apply encode group me mid new between later
+
+-- ---- a REPORT
+
+-- its flush has the report, and it goes on
+abbrev pub TakesReport : {S : Type 0} → (S → Address → List ℕ → S) → (S → List ℕ) → List ℕ → Address → Address → ViewId → wire.Report → Life S → Life S → Output → Output → Type 0
+TakesReport apply encode group me q w r old new out later =
+    GoesOn apply encode group me (record old { flush = option_map (recording q w r) old.flush }) new out later
+
+-- it puts out again the INSTALL that it kept for a member of its view, if it kept one
+pub record InstallsAgain {S : Type 0} (q : Address) (l : Life S) (out later : Output) : Type 0 where
+  pub packets : later.packets.items ≡ out.packets.items ++ option_to_list (find (is_kept_for q) l.kept.items)
+  pub happenings : later.happenings.items ≡ out.happenings.items
+
+-- ---- a BEHIND
+
+-- it has heard of the counter, begins anew, and goes on
+pub record TakesBehind {S : Type 0} (apply : S → Address → List ℕ → S) (encode : S → List ℕ) (group : List ℕ) (me : Address) (counter : ℕ) (old new : Life S) (out later : Output) : Type 0 where
+  pub mid : Life S
+  pub between : Output
+  pub begins : BeginsAnew group me (record old { notes = having_heard counter old.notes }) mid out between
+  pub goes_on : GoesOn apply encode group me mid new between later
+
+-- ---- a suspicion
+
+-- the address is suspected, and what is due then is begun
+abbrev pub TakesSuspicion : {S : Type 0} → (S → Address → List ℕ → S) → (S → List ℕ) → List ℕ → Address → Address → Life S → Life S → Output → Output → Type 0
+TakesSuspicion apply encode group me p old new out later = Regroups apply encode group me (record old { notes = suspecting p old.notes }) new out later
+
+-- ---- an INSTALL
+
+-- it is told the view, and begins there anew
+pub record Arrives {S : Type 0} (group : List ℕ) (me : Address) (traffic : Option Traffic) (i : wire.Install) (own : ℕ) (old new : Life S) (out later : Output) : Type 0 where
+  pub life : new ≡ record old {
+    traffic = Some (fresh_in me i.view);
+    promise = after_install i.view old.promise;
+    flush = None;
+    kept = new.kept;
+    notes = no_notes;
+  }
+  pub kept : new.kept.items ≡ []
+  pub grows : Grows group out later [] (arriving me traffic i own ∷ [])
+
+-- it is delivered what it lacks of its view, takes the state that is given, is told the view, and begins there anew
+pub record Enters {S : Type 0} (apply : S → Address → List ℕ → S) (decode : List ℕ → Option S) (group : List ℕ) (me : Address) (traffic : Option Traffic) (i : wire.Install)
+    (old new : Life S) (out later : Output) : Type 0 where
+  pub life : new ≡ record old {
+    traffic = Some (fresh_in me i.view);
+    promise = after_install i.view old.promise;
+    flush = None;
+    kept = new.kept;
+    receiver = state_by apply decode traffic i old.receiver;
+    notes = no_notes;
+  }
+  pub kept : new.kept.items ≡ []
+  pub grows : Grows group out later [] (enter_events me traffic i)
+
+-- it enters exactly where it would, by a state that can be read
+abbrev pub TakesInstall : {S : Type 0} → (S → Address → List ℕ → S) → (List ℕ → Option S) → List ℕ → Address → Address → wire.Install → Life S → Life S → Output → Output → Type 0
+TakesInstall apply decode group me q i old new out later =
+    MatchBool (is_entry (core_of me old) q i) ((is_readable decode i.state ≡ true) × Enters apply decode group me old.traffic i old new out later) (StaysAs old new out later)

@@ -1,0 +1,113 @@
+-- What a finished flush says to each of its list, and what an INSTALL does to one who enters by it.
+use Rattle.std.specs.Prelude.{[], ◌∷◌, ◌++◌, ◌≡◌, ℕ, true, drop, Option, Some, None, List, map, length, unwrap_or, if◌then◌else◌}
+use Rattle.std.specs.Option.{option_eq, option_map_or, option_and_then}
+use Rattle.std.specs.List.{AllByRecursion, flat_map}
+use Rattle.address.specs.Ids.{Address, ViewId, same_view_id}
+use Rattle.packet_values.specs.Values.{Entry}
+use Rattle.wire.specs.Values as wire
+use Rattle.wire.specs.declared.packet.Body.TheVariants as bodies
+use Rattle.wire.specs.Lists.{is_install}
+use Rattle.wire.specs.Fields.{IsEntry, entry_bytes}
+use Rattle.flush.specs.Flushes.{FlushModel, together_of, previous_of}
+use Rattle.trace_props.specs.Observed.{own}
+use Rattle.trace_props.specs.declared.happening.Happening.{Happening}
+use Rattle.trace_props.specs.declared.happening.Happening.TheVariants.{Installed}
+use Rattle.trace_props.specs.declared.happening.Numbered.{Numbered}
+use Rattle.agreement.specs.Histories.{Posted}
+use Rattle.agreement.specs.Cores.{applied, id_of}
+use Rattle.agreement.specs.Words.{message_for}
+use Rattle.agreement.specs.Acts.{others_of, delivery, deliveries, undelivered, packet, proposed, base_for, items_for}
+use Rattle.member_acts.specs.Decisions.{cuts_of}
+use Rattle.traffic.specs.declared.traffic.Traffic.{Traffic}
+use Rattle.traffic.specs.Traffics.{view_of, traffic_of}
+use Rattle.membership.specs.declared.finishing.CutText.{CutText}
+use Rattle.membership.specs.Lives.{view_in}
+
+-- ---- what a flush says to one of its list
+
+-- the base of a cut, how many items it has, and their bytes
+pub record SpellsCut (base : ℕ) (items : List Entry) (cut : CutText) : Type 0 where
+  pub from : cut.base ≡ base
+  pub count : cut.count ≡ length items
+  pub bytes : cut.text.items ≡ flat_map entry_bytes items
+  pub sound : AllByRecursion IsEntry items
+
+-- the instruction for one of the list of a flush whose creator comes from a view
+abbrev pub instruction_to : FlushModel → ViewId → List ℕ → Address → wire.Install
+instruction_to f v state q = record {
+  view = proposed f;
+  together = together_of q f;
+  base = base_for (cuts_of f) (previous_of q f);
+  items = items_for (cuts_of f) (previous_of q f);
+  state = if option_eq same_view_id (previous_of q f) (Some v) then None else Some state;
+}
+
+-- the same as a packet
+abbrev pub instructing : Address → FlushModel → ViewId → List ℕ → Address → Posted
+instructing me f v state q = packet me (bodies.Install (instruction_to f v state q)) q
+
+-- it can be said
+abbrev pub IsSayable : FlushModel → ViewId → List ℕ → Address → Type 0
+IsSayable f v state q = is_install (instruction_to f v state q) ≡ true
+
+-- ---- a flush is finished
+
+-- what its creator is delivered of its own view's cut
+abbrev pub told_by : FlushModel → Traffic → List Entry
+told_by f t = undelivered (traffic_of t).delivered ((cuts_of f).base (view_of t).id) ((cuts_of f).items (view_of t).id)
+
+-- how many of these are its own
+abbrev pub own_of : Address → List Entry → ℕ
+own_of me entries = length (own me (map message_for entries))
+
+-- its creator is told the view that it proposed
+abbrev pub going : Address → FlushModel → Traffic → ℕ → Happening
+going me f t n = Installed (record {
+  member = me;
+  previous = Some (view_of t).id;
+  view = proposed f;
+  together = together_of me f;
+  handed_back = drop n (traffic_of t).outstanding;
+  given = None;
+})
+
+-- the state with which the view begins
+abbrev pub finished_state : {S : Type 0} → (S → Address → List ℕ → S) → FlushModel → Traffic → S → S
+finished_state apply f t s = applied apply s (told_by f t)
+
+-- what its creator puts out
+abbrev pub finish_packets : Address → FlushModel → Traffic → List ℕ → List Posted
+finish_packets me f t state = map (instructing me f (view_of t).id state) (others_of me f.members)
+
+-- what happens to its creator
+abbrev pub finish_events : Address → FlushModel → Traffic → List Happening
+finish_events me f t = map (delivery me (view_of t).id) (told_by f t) ++ going me f t (own_of me (told_by f t)) ∷ []
+
+-- ---- an INSTALL is entered
+
+-- what the one who enters lacks of its view
+abbrev pub lacking : Option Traffic → wire.Install → List Entry
+lacking traffic i = option_map_or (λ t. undelivered (traffic_of t).delivered i.base i.items) traffic []
+
+-- what is left of its own messages when so many more of them were delivered
+abbrev pub left_in : Option Traffic → ℕ → List Numbered
+left_in traffic n = option_map_or (λ t. drop n (traffic_of t).outstanding) traffic []
+
+-- the state with which it goes on
+abbrev pub state_by : {S : Type 0} → (S → Address → List ℕ → S) → (List ℕ → Option S) → Option Traffic → wire.Install → S → S
+state_by apply decode traffic i s = unwrap_or (option_and_then decode i.state) (applied apply s (lacking traffic i))
+
+-- it is told the view
+abbrev pub arriving : Address → Option Traffic → wire.Install → ℕ → Happening
+arriving me traffic i n = Installed (record {
+  member = me;
+  previous = id_of (view_in traffic);
+  view = i.view;
+  together = i.together;
+  handed_back = left_in traffic n;
+  given = i.state;
+})
+
+-- what happens to it
+abbrev pub enter_events : Address → Option Traffic → wire.Install → List Happening
+enter_events me traffic i = deliveries me (view_in traffic) (lacking traffic i) ++ arriving me traffic i (own_of me (lacking traffic i)) ∷ []

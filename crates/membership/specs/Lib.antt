@@ -1,0 +1,4 @@
+pub mod Lives
+pub mod Installs
+pub mod Changes
+pub mod Doing

@@ -1,0 +1,101 @@
+//! A member begins a flush of its own.
+
+ghost use Rattle.std.specs.Prelude.{◌≡◌, ◌∷◌, [], OnOk, IfOk, true, map};
+ghost use Rattle.view.specs.Members.{stands_in};
+ghost use Rattle.view_install.specs.Promises.{offered, is_accept};
+ghost use Rattle.wire.specs.declared.packet.Body.TheVariants as bodies;
+ghost use Rattle.agreement.specs.Acts.{packet, others_of};
+ghost use Rattle.agreement.specs.Cores.{report_with};
+ghost use Rattle.output.specs.Outputs.{Grows};
+ghost use Rattle.membership.specs.Lives.{view_in, traffic_in, begun_with};
+ghost use Rattle.membership.specs.Changes.{Begins};
+
+use crate::Life;
+use crate::promising::{held_text, report_of};
+use address::Address;
+use flush::Flush;
+use output::{Identity, Output};
+use state_transfer::Receiver;
+use std::alloc::{AllocError, Global};
+use traffic::Traffic;
+use view::Addresses;
+use wire::{Body, Roster};
+
+// All of a list but one.
+pub(crate) fn others_of(
+    alloc: Global,
+    me: &Address,
+    list: &[Address],
+) -> Result<Vec<Address>, AllocError>
+    ensures { IfOk result (λ l. l.items ≡ others_of me.now list.now) }
+{
+    let others = list.iter().copied();
+    let others = others.filter(|member| *member != *me);
+    Ok(others.collect(alloc)?)
+}
+
+// A flush that begins, with the member's own report.
+fn begun(who: &Identity, traffic: &Option<Traffic>, proposal: &Roster) -> Result<Flush, AllocError>
+    requires { stands_in who.now.address proposal.now.members ≡ true }
+    ensures { IfOk result (λ f. f ≡ begun_with who.now.address proposal.now (report_with (view_in traffic.now) (traffic_in traffic.now))) }
+{
+    let members = Vec::from_slice(who.alloc, proposal.members().as_slice())?;
+    let mut flush = Flush::start(who.alloc, proposal.id(), Addresses::from_vec(members));
+    let text = held_text(who.alloc, traffic)?;
+    let report = report_of(traffic, text.as_slice());
+    let _ = flush.report(who.address, &report)?;
+    Ok(flush)
+}
+
+// Announces a proposal to one of its list.
+fn announce(
+    who: &Identity,
+    proposal: &Roster,
+    member: Address,
+    out: &mut Output,
+) -> Result<(), AllocError>
+    ensures { OnOk result (Grows who.now.group out.old out.new (packet who.now.address (bodies.Flush proposal.now) member ∷ []) []) }
+{
+    who.put(member, Body::Flush(proposal.copied()), out)
+}
+
+// Announces a proposal to some of its list, in order.
+pub(crate) fn announce_all(
+    who: &Identity,
+    proposal: &Roster,
+    members: &[Address],
+    out: &mut Output,
+) -> Result<(), AllocError>
+    ensures { OnOk result (Grows who.now.group out.old out.new (map (packet who.now.address (bodies.Flush proposal.now)) members.now) []) }
+{
+    match members.split_first() {
+        None => Ok(()),
+        Some((first, rest)) => {
+            announce(who, proposal, *first, out)?;
+            announce_all(who, proposal, rest, out)?;
+            Ok(())
+        }
+    }
+}
+
+impl<R: Receiver> Life<R> {
+    // Begins a flush of a proposal of its own: it is blocked, its own report is in it, and the proposal is announced to the others of its list.
+    pub(crate) fn begin(
+        &mut self,
+        who: &Identity,
+        proposal: &Roster,
+        out: &mut Output,
+    ) -> Result<(), AllocError>
+        requires greater { is_accept (offered proposal.now self.old.promise) ≡ true }
+        requires listed { stands_in who.now.address proposal.now.members ≡ true }
+        ensures { OnOk result (Begins who.now.group who.now.address proposal.now self.old self.new out.old out.new) }
+    {
+        self.block(who, out)?;
+        let flush = begun(who, &self.traffic, proposal)?;
+        let others = others_of(who.alloc, &who.address, proposal.members().as_slice())?;
+        announce_all(who, proposal, others.as_slice(), out)?;
+        let _ = self.promise.offer(proposal);
+        self.flush = Some(flush);
+        Ok(())
+    }
+}

@@ -1,0 +1,224 @@
+//! A member goes into the promised view of another, by its INSTALL.
+
+ghost use Rattle.std.specs.Prelude.{◌≡◌, ◌∷◌, [], true, false, Err, OnOk, IfOk, Some, None, unwrap_or};
+ghost use Rattle.std.specs.Option.{option_and_then};
+ghost use Rattle.agreement.specs.Acts.{deliveries};
+ghost use Rattle.agreement.specs.Cores.{applied, id_of};
+ghost use Rattle.member_acts.specs.Decisions.{is_readable, is_fitting};
+ghost use Rattle.sequencer.specs.Forwards.{AreShort};
+ghost use Rattle.traffic.specs.Traffics.{view_of};
+ghost use Rattle.output.specs.Outputs.{Grows};
+ghost use Rattle.membership.specs.declared.stop.Stop.TheVariants as stop;
+ghost use Rattle.membership.specs.Lives.{view_in, traffic_in};
+ghost use Rattle.membership.specs.Installs.{own_of, lacking, left_in, arriving};
+ghost use Rattle.membership.specs.Changes.{Arrives, Enters};
+
+use crate::finishing::{behind, deliver_all, own_of};
+use crate::{Life, Stop};
+use address::ViewId;
+use output::{Identity, Output};
+use packet_values::{Entry, State};
+use state_transfer::Receiver;
+use std::alloc::{AllocError, Global};
+use trace_props::{Bytes, HandedBack, Happening, Install as Installed};
+use traffic::Traffic;
+use view::{Addresses, View};
+use wire::{Install, Items, Roster};
+
+// The entries of an INSTALL.
+fn all_of<'a>(alloc: Global, items: Items<'a>) -> Result<Vec<Entry<'a>>, AllocError>
+    ensures { IfOk result (λ v. v.items ≡ items.entry) }
+{
+    let mut left = items;
+    let mut entries = Vec::new(alloc);
+    while let Some(entry) = left.take_first() {
+        entries.push(entry)?;
+    }
+    Ok(entries)
+}
+
+// Whether an INSTALL begins at most where the member is; for one without a view, whether it delivers nothing and gives a state.
+pub(crate) fn is_fitting(traffic: &Option<Traffic>, install: &Install<'_>) -> bool
+    ensures { result ≡ is_fitting (view_in traffic.now) (traffic_in traffic.now).delivered install.now }
+{
+    match traffic {
+        None => {
+            install.base().get() == 0 && install.items().len() == 0 && install.state().is_some()
+        }
+        Some(traffic) => install.base() <= traffic.delivered(),
+    }
+}
+
+// Takes a given state, if there is one.
+fn take_state<R: Receiver>(receiver: &mut R, given: &Option<State<'_>>) -> Result<(), Stop>
+    ensures state { OnOk result (receiver.new ≡ unwrap_or (option_and_then R.decode given.now) receiver.old) }
+    ensures readable { OnOk result (is_readable R.decode given.now ≡ true) }
+    ensures unreadable { result ≡ Err stop.Unreadable → is_readable R.decode given.now ≡ false }
+{
+    match given {
+        None => Ok(()),
+        Some(state) => {
+            if receiver.set_state(state.as_slice())? {
+                Ok(())
+            } else {
+                Err(Stop::Unreadable)
+            }
+        }
+    }
+}
+
+// Delivers what a member lacks of its view by an INSTALL. The answer is how many of these are its own.
+fn deliver_lacking<R: Receiver>(
+    who: &Identity,
+    traffic: &Traffic,
+    install: &Install<'_>,
+    receiver: &mut R,
+    out: &mut Output,
+) -> Result<usize, AllocError>
+    ensures state { OnOk result (receiver.new ≡ applied R.apply receiver.old (lacking (Some traffic.now) install.now)) }
+    ensures out { OnOk result (Grows who.now.group out.old out.new [] (deliveries who.now.address (Some (view_of traffic.now)) (lacking (Some traffic.now) install.now))) }
+    ensures own { IfOk result (λ n. n ≡ own_of who.now.address (lacking (Some traffic.now) install.now)) }
+{
+    let entries = all_of(who.alloc, install.items())?;
+    let skip = traffic
+        .delivered()
+        .get()
+        .saturating_sub(install.base().get()) as usize;
+    let lacking = behind(entries.as_slice(), skip);
+    deliver_all(who, traffic.view().id(), lacking, receiver, out)?;
+    Ok(own_of(&who.address, lacking))
+}
+
+// The same of one who may have no view.
+fn deliver_last<R: Receiver>(
+    who: &Identity,
+    traffic: &Option<Traffic>,
+    install: &Install<'_>,
+    receiver: &mut R,
+    out: &mut Output,
+) -> Result<usize, AllocError>
+    ensures state { OnOk result (receiver.new ≡ applied R.apply receiver.old (lacking traffic.now install.now)) }
+    ensures out { OnOk result (Grows who.now.group out.old out.new [] (deliveries who.now.address (view_in traffic.now) (lacking traffic.now install.now))) }
+    ensures own { IfOk result (λ n. n ≡ own_of who.now.address (lacking traffic.now install.now)) }
+{
+    match traffic {
+        None => Ok(0),
+        Some(traffic) => {
+            let own = deliver_lacking(who, traffic, install, receiver, out)?;
+            Ok(own)
+        }
+    }
+}
+
+// The view of an INSTALL.
+fn view_from(alloc: Global, roster: &Roster) -> Result<View, AllocError>
+    ensures { IfOk result (λ v. v ≡ roster.now) }
+{
+    let members = Vec::from_slice(alloc, roster.members().as_slice())?;
+    Ok(View::new(roster.id(), Addresses::from_vec(members)).unwrap())
+}
+
+// A copy of a given state.
+fn state_copied(alloc: Global, given: &Option<State<'_>>) -> Result<Option<Bytes>, AllocError>
+    ensures { IfOk result (λ b. b ≡ given.now) }
+{
+    match given {
+        None => Ok(None),
+        Some(state) => Ok(Some(Bytes::from_slice(alloc, state.as_slice())?)),
+    }
+}
+
+// What is left of the own messages when so many more of them were delivered.
+fn left_of(alloc: Global, traffic: Option<Traffic>, own: usize) -> Result<HandedBack, AllocError>
+    ensures value { IfOk result (λ h. h ≡ left_in traffic own) }
+    ensures short { IfOk result AreShort }
+{
+    match traffic {
+        None => Ok(HandedBack::nothing(alloc)),
+        Some(traffic) => {
+            let left = traffic.handed_back(own)?;
+            Ok(left)
+        }
+    }
+}
+
+// The id of the view that it is in.
+fn id_in(traffic: &Option<Traffic>) -> Option<ViewId>
+    ensures { result ≡ id_of (view_in traffic.now) }
+{
+    match traffic {
+        None => None,
+        Some(traffic) => Some(traffic.view().id()),
+    }
+}
+
+// Tells the view of an INSTALL.
+fn tell_view(
+    who: &Identity,
+    traffic: Option<Traffic>,
+    install: &Install<'_>,
+    own: usize,
+    out: &mut Output,
+) -> Result<(), AllocError>
+    ensures { OnOk result (Grows who.now.group out.old out.new [] (arriving who.now.address traffic install.now own ∷ [])) }
+{
+    let previous = id_in(&traffic);
+    let view = view_from(who.alloc, install.view())?;
+    let together = Vec::from_slice(who.alloc, install.together().as_slice())?;
+    let together = Addresses::from_vec(together);
+    let handed_back = left_of(who.alloc, traffic, own)?;
+    let given = state_copied(who.alloc, install.state())?;
+    who.record(
+        Happening::Installed(Installed {
+            member: who.address,
+            previous,
+            view,
+            together,
+            handed_back,
+            given,
+        }),
+        out,
+    )
+}
+
+impl<R: Receiver> Life<R> {
+    // Goes into the promised view of another, by its INSTALL.
+    pub(crate) fn enter(
+        &mut self,
+        who: &Identity,
+        traffic: Option<Traffic>,
+        install: &Install<'_>,
+        out: &mut Output,
+    ) -> Result<(), Stop>
+        ensures enters { OnOk result (Enters R.apply R.decode who.now.group who.now.address traffic install.now self.old self.new out.old out.new) }
+        ensures readable { OnOk result (is_readable R.decode install.now.state ≡ true) }
+        ensures unreadable { result ≡ Err stop.Unreadable → is_readable R.decode install.now.state ≡ false }
+    {
+        let own = deliver_last(who, &traffic, install, &mut self.receiver, out)?;
+        take_state(&mut self.receiver, install.state())?;
+        self.arrive(who, traffic, install, own, out)?;
+        Ok(())
+    }
+
+    // It is told the view, and begins there anew.
+    fn arrive(
+        &mut self,
+        who: &Identity,
+        traffic: Option<Traffic>,
+        install: &Install<'_>,
+        own: usize,
+        out: &mut Output,
+    ) -> Result<(), AllocError>
+        ensures { OnOk result (Arrives who.now.group who.now.address traffic install.now own self.old self.new out.old out.new) }
+    {
+        tell_view(who, traffic, install, own, out)?;
+        let view = view_from(who.alloc, install.view())?;
+        let _ = self.promise.install(install.view());
+        self.notes.clear();
+        self.receiver.view_accepted(&view);
+        self.traffic = Some(Traffic::fresh(who.alloc, &who.address, view)?);
+        self.flush = None;
+        self.kept = Vec::new(who.alloc);
+        Ok(())
+    }
+}

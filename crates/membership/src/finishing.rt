@@ -1,0 +1,289 @@
+//! What a finished flush says: what its creator is delivered and told, and what it says to each other of the list.
+
+ghost use Rattle.std.specs.Prelude.{◌≡◌, ◌≤◌, ◌++◌, drop, [], ◌∷◌, OnOk, IfOk, Some, None, length, map, true};
+ghost use Rattle.std.specs.List.{flat_map, AllByRecursion};
+ghost use Rattle.packet_values.specs.declared.limits.TheConstants.{STATE};
+ghost use Rattle.view.specs.View.{view_refusal};
+ghost use Rattle.wire.specs.Fields.{entry_bytes, IsEntry};
+ghost use Rattle.flush.specs.Flushes.{together_of, previous_of};
+ghost use Rattle.agreement.specs.Acts.{packet, others_of, base_for, items_for, delivery};
+ghost use Rattle.agreement.specs.Cores.{applied};
+ghost use Rattle.member_acts.specs.Decisions.{cuts_of};
+ghost use Rattle.traffic.specs.Traffics.{view_of};
+ghost use Rattle.output.specs.Outputs.{Grows};
+ghost use Rattle.membership.specs.Installs.{SpellsCut, IsSayable, instruction_to, instructing, told_by, own_of, going, finished_state, finish_packets, finish_events};
+
+use crate::beginning::others_of;
+use address::{Address, ViewId};
+use flush::Flush;
+use output::{Identity, Output};
+use packet_values::{Count, Entry, State};
+use state_transfer::Receiver;
+use std::alloc::{AllocError, Global};
+use trace_props::{Bytes, Delivery, Happening, Install as Installed, Message};
+use traffic::Traffic;
+use view::{Addresses, View};
+use wire::{Body, Install, Items, Members, Roster};
+use wire_writer::put_entry;
+
+// A cut as an INSTALL lists it.
+#[derive(Drop)]
+pub(crate) struct CutText {
+    base: Count,
+    count: usize,
+    text: Vec<u8>,
+}
+
+fn put_entries(entries: &[Entry<'_>], out: &mut Vec<u8>) -> Result<(), AllocError>
+    ensures bytes { OnOk result (out.new.items ≡ out.old.items ++ flat_map entry_bytes entries.now) }
+    ensures sound { OnOk result (AllByRecursion IsEntry entries.now) }
+{
+    match entries.split_first() {
+        None => Ok(()),
+        Some((first, rest)) => {
+            put_entry(None, first, out)?;
+            put_entries(rest, out)?;
+            Ok(())
+        }
+    }
+}
+
+// The cut of those who come from a view, as bytes; nothing for those who come from none.
+fn cut_text(alloc: Global, flush: &Flush, previous: &Option<ViewId>) -> Result<CutText, AllocError>
+    ensures { IfOk result (SpellsCut (base_for (cuts_of flush.now) previous.now) (items_for (cuts_of flush.now) previous.now)) }
+{
+    let mut text = Vec::new(alloc);
+    match previous {
+        None => Ok(CutText {
+            base: Count::zero(),
+            count: 0,
+            text,
+        }),
+        Some(_) => {
+            let cut = flush.cut(alloc, previous)?;
+            put_entries(cut.entries.as_slice(), &mut text)?;
+            Ok(CutText {
+                base: cut.base,
+                count: cut.entries.len(),
+                text,
+            })
+        }
+    }
+}
+
+// Delivers a message.
+fn deliver<R: Receiver>(
+    who: &Identity,
+    view: ViewId,
+    entry: &Entry<'_>,
+    receiver: &mut R,
+    out: &mut Output,
+) -> Result<(), AllocError>
+    ensures state { OnOk result (receiver.new ≡ R.apply receiver.old entry.now.sender entry.now.payload) }
+    ensures out { OnOk result (Grows who.now.group out.old out.new [] (delivery who.now.address view entry.now ∷ [])) }
+{
+    receiver.receive(entry.sender, entry.payload.as_slice())?;
+    let payload = Bytes::from_slice(who.alloc, entry.payload.as_slice())?;
+    let message = Message {
+        sender: entry.sender,
+        number: entry.number.get(),
+        payload,
+    };
+    who.record(
+        Happening::Delivered(Delivery {
+            member: who.address,
+            view,
+            message,
+        }),
+        out,
+    )
+}
+
+// Delivers messages, one after the other.
+pub(crate) fn deliver_all<R: Receiver>(
+    who: &Identity,
+    view: ViewId,
+    entries: &[Entry<'_>],
+    receiver: &mut R,
+    out: &mut Output,
+) -> Result<(), AllocError>
+    ensures state { OnOk result (receiver.new ≡ applied R.apply receiver.old entries.now) }
+    ensures out { OnOk result (Grows who.now.group out.old out.new [] (map (delivery who.now.address view) entries.now)) }
+{
+    match entries.split_first() {
+        None => Ok(()),
+        Some((first, rest)) => {
+            deliver(who, view, first, receiver, out)?;
+            deliver_all(who, view, rest, receiver, out)?;
+            Ok(())
+        }
+    }
+}
+
+// What the flush says to one of its list.
+fn instruction<'a>(
+    flush: &Flush,
+    view: ViewId,
+    member: &Address,
+    together: &Addresses,
+    cut: &'a CutText,
+    state: &'a [u8],
+) -> Install<'a>
+    requires list { view_refusal flush.now.proposal flush.now.members ≡ None }
+    requires short { length state.now ≤ STATE }
+    requires together { together.now ≡ together_of member.now flush.now }
+    requires cut { SpellsCut (base_for (cuts_of flush.now) (previous_of member.now flush.now)) (items_for (cuts_of flush.now) (previous_of member.now flush.now)) cut.now }
+    requires sound { IsSayable flush.now view state.now member.now }
+    ensures { result ≡ instruction_to flush.now view state.now member.now }
+{
+    let items = Items::new(cut.count as u8, cut.text.as_slice()).unwrap();
+    let together = Members::from_slice(together.as_slice()).unwrap();
+    let roster = Roster::new(flush.proposal(), flush.members().as_slice()).unwrap();
+    let given = if flush.previous(member) == Some(view) {
+        None
+    } else {
+        Some(State::new(state).unwrap())
+    };
+    Install::new(roster, together, cut.base, items, given).unwrap()
+}
+
+// Puts out the INSTALL for one of the list.
+fn instruct(
+    who: &Identity,
+    flush: &Flush,
+    view: ViewId,
+    state: &[u8],
+    member: Address,
+    out: &mut Output,
+) -> Result<(), AllocError>
+    requires list { view_refusal flush.now.proposal flush.now.members ≡ None }
+    requires short { length state.now ≤ STATE }
+    requires sound { IsSayable flush.now view state.now member }
+    ensures { OnOk result (Grows who.now.group out.old out.new (instructing who.now.address flush.now view state.now member ∷ []) []) }
+{
+    let cut = cut_text(who.alloc, flush, &flush.previous(&member))?;
+    let together = flush.together(who.alloc, &member)?;
+    let install = instruction(flush, view, &member, &together, &cut, state);
+    who.put(member, Body::Install(install), out)
+}
+
+// Puts out the INSTALLs for some of the list, in order.
+fn instruct_all(
+    who: &Identity,
+    flush: &Flush,
+    view: ViewId,
+    state: &[u8],
+    members: &[Address],
+    out: &mut Output,
+) -> Result<(), AllocError>
+    requires list { view_refusal flush.now.proposal flush.now.members ≡ None }
+    requires short { length state.now ≤ STATE }
+    requires sound { AllByRecursion (IsSayable flush.now view state.now) members.now }
+    ensures { OnOk result (Grows who.now.group out.old out.new (map (instructing who.now.address flush.now view state.now) members.now) []) }
+{
+    match members.split_first() {
+        None => Ok(()),
+        Some((first, rest)) => {
+            instruct(who, flush, view, state, *first, out)?;
+            instruct_all(who, flush, view, state, rest, out)?;
+            Ok(())
+        }
+    }
+}
+
+// What is left of entries behind the first so many.
+pub(crate) fn behind<'a, 'b>(entries: &'b [Entry<'a>], skip: usize) -> &'b [Entry<'a>]
+    ensures { result.now ≡ drop skip entries.now }
+{
+    &entries[skip.min(entries.len())..]
+}
+
+// How many of these are its own.
+pub(crate) fn own_of(me: &Address, entries: &[Entry<'_>]) -> usize
+    ensures value { result ≡ own_of me.now entries.now }
+    ensures few { result ≤ length entries.now }
+{
+    match entries.split_first() {
+        None => 0,
+        Some((first, rest)) => {
+            let others = own_of(me, rest);
+            if first.sender == *me {
+                others + 1
+            } else {
+                others
+            }
+        }
+    }
+}
+
+// Delivers to the creator of a flush what it lacks of its own view's cut. The answer is how many of these are its own.
+fn deliver_cut<R: Receiver>(
+    who: &Identity,
+    flush: &Flush,
+    traffic: &Traffic,
+    receiver: &mut R,
+    out: &mut Output,
+) -> Result<usize, AllocError>
+    ensures state { OnOk result (receiver.new ≡ applied R.apply receiver.old (told_by flush.now traffic.now)) }
+    ensures out { OnOk result (Grows who.now.group out.old out.new [] (map (delivery who.now.address (view_of traffic.now).id) (told_by flush.now traffic.now))) }
+    ensures own { IfOk result (λ n. n ≡ own_of who.now.address (told_by flush.now traffic.now)) }
+{
+    let view = traffic.view().id();
+    let cut = flush.cut(who.alloc, &Some(view))?;
+    let skip = traffic.delivered().get().saturating_sub(cut.base.get()) as usize;
+    let lacking = behind(cut.entries.as_slice(), skip);
+    deliver_all(who, view, lacking, receiver, out)?;
+    Ok(own_of(&who.address, lacking))
+}
+
+// Tells the creator of a flush the view that it proposed.
+fn tell_view(
+    who: &Identity,
+    flush: &Flush,
+    traffic: Traffic,
+    own: usize,
+    out: &mut Output,
+) -> Result<(), AllocError>
+    requires list { view_refusal flush.now.proposal flush.now.members ≡ None }
+    ensures { OnOk result (Grows who.now.group out.old out.new [] (going who.now.address flush.now traffic own ∷ [])) }
+{
+    let previous = traffic.view().id();
+    let members = flush.members().copied(who.alloc)?;
+    let view = View::new(flush.proposal(), members).unwrap();
+    let together = flush.together(who.alloc, &who.address)?;
+    let handed_back = traffic.handed_back(own)?;
+    who.record(
+        Happening::Installed(Installed {
+            member: who.address,
+            previous: Some(previous),
+            view,
+            together,
+            handed_back,
+            given: None,
+        }),
+        out,
+    )
+}
+
+// Finishes a flush to which all of its list have reported: what its creator is delivered and told, and what it says to the others.
+pub(crate) fn finish<R: Receiver>(
+    who: &Identity,
+    flush: &Flush,
+    traffic: Traffic,
+    receiver: &mut R,
+    out: &mut Output,
+) -> Result<(), AllocError>
+    requires list { view_refusal flush.now.proposal flush.now.members ≡ None }
+    requires sound { AllByRecursion (IsSayable flush.now (view_of traffic).id (R.encode (finished_state R.apply flush.now traffic receiver.old))) (others_of who.now.address flush.now.members) }
+    ensures state { OnOk result (receiver.new ≡ finished_state R.apply flush.now traffic receiver.old) }
+    ensures out { OnOk result (Grows who.now.group out.old out.new (finish_packets who.now.address flush.now traffic (R.encode (finished_state R.apply flush.now traffic receiver.old))) (finish_events who.now.address flush.now traffic)) }
+{
+    let view = traffic.view().id();
+    let own = deliver_cut(who, flush, &traffic, receiver, out)?;
+    let mut state = Vec::new(who.alloc);
+    receiver.get_state(&mut state)?;
+    let others = others_of(who.alloc, &who.address, flush.members().as_slice())?;
+    tell_view(who, flush, traffic, own, out)?;
+    instruct_all(who, flush, view, state.as_slice(), others.as_slice(), out)?;
+    Ok(())
+}

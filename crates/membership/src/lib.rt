@@ -1,0 +1,17 @@
+//! How a member changes its view: it promises proposals, begins flushes, reports, finishes them and enters views (docs/PROTOCOL.md, "Promise", "Flush",
+//! "Install", "State transfer").
+#![tactic(auto)]
+
+mod beginning;
+mod entering;
+mod finishing;
+mod installing;
+mod life;
+mod promising;
+mod proposing;
+mod reporting;
+mod stop;
+mod taking;
+
+pub use life::Life;
+pub use stop::Stop;

@@ -1,0 +1,137 @@
+//! What a member has to propose by itself, and that it does.
+
+ghost use Rattle.std.specs.Prelude.{◌≡◌, OnOk, IfOk, None, true, MatchOption};
+ghost use Rattle.std.specs.Option.{option_map_or, option_and_then};
+ghost use Rattle.member_acts.specs.Decisions.{promised_counter, is_due, proposal_after, due_at, due_proposal};
+ghost use Rattle.membership.specs.Lives.{core_of, IsLife, leads_in, anew_proposal};
+ghost use Rattle.membership.specs.Changes.{ProposesIf, BeginsAnew};
+
+use crate::Life;
+use address::ViewId;
+use candidates::candidates_are_a_view;
+use output::{Identity, Output};
+use state_transfer::Receiver;
+use std::alloc::AllocError;
+use view::View;
+use view_install::Promise;
+use wire::Roster;
+
+// The counter of what is promised, 0 for nothing.
+fn promised_counter(promise: &Promise) -> u64
+    ensures { result ≡ promised_counter promise.now.proposal }
+{
+    match promise.proposal() {
+        None => 0,
+        Some(proposal) => proposal.id().counter(),
+    }
+}
+
+impl<R: Receiver> Life<R> {
+    // Whether it has to begin a flush, if it leads its view.
+    fn is_due(&self, who: &Identity, view: &View) -> Result<bool, AllocError>
+        ensures { IfOk result (λ b. b ≡ is_due (core_of who.now.address self.now) self.now.notes view.now) }
+    {
+        if self.promise.is_installed() {
+            return self.notes.is_changed(who.alloc, &who.address, view);
+        }
+        match &self.flush {
+            Some(flush) => Ok(self.notes.is_broken(flush.members().as_slice())),
+            None => match self.promise.proposal() {
+                None => Ok(false),
+                Some(proposal) => Ok(self.notes.is_abandoned(&proposal.id().creator())),
+            },
+        }
+    }
+
+    // Its next proposal, to its candidates; none where the counters are used up.
+    fn proposal_after(&self, who: &Identity, view: &View) -> Result<Option<Roster>, AllocError>
+        requires life { IsLife who.now.group who.now.address self.now }
+        requires leads { leads_in who.now.address view.now self.now.notes ≡ true }
+        ensures { IfOk result (λ w. w ≡ proposal_after (core_of who.now.address self.now) self.now.notes view.now) }
+    {
+        let promised = promised_counter(&self.promise);
+        let Some(counter) = self.notes.next_counter(promised) else {
+            return Ok(None);
+        };
+        let id = ViewId::new(counter, who.address).unwrap();
+        let list = self.notes.candidates(who.alloc, &who.address, view)?;
+        candidates_are_a_view();
+        Ok(Some(Roster::new(id, list.as_slice()).unwrap()))
+    }
+
+    // What it has to propose in its view.
+    fn due_at(&self, who: &Identity, view: &View) -> Result<Option<Roster>, AllocError>
+        requires life { IsLife who.now.group who.now.address self.now }
+        ensures { IfOk result (λ w. w ≡ due_at (core_of who.now.address self.now) self.now.notes view.now) }
+    {
+        if !self.notes.leads(view, &who.address) {
+            return Ok(None);
+        }
+        if !self.is_due(who, view)? {
+            return Ok(None);
+        }
+        let proposal = self.proposal_after(who, view)?;
+        Ok(proposal)
+    }
+
+    // What it has to propose.
+    fn due(&self, who: &Identity) -> Result<Option<Roster>, AllocError>
+        requires life { IsLife who.now.group who.now.address self.now }
+        ensures { IfOk result (λ w. w ≡ due_proposal (core_of who.now.address self.now) self.now.notes) }
+    {
+        match &self.traffic {
+            None => Ok(None),
+            Some(traffic) => {
+                let due = self.due_at(who, traffic.view())?;
+                Ok(due)
+            }
+        }
+    }
+
+    // Begins what is due, if anything is.
+    pub(crate) fn propose(&mut self, who: &Identity, out: &mut Output) -> Result<(), AllocError>
+        requires life { IsLife who.now.group who.now.address self.old }
+        ensures life { OnOk result (IsLife who.now.group who.now.address self.new) }
+        ensures proposes { OnOk result (ProposesIf who.now.group who.now.address self.old self.new out.old out.new) }
+    {
+        match self.due(who)? {
+            None => Ok(()),
+            Some(proposal) => {
+                self.begin(who, &proposal, out)?;
+                Ok(())
+            }
+        }
+    }
+
+    // What it proposes anew while its own flush goes on.
+    fn anew(&self, who: &Identity) -> Result<Option<Roster>, AllocError>
+        requires life { IsLife who.now.group who.now.address self.now }
+        ensures { IfOk result (λ w. w ≡ anew_proposal who.now.address self.now) }
+    {
+        match &self.traffic {
+            None => Ok(None),
+            Some(traffic) => {
+                if self.flush.is_none() {
+                    return Ok(None);
+                }
+                let proposal = self.proposal_after(who, traffic.view())?;
+                Ok(proposal)
+            }
+        }
+    }
+
+    // Begins its own flush anew, with its candidates, where the counters are not used up.
+    pub(crate) fn begin_anew(&mut self, who: &Identity, out: &mut Output) -> Result<(), AllocError>
+        requires life { IsLife who.now.group who.now.address self.old }
+        ensures life { OnOk result (IsLife who.now.group who.now.address self.new) }
+        ensures begins { OnOk result (BeginsAnew who.now.group who.now.address self.old self.new out.old out.new) }
+    {
+        match self.anew(who)? {
+            None => Ok(()),
+            Some(proposal) => {
+                self.begin(who, &proposal, out)?;
+                Ok(())
+            }
+        }
+    }
+}

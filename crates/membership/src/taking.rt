@@ -1,0 +1,148 @@
+//! A member takes FLUSH, BEHIND and INSTALL packets, and suspicions.
+
+ghost use Rattle.std.specs.Prelude.{◌≡◌, ◌≤◌, OnOk, Ok, Err, true, false};
+ghost use Rattle.address.specs.Ids.{same_address};
+ghost use Rattle.view_install.specs.Promises.{offered, may_install, same_view};
+ghost use Rattle.member_acts.specs.Decisions.{is_readable, is_entry};
+ghost use Rattle.membership.specs.declared.stop.Stop.TheVariants as stop;
+ghost use Rattle.membership.specs.Lives.{core_of, is_connected, IsLife};
+ghost use Rattle.membership.specs.Changes.{StaysAs, is_behind, is_ignored_offer, TakesFlush, TakesInstall, TakesBehind, TakesSuspicion};
+
+use crate::entering::is_fitting;
+use crate::{Life, Stop};
+use address::Address;
+use output::{Identity, Output};
+use packet_values::Number;
+use state_transfer::Receiver;
+use std::alloc::AllocError;
+use view_install::{OfferAnswer, Promise};
+use wire::{Body, Install, Roster};
+
+impl<R: Receiver> Life<R> {
+    // Says to who proposed less than what it promised how far it is.
+    fn answer_behind(
+        &self,
+        who: &Identity,
+        proposal: &Roster,
+        out: &mut Output,
+    ) -> Result<(), AllocError>
+        requires { is_behind (offered proposal.now self.now.promise) ≡ true }
+        ensures { OnOk result (TakesFlush who.now.group who.now.address proposal.now self.now self.now out.old out.new) }
+    {
+        let promised = self.promise.proposal().unwrap();
+        let counter = Number::new(promised.id().counter()).unwrap();
+        let proposal = proposal.id();
+        who.put(proposal.creator(), Body::Behind { proposal, counter }, out)?;
+        Ok(())
+    }
+
+    /// Takes a FLUSH of the address that proposes, where it is connected. One that is greater than what it promised, or that it promised and did not
+    /// install, is promised and reported for; one that is less is answered with the promised counter; any other is ignored. After an error for want
+    /// of memory nothing is said of the member.
+    pub fn take_flush(
+        &mut self,
+        who: &Identity,
+        proposal: &Roster,
+        out: &mut Output,
+    ) -> Result<(), AllocError>
+        requires life { IsLife who.now.group who.now.address self.old }
+        requires connected { is_connected self.old ≡ true }
+        requires other { same_address proposal.now.id.creator who.now.address ≡ false }
+        ensures life { OnOk result (IsLife who.now.group who.now.address self.new) }
+        ensures takes { OnOk result (TakesFlush who.now.group who.now.address proposal.now self.old self.new out.old out.new) }
+        ensures ignored { is_ignored_offer (offered proposal.now self.old.promise) ≡ true → (result ≡ Ok tt) × StaysAs self.old self.new out.old out.new }
+    {
+        match self.promise.answer_to(proposal) {
+            OfferAnswer::Accept => {
+                self.promise(who, proposal, out)?;
+                Ok(())
+            }
+            OfferAnswer::Behind(_) => {
+                self.answer_behind(who, proposal, out)?;
+                Ok(())
+            }
+            OfferAnswer::Ignore => Ok(()),
+        }
+    }
+
+    /// Takes a BEHIND for its own proposal: it has heard of the counter, and begins anew. After an error for want of memory nothing is said of the member.
+    pub fn take_behind(
+        &mut self,
+        who: &Identity,
+        counter: Number,
+        out: &mut Output,
+    ) -> Result<(), AllocError>
+        requires life { IsLife who.now.group who.now.address self.old }
+        ensures life { OnOk result (IsLife who.now.group who.now.address self.new) }
+        ensures takes { OnOk result (TakesBehind R.apply R.encode who.now.group who.now.address counter self.old self.new out.old out.new) }
+    {
+        self.notes.hear(counter.get());
+        self.begin_anew(who, out)?;
+        self.go_on(who, out)?;
+        Ok(())
+    }
+
+    /// Suspects another address, and begins what is due then. After an error for want of memory nothing is said of the member.
+    pub fn take_suspicion(
+        &mut self,
+        who: &Identity,
+        address: Address,
+        out: &mut Output,
+    ) -> Result<(), AllocError>
+        requires life { IsLife who.now.group who.now.address self.old }
+        requires other { same_address address who.now.address ≡ false }
+        ensures life { OnOk result (IsLife who.now.group who.now.address self.new) }
+        ensures takes { OnOk result (TakesSuspicion R.apply R.encode who.now.group who.now.address address self.old self.new out.old out.new) }
+    {
+        self.notes.suspect(address)?;
+        self.regroup(who, out)?;
+        Ok(())
+    }
+
+    /// Whether it would go into a view by an INSTALL from this address. Takes no memory.
+    pub fn would_enter(&self, me: &Address, source: &Address, install: &Install<'_>) -> bool
+        ensures { result ≡ is_entry (core_of me.now self.now) source.now install.now }
+    {
+        *source == install.view().id().creator()
+            && may_install(&self.promise, install.view())
+            && is_fitting(&self.traffic, install)
+    }
+
+    /// Takes an INSTALL: it goes into the view, where it would by this one; else the INSTALL is ignored. After an error nothing is said of the member.
+    pub fn take_install(
+        &mut self,
+        who: &Identity,
+        source: Address,
+        install: &Install<'_>,
+        out: &mut Output,
+    ) -> Result<(), Stop>
+        requires life { IsLife who.now.group who.now.address self.old }
+        ensures life { OnOk result (IsLife who.now.group who.now.address self.new) }
+        ensures takes { OnOk result (TakesInstall R.apply R.decode who.now.group who.now.address source install.now self.old self.new out.old out.new) }
+        ensures unreadable { result ≡ Err stop.Unreadable → (is_entry (core_of who.now.address self.old) source install.now ≡ true) × (is_readable R.decode install.now.state ≡ false) }
+        ensures ignored { is_entry (core_of who.now.address self.old) source install.now ≡ false → (result ≡ Ok tt) × StaysAs self.old self.new out.old out.new }
+    {
+        if !self.would_enter(&who.address, &source, install) {
+            return Ok(());
+        }
+        let traffic = self.traffic.take();
+        self.enter(who, traffic, install, out)?;
+        Ok(())
+    }
+}
+
+// Whether a view may be installed.
+fn may_install(promise: &Promise, view: &Roster) -> bool
+    ensures { result ≡ may_install view.now promise.now }
+{
+    match promise.proposal() {
+        None => false,
+        Some(promised) => is_same(view, promised) && !promise.is_installed(),
+    }
+}
+
+fn is_same(one: &Roster, other: &Roster) -> bool
+    ensures { result ≡ same_view one.now other.now }
+{
+    one.id() == other.id() && one.members().as_slice() == other.members().as_slice()
+}

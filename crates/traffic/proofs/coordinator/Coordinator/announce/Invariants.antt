@@ -1,0 +1,9 @@
+use Rattle.std.proofs.Common.{map, take, []}
+use Rattle.wire.specs.declared.packet.Body.TheVariants as bodies
+use Rattle.agreement.specs.Acts.{packet, others_of}
+use Rattle.output.specs.Outputs.{Grows}
+use Rattle.traffic.proofs.coordinator.Coordinator.announce.Given as goal
+
+abbrev pub invariant-loop-member : goal.invariant-loop-member
+invariant-loop-member l =
+    Grows l.fn.who.group l.initial.out l.out (map (packet l.fn.who.address (bodies.Order l.fn.self.view.id l.fn.place l.fn.entry)) (others_of l.fn.who.address (take l.member-index l.members))) []

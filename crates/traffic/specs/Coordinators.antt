@@ -1,0 +1,49 @@
+-- What holds of the coordinator of a view, and what it does.
+use Rattle.std.specs.Prelude.{◌≡◌, ℕ, ◌<◌, true, List, [], ◌∷◌, None}
+use Rattle.address.specs.Ids.{Address, same_address}
+use Rattle.packet_values.specs.Values.{Entry, held_at}
+use Rattle.nak_stream.specs.Windows.{taken, delivering, collected}
+use Rattle.sequencer.specs.Forwards.{pushed}
+use Rattle.sequencer.specs.Queues.{ordering, forwarded}
+use Rattle.stability.specs.Counts.{members_of, noted, stable_count}
+use Rattle.agreement.specs.Acts.{delivery}
+use Rattle.traffic.specs.declared.coordinator.Coordinator.{Coordinator}
+use Rattle.traffic.specs.Traffics.{senders_of, told_to}
+use Rattle.output.specs.declared.output.Output.{Output}
+use Rattle.output.specs.Outputs.{Grows}
+
+-- ---- what holds of it
+
+pub record IsCoordinator (p : Address) (m : Coordinator) : Type 0 where
+  pub coordinator : same_address p m.view.id.creator ≡ true
+  pub heard : members_of m.acks ≡ m.view.members
+  pub senders : senders_of m.orderer.queues ≡ m.view.members
+  pub ordered : m.orderer.ordered ≡ m.window.delivered
+  pub top : (g : ℕ) → m.window.delivered < g → held_at g m.window.held ≡ None
+
+-- ---- what it does
+
+-- a message was offered to be ordered
+abbrev pub queued : Address → ℕ → List ℕ → Coordinator → Coordinator
+queued p n x m = record m { orderer = forwarded p n x m.orderer }
+
+-- what it keeps after a message was ordered and delivered
+abbrev pub after_one : Address → ℕ × Entry → Coordinator → Coordinator
+after_one p n m = record m {
+  window = delivering (taken n.0 n.1 m.window);
+  forwards = told_to p n.1 m.forwards;
+  orderer = ordering m.window.stable m.orderer;
+}
+
+pub record OrdersOne {S : Type 0} (apply : S → Address → List ℕ → S) (p : Address) (group : List ℕ) (n : ℕ × Entry) (old : Coordinator) (s : S) (out : Output) (new : Coordinator) (t : S) (more : Output) : Type 0 where
+  pub now : new ≡ after_one p n old
+  pub state : t ≡ apply s n.1.sender n.1.payload
+  pub grows : Grows group out more [] (delivery p old.view.id n.1 ∷ [])
+
+-- an acknowledgement was taken, and what is stable let go of
+abbrev pub acknowledged : Address → ℕ → Coordinator → Coordinator
+acknowledged p n m = record m { acks = noted p n m.acks; window = collected (stable_count (noted p n m.acks)) m.window }
+
+-- a message of its own is outstanding
+abbrev pub pushing : List ℕ → Coordinator → Coordinator
+pushing x m = record m { forwards = pushed x m.forwards }

@@ -1,0 +1,28 @@
+-- What a member of a view other than its coordinator does.
+use Rattle.std.specs.Prelude.{◌≡◌, ℕ, ◌+◌, List, [], ◌∷◌, Option, Some}
+use Rattle.address.specs.Ids.{Address}
+use Rattle.view.specs.Members.{View}
+use Rattle.packet_values.specs.Values.{Entry}
+use Rattle.nak_stream.specs.Windows.{taken, collected}
+use Rattle.agreement.specs.Histories.{Posted}
+use Rattle.agreement.specs.Acts.{delivery, packet}
+use Rattle.wire.specs.declared.packet.Body.TheVariants as bodies
+use Rattle.traffic.specs.declared.other.Other.{Other}
+use Rattle.output.specs.declared.output.Output.{Output}
+use Rattle.output.specs.Outputs.{Grows}
+use Rattle.traffic.specs.Traffics.{told_to}
+
+-- it delivers the next message that it holds
+pub record TellsOne {S : Type 0} (apply : S → Address → List ℕ → S) (p : Address) (group : List ℕ) (e : Entry) (old : Other) (s : S) (out : Output) (new : Other) (t : S) (more : Output) : Type 0 where
+  pub now : new ≡ record old { window = record (old.window) { delivered = old.window.delivered + 1 }; forwards = told_to p e old.forwards }
+  pub state : t ≡ apply s e.sender e.payload
+  pub grows : Grows group out more [] (delivery p old.view.id e ∷ [])
+
+abbrev pub collected_to : ℕ → Other → Other
+collected_to t m = record m { window = collected t m.window }
+
+abbrev pub held_too : ℕ → Entry → Other → Other
+held_too g e m = record m { window = taken g e m.window }
+
+abbrev pub order_packet : Address → View → ℕ → Entry → Option Posted
+order_packet p v g e = Some (packet v.id.creator (bodies.Order v.id g e) p)

@@ -1,0 +1,104 @@
+-- What another member of a view must do, and has done, on an ORDER.
+use Rattle.std.specs.Prelude.{◌≡◌, ℕ, ◌+◌, ◌-◌, ◌<◌, ◌≤◌, Bool, List, [], ◌∷◌, ◌++◌, map, Option, None, Some, IsSome, MatchBool, nat_lt, ◌⊎◌, ◌||◌, zero, suc}
+use Rattle.std.specs.Option.{option_map_or}
+use Rattle.trace_props.specs.declared.happening.Numbered.{Numbered}
+use Rattle.address.specs.Ids.{Address}
+use Rattle.view.specs.Members.{View}
+use Rattle.packet_values.specs.Values.{Entry, held_at, Missing, Progress}
+use Rattle.wire.specs.declared.packet.Body.TheVariants as bodies
+use Rattle.nak_stream.specs.Windows.{WindowModel, offers, collected, IsLeastGap, IsGreatestGap}
+use Rattle.agreement.specs.Histories.{Posted}
+use Rattle.agreement.specs.Cores.{applied}
+use Rattle.agreement.specs.Acts.{delivery, packet}
+use Rattle.traffic.specs.declared.other.Other.{Other}
+use Rattle.output.specs.declared.output.Output.{Output}
+use Rattle.trace_props.specs.declared.happening.Happening.TheVariants.{Sent}
+use Rattle.sequencer.specs.Forwards.{pushed}
+use Rattle.traffic.specs.Traffics.{told_to}
+use Rattle.traffic.specs.Goings.{sending}
+use Rattle.traffic.specs.Others.{collected_to, held_too}
+use Rattle.output.specs.Outputs.{Grows}
+
+abbrev pub told_next : Address → Entry → Other → Other
+told_next p e m = record m { window = record (m.window) { delivered = m.window.delivered + 1 }; forwards = told_to p e m.forwards }
+
+-- it delivered these messages, each where it was held at the next number
+pub data TellsTo (p : Address) : Other → List Entry → Other → Type 0 where
+  Starts : (m : Other) → TellsTo p m [] m
+  Tells : (m n : Other) (entries : List Entry) (e : Entry) → TellsTo p m entries n → held_at (n.window.delivered + 1) n.window.held ≡ Some e → TellsTo p m (entries ++ e ∷ []) (told_next p e n)
+
+pub record Telling {S : Type 0} (apply : S → Address → List ℕ → S) (p : Address) (group : List ℕ) (old : Other) (s : S) (out : Output) (new : Other) (t : S) (more : Output) : Type 0 where
+  pub entries : List Entry
+  pub tells : TellsTo p old entries new
+  pub state : t ≡ applied apply s entries
+  pub grows : Grows group out more [] (map (delivery p old.view.id) entries)
+  pub view : new.view ≡ old.view
+
+-- all is held from the delivered count up to a number
+abbrev pub IsComplete : WindowModel → ℕ → Type 0
+IsComplete w highest = (g : ℕ) → w.delivered < g → g ≤ highest → IsSome (held_at g w.held)
+
+-- it asks for the least and the greatest number that it misses
+pub record Asks (p : Address) (group : List ℕ) (highest : ℕ) (m : Other) (out more : Output) : Type 0 where
+  pub missing : Missing
+  pub least : IsLeastGap m.window highest missing.first
+  pub greatest : IsGreatestGap m.window highest missing.last
+  pub grows : Grows group out more (packet p (bodies.Nak m.view.id missing) m.view.id.creator ∷ []) []
+
+abbrev pub AsksUpTo : Address → List ℕ → ℕ → Other → Output → Output → Type 0
+AsksUpTo p group highest m out more = Asks p group highest m out more ⊎ (IsComplete m.window highest × (more ≡ out))
+
+abbrev pub ack_of : Address → Other → Posted
+ack_of p m = packet p (bodies.Ack m.view.id m.window.delivered) m.view.id.creator
+
+-- one ACK where it has delivered more than before, else a NAK where the number was new
+abbrev pub AnswersOrder : Address → List ℕ → ℕ → Bool → ℕ → Other → Output → Output → Type 0
+AnswersOrder p group before new g m out more =
+    MatchBool (nat_lt before m.window.delivered) (Grows group out more (ack_of p m ∷ []) []) (MatchBool new (AsksUpTo p group g m out more) (more ≡ out))
+
+pub record TakesNear {S : Type 0} (apply : S → Address → List ℕ → S) (p : Address) (group : List ℕ) (g : ℕ) (e : Entry) (old : Other) (s : S) (out : Output) (new : Other) (t : S) (more : Output) : Type 0 where
+  pub between : Output
+  pub tells : Telling apply p group (held_too g e (collected_to (g - 32) old)) s out new t between
+  pub ready : held_at (new.window.delivered + 1) new.window.held ≡ None
+  pub answers : AnswersOrder p group old.window.delivered (offers g (collected (g - 32) old.window)) g new between more
+
+-- an ORDER too far ahead is ignored
+abbrev pub TakesOrder : {S : Type 0} → (S → Address → List ℕ → S) → Address → List ℕ → ℕ → Entry → Other → S → Output → Other → S → Output → Type 0
+TakesOrder apply p group g e old s out new t more =
+    MatchBool (nat_lt old.window.delivered (g - 32)) ((new ≡ old) × (t ≡ s) × (more ≡ out)) (TakesNear apply p group g e old s out new t more)
+
+-- ---- a STATUS
+
+abbrev pub status_packet : Address → View → Progress → Option Posted
+status_packet p v a = Some (packet v.id.creator (bodies.Status v.id a) p)
+
+-- ignored where it does not fit; else what is stable is let go of, and what is missing asked for
+abbrev pub TakesStatus : Address → List ℕ → Progress → Other → Output → Other → Output → Type 0
+TakesStatus p group a old out new more =
+    MatchBool (nat_lt old.window.delivered a.stable || nat_lt old.window.delivered (a.highest - 32)) ((new ≡ old) × (more ≡ out))
+    ((new ≡ collected_to a.stable old) × AsksUpTo p group a.highest new out more)
+
+-- ---- its own messages
+
+abbrev pub forward_of : Address → View → Numbered → Posted
+forward_of p v f = packet p (bodies.Forward v.id f.number f.payload) v.id.creator
+
+-- ---- a NAK: the ORDER of each held number from one on, that many numbers, rising
+
+abbrev pub orders_held : Address → View → Address → List (ℕ × Entry) → ℕ → ℕ → List Posted
+orders_held p v q held k zero = []
+orders_held p v q held k (suc n) = option_map_or (λ e. packet p (bodies.Order v.id k e) q ∷ []) (held_at k held) [] ++ orders_held p v q held (k + 1) n
+
+-- ---- a tick
+
+abbrev pub progress_of : WindowModel → Progress
+progress_of w = record { highest = w.delivered; stable = w.stable }
+
+-- ---- it sends
+
+abbrev pub other_pushing : List ℕ → Other → Other
+other_pushing x m = record m { forwards = pushed x m.forwards }
+
+abbrev pub SendsForward : Address → List ℕ → List ℕ → Other → Output → Output → Type 0
+SendsForward p group x old out more =
+    Grows group out more (forward_of p old.view (record { number = old.forwards.sent + 1; payload = x }) ∷ []) (Sent (sending p old.view.id (old.forwards.sent + 1) x) ∷ [])

@@ -1,0 +1,37 @@
+ghost use Rattle.std.specs.Prelude.{◌≡◌, IfOk};
+ghost use Rattle.traffic.specs.Traffics.{fresh_coordinator};
+
+use nak_stream::Window;
+use sequencer::{Forwards, Orderer};
+use stability::Acks;
+use std::alloc::{AllocError, Global};
+use view::View;
+
+/// What the coordinator of a view keeps of it: the view, the window of its messages, its own messages that are outstanding, what each member
+/// acknowledged, and what waits to be ordered.
+#[derive(Debug, Drop)]
+pub struct Coordinator {
+    pub view: View,
+    pub window: Window,
+    pub forwards: Forwards,
+    pub acks: Acks,
+    pub orderer: Orderer,
+}
+
+impl Coordinator {
+    /// In a new view: nothing was sent, ordered or acknowledged. An error comes for want of memory.
+    pub fn fresh(alloc: Global, view: View) -> Result<Coordinator, AllocError>
+        ensures { IfOk result (λ m. m ≡ fresh_coordinator view) }
+    {
+        let window = Window::new(alloc)?;
+        let acks = Acks::new(alloc, &view)?;
+        let orderer = Orderer::new(alloc, &view)?;
+        Ok(Coordinator {
+            view,
+            window,
+            forwards: Forwards::new(alloc),
+            acks,
+            orderer,
+        })
+    }
+}

@@ -1,0 +1,51 @@
+//! A message is delivered.
+
+ghost use Rattle.std.specs.Prelude.{◌≡◌, [], ◌∷◌, IfOk, OnOk};
+ghost use Rattle.agreement.specs.Acts.{delivery};
+ghost use Rattle.output.specs.Outputs.{Grows};
+ghost use Rattle.traffic.specs.Traffics.{told_to};
+
+use address::ViewId;
+use nak_stream::Entry;
+use output::{Identity, Output};
+use sequencer::Forwards;
+use state_transfer::Receiver;
+use std::alloc::AllocError;
+use trace_props::{Bytes, Delivery, Happening, Message};
+
+// The event of a message that is delivered.
+fn delivery(who: &Identity, view: ViewId, entry: &Entry) -> Result<Happening, AllocError>
+    ensures { IfOk result (λ h. h ≡ delivery who.now.address view entry.now) }
+{
+    Ok(Happening::Delivered(Delivery {
+        member: who.address,
+        view,
+        message: Message {
+            sender: entry.sender,
+            number: entry.number.get(),
+            payload: Bytes::from_slice(who.alloc, entry.payload.lent().as_slice())?,
+        },
+    }))
+}
+
+/// Delivers a message: to the receiver, and as an event. An own one is outstanding no longer.
+pub(crate) fn deliver<R: Receiver>(
+    who: &Identity,
+    view: ViewId,
+    entry: &Entry,
+    forwards: &mut Forwards,
+    receiver: &mut R,
+    out: &mut Output,
+) -> Result<(), AllocError>
+    ensures state { OnOk result (receiver.new ≡ R.apply receiver.old entry.now.sender entry.now.payload) }
+    ensures happens { OnOk result (Grows who.now.group out.old out.new [] (delivery who.now.address view entry.now ∷ [])) }
+    ensures left { OnOk result (forwards.new ≡ told_to who.now.address entry.now forwards.old) }
+{
+    receiver.receive(entry.sender, entry.payload.lent().as_slice())?;
+    let delivery = delivery(who, view, entry)?;
+    who.record(delivery, out)?;
+    if entry.sender == who.address {
+        forwards.told();
+    }
+    Ok(())
+}

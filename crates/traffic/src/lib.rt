@@ -1,0 +1,16 @@
+//! What a member keeps of its view, and what it does with the view's messages: the coordinator orders them, the others take them in its order
+//! (docs/PROTOCOL.md, "Window", "Stability", "Order").
+#![tactic(auto)]
+
+mod answering;
+mod coordinator;
+mod delivering;
+mod ordering;
+mod other;
+mod sending;
+mod taking;
+mod traffic;
+
+pub use coordinator::Coordinator;
+pub use other::Other;
+pub use traffic::Traffic;

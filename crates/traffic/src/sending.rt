@@ -1,0 +1,112 @@
+//! A member sends a message of its own: what is the same for each, and the rule of the coordinator.
+
+ghost use Rattle.std.specs.Prelude.{◌≡◌, ◌+◌, ◌≤◌, length, Option, Some, None, true, [], ◌∷◌, OnOk, IfOk};
+ghost use Rattle.trace_props.specs.declared.happening.Happening.TheVariants.{Sent};
+ghost use Rattle.agreement.specs.Histories.{Posted};
+ghost use Rattle.sequencer.specs.Forwards.{pushed, push_refusal};
+ghost use Rattle.sequencer.specs.Queues.{next_ordered, may_order};
+ghost use Rattle.packet_values.specs.declared.limits.TheConstants.{PAYLOAD};
+ghost use Rattle.output.specs.Outputs.{Grows};
+ghost use Rattle.traffic.specs.Coordinators.{IsCoordinator, pushing};
+ghost use Rattle.traffic.specs.Goings.{CoordinatorGoes, sending};
+ghost use Rattle.traffic.specs.Turns.{IsSettled, SendsOrdering, TellsAtOnce, IsFewMore};
+
+use crate::Coordinator;
+use address::ViewId;
+use nak_stream::KeptPayload;
+use output::{Identity, Output};
+use packet_values::{Number, Payload};
+use sequencer::Forwards;
+use state_transfer::Receiver;
+use std::alloc::AllocError;
+use trace_props::{Bytes, Happening, Numbered, Sending};
+
+// The event of a message that is sent.
+fn sending(
+    who: &Identity,
+    view: ViewId,
+    number: Number,
+    payload: &Payload<'_>,
+) -> Result<Happening, AllocError>
+    ensures { IfOk result (λ h. h ≡ Sent (sending who.now.address view number payload.now)) }
+{
+    Ok(Happening::Sent(Sending {
+        member: who.address,
+        view,
+        message: Numbered {
+            number: number.get(),
+            payload: Bytes::from_slice(who.alloc, payload.as_slice())?,
+        },
+    }))
+}
+
+/// Sends a message of the member's own: it is outstanding, and the event is recorded. Answers its number.
+pub(crate) fn say(
+    who: &Identity,
+    view: ViewId,
+    payload: &Payload<'_>,
+    forwards: &mut Forwards,
+    out: &mut Output,
+) -> Result<Number, AllocError>
+    requires { push_refusal forwards.old ≡ None }
+    ensures number { IfOk result (λ n. n ≡ forwards.old.sent + 1) }
+    ensures now { OnOk result (forwards.new ≡ pushed payload.now forwards.old) }
+    ensures happens { OnOk result (Grows who.now.group out.old out.new [] (Sent (sending who.now.address view (forwards.old.sent + 1) payload.now) ∷ [])) }
+    ensures short { OnOk result (length payload.now ≤ PAYLOAD) }
+{
+    let _bytes = payload.as_slice();
+    let kept = KeptPayload::copy_of(who.alloc, payload)?;
+    let number = match forwards.push(kept) {
+        Ok(number) => number,
+        Err(_) => return Err(AllocError),
+    };
+    let sent = sending(who, view, number, payload)?;
+    who.record(sent, out)?;
+    Ok(number)
+}
+
+impl Coordinator {
+    // A message of its own is sent: it is outstanding, and the event is recorded.
+    fn say(
+        &mut self,
+        who: &Identity,
+        payload: &Payload<'_>,
+        out: &mut Output,
+    ) -> Result<Number, AllocError>
+        requires { push_refusal self.old.forwards ≡ None }
+        ensures number { IfOk result (λ n. n ≡ self.old.forwards.sent + 1) }
+        ensures now { OnOk result (self.new ≡ pushing payload.now self.old) }
+        ensures happens { OnOk result (Grows who.now.group out.old out.new [] (Sent (sending who.now.address self.old.view.id (self.old.forwards.sent + 1) payload.now) ∷ [])) }
+        ensures short { OnOk result (length payload.now ≤ PAYLOAD) }
+    {
+        let number = say(who, self.view.id(), payload, &mut self.forwards, out)?;
+        Ok(number)
+    }
+
+    /// Sends a message: it waits, and all is ordered that may be; where one more may be ordered it is delivered at once. After an error for want of memory
+    /// nothing is said of the member.
+    pub fn send<R: Receiver>(
+        &mut self,
+        who: &Identity,
+        payload: &Payload<'_>,
+        receiver: &mut R,
+        out: &mut Output,
+    ) -> Result<(), AllocError>
+        requires coordinator { IsCoordinator who.now.address self.old }
+        requires free { push_refusal self.old.forwards ≡ None }
+        requires settled { IsSettled who.now.address self.old }
+        requires rested { next_ordered self.old.window.stable self.old.orderer ≡ None }
+        ensures goes { OnOk result ((came : Option Posted) → CoordinatorGoes R.apply R.encode R.decode came who.now.address who.now.group self.old receiver.old out.old self.new receiver.new out.new) }
+        ensures done { OnOk result (next_ordered self.new.window.stable self.new.orderer ≡ None) }
+        ensures orders { OnOk result (SendsOrdering R.apply who.now.address who.now.group payload.now self.old receiver.old out.old self.new receiver.new out.new) }
+        ensures prompt { OnOk result (may_order self.old.window.stable self.old.orderer ≡ true → TellsAtOnce who.now.address payload.now self.old out.old out.new) }
+        ensures settled { OnOk result (IsSettled who.now.address self.new) }
+        ensures few { OnOk result (IsFewMore out.old out.new) }
+    {
+        let _rest = self.forwards.rest();
+        let number = self.say(who, payload, out)?;
+        self.queue(&who.address, number, payload)?;
+        self.order(who, receiver, out)?;
+        Ok(())
+    }
+}

@@ -1,0 +1,315 @@
+//! The rules of a member of a view other than its coordinator: what it takes, what it asks for, and what it sends.
+
+ghost use Rattle.std.specs.Prelude.{◌≡◌, ◌+◌, ◌-◌, ◌<◌, ◌≤◌, ◌^◌, ◌||◌, nat_lt, map, length, Option, Some, None, true, false, [], ◌∷◌, ◌++◌, OnOk, IfOk, MatchBool, MatchOption};
+ghost use Rattle.wire.specs.declared.packet.Body.TheVariants as bodies;
+ghost use Rattle.agreement.specs.Histories.{Posted};
+ghost use Rattle.agreement.specs.Acts.{packet};
+ghost use Rattle.address.specs.Ids.{same_address};
+ghost use Rattle.packet_values.specs.Values.{held_at};
+ghost use Rattle.nak_stream.specs.Windows.{offers, IsLeastGap, IsGreatestGap};
+ghost use Rattle.output.specs.Outputs.{Grows};
+ghost use Rattle.nak_stream.specs.declared.TheConstants.{REACH};
+ghost use Rattle.traffic.specs.Goings.{OtherGoes, sending};
+ghost use Rattle.traffic.specs.Turns.{IsFew};
+ghost use Rattle.traffic.specs.Others.{order_packet, TellsOne, collected_to, held_too};
+ghost use Rattle.traffic.specs.Takes.{Telling, TakesStatus, forward_of, ack_of, other_pushing, SendsForward, IsComplete, AsksUpTo, AnswersOrder, TakesOrder};
+ghost use Rattle.trace_props.specs.declared.happening.Happening.TheVariants.{Sent};
+ghost use Rattle.sequencer.specs.Forwards.{push_refusal};
+ghost use Rattle.packet_values.specs.declared.limits.TheConstants.{PAYLOAD};
+
+use crate::Other;
+use crate::delivering::deliver;
+use crate::sending::say;
+use nak_stream::REACH;
+use output::{Identity, Output};
+use packet_values::{Count, Entry as LentEntry, Missing, Number, Payload, Progress};
+use sequencer::Forward;
+use state_transfer::Receiver;
+use std::alloc::AllocError;
+use wire::Body;
+
+impl Other {
+    // Delivers the next message, where it is held. Answers whether it is.
+    fn deliver_one<R: Receiver>(
+        &mut self,
+        who: &Identity,
+        receiver: &mut R,
+        out: &mut Output,
+    ) -> Result<bool, AllocError>
+        ensures does { IfOk result (λ told. MatchOption (held_at (self.old.window.delivered + 1) self.old.window.held)
+            ((told ≡ false) × (self.new ≡ self.old) × (receiver.new ≡ receiver.old) × (out.new ≡ out.old))
+            (λ e. (told ≡ true) × TellsOne R.apply who.now.address who.now.group e self.old receiver.old out.old self.new receiver.new out.new)) }
+    {
+        match self.window.take_ready()? {
+            None => Ok(false),
+            Some(entry) => {
+                deliver(
+                    who,
+                    self.view.id(),
+                    &entry,
+                    &mut self.forwards,
+                    receiver,
+                    out,
+                )?;
+                Ok(true)
+            }
+        }
+    }
+
+    // Lets go of what is stable because a number so far ahead was ordered.
+    fn collect_below(&mut self, place: Number)
+        ensures { self.new ≡ collected_to (place - REACH) self.old }
+    {
+        self.window.collect(place.get().saturating_sub(REACH));
+    }
+
+    // Holds an entry at its number, where that is new and within reach. Answers whether it is.
+    fn hold(&mut self, place: Number, entry: &LentEntry<'_>) -> Result<bool, AllocError>
+        ensures answer { IfOk result (λ new. new ≡ offers place self.old.window) }
+        ensures now { OnOk result (self.new ≡ held_too place entry.now self.old) }
+    {
+        let new = self.window.accept(place.get(), entry)?;
+        Ok(new)
+    }
+
+    // Delivers all that is held in turn.
+    fn deliver_all<R: Receiver>(
+        &mut self,
+        who: &Identity,
+        receiver: &mut R,
+        out: &mut Output,
+    ) -> Result<(), AllocError>
+        requires other { same_address who.now.address self.old.view.id.creator ≡ false }
+        ensures goes { OnOk result ((came : Option Posted) → OtherGoes R.apply R.encode R.decode came who.now.address who.now.group self.old receiver.old out.old self.new receiver.new out.new) }
+        ensures done { OnOk result (held_at (self.new.window.delivered + 1) self.new.window.held ≡ None) }
+        ensures tells { OnOk result (Telling R.apply who.now.address who.now.group self.old receiver.old out.old self.new receiver.new out.new) }
+        ensures few { OnOk result (IsFew out.old out.new) }
+    {
+        self.window.kept();
+        loop {
+            self.window.kept();
+            if !self.deliver_one(who, receiver, out)? {
+                return Ok(());
+            }
+        }
+    }
+
+    // Puts out an ACK of how many were delivered here, to the coordinator.
+    fn acknowledge(&self, who: &Identity, out: &mut Output) -> Result<(), AllocError>
+        ensures { OnOk result (Grows who.now.group out.old out.new (packet who.now.address (bodies.Ack self.now.view.id self.now.window.delivered) self.now.view.id.creator ∷ []) []) }
+    {
+        self.window.kept();
+        let Some(delivered) = Count::new(self.window.delivered()) else {
+            unreachable!();
+        };
+        let view = self.view.id();
+        who.put(self.view.first(), Body::Ack { view, delivered }, out)
+    }
+
+    // The least and the greatest number that is missing, up to the highest.
+    fn missing(&self, highest: u64) -> Option<Missing>
+        requires { highest ≤ 2 ^ 62 }
+        ensures least { MatchOption result (IsComplete self.now.window highest) (λ m. IsLeastGap self.now.window highest m.first) }
+        ensures greatest { MatchOption result (IsComplete self.now.window highest) (λ m. IsGreatestGap self.now.window highest m.last) }
+    {
+        let ends = self.window.gaps(highest)?;
+        let Some(first) = Number::new(ends.0) else {
+            unreachable!();
+        };
+        let Some(last) = Number::new(ends.1) else {
+            unreachable!();
+        };
+        let Some(missing) = Missing::new(first, last) else {
+            unreachable!();
+        };
+        Some(missing)
+    }
+
+    // Puts out a NAK to the coordinator.
+    fn ask(&self, who: &Identity, missing: Missing, out: &mut Output) -> Result<(), AllocError>
+        ensures { OnOk result (Grows who.now.group out.old out.new (packet who.now.address (bodies.Nak self.now.view.id missing) self.now.view.id.creator ∷ []) []) }
+    {
+        let view = self.view.id();
+        who.put(self.view.first(), Body::Nak { view, missing }, out)
+    }
+
+    // Puts out a NAK of what is missing up to the highest, where something is.
+    fn ask_up_to(&self, who: &Identity, highest: u64, out: &mut Output) -> Result<(), AllocError>
+        requires { highest ≤ 2 ^ 62 }
+        ensures { OnOk result (AsksUpTo who.now.address who.now.group highest self.now out.old out.new) }
+    {
+        match self.missing(highest) {
+            None => Ok(()),
+            Some(missing) => {
+                self.ask(who, missing, out)?;
+                Ok(())
+            }
+        }
+    }
+
+    // Answers an ORDER that was taken: by an ACK where messages were delivered by it, else by a NAK where it was new and some are missing.
+    fn answer(
+        &self,
+        who: &Identity,
+        before: u64,
+        new: bool,
+        place: Number,
+        out: &mut Output,
+    ) -> Result<(), AllocError>
+        ensures { OnOk result (AnswersOrder who.now.address who.now.group before new place self.now out.old out.new) }
+    {
+        if before < self.window.delivered() {
+            self.acknowledge(who, out)?;
+            return Ok(());
+        }
+        if new {
+            self.ask_up_to(who, place.get(), out)?;
+        }
+        Ok(())
+    }
+
+    /// An ORDER of the coordinator: what lies 32 below it is stable, it is held where it is new, and what is held in turn is delivered. An ACK is put out
+    /// where messages were delivered, else a NAK where it was new. An ORDER more than 32 past what was delivered here is ignored. After an error for want of
+    /// memory nothing is said of the member.
+    pub fn order<R: Receiver>(
+        &mut self,
+        who: &Identity,
+        place: Number,
+        entry: &LentEntry<'_>,
+        receiver: &mut R,
+        out: &mut Output,
+    ) -> Result<(), AllocError>
+        requires other { same_address who.now.address self.old.view.id.creator ≡ false }
+        ensures goes { OnOk result (OtherGoes R.apply R.encode R.decode (order_packet who.now.address self.old.view place entry.now) who.now.address who.now.group self.old receiver.old out.old self.new receiver.new out.new) }
+        ensures takes { OnOk result (TakesOrder R.apply who.now.address who.now.group place entry.now self.old receiver.old out.old self.new receiver.new out.new) }
+        ensures few { OnOk result (IsFew out.old out.new) }
+    {
+        let before = self.window.delivered();
+        if before < place.get().saturating_sub(REACH) {
+            return Ok(());
+        }
+        self.collect_below(place);
+        let new = self.hold(place, entry)?;
+        self.deliver_all(who, receiver, out)?;
+        self.answer(who, before, new, place, out)?;
+        Ok(())
+    }
+
+    /// A STATUS of the coordinator: what is stable is let go of, and a NAK is put out where something is missing. A stable count above what was delivered here,
+    /// or a highest number more than 32 past it, is ignored. After an error for want of memory nothing is said of the output.
+    pub fn status(
+        &mut self,
+        who: &Identity,
+        progress: Progress,
+        out: &mut Output,
+    ) -> Result<(), AllocError>
+        ensures { OnOk result (TakesStatus who.now.address who.now.group progress self.old out.old self.new out.new) }
+    {
+        let delivered = self.window.delivered();
+        let stable = progress.stable().get();
+        let highest = progress.highest().get();
+        if delivered < stable || delivered < highest.saturating_sub(REACH) {
+            return Ok(());
+        }
+        self.window.collect(stable);
+        self.ask_up_to(who, highest, out)?;
+        Ok(())
+    }
+
+    /// A tick: its outstanding messages go to the coordinator again, by number, and then an ACK. After an error for want of memory nothing is said of the output.
+    pub fn tick(&self, who: &Identity, out: &mut Output) -> Result<(), AllocError>
+        ensures { OnOk result (Grows who.now.group out.old out.new (map (forward_of who.now.address self.now.view) self.now.forwards.rest ++ ack_of who.now.address self.now ∷ []) []) }
+    {
+        self.forward_all(who, self.forwards.rest(), out)?;
+        self.acknowledge(who, out)?;
+        Ok(())
+    }
+
+    // Puts out the FORWARD of one of its messages.
+    fn forward_one(
+        &self,
+        who: &Identity,
+        forward: &Forward,
+        out: &mut Output,
+    ) -> Result<(), AllocError>
+        ensures { OnOk result (Grows who.now.group out.old out.new (forward_of who.now.address self.now.view forward.now ∷ []) []) }
+    {
+        let view = self.view.id();
+        let number = forward.number;
+        let payload = forward.payload.lent();
+        who.put(
+            self.view.first(),
+            Body::Forward {
+                view,
+                number,
+                payload,
+            },
+            out,
+        )
+    }
+
+    // Puts out the FORWARDs of some of its messages, in turn.
+    fn forward_all(
+        &self,
+        who: &Identity,
+        rest: &[Forward],
+        out: &mut Output,
+    ) -> Result<(), AllocError>
+        ensures { OnOk result (Grows who.now.group out.old out.new (map (forward_of who.now.address self.now.view) rest.now) []) }
+    {
+        match rest.split_first() {
+            None => Ok(()),
+            Some(parts) => {
+                self.forward_one(who, parts.0, out)?;
+                self.forward_all(who, parts.1, out)?;
+                Ok(())
+            }
+        }
+    }
+
+    // A message of its own is sent: it is outstanding, and the event is recorded.
+    fn say(
+        &mut self,
+        who: &Identity,
+        payload: &Payload<'_>,
+        out: &mut Output,
+    ) -> Result<Number, AllocError>
+        requires { push_refusal self.old.forwards ≡ None }
+        ensures number { IfOk result (λ n. n ≡ self.old.forwards.sent + 1) }
+        ensures now { OnOk result (self.new ≡ other_pushing payload.now self.old) }
+        ensures happens { OnOk result (Grows who.now.group out.old out.new [] (Sent (sending who.now.address self.old.view.id (self.old.forwards.sent + 1) payload.now) ∷ [])) }
+    {
+        let number = say(who, self.view.id(), payload, &mut self.forwards, out)?;
+        Ok(number)
+    }
+
+    /// Sends a message: it is outstanding, and its FORWARD goes to the coordinator. After an error for want of memory nothing is said of the member.
+    pub fn send(
+        &mut self,
+        who: &Identity,
+        payload: &Payload<'_>,
+        out: &mut Output,
+    ) -> Result<(), AllocError>
+        requires free { push_refusal self.old.forwards ≡ None }
+        ensures now { OnOk result (self.new ≡ other_pushing payload.now self.old) }
+        ensures short { length payload.now ≤ PAYLOAD }
+        ensures sends { OnOk result (SendsForward who.now.address who.now.group payload.now self.old out.old out.new) }
+    {
+        let body = payload.as_slice();
+        let number = self.say(who, payload, out)?;
+        let view = self.view.id();
+        let Some(payload) = Payload::new(body) else {
+            unreachable!();
+        };
+        who.put(
+            self.view.first(),
+            Body::Forward {
+                view,
+                number,
+                payload,
+            },
+            out,
+        )?;
+        Ok(())
+    }
+}
