@@ -1,3 +1,4 @@
+use crate::fixtures::is;
 use packet_text::{append_packet, append_packets};
 use std::alloc::{AllocError, Global};
 use trace_props::Bytes;
@@ -32,14 +33,6 @@ fn numbered(alloc: Global) -> Result<Vec<u8>, AllocError> {
     Ok(text)
 }
 
-/// Whether a text is there and is this one.
-fn is(text: Result<Vec<u8>, AllocError>, wanted: &[u8]) -> bool {
-    match text {
-        Ok(text) => text.as_slice() == wanted,
-        Err(_) => false,
-    }
-}
-
 #[test]
 fn a_packet_is_told_with_its_kind_and_its_bytes(rt: HostRuntime) {
     let wanted = b"12 LEAVE 3.1 1.2 5653010305776f726c64000300000001000100000002\n";
@@ -48,7 +41,12 @@ fn a_packet_is_told_with_its_kind_and_its_bytes(rt: HostRuntime) {
 
 #[test]
 fn bytes_that_spell_no_packet_have_dashes(rt: HostRuntime) {
-    assert!(rt; is(line_of(rt.alloc(), 1, &LEAVE[..21]), b"1 - - - 5653010305776f726c640003000000010001000000\n"));
+    assert!(rt;
+        is(
+            line_of(rt.alloc(), 1, &LEAVE[..21]),
+            b"1 - - - 5653010305776f726c640003000000010001000000\n"
+        )
+    );
 }
 
 #[test]

@@ -8,7 +8,7 @@ loop-packet-preserved c =
     let counted : c.loop-packet.number + 1 ≡ c.loop-packet.packet-index + 1 = omega (arith, c.loop-packet.invariant.0) in (
       counted,
       told-next c.args.packets.now c.loop-packet.packet-index (c.loop-packet.number + 1) _ _ _ _ _ c.packet-item.is c.loop-packet-test.true counted c.loop-packet.invariant.1
-      (c.in_ok-append_packet.ensures.text ∙ ap (λ x. c.loop-packet.out.items ++ packet_line (c.loop-packet.number + 1) x) c.as_slice.ensures),
+          (c.in_ok-append_packet.ensures.text ∙ ap (λ x. c.loop-packet.out.items ++ packet_line (c.loop-packet.number + 1) x) c.as_slice.ensures),
     )
 
 pub returns-clause-ok : goal.returns-clause-ok
