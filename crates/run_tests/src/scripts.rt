@@ -2,7 +2,7 @@ use address::{Address, Node};
 use chat_log::ChatLog;
 use std::alloc::Global;
 use std::io::{self, Read, Write};
-use vsync_runs::{Status, run_script};
+use vsync_runs::{Status, run_packets, run_script};
 use world::World;
 use world_model::WorldEvent;
 
@@ -117,6 +117,32 @@ impl Read for Failing {
         buf[0] = b'\n';
         Ok(1)
     }
+}
+
+/// What the packets of a script are told as, and the status.
+fn packets_of(alloc: Global, script: &[u8]) -> (Vec<u8>, Status) {
+    let mut reader = script;
+    let mut output = Vec::new(alloc);
+    let status = run_packets::<ChatLog, &[u8], Vec<u8>>(alloc, &mut reader, &mut output);
+    (output, status)
+}
+
+#[test]
+fn packets_are_told_in_order(rt: HostRuntime) {
+    let (text, status) = packets_of(rt.alloc(), b"start 2\njoin 2 9.1\ntick 2\n");
+    let wanted = b"\
+        1 JOIN 2.1 9.1 5653010105776f726c64000200000001000900000001\n\
+        2 JOIN 2.1 9.1 5653010105776f726c64000200000001000900000001\n"
+        .as_slice();
+    assert!(rt; text.as_slice() == wanted, "the lines");
+    assert!(rt; status == Status::Done, "the status");
+}
+
+#[test]
+fn a_fault_is_told_in_the_place_of_packets(rt: HostRuntime) {
+    let (text, status) = packets_of(rt.alloc(), b"start 2\njoin 2 9.1\nfly 2\n");
+    assert!(rt; text.as_slice() == b"fault 3 40\n".as_slice(), "the fault");
+    assert!(rt; status == Status::Refused, "the status");
 }
 
 #[test]

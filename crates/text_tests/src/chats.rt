@@ -1,4 +1,4 @@
-use crate::fixtures::address;
+use crate::fixtures::{address, is};
 use chat_log::ChatLog;
 use chat_text::append_chat;
 use state_transfer::Receiver;
@@ -22,14 +22,6 @@ fn parts(alloc: Global) -> Result<Vec<u8>, AllocError> {
     put_address(&mut text, b' ', &address(65535, 3))?;
     put_hex(&mut text, b"\xab\x0f")?;
     Ok(text)
-}
-
-/// Whether a text is there and is this one.
-fn is(text: Result<Vec<u8>, AllocError>, wanted: &[u8]) -> bool {
-    match text {
-        Ok(text) => text.as_slice() == wanted,
-        Err(_) => false,
-    }
 }
 
 #[test]

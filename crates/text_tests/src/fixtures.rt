@@ -24,3 +24,11 @@ pub fn with_copies(
     }
     Ok(text)
 }
+
+/// Whether a text is there and is this one.
+pub fn is(text: Result<Vec<u8>, AllocError>, wanted: &[u8]) -> bool {
+    match text {
+        Ok(text) => text.as_slice() == wanted,
+        Err(_) => false,
+    }
+}

@@ -1,4 +1,4 @@
-//! The tests of the texts, of scripts and of traces. They stand apart from what they test, so that it is proved once
+//! The tests of the texts, of scripts, of traces and of packets. They stand apart from what they test, so that it is proved once
 //! and not twice.
 #![tactic(auto)]
 
@@ -10,6 +10,8 @@ mod fields;
 mod fixtures;
 #[cfg(test)]
 mod lines;
+#[cfg(test)]
+mod packets;
 #[cfg(test)]
 mod runs;
 #[cfg(test)]

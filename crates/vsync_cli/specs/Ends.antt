@@ -7,17 +7,19 @@ use Rattle.chat_log.specs.Chat.{chat_apply}
 use Rattle.chat_log.specs.Encoding.{chat_encode, chat_decode}
 use Rattle.vsync_runs.specs.Outcomes.{RunsScript}
 use Rattle.vsync_runs.specs.Chats.{RunsChat}
+use Rattle.vsync_runs.specs.Packets.{RunsPackets}
 use Rattle.vsync_runs.specs.Checks.{ChecksTrace}
 use Rattle.vsync_runs.specs.declared.status.Status.{Status}
 use Rattle.vsync_runs.specs.declared.status.Status.TheVariants.{Done, Memory, Outside, Usage}
 use Rattle.vsync_words.specs.declared.words.Invocation.{Invocation}
-use Rattle.vsync_words.specs.declared.words.Invocation.TheVariants.{World, Chat, Check}
+use Rattle.vsync_words.specs.declared.words.Invocation.TheVariants.{World, Chat, Packets, Check}
 
--- the command is done, from a reader with these bytes left to a writer: a script is run; or it is run and the chats are told; or a
--- trace is checked. Its members keep a chat
+-- the command is done, from a reader with these bytes left to a writer: a script is run; or it is run and the chats, or the packets, are
+-- told; or a trace is checked. Its members keep a chat
 abbrev pub Does : Invocation → Option (List ℕ) → Option (List ℕ) → Option (List ℕ) → Status → Type 0
 Does (World path) left old new status = RunsScript [] chat_apply chat_encode chat_decode left old new status
 Does (Chat path) left old new status = RunsChat [] chat_apply chat_encode chat_decode (λ s. s) left old new status
+Does (Packets path) left old new status = RunsPackets [] chat_apply chat_encode chat_decode left old new status
 Does (Check path) left old new status = ChecksTrace [] chat_apply chat_decode left old new status
 
 -- it ends with this status, or with 5 where the output failed

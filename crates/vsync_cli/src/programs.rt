@@ -10,7 +10,7 @@ use std::alloc::Global;
 use std::io::{Read, Write};
 use std::rt::{Env, Files};
 use std::{env, fs, io};
-use vsync_runs::{Status, run_chat, run_check, run_script};
+use vsync_runs::{Status, run_chat, run_check, run_packets, run_script};
 use vsync_words::{Invocation, command};
 
 /// Says on the standard error why the program ends with status 5.
@@ -51,6 +51,7 @@ fn answer<I: Read, W: Write>(
     match command {
         Invocation::World(_) => run_script::<ChatLog, I, W>(alloc, reader, writer),
         Invocation::Chat(_) => run_chat::<ChatLog, I, W>(alloc, reader, writer),
+        Invocation::Packets(_) => run_packets::<ChatLog, I, W>(alloc, reader, writer),
         Invocation::Check(_) => run_check::<ChatLog, I, W>(alloc, reader, writer),
     }
 }

@@ -91,32 +91,37 @@ tells-all lines whole a b c status all f e = record {
 }
 
 -- a text of all lines ended the command
-pub lines-ended : (lines : List (List ℕ)) (a c : Option (List ℕ)) (status : Status) (old text taken : List ℕ) → old ≡ [] → text ≡ old ++ concat lines → taken ≡ text
-    → Ends a c taken Done status → Written (IsLinesText lines true) a c status
-lines-ended lines a c status old text taken none is same e =
-    let all : taken ≡ concat lines = same ∙ is ∙ ap (λ (x : List ℕ). x ++ concat lines) none in
-    record { meant = Done; text = taken; says = subst (λ (x : List ℕ). IsLinesText lines true Done x) (sym all) (Told refl); ends = e }
+pub lines-ended : (lines : List (List ℕ)) (a c : Option (List ℕ)) (status : Status) (text : List ℕ) → text ≡ concat lines → Ends a c text Done status → Written (IsLinesText lines true) a c status
+lines-ended lines a c status text all e = record { meant = Done; text = text; says = subst (λ (x : List ℕ). IsLinesText lines true Done x) (sym all) (Told refl); ends = e }
 
 -- the writer took the first few lines, and then there was no memory for more
-pub lines-cut : (lines : List (List ℕ)) (whole : Bool) (a b c : Option (List ℕ)) (status : Status) (old text taken : List ℕ) → old ≡ [] → (n : ℕ) × (text ≡ old ++ concat (take n lines)) → taken ≡ text
-    → Appends a b taken → Ends b c memory_line Memory status → Written (IsLinesText lines whole) a c status
-lines-cut lines whole a b c status old text taken none few same f e =
-    let all : taken ≡ concat (take few.0 lines) = same ∙ few.1 ∙ ap (λ (x : List ℕ). x ++ concat (take few.0 lines)) none in
-    tells-some lines whole a b c status few.0 (subst (λ (x : List ℕ). Appends a b x) all f) e
+pub lines-cut : (lines : List (List ℕ)) (whole : Bool) (a b c : Option (List ℕ)) (status : Status) (text : List ℕ) → (n : ℕ) × (text ≡ concat (take n lines))
+    → Appends a b text → Ends b c memory_line Memory status → Written (IsLinesText lines whole) a c status
+lines-cut lines whole a b c status text few f e = tells-some lines whole a b c status few.0 (subst (λ (x : List ℕ). Appends a b x) few.1 f) e
 
 -- the writer failed within the first few lines
-pub lines-failed : (lines : List (List ℕ)) (whole : Bool) (a b : Option (List ℕ)) (old text taken : List ℕ) → old ≡ [] → (n : ℕ) × (text ≡ old ++ concat (take n lines)) → taken ≡ text
-    → (m : ℕ) × Appends a b (take m taken) → Written (IsLinesText lines whole) a b Outside
-lines-failed lines whole a b old text taken none few same part =
+pub lines-failed : (lines : List (List ℕ)) (whole : Bool) (a b : Option (List ℕ)) (text : List ℕ) → (n : ℕ) × (text ≡ concat (take n lines))
+    → (m : ℕ) × Appends a b (take m text) → Written (IsLinesText lines whole) a b Outside
+lines-failed lines whole a b text few part =
     let front : List ℕ = concat (take few.0 lines) in
-    let all : taken ≡ front = same ∙ few.1 ∙ ap (λ (x : List ℕ). x ++ front) none in
     let longer : (m : ℕ) × (take part.0 front ≡ take m (front ++ memory_line)) = beginning-of part.0 front memory_line (cases_lt part.0 (length front)) in
     record {
       meant = Memory;
       text = front ++ memory_line;
       says = Untold few.0;
-      ends = Cut longer.0 (subst (λ (x : List ℕ). Appends a b x) (ap (take part.0) all ∙ longer.1) part.1);
+      ends = Cut longer.0 (subst (λ (x : List ℕ). Appends a b x) (ap (take part.0) few.1 ∙ longer.1) part.1);
     }
+
+-- a text to which all lines were appended, and nothing else
+pub appended-all : {A E : Type 0} (r : Result A E) (lines : List (List ℕ)) (old text taken : List ℕ) → old ≡ [] → OnOk r (text ≡ old ++ concat lines) → taken ≡ text → OnOk r (taken ≡ concat lines)
+appended-all (Ok x) lines old text taken none is same = same ∙ is ∙ ap (λ (x : List ℕ). x ++ concat lines) none
+appended-all (Err e) lines old text taken none is same = tt
+
+-- a text to which the first few lines were appended, and nothing else
+pub appended-some : {A E : Type 0} (r : Result A E) (lines : List (List ℕ)) (old text taken : List ℕ) → old ≡ [] → OnErr r ((n : ℕ) × (text ≡ old ++ concat (take n lines))) → taken ≡ text
+    → OnErr r ((n : ℕ) × (taken ≡ concat (take n lines)))
+appended-some (Ok x) lines old text taken none is same = tt
+appended-some (Err e) lines old text taken none is same = (is.0, same ∙ is.1 ∙ ap (λ (x : List ℕ). x ++ concat (take is.0 lines)) none)
 
 -- what holds of an error, where there is one
 pub of-error : {A E : Type 0} (r : Result A E) (P : Type 0) → OnErr r P → false ≡ is_ok r → P

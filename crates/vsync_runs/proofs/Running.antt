@@ -6,16 +6,15 @@ use Rattle.trace_props.specs.Synchrony.{IsWellOrdered, IsVirtuallySynchronous}
 use Rattle.world_model.specs.declared.WorldEvent.{WorldEvent}
 use Rattle.world.specs.Worlds.{WorldModel, no_world, Runs as WorldRuns}
 use Rattle.world_model.specs.Faithful.{IsFaithful}
+use Rattle.world_model.specs.Histories.{History}
 use Rattle.script_reader.specs.declared.script.Script.{Script}
 use Rattle.vsync_text.specs.Runs.{lines_of_run}
-use Rattle.chat_log.specs.declared.lines.Line.{Line}
 use Rattle.vsync_runs.specs.declared.status.Status.{Status}
 use Rattle.vsync_runs.specs.declared.status.Status.TheVariants.{Memory}
-use Rattle.vsync_runs.specs.Outcomes.{Ends, Ran, IsLinesText, IsRunText, Written, memory_line}
+use Rattle.vsync_runs.specs.Outcomes.{Ends, Ran, IsLinesText, IsRunText, IsEndText, Written, memory_line}
 use Rattle.vsync_runs.specs.Outcomes.IsLinesText.{Told, Untold}
 use Rattle.vsync_runs.specs.Outcomes.IsRunText.{All, Part}
-use Rattle.vsync_runs.specs.Chats.{IsChatText, chats_of}
-use Rattle.vsync_runs.specs.Chats.IsChatText.{All as AllChats, Part as PartOfChats, Stopped}
+use Rattle.vsync_runs.specs.Outcomes.IsEndText.{All as AllLines, Part as PartOfLines, Stopped}
 use Rattle.vsync_runs.proofs.Ending.{written-as}
 
 -- an answer that is no error
@@ -60,22 +59,21 @@ module _ {S : Type 0} (opening : S) (apply : S → Address → List ℕ → S) (
       (λ to-end. from-nothing given script.events old w all empty (on-ok r (RunsFrom old given w) ran whole is to-end)))
       (subst (λ (l : List ℕ). Written (IsLinesText (lines_of_run l w.history.replies w.history.trace) ran) a b status) same written)
 
-  -- ---- its chats
+  -- ---- what is told at its end
 
-  module _ (lines_of : S → List Line) (script : Script) where
-    -- what is told of them
-    chat-text : (w : WorldModel S) → Ran opening apply encode decode script.events w → (s : Status) (t : List ℕ)
-        → IsLinesText (chats_of opening apply decode lines_of w.history.trace) true s t → IsChatText opening apply encode decode lines_of script s t
-    chat-text w ran s t (Told whole) = AllChats w ran
-    chat-text w ran s t (Untold count) = PartOfChats w count ran
+  module _ (lines_of : History → List (List ℕ)) (script : Script) where
+    end-text : (w : WorldModel S) → Ran opening apply encode decode script.events w → (s : Status) (t : List ℕ)
+        → IsLinesText (lines_of w.history) true s t → IsEndText opening apply encode decode lines_of script s t
+    end-text w ran s t (Told whole) = AllLines w ran
+    end-text w ran s t (Untold count) = PartOfLines w count ran
 
-    -- the chats of a world that ran all of a script's events
-    pub played-chats : (given : List WorldEvent) (old w : WorldModel S) (a b : Option (List ℕ)) (status : Status) → given ≡ script.events → old ≡ no_world → Kept w → RunsFrom old given w
-        → Written (IsLinesText (chats_of opening apply decode lines_of w.history.trace) true) a b status → Written (IsChatText opening apply encode decode lines_of script) a b status
-    played-chats given old w a b status all empty kept whole written =
-        written-as (IsLinesText (chats_of opening apply decode lines_of w.history.trace) true) (IsChatText opening apply encode decode lines_of script) a b status
-        (chat-text w (ran-these script.events w kept (from-nothing given script.events old w all empty whole))) written
+    -- the lines of a world that ran all of a script's events
+    pub ran-to-end : (given : List WorldEvent) (old w : WorldModel S) (a b : Option (List ℕ)) (status : Status) → given ≡ script.events → old ≡ no_world → Kept w → RunsFrom old given w
+        → Written (IsLinesText (lines_of w.history) true) a b status → Written (IsEndText opening apply encode decode lines_of script) a b status
+    ran-to-end given old w a b status all empty kept whole written =
+        written-as (IsLinesText (lines_of w.history) true) (IsEndText opening apply encode decode lines_of script) a b status
+        (end-text w (ran-these script.events w kept (from-nothing given script.events old w all empty whole))) written
 
     -- the world could not run them all
-    pub stopped-chats : (a b : Option (List ℕ)) (status : Status) → Ends a b memory_line Memory status → Written (IsChatText opening apply encode decode lines_of script) a b status
-    stopped-chats a b status e = record { meant = Memory; text = memory_line; says = Stopped; ends = e }
+    pub stopped : (a b : Option (List ℕ)) (status : Status) → Ends a b memory_line Memory status → Written (IsEndText opening apply encode decode lines_of script) a b status
+    stopped a b status e = record { meant = Memory; text = memory_line; says = Stopped; ends = e }

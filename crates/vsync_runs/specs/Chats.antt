@@ -1,18 +1,16 @@
 -- What a command writes that tells the chats of a script's run.
-use Rattle.std.specs.Prelude.{ℕ, List, ◌++◌, Option, take}
-use Rattle.std.specs.List.{concat, filter_map, range_with_len}
+use Rattle.std.specs.Prelude.{ℕ, List, Option}
+use Rattle.std.specs.List.{filter_map, range_with_len}
 use Rattle.std.specs.Option.{option_map}
 use Rattle.address.specs.Ids.{Address}
 use Rattle.trace_props.specs.declared.happening.Happening.{Happening}
 use Rattle.trace_props.specs.State.{state_of}
 use Rattle.world_model.specs.Histories.{running}
-use Rattle.world.specs.Worlds.{WorldModel}
 use Rattle.chat_log.specs.declared.lines.Line.{Line}
 use Rattle.chat_text.specs.ChatText.{chat_line}
 use Rattle.script_reader.specs.declared.script.Script.{Script}
 use Rattle.vsync_runs.specs.declared.status.Status.{Status}
-use Rattle.vsync_runs.specs.declared.status.Status.TheVariants.{Done, Memory}
-use Rattle.vsync_runs.specs.Outcomes.{Ran, IsScriptText, IsAnswer, memory_line}
+use Rattle.vsync_runs.specs.Outcomes.{IsEndText, IsScriptText, IsAnswer}
 
 -- the chat line of the member that runs at a node, if one does: its chat is what the trace says
 abbrev pub chat_at : {S : Type 0} → S → (S → Address → List ℕ → S) → (List ℕ → Option S) → (S → List Line) → List Happening → ℕ → Option (List ℕ)
@@ -26,13 +24,9 @@ chats_to opening apply decode lines_of t n = filter_map (chat_at opening apply d
 unfoldable pub chats_of : {S : Type 0} → S → (S → Address → List ℕ → S) → (List ℕ → Option S) → (S → List Line) → List Happening → List (List ℕ)
 chats_of opening apply decode lines_of t = chats_to opening apply decode lines_of t 65535
 
--- the texts of the chats after a script's run: all of them; whole lines of a beginning and `# memory`; or `# memory` alone, where the
--- script was not run to its end for want of memory
-pub data IsChatText {S : Type 0} (opening : S) (apply : S → Address → List ℕ → S) (encode : S → List ℕ) (decode : List ℕ → Option S) (lines_of : S → List Line) (script : Script) : Status → List ℕ → Type 0 where
-  All : (w : WorldModel S) → Ran opening apply encode decode script.events w → IsChatText opening apply encode decode lines_of script Done (concat (chats_of opening apply decode lines_of w.history.trace))
-  Part : (w : WorldModel S) (count : ℕ) → Ran opening apply encode decode script.events w
-      → IsChatText opening apply encode decode lines_of script Memory (concat (take count (chats_of opening apply decode lines_of w.history.trace)) ++ memory_line)
-  Stopped : IsChatText opening apply encode decode lines_of script Memory memory_line
+-- the texts of the chats after a script's run
+abbrev pub IsChatText : {S : Type 0} → S → (S → Address → List ℕ → S) → (S → List ℕ) → (List ℕ → Option S) → (S → List Line) → Script → Status → List ℕ → Type 0
+IsChatText opening apply encode decode lines_of = IsEndText opening apply encode decode (λ h. chats_of opening apply decode lines_of h.trace)
 
 -- a script is run from a reader, and the chats are told to a writer
 abbrev pub RunsChat : {S : Type 0} → S → (S → Address → List ℕ → S) → (S → List ℕ) → (List ℕ → Option S) → (S → List Line) → Option (List ℕ) → Option (List ℕ) → Option (List ℕ) → Status → Type 0

@@ -8,6 +8,7 @@ use Rattle.trace_props.specs.Synchrony.{IsWellOrdered, IsVirtuallySynchronous}
 use Rattle.address.specs.Ids.{Address}
 use Rattle.world_model.specs.declared.WorldEvent.{WorldEvent}
 use Rattle.world_model.specs.Faithful.{IsFaithful}
+use Rattle.world_model.specs.Histories.{History}
 use Rattle.world.specs.Worlds.{WorldModel, no_world, Runs as WorldRuns}
 use Rattle.script_reader.specs.declared.script.Script.{Script}
 use Rattle.script_reader.specs.declared.fault.Fault.{Fault}
@@ -56,6 +57,14 @@ pub data IsRunText {S : Type 0} (opening : S) (apply : S → Address → List �
   All : (w : WorldModel S) → Ran opening apply encode decode script.events w → IsRunText opening apply encode decode script Done (text_of_run script.lines w.history.replies w.history.trace)
   Part : (w : WorldModel S) (events lines : ℕ) → Ran opening apply encode decode (take events script.events) w
       → IsRunText opening apply encode decode script Memory (concat (take lines (lines_of_run script.lines w.history.replies w.history.trace)) ++ memory_line)
+
+-- the texts of what is told of a script's run at its end, lines of its history: all of them; the first few and `# memory`; or `# memory`
+-- alone, where the script was not run to its end for want of memory
+pub data IsEndText {S : Type 0} (opening : S) (apply : S → Address → List ℕ → S) (encode : S → List ℕ) (decode : List ℕ → Option S) (lines_of : History → List (List ℕ)) (script : Script) : Status → List ℕ → Type 0 where
+  All : (w : WorldModel S) → Ran opening apply encode decode script.events w → IsEndText opening apply encode decode lines_of script Done (concat (lines_of w.history))
+  Part : (w : WorldModel S) (count : ℕ) → Ran opening apply encode decode script.events w
+      → IsEndText opening apply encode decode lines_of script Memory (concat (take count (lines_of w.history)) ++ memory_line)
+  Stopped : IsEndText opening apply encode decode lines_of script Memory memory_line
 
 -- the texts of an input's first fault: its line; or `# memory`, where memory is refused
 pub data IsFaultText (line number : ℕ) : Status → List ℕ → Type 0 where

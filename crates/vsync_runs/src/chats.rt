@@ -4,7 +4,7 @@ ghost use Rattle.vsync_runs.specs.Outcomes.{Written, IsLinesText};
 ghost use Rattle.vsync_runs.specs.Chats.{chat_at, chats_of, IsChatText, RunsChat};
 
 use crate::Status;
-use crate::ends::{end_in_memory, end_with};
+use crate::ends::{end_in_memory, end_with_lines};
 use crate::scripts::script_from;
 use address::Node;
 use chat_log::Chat;
@@ -12,7 +12,6 @@ use chat_text::append_chat;
 use script_reader::Script;
 use std::alloc::{AllocError, Global};
 use std::io::{Read, Write};
-use vsync_text::put_all;
 use world::World;
 
 /// Appends the chat line of the member that runs at the node of a number, if one does.
@@ -53,13 +52,8 @@ fn tell_chats<C: Chat, W: Write>(alloc: Global, world: &World<C>, writer: &mut W
     ensures { Written (IsLinesText (chats_of C.opening_state C.apply C.decode C.lines_of world.now.history.trace) true) (W.contents writer.old) (W.contents writer.new) result }
 {
     let mut text = Vec::new(alloc);
-    if append_chats(&mut text, world).is_ok() {
-        return end_with(writer, text.as_slice(), Status::Done);
-    }
-    match put_all(writer, text.as_slice()) {
-        Ok(()) => end_in_memory(writer),
-        Err(_) => Status::Outside,
-    }
+    let appended = append_chats(&mut text, world);
+    end_with_lines(writer, text.as_slice(), appended)
 }
 
 /// Runs a script's events in a world, and writes the chats of its members.

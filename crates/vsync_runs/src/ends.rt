@@ -1,12 +1,13 @@
 //! How a command reads its input, and writes the text with which it ends.
 
-ghost use Rattle.std.specs.Prelude.{IfOk, IfSome, ◌≡◌};
-ghost use Rattle.vsync_runs.specs.Outcomes.{Ends, Written, IsFaultText, memory_line};
+ghost use Rattle.std.specs.Prelude.{IfOk, IfSome, OnOk, OnErr, ◌≡◌, ℕ, List, take, true};
+ghost use Rattle.std.specs.List.{concat};
+ghost use Rattle.vsync_runs.specs.Outcomes.{Ends, Written, IsLinesText, IsFaultText, memory_line};
 ghost use Rattle.script_reader.specs.Script.{fault_number};
 
 use crate::Status;
 use script_reader::Fault;
-use std::alloc::Global;
+use std::alloc::{AllocError, Global};
 use std::io::{ErrorKind, Read, Write};
 use vsync_text::put_all;
 
@@ -57,6 +58,25 @@ pub fn end_in_memory<W: Write>(writer: &mut W) -> Status
     ensures { Ends (W.contents writer.old) (W.contents writer.new) memory_line Status.Memory result }
 {
     end_with(writer, b"# memory\n", Status::Memory)
+}
+
+/// Writes a text of lines, with which the command ends: of all of them, or of the first few, where memory was refused to the
+/// others.
+pub fn end_with_lines<W: Write>(
+    writer: &mut W,
+    text: &[u8],
+    appended: Result<(), AllocError>,
+) -> Status
+    ensures { (lines : List (List ℕ)) → OnOk appended (text.now ≡ concat lines) → OnErr appended ((count : ℕ) × (text.now ≡ concat (take count lines)))
+        → Written (IsLinesText lines true) (W.contents writer.old) (W.contents writer.new) result }
+{
+    if appended.is_ok() {
+        return end_with(writer, text, Status::Done);
+    }
+    match put_all(writer, text) {
+        Ok(()) => end_in_memory(writer),
+        Err(_) => Status::Outside,
+    }
 }
 
 /// Writes a script's first fault.

@@ -4,10 +4,12 @@
 mod chats;
 mod checks;
 mod ends;
+mod packets;
 mod scripts;
 mod status;
 
 pub use chats::run_chat;
 pub use checks::run_check;
+pub use packets::run_packets;
 pub use scripts::run_script;
 pub use status::Status;

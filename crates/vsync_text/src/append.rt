@@ -21,15 +21,24 @@ pub fn put(out: &mut Vec<u8>, bytes: &[u8]) -> Result<(), AllocError>
     out.extend_from_slice(bytes)
 }
 
+/// Appends a number in decimal, with no byte before it. Where memory is refused, what stood before is kept, and a part may have been
+/// appended.
+pub fn put_decimal(out: &mut Vec<u8>, number: u64) -> Result<(), AllocError>
+    ensures text { OnOk result (out.new.items ≡ out.old.items ++ decimal number) }
+    ensures kept { GoesOnFrom out.old.items out.new.items }
+{
+    let mut buffer = Buffer::new();
+    put(out, buffer.format(number).as_bytes())
+}
+
 /// Appends a number.
 #[tactic(auto, using(crate::proofs::Appending::goes_on))]
 pub(crate) fn put_number(out: &mut Vec<u8>, before: u8, number: u64) -> Result<(), AllocError>
     ensures text { OnOk result (out.new.items ≡ out.old.items ++ before ∷ decimal number) }
     ensures kept { GoesOnFrom out.old.items out.new.items }
 {
-    let mut buffer = Buffer::new();
     put(out, &[before])?;
-    put(out, buffer.format(number).as_bytes())
+    put_decimal(out, number)
 }
 
 /// Appends an address as `3.1`, behind one byte. Where memory is refused, what stood before is kept, and a part may have been appended.

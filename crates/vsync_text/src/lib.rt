@@ -6,7 +6,7 @@ mod buffered;
 mod run;
 mod trace_line;
 
-pub use append::{put, put_address, put_hex};
+pub use append::{put, put_address, put_decimal, put_hex};
 pub use buffered::put_all;
 pub use run::{Printed, write_run};
 pub use trace_line::{append_happening, append_refusal};

@@ -7,9 +7,9 @@ use Rattle.clap.specs.declared.error.kind.ErrorKind.TheVariants.{OutOfMemory}
 use Rattle.clap.specs.Walk.{is_empty}
 use Rattle.clap.proofs.OnLiterals.{clap_on_literals}
 use Rattle.vsync_words.specs.declared.words.Invocation.{Invocation}
-use Rattle.vsync_words.specs.declared.words.Invocation.TheVariants.{World, Chat, Check}
+use Rattle.vsync_words.specs.declared.words.Invocation.TheVariants.{World, Chat, Packets, Check}
 use Rattle.vsync_words.specs.Grammar.{IsSaid, is_path, program_app}
-use Rattle.vsync_words.specs.Words.{IsChatOn, IsCheckOn, IsOrNoMemory, IsWorldOn}
+use Rattle.vsync_words.specs.Words.{IsChatOn, IsCheckOn, IsOrNoMemory, IsPacketsOn, IsWorldOn}
 
 pub simple : is_simple_and_free program_app ≡ true
 unfolding clap_on_literals
@@ -56,6 +56,10 @@ other_chat : (name : Text) (x : ℕ) (xs : Text) → (x == 45) ≡ false → Rea
 unfolding clap_on_literals
 other_chat name x xs e = (simp e refl, simp e refl)
 
+other_packets : (name : Text) (x : ℕ) (xs : Text) → (x == 45) ≡ false → Reads (codes "packets") (codes "SCRIPT") name (x ∷ xs)
+unfolding clap_on_literals
+other_packets name x xs e = (simp e refl, simp e refl)
+
 other_check : (name : Text) (x : ℕ) (xs : Text) → (x == 45) ≡ false → Reads (codes "check") (codes "TRACE") name (x ∷ xs)
 unfolding clap_on_literals
 other_check name x xs e = (simp e refl, simp e refl)
@@ -67,6 +71,10 @@ empty_world name = (refl, refl)
 empty_chat : (name : Text) → Reads (codes "chat") (codes "SCRIPT") name []
 unfolding clap_on_literals
 empty_chat name = (refl, refl)
+
+empty_packets : (name : Text) → Reads (codes "packets") (codes "SCRIPT") name []
+unfolding clap_on_literals
+empty_packets name = (refl, refl)
 
 empty_check : (name : Text) → Reads (codes "check") (codes "TRACE") name []
 unfolding clap_on_literals
@@ -80,6 +88,10 @@ dash_chat : (name : Text) → Reads (codes "chat") (codes "SCRIPT") name (45 ∷
 unfolding clap_on_literals
 dash_chat name = (refl, refl)
 
+dash_packets : (name : Text) → Reads (codes "packets") (codes "SCRIPT") name (45 ∷ [])
+unfolding clap_on_literals
+dash_packets name = (refl, refl)
+
 dash_check : (name : Text) → Reads (codes "check") (codes "TRACE") name (45 ∷ [])
 unfolding clap_on_literals
 dash_check name = (refl, refl)
@@ -89,6 +101,9 @@ reads_world name = by_first (Reads (codes "world") (codes "SCRIPT") name) (empty
 
 pub reads_chat : (name path : Text) → is_path path ≡ true → Reads (codes "chat") (codes "SCRIPT") name path
 reads_chat name = by_first (Reads (codes "chat") (codes "SCRIPT") name) (empty_chat name) (dash_chat name) (other_chat name)
+
+pub reads_packets : (name path : Text) → is_path path ≡ true → Reads (codes "packets") (codes "SCRIPT") name path
+reads_packets name = by_first (Reads (codes "packets") (codes "SCRIPT") name) (empty_packets name) (dash_packets name) (other_packets name)
 
 pub reads_check : (name path : Text) → is_path path ≡ true → Reads (codes "check") (codes "TRACE") name path
 reads_check name = by_first (Reads (codes "check") (codes "TRACE") name) (empty_check name) (dash_check name) (other_check name)
@@ -110,6 +125,10 @@ said_world (Some said) path (Chat p) e h =
     let first : slice_index said.0 0 ≡ 119 = ap (letter 0) e in
     let other : slice_index said.0 0 ≡ 99 = ap (λ (t : Text). slice_index t 0) h.0 in
     absurd (omega arith)
+said_world (Some said) path (Packets p) e h =
+    let first : slice_index said.0 0 ≡ 119 = ap (letter 0) e in
+    let other : slice_index said.0 0 ≡ 112 = ap (λ (t : Text). slice_index t 0) h.0 in
+    absurd (omega arith)
 said_world (Some said) path (Check p) e h =
     let first : slice_index said.0 0 ≡ 119 = ap (letter 0) e in
     let other : slice_index said.0 0 ≡ 99 = ap (λ (t : Text). slice_index t 0) h.0 in
@@ -126,9 +145,33 @@ said_chat (Some said) path (Chat p) e h =
     let name : Some said.0 ≡ Some (codes "chat") = ap (option_map (λ q. q.0)) e in
     let value : Some (first_of (codes "SCRIPT") said.1) ≡ Some (Some path) = ap (option_map (λ q. q.1)) e in
     cc
+said_chat (Some said) path (Packets p) e h =
+    let first : slice_index said.0 0 ≡ 99 = ap (letter 0) e in
+    let other : slice_index said.0 0 ≡ 112 = ap (λ (t : Text). slice_index t 0) h.0 in
+    absurd (omega arith)
 said_chat (Some said) path (Check p) e h =
     let third : slice_index said.0 2 ≡ 97 = ap (letter 2) e in
     let other : slice_index said.0 2 ≡ 101 = ap (λ (t : Text). slice_index t 2) h.0 in
+    absurd (omega arith)
+
+said_packets : (o : Option (Text × List Row)) (path : Text) (i : Invocation)
+    → value_in (codes "SCRIPT") o ≡ Some (codes "packets", Some path) → IsSomeAnd o (λ said. IsSaid said i) → IsPacketsOn path i
+said_packets None path i e h = absurd h
+said_packets (Some said) path (World p) e h =
+    let first : slice_index said.0 0 ≡ 112 = ap (letter 0) e in
+    let other : slice_index said.0 0 ≡ 119 = ap (λ (t : Text). slice_index t 0) h.0 in
+    absurd (omega arith)
+said_packets (Some said) path (Chat p) e h =
+    let first : slice_index said.0 0 ≡ 112 = ap (letter 0) e in
+    let other : slice_index said.0 0 ≡ 99 = ap (λ (t : Text). slice_index t 0) h.0 in
+    absurd (omega arith)
+said_packets (Some said) path (Packets p) e h =
+    let name : Some said.0 ≡ Some (codes "packets") = ap (option_map (λ q. q.0)) e in
+    let value : Some (first_of (codes "SCRIPT") said.1) ≡ Some (Some path) = ap (option_map (λ q. q.1)) e in
+    cc
+said_packets (Some said) path (Check p) e h =
+    let first : slice_index said.0 0 ≡ 112 = ap (letter 0) e in
+    let other : slice_index said.0 0 ≡ 99 = ap (λ (t : Text). slice_index t 0) h.0 in
     absurd (omega arith)
 
 said_check : (o : Option (Text × List Row)) (path : Text) (i : Invocation)
@@ -141,6 +184,10 @@ said_check (Some said) path (World p) e h =
 said_check (Some said) path (Chat p) e h =
     let third : slice_index said.0 2 ≡ 101 = ap (letter 2) e in
     let other : slice_index said.0 2 ≡ 97 = ap (λ (t : Text). slice_index t 2) h.0 in
+    absurd (omega arith)
+said_check (Some said) path (Packets p) e h =
+    let first : slice_index said.0 0 ≡ 99 = ap (letter 0) e in
+    let other : slice_index said.0 0 ≡ 112 = ap (λ (t : Text). slice_index t 0) h.0 in
     absurd (omega arith)
 said_check (Some said) path (Check p) e h =
     let name : Some said.0 ≡ Some (codes "check") = ap (option_map (λ q. q.0)) e in
@@ -168,6 +215,12 @@ pub chat_or_no_memory : (r : Result Invocation Error) (o : Option (Text × List 
     → IsOrNoMemory (IsChatOn path) r
 chat_or_no_memory r o kinds path none value is fails =
     is_or_no_memory (IsChatOn path) r kinds none (IfOk-weaker r _ _ (λ i said. said_chat o path i value said) is) fails
+
+pub packets_or_no_memory : (r : Result Invocation Error) (o : Option (Text × List Row)) (kinds : Kinds) (path : Text) → kinds ≡ []
+    → value_in (codes "SCRIPT") o ≡ Some (codes "packets", Some path) → IfOk r (λ i. IsSomeAnd o (λ said. IsSaid said i)) → FailsBy kinds r
+    → IsOrNoMemory (IsPacketsOn path) r
+packets_or_no_memory r o kinds path none value is fails =
+    is_or_no_memory (IsPacketsOn path) r kinds none (IfOk-weaker r _ _ (λ i said. said_packets o path i value said) is) fails
 
 pub check_or_no_memory : (r : Result Invocation Error) (o : Option (Text × List Row)) (kinds : Kinds) (path : Text) → kinds ≡ []
     → value_in (codes "TRACE") o ≡ Some (codes "check", Some path) → IfOk r (λ i. IsSomeAnd o (λ said. IsSaid said i)) → FailsBy kinds r

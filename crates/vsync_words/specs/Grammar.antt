@@ -7,7 +7,7 @@ use Rattle.clap.specs.Simple.{new_shape}
 use Rattle.clap.specs.declared.builder.command.Command.{Command}
 use Rattle.clap.specs.declared.builder.command.Command.TheViews.{out-Command}
 use Rattle.vsync_words.specs.declared.words.Invocation.{Invocation}
-use Rattle.vsync_words.specs.declared.words.Invocation.TheVariants.{World, Chat, Check}
+use Rattle.vsync_words.specs.declared.words.Invocation.TheVariants.{World, Chat, Packets, Check}
 
 -- a subcommand with one argument, which is required
 abbrev pub subcommand_on : Text → Text → Shape
@@ -29,11 +29,12 @@ abbrev pub program_of_subcommands : Text → App
 program_of_subcommands name =
     record { top = record (new_shape name) { subcommand_required = true }; subs = [] }
 
--- `vsync world SCRIPT`, `vsync chat SCRIPT` and `vsync check TRACE`
+-- `vsync world SCRIPT`, `vsync chat SCRIPT`, `vsync packets SCRIPT` and `vsync check TRACE`
 abbrev pub program_app : App
-program_app = with_subcommand (with_subcommand (with_subcommand (program_of_subcommands (codes "vsync"))
+program_app = with_subcommand (with_subcommand (with_subcommand (with_subcommand (program_of_subcommands (codes "vsync"))
     (subcommand_on (codes "world") (codes "SCRIPT")))
     (subcommand_on (codes "chat") (codes "SCRIPT")))
+    (subcommand_on (codes "packets") (codes "SCRIPT")))
     (subcommand_on (codes "check") (codes "TRACE"))
 
 -- a subcommand that was said, with its matches, is this command: it has that name, and the path is the first value
@@ -43,6 +44,8 @@ IsSaid said (World path) =
     (said.0 ≡ codes "world") × (first_of (codes "SCRIPT") said.1 ≡ Some path.now)
 IsSaid said (Chat path) =
     (said.0 ≡ codes "chat") × (first_of (codes "SCRIPT") said.1 ≡ Some path.now)
+IsSaid said (Packets path) =
+    (said.0 ≡ codes "packets") × (first_of (codes "SCRIPT") said.1 ≡ Some path.now)
 IsSaid said (Check path) =
     (said.0 ≡ codes "check") × (first_of (codes "TRACE") said.1 ≡ Some path.now)
 

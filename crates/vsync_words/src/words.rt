@@ -2,7 +2,7 @@ ghost use Rattle.std.specs.Prelude.{◌≡◌, ◌≤◌, ◌<◌, ◌∷◌, []
 ghost use Rattle.std.specs.Prelude.{string_bytes, IfOk, IfSome, IsOkAnd, IsSomeAnd};
 ghost use Rattle.clap.specs.Words.{app_of, fault_of, found_of, rows_of, subcommand_of, subcommand_rows_of};
 ghost use Rattle.clap.specs.Words.{FailsBy, Text};
-ghost use Rattle.vsync_words.specs.Words.{input_of, IsWorldOn, IsChatOn, IsCheckOn, IsOrNoMemory, RunsStandardInput};
+ghost use Rattle.vsync_words.specs.Words.{input_of, IsWorldOn, IsChatOn, IsPacketsOn, IsCheckOn, IsOrNoMemory, RunsStandardInput};
 ghost use Rattle.vsync_words.specs.Grammar.{is_path, program_app, program_of_subcommands, AddsPath, IsSaid, IsSubcommandOn};
 
 use clap::{Arg, ArgMatches, Error};
@@ -16,6 +16,9 @@ pub enum Invocation<'a> {
     /// `chat SCRIPT`: the script of this path is run, and the chats of the running members are told; `-` is the standard
     /// input.
     Chat(&'a str),
+    /// `packets SCRIPT`: the script of this path is run, and the packets that were put out are told; `-` is the standard
+    /// input.
+    Packets(&'a str),
     /// `check TRACE`: the trace of this path is checked; `-` is the standard input.
     Check(&'a str),
 }
@@ -28,6 +31,7 @@ impl<'a> Invocation<'a> {
         match self {
             Invocation::World(path) => path,
             Invocation::Chat(path) => path,
+            Invocation::Packets(path) => path,
             Invocation::Check(path) => path,
         }
     }
@@ -101,6 +105,23 @@ fn with_chat<'a>(alloc: Global, program: clap::Command<'a>) -> Result<clap::Comm
     command.add_to(alloc, program)
 }
 
+/// The program with `packets SCRIPT` as well.
+fn with_packets<'a>(
+    alloc: Global,
+    program: clap::Command<'a>,
+) -> Result<clap::Command<'a>, AllocError>
+    ensures { IfOk result (AddsPath program.entry (codes "packets") (codes "SCRIPT")) }
+{
+    let command = PathCommand {
+        name: "packets",
+        about: "Runs a script as `world` does, and prints each packet that was put out",
+        after_help: "It prints `NUMBER KIND SOURCE DESTINATION HEX` for each packet, in order. NUMBER counts from 1, and HEX is all of the packet's bytes.\n\nExample:\n  vsync packets examples/join.script",
+        argument: "SCRIPT",
+        argument_help: "The script's path, or - for the standard input",
+    };
+    command.add_to(alloc, program)
+}
+
 /// The program with `check TRACE` as well.
 fn with_check<'a>(
     alloc: Global,
@@ -141,6 +162,7 @@ fn grammar<'a>(alloc: Global) -> Result<clap::Command<'a>, AllocError>
     let program = program_grammar(alloc)?;
     let program = with_world(alloc, program)?;
     let program = with_chat(alloc, program)?;
+    let program = with_packets(alloc, program)?;
     with_check(alloc, program)
 }
 
@@ -153,6 +175,9 @@ fn named<'a>(name: &str, matches: &ArgMatches<'a>) -> Option<Invocation<'a>>
     }
     if name == "chat" {
         return Some(Invocation::Chat(matches.get_str("SCRIPT")?));
+    }
+    if name == "packets" {
+        return Some(Invocation::Packets(matches.get_str("SCRIPT")?));
     }
     if name == "check" {
         return Some(Invocation::Check(matches.get_str("TRACE")?));
@@ -181,8 +206,8 @@ fn parsed<'a>(alloc: Global, words: &'a [String]) -> Result<Invocation<'a>, Erro
     }
 }
 
-/// The command that the words of a command line ask for, the program's name first: `world SCRIPT`, `chat SCRIPT` or
-/// `check TRACE`.
+/// The command that the words of a command line ask for, the program's name first: `world SCRIPT`, `chat SCRIPT`,
+/// `packets SCRIPT` or `check TRACE`.
 /// No words after the name are `world -`. A path that begins with `-` and is more than that stands behind `--`.
 ///
 /// Words that are no command give clap's error, whose text says what is wrong (`error.kind()` says which kind of
@@ -200,6 +225,9 @@ pub fn command<'a>(alloc: Global, words: &'a [String]) -> Result<Invocation<'a>,
     ensures chat { (name path : Text) → is_path path ≡ true
         → map string_bytes words.now ≡ name ∷ codes "chat" ∷ path ∷ []
         → IsOrNoMemory (IsChatOn path) result }
+    ensures packets { (name path : Text) → is_path path ≡ true
+        → map string_bytes words.now ≡ name ∷ codes "packets" ∷ path ∷ []
+        → IsOrNoMemory (IsPacketsOn path) result }
     ensures check { (name path : Text) → is_path path ≡ true
         → map string_bytes words.now ≡ name ∷ codes "check" ∷ path ∷ []
         → IsOrNoMemory (IsCheckOn path) result }

@@ -16,6 +16,7 @@ fn name_of(command: Invocation<'_>) -> &'static str {
     match command {
         Invocation::World(_) => "world",
         Invocation::Chat(_) => "chat",
+        Invocation::Packets(_) => "packets",
         Invocation::Check(_) => "check",
     }
 }
@@ -66,6 +67,10 @@ fn each_subcommand_takes_a_path(rt: HostRuntime) {
         "chat"
     );
     assert!(rt;
+        asked(alloc, &["vsync", "packets", "a.script"], "a.script") == Some("packets"),
+        "packets"
+    );
+    assert!(rt;
         asked(alloc, &["vsync", "check", "world"], "world") == Some("check"),
         "check"
     );
@@ -81,6 +86,10 @@ fn each_subcommand_takes_the_standard_input(rt: HostRuntime) {
     assert!(rt;
         asked(alloc, &["vsync", "chat", "-"], "-") == Some("chat"),
         "chat"
+    );
+    assert!(rt;
+        asked(alloc, &["vsync", "packets", "-"], "-") == Some("packets"),
+        "packets"
     );
     assert!(rt;
         asked(alloc, &["vsync", "check", "-"], "-") == Some("check"),
@@ -103,6 +112,7 @@ fn a_subcommand_without_a_path_is_refused(rt: HostRuntime) {
     let (alloc, wanted) = (rt.alloc(), Some(ErrorKind::MissingRequiredArgument));
     assert!(rt; refusal(alloc, &["vsync", "world"]) == wanted, "world");
     assert!(rt; refusal(alloc, &["vsync", "chat"]) == wanted, "chat");
+    assert!(rt; refusal(alloc, &["vsync", "packets"]) == wanted, "packets");
 }
 
 #[test]
@@ -131,5 +141,9 @@ fn help_is_told_of_the_program_and_of_each_subcommand(rt: HostRuntime) {
     assert!(rt;
         refusal(alloc, &["vsync", "chat", "--help"]) == wanted,
         "chat"
+    );
+    assert!(rt;
+        refusal(alloc, &["vsync", "packets", "--help"]) == wanted,
+        "packets"
     );
 }

@@ -2,7 +2,7 @@
 
 use chat_log::ChatLog;
 use std::alloc::Global;
-use vsync_runs::{Status, run_chat, run_check, run_script};
+use vsync_runs::{Status, run_chat, run_check, run_packets, run_script};
 
 /// What a command writes of a text, and its exit status.
 pub fn run(alloc: Global, command: &[u8], text: &[u8]) -> (Vec<u8>, u8) {
@@ -11,6 +11,7 @@ pub fn run(alloc: Global, command: &[u8], text: &[u8]) -> (Vec<u8>, u8) {
     let status = match command {
         b"world" => run_script::<ChatLog, &[u8], Vec<u8>>(alloc, &mut reader, &mut output),
         b"chat" => run_chat::<ChatLog, &[u8], Vec<u8>>(alloc, &mut reader, &mut output),
+        b"packets" => run_packets::<ChatLog, &[u8], Vec<u8>>(alloc, &mut reader, &mut output),
         b"check" => run_check::<ChatLog, &[u8], Vec<u8>>(alloc, &mut reader, &mut output),
         _ => Status::Usage,
     };

@@ -1,4 +1,5 @@
-//! The examples are run: each `NAME.script` prints its `NAME.trace`, and under the command chat its `NAME.chat` where there is one.
+//! The examples are run: each `NAME.script` prints its `NAME.trace`, and under the commands chat and packets its `NAME.chat` and its
+//! `NAME.packets` where there is one.
 
 use crate::commands::run;
 use crate::files::{bytes_of, names_with};
@@ -55,5 +56,13 @@ fn run_each(
 pub fn run_examples(rt: &HostRuntime, folder: &str, report: &mut Report) -> io::Result<()> {
     let examples = format!(in rt.alloc(); "{folder}/examples")?;
     run_each(rt, examples.as_str(), "world", ".script", ".trace", report)?;
-    run_each(rt, examples.as_str(), "chat", ".chat", ".chat", report)
+    run_each(rt, examples.as_str(), "chat", ".chat", ".chat", report)?;
+    run_each(
+        rt,
+        examples.as_str(),
+        "packets",
+        ".packets",
+        ".packets",
+        report,
+    )
 }

@@ -298,6 +298,13 @@ impl<R: Receiver> World<R> {
         self.pool.packet(number)
     }
 
+    /// Every packet that was ever put out, in the order in which they were.
+    pub fn packets(&self) -> &[Bytes]
+        ensures { result.now ≡ self.now.history.pool }
+    {
+        self.pool.packets()
+    }
+
     /// The member that runs at a node; None where none runs there.
     pub fn running(&self, node: Node) -> Option<Address>
         ensures { result ≡ running node self.now.history.trace }

@@ -43,6 +43,13 @@ impl Pool {
         Some(packet.as_slice())
     }
 
+    /// All packets, in order.
+    pub fn packets(&self) -> &[Bytes]
+        ensures { result.now ≡ self.now }
+    {
+        self.packets.as_slice()
+    }
+
     /// Puts out packets, in order. On refusal of their places the pool is as before, and there was one at least.
     pub fn put_all(&mut self, packets: Vec<Outgoing>) -> Result<(), AllocError>
         ensures ok { OnOk result (self.new ≡ self.old ++ map bytes_of packets.items) }

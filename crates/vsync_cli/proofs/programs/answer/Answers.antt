@@ -7,5 +7,8 @@ returns-in-World g c = search rules
 pub returns-in-Chat : goal.returns-in-Chat
 returns-in-Chat g c = search rules
 
+pub returns-in-Packets : goal.returns-in-Packets
+returns-in-Packets g c = search rules
+
 pub returns-in-Check : goal.returns-in-Check
 returns-in-Check g c = search rules

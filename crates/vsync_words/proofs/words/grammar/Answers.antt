@@ -12,4 +12,5 @@ pub returns : goal.returns
 returns c =
     let world_is = c.in_ok-program-2.ensures ∙ ap (adding (codes "world") (codes "SCRIPT")) c.in_ok-program.ensures in
     let chat_is = c.in_ok-program-3.ensures ∙ ap (adding (codes "chat") (codes "SCRIPT")) world_is in
-    IfOk-weaker c.with_check.result _ _ (λ program check_is. check_is ∙ ap (adding (codes "check") (codes "TRACE")) chat_is) c.with_check.ensures
+    let packets_is = c.in_ok-program-4.ensures ∙ ap (adding (codes "packets") (codes "SCRIPT")) chat_is in
+    IfOk-weaker c.with_check.result _ _ (λ program check_is. check_is ∙ ap (adding (codes "check") (codes "TRACE")) packets_is) c.with_check.ensures

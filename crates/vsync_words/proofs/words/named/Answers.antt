@@ -18,5 +18,11 @@ returns-then-eq-2 c = (
 pub returns-then-eq-3 : goal.returns-then-eq-3
 returns-then-eq-3 c = (
   search rules,
-  sym (first_value-rows (found_of c.args.matches.now) (codes "TRACE")) ∙ (sym c.get_str-then-eq-3.ensures ∙ ap (option_map (λ s. s.now)) c.in_ok-get_str-3.was),
+  sym (first_value-rows (found_of c.args.matches.now) (codes "SCRIPT")) ∙ (sym c.get_str-then-eq-3.ensures ∙ ap (option_map (λ s. s.now)) c.in_ok-get_str-3.was),
+)
+
+pub returns-then-eq-4 : goal.returns-then-eq-4
+returns-then-eq-4 c = (
+  search rules,
+  sym (first_value-rows (found_of c.args.matches.now) (codes "TRACE")) ∙ (sym c.get_str-then-eq-4.ensures ∙ ap (option_map (λ s. s.now)) c.in_ok-get_str-4.was),
 )
