@@ -2,11 +2,8 @@
 use Rattle.std.proofs.Common.{◌≡◌, ℕ, zero, suc, ◌+◌, ◌<◌, ◌≤◌, List, [], ◌∷◌, ◌++◌, length, take, get_or, refl, sym, ap, ◌∙◌, append_assoc, append-nil, arith}
 use Rattle.std.specs.List.{concat}
 use Rattle.std.proofs.lemmas.List.{take_all}
+use Rattle.std.proofs.lemmas.List.Folds.{concat-append}
 use Rattle.packet_text.specs.PacketText.{packet_line, packet_lines, packet_lines_from}
-
-concat-append : (xs ys : List (List ℕ)) → concat (xs ++ ys) ≡ concat xs ++ concat ys
-concat-append [] ys = refl
-concat-append (x ∷ xs) ys = ap (λ l. x ++ l) (concat-append xs ys) ∙ sym (append_assoc x (concat xs) (concat ys))
 
 -- one line more than the first few
 next : (n : ℕ) (packets : List (List ℕ)) (i : ℕ) (d : List ℕ) → i < length packets
@@ -18,7 +15,7 @@ next n (p ∷ packets) (suc i) d inside =
     (next (n + 1) packets i d (omega (arith, inside)) ∙ ap (λ (m : ℕ). take i (packet_lines_from (n + 1) packets) ++ packet_line m (get_or packets i d) ∷ []) (let e : n + 1 + i ≡ n + suc i = omega arith in e))
 
 -- there are as many lines as packets
-pub all : (n : ℕ) (packets : List (List ℕ)) → length (packet_lines_from n packets) ≡ length packets
+all : (n : ℕ) (packets : List (List ℕ)) → length (packet_lines_from n packets) ≡ length packets
 all n [] = refl
 all n (p ∷ packets) = ap suc (all (n + 1) packets)
 
