@@ -12,7 +12,7 @@ use Rattle.packet_values.specs.Values.{Entry}
 use Rattle.wire.specs.Values as wire
 use Rattle.wire.specs.Values.{Report}
 use Rattle.trace_props.specs.declared.happening.Happening.{Happening}
-use Rattle.trace_props.specs.declared.happening.Happening.TheVariants.{Blocked, Installed}
+use Rattle.trace_props.specs.declared.happening.Happening.TheVariants.{Blocked}
 use Rattle.flush.specs.Cuts.{entries_from, cut_items, cut_base, held_among}
 use Rattle.flush.specs.Flushes.{FlushModel, group}
 use Rattle.view_install.specs.declared.promise.OfferAnswer.{OfferAnswer}
@@ -20,7 +20,7 @@ use Rattle.view_install.specs.declared.promise.OfferAnswer.TheVariants.{Accept, 
 use Rattle.view_install.specs.Promises.{offered}
 use Rattle.agreement.specs.Histories.{Posted}
 use Rattle.agreement.specs.Cores.{is_open}
-use Rattle.agreement.specs.Acts.{proposed, delivery, deliveries, undelivered}
+use Rattle.agreement.specs.Acts.{delivery}
 use Rattle.member_acts.specs.Decisions.{due_proposal, is_entry, cuts_of}
 use Rattle.output.specs.declared.output.Output.{Output}
 use Rattle.output.specs.Outputs.{Grows}
@@ -29,9 +29,9 @@ use Rattle.output.proofs.Calming.{calm-nothing, calm-grown, calm-then, calm-wide
 use Rattle.traffic.specs.declared.traffic.Traffic.{Traffic}
 use Rattle.traffic.specs.Traffics.{view_of, traffic_of}
 use Rattle.membership.specs.declared.life.Life.{Life}
-use Rattle.membership.specs.Lives.{core_of, is_complete, anew_proposal, view_in, blocked_by}
+use Rattle.membership.specs.Lives.{core_of, is_complete, view_in, blocked_by}
 use Rattle.membership.specs.Installs.{told_by, lacking, finish_events, enter_events}
-use Rattle.membership.specs.Changes.{StaysAs, TakesBy, TakesFlush, Begins, ProposesIf, BeginsAnew, Finishes, FinishesIf, GoesOn, Regroups, TakesReport, TakesBehind, TakesSuspicion, TakesInstall, Enters}
+use Rattle.membership.specs.Changes.{StaysAs, TakesBy, TakesFlush, Begins, Finishes, GoesOn, Regroups, TakesReport, TakesBehind, TakesSuspicion, TakesInstall, Enters}
 use Rattle.member_views.specs.Views.{OnJoin, OnRedirect, OnSuspect, OnFlush, OnBehind, OnReport, OnMerge, Asks, Redirects, SaysAgain, Admits, Meets, TellsView, outdated, joined, merged, leads_now, has_member, is_less, is_suspectable, is_proposing, expects, is_in}
 
 -- ---- how much is delivered at most

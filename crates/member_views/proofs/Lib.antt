@@ -1,4 +1,4 @@
-pub mod Noting
 pub mod Living
 pub mod Steady
 pub mod Calming
+pub mod Doing

@@ -1,5 +1,5 @@
 -- In a change of view a member keeps what it keeps of its view, or begins a view anew.
-use Rattle.std.proofs.Common.{◌≡◌, ℕ, Bool, true, false, Option, Some, None, List, sym, ap, ◌∙◌, is_some, ◌&&◌, not}
+use Rattle.std.proofs.Common.{◌≡◌, ℕ, Bool, true, false, Option, Some, None, List, ap, ◌∙◌, is_some, ◌&&◌, not}
 use Rattle.std.specs.Prelude.{MatchBool, MatchOption}
 use Rattle.address.specs.Ids.{Address, ViewId, same_address}
 use Rattle.view.specs.Members.{View}
@@ -14,8 +14,8 @@ use Rattle.output.specs.declared.output.Output.{Output}
 use Rattle.traffic.specs.declared.traffic.Traffic.{Traffic}
 use Rattle.traffic.specs.Traffics.{fresh_in}
 use Rattle.membership.specs.declared.life.Life.{Life}
-use Rattle.membership.specs.Lives.{core_of, is_complete, anew_proposal}
-use Rattle.membership.specs.Changes.{StaysAs, TakesBy, TakesFlush, Begins, ProposesIf, BeginsAnew, Finishes, FinishesIf, GoesOn, Regroups, TakesReport, TakesBehind, TakesSuspicion, TakesInstall, Enters}
+use Rattle.membership.specs.Lives.{core_of, is_complete}
+use Rattle.membership.specs.Changes.{StaysAs, TakesBy, TakesFlush, Begins, Finishes, GoesOn, Regroups, TakesReport, TakesBehind, TakesSuspicion, TakesInstall, Enters}
 use Rattle.member_views.specs.Views.{OnJoin, OnRedirect, OnSuspect, OnFlush, OnBehind, OnReport, OnMerge, Asks, Redirects, SaysAgain, Admits, Meets, TellsView, outdated, joined, merged, leads_now, has_member, is_less, is_suspectable, is_proposing, expects, is_in}
 
 pub data Steady {S : Type 0} (me : Address) (old new : Life S) : Type 0 where

@@ -25,8 +25,8 @@ pub fn on_flush<R: Receiver>(
     out: &mut Output,
 ) -> Result<(), AllocError>
     requires life { IsLife who.now.group who.now.address life.old }
-    requires connected { is_connected life.old ≡ true }
     requires other { same_address source who.now.address ≡ false }
+    requires connected { is_connected life.old ≡ true }
     ensures life { OnOk result (IsLife who.now.group who.now.address life.new) }
     ensures does { OnOk result (OnFlush who.now.group who.now.address source proposal.now life.old life.new out.old out.new) }
     ensures ignored { is_flush_ignored source proposal.now life.old ≡ true → (result ≡ Ok tt) × StaysAs life.old life.new out.old out.new }

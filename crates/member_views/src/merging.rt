@@ -49,12 +49,7 @@ fn view_for<'a, R: Receiver>(
 }
 
 // Says to an address what its view is.
-fn say(
-    who: &Identity,
-    view: &View,
-    address: Address,
-    out: &mut Output,
-) -> Result<(), AllocError>
+fn say(who: &Identity, view: &View, address: Address, out: &mut Output) -> Result<(), AllocError>
     ensures { OnOk result (Grows who.now.group out.old out.new (packet who.now.address (bodies.Merge view.now) address ∷ []) []) }
 {
     let roster = Roster::new(view.id(), view.members().as_slice()).unwrap();

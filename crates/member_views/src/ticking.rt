@@ -67,11 +67,7 @@ fn propose_to(
 }
 
 // Its own proposal goes again to those who have not reported.
-fn propose_again(
-    flush: &Flush,
-    who: &Identity,
-    out: &mut Output,
-) -> Result<(), AllocError>
+fn propose_again(flush: &Flush, who: &Identity, out: &mut Output) -> Result<(), AllocError>
     requires list { view_refusal flush.now.proposal flush.now.members ≡ None }
     ensures { OnOk result (Grows who.now.group out.old out.new (proposes_again who.now.address flush.now) []) }
 {
