@@ -38,7 +38,8 @@ fn lone_install(who: &Identity) -> Result<Install, AllocError>
     })
 }
 
-// Makes a group of itself alone.
+/// Makes a group of itself alone: it promises and installs its first view (docs/PROTOCOL.md, "Joining"). After an error for want of memory nothing is
+/// said of the member.
 pub fn create<R: Receiver>(
     life: &mut Life<R>,
     who: &Identity,
@@ -60,7 +61,7 @@ pub fn create<R: Receiver>(
     Ok(())
 }
 
-// Asks a contact to be let in.
+/// Asks a contact to be let in, by a JOIN (docs/PROTOCOL.md, "Joining"). After an error for want of memory nothing is said of the member.
 pub fn ask<R: Receiver>(
     life: &mut Life<R>,
     who: &Identity,
@@ -193,7 +194,8 @@ fn admit<R: Receiver>(
     Ok(())
 }
 
-// JOIN: one asks to be let in.
+/// JOIN: one asks to be let in. Earlier incarnations of its node are suspected; a member that leads its view notes it and begins what is due, another says whom
+/// to ask (docs/PROTOCOL.md, "Candidates"). Ignored without a view. After an error for want of memory nothing is said of the member.
 pub fn on_join<R: Receiver>(
     life: &mut Life<R>,
     who: &Identity,
@@ -214,7 +216,8 @@ pub fn on_join<R: Receiver>(
     Ok(())
 }
 
-// REDIRECT: another is to be asked.
+/// REDIRECT: another is to be asked. Without a view it asks that one; in a view this is a hint of another view; one to itself is ignored
+/// (docs/PROTOCOL.md, "Joining" and "Merging"). After an error for want of memory nothing is said of the member.
 pub fn on_redirect<R: Receiver>(
     life: &mut Life<R>,
     who: &Identity,

@@ -31,7 +31,7 @@ fn say_to(who: &Identity, traffic: &Traffic, out: &mut Output) -> Result<(), All
     Ok(())
 }
 
-// Leaves the group.
+/// Leaves the group: each other member of its view is told by a LEAVE, by rank. After an error for want of memory nothing is said of what was put out.
 pub fn leave<R: Receiver>(
     life: &Life<R>,
     who: &Identity,
@@ -65,7 +65,9 @@ fn is_suspectable<R: Receiver>(life: &Life<R>, who: &Identity, address: &Address
         && (has_member(life, address) || has_promised(life, address))
 }
 
-// LEAVE, and a suspicion of the failure detector: an address has gone.
+/// LEAVE, or a suspicion of the failure detector: an address has gone. It is suspected, and what is due is begun (docs/PROTOCOL.md, "Suspicion").
+/// Ignored for the member itself and for an address that is neither in its view nor in the list that it promised. After an error for want of memory
+/// nothing is said of the member.
 pub fn on_suspect<R: Receiver>(
     life: &mut Life<R>,
     who: &Identity,

@@ -34,7 +34,8 @@ fn report_again<R: Receiver>(
     }
 }
 
-// While it asks to be let in.
+/// Time passes while it asks to be let in: the JOIN goes to its contact again, and its report to who proposed what it promised. After an error for want of
+/// memory nothing is said of what was put out.
 pub fn ask_again<R: Receiver>(
     life: &Life<R>,
     who: &Identity,
@@ -79,7 +80,8 @@ fn propose_again(flush: &Flush, who: &Identity, out: &mut Output) -> Result<(), 
     Ok(())
 }
 
-// While it is blocked.
+/// Time passes while it is blocked: its own proposal goes again to those who have not reported; without a flush of its own, its report goes again. After an
+/// error for want of memory nothing is said of what was put out.
 pub fn flush_again<R: Receiver>(
     life: &Life<R>,
     who: &Identity,
