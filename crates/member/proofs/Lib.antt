@@ -1,5 +1,4 @@
-pub mod Lives
-pub mod Acts
 pub mod Refusing
-pub mod Entering
-pub mod Handling
+pub mod Connecting
+pub mod Stepping
+pub mod Taking

@@ -1,8 +1,6 @@
--- Why a member refuses: never with 6 while it runs, and no packet.
-use Rattle.std.proofs.Common.{◌≡◌, ℕ, Bool, true, false, cond, not, Option, Some, None, length, nat_le, nat_lt, is_some, ◌^◌, refl, sym, ap, ◌∙◌, ◌≤◌, arith}
+-- Why a member refuses: never with 6 while it runs; and why it does not send.
+use Rattle.std.proofs.Common.{◌≡◌, ℕ, Bool, true, false, cond, not, Option, Some, None, List, length, nat_le, nat_lt, is_some, ◌^◌, refl, sym, ap, ◌∙◌}
 use Rattle.std.specs.Option.{option_map, option_map_or}
-use Rattle.std.proofs.lemmas.Option.{none-some}
-use Rattle.std.proofs.lemmas.Bool.Decides.{nat_tests}
 use Rattle.packet_values.specs.declared.limits.TheConstants.{PAYLOAD}
 use Rattle.wire.specs.declared.error.WireError.{WireError}
 use Rattle.wire.specs.Packets.{wire_refusal}
@@ -12,7 +10,10 @@ use Rattle.member.specs.declared.error.Error.{Error}
 use Rattle.member.specs.declared.error.Error.TheVariants.{NotConnected, Blocked, Busy, TooLong, AlreadyConnected, Closed, Memory, Exhausted, Wire}
 use Rattle.member.specs.declared.input.Input.{Input}
 use Rattle.member.specs.declared.input.Input.TheVariants.{Create, Join, Send, Datagram, Tick, Suspect, MergeHint, Leave}
-use Rattle.member.specs.Members.{refusal_in, spells_packet}
+use Rattle.member_messages.specs.declared.refusal.SendRefusal.TheVariants as refusal
+use Rattle.member_messages.specs.Refusals as messages
+use Rattle.member.specs.Errors.{unsent}
+use Rattle.member.specs.Members.{refusal_in, send_refusal}
 
 is_closed : Error → Bool
 is_closed NotConnected = false
@@ -58,25 +59,19 @@ pub never-closed : {S : Type 0} (c : Core S) (input : Input) → refusal_in c in
 unfolding is_closed
 never-closed c input e = let n : true ≡ false = sym (ap closes e) ∙ opens c input in absurd (cc)
 
-wire-free : (o : Option WireError) → not (is_some o) ≡ true → option_map Wire o ≡ None
-wire-free None e = refl
-wire-free (Some w) e = absurd (let n : false ≡ true = e in cc)
+-- ---- a message of its own
 
--- what spells a packet is not refused
-pub packet-free : {S : Type 0} (c : Core S) (input : Input) → spells_packet input ≡ true → refusal_in c input ≡ None
-packet-free c Create e = absurd (let n : false ≡ true = e in cc)
-packet-free c (Join contact) e = absurd (let n : false ≡ true = e in cc)
-packet-free c (Send payload) e = absurd (let n : false ≡ true = e in cc)
-packet-free c (Datagram bytes) e = wire-free (wire_refusal bytes.now) e
-packet-free c Tick e = absurd (let n : false ≡ true = e in cc)
-packet-free c (Suspect q) e = absurd (let n : false ≡ true = e in cc)
-packet-free c (MergeHint q) e = absurd (let n : false ≡ true = e in cc)
-packet-free c Leave e = absurd (let n : false ≡ true = e in cc)
+sends-by : (b1 b2 b3 b4 b5 : Bool)
+    → option_map unsent (cond b1 (Some refusal.NotConnected) (cond b2 (Some refusal.TooLong) (cond b3 (Some refusal.Blocked) (cond b4 (Some refusal.Busy) (cond b5 (Some refusal.Exhausted) None)))))
+    ≡ cond b1 (Some NotConnected) (cond b2 (Some TooLong) (cond b3 (Some Blocked) (cond b4 (Some Busy) (cond b5 (Some Exhausted) None))))
+sends-by true b2 b3 b4 b5 = refl
+sends-by false true b3 b4 b5 = refl
+sends-by false false true b4 b5 = refl
+sends-by false false false true b5 = refl
+sends-by false false false false true = refl
+sends-by false false false false false = refl
 
-short-by : (b : Bool) (n : ℕ) (o : Option Error) → nat_lt PAYLOAD n ≡ b → cond b (Some TooLong) o ≡ None → n ≤ PAYLOAD
-short-by true n o test e = absurd (none-some TooLong (sym e))
-short-by false n o test e = grind (arith, nat_tests)
-
--- a message that is not refused as too long is not too long
-pub is-short : (n : ℕ) (o : Option Error) → cond (nat_lt PAYLOAD n) (Some TooLong) o ≡ None → n ≤ PAYLOAD
-is-short n o e = short-by (nat_lt PAYLOAD n) n o refl e
+-- the same reasons in both words
+pub sends-as : {S : Type 0} (c : Core S) (payload : List ℕ) → option_map unsent (messages.send_refusal c payload) ≡ send_refusal c payload
+sends-as c payload =
+    sends-by (not (is_some c.view)) (nat_lt PAYLOAD (length payload)) (is_frozen c.view c.installed) (nat_le OUTSTANDING (length c.traffic.outstanding)) (nat_le (2 ^ 62) c.traffic.sent)

@@ -1,6 +1,10 @@
 -- The numbers of the refusals.
 use Rattle.std.specs.Prelude.{ℕ, Bool, true, false}
 use Rattle.wire.specs.Reading.{error_number}
+use Rattle.membership.specs.declared.stop.Stop.{Stop}
+use Rattle.membership.specs.declared.stop.Stop.TheVariants as stop
+use Rattle.member_messages.specs.declared.refusal.SendRefusal.{SendRefusal}
+use Rattle.member_messages.specs.declared.refusal.SendRefusal.TheVariants as refusal
 use Rattle.member.specs.declared.error.Error.{Error}
 use Rattle.member.specs.declared.error.Error.TheVariants.{NotConnected, Blocked, Busy, TooLong, AlreadyConnected, Closed, Memory, Exhausted, Wire}
 
@@ -26,3 +30,16 @@ is_memory Closed = false
 is_memory Memory = true
 is_memory Exhausted = false
 is_memory (Wire e) = false
+
+-- the refusal of a message of its own
+abbrev pub unsent : SendRefusal → Error
+unsent refusal.NotConnected = NotConnected
+unsent refusal.TooLong = TooLong
+unsent refusal.Blocked = Blocked
+unsent refusal.Busy = Busy
+unsent refusal.Exhausted = Exhausted
+
+-- the answer of a step that ended it
+abbrev pub stopped : Stop → Error
+stopped stop.Memory = Memory
+stopped stop.Unreadable = Closed

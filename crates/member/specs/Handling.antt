@@ -1,28 +1,29 @@
 -- What one step of a member promises: in the acts and words of agreement, and in the words of traces.
-use Rattle.std.specs.Prelude.{◌≡◌, ℕ, ◌+◌, ◌<◌, ◌≤◌, Bool, true, false, is_some, map, length, [], ◌∷◌, List, Result, Ok, Err, Option, None, Some, MatchBool, IsSome, IfOk, ◌⊎◌, drop, if◌then◌else◌}
-use Rattle.std.specs.Option.{IsSomeAnd, option_and_then, option_map_or}
+use Rattle.std.specs.Prelude.{◌≡◌, ℕ, ◌+◌, ◌<◌, ◌≤◌, Bool, true, false, map, length, [], ◌∷◌, List, Result, Ok, Err, Option, None, Some, MatchBool, IfOk, ◌⊎◌, drop}
+use Rattle.std.specs.Option.{IsSomeAnd}
 use Rattle.std.specs.List.{list_all, Contains, AllByRecursion}
 use Rattle.address.specs.Ids.{Address, same_address}
+use Rattle.address.specs.declared.TheConstants.{GREATEST_NUMBER}
 use Rattle.packet_values.specs.declared.limits.TheConstants.{WINDOW}
-use Rattle.wire.specs.declared.packet.Body.TheVariants as bodies
 use Rattle.wire.specs.Packets.{IsPacket}
 use Rattle.trace_props.specs.declared.happening.Happening.{Happening}
-use Rattle.trace_props.specs.declared.happening.Happening.TheVariants.{Started, Sent, Delivered, Blocked, Installed, Left, Crashed}
+use Rattle.trace_props.specs.declared.happening.Happening.TheVariants.{Sent, Delivered, Installed, Left}
 use Rattle.trace_props.specs.Recorded.{IsRecordable}
 use Rattle.agreement.specs.Histories.{Posted}
 use Rattle.agreement.specs.Cores.{Core}
-use Rattle.agreement.specs.Acts.{packet}
 use Rattle.agreement.specs.Chains.{Acted}
+use Rattle.output.specs.declared.output.Output.{Output}
+use Rattle.output.specs.Outputs.{Puts, packet_in, spelled}
+pub use Rattle.output.specs.Calm.{is_quiet}
+use Rattle.member_hearing.specs.Running.{IsAlive}
 use Rattle.member.specs.declared.TheConstants.{HAPPENINGS}
 use Rattle.member.specs.declared.error.Error.{Error}
 use Rattle.member.specs.declared.error.Error.TheVariants.{Memory, Closed}
 use Rattle.member.specs.declared.input.Input.{Input}
 use Rattle.member.specs.declared.input.Input.TheVariants.{Create, Join, Send, Datagram, Tick, Suspect, MergeHint, Leave}
-use Rattle.member.specs.declared.output.Output.{Output}
 use Rattle.member.specs.Errors.{is_memory}
-use Rattle.member.specs.Members.{MemberModel, Book, core_of, book_of, came_at, refusal_of, is_ignored, is_unreadable, lone_install}
-use Rattle.member.specs.Outputs.{Puts, packet_in, spelled}
-use Rattle.member.specs.Steps.{announced}
+use Rattle.member.specs.Members.{MemberModel, core_of, came_at, refusal_of, is_unreadable, lone_install}
+use Rattle.member.specs.Doing.{Does, is_ignored}
 
 -- ---- acted
 
@@ -53,16 +54,6 @@ pub record IsClosed {S : Type 0} (decode : List ℕ → Option S) (old : MemberM
 
 -- ---- reply
 
--- a happening that no input asks for by itself
-abbrev pub is_quiet : Happening → Bool
-is_quiet (Started p) = false
-is_quiet (Sent s) = false
-is_quiet (Delivered d) = true
-is_quiet (Blocked p) = true
-is_quiet (Installed i) = true
-is_quiet (Left p) = false
-is_quiet (Crashed p) = false
-
 -- its message gets the next number, its Sent comes first, and no other Sent with it
 pub record SendsNext {S : Type 0} (c : Core S) (payload : List ℕ) (happened : List Happening) : Type 0 where
   pub first : IsSomeAnd c.view (λ v.
@@ -90,43 +81,17 @@ Replies c Leave happened end = (happened ≡ Left c.me ∷ []) × (end ≡ None)
 
 -- ---- prompt
 
--- a message that the first of its view sends is told to it in the same step, while fewer are past the stable ones than the window has places
+-- a message that the coordinator sends is delivered to it in the same step, while fewer are past the stable ones than the window has places, and a number is left
 abbrev pub IsPrompt : {S : Type 0} → Core S → Input → List Happening → Type 0
 IsPrompt c Create happened = Unit {0}
 IsPrompt c (Join contact) happened = Unit {0}
-IsPrompt c (Send payload) happened = IsSomeAnd c.view (λ v. same_address c.me v.id.creator ≡ true → c.traffic.delivered < c.traffic.stable + WINDOW
+IsPrompt c (Send payload) happened = IsSomeAnd c.view (λ v. same_address c.me v.id.creator ≡ true → c.traffic.delivered < c.traffic.stable + WINDOW → c.traffic.delivered < GREATEST_NUMBER
     → Contains happened (Delivered (record { member = c.me; view = v.id; message = record { sender = c.me; number = c.traffic.sent + 1; payload = payload.now } })))
 IsPrompt c (Datagram bytes) happened = Unit {0}
 IsPrompt c Tick happened = Unit {0}
 IsPrompt c (Suspect q) happened = Unit {0}
 IsPrompt c (MergeHint q) happened = Unit {0}
 IsPrompt c Leave happened = Unit {0}
-
--- the contact, while it has no view and asks one
-abbrev pub asked_by : {S : Type 0} → MemberModel S → Option Address
-asked_by m = option_and_then (λ c. if is_some c.view then None else option_and_then (λ b. b.contact) (book_of m)) (core_of m)
-
--- what is to be put out
-abbrev pub posts : {S : Type 0} → MemberModel S → Input → List Posted
-posts m Create = []
-posts m (Join contact) = packet m.address bodies.Join contact ∷ []
-posts m (Send payload) = []
-posts m (Datagram bytes) = []
-posts m Tick = option_map_or (λ contact. packet m.address bodies.Join contact ∷ []) (asked_by m) []
-posts m (Suspect q) = []
-posts m (MergeHint q) = option_map_or (λ c. announced m.address c.view q) (core_of m) []
-posts m Leave = []
-
--- its notes afterwards, while it runs
-abbrev pub noted : Option Book → Input → Option Book
-noted b Create = b
-noted b (Join contact) = Some (record { contact = Some contact })
-noted b (Send payload) = b
-noted b (Datagram bytes) = b
-noted b Tick = b
-noted b (Suspect q) = b
-noted b (MergeHint q) = b
-noted b Leave = None
 
 -- ---- ignored
 
@@ -136,7 +101,7 @@ IsNothing (Ok out) = Puts [] [] out
 IsNothing (Err e) = ⊥
 
 abbrev pub Ignores : {S : Type 0} → MemberModel S → Input → Result Output Error → MemberModel S → Type 0
-Ignores old input result new = is_ignored old input ≡ true → IsSome (core_of old) → IsNothing result × (new ≡ old)
+Ignores old input result new = is_ignored old input ≡ true → IsNothing result × (new ≡ old)
 
 -- ---- all of it
 
@@ -148,10 +113,11 @@ pub record Handled {S : Type 0} (apply : S → Address → List ℕ → S) (enco
   pub closed : IsClosed decode old input result
   pub reply : IfOk result (λ out. IsSomeAnd (core_of old) (λ c. Replies c input out.happenings.items (core_of new)))
   pub prompt : IfOk result (λ out. IsSomeAnd (core_of old) (λ c. IsPrompt c input out.happenings.items))
-  pub puts : IfOk result (λ out. out.packets.items ≡ map (spelled old.group) (posts old input))
-  pub notes : IfOk result (λ out. book_of new ≡ noted (book_of old) input)
+  pub does : IfOk result (λ out. Does apply encode decode old input out new)
   pub few : IfOk result (λ out. length out.happenings.items ≤ HAPPENINGS)
   pub short : IfOk result (λ out. IsRecordable out.happenings.items)
   pub ignored : Ignores old input result new
+  -- what holds of a member between its calls
+  pub alive : IsAlive new.group new.address new.life
   pub address : new.address ≡ old.address
   pub group : new.group ≡ old.group

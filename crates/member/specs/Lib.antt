@@ -1,6 +1,5 @@
 pub mod Errors
-pub mod Names
-pub mod Outputs
 pub mod Members
-pub mod Steps
+pub mod Doing
 pub mod Handling
+pub mod Watching

@@ -1,26 +1,30 @@
-ghost use Rattle.std.specs.Prelude.{◌≡◌, ◌↔◌, ◌≤◌, ℕ, map, length, false, Some, None, Err, IfOk};
+ghost use Rattle.std.specs.Prelude.{◌≡◌, ◌≤◌, length, false, Some, IfOk};
 ghost use Rattle.std.specs.Option.{IsSomeAnd, option_copied, option_and_then, option_map, option_map_or};
 ghost use Rattle.trace_props.specs.Recorded.{IsRecordable};
 ghost use Rattle.agreement.specs.Cores.{idle, is_frozen};
+ghost use Rattle.member_hearing.specs.Running.{IsAlive};
 ghost use Rattle.member.specs.declared.TheConstants.{HAPPENINGS};
-ghost use Rattle.member.specs.declared.error.Error.TheVariants as error;
-ghost use Rattle.member.specs.Members.{IsLone, core_of, book_of, refusal_of, is_unreadable};
-ghost use Rattle.member.specs.Outputs.{spelled};
-ghost use Rattle.member.specs.Steps.{Answers, ends};
-ghost use Rattle.member.specs.Handling.{Handled, HasActed, RefusesAs, EndsWithout, IsClosed, Replies, IsPrompt, posts, noted, Ignores};
+ghost use Rattle.member.specs.Members.{core_of, refusal_of, is_unreadable};
+ghost use Rattle.member.specs.Doing.{Does};
+ghost use Rattle.member.specs.Handling.{HasActed, RefusesAs, EndsWithout, IsClosed, Replies, IsPrompt, Ignores};
+ghost use Rattle.member.specs.Watching.{watched};
 
-use crate::life::{Identity, Life, Stage};
-use crate::name::KeptName;
-use crate::{Error, Input, Output};
+use crate::handling::{
+    create_group, join_group, leave_group, merge_hint, send_message, suspect, take_datagram, tick,
+};
+use crate::watching::watched_in;
+use crate::{Error, Input};
 use address::Address;
+use membership::Life;
+use output::{Identity, KeptName, Output};
 use packet_values::GroupName;
 use state_transfer::Receiver;
-use std::alloc::Global;
+use std::alloc::{AllocError, Global};
 use std::marker::Model;
 use view::View;
 
-/// A member of a group, with the receiver that it tells messages and views. Contracts see its address, its group and, while it runs, its core,
-/// which is what it decides by (docs/PROOF.md, "Agreement over acts"), and its notes beside.
+/// A member of a group, with the receiver that it tells messages and views. Contracts see its address, its group and, while it runs, what it keeps
+/// (docs/PROTOCOL.md, "What a member keeps") and the core by which it decides (docs/PROOF.md, "Agreement over acts").
 #[derive(Drop)]
 pub struct Member<R: Receiver> {
     identity: Identity,
@@ -28,13 +32,14 @@ pub struct Member<R: Receiver> {
 }
 
 impl<R: Receiver> Model for Member<R> {
-    ghost use Rattle.member.specs.Members.{MemberModel, IsLone};
+    ghost use Rattle.member_hearing.specs.Running.{IsAlive};
+    ghost use Rattle.member.specs.Members.{MemberModel};
 
     ghost Value = { MemberModel R };
 
     ghost view = { λ m. record { address = m.identity.address; group = m.identity.group; life = m.life } };
 
-    ghost invariant = { λ m. IsLone m.identity.address m.life };
+    ghost invariant = { λ m. IsAlive m.identity.group m.identity.address m.life };
 }
 
 impl<R: Receiver> Member<R> {
@@ -43,7 +48,7 @@ impl<R: Receiver> Member<R> {
         ensures address { result.address ≡ address }
         ensures group { result.group ≡ group.entry }
         ensures core { core_of result ≡ Some (idle receiver address) }
-        ensures book { book_of result ≡ Some (record { contact = None }) }
+        ensures alive { IsAlive result.group result.address result.life }
     {
         Member {
             identity: Identity {
@@ -51,10 +56,7 @@ impl<R: Receiver> Member<R> {
                 address,
                 group: KeptName::of(&group),
             },
-            life: Some(Life {
-                stage: Stage::Idle,
-                receiver,
-            }),
+            life: Some(Life::idle(alloc, address, receiver)),
         }
     }
 
@@ -71,19 +73,18 @@ impl<R: Receiver> Member<R> {
     {
         match &self.life {
             None => None,
-            Some(life) => match &life.stage {
-                Stage::Idle | Stage::Joining(_) => None,
-                Stage::Alone { view, .. } => Some(view),
-            },
+            Some(life) => life.view(),
         }
     }
 
-    /// Whether it is in a view and has promised a later one: it may send nothing until that is installed. A member alone in its view never is.
+    /// Whether it is in a view and has promised a later one: it may send nothing until that is installed.
     pub fn is_blocked(&self) -> bool
         ensures { result ≡ option_map_or (λ c. is_frozen c.view c.installed) (core_of self.now) false }
     {
-        let _ = &self.life;
-        false
+        match &self.life {
+            None => false,
+            Some(life) => life.traffic.is_some() && !life.promise.is_installed(),
+        }
     }
 
     /// Its receiver, as the steps left it; `None` after its end.
@@ -96,42 +97,25 @@ impl<R: Receiver> Member<R> {
         }
     }
 
-    // What a running member does on an input, before it ends.
-    fn answer(&mut self, input: &Input<'_>) -> Result<Output, Error>
-        ensures lone { IsLone self.old.address self.old.life }
-        ensures address { self.new.address ≡ self.old.address }
-        ensures group { self.new.group ≡ self.old.group }
-        ensures gives { Answers R.apply self.old.address self.old.group self.old.life input.now result self.new.life }
+    /// Whose silence would hold up its view, so that a failure detector should watch them (docs/PROTOCOL.md, "Watched"). Nobody without a view, and
+    /// after its end. On an error for want of memory it is as before, and runs on.
+    pub fn watched(&self) -> Result<Vec<Address>, AllocError>
+        ensures { IfOk result (λ list. list.items ≡ watched self.now) }
     {
-        match &mut self.life {
-            None => Err(Error::Closed),
-            Some(life) => life.step(&self.identity, input),
+        let Some(life) = &self.life else {
+            return Ok(Vec::new(self.identity.alloc));
+        };
+        match life.view() {
+            None => Ok(Vec::new(self.identity.alloc)),
+            Some(view) => watched_in(life, &self.identity, view),
         }
     }
 
-    // One step.
-    fn step(&mut self, input: &Input<'_>) -> Result<Output, Error>
-        ensures { Handled R.apply R.encode R.decode self.old input.now result self.new }
-    {
-        let result = self.answer(input);
-        if ends(input, &result) {
-            self.end();
-        }
-        result
-    }
-
-    // Ends it.
-    fn end(&mut self)
-        ensures { self.new ≡ record self.old { life = None } }
-    {
-        self.life = None;
-    }
-
-    /// One step: an input comes in, packets and happenings come out, in order (docs/PROTOCOL.md, "Joining" and "A member alone").
+    /// One step: an input comes in, packets and events come out, in order (docs/PROTOCOL.md, "The atomic step").
     ///
-    /// Refused with 6 after its end, and before it with 1, 4, 5, 8 and 20 to 26 as the inputs say: the member is then as before. Refused with 7
+    /// Refused with 6 after its end, and before it with 1 to 5, 8 and 20 to 26 as the inputs say: the member is then as before. Refused with 7
     /// where memory was, and with 6 where it is handed an INSTALL by which it would enter a view and whose state its receiver cannot read: the
-    /// member has then ended, and what the step would have put out is dropped. No INSTALL has a rule yet, so it never enters by one.
+    /// member has then ended, and what the step would have put out is dropped.
     pub fn handle(&mut self, input: Input<'_>) -> Result<Output, Error>
         // It goes on by nothing but acts,
         ensures acted { IfOk result (λ out. HasActed R.apply R.encode R.decode self.old input.entry out self.new) }
@@ -145,37 +129,28 @@ impl<R: Receiver> Member<R> {
         ensures reply { IfOk result (λ out. IsSomeAnd (core_of self.old) (λ c. Replies c input.entry out.happenings.items (core_of self.new))) }
         // a coordinator is told its message at once, while the window has room;
         ensures prompt { IfOk result (λ out. IsSomeAnd (core_of self.old) (λ c. IsPrompt c input.entry out.happenings.items)) }
-        // what is put out, and whom it asks from then on;
-        ensures puts { IfOk result (λ out. out.packets.items ≡ map (spelled self.old.group) (posts self.old input.entry)) }
-        ensures notes { IfOk result (λ out. book_of self.new ≡ noted (book_of self.old) input.entry) }
+        // what it must do by each input and each kind of packet: what is put out, what happens, and what it keeps and notes then;
+        ensures does { IfOk result (λ out. Does R.apply R.encode R.decode self.old input.entry out self.new) }
         // how much happens at most, and that a trace takes it;
         ensures few { IfOk result (λ out. length out.happenings.items ≤ HAPPENINGS) }
         ensures short { IfOk result (λ out. IsRecordable out.happenings.items) }
-        // what it ignores leaves it as it was.
+        // what it ignores leaves it as it was;
         ensures ignored { Ignores self.old input.entry result self.new }
+        // and what holds of it between its calls holds: it is the coordinator of its view or another member of it, and its messages are in order.
+        ensures alive { IsAlive self.new.group self.new.address self.new.life }
         ensures address { self.new.address ≡ self.old.address }
         ensures group { self.new.group ≡ self.old.group }
     {
         // By its parts, since an enum that lends bytes gets no proof where it is passed on whole.
         match input {
-            Input::Create => self.step(&Input::Create),
-            Input::Join(contact) => self.step(&Input::Join(contact)),
-            Input::Send(payload) => self.step(&Input::Send(payload)),
-            Input::Datagram(bytes) => self.step(&Input::Datagram(bytes)),
-            Input::Tick => self.step(&Input::Tick),
-            Input::Suspect(address) => self.step(&Input::Suspect(address)),
-            Input::MergeHint(address) => self.step(&Input::MergeHint(address)),
-            Input::Leave => self.step(&Input::Leave),
+            Input::Create => create_group(&mut self.life, &self.identity),
+            Input::Join(contact) => join_group(&mut self.life, &self.identity, contact),
+            Input::Send(payload) => send_message(&mut self.life, &self.identity, payload),
+            Input::Datagram(bytes) => take_datagram(&mut self.life, &self.identity, bytes),
+            Input::Tick => tick(&mut self.life, &self.identity),
+            Input::Suspect(address) => suspect(&mut self.life, &self.identity, address),
+            Input::MergeHint(address) => merge_hint(&mut self.life, &self.identity, address),
+            Input::Leave => leave_group(&mut self.life, &self.identity),
         }
-    }
-}
-
-// Whether an input that was answered so ends the member.
-fn ends(input: &Input<'_>, answer: &Result<Output, Error>) -> bool
-    ensures { result ≡ ends input.now answer.now }
-{
-    match answer {
-        Ok(_) => matches!(input, Input::Leave),
-        Err(error) => matches!(error, Error::Memory),
     }
 }

@@ -3,3 +3,4 @@ pub mod Heard
 pub mod Calming
 pub mod Sent
 pub mod Fresh
+pub mod Nexts

@@ -13,10 +13,6 @@ mod fixtures;
 #[cfg(test)]
 mod flush_tests;
 #[cfg(test)]
-mod last;
-#[cfg(test)]
-mod member_tests;
-#[cfg(test)]
 mod nak_stream_tests;
 #[cfg(test)]
 mod sequencer_tests;

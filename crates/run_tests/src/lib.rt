@@ -5,4 +5,10 @@
 #[cfg(test)]
 mod damaged;
 #[cfg(test)]
+mod gaps;
+#[cfg(test)]
+mod last;
+#[cfg(test)]
 mod scripts;
+#[cfg(test)]
+mod told;

@@ -15,9 +15,9 @@ use Rattle.agreement.proofs.Stepping
 use Rattle.member.specs.declared.error.Error.{Error}
 use Rattle.member.specs.declared.error.Error.TheVariants.{Wire}
 use Rattle.member.specs.declared.input.Input.TheVariants.{Datagram}
-use Rattle.member.specs.declared.output.Output.{Output}
+use Rattle.output.specs.declared.output.Output.{Output}
 use Rattle.member.specs.Members.{MemberModel, core_of, came_at, refusal_in}
-use Rattle.member.specs.Outputs.{packet_in}
+use Rattle.output.specs.Outputs.{packet_in}
 use Rattle.member.specs.Handling.{Handled}
 use Rattle.world_model.specs.declared.WorldEvent.TheVariants.{Deliver}
 use Rattle.world_model.specs.declared.Answer.{Answer}

@@ -1,5 +1,5 @@
 -- From what the code did at the nodes to a step of the world.
-use Rattle.std.proofs.Common.{◌≡◌, ℕ, List, ◌++◌, Option, Some, None, subst}
+use Rattle.std.proofs.Common.{refl, ◌≡◌, ℕ, List, ◌++◌, Option, Some, None, subst}
 use Rattle.address.specs.Ids.{Address}
 use Rattle.trace_props.specs.declared.happening.Happening.{Happening}
 use Rattle.world_model.specs.declared.WorldEvent.{WorldEvent}
@@ -35,12 +35,17 @@ module _ {S : Type 0} (opening : S) (apply : S → Address → List ℕ → S) (
   goes-on : (h : History) (e : WorldEvent) (a : Answer) (ps pool : List (List ℕ)) (s t : List Happening) → pool ≡ h.pool ++ ps → t ≡ h.trace ++ s → then h e a pool t ≡ after h e a ps s
   goes-on h e a ps pool s t puts trace = λ i. then h e a (puts i) (trace i)
 
-  -- what was carried out from the trace of the history on is a step of the world
-  pub steps-so : (at new : ℕ → Seat S) (h : History) (e : WorldEvent) (a : Answer) (now t : List Happening) (pool : List (List ℕ)) → now ≡ h.trace
+  -- what was carried out from the trace of the history on is a step of the world, with this answer
+  pub stepped-so : (at new : ℕ → Seat S) (h : History) (e : WorldEvent) (a : Answer) (now t : List Happening) (pool : List (List ℕ)) → now ≡ h.trace
       → Carries opening apply encode decode (target_of e) e at now h.pool a new t pool
-      → WorldStep opening apply encode decode (record { history = h; seats = at }) e (record { history = then h e a pool t; seats = new })
-  steps-so at new h e a now t pool same g =
+      → (step : WorldStep opening apply encode decode (record { history = h; seats = at }) e (record { history = then h e a pool t; seats = new })) × (step.answer ≡ a)
+  stepped-so at new h e a now t pool same g =
       let c : Carries opening apply encode decode (target_of e) e at h.trace h.pool a new t pool =
       subst (λ (u : List Happening). Carries opening apply encode decode (target_of e) e at u h.pool a new t pool) same g in
       let x = wider (target_of e) e at new h.trace t h.pool pool a c in
-      record { answer = a; packets = x.packets; stretch = x.stretch; goes_on = goes-on h e a x.packets pool x.stretch t x.puts x.trace; does = c }
+      (record { answer = a; packets = x.packets; stretch = x.stretch; goes_on = goes-on h e a x.packets pool x.stretch t x.puts x.trace; does = c }, refl)
+
+  pub steps-so : (at new : ℕ → Seat S) (h : History) (e : WorldEvent) (a : Answer) (now t : List Happening) (pool : List (List ℕ)) → now ≡ h.trace
+      → Carries opening apply encode decode (target_of e) e at now h.pool a new t pool
+      → WorldStep opening apply encode decode (record { history = h; seats = at }) e (record { history = then h e a pool t; seats = new })
+  steps-so at new h e a now t pool same g = (stepped-so at new h e a now t pool same g).0

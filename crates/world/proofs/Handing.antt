@@ -1,46 +1,56 @@
 -- What a node gives where its member takes an input, or hears some bytes.
-use Rattle.std.proofs.Common.{◌≡◌, ℕ, Bool, true, false, cond, Option, List, ◌++◌, Result, Ok, Err, inl, refl, sym, ap, ◌∙◌, subst}
-use Rattle.std.specs.Prelude.{OnOk}
+use Rattle.std.proofs.Common.{◌≡◌, ℕ, Option, List, [], ◌∷◌, map, Result, Ok, Err, refl, sym, ap, subst}
+use Rattle.std.specs.Prelude.{IfOk}
+use Rattle.std.specs.List.{AllByRecursion}
 use Rattle.std.specs.Borrow.{Bor}
-use Rattle.std.specs.Result.{is_err}
 use Rattle.address.specs.Ids.{Address}
+use Rattle.wire.specs.Packets.{IsPacket, spelling}
+use Rattle.wire.proofs.OneSpelling.{spelled_read}
 use Rattle.trace_props.specs.declared.happening.Happening.{Happening}
+use Rattle.agreement.specs.Histories.{Posted}
+use Rattle.member.specs.declared.error.Error.{Error}
 use Rattle.member.specs.declared.input.Input.{Input}
 use Rattle.member.specs.declared.input.Input.TheVariants.{Datagram}
-use Rattle.member.specs.Members.{MemberModel, leaves}
+use Rattle.output.specs.declared.output.Output.{Output}
+use Rattle.output.specs.Outputs.{packet_in, spelled}
+use Rattle.member.specs.Members.{MemberModel}
+use Rattle.member.specs.Handling.{HasActed, Handled}
 use Rattle.world_model.specs.declared.Answer.{Answer}
+use Rattle.world_model.specs.Packets.{destination_in}
 use Rattle.world.specs.declared.seat.Seat.{Seat}
 use Rattle.world.specs.declared.seat.Seat.TheVariants.{Vacant, Ended, Running}
-use Rattle.world.specs.Seats.{answer_to}
-use Rattle.world.specs.Turns.{HasPut, HandsHere, Hands, HandsLent, Hears}
+use Rattle.world.specs.Outputs.{AreAddressed, Fits}
+use Rattle.world.specs.Turns.{Gives, HandsHere, Hands, HandsLent, Hears}
 
--- what is ensured of an answer that is no error
-pub on-ok : {T E : Type 0} (r : Result T E) (P : Type 0) → is_err r ≡ false → OnOk r P → P
-on-ok (Ok x) P e p = p
-on-ok (Err x) P e p = absurd (let n : true ≡ false = e in cc)
+-- packets of a group that are read back say to whom they go
+each-addressed : (group : List ℕ) (posted : List Posted) → AllByRecursion (λ m. IsPacket (packet_in group m)) posted → AreAddressed (map (spelled group) posted)
+each-addressed group [] sound = tt
+each-addressed group (m ∷ posted) sound =
+    (ap destination_in (spelled_read (spelling (packet_in group m)) (packet_in group m) (sound.0, refl)), each-addressed group posted sound.1)
 
 module _ {S : Type 0} (apply : S → Address → List ℕ → S) (encode : S → List ℕ) (decode : List ℕ → Option S) where
-  -- it takes the input, and runs on or has left
-  pub taken-here : (b : Bool) (input : Input) (m left : MemberModel S) (t : List Happening) (pool more : List (List ℕ)) (a : Answer) (now happened : List Happening) (p : Address)
-      → leaves input ≡ b → p ≡ m.address → HasPut apply encode decode input m pool happened left more → a ≡ answer_to happened → now ≡ t ++ happened
-      → HandsHere apply encode decode input m t pool a (cond b (Ended p) (Running left)) now more
-  taken-here b input m left t pool more a now happened p e is x answer trace = record {
-    result = Ok x.out;
+  acted-addressed : (m left : MemberModel S) (input : Input) (out : Output) → HasActed apply encode decode m input out left → AreAddressed out.packets.items
+  acted-addressed m left input out x = subst AreAddressed (sym x.spelled) (each-addressed m.group x.posted x.sound)
+
+  -- a world takes what a member puts out
+  pub fits : (m left : MemberModel S) (input : Input) (r : Result Output Error) → Handled apply encode decode m input r left → IfOk r Fits
+  fits m left input (Ok out) h = record { few = h.few; short = h.short; addressed = acted-addressed m left input out h.acted }
+  fits m left input (Err e) h = tt
+
+  -- what comes of a call at the node
+  pub handed-here : (input : Input) (m left : MemberModel S) (r : Result Output Error) (p : Address) (t now : List Happening) (pool more : List (List ℕ)) (a : Answer) (new : Seat S)
+      → Handled apply encode decode m input r left → p ≡ m.address → Gives p input r left t pool a new now more → HandsHere apply encode decode input m t pool a new now more
+  handed-here input m left r p t now pool more a new h is g = record {
+    result = r;
     left = left;
-    handled = x.handled;
-    gives = inl (record {
-      answer = answer ∙ ap answer_to x.told;
-      seat = ap {B = Seat S} (λ (c : Bool). cond c (Ended p) (Running left)) (sym e) ∙ ap {B = Seat S} (λ (q : Address). cond (leaves input) (Ended q) (Running left)) is;
-      trace = trace ∙ ap (λ (l : List Happening). t ++ l) x.told;
-      puts = x.puts;
-    });
+    handled = h;
+    gives = subst (λ (q : Address). Gives q input r left t pool a new now more) is g;
   }
 
   -- bytes that are handed to a member that runs
-  pub heard : (b : Bor (List ℕ)) (s : Seat S) (m : MemberModel S) (t : List Happening) (pool more : List (List ℕ)) (a : Answer) (new : Seat S) (now : List Happening) → s ≡ Running m
-      → Hands apply encode decode (Datagram b) s t pool a new now more → Hears apply encode decode b.now s t pool a new now more
-  heard b s m t pool more a new now is g =
-      rw is (b, refl, subst (λ (old : Seat S). Hands apply encode decode (Datagram b) old t pool a new now more) is g)
+  pub heard : (b : Bor (List ℕ)) (bytes : List ℕ) (s : Seat S) (m : MemberModel S) (t : List Happening) (pool more : List (List ℕ)) (a : Answer) (new : Seat S) (now : List Happening)
+      → s ≡ Running m → b.now ≡ bytes → HandsHere apply encode decode (Datagram b) m t pool a new now more → Hears apply encode decode bytes s t pool a new now more
+  heard b bytes s m t pool more a new now is same g = rw is (b, same, g)
 
   -- what is handed with a payload that is lent
   pub lent : (input : Bor (List ℕ) → Input) (b : Bor (List ℕ)) (bytes : List ℕ) (s : Seat S) (t : List Happening) (pool more : List (List ℕ)) (a : Answer) (new : Seat S) (now : List Happening)

@@ -4,6 +4,7 @@ pub mod Doing
 pub mod Running
 pub mod Handing
 pub mod Posts
+pub mod Addressed
 pub mod Owning
 pub mod Traces
 pub mod Calls
@@ -21,3 +22,12 @@ pub mod Delivering
 pub mod Carrying
 pub mod Keeping
 pub mod Readable
+pub mod Filling
+pub mod Comparing
+pub mod Played
+pub mod Replying
+pub mod Leveling
+pub mod Catching
+pub mod Stopping
+pub mod Counting
+pub mod Composing

@@ -7,7 +7,7 @@ use Rattle.std.proofs.lemmas.List.Elements.{filter_map-append}
 use Rattle.wire.specs.Packets.{IsPacket, spelling, packet_of}
 use Rattle.wire.proofs.OneSpelling.{spelled_read}
 use Rattle.agreement.specs.Histories.{Posted}
-use Rattle.member.specs.Outputs.{packet_in, spelled}
+use Rattle.output.specs.Outputs.{packet_in, spelled}
 use Rattle.world_model.specs.Packets.{world_group}
 use Rattle.world.specs.Seats.{bytes_of, posted_in, read_as, posts_in}
 use Rattle.world.specs.Invariant.{IsSpelled, EachSpelled}

@@ -17,7 +17,8 @@ use Rattle.agreement.specs.Packets.{IsInstruction, BodyFact}
 use Rattle.agreement.proofs.Registers.{passed-by}
 use Rattle.agreement.proofs.Stepping
 use Rattle.member.specs.declared.input.Input.{Input}
-use Rattle.member.specs.Members.{MemberModel, core_of, came_at, install_in, is_entry, entry_of as entry_by, is_readable, is_unreadable}
+use Rattle.membership.specs.Lives.{install_said as install_in}
+use Rattle.member.specs.Members.{MemberModel, core_of, came_at, is_entry, entry_of as entry_by, is_readable, is_unreadable}
 
 -- what came to a member came from the pool, or nothing came
 pub record Comes {S : Type 0} (pool : List Posted) (c : Core S) (came : Option Posted) : Type 0 where

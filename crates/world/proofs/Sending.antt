@@ -6,6 +6,7 @@ use Rattle.std.proofs.lemmas.Bool.Decides.{nat_tests}
 use Rattle.std.proofs.lemmas.Option.{none-some, same_Some}
 use Rattle.address.specs.Ids.{Address, ViewId, same_address}
 use Rattle.view.specs.Members.{View}
+use Rattle.address.specs.declared.TheConstants.{GREATEST_NUMBER}
 use Rattle.packet_values.specs.declared.limits.TheConstants.{PAYLOAD, WINDOW}
 use Rattle.trace_props.specs.declared.happening.Happening.{Happening}
 use Rattle.trace_props.specs.declared.happening.Happening.TheVariants.{Delivered, Crashed}
@@ -105,9 +106,12 @@ module _ {S : Type 0} (opening : S) (apply : S → Address → List ℕ → S) (
     near : (k : ℕ) → k ≡ c.traffic.delivered → k < REACH → c.traffic.delivered < c.traffic.stable + WINDOW
     near k e low = omega arith
 
+    counted : (k : ℕ) → k ≡ c.traffic.delivered → k < REACH → c.traffic.delivered < GREATEST_NUMBER
+    counted k e low = omega arith
+
     -- a message that is told where it is sent is told promptly, whoever is asked for as the node's member and its view
     prompt-in : (s : List Happening)
-        → (same_address c.me v.id.creator ≡ true → c.traffic.delivered < c.traffic.stable + WINDOW
+        → (same_address c.me v.id.creator ≡ true → c.traffic.delivered < c.traffic.stable + WINDOW → c.traffic.delivered < GREATEST_NUMBER
         → Contains s (Delivered (record { member = c.me; view = v.id; message = record { sender = c.me; number = c.traffic.sent + 1; payload = payload } })))
         → IsPrompt n payload h.trace (Sent (c.traffic.sent + 1)) s
     prompt-in s told q last w view first short =
@@ -120,7 +124,7 @@ module _ {S : Type 0} (opening : S) (apply : S → Address → List ℕ → S) (
         ap (λ p. same_address p v.id.creator) (sym own) ∙ ap (λ (u : ViewId). same_address q u.creator) (sym same) ∙ first in
         subst (λ (p : Address). Contains s (Delivered (record { member = p; view = w; message = record { sender = p; number = c.traffic.sent + 1; payload = payload } }))) (sym own)
         (subst (λ (u : ViewId). Contains s (Delivered (record { member = c.me; view = u; message = record { sender = c.me; number = c.traffic.sent + 1; payload = payload } }))) (sym same)
-        (told at (near (length (delivered_in q w h.trace)) k short)))
+        (told at (near (length (delivered_in q w h.trace)) k short) (counted (length (delivered_in q w h.trace)) k short)))
 
   -- ---- in a view or in none
 
@@ -150,7 +154,7 @@ module _ {S : Type 0} (opening : S) (apply : S → Address → List ℕ → S) (
   taken-at : (s : List Happening) (o : Option View) → c.view ≡ o → MaySend c payload → EachOwn m.address s
       → IsSomeAnd o (λ v. s ≡ happening.Sent (record { member = c.me; view = v.id; message = record { number = c.traffic.sent + 1; payload = payload } }) ∷ drop 1 s)
       → list_all member.is_quiet (drop 1 s) ≡ true
-      → IsSomeAnd o (λ v. same_address c.me v.id.creator ≡ true → c.traffic.delivered < c.traffic.stable + WINDOW
+      → IsSomeAnd o (λ v. same_address c.me v.id.creator ≡ true → c.traffic.delivered < c.traffic.stable + WINDOW → c.traffic.delivered < GREATEST_NUMBER
       → Contains s (Delivered (record { member = c.me; view = v.id; message = record { sender = c.me; number = c.traffic.sent + 1; payload = payload } })))
       → SendTaken s
   taken-at s None e may own first quiet told = absurd first
@@ -159,7 +163,7 @@ module _ {S : Type 0} (opening : S) (apply : S → Address → List ℕ → S) (
   pub send-taken : (s : List Happening) → send_refusal c payload ≡ None → EachOwn m.address s
       → IsSomeAnd c.view (λ v. s ≡ happening.Sent (record { member = c.me; view = v.id; message = record { number = c.traffic.sent + 1; payload = payload } }) ∷ drop 1 s)
       → list_all member.is_quiet (drop 1 s) ≡ true
-      → IsSomeAnd c.view (λ v. same_address c.me v.id.creator ≡ true → c.traffic.delivered < c.traffic.stable + WINDOW
+      → IsSomeAnd c.view (λ v. same_address c.me v.id.creator ≡ true → c.traffic.delivered < c.traffic.stable + WINDOW → c.traffic.delivered < GREATEST_NUMBER
       → Contains s (Delivered (record { member = c.me; view = v.id; message = record { sender = c.me; number = c.traffic.sent + 1; payload = payload } })))
       → SendTaken s
   send-taken s free own first quiet told = taken-at s c.view refl (may-send c payload free) own first quiet told

@@ -97,6 +97,7 @@ module _ {S : Type 0} (opening : S) (apply : S → Address → List ℕ → S) (
                 group = g.group;
                 joined = subst (λ (o : Option (Core S)). IsSomeAnd o (λ d. connects_after n (is_connected n h) (Start n) Done ≡ d.connected)) (sym g.core) (done-here n false (is_connected n h));
               },
+              g.alive,
             );
           };
         }

@@ -15,7 +15,7 @@ use Rattle.member.specs.declared.error.Error.{Error}
 use Rattle.member.specs.declared.error.Error.TheVariants as error
 use Rattle.member.specs.declared.input.Input.{Input}
 use Rattle.member.specs.declared.input.Input.TheVariants as input
-use Rattle.member.specs.declared.output.Output.{Output}
+use Rattle.output.specs.declared.output.Output.{Output}
 use Rattle.member.specs.Members.{MemberModel, core_of, refusal_in}
 use Rattle.member.specs.Handling as member
 use Rattle.member.specs.Handling.{Handled, Replies, StaysSo, IsConnected}

@@ -14,14 +14,15 @@ use Rattle.agreement.specs.Histories.{Posted}
 use Rattle.agreement.specs.Cores.{Core}
 use Rattle.agreement.specs.Chains.{Acted}
 use Rattle.agreement.proofs.Stepping
+use Rattle.member_hearing.specs.Running.{IsAlive}
 use Rattle.member.specs.declared.error.Error.{Error}
 use Rattle.member.specs.declared.error.Error.TheVariants as error
 use Rattle.member.specs.declared.input.Input.{Input}
-use Rattle.member.specs.declared.output.Outgoing.{Outgoing}
-use Rattle.member.specs.declared.output.Output.{Output}
+use Rattle.output.specs.declared.output.Outgoing.{Outgoing}
+use Rattle.output.specs.declared.output.Output.{Output}
 use Rattle.member.specs.Errors.{is_memory}
 use Rattle.member.specs.Members.{MemberModel, core_of, leaves, came_at, refusal_in, refusal_of, is_unreadable}
-use Rattle.member.specs.Outputs.{packet_in, spelled}
+use Rattle.output.specs.Outputs.{packet_in, spelled}
 use Rattle.member.specs.Handling.{Handled}
 use Rattle.world_model.specs.declared.WorldEvent.{WorldEvent}
 use Rattle.world_model.specs.declared.Answer.{Answer}
@@ -60,11 +61,11 @@ closed-is error.Exhausted x = absurd (let bad : false ≡ true = x in cc)
 closed-is (error.Wire w) x = absurd (let bad : false ≡ true = x in cc)
 
 -- by a test
-when-true : (b : Bool) (P Q : Type 0) → b ≡ true → MatchBool b P Q → P
+pub when-true : (b : Bool) (P Q : Type 0) → b ≡ true → MatchBool b P Q → P
 when-true true P Q e x = x
 when-true false P Q e x = absurd (let bad : false ≡ true = e in cc)
 
-when-false : (b : Bool) (P Q : Type 0) → b ≡ false → MatchBool b P Q → Q
+pub when-false : (b : Bool) (P Q : Type 0) → b ≡ false → MatchBool b P Q → Q
 when-false true P Q e x = absurd (let bad : true ≡ false = e in cc)
 when-false false P Q e x = x
 
@@ -145,10 +146,10 @@ module _ {S : Type 0} (opening : S) (apply : S → Address → List ℕ → S) (
     left-core false left e same ends = core-running m.address left same
 
     left-seat : (b connected : Bool) (s : List Happening) (left : MemberModel S) → leaves input ≡ b → left.address ≡ m.address → last_of n (h.trace ++ s) ≡ Some m.address
-        → (leaves input ≡ true → has_ended m.address (h.trace ++ s) ≡ true) → (leaves input ≡ false → IsMember connected left)
+        → (leaves input ≡ true → has_ended m.address (h.trace ++ s) ≡ true) → (leaves input ≡ false → IsMember connected left) → IsAlive left.group left.address left.life
         → IsSeatOf n (last_of n (h.trace ++ s)) connected (h.trace ++ s) (cond b (Ended m.address) (Running left))
-    left-seat true connected s left e same last ended stays = (last, x.node, ended e)
-    left-seat false connected s left e same last ended stays = (last ∙ ap Some (sym same), ap (λ (p : Address). p.node) same ∙ x.node, stays e)
+    left-seat true connected s left e same last ended stays alive = (last, x.node, ended e)
+    left-seat false connected s left e same last ended stays alive = (last ∙ ap Some (sym same), ap (λ (p : Address). p.node) same ∙ x.node, stays e, alive)
 
     group-sound : (posted : List Posted) → AllByRecursion (λ k. IsPacket (packet_in m.group k)) posted → EachSound posted
     group-sound posted sound = subst (λ (g : List ℕ). AllByRecursion (λ k. IsPacket (packet_in g k)) posted) x.group sound
@@ -184,7 +185,7 @@ module _ {S : Type 0} (opening : S) (apply : S → Address → List ℕ → S) (
           lasts = λ k o. last_of-own k m.address h.trace s own;
           connected = λ k o. table.elsewhere (answer_to s) k o;
           seat = subst (IsSeatOf n (last_of n (h.trace ++ s)) (connects_after n (is_connected n h) e (answer_to s)) (h.trace ++ s)) (sym seated)
-              (left-seat (leaves input) (connects_after n (is_connected n h) e (answer_to s)) s left refl handled.address last (λ l. (so.ends l).1) so.stays);
+              (left-seat (leaves input) (connects_after n (is_connected n h) e (answer_to s)) s left refl handled.address last (λ l. (so.ends l).1) so.stays handled.alive);
         }
 
     -- ---- whatever it answers

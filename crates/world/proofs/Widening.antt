@@ -9,7 +9,7 @@ use Rattle.trace_props.specs.declared.happening.Happening.TheVariants.{Started, 
 use Rattle.member.specs.declared.error.Error.{Error}
 use Rattle.member.specs.declared.input.Input.{Input}
 use Rattle.member.specs.declared.input.Input.TheVariants as input
-use Rattle.member.specs.declared.output.Output.{Output}
+use Rattle.output.specs.declared.output.Output.{Output}
 use Rattle.member.specs.Errors.{is_memory}
 use Rattle.member.specs.Members.{MemberModel}
 use Rattle.world_model.specs.declared.WorldEvent.{WorldEvent}

@@ -6,8 +6,9 @@ use Rattle.wire.specs.Packets.{packet_of}
 use Rattle.trace_props.specs.declared.happening.Happening.{Happening}
 use Rattle.trace_props.specs.Observed.{has_started, has_ended}
 use Rattle.agreement.specs.Invariant.{Invariant}
+use Rattle.member_hearing.specs.Running.{IsAlive}
 use Rattle.member.specs.Members.{MemberModel, core_of}
-use Rattle.member.specs.Outputs.{packet_in}
+use Rattle.output.specs.Outputs.{packet_in}
 use Rattle.world_model.specs.Histories.{History, last_of, is_connected}
 use Rattle.world_model.specs.Faithful.{IsFaithful}
 use Rattle.world_model.specs.Packets.{world_group}
@@ -20,11 +21,11 @@ pub record IsMember {S : Type 0} (connected : Bool) (m : MemberModel S) : Type 0
   pub group : m.group ≡ world_group
   pub joined : IsSomeAnd (core_of m) (λ c. connected ≡ c.connected)
 
--- the history says of a node what stands there: the last member there is given by `last`
+-- the history says of a node what stands there: the last member there is given by `last`; what holds of a member between its calls holds of one that runs
 abbrev pub IsSeatOf : {S : Type 0} → ℕ → Option Address → Bool → List Happening → Seat S → Type 0
 IsSeatOf n last connected t Vacant = last ≡ None
 IsSeatOf n last connected t (Ended p) = (last ≡ Some p) × (p.node ≡ n) × (has_ended p t ≡ true)
-IsSeatOf n last connected t (Running m) = (last ≡ Some m.address) × (m.address.node ≡ n) × IsMember connected m
+IsSeatOf n last connected t (Running m) = (last ≡ Some m.address) × (m.address.node ≡ n) × IsMember connected m × IsAlive m.group m.address m.life
 
 -- the greatest incarnation of a node so far, 0 for none
 abbrev pub top_of : ℕ → List Happening → ℕ

@@ -1,4 +1,6 @@
 pub mod Seats
+pub mod Outputs
 pub mod Turns
 pub mod Invariant
 pub mod Worlds
+pub mod Gaps

@@ -13,7 +13,7 @@ use Rattle.agreement.specs.Cores.{Core}
 use Rattle.agreement.specs.Steps.{System}
 use Rattle.member.specs.declared.error.Error.{Error}
 use Rattle.member.specs.declared.error.Error.TheVariants as error
-use Rattle.member.specs.declared.output.Outgoing.{Outgoing}
+use Rattle.output.specs.declared.output.Outgoing.{Outgoing}
 use Rattle.member.specs.Members.{core_of}
 use Rattle.world_model.specs.declared.Answer.{Answer}
 use Rattle.world_model.specs.declared.Answer.TheVariants.{Done, Sent, Refused}

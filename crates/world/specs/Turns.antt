@@ -6,11 +6,12 @@ use Rattle.address.specs.Ids.{Address, IsAddress}
 use Rattle.trace_props.specs.declared.happening.Happening.{Happening}
 use Rattle.trace_props.specs.declared.happening.Happening.TheVariants.{Started, Crashed}
 use Rattle.agreement.specs.Cores.{idle}
+use Rattle.member_hearing.specs.Running.{IsAlive}
 use Rattle.member.specs.declared.error.Error.{Error}
 use Rattle.member.specs.declared.error.Error.TheVariants as error
 use Rattle.member.specs.declared.input.Input.{Input}
 use Rattle.member.specs.declared.input.Input.TheVariants as input
-use Rattle.member.specs.declared.output.Output.{Output}
+use Rattle.output.specs.declared.output.Output.{Output}
 use Rattle.member.specs.Errors.{is_memory}
 use Rattle.member.specs.Members.{MemberModel, core_of, leaves}
 use Rattle.member.specs.Handling.{Handled}
@@ -116,6 +117,7 @@ pub record Begun {S : Type 0} (opening : S) (p : Address) (t : List Happening) (
   pub address : member.address ≡ p
   pub group : member.group ≡ world_group
   pub core : core_of member ≡ Some (idle opening p)
+  pub alive : IsAlive member.group member.address member.life
   pub trace : t' ≡ t ++ Started p ∷ []
 
 -- the member of an address begins, or begins and crashes

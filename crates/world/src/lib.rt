@@ -1,7 +1,7 @@
 //! A world of members: it carries out events one after another and records what happened.
 #![tactic(auto)]
 
-ghost use Rattle.std.specs.Prelude.{◌≡◌, ◌+◌, ◌≤◌, ◌++◌, ◌∷◌, [], ℕ, true, false, nat_eq, length, take, is_some, IfOk, OnOk, OnErr, vec_len, vec_capacity};
+ghost use Rattle.std.specs.Prelude.{◌≡◌, ◌+◌, ◌≤◌, ◌++◌, ◌∷◌, [], ℕ, true, false, nat_eq, length, take, List, Some, is_some, IfOk, OnOk, OnErr, vec_len, vec_capacity};
 ghost use Rattle.std.specs.Ordering.{nat_cmp};
 ghost use Rattle.std.specs.BTreeMap.{get};
 ghost use Rattle.trace_props.specs.Places.{EachPlace};
@@ -10,12 +10,13 @@ ghost use Rattle.trace_props.specs.State.{state_of};
 ghost use Rattle.std.specs.Option.{option_copied, option_map};
 ghost use Rattle.world_model.specs.Histories.{target_of, running};
 ghost use Rattle.world.specs.Worlds.{shown, no_world, IsLonger, WorldStep, Runs};
-ghost use Rattle.world_model.specs.Packets.{packet_numbered, destination_of};
+ghost use Rattle.world_model.specs.Packets.{packet_numbered};
 ghost use Rattle.world_model.specs.Faithful.{IsFaithful};
 ghost use Rattle.world.specs.declared.TheConstants.{STEP_PLACES};
 ghost use Rattle.world.specs.Seats.{seat_at, seats_in};
-ghost use Rattle.world.specs.Turns.{ActsAt, KeepsSeat, CarriesOut, Carries, Hears, HandsOver, Delivers, SameSeats};
+ghost use Rattle.world.specs.Turns.{ActsAt, KeepsSeat, CarriesOut, Carries, Hears, Delivers, SameSeats};
 
+mod gaps;
 mod pool;
 mod seat;
 
@@ -27,7 +28,6 @@ use std::alloc::{AllocError, Global};
 use std::collections::BTreeMap;
 use std::marker::Model;
 use trace_props::{Bytes, Trace};
-use wire::decode;
 use world_model::{Answer, Refusal, Reply, Target, WorldEvent};
 
 /// How many places of the trace are reserved before each step: as many as a step of a member may need.
@@ -114,63 +114,41 @@ fn carry_out<R: Receiver>(
     }
 }
 
-/// Hands the bytes of a packet to the member that runs at a node, if one does.
+/// Hands the packet of a number to the member that runs at a node, if one does.
 fn hear_at<R: Receiver>(
     seats: &mut BTreeMap<Node, Seat<R>>,
     trace: &mut Trace,
     pool: &mut Pool,
     node: Node,
-    bytes: &[u8],
+    number: u64,
 ) -> Answer
     requires room { STEP_PLACES ≤ trace.old.room }
-    ensures hears { Hears R.apply R.encode R.decode bytes.now (seat_at (get nat_cmp seats.old node)) trace.old.happenings pool.old result (seat_at (get nat_cmp seats.new node)) trace.new.happenings pool.new }
+    ensures hears { (bytes : List ℕ) → packet_numbered number pool.old ≡ Some bytes → Hears R.apply R.encode R.decode bytes (seat_at (get nat_cmp seats.old node)) trace.old.happenings pool.old result (seat_at (get nat_cmp seats.new node)) trace.new.happenings pool.new }
     ensures others { (m : ℕ) → nat_eq node m ≡ false → get nat_cmp seats.new m ≡ get nat_cmp seats.old m }
 {
     match seats.get_mut(&node) {
-        Some(seat) => seat::hear(seat, trace, pool, bytes),
+        Some(seat) => seat::hear(seat, trace, pool, number),
         None => Answer::Done,
     }
 }
 
-/// Hands some bytes to the running member of the node that they are for, if they spell a packet and there is one.
-fn hand_over<R: Receiver>(
-    seats: &mut BTreeMap<Node, Seat<R>>,
-    trace: &mut Trace,
-    pool: &mut Pool,
-    bytes: &[u8],
-) -> Answer
-    requires room { STEP_PLACES ≤ trace.old.room }
-    ensures { HandsOver R.apply R.encode R.decode bytes.now (destination_of bytes.now) (seats_in (get nat_cmp seats.old)) trace.old.happenings pool.old result (seats_in (get nat_cmp seats.new)) trace.new.happenings pool.new }
-{
-    match decode(bytes) {
-        Ok(packet) => hear_at(seats, trace, pool, packet.destination.node(), bytes),
-        Err(_) => Answer::Done,
-    }
-}
-
-/// Hands the packet of a number to the running member of its destination's node, if there are both. Memory may be refused for a copy of
-/// the packet: then nothing is done.
+/// Hands the packet of a number to the running member of its destination's node, if there are both.
 fn deliver<R: Receiver>(
-    alloc: Global,
     seats: &mut BTreeMap<Node, Seat<R>>,
     trace: &mut Trace,
     pool: &mut Pool,
     number: u64,
-) -> Result<Answer, AllocError>
+) -> Answer
     requires room { STEP_PLACES ≤ trace.old.room }
-    ensures ok { IfOk result (λ a. Delivers R.apply R.encode R.decode (packet_numbered number pool.old) (seats_in (get nat_cmp seats.old)) trace.old.happenings pool.old a (seats_in (get nat_cmp seats.new)) trace.new.happenings pool.new) }
-    ensures err { OnErr result (SameSeats (seats_in (get nat_cmp seats.old)) (seats_in (get nat_cmp seats.new))) }
-    ensures err_trace { OnErr result (trace.new.happenings ≡ trace.old.happenings) }
-    ensures err_pool { OnErr result (pool.new ≡ pool.old) }
+    ensures { Delivers R.apply R.encode R.decode (packet_numbered number pool.old) (seats_in (get nat_cmp seats.old)) trace.old.happenings pool.old result (seats_in (get nat_cmp seats.new)) trace.new.happenings pool.new }
 {
-    let bytes = match pool.packet(number) {
-        Some(bytes) => Bytes::from_slice(alloc, bytes)?,
-        None => return Ok(Answer::Done),
-    };
-    Ok(hand_over(seats, trace, pool, bytes.as_slice()))
+    match pool.destination(number) {
+        Some(destination) => hear_at(seats, trace, pool, destination.node(), number),
+        None => Answer::Done,
+    }
 }
 
-/// Carries out an event. Memory may be refused for a new node, or for a copy of the packet: then nothing is carried out.
+/// Carries out an event. Memory may be refused for a new node: then nothing is carried out.
 fn carry<R: Receiver>(
     alloc: Global,
     seats: &mut BTreeMap<Node, Seat<R>>,
@@ -186,7 +164,7 @@ fn carry<R: Receiver>(
 {
     match event.target() {
         Target::Member(node) => carry_out(alloc, seats, trace, pool, node, event),
-        Target::Packet(number) => deliver(alloc, seats, trace, pool, number),
+        Target::Packet(number) => Ok(deliver(seats, trace, pool, number)),
     }
 }
 
@@ -223,9 +201,9 @@ impl<R: Receiver> World<R> {
         }
     }
 
-    /// Carries out one event: a world step. On refusal of the places of a step, or of a copy of the packet that is handed over, nothing has changed.
-    fn step(&mut self, event: &WorldEvent) -> Result<(), AllocError>
-        ensures ok { OnOk result (WorldStep R.opening_state R.apply R.encode R.decode (shown self.old) event.now (shown self.new)) }
+    /// Carries out one event: a world step, and its answer. On refusal of the places of a step nothing has changed.
+    fn step(&mut self, event: &WorldEvent) -> Result<Answer, AllocError>
+        ensures ok { IfOk result (λ a. (step : WorldStep R.opening_state R.apply R.encode R.decode (shown self.old) event.now (shown self.new)) × (step.answer ≡ a)) }
         ensures err { OnErr result (shown self.new ≡ shown self.old) }
     {
         let alloc = self.alloc;
@@ -241,7 +219,7 @@ impl<R: Receiver> World<R> {
         let place = self.trace.happenings().len();
         self.replies.push_reserved(Reply { answer, place });
         self.events.push_reserved(event);
-        Ok(())
+        Ok(answer)
     }
 
     /// What every world keeps.
@@ -254,7 +232,7 @@ impl<R: Receiver> World<R> {
     }
 
     /// Carries out events in order, from where the world stands. Answers an error (7) where the places of a step are
-    /// refused, or a copy of the packet that is handed over: then the events before it are carried out, and all stands as before that step.
+    /// refused: then the events before it are carried out, and all stands as before that step.
     pub fn run(&mut self, events: &[WorldEvent]) -> Result<(), AllocError>
         // It comes from where it stood by a world step for each event, of all of them or of the first few;
         ensures all { OnOk result (Runs R.opening_state R.apply R.encode R.decode (shown self.old) events.now (shown self.new)) }

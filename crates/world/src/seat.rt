@@ -1,18 +1,25 @@
 //! What runs at a node: nothing yet, nothing any more, or a member.
 
-ghost use Rattle.std.specs.Prelude.{◌≡◌, ◌≤◌, ◌++◌, length};
+ghost use Rattle.std.specs.Prelude.{◌≡◌, ◌≤◌, ◌++◌, ◌∷◌, [], ℕ, List, Some, length, IfOk};
 ghost use Rattle.address.specs.Ids.{IsAddress};
+ghost use Rattle.trace_props.specs.declared.happening.Happening.TheVariants.{Crashed};
 ghost use Rattle.trace_props.specs.Recorded.{IsRecordable};
 ghost use Rattle.world.specs.declared.TheConstants.{STEP_PLACES};
 ghost use Rattle.member.specs.Handling.{Handled};
-ghost use Rattle.member.specs.Members.{leaves};
-ghost use Rattle.world.specs.declared.seat.Seat.TheVariants.{Ended};
+ghost use Rattle.member.specs.declared.input.Input.{Input};
+ghost use Rattle.member.specs.Members.{MemberModel, leaves};
+ghost use Rattle.world_model.specs.declared.Answer.TheVariants.{Refused};
+ghost use Rattle.world_model.specs.declared.Refusal.TheVariants.{Memory};
+ghost use Rattle.world_model.specs.Packets.{packet_numbered};
+ghost use Rattle.world.specs.declared.seat.Seat.TheVariants.{Ended, Running};
 ghost use Rattle.world.specs.Seats.{answer_for, answer_to};
-ghost use Rattle.world.specs.Turns.{Steps, Hands, Begins, StartGives, CrashGives, Acts, Hears};
+ghost use Rattle.world.specs.Outputs.{Fits};
+ghost use Rattle.world.specs.Turns.{Hands, Gives, Begins, StartGives, CrashGives, Acts, Hears};
 
 use crate::pool::Pool;
 use address::{Address, Node};
-use member::{Error, Input, Member, Output};
+use member::{Error, Input, Member};
+use output::Output;
 use packet_values::GroupName;
 use state_transfer::Receiver;
 use std::alloc::Global;
@@ -89,29 +96,64 @@ fn leaves(input: &Input<'_>) -> bool
     matches!(input, Input::Leave)
 }
 
-/// Hands an input to a member, and puts out what it does.
-fn step<R: Receiver>(
-    member: &mut Member<R>,
-    pool: &mut Pool,
-    input: &Input<'_>,
-) -> Result<Vec<Happening>, Error>
-    ensures { Steps R.apply R.encode R.decode input.now member.old pool.old result member.new pool.new }
-{
-    let Output {
-        packets,
-        happenings,
-    } = handled(member, input)?;
-    if pool.put_all(packets).is_err() {
-        return Err(Error::Memory);
-    }
-    Ok(happenings)
-}
-
 /// Nothing runs at a node any more.
 fn end<R: Receiver>(seat: &mut Seat<R>, last: Address)
     ensures { seat.new ≡ Ended last }
 {
     *seat = Seat::Ended(last);
+}
+
+/// Its member has crashed, since memory was refused.
+fn lose<R: Receiver>(seat: &mut Seat<R>, trace: &mut Trace, address: Address) -> Answer
+    requires room { 1 ≤ trace.old.room }
+    ensures answer { result ≡ Refused Memory }
+    ensures seat { seat.new ≡ Ended address }
+    ensures trace { trace.new.happenings ≡ trace.old.happenings ++ Crashed address ∷ [] }
+{
+    end(seat, address);
+    trace.record(Happening::Crashed(address));
+    Answer::Refused(Refusal::Memory)
+}
+
+/// What a call of the member at a node answered: what it puts out joins the pool, what happened joins the trace, and the member runs on or has left. Where memory
+/// was refused it has crashed, and with 6 it has ended.
+fn settle<R: Receiver>(
+    seat: &mut Seat<R>,
+    trace: &mut Trace,
+    pool: &mut Pool,
+    address: Address,
+    leaving: bool,
+    called: Result<Output, Error>,
+) -> Answer
+    requires room { STEP_PLACES ≤ trace.old.room }
+    requires fits { IfOk called Fits }
+    ensures { (input : Input) (left : MemberModel R) → leaves input ≡ leaving → seat.old ≡ Running left → Gives address input called left trace.old.happenings pool.old result seat.new trace.new.happenings pool.new }
+{
+    match called {
+        Ok(
+            Output {
+                packets,
+                happenings,
+            },
+        ) => {
+            if pool.put_all(packets).is_err() {
+                return lose(seat, trace, address);
+            }
+            let answer = answered(&happenings);
+            record_all(trace, happenings);
+            if leaving {
+                end(seat, address);
+            }
+            answer
+        }
+        Err(Error::Memory) => lose(seat, trace, address),
+        // It was to enter a view with a state that cannot be read, which no packet of a world says.
+        Err(Error::Closed) => {
+            end(seat, address);
+            Answer::Refused(Refusal::Closed)
+        }
+        Err(error) => refused(error),
+    }
 }
 
 /// Hands an input to the member at a node: refused with 1 where none ever ran there, with 6 where it has ended, and else as the member
@@ -130,28 +172,8 @@ fn hand<R: Receiver>(
         Seat::Ended(_) => Answer::Refused(Refusal::Closed),
         Seat::Running(member) => {
             let address = member.address();
-            let leaving = leaves(input);
-            match step(member, pool, input) {
-                Ok(happenings) => {
-                    let answer = answered(&happenings);
-                    record_all(trace, happenings);
-                    if leaving {
-                        end(seat, address);
-                    }
-                    answer
-                }
-                Err(Error::Memory) => {
-                    end(seat, address);
-                    trace.record(Happening::Crashed(address));
-                    Answer::Refused(Refusal::Memory)
-                }
-                // It was to enter a view with a state that cannot be read, which no packet of a world says.
-                Err(Error::Closed) => {
-                    end(seat, address);
-                    Answer::Refused(Refusal::Closed)
-                }
-                Err(error) => refused(error),
-            }
+            let called = handled(member, input);
+            settle(seat, trace, pool, address, leaves(input), called)
         }
     }
 }
@@ -191,11 +213,7 @@ fn started<R: Receiver>(
             *seat = Seat::Running(Member::new(alloc, address, group, receiver));
             Answer::Done
         }
-        Err(_) => {
-            end(seat, address);
-            trace.record(Happening::Crashed(address));
-            Answer::Refused(Refusal::Memory)
-        }
+        Err(_) => lose(seat, trace, address),
     }
 }
 
@@ -216,19 +234,27 @@ fn crash<R: Receiver>(seat: &mut Seat<R>, trace: &mut Trace) -> Answer
     }
 }
 
-/// Hands the bytes of a packet to the member that runs here, if one does. Where memory is refused the member has crashed.
+/// Hands the packet of a number to the member that runs here, if one does: the bytes as they lie in the pool, to which what the member puts out is
+/// added afterwards. Where memory is refused the member has crashed.
 pub fn hear<R: Receiver>(
     seat: &mut Seat<R>,
     trace: &mut Trace,
     pool: &mut Pool,
-    bytes: &[u8],
+    number: u64,
 ) -> Answer
     requires room { STEP_PLACES ≤ trace.old.room }
-    ensures { Hears R.apply R.encode R.decode bytes.now seat.old trace.old.happenings pool.old result seat.new trace.new.happenings pool.new }
+    ensures { (bytes : List ℕ) → packet_numbered number pool.old ≡ Some bytes → Hears R.apply R.encode R.decode bytes seat.old trace.old.happenings pool.old result seat.new trace.new.happenings pool.new }
 {
     match seat {
         Seat::Vacant | Seat::Ended(_) => Answer::Done,
-        Seat::Running(_) => hand(seat, trace, pool, &Input::Datagram(bytes)),
+        Seat::Running(member) => {
+            let address = member.address();
+            let Some(bytes) = pool.packet(number) else {
+                return Answer::Done;
+            };
+            let called = handled(member, &Input::Datagram(bytes));
+            settle(seat, trace, pool, address, false, called)
+        }
     }
 }
 

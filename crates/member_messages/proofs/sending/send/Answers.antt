@@ -1,7 +1,8 @@
-use Rattle.std.proofs.Common.{◌≡◌, None, false, sym, subst}
-use Rattle.address.specs.Ids.{same_address}
+use Rattle.std.proofs.Common.{None, sym, subst}
 use Rattle.traffic.specs.declared.other.Other.{Other}
+use Rattle.traffic.specs.declared.traffic.Traffic.TheVariants as kinds
 use Rattle.traffic.proofs.Asking.{send-goes}
+use Rattle.member_messages.specs.Ordered.{IsOrderly}
 use Rattle.member_messages.proofs.Opening.{there-is, orderly-in, ordered-by, life-kept, goes-did}
 use Rattle.member_messages.proofs.Sent.{promised-in, sends-first, sends-other, delivers-first}
 use Rattle.member_messages.proofs.sending.send.Goals as goal
@@ -65,7 +66,7 @@ pub returns-in_ok-send-in-Some-Other-clause-ordered : goal.returns-in_ok-send-in
 returns-in_ok-send-in-Some-Other-clause-ordered g c =
     let there = there-is _ _ _ c.in-Some-Other.is c.in-Some-Other.field-0-is in
     let does = c.in_ok-send-in-Some-Other.ensures in
-    ordered-by _ _ (subst (λ (o : Other). same_address c.args.who.now.address o.view.id.creator ≡ false) (sym does.now) (orderly-in _ _ _ c.requires.ordered there))
+    ordered-by _ _ (subst (λ (o : Other). IsOrderly c.args.who.now.address (kinds.Other o)) (sym does.now) (orderly-in _ _ _ c.requires.ordered there))
 
 pub returns-in_ok-send-in-Some-Other-clause-does : goal.returns-in_ok-send-in-Some-Other-clause-does
 returns-in_ok-send-in-Some-Other-clause-does g c =

@@ -2,9 +2,10 @@ use Rattle.std.proofs.Common.{◌-◌, Some, not, sym}
 use Rattle.std.specs.Prelude.{nat_lt}
 use Rattle.wire.specs.declared.packet.Body.TheVariants as bodies
 use Rattle.agreement.specs.Acts.{packet}
-use Rattle.member_messages.proofs.Opening.{there-is, nothing-did}
+use Rattle.member_messages.proofs.Opening.{there-is, orderly-in, ordered-by, nothing-did}
 use Rattle.member_messages.proofs.Heard.{heard-in, heard-life, from-in, other-did}
 use Rattle.member_messages.proofs.Calming.{takes-calm}
+use Rattle.member_messages.proofs.Nexts.{order-orderly}
 use Rattle.member_messages.proofs.taking.on_order.Goals as goal
 
 pub returns-then-not-takes_order-clause-did : goal.returns-then-not-takes_order-clause-did
@@ -16,6 +17,17 @@ returns-in_ok-order-in-Some-Other-clause-life g c =
     let heard = heard-in _ _ _ _ _ there (sym c.if-not-takes_order.ensures) in
     let does = c.in_ok-order-in-Some-Other.ensures in
     heard-life _ _ _ _ _ _ _ _ c.requires.life heard there does.goes.1
+
+pub order-requires : goal.order-requires
+order-requires g c =
+    let there = there-is _ _ _ c.in-Some-Other.is c.in-Some-Other.field-0-is in
+    record { other = (orderly-in _ _ _ c.requires.ordered there).0 }
+
+pub returns-in_ok-order-in-Some-Other-clause-ordered : goal.returns-in_ok-order-in-Some-Other-clause-ordered
+returns-in_ok-order-in-Some-Other-clause-ordered g c =
+    let there = there-is _ _ _ c.in-Some-Other.is c.in-Some-Other.field-0-is in
+    let does = c.in_ok-order-in-Some-Other.ensures in
+    ordered-by _ _ (order-orderly g.R.Receiver.apply c.args.who.now.address c.args.who.now.group _ _ c.in-Some-Other.other _ _ _ _ _ does.takes does.goes.1 (orderly-in _ _ _ c.requires.ordered there))
 
 pub returns-in_ok-order-in-Some-Other-clause-did : goal.returns-in_ok-order-in-Some-Other-clause-did
 returns-in_ok-order-in-Some-Other-clause-did g c =

@@ -3,8 +3,9 @@ use Rattle.wire.specs.declared.packet.Body.TheVariants as bodies
 use Rattle.agreement.specs.Acts.{packet}
 use Rattle.traffic.proofs.Asking.{status-goes}
 use Rattle.member_messages.specs.Hears.{is_near}
-use Rattle.member_messages.proofs.Opening.{there-is, nothing-did}
+use Rattle.member_messages.proofs.Opening.{there-is, orderly-in, ordered-by, nothing-did}
 use Rattle.member_messages.proofs.Heard.{heard-in, heard-life, from-in, other-did}
+use Rattle.member_messages.proofs.Nexts.{status-orderly}
 use Rattle.member_messages.proofs.taking.on_status.Goals as goal
 
 pub returns-then-not-takes_status-clause-did : goal.returns-then-not-takes_status-clause-did
@@ -17,6 +18,12 @@ returns-in_ok-status-in-Some-Other-clause-life g c =
     let goes = status-goes g.R.Receiver.apply g.R.Receiver.encode g.R.Receiver.decode c.args.who.now.address c.args.who.now.group c.args.progress c.in-Some-Other.other c.args.life.now.receiver
     c.args.out.now c.status.new.self c.status.new.out c.in_ok-status-in-Some-Other.ensures in
     heard-life _ _ _ _ _ _ _ _ c.requires.life heard there goes.1
+
+pub returns-in_ok-status-in-Some-Other-clause-ordered : goal.returns-in_ok-status-in-Some-Other-clause-ordered
+returns-in_ok-status-in-Some-Other-clause-ordered g c =
+    let there = there-is _ _ _ c.in-Some-Other.is c.in-Some-Other.field-0-is in
+    ordered-by _ _ (status-orderly c.args.who.now.address c.args.who.now.group c.args.progress c.in-Some-Other.other c.args.out.now c.status.new.self c.status.new.out c.in_ok-status-in-Some-Other.ensures
+    (orderly-in _ _ _ c.requires.ordered there))
 
 pub returns-in_ok-status-in-Some-Other-clause-did : goal.returns-in_ok-status-in-Some-Other-clause-did
 returns-in_ok-status-in-Some-Other-clause-did g c =

@@ -11,7 +11,7 @@ loop-event-init g c = Still
 pub loop-event-preserved : goal.loop-event-preserved
 loop-event-preserved g c =
     runs-on g.R.Receiver.opening_state g.R.Receiver.apply g.R.Receiver.encode g.R.Receiver.decode (shown c.args.self.now) (shown c.loop-event.self) (shown c.step.new.self) c.args.events.now
-    c.loop-event.event-index c.event-item.result c.loop-event-test.true c.event-item.is c.loop-event.invariant c.in_default.ensures.ok
+    c.loop-event.event-index c.event-item.result c.loop-event-test.true c.event-item.is c.loop-event.invariant c.in_default.ensures.ok.0
 
 -- the loop ends after the last event
 pub returns-clause-all : goal.returns-clause-all

@@ -2,7 +2,7 @@ use Rattle.std.proofs.Common.{sym}
 use Rattle.std.specs.Ordering.{nat_cmp}
 use Rattle.std.specs.BTreeMap.{get}
 use Rattle.world.specs.Seats.{seats_in}
-use Rattle.world.proofs.Doing.{steps-so}
+use Rattle.world.proofs.Doing.{steps-so, stepped-so}
 use Rattle.world.proofs.Running.{reached-on, reached-same}
 use Rattle.world.proofs.World.step.Goals as goal
 
@@ -24,5 +24,5 @@ invariant_of-self-2 g c =
 pub returns-clause-ok : goal.returns-clause-ok
 returns-clause-ok g c =
     rw (sym c.self.view_is, sym c.in_ok-event.ensures, c.push_reserved-2.ensures.items, c.reserve_step.ensures.events, c.push_reserved.ensures.items, c.reserve_step.ensures.replies, c.happenings-place.ensures.value)
-    (steps-so g.R.Receiver.opening_state g.R.Receiver.apply g.R.Receiver.encode g.R.Receiver.decode (seats_in (get nat_cmp c.self.inside.seats)) _ _ c.in_ok-event.event
+    (stepped-so g.R.Receiver.opening_state g.R.Receiver.apply g.R.Receiver.encode g.R.Receiver.decode (seats_in (get nat_cmp c.self.inside.seats)) _ _ c.in_ok-event.event
     c.in_ok-answer.answer _ c.carry.new.trace.happenings c.carry.new.pool c.reserve_step.ensures.trace c.in_ok-answer.ensures.ok)

@@ -1,8 +1,15 @@
-use Rattle.world.proofs.Handing.{heard}
+use Rattle.std.proofs.Common.{refl, sym, ap, ◌∙◌}
+use Rattle.std.specs.Option.{option_copied}
+use Rattle.std.proofs.lemmas.Option.{same_Some}
+use Rattle.world.proofs.Handing.{fits, heard, handed-here}
 use Rattle.world.proofs.seat.hear.Goals as goal
 
--- the member is handed the bytes as they are
-pub returns-in-Running : goal.returns-in-Running
-returns-in-Running g c =
-    heard g.R.Receiver.apply g.R.Receiver.encode g.R.Receiver.decode c.args.bytes c.args.seat.now c.in-Running.field-0 c.args.trace.now.happenings c.args.pool.now c.hand.new.pool c.hand.result
-    c.hand.new.seat c.hand.new.trace.happenings c.in-Running.is c.hand.ensures
+pub settle-requires-clause-fits : goal.settle-requires-clause-fits
+settle-requires-clause-fits g c = fits g.R.Receiver.apply g.R.Receiver.encode g.R.Receiver.decode _ _ _ _ c.handled-called.ensures
+
+-- the member is handed the bytes as they lie in the pool
+pub returns-in-Some : goal.returns-in-Some
+returns-in-Some g c bytes is =
+    heard g.R.Receiver.apply g.R.Receiver.encode g.R.Receiver.decode c.in-Some.bytes bytes _ c.in-Running.member _ _ _ _ _ _ c.in-Running.is
+    (same_Some _ _ (sym (ap option_copied c.in-Some.is) ∙ c.packet.ensures ∙ is))
+    (handed-here g.R.Receiver.apply g.R.Receiver.encode g.R.Receiver.decode _ c.in-Running.member _ _ _ _ _ _ _ _ _ c.handled-called.ensures c.address-address.ensures (c.settle.ensures _ _ refl refl))

@@ -1,6 +1,8 @@
 use Rattle.std.proofs.Common.{◌≡◌, ◌≤◌, ◌+◌, ◌++◌, map, length, vec_len, vec_capacity}
 use Rattle.std.specs.Vec.Iter.{into_iter_items}
 use Rattle.world.specs.Seats.{bytes_of}
+use Rattle.world.specs.Outputs.{AreAddressed}
+use Rattle.world.proofs.Addressed.{AreKept}
 use Rattle.world.proofs.pool.Pool.put_all.Given as goal
 
 -- the packets so far are put out, and there is room for the others
@@ -10,4 +12,7 @@ invariant-loop-packet l = record {
   ends : (goal.iterator-loop-packet).is_finite l.packet-iterator;
   put : l.self-inside.packets.items ++ map bytes_of (into_iter_items l.packet-iterator) ≡ l.initial.self-inside.packets.items ++ map bytes_of (into_iter_items l.initial.packet-iterator);
   room : vec_len l.self-inside.packets + length (into_iter_items l.packet-iterator) ≤ vec_capacity l.self-inside.packets;
+  places : vec_len l.self-inside.destinations + length (into_iter_items l.packet-iterator) ≤ vec_capacity l.self-inside.destinations;
+  addressed : AreAddressed (into_iter_items l.packet-iterator);
+  kept : AreKept l.self-inside.packets.items l.self-inside.destinations.items;
 }

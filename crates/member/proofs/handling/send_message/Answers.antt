@@ -1,0 +1,35 @@
+use Rattle.std.proofs.Common.{sym, ◌∙◌}
+use Rattle.member.proofs.Stepping.{from-some, still, unsent-handled, send-handled, unsaid-handled}
+use Rattle.member.proofs.handling.send_message.Goals as goal
+
+pub returns-in-Some-send_refusal-clause-alive : goal.returns-in-Some-send_refusal-clause-alive
+returns-in-Some-send_refusal-clause-alive g c =
+    still c.args.who.now.group c.args.who.now.address c.in-Some.running (c.requires.alive c.in-Some.running c.in-Some.is)
+
+pub returns-in-Some-send_refusal-clause-handled : goal.returns-in-Some-send_refusal-clause-handled
+returns-in-Some-send_refusal-clause-handled g c =
+    from-some g.R.Receiver.apply g.R.Receiver.encode g.R.Receiver.decode c.args.who.now.address c.args.who.now.group c.args.life.now c.in-Some.running _ _ _ c.in-Some.is
+    (unsent-handled g.R.Receiver.apply g.R.Receiver.encode g.R.Receiver.decode c.args.who.now.address c.args.who.now.group c.args.payload c.in-Some.running c.in-Some-send_refusal.refusal c.from.result (sym (c.send_refusal.ensures c.args.who.now.address) ∙ c.in-Some-send_refusal.is) c.from.ensures (c.requires.alive c.in-Some.running c.in-Some.is))
+
+pub send-requires-clause-life : goal.send-requires-clause-life
+send-requires-clause-life g c =
+    (c.requires.alive c.in-Some.running c.in-Some.is).life
+
+pub send-requires-clause-ordered : goal.send-requires-clause-ordered
+send-requires-clause-ordered g c =
+    (c.requires.alive c.in-Some.running c.in-Some.is).ordered
+
+pub send-requires-clause-free : goal.send-requires-clause-free
+send-requires-clause-free g c =
+    sym (c.send_refusal.ensures c.args.who.now.address) ∙ c.in_default-send_refusal.is
+
+pub returns-in-Ok-clause-handled : goal.returns-in-Ok-clause-handled
+returns-in-Ok-clause-handled g c =
+    from-some g.R.Receiver.apply g.R.Receiver.encode g.R.Receiver.decode c.args.who.now.address c.args.who.now.group c.args.life.now c.in-Some.running _ _ _ c.in-Some.is
+    (send-handled g.R.Receiver.apply g.R.Receiver.encode g.R.Receiver.decode c.args.who.now.address c.args.who.now.group c.args.payload c.in-Some.running c.send.new.life c.nothing-out.result c.send.new.out (c.requires.alive c.in-Some.running c.in-Some.is).ordered (sym (c.send_refusal.ensures c.args.who.now.address) ∙ c.in_default-send_refusal.is) c.nothing-out.ensures c.in-Ok.ensures.does c.in-Ok.ensures.did
+    c.in-Ok.ensures.calm c.in-Ok.ensures.prompt (record { life = c.in-Ok.ensures.life; ordered = c.in-Ok.ensures.ordered }))
+
+pub returns-in-Err-clause-handled : goal.returns-in-Err-clause-handled
+returns-in-Err-clause-handled g c =
+    from-some g.R.Receiver.apply g.R.Receiver.encode g.R.Receiver.decode c.args.who.now.address c.args.who.now.group c.args.life.now c.in-Some.running _ _ _ c.in-Some.is
+    (unsaid-handled g.R.Receiver.apply g.R.Receiver.encode g.R.Receiver.decode c.args.who.now.address c.args.who.now.group c.args.payload c.in-Some.running (sym (c.send_refusal.ensures c.args.who.now.address) ∙ c.in_default-send_refusal.is))

@@ -1,0 +1,35 @@
+use Rattle.std.proofs.Common.{not, refl}
+use Rattle.member.specs.declared.input.Input.TheVariants.{Suspect}
+use Rattle.member_views.specs.Views.{is_suspectable}
+use Rattle.member_views.proofs.Steady.{suspect-steady}
+use Rattle.member_views.proofs.Calming.{suspect-calm}
+use Rattle.member_hearing.proofs.Ordering.{not-so}
+use Rattle.member.proofs.Stepping.{from-some, still, steady-runs, suspect-handled, memory-handled, unless}
+use Rattle.member.proofs.handling.suspect.Goals as goal
+
+pub on_suspect-requires : goal.on_suspect-requires
+on_suspect-requires g c =
+    record { life = (c.requires.alive c.in-Some.running c.in-Some.is).life }
+
+pub returns-in-Ok-clause-alive : goal.returns-in-Ok-clause-alive
+returns-in-Ok-clause-alive g c =
+    still c.args.who.now.group c.args.who.now.address c.on_suspect.new.life
+    (steady-runs c.args.who.now.group c.args.who.now.address c.in-Some.running c.on_suspect.new.life
+    (suspect-steady c.args.who.now.address g.R.Receiver.apply g.R.Receiver.encode g.R.Receiver.decode c.args.who.now.group
+    c.args.address c.in-Some.running c.on_suspect.new.life c.nothing-out.result c.on_suspect.new.out c.in-Ok.ensures.does)
+    c.in-Ok.ensures.life (c.requires.alive c.in-Some.running c.in-Some.is))
+
+pub returns-in-Ok-clause-handled : goal.returns-in-Ok-clause-handled
+returns-in-Ok-clause-handled g c =
+    from-some g.R.Receiver.apply g.R.Receiver.encode g.R.Receiver.decode c.args.who.now.address c.args.who.now.group c.args.life.now c.in-Some.running _ _ _ c.in-Some.is
+    (suspect-handled g.R.Receiver.apply g.R.Receiver.encode g.R.Receiver.decode c.args.who.now.address c.args.who.now.group c.args.address c.in-Some.running c.on_suspect.new.life c.nothing-out.result c.on_suspect.new.out (c.requires.alive c.in-Some.running c.in-Some.is).life c.nothing-out.ensures c.in-Ok.ensures.does
+    (suspect-calm c.args.who.now.address c.args.who.now.group g.R.Receiver.apply g.R.Receiver.encode g.R.Receiver.decode c.args.address c.in-Some.running c.on_suspect.new.life c.nothing-out.result c.on_suspect.new.out c.in-Ok.ensures.does) (λ no. (c.in-Ok.ensures.ignored no).1)
+    (steady-runs c.args.who.now.group c.args.who.now.address c.in-Some.running c.on_suspect.new.life
+    (suspect-steady c.args.who.now.address g.R.Receiver.apply g.R.Receiver.encode g.R.Receiver.decode c.args.who.now.group
+    c.args.address c.in-Some.running c.on_suspect.new.life c.nothing-out.result c.on_suspect.new.out c.in-Ok.ensures.does)
+    c.in-Ok.ensures.life (c.requires.alive c.in-Some.running c.in-Some.is)))
+
+pub returns-in-Err-clause-handled : goal.returns-in-Err-clause-handled
+returns-in-Err-clause-handled g c =
+    from-some g.R.Receiver.apply g.R.Receiver.encode g.R.Receiver.decode c.args.who.now.address c.args.who.now.group c.args.life.now c.in-Some.running _ _ _ c.in-Some.is
+    (memory-handled g.R.Receiver.apply g.R.Receiver.encode g.R.Receiver.decode c.args.who.now.address c.args.who.now.group c.in-Some.running (Suspect c.args.address) refl (unless (not (is_suspectable c.args.who.now.address c.args.address c.in-Some.running)) (λ i. let y = c.in-Err.ensures.ignored (not-so _ i) in let n = y.0 in absurd (cc))))

@@ -1,0 +1,96 @@
+//! Whom a member watches (docs/PROTOCOL.md, "Watched").
+
+ghost use Rattle.std.specs.Prelude.{◌≡◌, IfOk, OnOk, ◌++◌, not, filter};
+ghost use Rattle.std.specs.Option.{option_map_or, option_to_list};
+ghost use Rattle.agreement.specs.Acts.{others_of};
+ghost use Rattle.membership.specs.Lives.{view_in};
+ghost use Rattle.view.specs.Members.{stands_in};
+ghost use Rattle.member.specs.Watching.{awaited, others_in, watched_in};
+
+use address::Address;
+use flush::Flush;
+use membership::Life;
+use output::Identity;
+use state_transfer::Receiver;
+use std::alloc::AllocError;
+use view::View;
+
+// Who proposed what it promised, while it is blocked without a flush of its own and does not suspect that one.
+fn awaited<R: Receiver>(life: &Life<R>) -> Option<Address>
+    ensures { result ≡ awaited life.now }
+{
+    let proposal = life.promise.proposal()?;
+    let creator = proposal.id().creator();
+    if life.promise.is_installed() || life.flush.is_some() || life.notes.is_suspected(&creator) {
+        return None;
+    }
+    Some(creator)
+}
+
+// The others of its view.
+fn others(who: &Identity, view: &View) -> Result<Vec<Address>, AllocError>
+    ensures { IfOk result (λ others. others.items ≡ others_of who.now.address view.now.members) }
+{
+    let mut others = Vec::new(who.alloc);
+    for member in view.members().as_slice() {
+        if *member != who.address {
+            others.push(*member)?;
+        }
+    }
+    Ok(others)
+}
+
+// Those of the list of a flush that are not in its view, behind the others of the view.
+fn add_listed(flush: &Flush, view: &View, others: &mut Vec<Address>) -> Result<(), AllocError>
+    ensures { OnOk result (others.new.items ≡ others.old.items ++ filter (λ p. not (stands_in p view.now.members)) flush.now.members) }
+{
+    for member in flush.members().as_slice() {
+        if !view.contains(member) {
+            others.push(*member)?;
+        }
+    }
+    Ok(())
+}
+
+// The others of its view, and those of the list of its own flush.
+fn all_others<R: Receiver>(
+    life: &Life<R>,
+    who: &Identity,
+    view: &View,
+) -> Result<Vec<Address>, AllocError>
+    ensures { IfOk result (λ others. others.items ≡ others_in who.now.address view.now life.now.flush) }
+{
+    let mut others = others(who, view)?;
+    if let Some(flush) = &life.flush {
+        add_listed(flush, view, &mut others)?;
+    }
+    Ok(others)
+}
+
+// At most one address.
+fn one(who: &Identity, address: Option<Address>) -> Result<Vec<Address>, AllocError>
+    ensures { IfOk result (λ list. list.items ≡ option_to_list address) }
+{
+    let mut list = Vec::new(who.alloc);
+    if let Some(address) = address {
+        list.push(address)?;
+    }
+    Ok(list)
+}
+
+// Whom it watches in its view.
+pub(crate) fn watched_in<R: Receiver>(
+    life: &Life<R>,
+    who: &Identity,
+    view: &View,
+) -> Result<Vec<Address>, AllocError>
+    ensures { IfOk result (λ list. list.items ≡ watched_in who.now.address life.now view.now) }
+{
+    if let Some(creator) = awaited(life) {
+        return one(who, Some(creator));
+    }
+    if life.notes.leads(view, &who.address) {
+        return all_others(life, who, view);
+    }
+    one(who, life.notes.first_unsuspected(view))
+}

@@ -1,0 +1,163 @@
+//! Gaps that close: a member that lost packets is brought level by one STATUS, one NAK and the answers.
+
+use address::{Address, Node};
+use chat_log::ChatLog;
+use std::alloc::Global;
+use trace_props::{Bytes, Happening};
+use wire::decode;
+use world::World;
+use world_model::WorldEvent;
+
+/// A world of 1.1 and 2.1 in the view 2@1.1, with four packets put out.
+fn base(alloc: Global, first: Node, second: Node) -> Option<World<ChatLog>> {
+    let events = [
+        WorldEvent::Start(first),
+        WorldEvent::Create(first),
+        WorldEvent::Start(second),
+        WorldEvent::Join(second, Address::first_at(first)),
+        WorldEvent::Deliver(1),
+        WorldEvent::Deliver(2),
+        WorldEvent::Deliver(3),
+        WorldEvent::Deliver(4),
+    ];
+    let mut world = World::<ChatLog>::new(alloc);
+    world.run(&events).ok()?;
+    Some(world)
+}
+
+/// A node's number as a node.
+fn node(number: u16) -> Node {
+    Node::new(number).unwrap_or(Node::new(1).unwrap())
+}
+
+/// The coordinator of the base sends, and none of its ORDERs is delivered.
+fn behind(alloc: Global, payloads: &[&[u8]]) -> Option<World<ChatLog>> {
+    let mut world = base(alloc, node(1), node(2))?;
+    for payload in payloads {
+        let payload = Bytes::from_slice(alloc, payload).ok()?;
+        world.run(&[WorldEvent::Send(node(1), payload)]).ok()?;
+    }
+    Some(world)
+}
+
+/// How many messages were delivered to 2.1.
+fn told_to_second(world: &World<ChatLog>) -> usize {
+    let mut count = 0;
+    for happening in world.trace().happenings() {
+        if let Happening::Delivered(delivery) = happening {
+            if delivery.member.node() == node(2) {
+                count += 1;
+            }
+        }
+    }
+    count
+}
+
+/// The kind of the packet of a number (docs/WIRE.md); 0 where there is none.
+fn kind(world: &World<ChatLog>, number: u64) -> u8 {
+    let Some(bytes) = world.packet(number) else {
+        return 0;
+    };
+    match decode(bytes) {
+        Ok(packet) => packet.body.kind(),
+        Err(_) => 0,
+    }
+}
+
+const ORDER: u8 = 5;
+
+const NAK: u8 = 6;
+
+const ACK: u8 = 7;
+
+const STATUS: u8 = 8;
+
+#[test]
+fn two_lost_messages_are_recovered(rt: HostRuntime) {
+    let mut world = behind(rt.alloc(), &[b"a", b"b"]).expect(&rt, "the events are done");
+    assert!(rt; told_to_second(&world) == 0, "nothing was delivered to 2.1");
+    assert!(rt; world.packets().len() == 6, "six packets are there");
+    assert!(rt;
+        world.catch_up(node(2)) == Ok(true),
+        "the catch-up is played"
+    );
+    assert!(rt;
+        told_to_second(&world) == 2,
+        "both messages are delivered to 2.1"
+    );
+    assert!(rt; world.packets().len() == 12, "six packets more");
+}
+
+#[test]
+fn a_catch_up_puts_out_a_status_a_nak_and_the_answers(rt: HostRuntime) {
+    let mut world = behind(rt.alloc(), &[b"a", b"b"]).expect(&rt, "the events are done");
+    let _ = world.catch_up(node(2));
+    assert!(rt; kind(&world, 7) == STATUS, "7 is the STATUS");
+    assert!(rt; kind(&world, 8) == NAK, "8 is the NAK");
+    assert!(rt;
+        kind(&world, 9) == ORDER && kind(&world, 10) == ORDER,
+        "9 and 10 are the ORDERs"
+    );
+    assert!(rt;
+        kind(&world, 11) == ACK && kind(&world, 12) == ACK,
+        "11 and 12 are the ACKs"
+    );
+}
+
+#[test]
+fn a_second_catch_up_puts_out_a_status_alone(rt: HostRuntime) {
+    let mut world = behind(rt.alloc(), &[b"a", b"b"]).expect(&rt, "the events are done");
+    let _ = world.catch_up(node(2));
+    let happened = world.trace().happenings().len();
+    assert!(rt; world.catch_up(node(2)) == Ok(true), "it is played again");
+    assert!(rt; world.packets().len() == 13, "one packet more");
+    assert!(rt; kind(&world, 13) == STATUS, "13 is the STATUS");
+    assert!(rt;
+        world.trace().happenings().len() == happened,
+        "nothing happened"
+    );
+}
+
+#[test]
+fn the_coordinator_is_not_caught_up(rt: HostRuntime) {
+    let mut world = behind(rt.alloc(), &[b"a", b"b"]).expect(&rt, "the events are done");
+    assert!(rt;
+        world.catch_up(node(1)) == Ok(false),
+        "1.1 is the coordinator itself"
+    );
+    assert!(rt; world.packets().len() == 6, "nothing is put out");
+    assert!(rt; world.events().len() == 10, "no event is carried out");
+}
+
+#[test]
+fn a_node_where_none_runs_is_not_caught_up(rt: HostRuntime) {
+    let mut world = behind(rt.alloc(), &[b"a", b"b"]).expect(&rt, "the events are done");
+    assert!(rt; world.catch_up(node(3)) == Ok(false), "nobody runs at 3");
+    assert!(rt; world.packets().len() == 6, "nothing is put out");
+    assert!(rt; world.events().len() == 10, "no event is carried out");
+}
+
+#[test]
+fn thirty_two_lost_messages_are_recovered(rt: HostRuntime) {
+    let alloc = rt.alloc();
+    let mut world = behind(alloc, &[]).expect(&rt, "the events are done");
+    let mut sent = 0;
+    while sent < 32 {
+        let payload = Bytes::from_slice(alloc, b"x").expect(&rt, "there is memory");
+        assert!(rt;
+            world.run(&[WorldEvent::Send(node(1), payload)]).is_ok(),
+            "it is sent"
+        );
+        sent += 1;
+    }
+    assert!(rt; world.packets().len() == 36, "thirty-two ORDERs are lost");
+    assert!(rt;
+        world.catch_up(node(2)) == Ok(true),
+        "the catch-up is played"
+    );
+    assert!(rt; told_to_second(&world) == 32, "all are delivered to 2.1");
+    assert!(rt;
+        world.packets().len() == 102,
+        "a STATUS, a NAK, 32 ORDERs, 32 ACKs"
+    );
+}

@@ -1,0 +1,137 @@
+-- Gaps close: whom a catch-up is about, which events it plays, and what an error leaves.
+use Rattle.std.specs.Prelude.{◌≡◌, ℕ, ◌+◌, ◌-◌, zero, suc, Bool, true, false, ◌&&◌, List, [], ◌∷◌, ◌++◌, length, drop, Option, None, Some, MatchOption, nat_eq, ◌⊎◌, if◌then◌else◌}
+use Rattle.std.specs.Option.{IsSomeAnd, option_map_or, option_and_then}
+use Rattle.std.specs.List.{position_from}
+use Rattle.address.specs.Ids.{Address, ViewId, same_address, same_view_id}
+use Rattle.view.specs.Members.{View}
+use Rattle.trace_props.specs.declared.happening.Happening.{Happening}
+use Rattle.trace_props.specs.declared.happening.Happening.TheVariants.{Crashed}
+use Rattle.trace_props.specs.Observed.{delivered_in}
+use Rattle.agreement.specs.Cores.{is_frozen}
+use Rattle.member.specs.Members.{core_of}
+use Rattle.world_model.specs.declared.WorldEvent.{WorldEvent}
+use Rattle.world_model.specs.declared.WorldEvent.TheVariants.{Deliver, Tick}
+use Rattle.world_model.specs.declared.Answer.{Answer}
+use Rattle.world_model.specs.declared.Answer.TheVariants.{Done, Sent, Refused}
+use Rattle.world_model.specs.Packets.{destination_of}
+use Rattle.world_model.specs.Refusals.{number_of}
+use Rattle.world.specs.declared.gaps.Pair.{Pair}
+use Rattle.world.specs.declared.seat.Seat.{Seat}
+use Rattle.world.specs.declared.seat.Seat.TheVariants.{Vacant, Ended, Running}
+use Rattle.world.specs.Worlds.{WorldModel, WorldStep}
+
+-- ---- whom it is about
+
+-- the view in which the member that runs at a node is, and is not blocked
+abbrev pub open_view : {S : Type 0} → Seat S → Option View
+open_view Vacant = None
+open_view (Ended p) = None
+open_view (Running m) = option_and_then (λ c. if is_frozen c.view c.installed then None else c.view) (core_of m)
+
+-- whether the member of an address runs there, in a view of this id, and is not blocked
+abbrev pub is_open_in : {S : Type 0} → Address → ViewId → Seat S → Bool
+is_open_in p v Vacant = false
+is_open_in p v (Ended q) = false
+is_open_in p v (Running m) = same_address m.address p && option_map_or (λ w. same_view_id w.id v) (open_view (Running m)) false
+
+-- the member of an address with the coordinator of its view, if they are two, and the coordinator is open in that view too
+abbrev pub pair_of : {S : Type 0} → (ℕ → Seat S) → Address → ViewId → Option Pair
+pair_of at p v =
+    if same_address v.creator p then None
+    else if is_open_in v.creator v (at v.creator.node) then Some (record { member = p; view = v })
+    else None
+
+abbrev pub pair_in : {S : Type 0} → (ℕ → Seat S) → Seat S → Option Pair
+pair_in at Vacant = None
+pair_in at (Ended p) = None
+pair_in at (Running m) = option_and_then (λ w. pair_of at m.address w.id) (open_view (Running m))
+
+-- the same of the member that runs at a node: whom a catch-up brings level, in which view
+abbrev pub pair_at : {S : Type 0} → (ℕ → Seat S) → ℕ → Option Pair
+pair_at at n = pair_in at (at n)
+
+-- ---- what it plays
+
+-- whether the packet that some bytes spell is for an address
+abbrev pub is_destined : Address → List ℕ → Bool
+is_destined p bytes = option_map_or (λ q. same_address q p) (destination_of bytes) false
+
+-- the number of the first packet past so many that is for an address
+abbrev pub first_for : Address → ℕ → List (List ℕ) → Option ℕ
+first_for p past pool = position_from (is_destined p) (past + 1) (drop past pool)
+
+-- memory was refused in a step: 7
+abbrev pub lacks_memory : Answer → Bool
+lacks_memory Done = false
+lacks_memory (Sent n) = false
+lacks_memory (Refused r) = nat_eq (number_of r) 7
+
+module _ {S : Type 0} (opening : S) (apply : S → Address → List ℕ → S) (encode : S → List ℕ) (decode : List ℕ → Option S) where
+  -- one event, carried out with no growth refused to a member
+  pub record Plays (old : WorldModel S) (e : WorldEvent) (new : WorldModel S) : Type 0 where
+    pub step : WorldStep opening apply encode decode old e new
+    pub whole : lacks_memory step.answer ≡ false
+
+  -- a delivery of so many packets past a number, one after another
+  pub data Delivers : ℕ → ℕ → WorldModel S → WorldModel S → Type 0 where
+    Still : (past : ℕ) (w : WorldModel S) → Delivers past zero w w
+    Next : (past count : ℕ) (old mid new : WorldModel S) → Plays old (Deliver (past + 1)) mid → Delivers (past + 1) count mid new → Delivers past (suc count) old new
+
+  -- a delivery of all packets past so many
+  abbrev pub DeliversPast : ℕ → WorldModel S → WorldModel S → Type 0
+  DeliversPast past old new = Delivers past (length old.history.pool - past) old new
+
+  -- a delivery of the packet that is there
+  abbrev pub Hands : Option ℕ → WorldModel S → WorldModel S → Type 0
+  Hands number old new = MatchOption number (new ≡ old) (λ k. Plays old (Deliver k) new)
+
+  -- A CATCH-UP: a tick of the coordinator, a delivery of its STATUS to the member, of what the member puts out by that, and of each answer
+  pub record CatchesUp (pair : Pair) (old new : WorldModel S) : Type 0 where
+    pub told : WorldModel S
+    pub asked : WorldModel S
+    pub answered : WorldModel S
+    pub ticks : Plays old (Tick pair.view.creator.node) told
+    pub hears : Hands (first_for pair.member (length old.history.pool) told.history.pool) told asked
+    pub asks : DeliversPast (length told.history.pool) asked answered
+    pub answers : DeliversPast (length asked.history.pool) answered new
+
+  -- ---- what an error leaves
+
+  -- it was not begun, and all is as it was; or a growth was refused to a member in it
+  abbrev pub Fails : WorldModel S → WorldEvent → WorldModel S → Type 0
+  Fails old e new = (new ≡ old) ⊎ ((step : WorldStep opening apply encode decode old e new) × (lacks_memory step.answer ≡ true))
+
+  -- so many deliveries that end in an error
+  pub data Breaks : ℕ → ℕ → WorldModel S → WorldModel S → Type 0 where
+    Here : (past count : ℕ) (old new : WorldModel S) → Fails old (Deliver (past + 1)) new → Breaks past (suc count) old new
+    Later : (past count : ℕ) (old mid new : WorldModel S) → Plays old (Deliver (past + 1)) mid → Breaks (past + 1) count mid new → Breaks past (suc count) old new
+
+  abbrev pub BreaksPast : ℕ → WorldModel S → WorldModel S → Type 0
+  BreaksPast past old new = Breaks past (length old.history.pool - past) old new
+
+  -- a catch-up that ends in an error: the steps before it are carried out
+  pub data Stops (pair : Pair) (old : WorldModel S) : WorldModel S → Type 0 where
+    AtTick : (new : WorldModel S) → Fails old (Tick pair.view.creator.node) new → Stops pair old new
+    AtStatus : (told new : WorldModel S) → Plays old (Tick pair.view.creator.node) told
+        → IsSomeAnd (first_for pair.member (length old.history.pool) told.history.pool) (λ k. Fails told (Deliver k) new) → Stops pair old new
+    AtRequest : (told asked new : WorldModel S) → Plays old (Tick pair.view.creator.node) told → Hands (first_for pair.member (length old.history.pool) told.history.pool) told asked
+        → BreaksPast (length told.history.pool) asked new → Stops pair old new
+    AtAnswer : (told asked answered new : WorldModel S) → Plays old (Tick pair.view.creator.node) told → Hands (first_for pair.member (length old.history.pool) told.history.pool) told asked
+        → DeliversPast (length told.history.pool) asked answered → BreaksPast (length asked.history.pool) answered new → Stops pair old new
+
+-- the coordinator or the member has crashed at last
+pub record LosesOne {S : Type 0} (pair : Pair) (w : WorldModel S) : Type 0 where
+  pub before : List Happening
+  pub crash : (w.history.trace ≡ before ++ Crashed pair.view.creator ∷ []) ⊎ (w.history.trace ≡ before ++ Crashed pair.member ∷ [])
+
+-- both run, in the view, and are not blocked
+pub record BothRun {S : Type 0} (pair : Pair) (w : WorldModel S) : Type 0 where
+  pub coordinator : is_open_in pair.view.creator pair.view (w.seats pair.view.creator.node) ≡ true
+  pub member : is_open_in pair.member pair.view (w.seats pair.member.node) ≡ true
+
+abbrev pub EndsSo : {S : Type 0} → Pair → WorldModel S → Type 0
+EndsSo pair w = LosesOne pair w ⊎ BothRun pair w
+
+-- what the member was told in the view is what its coordinator was told there
+abbrev pub IsLevel : Pair → List Happening → Type 0
+IsLevel pair t = delivered_in pair.member pair.view t ≡ delivered_in pair.view.creator pair.view t

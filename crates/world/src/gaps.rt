@@ -1,0 +1,197 @@
+//! Gaps close: a member that missed packets is brought level with its coordinator by one STATUS, one NAK and the answers to it.
+
+ghost use Rattle.std.specs.Prelude.{◌≡◌, Ok, false, IfOk, OnOk, OnErr, is_some};
+ghost use Rattle.std.specs.Option.{option_copied, ForSome, IsSomeAnd};
+ghost use Rattle.std.specs.Ordering.{nat_cmp};
+ghost use Rattle.std.specs.BTreeMap.{get};
+ghost use Rattle.trace_props.specs.Places.{EachPlace};
+ghost use Rattle.trace_props.specs.Synchrony.{IsWellOrdered, IsVirtuallySynchronous};
+ghost use Rattle.world_model.specs.Faithful.{IsFaithful};
+ghost use Rattle.world_model.specs.declared.WorldEvent.TheVariants.{Deliver};
+ghost use Rattle.world.specs.Seats.{seats_in};
+ghost use Rattle.world.specs.Worlds.{shown, IsLonger};
+ghost use Rattle.world.specs.Gaps.{open_view, is_open_in, pair_of, pair_at, lacks_memory, Plays, Hands, Fails, DeliversPast, BreaksPast, CatchesUp, Stops, EndsSo, IsLevel};
+
+use crate::World;
+use crate::seat::Seat;
+use address::{Address, Node, ViewId};
+use state_transfer::Receiver;
+use std::alloc::AllocError;
+use std::collections::BTreeMap;
+use view::View;
+use world_model::{Answer, WorldEvent};
+
+/// A member and the coordinator of its view: two members that run in that view and are not blocked.
+#[derive(Clone, Copy, Debug)]
+struct Pair {
+    member: Address,
+    view: ViewId,
+}
+
+/// The view in which the member that runs here is, and is not blocked.
+fn open_view<R: Receiver>(seat: &Seat<R>) -> Option<&View>
+    ensures { option_copied result ≡ open_view seat.now }
+{
+    match seat {
+        Seat::Vacant | Seat::Ended(_) => None,
+        Seat::Running(member) => {
+            if member.is_blocked() {
+                None
+            } else {
+                member.view()
+            }
+        }
+    }
+}
+
+/// Whether the member of an address runs here, in a view of this id, and is not blocked.
+fn is_open_in<R: Receiver>(seat: &Seat<R>, address: Address, view: ViewId) -> bool
+    ensures { result ≡ is_open_in address view seat.now }
+{
+    match seat {
+        Seat::Vacant | Seat::Ended(_) => false,
+        Seat::Running(member) => {
+            member.address() == address && open_view(seat).is_some_and(|open| open.id() == view)
+        }
+    }
+}
+
+/// The member of an address with the coordinator of its view, if they are two, and the coordinator is open in that view too.
+fn pair_of<R: Receiver>(
+    seats: &BTreeMap<Node, Seat<R>>,
+    member: Address,
+    view: ViewId,
+) -> Option<Pair>
+    ensures { result ≡ pair_of (seats_in (get nat_cmp seats.now)) member view }
+{
+    let coordinator = view.creator();
+    if coordinator == member {
+        return None;
+    }
+    match seats.get(&coordinator.node()) {
+        None => None,
+        Some(seat) => {
+            if is_open_in(seat, coordinator, view) {
+                Some(Pair { member, view })
+            } else {
+                None
+            }
+        }
+    }
+}
+
+/// The same of the member that runs at a node.
+fn pair_at<R: Receiver>(seats: &BTreeMap<Node, Seat<R>>, node: Node) -> Option<Pair>
+    ensures { result ≡ pair_at (seats_in (get nat_cmp seats.now)) node }
+{
+    match seats.get(&node) {
+        None | Some(Seat::Vacant) | Some(Seat::Ended(_)) => None,
+        Some(Seat::Running(member)) => {
+            if member.is_blocked() {
+                return None;
+            }
+            let view = member.view()?;
+            pair_of(seats, member.address(), view.id())
+        }
+    }
+}
+
+/// Whether memory was refused in a step.
+fn lacks_memory(answer: Answer) -> bool
+    ensures { result ≡ lacks_memory answer }
+{
+    match answer {
+        Answer::Done | Answer::Sent(_) => false,
+        Answer::Refused(refusal) => refusal.number() == 7,
+    }
+}
+
+impl<R: Receiver> World<R> {
+    /// Carries out one event; an error where the step is not begun, and where memory is refused to the member in it, which has then crashed.
+    fn play(&mut self, event: &WorldEvent) -> Result<(), AllocError>
+        ensures ok { OnOk result (Plays R.opening_state R.apply R.encode R.decode (shown self.old) event.now (shown self.new)) }
+        ensures err { OnErr result (Fails R.opening_state R.apply R.encode R.decode (shown self.old) event.now (shown self.new)) }
+    {
+        let answer = self.step(event)?;
+        if lacks_memory(answer) {
+            Err(AllocError)
+        } else {
+            Ok(())
+        }
+    }
+
+    /// Delivers every packet past so many that was put out by now.
+    fn deliver_past(&mut self, past: u64) -> Result<(), AllocError>
+        ensures ok { OnOk result (DeliversPast R.opening_state R.apply R.encode R.decode past (shown self.old) (shown self.new)) }
+        ensures err { OnErr result (BreaksPast R.opening_state R.apply R.encode R.decode past (shown self.old) (shown self.new)) }
+    {
+        let last = self.pool.count();
+        let mut number = past;
+        while number < last {
+            number += 1;
+            self.play(&WorldEvent::Deliver(number))?;
+        }
+        Ok(())
+    }
+
+    /// Delivers the packet of a number, if there is one.
+    fn hand(&mut self, number: Option<u64>) -> Result<(), AllocError>
+        ensures ok { OnOk result (Hands R.opening_state R.apply R.encode R.decode number (shown self.old) (shown self.new)) }
+        ensures err { OnErr result (IsSomeAnd number (λ k. Fails R.opening_state R.apply R.encode R.decode (shown self.old) (Deliver k) (shown self.new))) }
+    {
+        match number {
+            None => Ok(()),
+            Some(number) => self.play(&WorldEvent::Deliver(number)),
+        }
+    }
+
+    /// Plays the steps of a catch-up.
+    fn bring_level(&mut self, pair: &Pair) -> Result<(), AllocError>
+        ensures ok { OnOk result (CatchesUp R.opening_state R.apply R.encode R.decode pair.now (shown self.old) (shown self.new)) }
+        ensures err { OnErr result (Stops R.opening_state R.apply R.encode R.decode pair.now (shown self.old) (shown self.new)) }
+    {
+        let known = self.pool.count();
+        self.play(&WorldEvent::Tick(pair.view.creator().node()))?;
+        let told = self.pool.count();
+        let status = self.pool.first_for(pair.member, known);
+        self.hand(status)?;
+        let asked = self.pool.count();
+        self.deliver_past(told)?;
+        self.deliver_past(asked)
+    }
+
+    /// Brings the member that runs at a node level with the coordinator of its view (docs/GUARANTEES.md, "Gaps close"): a tick of the coordinator, a
+    /// delivery of its STATUS to the member, of the NAK if the member puts one out, and of each answer in order. These are events like those that
+    /// `run` is told. Answers true then, and the member was told in the view what its coordinator was.
+    ///
+    /// Answers false, and does nothing, unless the member and its coordinator are two, and both run in that view and are not blocked. Answers an error
+    /// (7) where the places of a step are refused, which is then not begun, and where memory is refused to one of the two in a step, by which it
+    /// crashes; the steps before it are carried out.
+    pub fn catch_up(&mut self, node: Node) -> Result<bool, AllocError>
+        // It answers whether there are those two; where there are not, nothing is done.
+        ensures answer { IfOk result (λ b. b ≡ is_some (pair_at (shown self.old).seats node)) }
+        ensures nothing { result ≡ Ok false → shown self.new ≡ shown self.old }
+        // Else these steps are played, and the member was told in the view what its coordinator was;
+        ensures plays { OnOk result (ForSome (pair_at (shown self.old).seats node) (λ pair. CatchesUp R.opening_state R.apply R.encode R.decode pair (shown self.old) (shown self.new))) }
+        ensures level { OnOk result (ForSome (pair_at (shown self.old).seats node) (λ pair. IsLevel pair self.new.history.trace)) }
+        // or a beginning of them, and then one of the two has crashed for want of memory, or a step was not begun and both run.
+        ensures stops { OnErr result (IsSomeAnd (pair_at (shown self.old).seats node) (λ pair. Stops R.opening_state R.apply R.encode R.decode pair (shown self.old) (shown self.new))) }
+        ensures ends { OnErr result (IsSomeAnd (pair_at (shown self.old).seats node) (λ pair. EndsSo pair (shown self.new))) }
+        // What was there is the beginning of what is there, and all rules hold, as after `run`.
+        ensures longer { IsLonger self.old.history self.new.history }
+        ensures faithful { IsFaithful self.new.history }
+        ensures ordered { EachPlace IsWellOrdered self.new.history.trace }
+        ensures synchronous { IsVirtuallySynchronous R.opening_state R.apply R.decode self.new.history.trace }
+    {
+        let Some(pair) = pair_at(&self.seats, node) else {
+            self.kept();
+            return Ok(false);
+        };
+        if let Err(refused) = self.bring_level(&pair) {
+            self.kept();
+            return Err(refused);
+        }
+        self.kept();
+        Ok(true)
+    }
+}
