@@ -80,6 +80,12 @@ fn runs(world: &World<ChatLog>, number: u16) -> bool {
     world.receiver(node(number)).is_some()
 }
 
+/// Whether both run, and only the two ORDERs were lost.
+fn is_behind(world: &World<ChatLog>) -> bool {
+    let both = runs(world, 1) && runs(world, 2);
+    both && world.packets().len() == 6 && delivered(world, 1) == 2 && delivered(world, 2) == 0
+}
+
 /// What came of a catch-up for which memory was refused.
 fn after_refusal(world: &mut World<ChatLog>) -> u8 {
     match (runs(world, 1), runs(world, 2)) {
@@ -101,15 +107,24 @@ fn after_refusal(world: &mut World<ChatLog>) -> u8 {
 /// What came of the catch-up.
 fn outcome(world: &mut World<ChatLog>) -> u8 {
     match world.catch_up(node(2)) {
-        Ok(true) if is_level(world) => LEVEL,
-        Ok(_) => WRONG,
+        Ok(played) => {
+            if played && is_level(world) {
+                LEVEL
+            } else {
+                WRONG
+            }
+        }
         Err(_) => after_refusal(world),
     }
 }
 
 fn main(rt: HostRuntime) -> ExitCode {
-    match behind(rt.alloc()) {
-        Ok(mut world) => ExitCode::from(outcome(&mut world)),
-        Err(_) => ExitCode::from(NOT_BEGUN),
+    let Ok(mut world) = behind(rt.alloc()) else {
+        return ExitCode::from(NOT_BEGUN);
+    };
+    if is_behind(&world) {
+        ExitCode::from(outcome(&mut world))
+    } else {
+        ExitCode::from(NOT_BEGUN)
     }
 }
