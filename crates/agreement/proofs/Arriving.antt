@@ -6,9 +6,9 @@ use Rattle.std.proofs.lemmas.Option.{none-some, same_Some}
 use Rattle.address.specs.Ids.{Address, ViewId, same_address, same_view_id}
 use Rattle.view.specs.Members.{View, stands_in}
 use Rattle.wire.specs.Values as wire
-use Rattle.trace_props.specs.declared.happening.Happening.{Happening}
-use Rattle.trace_props.specs.declared.happening.Happening.TheVariants.{Installed}
-use Rattle.trace_props.specs.declared.happening.Install.{Install}
+use Rattle.trace_props.specs.declared.event.Event.{Event}
+use Rattle.trace_props.specs.declared.event.Event.TheVariants.{Installed}
+use Rattle.trace_props.specs.declared.event.Install.{Install}
 use Rattle.trace_props.specs.Observed.{current_view, is_blocked, delivered_in, own, entry_of}
 use Rattle.trace_props.specs.Rules.{IsRunning}
 use Rattle.trace_props.specs.State.{state_of, entry_state}
@@ -25,7 +25,7 @@ use Rattle.agreement.proofs.Words.{list_of-still, tally_of-push}
 use Rattle.agreement.proofs.Installing.{installed_on, entry-now}
 
 -- who was told no message was told no entry
-list-none : (p : Address) (v : ViewId) (t : List Happening) → delivered_in p v t ≡ [] → list_of p v t ≡ []
+list-none : (p : Address) (v : ViewId) (t : List Event) → delivered_in p v t ≡ [] → list_of p v t ≡ []
 unfolding list_of
 list-none p v t e = ap (map entry_for) e
 

@@ -9,8 +9,8 @@ use Rattle.address.specs.Ids.{Address, ViewId, same_address}
 use Rattle.view.specs.Members.{View, stands_in}
 use Rattle.wire.specs.Values.{Report}
 use Rattle.wire.specs.Values as wire
-use Rattle.trace_props.specs.declared.happening.Happening.{Happening}
-use Rattle.trace_props.specs.declared.happening.Happening.TheVariants.{Blocked}
+use Rattle.trace_props.specs.declared.event.Event.{Event}
+use Rattle.trace_props.specs.declared.event.Event.TheVariants.{Blocked}
 use Rattle.trace_props.specs.Observed.{current_view, own}
 use Rattle.trace_props.specs.Rules.{IsBelow}
 use Rattle.trace_props.specs.Verdicts.{GoesOn}
@@ -27,11 +27,11 @@ use Rattle.agreement.specs.Members.{HasSeat, ViewFact, HasState, PromiseOf, IsNo
 use Rattle.agreement.specs.Invariant.{TraceFact}
 use Rattle.agreement.proofs.Words.{list_of-still, tally_of-push}
 use Rattle.agreement.proofs.Others.{inside-later, window-later, acks-later, waiting-later, first-entered}
-use Rattle.agreement.proofs.Quiet.{Quiet, quiet-refl, quiet-happening}
+use Rattle.agreement.proofs.Quiet.{Quiet, quiet-refl, quiet-event}
 use Rattle.agreement.proofs.Gathering.{members-are}
 
--- the happenings by which a member that stands so is blocked
-abbrev pub blocked_by : Address → Option View → Bool → List Happening
+-- the events by which a member that stands so is blocked
+abbrev pub blocked_by : Address → Option View → Bool → List Event
 blocked_by p view installed = cond (is_open view installed) (Blocked p ∷ []) []
 
 abbrev pub with_blocked : History → Address → Option View → Bool → History
@@ -46,7 +46,7 @@ pub record IsHalted {S : Type 0} (opening : S) (apply : S → Address → List �
   pub own : HasState opening apply decode is_state k.trace p view state
 
 module _ {S : Type 0} (opening : S) (apply : S → Address → List ℕ → S) (encode : S → List ℕ) (decode : List ℕ → Option S) (is_state : S → Type 0) where
-  blocked-goes : (t : List Happening) (p : Address) (v : View) → HasSeat t p p (Some v) true → GoesOn opening apply decode t (Blocked p)
+  blocked-goes : (t : List Event) (p : Address) (v : View) → HasSeat t p p (Some v) true → GoesOn opening apply decode t (Blocked p)
   blocked-goes t p v x = record {
     seven = (tt, (tt, (tt, (tt, (tt, (tt, ((x.running, there, x.block), tt)))))));
     enters = tt;
@@ -63,7 +63,7 @@ module _ {S : Type 0} (opening : S) (apply : S → Address → List ℕ → S) (
       let t = h.trace in
       let x = Blocked p in
       let k : History = record { pool = h.pool; trace = t ++ x ∷ [] } in
-      let quiet = quiet-happening opening apply encode decode is_state p h x refl refl trace (blocked-goes t p v seat) tt in
+      let quiet = quiet-event opening apply encode decode is_state p h x refl refl trace (blocked-goes t p v seat) tt in
       let m = quiet.later in
       let f = view v refl in
       let list = list_of-still p v.id t x refl in
@@ -107,7 +107,7 @@ module _ {S : Type 0} (opening : S) (apply : S → Address → List ℕ → S) (
       → HasSeat h.trace p p view false → ForSome view (ViewFact h p false traffic kept) → HasState opening apply decode is_state h.trace p view state
       → IsHalted opening apply decode is_state h (record { pool = h.pool; trace = h.trace ++ [] }) p view traffic kept state
   halts-still h p view traffic kept state trace seat fact own_state =
-      subst (λ (t : List Happening). IsHalted opening apply decode is_state h (record { pool = h.pool; trace = t }) p view traffic kept state) (sym (append-nil h.trace))
+      subst (λ (t : List Event). IsHalted opening apply decode is_state h (record { pool = h.pool; trace = t }) p view traffic kept state) (sym (append-nil h.trace))
       (record { quiet = quiet-refl opening apply encode decode is_state p h trace; seat = seat; inside = fact; own = own_state })
 
   pub halts : (h : History) (p : Address) (view : Option View) (installed : Bool) (traffic : Traffic) (kept : List (Address × wire.Install)) (state : S) → TraceFact opening apply decode h
@@ -121,7 +121,7 @@ module _ {S : Type 0} (opening : S) (apply : S → Address → List ℕ → S) (
 
 -- ---- what it reports then is so
 
-tells-by : (t : List Happening) (h : History) (p : Address) (traffic : Traffic) (kept : List (Address × wire.Install)) (v : View) → ViewFact h p false traffic kept v
+tells-by : (t : List Event) (h : History) (p : Address) (traffic : Traffic) (kept : List (Address × wire.Install)) (v : View) → ViewFact h p false traffic kept v
     → TellsOf h.trace p (report_with (Some v) traffic) v.id
 tells-by t h p traffic kept v f = record {
   closed = ap (λ (s : Tally). s.phase) f.counts.tally;

@@ -10,10 +10,10 @@ use Rattle.address.specs.Ids.{Address, ViewId, IsAddress, same_address}
 use Rattle.view.specs.Members.{View}
 use Rattle.packet_values.specs.declared.limits.TheConstants.{PAYLOAD}
 use Rattle.packet_values.specs.Values.{Entry}
-use Rattle.trace_props.specs.declared.happening.Happening.{Happening}
-use Rattle.trace_props.specs.declared.happening.Happening.TheVariants.{Delivered}
-use Rattle.trace_props.specs.declared.happening.Delivery.{Delivery}
-use Rattle.trace_props.specs.declared.happening.Numbered.{Numbered}
+use Rattle.trace_props.specs.declared.event.Event.{Event}
+use Rattle.trace_props.specs.declared.event.Event.TheVariants.{Delivered}
+use Rattle.trace_props.specs.declared.event.Delivery.{Delivery}
+use Rattle.trace_props.specs.declared.event.Numbered.{Numbered}
 use Rattle.trace_props.specs.Observed.{current_view, delivered_in, sent_in, own, own_by}
 use Rattle.trace_props.specs.Rules.{IsRunning}
 use Rattle.trace_props.specs.State.{state_of}
@@ -30,12 +30,12 @@ use Rattle.agreement.specs.Members.{MemberFact}
 use Rattle.agreement.specs.Invariant.{TraceFact}
 use Rattle.agreement.proofs.Words.{list_of-hit, list_of-other}
 use Rattle.agreement.proofs.Traces.{rules-of}
-use Rattle.agreement.proofs.Quiet.{Quiet, quiet-refl, quiet-trans, quiet-happening}
+use Rattle.agreement.proofs.Quiet.{Quiet, quiet-refl, quiet-trans, quiet-event}
 use Rattle.agreement.proofs.Order.{next-of-order}
 use Rattle.agreement.proofs.Delivering.{own-next, next-state}
 
 -- entries that come next in a view's order, for one who was told so many
-abbrev pub Follow : List Happening → Address → ViewId → List Entry → Type 0
+abbrev pub Follow : List Event → Address → ViewId → List Entry → Type 0
 Follow t p v entries = (j : ℕ) (e : Entry) → slice_get entries j ≡ Some e → slice_get (order_of v t) (length (list_of p v t) + j) ≡ Some e
 
 -- ---- of a cut what was not told yet
@@ -45,7 +45,7 @@ pub undelivered-end : (d base : ℕ) (items : List Entry) → base ≤ d → d �
 undelivered-end d base items low high = let long : length (drop (d - base) items) ≡ length items - (d - base) = length-drop (d - base) items in omega arith
 
 -- and it comes next in the order of the view
-pub undelivered-follow : (t : List Happening) (p : Address) (v : ViewId) (d base : ℕ) (items : List Entry) → length (list_of p v t) ≡ d → base ≤ d
+pub undelivered-follow : (t : List Event) (p : Address) (v : ViewId) (d base : ℕ) (items : List Entry) → length (list_of p v t) ≡ d → base ≤ d
     → ((j : ℕ) (e : Entry) → slice_get items j ≡ Some e → slice_get (order_of v t) (base + j) ≡ Some e) → Follow t p v (undelivered d base items)
 undelivered-follow t p v d base items told low order j e at =
     let there : slice_get items (d - base + j) ≡ Some e = sym (slice_get-drop (d - base) items j) ∙ at in
@@ -74,7 +74,7 @@ left-more p e entries rest =
     ∙ ap (λ n. drop n rest) (length-append one others) ∙ sym (drop-twice (length one) (length others) rest)
 
 -- who is told the next of the order of its view is not the first there
-not-first : (b : Bool) (t : List Happening) (p : Address) (v : ViewId) (e : Entry) → same_address p v.creator ≡ b → slice_get (order_of v t) (length (list_of p v t)) ≡ Some e
+not-first : (b : Bool) (t : List Event) (p : Address) (v : ViewId) (e : Entry) → same_address p v.creator ≡ b → slice_get (order_of v t) (length (list_of p v t)) ≡ Some e
     → same_address p v.creator ≡ false
 not-first false t p v e test at = test
 not-first true t p v e test at =
@@ -121,7 +121,7 @@ module _ {S : Type 0} (opening : S) (apply : S → Address → List ℕ → S) (
   tells-none : (h : History) (p : Address) (v : ViewId) (rest : List Numbered) (s : S) → Stands h p v rest s
       → Tells h (record { pool = h.pool; trace = h.trace ++ [] }) p v rest s []
   tells-none h p v rest s x =
-      subst (λ (t : List Happening). Tells h (record { pool = h.pool; trace = t }) p v rest s []) (sym (append-nil h.trace)) (record {
+      subst (λ (t : List Event). Tells h (record { pool = h.pool; trace = t }) p v rest s []) (sym (append-nil h.trace)) (record {
         quiet = quiet-refl opening apply encode decode is_state p h x.trace;
         running = x.running;
         current = x.current;
@@ -154,7 +154,7 @@ module _ {S : Type 0} (opening : S) (apply : S → Address → List ℕ → S) (
         seven = (tt, (tt, (tt, ((λ first. next.order), ((next.number, next.sent), (tt, ((x.running, x.current), tt)))))));
         enters = tt;
       } in
-      let quiet = quiet-happening opening apply encode decode is_state p h happened refl refl x.trace goes tt in
+      let quiet = quiet-event opening apply encode decode is_state p h happened refl refl x.trace goes tt in
       let told = delivered_in-hit p v t d (told_to-at d) in
       let list : list_of p v (t ++ happened ∷ []) ≡ list_of p v t ++ e ∷ [] = list_of-hit p v t d (told_to-at d) in
       let order : order_of v (t ++ happened ∷ []) ≡ order_of v t = list_of-other v.creator v t happened other in
@@ -188,7 +188,7 @@ module _ {S : Type 0} (opening : S) (apply : S → Address → List ℕ → S) (
       let one = tells-first h p v rest s e entries law x follow in
       let all : Tells k l p v (left_of p (e ∷ []) rest) (apply s e.sender e.payload) entries =
       tells k p v (left_of p (e ∷ []) rest) (apply s e.sender e.payload) entries law one.stands one.follow in
-      subst (λ (t : List Happening). Tells h (record { pool = h.pool; trace = t }) p v rest s (e ∷ entries))
+      subst (λ (t : List Event). Tells h (record { pool = h.pool; trace = t }) p v rest s (e ∷ entries))
       (append_assoc h.trace (delivery p v e ∷ []) (map (delivery p v) entries)) (record {
         quiet = quiet-trans opening apply encode decode is_state p h k l one.quiet all.quiet;
         running = all.running;
@@ -216,7 +216,7 @@ module _ {S : Type 0} (opening : S) (apply : S → Address → List ℕ → S) (
       → GoesOut h (told_on h c.me c.view entries) c entries
   goes-none h c entries trace x is none =
       subst (λ (o : Option View). GoesOut h (told_on h c.me o entries) c entries) (sym is)
-      (subst (λ (t : List Happening). GoesOut h (record { pool = h.pool; trace = t }) c entries) (sym (append-nil h.trace)) (record {
+      (subst (λ (t : List Event). GoesOut h (record { pool = h.pool; trace = t }) c entries) (sym (append-nil h.trace)) (record {
         quiet = quiet-refl opening apply encode decode is_state c.me h trace;
         running = x.seat.running;
         current = x.seat.current;

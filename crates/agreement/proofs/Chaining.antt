@@ -4,8 +4,8 @@ use Rattle.std.proofs.lemmas.List.{append-nil, append_assoc}
 use Rattle.address.specs.Ids.{Address}
 use Rattle.agreement.specs.Histories.{Posted}
 use Rattle.agreement.specs.Cores.{Core}
-use Rattle.agreement.specs.Acts.{Act, after, packets_of, happenings_of}
-use Rattle.agreement.specs.Chains.{Chain, packets_along, happenings_along, NothingActed, OneActed, ThenActed}
+use Rattle.agreement.specs.Acts.{Act, after, packets_of, events_of}
+use Rattle.agreement.specs.Chains.{Chain, packets_along, events_along, NothingActed, OneActed, ThenActed}
 
 module _ {S : Type 0} (apply : S → Address → List ℕ → S) (encode : S → List ℕ) (decode : List ℕ → Option S) where
   pub nothing-acted : NothingActed apply encode decode
@@ -16,7 +16,7 @@ module _ {S : Type 0} (apply : S → Address → List ℕ → S) (encode : S →
     acts = a ∷ [];
     chain = (allowed, refl);
     puts = sym (append-nil (packets_of apply encode c a));
-    happens = sym (append-nil (happenings_of c a));
+    happens = sym (append-nil (events_of c a));
   }
 
   -- acts after acts
@@ -34,18 +34,18 @@ module _ {S : Type 0} (apply : S → Address → List ℕ → S) (encode : S →
       append_assoc (packets_of apply encode c a) (packets_along apply encode decode (after apply encode decode c a) acts) (packets_along apply encode decode d more)
       ∙ ap (λ l. packets_of apply encode c a ++ l) (packets-then came (after apply encode decode c a) d acts more x.1)
 
-  happenings-then : (came : Option Posted) (c d : Option (Core S)) (acts more : List Act) → Chain apply encode decode came c acts d
-      → happenings_along apply encode decode c acts ++ happenings_along apply encode decode d more ≡ happenings_along apply encode decode c (acts ++ more)
-  happenings-then came c d [] more x = ap (λ (z : Option (Core S)). happenings_along apply encode decode z more) (sym x)
-  happenings-then came None d (a ∷ acts) more x = absurd x
-  happenings-then came (Some c) d (a ∷ acts) more x =
-      append_assoc (happenings_of c a) (happenings_along apply encode decode (after apply encode decode c a) acts) (happenings_along apply encode decode d more)
-      ∙ ap (λ l. happenings_of c a ++ l) (happenings-then came (after apply encode decode c a) d acts more x.1)
+  events-then : (came : Option Posted) (c d : Option (Core S)) (acts more : List Act) → Chain apply encode decode came c acts d
+      → events_along apply encode decode c acts ++ events_along apply encode decode d more ≡ events_along apply encode decode c (acts ++ more)
+  events-then came c d [] more x = ap (λ (z : Option (Core S)). events_along apply encode decode z more) (sym x)
+  events-then came None d (a ∷ acts) more x = absurd x
+  events-then came (Some c) d (a ∷ acts) more x =
+      append_assoc (events_of c a) (events_along apply encode decode (after apply encode decode c a) acts) (events_along apply encode decode d more)
+      ∙ ap (λ l. events_of c a ++ l) (events-then came (after apply encode decode c a) d acts more x.1)
 
   pub then-acted : ThenActed apply encode decode
-  then-acted came c d e packets more happenings later x y = record {
+  then-acted came c d e packets more events later x y = record {
     acts = x.acts ++ y.acts;
     chain = chain-then came c d e x.acts y.acts x.chain y.chain;
     puts = ap (λ l. l ++ more) x.puts ∙ ap (λ l. packets_along apply encode decode c x.acts ++ l) y.puts ∙ packets-then came c d x.acts y.acts x.chain;
-    happens = ap (λ l. l ++ later) x.happens ∙ ap (λ l. happenings_along apply encode decode c x.acts ++ l) y.happens ∙ happenings-then came c d x.acts y.acts x.chain;
+    happens = ap (λ l. l ++ later) x.happens ∙ ap (λ l. events_along apply encode decode c x.acts ++ l) y.happens ∙ events-then came c d x.acts y.acts x.chain;
   }

@@ -6,9 +6,9 @@ use Rattle.std.proofs.lemmas.Option.{none-some}
 use Rattle.std.proofs.lemmas.List.{append-nil}
 use Rattle.address.specs.Ids.{Address, ViewId, same_address, same_view_id}
 use Rattle.view.specs.Members.{View, stands_in}
-use Rattle.trace_props.specs.declared.happening.Happening.{Happening}
-use Rattle.trace_props.specs.declared.happening.Happening.TheVariants.{Installed}
-use Rattle.trace_props.specs.declared.happening.Install.{Install}
+use Rattle.trace_props.specs.declared.event.Event.{Event}
+use Rattle.trace_props.specs.declared.event.Event.TheVariants.{Installed}
+use Rattle.trace_props.specs.declared.event.Install.{Install}
 use Rattle.trace_props.specs.Observed.{current_view, entry_of}
 use Rattle.trace_props.specs.Rules.{EntersAbove}
 use Rattle.trace_props.proofs.Observing.{same_address-refl, same_address-true}
@@ -70,7 +70,7 @@ module _ {S : Type 0} (opening : S) (apply : S → Address → List ℕ → S) (
       let none : entry_of p w t ≡ None = none-of (entry_of p w t) (not-entered t i (views-of opening apply decode h inv.trace) above) in
       let goes : goes_from k w p ≡ Some None = coordinator-goes k w p i (same_address-refl p) (entry-now h i none) in
       let past : (u : ViewId) → IsNotPast c.promise u → ⊥ = λ u y. subst (λ (o : Option View). IsNotPast o u) a.unpromised y in
-      subst (λ (u : List Happening). Invariant opening apply encode decode is_state (record { running = put p (Some (gone_into (lone_view p) c.state [] c)) s.running; history = record { pool = h.pool ++ []; trace = t ++ u } }))
+      subst (λ (u : List Event). Invariant opening apply encode decode is_state (record { running = put p (Some (gone_into (lone_view p) c.state [] c)) s.running; history = record { pool = h.pool ++ []; trace = t ++ u } }))
       (sym (entering-lone c a.outside))
       (made opening apply encode decode is_state s c h [] i c.state [] inv (quiet-refl opening apply encode decode is_state p h inv.trace) refl (record {
         itself = refl;

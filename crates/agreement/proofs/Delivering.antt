@@ -11,11 +11,11 @@ use Rattle.address.specs.Ids.{Address, ViewId, IsAddress, same_address}
 use Rattle.view.specs.Members.{View}
 use Rattle.packet_values.specs.declared.limits.TheConstants.{PAYLOAD}
 use Rattle.packet_values.specs.Values.{Entry, held_at}
-use Rattle.trace_props.specs.declared.happening.Happening.{Happening}
-use Rattle.trace_props.specs.declared.happening.Happening.TheVariants.{Delivered}
-use Rattle.trace_props.specs.declared.happening.Delivery.{Delivery}
-use Rattle.trace_props.specs.declared.happening.Message.{Message}
-use Rattle.trace_props.specs.declared.happening.Numbered.{Numbered}
+use Rattle.trace_props.specs.declared.event.Event.{Event}
+use Rattle.trace_props.specs.declared.event.Event.TheVariants.{Delivered}
+use Rattle.trace_props.specs.declared.event.Delivery.{Delivery}
+use Rattle.trace_props.specs.declared.event.Message.{Message}
+use Rattle.trace_props.specs.declared.event.Numbered.{Numbered}
 use Rattle.trace_props.specs.Observed.{has_started, delivered_in, sent_in, own, numbered}
 use Rattle.trace_props.specs.Verdicts.{GoesOn}
 use Rattle.trace_props.proofs.Observing.{same_address-true, same_address-refl, has_started-stays, has_ended-still, current_view-push, is_blocked-push}
@@ -33,7 +33,7 @@ use Rattle.agreement.specs.Invariant.{TraceFact, Invariant}
 use Rattle.agreement.proofs.Words.{list_of-hit, tally_of-push}
 use Rattle.agreement.proofs.Others.{inside-later, window-later, acks-later, waiting-later, first-entered}
 use Rattle.agreement.proofs.Moving.{moved}
-use Rattle.agreement.proofs.Quiet.{quiet-happening, quiet-moves, grown-trace}
+use Rattle.agreement.proofs.Quiet.{quiet-event, quiet-moves, grown-trace}
 use Rattle.agreement.proofs.Lists.{slice_get-right}
 use Rattle.agreement.proofs.Traces.{rules-of}
 use Rattle.agreement.proofs.Starting.{nobody}
@@ -61,7 +61,7 @@ own-by false p told sent rest m test is next =
     is ∙ ap (λ l. l ++ rest) (sym (own-miss p told m test)) ∙ ap (λ l. own p (told ++ m ∷ []) ++ drop (length l) rest) (sym none)
 
 -- what a member is told next, if it is its own, is the first that is outstanding: what it sent is still its own messages and then the rest
-pub own-next : (t : List Happening) (p : Address) (v : ViewId) (rest : List Numbered) (e : Entry) → sent_in p v t ≡ own p (delivered_in p v t) ++ rest → IsNext t p v (message_for e)
+pub own-next : (t : List Event) (p : Address) (v : ViewId) (rest : List Numbered) (e : Entry) → sent_in p v t ≡ own p (delivered_in p v t) ++ rest → IsNext t p v (message_for e)
     → sent_in p v t ≡ own p (delivered_in p v t ++ message_for e ∷ []) ++ left_of p (e ∷ []) rest
 own-next t p v rest e is next =
     own-by (same_address e.sender p) p (delivered_in p v t) (sent_in p v t) rest (message_for e) refl is
@@ -87,7 +87,7 @@ next-state opening apply decode is_state h p v e s law trace next is =
     law s e.sender e.payload is (trace.proper e.sender (sender-started opening apply decode h e.sender v _ _ trace next.sent)) (trace.short e.sender v _ _ next.sent)
 
 -- one entry more is applied
-pub state_with-more : {S : Type 0} (opening : S) (apply : S → Address → List ℕ → S) (decode : List ℕ → Option S) (v : ViewId) (entries : List Entry) (e : Entry) (t : List Happening) (s : S)
+pub state_with-more : {S : Type 0} (opening : S) (apply : S → Address → List ℕ → S) (decode : List ℕ → Option S) (v : ViewId) (entries : List Entry) (e : Entry) (t : List Event) (s : S)
     → state_with opening apply decode v entries t ≡ Some s → state_with opening apply decode v (entries ++ e ∷ []) t ≡ Some (applied apply s (e ∷ []))
 state_with-more {S} opening apply decode v entries e t s is = by (entry_state opening apply decode v t) is
   where
@@ -138,7 +138,7 @@ module _ {S : Type 0} (opening : S) (apply : S → Address → List ℕ → S) (
       let d = c.traffic.delivered in
       let rules = rules-of opening apply decode h i.trace in
       let next = next-of-order t me v.id e d rules.ordered.messages rules.ordered.order f.counts.told (f.window.order (d + 1) e a.next d refl) in
-      let quiet = quiet-happening opening apply encode decode is_state me h happened refl refl i.trace (delivers-goes h c v e a.open_in.view x next) tt in
+      let quiet = quiet-event opening apply encode decode is_state me h happened refl refl i.trace (delivers-goes h c v e a.open_in.view x next) tt in
       let m = quiet.later in
       let told = delivered_in-hit me v.id t y (told_to-at y) in
       let list = list_of-hit me v.id t y (told_to-at y) in

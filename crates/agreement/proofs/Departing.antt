@@ -10,9 +10,9 @@ use Rattle.packet_values.specs.Values.{Entry}
 use Rattle.wire.specs.Values.{Report}
 use Rattle.wire.specs.Values as wire
 use Rattle.flush.specs.Flushes.{FlushModel, report_from, comes_from, has_come_from, together_of}
-use Rattle.trace_props.specs.declared.happening.Happening.{Happening}
-use Rattle.trace_props.specs.declared.happening.Install.{Install}
-use Rattle.trace_props.specs.declared.happening.Numbered.{Numbered}
+use Rattle.trace_props.specs.declared.event.Event.{Event}
+use Rattle.trace_props.specs.declared.event.Install.{Install}
+use Rattle.trace_props.specs.declared.event.Numbered.{Numbered}
 use Rattle.trace_props.specs.Observed.{delivered_in, sent_in, own, entry_of, first_install}
 use Rattle.trace_props.specs.Rules.{IsBelow, EntersAbove, HasRisingViews}
 use Rattle.trace_props.proofs.Observing.{same_address-true, same_view_id-true}
@@ -61,7 +61,7 @@ reports-tell h p q promise view traffic kept f r u each runs inside said from =
     tell-by (same_address y.it.0 p) h p q f.proposal (report_with view traffic) r y.it u refl each (tells h p view traffic kept inside) (runs.recorded y.place y.it y.stands) y.reporter y.report from
 
 -- who comes from a view is a member of it, as all have installed it
-first-members : (t : List Happening) (u : ViewId) (g : Install) (q : Address) → HasRisingViews t → first_install u t ≡ Some g → stands_in q (members_of u t) ≡ true → stands_in q g.view.members ≡ true
+first-members : (t : List Event) (u : ViewId) (g : Install) (q : Address) → HasRisingViews t → first_install u t ≡ Some g → stands_in q (members_of u t) ≡ true → stands_in q g.view.members ≡ true
 first-members t u g q views first there =
     let e = found (entry_of u.creator u t) (members-entered q u t there) in
     let a = register-stands (λ i. same_view_id i.view.id u) t g first in
@@ -80,7 +80,7 @@ came-by None v e = absurd (let n : false ≡ true = e in cc)
 came-by (Some r) v e = (r, refl, same-previous r.previous v e)
 
 -- what is handed back is what was not told of what was sent
-back-by : (o : Option View) (t : List Happening) (p : Address) (rest : List Numbered) (entries : List Entry) → ((v : View) → o ≡ Some v → sent_in p v.id t ≡ own p (delivered_in p v.id t) ++ left_of p entries rest)
+back-by : (o : Option View) (t : List Event) (p : Address) (rest : List Numbered) (entries : List Entry) → ((v : View) → o ≡ Some v → sent_in p v.id t ≡ own p (delivered_in p v.id t) ++ left_of p entries rest)
     → MatchOption (id_of o) (option_map_or (λ v. left_of p entries rest) o [] ≡ [])
     (λ v. option_map_or (λ v. left_of p entries rest) o [] ≡ drop (length (own p (delivered_in p v t))) (sent_in p v t))
 back-by None t p rest entries sent = refl

@@ -3,8 +3,8 @@ use Rattle.std.proofs.Common.{◌≡◌, ℕ, Option, Some, None, List, [], ◌�
 use Rattle.std.proofs.lemmas.Option.{none-some, same_Some}
 use Rattle.std.proofs.lemmas.List.{append-nil}
 use Rattle.address.specs.Ids.{Address}
-use Rattle.trace_props.specs.declared.happening.Happening.{Happening}
-use Rattle.trace_props.specs.declared.happening.Happening.TheVariants.{Left, Crashed}
+use Rattle.trace_props.specs.declared.event.Event.{Event}
+use Rattle.trace_props.specs.declared.event.Event.TheVariants.{Left, Crashed}
 use Rattle.trace_props.specs.Rules.{IsRunning}
 use Rattle.trace_props.specs.Verdicts.{GoesOn}
 use Rattle.agreement.specs.Histories.{History}
@@ -13,7 +13,7 @@ use Rattle.agreement.specs.Steps.{System, put, grown}
 use Rattle.agreement.specs.Members.{MemberFact}
 use Rattle.agreement.specs.Invariant.{Invariant}
 use Rattle.agreement.proofs.Moving.{moved}
-use Rattle.agreement.proofs.Quiet.{Quiet, quiet-refl, quiet-happening, quiet-moves, grown-none, grown-trace}
+use Rattle.agreement.proofs.Quiet.{Quiet, quiet-refl, quiet-event, quiet-moves, grown-none, grown-trace}
 
 module _ {S : Type 0} (opening : S) (apply : S → Address → List ℕ → S) (encode : S → List ℕ) (decode : List ℕ → Option S) (is_state : S → Type 0) where
   abbrev Holds : System S → Type 0
@@ -36,10 +36,10 @@ module _ {S : Type 0} (opening : S) (apply : S → Address → List ℕ → S) (
   -- THE END
 
   -- what ends a running member may follow
-  pub left-goes : (t : List Happening) (p : Address) → IsRunning p t → GoesOn opening apply decode t (Left p)
+  pub left-goes : (t : List Event) (p : Address) → IsRunning p t → GoesOn opening apply decode t (Left p)
   left-goes t p r = record { seven = (tt, (tt, (tt, (tt, (tt, (tt, (r, tt))))))); enters = tt }
 
-  pub crashed-goes : (t : List Happening) (p : Address) → IsRunning p t → GoesOn opening apply decode t (Crashed p)
+  pub crashed-goes : (t : List Event) (p : Address) → IsRunning p t → GoesOn opening apply decode t (Crashed p)
   crashed-goes t p r = record { seven = (tt, (tt, (tt, (tt, (tt, (tt, (r, tt))))))); enters = tt }
 
   -- of a member that no longer runs nothing is owed
@@ -54,11 +54,11 @@ module _ {S : Type 0} (opening : S) (apply : S → Address → List ℕ → S) (
   leaves-keeps s c i x =
       subst (λ (k : History). Holds (record { running = put c.me None s.running; history = k })) (sym (grown-trace opening apply encode decode is_state s.history (Left c.me ∷ [])))
       (ends-keeps s c.me (record { pool = s.history.pool; trace = s.history.trace ++ Left c.me ∷ [] }) i
-      (quiet-happening opening apply encode decode is_state c.me s.history (Left c.me) refl refl i.trace (left-goes s.history.trace c.me x.seat.running) tt) refl)
+      (quiet-event opening apply encode decode is_state c.me s.history (Left c.me) refl refl i.trace (left-goes s.history.trace c.me x.seat.running) tt) refl)
 
   pub crashed-keeps : (s : System S) (p : Address) (c : Core S) → Holds s → s.running p ≡ Some c
       → Holds (record { running = put p None s.running; history = grown s.history [] (Crashed p ∷ []) })
   crashed-keeps s p c i runs =
       subst (λ (k : History). Holds (record { running = put p None s.running; history = k })) (sym (grown-trace opening apply encode decode is_state s.history (Crashed p ∷ [])))
       (ends-keeps s p (record { pool = s.history.pool; trace = s.history.trace ++ Crashed p ∷ [] }) i
-      (quiet-happening opening apply encode decode is_state p s.history (Crashed p) refl refl i.trace (crashed-goes s.history.trace p (i.members p c runs).seat.running) tt) refl)
+      (quiet-event opening apply encode decode is_state p s.history (Crashed p) refl refl i.trace (crashed-goes s.history.trace p (i.members p c runs).seat.running) tt) refl)

@@ -11,9 +11,9 @@ use Rattle.packet_values.specs.Values.{Entry}
 use Rattle.wire.specs.Values.{Report}
 use Rattle.wire.specs.Values as wire
 use Rattle.wire.specs.declared.packet.Body.TheVariants as bodies
-use Rattle.trace_props.specs.declared.happening.Happening.{Happening}
-use Rattle.trace_props.specs.declared.happening.Happening.TheVariants.{Installed}
-use Rattle.trace_props.specs.declared.happening.Numbered.{Numbered}
+use Rattle.trace_props.specs.declared.event.Event.{Event}
+use Rattle.trace_props.specs.declared.event.Event.TheVariants.{Installed}
+use Rattle.trace_props.specs.declared.event.Numbered.{Numbered}
 use Rattle.trace_props.specs.Observed.{delivered_in, sent_in, own}
 use Rattle.trace_props.specs.Rules.{IsBelow}
 use Rattle.trace_props.specs.State.{entry_state}
@@ -25,9 +25,9 @@ use Rattle.agreement.specs.Steps.{System, put, came_of, acted}
 use Rattle.agreement.specs.Packets.{end_of, IsCutOf, IsFitting, IsInstruction, state_with}
 use Rattle.agreement.specs.Members.{LiesBelow, MemberFact}
 use Rattle.agreement.specs.Invariant.{Invariant}
-use Rattle.agreement.proofs.Growing.{later-trans, later-happening}
+use Rattle.agreement.proofs.Growing.{later-trans, later-event}
 use Rattle.agreement.proofs.Staying.{instruction-later}
-use Rattle.agreement.proofs.Others.{only-trans, only-happening}
+use Rattle.agreement.proofs.Others.{only-trans, only-event}
 use Rattle.agreement.proofs.Traces.{views-of, stands-of, trace-push, only-state, only_state-trans}
 use Rattle.agreement.proofs.Moving.{packets-later, entries-later, states-later, Moves, moved}
 use Rattle.agreement.proofs.Quiet.{grown-trace}
@@ -51,7 +51,7 @@ match-id A P (Some u) none some = some u refl
 -- ---- states
 
 -- more entries are applied
-pub state_with-append : {S : Type 0} (opening : S) (apply : S → Address → List ℕ → S) (decode : List ℕ → Option S) (v : ViewId) (entries more : List Entry) (t : List Happening) (s : S)
+pub state_with-append : {S : Type 0} (opening : S) (apply : S → Address → List ℕ → S) (decode : List ℕ → Option S) (v : ViewId) (entries more : List Entry) (t : List Event) (s : S)
     → state_with opening apply decode v entries t ≡ Some s → state_with opening apply decode v (entries ++ more) t ≡ Some (applied apply s more)
 state_with-append {S} opening apply decode v entries more t s is = by (entry_state opening apply decode v t) is
   where
@@ -149,12 +149,12 @@ module _ {S : Type 0} (opening : S) (apply : S → Address → List ℕ → S) (
       let mine = going p i (id_of c.view) back in
       let z = installed_on k mine in
       let goes = install-goes opening apply encode decode is_state k p i r back st y reads in
-      let m = later-happening k (Installed mine) (views-of opening apply decode k y.trace) (stands-of opening apply decode k.trace (Installed mine) goes) in
+      let m = later-event k (Installed mine) (views-of opening apply decode k y.trace) (stands-of opening apply decode k.trace (Installed mine) goes) in
       let none = not-yet opening apply encode decode is_state k p i r back st y in
       let coordinator = y.instruction.other in
       record {
         later = later-trans h k z out.quiet.later m;
-        only = only-trans p h k z out.quiet.only (only-happening p k (Installed mine) refl);
+        only = only-trans p h k z out.quiet.only (only-event p k (Installed mine) refl);
         state = only_state-trans opening apply decode p h.trace k.trace z.trace out.quiet.state (only-state opening apply decode p k.trace (Installed mine) refl);
         trace = trace-push opening apply decode k (Installed mine) y.trace goes tt;
         packets = packets-later k z [] m (sym (append-nil k.pool)) y.packets (λ n q at. absurd (none-some q at));
@@ -195,6 +195,6 @@ module _ {S : Type 0} (opening : S) (apply : S → Address → List ℕ → S) (
       let mine = going p i (id_of c.view) (left_back c i) in
       subst (λ (l : History). Invariant opening apply encode decode is_state (record { running = put p (Some (gone_into i.view (state_into apply decode c entries i.state) [] c)) s.running; history = l }))
       (sym (grown-trace opening apply encode decode is_state h (deliveries p c.view entries ++ Installed mine ∷ [])
-      ∙ ap {B = History} (λ (t : List Happening). record { pool = h.pool; trace = t }) (sym (append_assoc h.trace (deliveries p c.view entries) (Installed mine ∷ [])))))
+      ∙ ap {B = History} (λ (t : List Event). record { pool = h.pool; trace = t }) (sym (append_assoc h.trace (deliveries p c.view entries) (Installed mine ∷ [])))))
       (moved opening apply encode decode is_state s p (installed_on k mine) (Some (gone_into i.view (state_into apply decode c entries i.state) [] c)) inv
       (enters-moves s c i k reads inv x a.promised said.other out refl y))

@@ -10,9 +10,9 @@ use Rattle.packet_values.specs.Values.{Entry}
 use Rattle.wire.specs.Values.{Report}
 use Rattle.wire.specs.Values as wire
 use Rattle.flush.specs.Flushes.{FlushModel}
-use Rattle.trace_props.specs.declared.happening.Happening.{Happening}
-use Rattle.trace_props.specs.declared.happening.Happening.TheVariants.{Installed}
-use Rattle.trace_props.specs.declared.happening.Install.{Install}
+use Rattle.trace_props.specs.declared.event.Event.{Event}
+use Rattle.trace_props.specs.declared.event.Event.TheVariants.{Installed}
+use Rattle.trace_props.specs.declared.event.Install.{Install}
 use Rattle.trace_props.specs.Observed.{entry_of}
 use Rattle.trace_props.specs.State.{entry_state}
 use Rattle.trace_props.proofs.Observing.{same_view_id-true}
@@ -38,7 +38,7 @@ use Rattle.agreement.proofs.Finished.{IsFinished, IsPutOut, told-report, all-ans
 use Rattle.agreement.proofs.Departing.{last_entries, maker_install, IsReady, ready, departs}
 
 -- more entries are applied
-state_with-append : {S : Type 0} (opening : S) (apply : S → Address → List ℕ → S) (decode : List ℕ → Option S) (v : ViewId) (entries more : List Entry) (t : List Happening) (s : S)
+state_with-append : {S : Type 0} (opening : S) (apply : S → Address → List ℕ → S) (decode : List ℕ → Option S) (v : ViewId) (entries more : List Entry) (t : List Event) (s : S)
     → state_with opening apply decode v entries t ≡ Some s → state_with opening apply decode v (entries ++ more) t ≡ Some (applied apply s more)
 state_with-append {S} opening apply decode v entries more t s is = by (entry_state opening apply decode v t) is
   where
@@ -181,7 +181,7 @@ module _ {S : Type 0} (opening : S) (apply : S → Address → List ℕ → S) (
         own_end = ends-at h h1 c v f cuts i a.view y out;
       } in
       let begun : entry_state opening apply decode w k.trace ≡ Some z = made-state opening apply decode h1.trace i may ∙ ap Some out.state in
-      subst (λ (t : List Happening). Invariant opening apply encode decode is_state (record { running = put p (Some (gone_into (proposed f) z (kept_by g list) c)) s.running; history = record { pool = h.pool ++ more; trace = t } }))
+      subst (λ (t : List Event). Invariant opening apply encode decode is_state (record { running = put p (Some (gone_into (proposed f) z (kept_by g list) c)) s.running; history = record { pool = h.pool ++ more; trace = t } }))
       (append_assoc h.trace (deliveries p c.view (last_entries c v cuts)) (Installed i ∷ []))
       (made opening apply encode decode is_state s c h1 more i z (kept_by g list) inv out.quiet refl (record {
         itself = refl;

@@ -8,9 +8,9 @@ use Rattle.std.proofs.lemmas.List.{append-nil}
 use Rattle.address.specs.Ids.{Address, ViewId, same_address, same_view_id}
 use Rattle.view.specs.Members.{stands_in}
 use Rattle.wire.specs.Values as wire
-use Rattle.trace_props.specs.declared.happening.Happening.{Happening}
-use Rattle.trace_props.specs.declared.happening.Happening.TheVariants.{Installed}
-use Rattle.trace_props.specs.declared.happening.Install.{Install}
+use Rattle.trace_props.specs.declared.event.Event.{Event}
+use Rattle.trace_props.specs.declared.event.Event.TheVariants.{Installed}
+use Rattle.trace_props.specs.declared.event.Install.{Install}
 use Rattle.trace_props.specs.Observed.{entry_of}
 use Rattle.trace_props.specs.Rules.{IsRunning, HasRisingViews}
 use Rattle.trace_props.specs.State.{state_of, entry_state}
@@ -23,9 +23,9 @@ use Rattle.agreement.specs.Steps.{System, put}
 use Rattle.agreement.specs.Packets.{PacketFact, AllAnswered, IsEntry, GivesState, BeginsWith}
 use Rattle.agreement.specs.Members.{LiesBelow, KeepsInstructions, MemberFact}
 use Rattle.agreement.specs.Invariant.{EachPacket, StateFact, Invariant}
-use Rattle.agreement.proofs.Growing.{Later, later-trans, later-packets, later-happening}
+use Rattle.agreement.proofs.Growing.{Later, later-trans, later-packets, later-event}
 use Rattle.agreement.proofs.Staying.{there-later, is_entry-later}
-use Rattle.agreement.proofs.Others.{IsFrom, only-trans, only-packets, only-happening}
+use Rattle.agreement.proofs.Others.{IsFrom, only-trans, only-packets, only-event}
 use Rattle.agreement.proofs.Traces.{stands-of, views-of, trace-push, trace-packets, only-state, only_state-trans, entry_state-kept}
 use Rattle.agreement.proofs.Moving.{packets-later, entries-later, states-later, given-later, begins-later, moved}
 use Rattle.agreement.proofs.Quiet.{Quiet}
@@ -38,7 +38,7 @@ abbrev pub made_on : History → List Posted → Install → History
 made_on h more i = record { pool = h.pool ++ more; trace = h.trace ++ Installed i ∷ [] }
 
 -- installs of other views are as before
-entry-other : (t : List Happening) (i : Install) (q : Address) (u : ViewId) → same_view_id i.view.id u ≡ false → entry_of q u (t ++ Installed i ∷ []) ≡ entry_of q u t
+entry-other : (t : List Event) (i : Install) (q : Address) (u : ViewId) → same_view_id i.view.id u ≡ false → entry_of q u (t ++ Installed i ∷ []) ≡ entry_of q u t
 entry-other t i q u other =
     register-push (enters q u) t i
     ∙ ap (λ b. option_or (entry_of q u t) (cond b (Some i) None)) (and_right (same_address i.member q) (same_view_id i.view.id u) other)
@@ -51,7 +51,7 @@ coordinator-goes h w p e mine entry = cond-true (same_address p w.creator) _ _ m
 module _ {S : Type 0} (opening : S) (apply : S → Address → List ℕ → S) (encode : S → List ℕ) (decode : List ℕ → Option S) (is_state : S → Type 0) where
   -- ---- states
 
-  begun-later : (t : List Happening) (i : Install) (w : ViewId) → is_some (entry_state opening apply decode w t) ≡ true → is_some (entry_state opening apply decode w (t ++ Installed i ∷ [])) ≡ true
+  begun-later : (t : List Event) (i : Install) (w : ViewId) → is_some (entry_state opening apply decode w t) ≡ true → is_some (entry_state opening apply decode w (t ++ Installed i ∷ [])) ≡ true
   begun-later t i w there =
       there-later (entry_state opening apply decode w t) (entry_state opening apply decode w (t ++ Installed i ∷ []))
       (λ s e. entry_state-kept opening apply decode w t (Installed i ∷ []) s e) there
@@ -130,7 +130,7 @@ module _ {S : Type 0} (opening : S) (apply : S → Address → List ℕ → S) (
         → (install_of w q h.pool ≡ Some j) ⊎ GivesState opening apply encode decode (made_on h more i) q j
     pub begins : BeginsWith opening apply decode (h.trace ++ Installed i ∷ []) i.view.id i
 
-  not-it : (b : Bool) (t : List Happening) (i : Install) (w : ViewId) → same_view_id i.view.id w ≡ b → MayMake t i → is_some (entry_of w.creator w t) ≡ true
+  not-it : (b : Bool) (t : List Event) (i : Install) (w : ViewId) → same_view_id i.view.id w ≡ b → MayMake t i → is_some (entry_of w.creator w t) ≡ true
       → same_view_id i.view.id w ≡ false
   not-it false t i w test may there = test
   not-it true t i w test may there =
@@ -147,7 +147,7 @@ module _ {S : Type 0} (opening : S) (apply : S → Address → List ℕ → S) (
       → ((w : ViewId) (q : Address) → same_view_id i.view.id w ≡ false → install_of w q (h.pool ++ more) ≡ install_of w q h.pool) → Later h (made_on h more i)
   made-later h more i views may tells =
       let k2 : History = record { pool = h.pool ++ more; trace = h.trace } in
-      later-trans h k2 (made_on h more i) (packed-later h more i may tells) (later-happening k2 (Installed i) views may.running)
+      later-trans h k2 (made_on h more i) (packed-later h more i may tells) (later-event k2 (Installed i) views may.running)
 
   -- the member that makes a view keeps the invariant
   pub made : (s : System S) (c : Core S) (h : History) (more : List Posted) (i : Install) (z : S) (kept : List (Address × wire.Install)) → Invariant opening apply encode decode is_state s
@@ -166,7 +166,7 @@ module _ {S : Type 0} (opening : S) (apply : S → Address → List ℕ → S) (
       let running = subst (λ (q : Address). IsRunning q t) x.itself may.running in
       let packed : Later h k2 = packed-later h more i may x.tells in
       let trace = trace-packets opening apply decode h more c.me quiet.trace running.started (λ n m at. (x.from n m at).source) in
-      let installed : Later k2 k = later-happening k2 (Installed i) (views-of opening apply decode k2 trace) (stands-of opening apply decode t (Installed i) goes) in
+      let installed : Later k2 k = later-event k2 (Installed i) (views-of opening apply decode k2 trace) (stands-of opening apply decode t (Installed i) goes) in
       let later = later-trans h k2 k packed installed in
       let entry = made-entry h i may in
       let mine = same_address-from i.member w.creator may.mine in
@@ -184,7 +184,7 @@ module _ {S : Type 0} (opening : S) (apply : S → Address → List ℕ → S) (
       let owner : c.me ≡ w.creator = sym x.itself ∙ may.mine in
       moved opening apply encode decode is_state s c.me k (Some (gone_into i.view z kept c)) inv (record {
         later = later-trans s.history h k quiet.later later;
-        only = only-trans c.me s.history h k quiet.only (only-trans c.me h k2 k (only-packets c.me h more x.from) (only-happening c.me k2 (Installed i) x.itself));
+        only = only-trans c.me s.history h k quiet.only (only-trans c.me h k2 k (only-packets c.me h more x.from) (only-event c.me k2 (Installed i) x.itself));
         state = only_state-trans opening apply decode c.me s.history.trace t k.trace quiet.state (only-state opening apply decode c.me t (Installed i) x.itself);
         trace = trace-push opening apply decode k2 (Installed i) trace goes tt;
         packets = packets-later h k more later refl each x.packets;

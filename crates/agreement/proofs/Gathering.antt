@@ -13,9 +13,9 @@ use Rattle.packet_values.specs.Values.{Entry, held_at}
 use Rattle.wire.specs.Values.{Report}
 use Rattle.wire.specs.declared.packet.Body.TheVariants as bodies
 use Rattle.flush.specs.Flushes.{FlushModel}
-use Rattle.trace_props.specs.declared.happening.Happening.{Happening}
-use Rattle.trace_props.specs.declared.happening.Install.{Install}
-use Rattle.trace_props.specs.declared.happening.Numbered.{Numbered}
+use Rattle.trace_props.specs.declared.event.Event.{Event}
+use Rattle.trace_props.specs.declared.event.Install.{Install}
+use Rattle.trace_props.specs.declared.event.Numbered.{Numbered}
 use Rattle.trace_props.specs.Observed.{delivered_in, sent_in, own, entry_of}
 use Rattle.trace_props.proofs.Observing.{same_address-true}
 use Rattle.agreement.specs.Words.{Tally, members_of, open_count}
@@ -48,7 +48,7 @@ open-fact opening apply decode is_state h p c v t x o fact = record {
 }
 
 -- the members of the view are those of its coordinator's install
-pub members-are : (t : List Happening) (v : View) → installed_as v.id.creator v.id t ≡ Some v → members_of v.id t ≡ v.members
+pub members-are : (t : List Event) (v : View) → installed_as v.id.creator v.id t ≡ Some v → members_of v.id t ≡ v.members
 members-are t v x = by (entry_of v.id.creator v.id t) x
   where
     by : (o : Option Install) → option_map (λ e. e.view) o ≡ Some v → option_map_or (λ (e : Install). e.view.members) o [] ≡ v.members
@@ -73,7 +73,7 @@ joins-fact opening apply decode is_state h p c x = record {
 -- ---- Queues
 
 -- an outstanding message was sent under its number
-pub outstanding-sent : (t : List Happening) (p : Address) (v : ViewId) (rest : List Numbered) (m : Numbered) → ((k : ℕ) (n : Numbered) → slice_get (sent_in p v t) k ≡ Some n → n.number ≡ k + 1)
+pub outstanding-sent : (t : List Event) (p : Address) (v : ViewId) (rest : List Numbered) (m : Numbered) → ((k : ℕ) (n : Numbered) → slice_get (sent_in p v t) k ≡ Some n → n.number ≡ k + 1)
     → sent_in p v t ≡ own p (delivered_in p v t) ++ rest → (j : ℕ) → slice_get rest j ≡ Some m → (k : ℕ) → m.number ≡ k + 1 → slice_get (sent_in p v t) k ≡ Some m
 outstanding-sent t p v rest m numbers sent j at k number =
     let before = own p (delivered_in p v t) in
@@ -113,7 +113,7 @@ queues-fact opening apply decode is_state h c which v e waiting trace each x a =
 
 -- ---- Hears
 
-heard-by : (b : Bool) (t : List Happening) (v : ViewId) (q r : Address) (n m : ℕ) → same_address r q ≡ b → m ≤ open_count r v t → n ≤ open_count q v t
+heard-by : (b : Bool) (t : List Event) (v : ViewId) (q r : Address) (n m : ℕ) → same_address r q ≡ b → m ≤ open_count r v t → n ≤ open_count q v t
     → cond b (max m n) m ≤ open_count r v t
 heard-by true t v q r n m test old new =
     let here : n ≤ open_count r v t = subst (λ (z : Address). n ≤ open_count z v t) (sym (same_address-true r q test)) new in grind (arith, nat_tests)
@@ -201,7 +201,7 @@ collects-fact opening apply decode is_state h c which v n held each x a =
 
 -- ---- Holds
 
-pub held-order : (b : Bool) (t : List Happening) (v : ViewId) (held new : List (ℕ × Entry)) (g k : ℕ) (e x : Entry) → nat_eq k g ≡ b → HoldsMore held g e new → HoldsOrder t v held → IsOrdered t v g e
+pub held-order : (b : Bool) (t : List Event) (v : ViewId) (held new : List (ℕ × Entry)) (g k : ℕ) (e x : Entry) → nat_eq k g ≡ b → HoldsMore held g e new → HoldsOrder t v held → IsOrdered t v g e
     → held_at k new ≡ Some x → IsOrdered t v k x
 held-order true t v held new g k e x test more old is at =
     let same : k ≡ g = eqb-true k g test in

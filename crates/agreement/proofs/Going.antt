@@ -9,9 +9,9 @@ use Rattle.address.specs.Ids.{Address, ViewId, same_address, same_view_id}
 use Rattle.view.specs.Members.{View, stands_in}
 use Rattle.wire.specs.Values.{Report}
 use Rattle.wire.specs.Values as wire
-use Rattle.trace_props.specs.declared.happening.Happening.TheVariants.{Installed}
-use Rattle.trace_props.specs.declared.happening.Install.{Install}
-use Rattle.trace_props.specs.declared.happening.Numbered.{Numbered}
+use Rattle.trace_props.specs.declared.event.Event.TheVariants.{Installed}
+use Rattle.trace_props.specs.declared.event.Install.{Install}
+use Rattle.trace_props.specs.declared.event.Numbered.{Numbered}
 use Rattle.trace_props.specs.Observed.{current_view, delivered_in, sent_in, own, entry_of, first_install}
 use Rattle.trace_props.specs.Rules.{IsRunning, IsBelow, EntersAbove, HasRisingViews, LiesWithin}
 use Rattle.trace_props.specs.Agreeing.{goes, is_view, KnowEachOther, KnowsAll, MayMeet, MayHandBack}

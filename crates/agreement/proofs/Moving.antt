@@ -5,7 +5,7 @@ use Rattle.std.specs.Option.{option_map, option_eq}
 use Rattle.address.specs.Ids.{Address, ViewId, same_address, same_view_id}
 use Rattle.wire.specs.Values.{Report}
 use Rattle.wire.specs.Values as wire
-use Rattle.trace_props.specs.declared.happening.Install.{Install}
+use Rattle.trace_props.specs.declared.event.Install.{Install}
 use Rattle.trace_props.specs.Observed.{entry_of}
 use Rattle.trace_props.specs.State.{entry_state}
 use Rattle.trace_props.proofs.Observing.{same_address-true}

@@ -10,10 +10,10 @@ use Rattle.address.specs.Ids.{Address, ViewId, same_address}
 use Rattle.view.specs.Members.{View}
 use Rattle.packet_values.specs.declared.limits.TheConstants.{WINDOW}
 use Rattle.packet_values.specs.Values.{Entry, held_at}
-use Rattle.trace_props.specs.declared.happening.Happening.{Happening}
-use Rattle.trace_props.specs.declared.happening.Happening.TheVariants.{Delivered}
-use Rattle.trace_props.specs.declared.happening.Delivery.{Delivery}
-use Rattle.trace_props.specs.declared.happening.Message.{Message}
+use Rattle.trace_props.specs.declared.event.Event.{Event}
+use Rattle.trace_props.specs.declared.event.Event.TheVariants.{Delivered}
+use Rattle.trace_props.specs.declared.event.Delivery.{Delivery}
+use Rattle.trace_props.specs.declared.event.Message.{Message}
 use Rattle.trace_props.specs.Observed.{delivered_in, sent_in, own, numbered}
 use Rattle.trace_props.specs.Verdicts.{GoesOn}
 use Rattle.trace_props.specs.State.{state_of}
@@ -34,7 +34,7 @@ use Rattle.agreement.proofs.Words.{list_of-hit, tally_of-push}
 use Rattle.agreement.proofs.Staying.{sent-later}
 use Rattle.agreement.proofs.Others.{inside-later, window-later, acks-later, first-entered}
 use Rattle.agreement.proofs.Moving.{moved}
-use Rattle.agreement.proofs.Quiet.{quiet-happening, quiet-moves, grown-trace}
+use Rattle.agreement.proofs.Quiet.{quiet-event, quiet-moves, grown-trace}
 use Rattle.agreement.proofs.Gathering.{held-order, held-near}
 use Rattle.agreement.proofs.Delivering.{own-by, sender-started, state_with-more}
 use Rattle.agreement.proofs.Catching.{Law}
@@ -42,12 +42,12 @@ use Rattle.agreement.proofs.Catching.{Law}
 -- ---- what may be ordered
 
 -- what is needed of a message that the coordinator orders: it was sent, and it is its sender's next there
-record IsDue (t : List Happening) (p : Address) (v : ViewId) (m : Message) : Type 0 where
+record IsDue (t : List Event) (p : Address) (v : ViewId) (m : Message) : Type 0 where
   number : m.number ≡ length (own m.sender (delivered_in p v t)) + 1
   sent : slice_get (sent_in m.sender v t) (length (own m.sender (delivered_in p v t))) ≡ Some (numbered m)
 
 -- what waits was sent, and what was ordered is counted, so a message that may be ordered is due
-due-of : {S : Type 0} (t : List Happening) (c : Core S) (v : View) (e : Entry) (waiting : List Entry) (held : List (ℕ × Entry)) → HasWaiting t v.id c.traffic.waiting
+due-of : {S : Type 0} (t : List Event) (c : Core S) (v : View) (e : Entry) (waiting : List Entry) (held : List (ℕ × Entry)) → HasWaiting t v.id c.traffic.waiting
     → HasOrdered t c.me v.id c.traffic.ordered → MayOrder c v e waiting held → IsDue t c.me v.id (message_for e)
 due-of t c v e waiting held waits ordered a =
     let at = place-of c.traffic.waiting e a.waits in
@@ -57,7 +57,7 @@ due-of t c v e waiting held waits ordered a =
 -- ---- what is held and counted afterwards
 
 -- at the view's coordinator the order is its own list, so it ends with the new entry
-ordered-last : (t u : List Happening) (p : Address) (v : ViewId) (d : ℕ) (e : Entry) → same_address p v.creator ≡ true → list_of p v u ≡ list_of p v t ++ e ∷ [] → length (list_of p v t) ≡ d
+ordered-last : (t u : List Event) (p : Address) (v : ViewId) (d : ℕ) (e : Entry) → same_address p v.creator ≡ true → list_of p v u ≡ list_of p v t ++ e ∷ [] → length (list_of p v t) ≡ d
     → IsOrdered u v (d + 1) e
 ordered-last t u p v d e first list told k number =
     let here : length (list_of p v t) ≡ k = omega arith in
@@ -73,7 +73,7 @@ all-by false held new s d g e test more all past within =
     ap is_some (more.now g ∙ cond-false (nat_eq g (d + 1)) (Some e) (held_at g held) test) ∙ all g past low
 
 -- the window with the new entry at the number after those that were told
-window-next : (t : List Happening) (v : ViewId) (s d : ℕ) (old new : List (ℕ × Entry)) (e : Entry) → HasWindow t v s d old → IsOrdered t v (d + 1) e → d < s + WINDOW
+window-next : (t : List Event) (v : ViewId) (s d : ℕ) (old new : List (ℕ × Entry)) (e : Entry) → HasWindow t v s d old → IsOrdered t v (d + 1) e → d < s + WINDOW
     → HoldsMore old (d + 1) e new → HasWindow t v s (d + 1) new
 window-next t v s d old new e w is room more = record {
   order = λ g x at. held-order (nat_eq g (d + 1)) t v old new (d + 1) g e x refl more w.order is at;
@@ -127,7 +127,7 @@ module _ {S : Type 0} (opening : S) (apply : S → Address → List ℕ → S) (
       let f = x.view v a.open_in.view in
       let d = c.traffic.delivered in
       let due = due-of t c v e waiting held f.waiting f.ordered a in
-      let quiet = quiet-happening opening apply encode decode is_state me h happened refl refl i.trace (orders-goes h c v e a.open_in.view a.first x due) tt in
+      let quiet = quiet-event opening apply encode decode is_state me h happened refl refl i.trace (orders-goes h c v e a.open_in.view a.first x due) tt in
       let m = quiet.later in
       let told = delivered_in-hit me v.id t y (told_to-at y) in
       let list : list_of me v.id k.trace ≡ list_of me v.id t ++ e ∷ [] = list_of-hit me v.id t y (told_to-at y) in

@@ -12,10 +12,10 @@ use Rattle.wire.specs.Values as wire
 use Rattle.wire.specs.declared.packet.Body.{Body}
 use Rattle.wire.specs.declared.packet.Body.TheVariants as bodies
 use Rattle.flush.specs.Flushes.{FlushModel}
-use Rattle.trace_props.specs.declared.happening.Happening.{Happening}
-use Rattle.trace_props.specs.declared.happening.Happening.TheVariants.{Started, Sent, Delivered, Blocked, Installed, Left, Crashed}
-use Rattle.trace_props.specs.declared.happening.Numbered.{Numbered}
-use Rattle.trace_props.specs.declared.happening.Install.{Install}
+use Rattle.trace_props.specs.declared.event.Event.{Event}
+use Rattle.trace_props.specs.declared.event.Event.TheVariants.{Started, Sent, Delivered, Blocked, Installed, Left, Crashed}
+use Rattle.trace_props.specs.declared.event.Numbered.{Numbered}
+use Rattle.trace_props.specs.declared.event.Install.{Install}
 use Rattle.trace_props.specs.Observed.{member_of, current_view, is_blocked, delivered_in, sent_in, own, entry_of}
 use Rattle.trace_props.specs.Rules.{IsRunning}
 use Rattle.trace_props.specs.State.{state_of, entry_state}
@@ -81,7 +81,7 @@ only-trans p h k l a b = record {
   install = λ w q o. b.install w q o ∙ a.install w q o;
 }
 
--- ---- one happening more
+-- ---- one event more
 
 pub not-another : (p q r : Address) → r ≡ p → same_address q p ≡ false → same_address r q ≡ false
 not-another p q r same other = by (same_address r q) refl
@@ -90,7 +90,7 @@ not-another p q r same other = by (same_address r q) refl
     by true e = absurd (let n : true ≡ false = sym (same_address-from q p (sym (same_address-true r q e) ∙ same)) ∙ other in cc)
     by false e = e
 
-entry_of-other : (q : Address) (v : ViewId) (t : List Happening) (h : Happening) → same_address (member_of h) q ≡ false → entry_of q v (t ++ h ∷ []) ≡ entry_of q v t
+entry_of-other : (q : Address) (v : ViewId) (t : List Event) (h : Event) → same_address (member_of h) q ≡ false → entry_of q v (t ++ h ∷ []) ≡ entry_of q v t
 entry_of-other q v t (Started x) o = register-still (enters q v) t (Started x) refl
 entry_of-other q v t (Sent x) o = register-still (enters q v) t (Sent x) refl
 entry_of-other q v t (Delivered x) o = register-still (enters q v) t (Delivered x) refl
@@ -106,8 +106,8 @@ entry_of-other q v t (Installed i) o =
 entry_of-other q v t (Left x) o = register-still (enters q v) t (Left x) refl
 entry_of-other q v t (Crashed x) o = register-still (enters q v) t (Crashed x) refl
 
-pub only-happening : (p : Address) (h : History) (x : Happening) → member_of x ≡ p → Only p h (record { pool = h.pool; trace = h.trace ++ x ∷ [] })
-only-happening p h x same = record {
+pub only-event : (p : Address) (h : History) (x : Event) → member_of x ≡ p → Only p h (record { pool = h.pool; trace = h.trace ++ x ∷ [] })
+only-event p h x same = record {
   running = λ q o r. record {
     started = has_started-stays q h.trace (x ∷ []) r.started;
     going = has_ended-other q h.trace x (not-another p q (member_of x) same o) ∙ r.going;
@@ -222,7 +222,7 @@ only-packets p h more from = record {
 -- ---- states
 
 -- what the trace says of states went on as it was, but for one member's
-pub record OnlyState {S : Type 0} (opening : S) (apply : S → Address → List ℕ → S) (decode : List ℕ → Option S) (p : Address) (t u : List Happening) : Type 0 where
+pub record OnlyState {S : Type 0} (opening : S) (apply : S → Address → List ℕ → S) (decode : List ℕ → Option S) (p : Address) (t u : List Event) : Type 0 where
   pub now : (q : Address) → same_address q p ≡ false → state_of opening apply decode q u ≡ state_of opening apply decode q t
   pub entered : (v : ViewId) (s : S) → entry_state opening apply decode v t ≡ Some s → entry_state opening apply decode v u ≡ Some s
 
@@ -300,7 +300,7 @@ acks-later h k v acks m x r = let was = x r in let more = m.count r v in omega a
 pub waiting-later : (h k : History) (v : ViewId) (waiting : List Entry) → Later h k → HasWaiting h.trace v waiting → HasWaiting k.trace v waiting
 waiting-later h k v waiting m x n e at = sent-later h k v e m (x n e at)
 
-pub first-entered : (t : List Happening) (p : Address) (v : View) → installed_as p v.id t ≡ Some v → is_some (entry_of p v.id t) ≡ true
+pub first-entered : (t : List Event) (p : Address) (v : View) → installed_as p v.id t ≡ Some v → is_some (entry_of p v.id t) ≡ true
 first-entered t p v x = by (entry_of p v.id t) x
   where
     by : (o : Option Install) → option_map (λ e. e.view) o ≡ Some v → is_some o ≡ true
@@ -321,7 +321,7 @@ view-other p q h k installed traffic kept v o m only x = record {
 }
 
 -- the state in a view stays that of its beginning with all applied
-pub state_with-later : {S : Type 0} (opening : S) (apply : S → Address → List ℕ → S) (decode : List ℕ → Option S) (v : ViewId) (entries : List Entry) (t u : List Happening) (s : S)
+pub state_with-later : {S : Type 0} (opening : S) (apply : S → Address → List ℕ → S) (decode : List ℕ → Option S) (v : ViewId) (entries : List Entry) (t u : List Event) (s : S)
     → ((z : S) → entry_state opening apply decode v t ≡ Some z → entry_state opening apply decode v u ≡ Some z)
     → state_with opening apply decode v entries t ≡ Some s → state_with opening apply decode v entries u ≡ Some s
 state_with-later {S} opening apply decode v entries t u s kept e = by (entry_state opening apply decode v t) (entry_state opening apply decode v u) kept e

@@ -8,7 +8,7 @@ use Rattle.address.specs.Ids.{Address, ViewId, same_address, same_view_id}
 use Rattle.view.specs.Members.{View, stands_in}
 use Rattle.wire.specs.Values.{Report}
 use Rattle.wire.specs.declared.packet.Body.TheVariants as bodies
-use Rattle.trace_props.specs.declared.happening.Happening.{Happening}
+use Rattle.trace_props.specs.declared.event.Event.{Event}
 use Rattle.trace_props.specs.Rules.{IsBelow}
 use Rattle.trace_props.proofs.Observing.{same_address-refl, same_address-sym, same_view_id-refl, same_view_id-true}
 use Rattle.trace_props.proofs.Standing.{IsBelow-irreflexive}
@@ -138,7 +138,7 @@ module _ {S : Type 0} (opening : S) (apply : S → Address → List ℕ → S) (
   abbrev Fact : History → Address → Core S → Type 0
   Fact h p c = MemberFact opening apply decode is_state h p c
 
-  below-after : (h : History) (p : Address) (promise : Option View) (installed : Bool) (w : View) (r : Report) (t : List Happening) → LiesBelow h.pool p promise → MayRise w.id promise installed
+  below-after : (h : History) (p : Address) (promise : Option View) (installed : Bool) (w : View) (r : Report) (t : List Event) → LiesBelow h.pool p promise → MayRise w.id promise installed
       → LiesBelow (h.pool ++ reporting p w.id r ∷ []) p (Some w)
   below-after h p promise installed w r t x above = record {
     announced = λ u list mine e. not-past-risen promise w installed u above (x.announced u list mine (sym (report-announces p w.id u r h.pool) ∙ e));

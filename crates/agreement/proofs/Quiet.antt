@@ -7,8 +7,8 @@ use Rattle.std.proofs.lemmas.Option.{none-some}
 use Rattle.std.proofs.lemmas.List.{append-nil}
 use Rattle.address.specs.Ids.{Address, ViewId, same_address}
 use Rattle.wire.specs.Values as wire
-use Rattle.trace_props.specs.declared.happening.Happening.{Happening}
-use Rattle.trace_props.specs.declared.happening.Happening.TheVariants.{Started, Sent, Delivered, Blocked, Installed, Left, Crashed}
+use Rattle.trace_props.specs.declared.event.Event.{Event}
+use Rattle.trace_props.specs.declared.event.Event.TheVariants.{Started, Sent, Delivered, Blocked, Installed, Left, Crashed}
 use Rattle.trace_props.specs.Observed.{member_of, has_started, install_of}
 use Rattle.trace_props.specs.State.{installs, entry_state}
 use Rattle.trace_props.specs.Verdicts.{GoesOn}
@@ -22,8 +22,8 @@ use Rattle.agreement.specs.Packets.{PacketFact}
 use Rattle.agreement.specs.Members.{MemberFact}
 use Rattle.agreement.specs.Invariant.{TraceFact, Invariant}
 use Rattle.agreement.proofs.Lists.{first_of-still}
-use Rattle.agreement.proofs.Growing.{Later, later-refl, later-trans, later-packets, later-happening}
-use Rattle.agreement.proofs.Others.{Only, OnlyState, IsFrom, only-refl, only-trans, only-happening, only-packets}
+use Rattle.agreement.proofs.Growing.{Later, later-refl, later-trans, later-packets, later-event}
+use Rattle.agreement.proofs.Others.{Only, OnlyState, IsFrom, only-refl, only-trans, only-event, only-packets}
 use Rattle.agreement.proofs.Traces.{IsProper, stands-of, views-of, trace-push, trace-packets, only-state, only_state-refl, only_state-trans}
 use Rattle.agreement.proofs.Moving.{NoInstall, Moves, packets-later, entries-later, states-later}
 
@@ -57,15 +57,15 @@ module _ {S : Type 0} (opening : S) (apply : S → Address → List ℕ → S) (
     begun = λ v. b.begun v ∙ a.begun v;
   }
 
-  -- ONE HAPPENING
+  -- ONE EVENT
 
-  pub no-entry : (v : ViewId) (t : List Happening) (x : Happening) → installs v.creator v x ≡ false → (o : Option ℕ) → position_from (installs v.creator v) 0 t ≡ o
+  pub no-entry : (v : ViewId) (t : List Event) (x : Event) → installs v.creator v x ≡ false → (o : Option ℕ) → position_from (installs v.creator v) 0 t ≡ o
       → entry_state opening apply decode v (t ++ x ∷ []) ≡ entry_state opening apply decode v t
   no-entry v t x other None at =
       entry_state-new opening apply decode v t x at ∙ cond-false (installs v.creator v x) _ None other ∙ sym (entry_state-none opening apply decode v t at)
   no-entry v t x other (Some k) at = entry_state-stays opening apply decode v t (x ∷ []) k at
 
-  installs-none : (p : Address) (v : ViewId) (x : Happening) → install_of x ≡ None → installs p v x ≡ false
+  installs-none : (p : Address) (v : ViewId) (x : Event) → install_of x ≡ None → installs p v x ≡ false
   installs-none p v (Started q) e = refl
   installs-none p v (Sent m) e = refl
   installs-none p v (Delivered d) e = refl
@@ -74,11 +74,11 @@ module _ {S : Type 0} (opening : S) (apply : S → Address → List ℕ → S) (
   installs-none p v (Left q) e = refl
   installs-none p v (Crashed q) e = refl
 
-  pub quiet-happening : (p : Address) (h : History) (x : Happening) → member_of x ≡ p → install_of x ≡ None → TraceFact opening apply decode h → GoesOn opening apply decode h.trace x → IsProper x
+  pub quiet-event : (p : Address) (h : History) (x : Event) → member_of x ≡ p → install_of x ≡ None → TraceFact opening apply decode h → GoesOn opening apply decode h.trace x → IsProper x
       → Quiet opening apply decode p h (record { pool = h.pool; trace = h.trace ++ x ∷ [] })
-  quiet-happening p h x mine none t goes proper = record {
-    later = later-happening h x (views-of opening apply decode h t) (stands-of opening apply decode h.trace x goes);
-    only = only-happening p h x mine;
+  quiet-event p h x mine none t goes proper = record {
+    later = later-event h x (views-of opening apply decode h t) (stands-of opening apply decode h.trace x goes);
+    only = only-event p h x mine;
     state = only-state opening apply decode p h.trace x mine;
     trace = trace-push opening apply decode h x t goes proper;
     none = record { entry = λ q w. register-still (enters q w) h.trace x none; install = λ w q. refl };
@@ -114,13 +114,13 @@ module _ {S : Type 0} (opening : S) (apply : S → Address → List ℕ → S) (
   pub grown-none : (h : History) → grown h [] [] ≡ h
   grown-none h =
       ap {B = History} (λ (l : List Posted). record { pool = l; trace = h.trace ++ [] }) (append-nil h.pool)
-      ∙ ap {B = History} (λ (t : List Happening). record { pool = h.pool; trace = t }) (append-nil h.trace)
+      ∙ ap {B = History} (λ (t : List Event). record { pool = h.pool; trace = t }) (append-nil h.trace)
 
-  pub grown-trace : (h : History) (x : List Happening) → grown h [] x ≡ record { pool = h.pool; trace = h.trace ++ x }
+  pub grown-trace : (h : History) (x : List Event) → grown h [] x ≡ record { pool = h.pool; trace = h.trace ++ x }
   grown-trace h x = ap {B = History} (λ (l : List Posted). record { pool = l; trace = h.trace ++ x }) (append-nil h.pool)
 
   pub grown-pool : (h : History) (more : List Posted) → grown h more [] ≡ record { pool = h.pool ++ more; trace = h.trace }
-  grown-pool h more = ap {B = History} (λ (t : List Happening). record { pool = h.pool ++ more; trace = t }) (append-nil h.trace)
+  grown-pool h more = ap {B = History} (λ (t : List Event). record { pool = h.pool ++ more; trace = t }) (append-nil h.trace)
 
   -- ONE MEMBER MOVES
 

@@ -5,8 +5,8 @@ use Rattle.std.proofs.lemmas.Option.{none-some, same_Some}
 use Rattle.std.proofs.lemmas.List.{append-nil, append_assoc, length_push}
 use Rattle.address.specs.Ids.{Address}
 use Rattle.view.specs.Members.{View}
-use Rattle.trace_props.specs.declared.happening.Happening.TheVariants.{Sent}
-use Rattle.trace_props.specs.declared.happening.Sending.{Sending}
+use Rattle.trace_props.specs.declared.event.Event.TheVariants.{Sent}
+use Rattle.trace_props.specs.declared.event.Sending.{Sending}
 use Rattle.trace_props.specs.Observed.{delivered_in, sent_in, own}
 use Rattle.trace_props.specs.Verdicts.{GoesOn}
 use Rattle.trace_props.proofs.Observing.{has_started-stays, has_ended-still, current_view-push, is_blocked-push}
@@ -22,7 +22,7 @@ use Rattle.agreement.specs.Invariant.{Invariant}
 use Rattle.agreement.proofs.Words.{list_of-still, tally_of-push}
 use Rattle.agreement.proofs.Others.{inside-later, window-later, acks-later, waiting-later, first-entered}
 use Rattle.agreement.proofs.Moving.{moved}
-use Rattle.agreement.proofs.Quiet.{quiet-happening, quiet-moves, grown-trace}
+use Rattle.agreement.proofs.Quiet.{quiet-event, quiet-moves, grown-trace}
 
 -- the traffic with one more message outstanding
 abbrev pub sending : List ℕ → Traffic → Traffic
@@ -63,7 +63,7 @@ module _ {S : Type 0} (opening : S) (apply : S → Address → List ℕ → S) (
       let y = sending_of c v payload in
       let happened = Sent y in
       let k : History = record { pool = h.pool; trace = t ++ happened ∷ [] } in
-      let quiet = quiet-happening opening apply encode decode is_state me h happened refl refl i.trace (sends-goes h c v payload x a) a.short in
+      let quiet = quiet-event opening apply encode decode is_state me h happened refl refl i.trace (sends-goes h c v payload x a) a.short in
       let m = quiet.later in
       let f = x.view v a.open_in.view in
       let told = delivered_in-still me v.id t happened refl in

@@ -13,8 +13,8 @@ use Rattle.wire.specs.declared.packet.Body.{Body}
 use Rattle.wire.specs.declared.packet.Body.TheVariants as bodies
 use Rattle.flush.specs.Cuts.{IsCut}
 use Rattle.flush.specs.Flushes.{FlushModel, report_from, group, together_of}
-use Rattle.trace_props.specs.declared.happening.Happening.{Happening}
-use Rattle.trace_props.specs.declared.happening.Happening.TheVariants.{Sent, Delivered, Blocked, Installed, Left}
+use Rattle.trace_props.specs.declared.event.Event.{Event}
+use Rattle.trace_props.specs.declared.event.Event.TheVariants.{Sent, Delivered, Blocked, Installed, Left}
 use Rattle.trace_props.specs.Rules.{IsBelow}
 use Rattle.agreement.specs.Words.{message_for}
 use Rattle.agreement.specs.Histories.{Posted}
@@ -375,15 +375,15 @@ packets_of apply encode c Leaves = []
 
 -- ---- what happens by an act
 
-abbrev pub delivery : Address → ViewId → Entry → Happening
+abbrev pub delivery : Address → ViewId → Entry → Event
 delivery p v e = Delivered (record { member = p; view = v; message = message_for e })
 
 -- a member is told entries in the view from which it goes
-abbrev pub deliveries : Address → Option View → List Entry → List Happening
+abbrev pub deliveries : Address → Option View → List Entry → List Event
 deliveries p v entries = option_map_or (λ u. map (delivery p u.id) entries) v []
 
 -- a member goes into a view: it is told some last entries, and what was not told of its own messages is handed back
-abbrev pub entering : {S : Type 0} → Core S → List Entry → View → List Address → Option (List ℕ) → List Happening
+abbrev pub entering : {S : Type 0} → Core S → List Entry → View → List Address → Option (List ℕ) → List Event
 entering c entries w together given =
     deliveries c.me c.view entries
     ++ Installed (record {
@@ -397,23 +397,23 @@ entering c entries w together given =
     ∷ []
 
 -- a member that was open is blocked
-abbrev pub blocking : {S : Type 0} → Core S → List Happening
+abbrev pub blocking : {S : Type 0} → Core S → List Event
 blocking c = if is_open c.view c.installed then Blocked c.me ∷ [] else []
 
-abbrev pub happenings_of : {S : Type 0} → Core S → Act → List Happening
-happenings_of c Creates = entering c [] (lone_view c.me) (c.me ∷ []) None
-happenings_of c Joins = []
-happenings_of c (Puts q body) = []
-happenings_of c (Sends v payload) = Sent (record { member = c.me; view = v.id; message = record { number = c.traffic.sent + 1; payload = payload } }) ∷ []
-happenings_of c (Queues v e waiting) = []
-happenings_of c (Orders v e waiting held) = delivery c.me v.id e ∷ []
-happenings_of c (Hears v q n) = []
-happenings_of c (Collects v n held) = []
-happenings_of c (Holds v g e held) = []
-happenings_of c (Delivers v e) = delivery c.me v.id e ∷ []
-happenings_of c (Promises w) = blocking c
-happenings_of c (Begins w) = blocking c
-happenings_of c (Records f q r) = []
-happenings_of c (Finishes v f cuts) = entering c (undelivered c.traffic.delivered (cuts.base v.id) (cuts.items v.id)) (proposed f) (together_of c.me f) None
-happenings_of c (Enters i) = entering c (told_at c i.base i.items) i.view i.together i.state
-happenings_of c Leaves = Left c.me ∷ []
+abbrev pub events_of : {S : Type 0} → Core S → Act → List Event
+events_of c Creates = entering c [] (lone_view c.me) (c.me ∷ []) None
+events_of c Joins = []
+events_of c (Puts q body) = []
+events_of c (Sends v payload) = Sent (record { member = c.me; view = v.id; message = record { number = c.traffic.sent + 1; payload = payload } }) ∷ []
+events_of c (Queues v e waiting) = []
+events_of c (Orders v e waiting held) = delivery c.me v.id e ∷ []
+events_of c (Hears v q n) = []
+events_of c (Collects v n held) = []
+events_of c (Holds v g e held) = []
+events_of c (Delivers v e) = delivery c.me v.id e ∷ []
+events_of c (Promises w) = blocking c
+events_of c (Begins w) = blocking c
+events_of c (Records f q r) = []
+events_of c (Finishes v f cuts) = entering c (undelivered c.traffic.delivered (cuts.base v.id) (cuts.items v.id)) (proposed f) (together_of c.me f) None
+events_of c (Enters i) = entering c (told_at c i.base i.items) i.view i.together i.state
+events_of c Leaves = Left c.me ∷ []

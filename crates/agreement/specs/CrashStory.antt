@@ -5,8 +5,8 @@ use Rattle.address.specs.Ids.{Address}
 use Rattle.packet_values.specs.Values.{Entry}
 use Rattle.wire.specs.Values.{Report}
 use Rattle.wire.specs.declared.packet.Body.TheVariants as bodies
-use Rattle.trace_props.specs.declared.happening.Happening.{Happening}
-use Rattle.trace_props.specs.declared.happening.Happening.TheVariants.{Blocked, Crashed}
+use Rattle.trace_props.specs.declared.event.Event.{Event}
+use Rattle.trace_props.specs.declared.event.Event.TheVariants.{Blocked, Crashed}
 use Rattle.agreement.specs.Acts.{Cuts, Puts, Sends, Queues, Orders, Hears, Collects, Holds, Delivers, Promises, Begins, Records, Finishes, Enters, delivery}
 use Rattle.agreement.specs.Steps.{Step, Crash, Does}
 use Rattle.agreement.specs.Stories.{Plays, one, two, three, view_of_three, view_of_rest, message_a, message_b, held_first, told_first, flush_with, for_companion, joining, three_joined, installs, sends}
@@ -74,7 +74,7 @@ abbrev pub crash_of_the_first : List ℕ → List Step
 crash_of_the_first state = joining state (messages_chapter ++ crash_chapter)
 
 -- the trace of the crash
-abbrev pub crash_happened : List ℕ → List Happening
+abbrev pub crash_happened : List ℕ → List Event
 crash_happened state =
     three_joined state
     ++ sends one view_of_three 1 message_a

@@ -3,9 +3,9 @@ use Rattle.std.specs.Prelude.{◌≡◌, ◌≤◌, ℕ, true, Option, None, Som
 use Rattle.address.specs.Ids.{Address, ViewId, IsAddress}
 use Rattle.packet_values.specs.declared.limits.TheConstants.{PAYLOAD}
 use Rattle.wire.specs.Values as wire
-use Rattle.trace_props.specs.declared.happening.Happening.{Happening}
-use Rattle.trace_props.specs.declared.happening.Numbered.{Numbered}
-use Rattle.trace_props.specs.declared.happening.Install.{Install}
+use Rattle.trace_props.specs.declared.event.Event.{Event}
+use Rattle.trace_props.specs.declared.event.Numbered.{Numbered}
+use Rattle.trace_props.specs.declared.event.Install.{Install}
 use Rattle.trace_props.specs.Observed.{has_started, delivered_in, sent_in, entry_of}
 use Rattle.trace_props.specs.State.{entry_state}
 use Rattle.trace_props.specs.Synchrony.{IsVirtuallySynchronous}
@@ -17,20 +17,20 @@ use Rattle.agreement.specs.Packets.{PacketFact, IsEntry, GivesState, BeginsWith}
 use Rattle.agreement.specs.Members.{MemberFact}
 
 -- a member that has not installed a view was told nothing and sent nothing there
-pub record IsUntouched (t : List Happening) (p : Address) (v : ViewId) : Type 0 where
+pub record IsUntouched (t : List Event) (p : Address) (v : ViewId) : Type 0 where
   pub told : delivered_in p v t ≡ []
   pub sent : sent_in p v t ≡ []
   pub tally : tally_of p v t ≡ no_tally
 
-abbrev pub NothingBefore : List Happening → Type 0
+abbrev pub NothingBefore : List Event → Type 0
 NothingBefore t = (p : Address) (v : ViewId) → entry_of p v t ≡ None → IsUntouched t p v
 
 -- payloads are short
-abbrev pub SendsShort : List Happening → Type 0
+abbrev pub SendsShort : List Event → Type 0
 SendsShort t = (p : Address) (v : ViewId) (k : ℕ) (m : Numbered) → slice_get (sent_in p v t) k ≡ Some m → length m.payload ≤ PAYLOAD
 
 -- who started has an address that a program can hold
-abbrev pub StartsProper : List Happening → Type 0
+abbrev pub StartsProper : List Event → Type 0
 StartsProper t = (p : Address) → has_started p t ≡ true → IsAddress p
 
 -- each packet comes from one who started

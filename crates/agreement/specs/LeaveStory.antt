@@ -6,9 +6,9 @@ use Rattle.packet_values.specs.Values.{Entry}
 use Rattle.wire.specs.Values.{Report}
 use Rattle.wire.specs.Values as wire
 use Rattle.wire.specs.declared.packet.Body.TheVariants as bodies
-use Rattle.trace_props.specs.declared.happening.Happening.{Happening}
-use Rattle.trace_props.specs.declared.happening.Happening.TheVariants.{Blocked, Installed, Left}
-use Rattle.trace_props.specs.declared.happening.Install.{Install}
+use Rattle.trace_props.specs.declared.event.Event.{Event}
+use Rattle.trace_props.specs.declared.event.Event.TheVariants.{Blocked, Installed, Left}
+use Rattle.trace_props.specs.declared.event.Install.{Install}
 use Rattle.agreement.specs.Acts.{Cuts, Puts, Sends, Queues, Orders, Hears, Collects, Holds, Delivers, Promises, Begins, Records, Finishes, Enters, Leaves, delivery}
 use Rattle.agreement.specs.Steps.{Step, Does}
 use Rattle.agreement.specs.Stories.{Plays, one, two, three, view_of_three, view_of_rest, message_a, message_b, held_first, told_first, flush_with, joining, three_joined, installs, sends}
@@ -88,7 +88,7 @@ second_goes = record {
 }
 
 -- the trace of the leave
-abbrev pub leave_happened : List ℕ → List Happening
+abbrev pub leave_happened : List ℕ → List Event
 leave_happened state =
     three_joined state
     ++ sends two view_of_three 1 message_a

@@ -7,8 +7,8 @@ use Rattle.packet_values.specs.Values.{Entry}
 use Rattle.wire.specs.Values.{Report, nothing_reported}
 use Rattle.wire.specs.Values as wire
 use Rattle.wire.specs.declared.packet.Body.TheVariants as bodies
-use Rattle.trace_props.specs.declared.happening.Happening.{Happening}
-use Rattle.trace_props.specs.declared.happening.Happening.TheVariants.{Started, Blocked}
+use Rattle.trace_props.specs.declared.event.Event.{Event}
+use Rattle.trace_props.specs.declared.event.Event.TheVariants.{Started, Blocked}
 use Rattle.agreement.specs.Acts.{Cuts, Joins, Puts, Sends, Queues, Orders, Hears, Collects, Holds, Delivers, Promises, Begins, Records, Finishes, Enters, delivery}
 use Rattle.agreement.specs.Steps.{Step, Start, Does}
 use Rattle.agreement.specs.Stories.{Plays, one, two, three, view_of_three, message_a, message_b, held_first, told_nothing, told_first, flush_with, empty_cuts, for_newcomer, for_companion, joining, three_joined, installs, sends}
@@ -145,7 +145,7 @@ partition_and_merge state half =
     joining state (fourth_chapter state ++ parting_chapter ++ apart_chapter ++ merge_chapter half)
 
 -- the trace of the halves
-abbrev pub merge_happened : List ℕ → List ℕ → List Happening
+abbrev pub merge_happened : List ℕ → List ℕ → List Event
 merge_happened state half =
     three_joined state
     ++ Started four

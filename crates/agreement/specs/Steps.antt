@@ -2,12 +2,12 @@
 use Rattle.std.specs.Prelude.{◌≡◌, ℕ, false, ◌&&◌, not, Option, None, Some, List, [], ◌∷◌, ◌++◌, slice_get, IsSome, if◌then◌else◌}
 use Rattle.std.specs.Option.{IsSomeAnd, option_and_then, option_map_or}
 use Rattle.address.specs.Ids.{Address, IsAddress, same_address}
-use Rattle.trace_props.specs.declared.happening.Happening.{Happening}
-use Rattle.trace_props.specs.declared.happening.Happening.TheVariants.{Started, Crashed}
+use Rattle.trace_props.specs.declared.event.Event.{Event}
+use Rattle.trace_props.specs.declared.event.Event.TheVariants.{Started, Crashed}
 use Rattle.trace_props.specs.Observed.{has_started}
 use Rattle.agreement.specs.Histories.{Posted, History}
 use Rattle.agreement.specs.Cores.{Core, idle}
-use Rattle.agreement.specs.Acts.{Act, Allowed, after, packets_of, happenings_of}
+use Rattle.agreement.specs.Acts.{Act, Allowed, after, packets_of, events_of}
 
 -- the members that run, by address, and what was
 pub record System (S : Type 0) : Type 0 where
@@ -43,15 +43,15 @@ MayStep decode s (Start p) = IsAddress p × (has_started p s.history.trace ≡ f
 MayStep decode s (Crash p) = IsSome (s.running p)
 MayStep decode s (Does p which act) = IsSomeAnd (s.running p) (λ c. Allowed decode (came_of c s.history.pool which) c act)
 
--- the history with packets and happenings more
-abbrev pub grown : History → List Posted → List Happening → History
-grown h packets happenings = record { pool = h.pool ++ packets; trace = h.trace ++ happenings }
+-- the history with packets and events more
+abbrev pub grown : History → List Posted → List Event → History
+grown h packets events = record { pool = h.pool ++ packets; trace = h.trace ++ events }
 
 -- the system after a member did an act
 abbrev pub acted : {S : Type 0} → (S → Address → List ℕ → S) → (S → List ℕ) → (List ℕ → Option S) → System S → Address → Act → Core S → System S
 acted apply encode decode s p act c = record {
   running = put p (after apply encode decode c act) s.running;
-  history = grown s.history (packets_of apply encode c act) (happenings_of c act);
+  history = grown s.history (packets_of apply encode c act) (events_of c act);
 }
 
 -- the system after a step

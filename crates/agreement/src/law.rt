@@ -7,7 +7,7 @@ ghost use Rattle.agreement.specs.MergeStory.{MergePlays};
 use state_transfer::Receiver;
 
 /// The law of agreement: after any list of starts, crashes and acts, each allowed after those before it and on a packet that was put out before or on none,
-/// the invariant holds, and the trace keeps all eight rules at every place, within the happenings of one act too
+/// the invariant holds, and the trace keeps all eight rules at every place, within the events of one act too
 /// (docs/PROOF.md, "Agreement over acts"). For every receiver that keeps the laws. It does nothing.
 pub fn agreement<R: Receiver>()
     ensures invariant { KeepsInvariant R.opening_state R.apply R.encode R.decode R.is_state }

@@ -2,7 +2,7 @@
 use Rattle.std.proofs.Common.{◌≡◌, ℕ, true, Option, Some, None, List, [], ◌∷◌, refl, sym, ap, ◌∙◌}
 use Rattle.std.proofs.lemmas.Option.{none-some, same_Some}
 use Rattle.address.specs.Ids.{Address}
-use Rattle.trace_props.specs.declared.happening.Happening.{Happening}
+use Rattle.trace_props.specs.declared.event.Event.{Event}
 use Rattle.agreement.specs.Histories.{Posted}
 use Rattle.agreement.specs.Cores.{Core}
 use Rattle.agreement.specs.Acts.{Act, Creates, Joins, Puts, Sends, Queues, Orders, Hears, Collects, Holds, Delivers, Promises, Begins, Records, Finishes, Enters, Leaves, after}
@@ -43,6 +43,6 @@ module _ {S : Type 0} (apply : S → Address → List ℕ → S) (encode : S →
       by rest None e y = absurd (ended came d acts y)
       by rest (Some k) e y = rest k y (act-connected c k a e on)
 
-  pub acted-connected : (came : Option Posted) (c d : Core S) (packets : List Posted) (happened : List Happening) → Acted apply encode decode came (Some c) packets happened (Some d) → c.connected ≡ true
+  pub acted-connected : (came : Option Posted) (c d : Core S) (packets : List Posted) (happened : List Event) → Acted apply encode decode came (Some c) packets happened (Some d) → c.connected ≡ true
       → d.connected ≡ true
   acted-connected came c d packets happened x on = chain-connected came c d x.acts x.chain on

@@ -11,8 +11,8 @@ use Rattle.address.specs.Ids.{Address, ViewId, same_address}
 use Rattle.address.specs.declared.TheConstants.{GREATEST_NUMBER}
 use Rattle.packet_values.specs.declared.limits.TheConstants.{WINDOW}
 use Rattle.trace_props.specs.Recorded.{IsShort, IsRecordable}
-use Rattle.trace_props.specs.declared.happening.Happening.{Happening}
-use Rattle.trace_props.specs.declared.happening.Happening.TheVariants.{Sent, Delivered, Installed, Left}
+use Rattle.trace_props.specs.declared.event.Event.{Event}
+use Rattle.trace_props.specs.declared.event.Event.TheVariants.{Sent, Delivered, Installed, Left}
 use Rattle.agreement.specs.Histories.{Posted}
 use Rattle.agreement.specs.Chains.{Acted}
 use Rattle.output.specs.declared.output.Output.{Output}
@@ -37,7 +37,7 @@ use Rattle.member_views.specs.Ignoring.{is_hint_ignored}
 use Rattle.member_views.specs.Views.{Creates, Asks, OnSuspect, TellsView, Leaves, is_suspectable, has_member, has_promised}
 use Rattle.member_views.proofs.Doing.{create-did, ask-did, hint-did, suspect-did, leave-acted}
 use Rattle.member_views.proofs.Living.{outside}
-use Rattle.member.specs.declared.TheConstants.{HAPPENINGS}
+use Rattle.member.specs.declared.TheConstants.{EVENTS}
 use Rattle.member.specs.declared.error.Error.{Error}
 use Rattle.member.specs.declared.error.Error.TheVariants.{Memory, Closed, AlreadyConnected}
 use Rattle.member.specs.declared.input.Input.{Input}
@@ -62,7 +62,7 @@ pub same_Err : (a b : Error) → ◌≡◌ {A = Result Output Error} (Err a) (Er
 same_Err a b e = same_Some a b (ap result_err e)
 
 -- what is short each is what a trace takes
-recordable : (l : List Happening) → AllByRecursion IsShort l → IsRecordable l
+recordable : (l : List Event) → AllByRecursion IsShort l → IsRecordable l
 recordable [] all k h at = absurd (none-some h at)
 recordable (x ∷ l) all zero h at = subst IsShort (same_Some x h at) all.0
 recordable (x ∷ l) all (suc k) h at = recordable l all.1 k h at
@@ -78,14 +78,14 @@ steady-runs group p old new steady life runs = record { life = life; ordered = s
 
 -- ---- from nothing
 
-pub only : (start out : Output) (happened : List Happening) → Puts [] [] start → out.happenings.items ≡ start.happenings.items ++ happened → out.happenings.items ≡ happened
-only start out happened nothing grows = grows ∙ ap (λ l. l ++ happened) nothing.happenings
+pub only : (start out : Output) (happened : List Event) → Puts [] [] start → out.events.items ≡ start.events.items ++ happened → out.events.items ≡ happened
+only start out happened nothing grows = grows ∙ ap (λ l. l ++ happened) nothing.events
 
-pub calm-few : (n : ℕ) (start out : Output) → Puts [] [] start → IsCalm n start out → n ≤ HAPPENINGS → length out.happenings.items ≤ HAPPENINGS
+pub calm-few : (n : ℕ) (start out : Output) → Puts [] [] start → IsCalm n start out → n ≤ EVENTS → length out.events.items ≤ EVENTS
 calm-few n start out nothing calm less =
-    subst (λ l. length l ≤ HAPPENINGS) (sym (only start out calm.more nothing calm.grows)) (let f : length calm.more ≤ n = calm.few in omega (arith, f, less))
+    subst (λ l. length l ≤ EVENTS) (sym (only start out calm.more nothing calm.grows)) (let f : length calm.more ≤ n = calm.few in omega (arith, f, less))
 
-pub calm-quiet : (n : ℕ) (start out : Output) → Puts [] [] start → IsCalm n start out → list_all is_quiet out.happenings.items ≡ true
+pub calm-quiet : (n : ℕ) (start out : Output) → Puts [] [] start → IsCalm n start out → list_all is_quiet out.events.items ≡ true
 calm-quiet n start out nothing calm = ap (list_all is_quiet) (only start out calm.more nothing calm.grows) ∙ calm.quiet
 
 pub same-nothing : (start out : Output) → Puts [] [] start → out ≡ start → Puts [] [] out
@@ -213,15 +213,15 @@ module _ {S : Type 0} (apply : S → Address → List ℕ → S) (encode : S →
 
   pub ok-handled : (old new : Life S) (input : Input) (start out : Output) → Puts [] [] start → Did apply encode decode (came_at (at (Some old)) input) group p old new start out
       → refusal_in (core_at p old) input ≡ None → is_unreadable decode (at (Some old)) input ≡ false
-      → Replies (core_at p old) input out.happenings.items (Some (core_at p new)) → IsPrompt (core_at p old) input out.happenings.items
+      → Replies (core_at p old) input out.events.items (Some (core_at p new)) → IsPrompt (core_at p old) input out.events.items
       → DoesBy apply encode decode group p (came_at (at (Some old)) input) input old new start out
-      → Ignores (at (Some old)) input (Ok out) (at (Some new)) → length out.happenings.items ≤ HAPPENINGS → IsRunning group p new → Holds (Some old) input (Ok out) (Some new)
+      → Ignores (at (Some old)) input (Ok out) (at (Some new)) → length out.events.items ≤ EVENTS → IsRunning group p new → Holds (Some old) input (Ok out) (Some new)
   ok-handled old new input start out nothing did free readable reply prompt does ignored few runs =
-      let happens : out.happenings.items ≡ did.happened = only start out did.happened nothing did.grows.happenings in
+      let happens : out.events.items ≡ did.happened = only start out did.happened nothing did.grows.events in
       record {
         acted = record {
           posted = did.posted;
-          acted = subst (λ (h : List Happening). Acted apply encode decode (came_at (at (Some old)) input) (Some (core_at p old)) did.posted h (Some (core_at p new))) (sym happens) did.acted;
+          acted = subst (λ (h : List Event). Acted apply encode decode (came_at (at (Some old)) input) (Some (core_at p old)) did.posted h (Some (core_at p new))) (sym happens) did.acted;
           spelled = did.grows.packets ∙ ap (λ l. l ++ map (spelled group) did.posted) nothing.packets;
           sound = did.grows.sound;
         };
@@ -254,10 +254,10 @@ module _ {S : Type 0} (apply : S → Address → List ℕ → S) (encode : S →
   pub create-handled : (old new : Life S) (start out : Output) → IsLife group p old → is_connected old ≡ false → Puts [] [] start → Creates group p old new start out → IsRunning group p new
       → Holds (Some old) Create (Ok out) (Some new)
   create-handled old new start out kept off nothing x runs =
-      let happens : out.happenings.items ≡ Installed (lone_install p) ∷ [] = only start out _ nothing x.grows.happenings in
+      let happens : out.events.items ≡ Installed (lone_install p) ∷ [] = only start out _ nothing x.grows.events in
       ok-handled old new Create start out nothing (create-did apply encode decode group p None old new start out kept off x)
       (ap (λ b. if b then Some AlreadyConnected else None) off) refl (happens, ap is_connected x.life) tt x (λ i. absurd (let n : false ≡ true = i in cc))
-      (subst (λ l. length l ≤ HAPPENINGS) (sym happens) (omega arith)) runs
+      (subst (λ l. length l ≤ EVENTS) (sym happens) (omega arith)) runs
 
   view-none : (traffic : Option Traffic) → traffic ≡ None → (if is_some (view_in traffic) then Some AlreadyConnected else None) ≡ None
   view-none None e = refl
@@ -266,10 +266,10 @@ module _ {S : Type 0} (apply : S → Address → List ℕ → S) (encode : S →
   pub join-handled : (contact : Address) (old new : Life S) (start out : Output) → IsLife group p old → old.traffic ≡ None → Puts [] [] start → Asks group p contact old new start out
       → IsRunning group p new → Holds (Some old) (Join contact) (Ok out) (Some new)
   join-handled contact old new start out kept none nothing x runs =
-      let happens : out.happenings.items ≡ [] = only start out _ nothing x.grows.happenings in
+      let happens : out.events.items ≡ [] = only start out _ nothing x.grows.events in
       ok-handled old new (Join contact) start out nothing (ask-did apply encode decode group p None contact old new start out kept none x) (view-none old.traffic none) refl
       (happens, ap is_connected x.life ∙ ap (λ (t : Option Traffic). is_some t || true) none) tt x (λ i. absurd (let n : false ≡ true = i in cc))
-      (subst (λ l. length l ≤ HAPPENINGS) (sym happens) (omega arith)) runs
+      (subst (λ l. length l ≤ EVENTS) (sym happens) (omega arith)) runs
 
   -- ---- it does not, where it is connected, or in a view
 
@@ -285,36 +285,36 @@ module _ {S : Type 0} (apply : S → Address → List ℕ → S) (encode : S →
 
   -- ---- it sends
 
-  abbrev Said : Option Traffic → List ℕ → List Happening → Type 0
+  abbrev Said : Option Traffic → List ℕ → List Event → Type 0
   Said traffic payload happened =
       IsSomeAnd (view_in traffic) (λ v. happened ≡ Sent (record { member = p; view = v.id; message = record { number = (traffic_in traffic).sent + 1; payload = payload } }) ∷ drop 1 happened)
 
-  record IsSaid (traffic : Option Traffic) (payload : List ℕ) (happened : List Happening) : Type 0 where
+  record IsSaid (traffic : Option Traffic) (payload : List ℕ) (happened : List Event) : Type 0 where
     first : Said traffic payload happened
     quiet : list_all is_quiet (drop 1 happened) ≡ true
-    few : length happened ≤ HAPPENINGS
+    few : length happened ≤ EVENTS
     inside : is_some traffic ≡ true
 
   said-by : (v : ViewId) (sent : ℕ) (payload : List ℕ) (start out : Output) → Puts [] [] start → SendsNext p v sent payload start out
-      → (out.happenings.items ≡ Sent (record { member = p; view = v; message = record { number = sent + 1; payload = payload } }) ∷ drop 1 out.happenings.items)
-      × (list_all is_quiet (drop 1 out.happenings.items) ≡ true) × (length out.happenings.items ≤ HAPPENINGS)
+      → (out.events.items ≡ Sent (record { member = p; view = v; message = record { number = sent + 1; payload = payload } }) ∷ drop 1 out.events.items)
+      × (list_all is_quiet (drop 1 out.events.items) ≡ true) × (length out.events.items ≤ EVENTS)
   said-by v sent payload start out nothing x =
-      let s : Happening = Sent (record { member = p; view = v; message = record { number = sent + 1; payload = payload } }) in
-      let e : out.happenings.items ≡ s ∷ x.more = only start out (s ∷ x.more) nothing x.grows in (
+      let s : Event = Sent (record { member = p; view = v; message = record { number = sent + 1; payload = payload } }) in
+      let e : out.events.items ≡ s ∷ x.more = only start out (s ∷ x.more) nothing x.grows in (
         e ∙ ap (λ l. s ∷ l) (sym (ap (drop 1) e)),
         ap (λ l. list_all is_quiet (drop 1 l)) e ∙ x.quiet,
-        subst (λ l. length l ≤ HAPPENINGS) (sym e) (let f : length x.more ≤ 32 = x.few in omega (arith, f)),
+        subst (λ l. length l ≤ EVENTS) (sym e) (let f : length x.more ≤ 32 = x.few in omega (arith, f)),
       )
 
   said : (traffic : Option Traffic) (payload : List ℕ) (start out : Output) → Puts [] [] start
-      → ByKind (λ m. SendsNext p m.view.id m.forwards.sent payload start out) (λ m. SendsNext p m.view.id m.forwards.sent payload start out) ⊥ traffic → IsSaid traffic payload out.happenings.items
+      → ByKind (λ m. SendsNext p m.view.id m.forwards.sent payload start out) (λ m. SendsNext p m.view.id m.forwards.sent payload start out) ⊥ traffic → IsSaid traffic payload out.events.items
   said None payload start out nothing x = absurd x
   said (Some (kinds.Coordinator m)) payload start out nothing x =
       let k = said-by m.view.id m.forwards.sent payload start out nothing x in record { first = k.0; quiet = k.1; few = k.2; inside = refl }
   said (Some (kinds.Other m)) payload start out nothing x =
       let k = said-by m.view.id m.forwards.sent payload start out nothing x in record { first = k.0; quiet = k.1; few = k.2; inside = refl }
 
-  abbrev TellsAtOnce : Option Traffic → List ℕ → List Happening → Type 0
+  abbrev TellsAtOnce : Option Traffic → List ℕ → List Event → Type 0
   TellsAtOnce traffic payload happened =
       IsSomeAnd (view_in traffic) (λ v. same_address p v.id.creator ≡ true → (traffic_in traffic).delivered < (traffic_in traffic).stable + WINDOW → (traffic_in traffic).delivered < GREATEST_NUMBER
       → Contains happened (Delivered (record { member = p; view = v.id; message = record { sender = p; number = (traffic_in traffic).sent + 1; payload = payload } })))
@@ -323,7 +323,7 @@ module _ {S : Type 0} (apply : S → Address → List ℕ → S) (encode : S →
   has-room d w g x y = and_from (nat_lt d w) (nat_lt d g) (grind (arith, nat_tests)) (grind (arith, nat_tests))
 
   at-once : (traffic : Option Traffic) (payload : List ℕ) (start out : Output) → Puts [] [] start → is_some traffic ≡ true → ForSome traffic (IsOrderly p)
-      → (has_room traffic ≡ true → ByKind (λ m. DeliversNext p m.view.id m.forwards.sent payload start out) (λ m. ⊥) ⊥ traffic) → TellsAtOnce traffic payload out.happenings.items
+      → (has_room traffic ≡ true → ByKind (λ m. DeliversNext p m.view.id m.forwards.sent payload start out) (λ m. ⊥) ⊥ traffic) → TellsAtOnce traffic payload out.events.items
   at-once None payload start out nothing inside ordered x = absurd (let n : false ≡ true = inside in cc)
   at-once (Some (kinds.Coordinator m)) payload start out nothing inside ordered x = λ own room left.
       let y = x (has-room m.window.delivered (m.window.stable + WINDOW) GREATEST_NUMBER room left) in
@@ -377,20 +377,20 @@ module _ {S : Type 0} (apply : S → Address → List ℕ → S) (encode : S →
   pub hint-handled : (q : Address) (old : Life S) (start out : Output) → IsLife group p old → Puts [] [] start → TellsView group p q old old start out
       → (is_hint_ignored p q old ≡ true → out ≡ start) → IsRunning group p old → Holds (Some old) (MergeHint q) (Ok out) (Some old)
   hint-handled q old start out kept nothing x stays runs =
-      let happens : out.happenings.items ≡ [] = only start out _ nothing x.grows.happenings in
+      let happens : out.events.items ≡ [] = only start out _ nothing x.grows.events in
       ok-handled old old (MergeHint q) start out nothing (hint-did apply encode decode group p None q old old start out kept x) refl refl (happens, refl) tt x
-      (λ i. (same-nothing start out nothing (stays i), refl)) (subst (λ l. length l ≤ HAPPENINGS) (sym happens) (omega arith)) runs
+      (λ i. (same-nothing start out nothing (stays i), refl)) (subst (λ l. length l ≤ EVENTS) (sym happens) (omega arith)) runs
 
   -- ---- it leaves
 
   pub leave-handled : (old : Life S) (start out : Output) → Puts [] [] start → Leaves group p old start out → Holds (Some old) Leave (Ok out) None
   leave-handled old start out nothing x =
       let left = leave-acted apply encode decode group p None old start out x in
-      let happens : out.happenings.items ≡ Left p ∷ [] = only start out _ nothing x.grows.happenings in
+      let happens : out.events.items ≡ Left p ∷ [] = only start out _ nothing x.grows.events in
       record {
         acted = record {
           posted = left.posted;
-          acted = subst (λ (h : List Happening). Acted apply encode decode None (Some (core_at p old)) left.posted h None) (sym happens) left.acted;
+          acted = subst (λ (h : List Event). Acted apply encode decode None (Some (core_at p old)) left.posted h None) (sym happens) left.acted;
           spelled = left.grows.packets ∙ ap (λ l. l ++ map (spelled group) left.posted) nothing.packets;
           sound = left.grows.sound;
         };
@@ -400,7 +400,7 @@ module _ {S : Type 0} (apply : S → Address → List ℕ → S) (encode : S →
         reply = (happens, refl);
         prompt = tt;
         does = record { start = start; nothing = nothing; does = x };
-        few = subst (λ l. length l ≤ HAPPENINGS) (sym happens) (omega arith);
+        few = subst (λ l. length l ≤ EVENTS) (sym happens) (omega arith);
         short = subst IsRecordable (sym happens) (recordable (Left p ∷ []) left.grows.short);
         ignored = λ i. absurd (let n : false ≡ true = i in cc);
         alive = λ l none. absurd (none-some l none);

@@ -15,4 +15,4 @@ pub use input::Input;
 pub use member::Member;
 
 /// The most events of one step of a member.
-pub const HAPPENINGS: usize = 40;
+pub const EVENTS: usize = 40;

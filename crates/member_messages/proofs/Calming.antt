@@ -5,7 +5,7 @@ use Rattle.std.specs.Prelude.{MatchBool, nat_lt}
 use Rattle.std.specs.List.{list_all}
 use Rattle.address.specs.Ids.{Address, ViewId}
 use Rattle.packet_values.specs.Values.{Entry}
-use Rattle.trace_props.specs.declared.happening.Happening.{Happening}
+use Rattle.trace_props.specs.declared.event.Event.{Event}
 use Rattle.agreement.specs.Acts.{delivery}
 use Rattle.output.specs.declared.output.Output.{Output}
 use Rattle.output.specs.Outputs.{Grows}
@@ -20,9 +20,9 @@ pub deliveries-quiet : (p : Address) (v : ViewId) (entries : List Entry) → lis
 deliveries-quiet p v [] = refl
 deliveries-quiet p v (e ∷ entries) = deliveries-quiet p v entries
 
-few-calm : (out later : Output) (hs : List Happening) → later.happenings.items ≡ out.happenings.items ++ hs → list_all is_quiet hs ≡ true → IsFew out later → IsCalm 32 out later
+few-calm : (out later : Output) (hs : List Event) → later.events.items ≡ out.events.items ++ hs → list_all is_quiet hs ≡ true → IsFew out later → IsCalm 32 out later
 few-calm out later hs grows quiet few =
-    let l : length later.happenings.items ≡ length out.happenings.items + length hs = ap length grows ∙ length-append out.happenings.items hs in
+    let l : length later.events.items ≡ length out.events.items + length hs = ap length grows ∙ length-append out.events.items hs in
     record { more = hs; grows = grows; few = omega (arith, l, few); quiet = quiet }
 
 -- ---- at the coordinator
@@ -30,7 +30,7 @@ few-calm out later hs grows quiet few =
 module _ {S : Type 0} (apply : S → Address → List ℕ → S) where
   pub ordering-calm : (p : Address) (group : List ℕ) (m : Coordinator) (s : S) (out : Output) (n : Coordinator) (t : S) (later : Output) → Ordering apply p group m s out n t later → IsFew out later
       → IsCalm 32 out later
-  ordering-calm p group m s out n t later x few = few-calm out later (map (delivery p m.view.id) x.entries) x.grows.happenings (deliveries-quiet p m.view.id x.entries) few
+  ordering-calm p group m s out n t later x few = few-calm out later (map (delivery p m.view.id) x.entries) x.grows.events (deliveries-quiet p m.view.id x.entries) few
 
   acks-by : (b : Bool) (p : Address) (group : List ℕ) (a m : Coordinator) (s : S) (out : Output) (n : Coordinator) (t : S) (later : Output) (Rest : Type 0)
       → MatchBool b ((n ≡ m) × (t ≡ s) × (later ≡ out)) (Ordering apply p group a s out n t later × Rest) → IsFew out later → IsCalm 32 out later
@@ -43,25 +43,25 @@ module _ {S : Type 0} (apply : S → Address → List ℕ → S) where
 
 -- ---- at another member
 
-silent-asks : (p : Address) (group : List ℕ) (g : ℕ) (m : Other) (out later : Output) → AsksUpTo p group g m out later → later.happenings.items ≡ out.happenings.items
-silent-asks p group g m out later (inl x) = x.grows.happenings ∙ append-nil out.happenings.items
-silent-asks p group g m out later (inr x) = ap (λ (o : Output). o.happenings.items) x.1
+silent-asks : (p : Address) (group : List ℕ) (g : ℕ) (m : Other) (out later : Output) → AsksUpTo p group g m out later → later.events.items ≡ out.events.items
+silent-asks p group g m out later (inl x) = x.grows.events ∙ append-nil out.events.items
+silent-asks p group g m out later (inr x) = ap (λ (o : Output). o.events.items) x.1
 
 silent-by : (b c : Bool) (p : Address) (group : List ℕ) (g : ℕ) (m : Other) (out later : Output)
-    → MatchBool b (Grows group out later (ack_of p m ∷ []) []) (MatchBool c (AsksUpTo p group g m out later) (later ≡ out)) → later.happenings.items ≡ out.happenings.items
-silent-by true c p group g m out later x = x.happenings ∙ append-nil out.happenings.items
+    → MatchBool b (Grows group out later (ack_of p m ∷ []) []) (MatchBool c (AsksUpTo p group g m out later) (later ≡ out)) → later.events.items ≡ out.events.items
+silent-by true c p group g m out later x = x.events ∙ append-nil out.events.items
 silent-by false true p group g m out later x = silent-asks p group g m out later x
-silent-by false false p group g m out later x = ap (λ (o : Output). o.happenings.items) x
+silent-by false false p group g m out later x = ap (λ (o : Output). o.events.items) x
 
 silent-answer : (p : Address) (group : List ℕ) (before : ℕ) (new : Bool) (g : ℕ) (m : Other) (out later : Output) → AnswersOrder p group before new g m out later
-    → later.happenings.items ≡ out.happenings.items
+    → later.events.items ≡ out.events.items
 silent-answer p group before new g m out later x = silent-by (nat_lt before m.window.delivered) new p group g m out later x
 
 module _ {S : Type 0} (apply : S → Address → List ℕ → S) where
   near-calm : (p : Address) (group : List ℕ) (g : ℕ) (e : Entry) (m : Other) (s : S) (out : Output) (n : Other) (t : S) (later : Output) → TakesNear apply p group g e m s out n t later → IsFew out later
       → IsCalm 32 out later
   near-calm p group g e m s out n t later x few =
-      few-calm out later (map (delivery p m.view.id) x.tells.entries) (silent-answer p group m.window.delivered _ g n x.between later x.answers ∙ x.tells.grows.happenings)
+      few-calm out later (map (delivery p m.view.id) x.tells.entries) (silent-answer p group m.window.delivered _ g n x.between later x.answers ∙ x.tells.grows.events)
       (deliveries-quiet p m.view.id x.tells.entries) few
 
   takes-by : (b : Bool) (p : Address) (group : List ℕ) (g : ℕ) (e : Entry) (m : Other) (s : S) (out : Output) (n : Other) (t : S) (later : Output)

@@ -7,8 +7,8 @@ use Rattle.std.proofs.lemmas.Bool.Decides.{nat_tests}
 use Rattle.std.proofs.lemmas.Option.{none-some}
 use Rattle.address.specs.Ids.{Address}
 use Rattle.packet_values.specs.declared.limits.TheConstants.{PAYLOAD, WINDOW}
-use Rattle.trace_props.specs.declared.happening.Happening.{Happening}
-use Rattle.trace_props.specs.declared.happening.Happening.TheVariants.{Sent}
+use Rattle.trace_props.specs.declared.event.Event.{Event}
+use Rattle.trace_props.specs.declared.event.Event.TheVariants.{Sent}
 use Rattle.sequencer.specs.declared.TheConstants.{OUTSTANDING}
 use Rattle.sequencer.specs.Queues.{may_order}
 use Rattle.agreement.specs.Acts.{delivery}
@@ -65,15 +65,15 @@ module _ {S : Type 0} (apply : S → Address → List ℕ → S) where
   sends-next p group x m s out n t later sent few =
       let e = Sent (sending p m.view.id (m.forwards.sent + 1) x) in
       let more = map (delivery p m.view.id) sent.orders.entries in
-      let grows : later.happenings.items ≡ out.happenings.items ++ e ∷ more =
-      sent.orders.grows.happenings ∙ ap (λ (l : List Happening). l ++ more) sent.sent.happenings ∙ append_assoc out.happenings.items (e ∷ []) more in
-      let l : length later.happenings.items ≡ length out.happenings.items + length (e ∷ more) = ap length grows ∙ length-append out.happenings.items (e ∷ more) in
+      let grows : later.events.items ≡ out.events.items ++ e ∷ more =
+      sent.orders.grows.events ∙ ap (λ (l : List Event). l ++ more) sent.sent.events ∙ append_assoc out.events.items (e ∷ []) more in
+      let l : length later.events.items ≡ length out.events.items + length (e ∷ more) = ap length grows ∙ length-append out.events.items (e ∷ more) in
       record { more = more; grows = grows; few = omega (arith, l, few); quiet = deliveries-quiet p m.view.id sent.orders.entries }
 
 pub delivers-next : (p : Address) (x : List ℕ) (m : Coordinator) (out later : Output) → TellsAtOnce p x m out later → IsFewMore out later → DeliversNext p m.view.id m.forwards.sent x out later
 delivers-next p x m out later told few =
     let more = map (delivery p m.view.id) told.rest in
-    let l = ap length told.happens ∙ length-append out.happenings.items (Sent (sending p m.view.id (m.forwards.sent + 1) x) ∷ delivery p m.view.id (own_entry p m x) ∷ more) in
+    let l = ap length told.happens ∙ length-append out.events.items (Sent (sending p m.view.id (m.forwards.sent + 1) x) ∷ delivery p m.view.id (own_entry p m x) ∷ more) in
     record { more = more; grows = told.happens; few = omega (arith, l, few); quiet = deliveries-quiet p m.view.id told.rest }
 
 pub room-fact : (p : Address) (m : Coordinator) → IsCoordinator p m → (nat_lt m.window.delivered (m.window.stable + WINDOW) && nat_lt m.window.delivered (2 ^ 62)) ≡ true → may_order m.window.stable m.orderer ≡ true

@@ -5,8 +5,8 @@ use Rattle.address.specs.Ids.{Address, ViewId}
 use Rattle.packet_values.specs.declared.limits.TheConstants.{WINDOW}
 use Rattle.packet_values.specs.Values.{Entry, Missing, Progress}
 use Rattle.wire.specs.declared.packet.Body.TheVariants as bodies
-use Rattle.trace_props.specs.declared.happening.Happening.{Happening}
-use Rattle.trace_props.specs.declared.happening.Happening.TheVariants.{Sent}
+use Rattle.trace_props.specs.declared.event.Event.{Event}
+use Rattle.trace_props.specs.declared.event.Event.TheVariants.{Sent}
 use Rattle.agreement.specs.Acts.{packet, others_of, delivery}
 use Rattle.output.specs.declared.output.Output.{Output}
 use Rattle.output.specs.Outputs.{Grows}
@@ -93,8 +93,8 @@ Sends apply group me payload old new out later =
 
 -- the first event is that it is sent, under the next number; what else happens no input asks for
 pub record SendsNext (me : Address) (v : ViewId) (sent : ℕ) (payload : List ℕ) (out later : Output) : Type 0 where
-  pub more : List Happening
-  pub grows : later.happenings.items ≡ out.happenings.items ++ Sent (sending me v (sent + 1) payload) ∷ more
+  pub more : List Event
+  pub grows : later.events.items ≡ out.events.items ++ Sent (sending me v (sent + 1) payload) ∷ more
   pub few : length more ≤ 32
   pub quiet : list_all is_quiet more ≡ true
 
@@ -108,9 +108,9 @@ has_room traffic = is_coordinator_that (λ m. nat_lt m.window.delivered (m.windo
 
 -- right after it is sent it is delivered to the member itself
 pub record DeliversNext (me : Address) (v : ViewId) (sent : ℕ) (payload : List ℕ) (out later : Output) : Type 0 where
-  pub more : List Happening
-  pub grows : later.happenings.items
-      ≡ out.happenings.items ++ Sent (sending me v (sent + 1) payload) ∷ delivery me v (record { sender = me; number = sent + 1; payload = payload }) ∷ more
+  pub more : List Event
+  pub grows : later.events.items
+      ≡ out.events.items ++ Sent (sending me v (sent + 1) payload) ∷ delivery me v (record { sender = me; number = sent + 1; payload = payload }) ∷ more
   pub few : length more ≤ 31
   pub quiet : list_all is_quiet more ≡ true
 

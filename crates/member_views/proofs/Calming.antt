@@ -11,8 +11,8 @@ use Rattle.packet_values.specs.declared.limits.TheConstants.{WINDOW}
 use Rattle.packet_values.specs.Values.{Entry}
 use Rattle.wire.specs.Values as wire
 use Rattle.wire.specs.Values.{Report}
-use Rattle.trace_props.specs.declared.happening.Happening.{Happening}
-use Rattle.trace_props.specs.declared.happening.Happening.TheVariants.{Blocked}
+use Rattle.trace_props.specs.declared.event.Event.{Event}
+use Rattle.trace_props.specs.declared.event.Event.TheVariants.{Blocked}
 use Rattle.flush.specs.Cuts.{entries_from, cut_items, cut_base, held_among}
 use Rattle.flush.specs.Flushes.{FlushModel, group}
 use Rattle.view_install.specs.declared.promise.OfferAnswer.{OfferAnswer}
@@ -66,13 +66,13 @@ quiet-deliveries : (p : Address) (v : ViewId) (l : List Entry) → list_all is_q
 quiet-deliveries p v [] = refl
 quiet-deliveries p v (e ∷ l) = quiet-deliveries p v l
 
-quiet-then : (hs : List Happening) (h : Happening) → list_all is_quiet hs ≡ true → is_quiet h ≡ true → list_all is_quiet (hs ++ h ∷ []) ≡ true
+quiet-then : (hs : List Event) (h : Event) → list_all is_quiet hs ≡ true → is_quiet h ≡ true → list_all is_quiet (hs ++ h ∷ []) ≡ true
 quiet-then [] h x y = ap (λ b. b && true) y
 quiet-then (j ∷ hs) h x y =
     let parts = and_parts (is_quiet j) (list_all is_quiet hs) x in
     ap (λ b. b && list_all is_quiet (hs ++ h ∷ [])) parts.0 ∙ quiet-then hs h parts.1 y
 
-one-more : (hs : List Happening) (h : Happening) (n : ℕ) → length hs ≤ n → length (hs ++ h ∷ []) ≤ n + 1
+one-more : (hs : List Event) (h : Event) (n : ℕ) → length hs ≤ n → length (hs ++ h ∷ []) ≤ n + 1
 one-more hs h n few = let e : length (hs ++ h ∷ []) ≡ length hs + length (h ∷ []) = length-append hs (h ∷ []) in omega (arith, e, few)
 
 delivered-few : (p : Address) (v : ViewId) (l : List Entry) → length (map (delivery p v) l) ≡ length l
@@ -211,7 +211,7 @@ module _ {S : Type 0} (me : Address) (group : List ℕ) where
 
     again-by : (b : Bool) (q : Address) (old new : Life S) (out later : Output)
         → MatchBool b (SaysAgain q old new out later) (StaysAs old new out later) → IsCalm 35 out later
-    again-by true q old new out later x = record { more = []; grows = x.again.happenings ∙ sym (append-nil out.happenings.items); few = omega (arith); quiet = refl }
+    again-by true q old new out later x = record { more = []; grows = x.again.events ∙ sym (append-nil out.events.items); few = omega (arith); quiet = refl }
     again-by false q old new out later x = stays 35 old new out later x
 
     report-by : (b d : Bool) (q : Address) (w : ViewId) (r : wire.Report) (old new : Life S) (out later : Output)

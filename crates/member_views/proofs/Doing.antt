@@ -12,7 +12,7 @@ use Rattle.wire.specs.Values as wire
 use Rattle.wire.specs.declared.packet.Body.{Body}
 use Rattle.wire.specs.declared.packet.Body.TheVariants as bodies
 use Rattle.flush.specs.Flushes.{FlushModel, has_reported}
-use Rattle.trace_props.specs.declared.happening.Happening.TheVariants.{Installed, Left}
+use Rattle.trace_props.specs.declared.event.Event.TheVariants.{Installed, Left}
 use Rattle.trace_props.proofs.Observing.{same_address-true, same_address-refl}
 use Rattle.agreement.specs.Histories.{Posted}
 use Rattle.agreement.specs.Cores.{Core}

@@ -1,7 +1,7 @@
 -- What a member does when it leaves.
 use Rattle.std.specs.Prelude.{ℕ, List, [], ◌∷◌, Option, Some, None}
 use Rattle.address.specs.Ids.{Address}
-use Rattle.trace_props.specs.declared.happening.Happening.TheVariants.{Left}
+use Rattle.trace_props.specs.declared.event.Event.TheVariants.{Left}
 use Rattle.agreement.specs.Histories.{Posted}
 use Rattle.agreement.specs.Chains.{Acted}
 use Rattle.output.specs.declared.output.Output.{Output}

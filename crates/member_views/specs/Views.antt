@@ -8,7 +8,7 @@ use Rattle.candidates.specs.Candidates.{first_unsuspected}
 use Rattle.candidates.specs.Noting.{noting, noting_view}
 use Rattle.wire.specs.Values as wire
 use Rattle.wire.specs.declared.packet.Body.TheVariants as bodies
-use Rattle.trace_props.specs.declared.happening.Happening.TheVariants.{Installed, Left}
+use Rattle.trace_props.specs.declared.event.Event.TheVariants.{Installed, Left}
 use Rattle.flush.specs.Flushes.{FlushModel, has_reported}
 use Rattle.agreement.specs.Histories.{Posted}
 use Rattle.agreement.specs.Acts.{packet, others_of, lone_view, proposed}

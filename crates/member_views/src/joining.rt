@@ -17,7 +17,7 @@ use membership::Life;
 use output::{Identity, Output};
 use state_transfer::Receiver;
 use std::alloc::AllocError;
-use trace_props::{HandedBack, Happening, Install};
+use trace_props::{HandedBack, Event, Install};
 use traffic::Traffic;
 use view::{Addresses, View};
 use wire::{Body, Roster};
@@ -52,7 +52,7 @@ pub fn create<R: Receiver>(
 {
     let view = View::alone(who.alloc, ViewId::first_of(who.address))?;
     let install = lone_install(who)?;
-    who.record(Happening::Installed(install), out)?;
+    who.record(Event::Installed(install), out)?;
     let roster = Roster::new(view.id(), view.members().as_slice()).unwrap();
     let _ = life.promise.offer(&roster);
     let _ = life.promise.install(&roster);

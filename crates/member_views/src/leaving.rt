@@ -15,7 +15,7 @@ use membership::Life;
 use output::{Identity, Output};
 use state_transfer::Receiver;
 use std::alloc::AllocError;
-use trace_props::Happening;
+use trace_props::Event;
 use traffic::Traffic;
 use wire::Body;
 
@@ -42,7 +42,7 @@ pub fn leave<R: Receiver>(
     if let Some(traffic) = &life.traffic {
         say_to(who, traffic, out)?;
     }
-    who.record(Happening::Left(who.address), out)?;
+    who.record(Event::Left(who.address), out)?;
     Ok(())
 }
 

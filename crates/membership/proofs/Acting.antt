@@ -240,21 +240,21 @@ module _ {S : Type 0} (apply : S → Address → List ℕ → S) (encode : S →
   -- ---- an INSTALL again
 
   again-by : (came : Option Posted) (q : Address) (l : Life S) (given : List (Address × wire.Install)) (o : Option Outgoing) (out later : Output) → kept_in l.kept.items ≡ given
-      → later.packets.items ≡ out.packets.items ++ option_to_list o → later.happenings.items ≡ out.happenings.items
+      → later.packets.items ≡ out.packets.items ++ option_to_list o → later.events.items ≡ out.events.items
       → (o ≡ None) ⊎ IsAgain group me q (view_in l.traffic) given o → DidThis came l l out later
-  again-by came q l given o out later kept packets happenings (inl none) = record {
+  again-by came q l given o out later kept packets events (inl none) = record {
     posted = [];
     happened = [];
-    grows = record { packets = packets ∙ ap (λ x. out.packets.items ++ option_to_list x) none; sound = tt; happenings = happenings ∙ sym (append-nil out.happenings.items); short = tt };
+    grows = record { packets = packets ∙ ap (λ x. out.packets.items ++ option_to_list x) none; sound = tt; events = events ∙ sym (append-nil out.events.items); short = tt };
     acted = nothing-acted apply encode decode came (Some (core_of me l));
   }
-  again-by came q l given o out later kept packets happenings (inr a) = record {
+  again-by came q l given o out later kept packets events (inr a) = record {
     posted = telling me (a.to, a.install) ∷ [];
     happened = [];
     grows = record {
       packets = packets ∙ ap (λ x. out.packets.items ++ option_to_list x) a.is;
       sound = (a.sound, tt);
-      happenings = happenings ∙ sym (append-nil out.happenings.items);
+      events = events ∙ sym (append-nil out.events.items);
       short = tt;
     };
     acted = one-acted apply encode decode came (core_of me l) (Puts a.to (bodies.Install a.install)) (a.current, ap (λ (p : Address). kept_for p (kept_in l.kept.items)) a.same ∙ ap (kept_for q) kept ∙ a.first);
@@ -264,7 +264,7 @@ module _ {S : Type 0} (apply : S → Address → List ℕ → S) (encode : S →
   installs-again-did came q l out later kept x =
       let k = kept.kept in
       again-by came q l k.given (find (is_kept_for q) (map (spelled group) (map (telling me) k.given))) out later (ap kept_in k.spelled ∙ kept-are group me k.given k.sound)
-      (x.packets ∙ ap (λ items. out.packets.items ++ option_to_list (find (is_kept_for q) items)) k.spelled) x.happenings (again-in group me q (view_in l.traffic) k.given k.sound k.current)
+      (x.packets ∙ ap (λ items. out.packets.items ++ option_to_list (find (is_kept_for q) items)) k.spelled) x.events (again-in group me q (view_in l.traffic) k.given k.sound k.current)
 
   -- ---- a BEHIND, and a suspicion
 

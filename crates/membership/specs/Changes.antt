@@ -112,7 +112,7 @@ TakesReport apply encode group me q w r old new out later =
 -- it puts out again the INSTALL that it kept for a member of its view, if it kept one
 pub record InstallsAgain {S : Type 0} (q : Address) (l : Life S) (out later : Output) : Type 0 where
   pub packets : later.packets.items ≡ out.packets.items ++ option_to_list (find (is_kept_for q) l.kept.items)
-  pub happenings : later.happenings.items ≡ out.happenings.items
+  pub events : later.events.items ≡ out.events.items
 
 -- ---- a BEHIND
 

@@ -10,9 +10,9 @@ use Rattle.wire.specs.Lists.{is_install}
 use Rattle.wire.specs.Fields.{IsEntry, entry_bytes}
 use Rattle.flush.specs.Flushes.{FlushModel, together_of, previous_of}
 use Rattle.trace_props.specs.Observed.{own}
-use Rattle.trace_props.specs.declared.happening.Happening.{Happening}
-use Rattle.trace_props.specs.declared.happening.Happening.TheVariants.{Installed}
-use Rattle.trace_props.specs.declared.happening.Numbered.{Numbered}
+use Rattle.trace_props.specs.declared.event.Event.{Event}
+use Rattle.trace_props.specs.declared.event.Event.TheVariants.{Installed}
+use Rattle.trace_props.specs.declared.event.Numbered.{Numbered}
 use Rattle.agreement.specs.Histories.{Posted}
 use Rattle.agreement.specs.Cores.{applied, id_of}
 use Rattle.agreement.specs.Words.{message_for}
@@ -61,7 +61,7 @@ abbrev pub own_of : Address → List Entry → ℕ
 own_of me entries = length (own me (map message_for entries))
 
 -- its creator is told the view that it proposed
-abbrev pub going : Address → FlushModel → Traffic → ℕ → Happening
+abbrev pub going : Address → FlushModel → Traffic → ℕ → Event
 going me f t n = Installed (record {
   member = me;
   previous = Some (view_of t).id;
@@ -80,7 +80,7 @@ abbrev pub finish_packets : Address → FlushModel → Traffic → List ℕ → 
 finish_packets me f t state = map (instructing me f (view_of t).id state) (others_of me f.members)
 
 -- what happens to its creator
-abbrev pub finish_events : Address → FlushModel → Traffic → List Happening
+abbrev pub finish_events : Address → FlushModel → Traffic → List Event
 finish_events me f t = map (delivery me (view_of t).id) (told_by f t) ++ going me f t (own_of me (told_by f t)) ∷ []
 
 -- ---- an INSTALL is entered
@@ -98,7 +98,7 @@ abbrev pub state_by : {S : Type 0} → (S → Address → List ℕ → S) → (L
 state_by apply decode traffic i s = unwrap_or (option_and_then decode i.state) (applied apply s (lacking traffic i))
 
 -- it is told the view
-abbrev pub arriving : Address → Option Traffic → wire.Install → ℕ → Happening
+abbrev pub arriving : Address → Option Traffic → wire.Install → ℕ → Event
 arriving me traffic i n = Installed (record {
   member = me;
   previous = id_of (view_in traffic);
@@ -109,5 +109,5 @@ arriving me traffic i n = Installed (record {
 })
 
 -- what happens to it
-abbrev pub enter_events : Address → Option Traffic → wire.Install → List Happening
+abbrev pub enter_events : Address → Option Traffic → wire.Install → List Event
 enter_events me traffic i = deliveries me (view_in traffic) (lacking traffic i) ++ arriving me traffic i (own_of me (lacking traffic i)) ∷ []

@@ -20,7 +20,7 @@ use output::{Identity, Output};
 use packet_values::{Entry, State};
 use state_transfer::Receiver;
 use std::alloc::{AllocError, Global};
-use trace_props::{Bytes, HandedBack, Happening, Install as Installed};
+use trace_props::{Bytes, HandedBack, Event, Install as Installed};
 use traffic::Traffic;
 use view::{Addresses, View};
 use wire::{Install, Items, Roster};
@@ -169,7 +169,7 @@ fn tell_view(
     let handed_back = left_of(who.alloc, traffic, own)?;
     let given = state_copied(who.alloc, install.state())?;
     who.record(
-        Happening::Installed(Installed {
+        Event::Installed(Installed {
             member: who.address,
             previous,
             view,

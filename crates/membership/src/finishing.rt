@@ -20,7 +20,7 @@ use output::{Identity, Output};
 use packet_values::{Count, Entry, State};
 use state_transfer::Receiver;
 use std::alloc::{AllocError, Global};
-use trace_props::{Bytes, Delivery, Happening, Install as Installed, Message};
+use trace_props::{Bytes, Delivery, Event, Install as Installed, Message};
 use traffic::Traffic;
 use view::{Addresses, View};
 use wire::{Body, Install, Items, Members, Roster};
@@ -90,7 +90,7 @@ fn deliver<R: Receiver>(
         payload,
     };
     who.record(
-        Happening::Delivered(Delivery {
+        Event::Delivered(Delivery {
             member: who.address,
             view,
             message,
@@ -253,7 +253,7 @@ fn tell_view(
     let together = flush.together(who.alloc, &who.address)?;
     let handed_back = traffic.handed_back(own)?;
     who.record(
-        Happening::Installed(Installed {
+        Event::Installed(Installed {
             member: who.address,
             previous: Some(previous),
             view,

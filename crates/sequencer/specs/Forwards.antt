@@ -1,7 +1,7 @@
 -- A member's own messages that were sent in a view and not delivered there.
 use Rattle.std.specs.Prelude.{◌≡◌, ℕ, ◌+◌, ◌-◌, ◌≤◌, ◌^◌, List, [], ◌∷◌, ◌++◌, Option, Some, None, length, drop, nat_eq, slice_get, if◌then◌else◌}
 use Rattle.state_transfer.specs.declared.TheConstants.{PAYLOAD}
-use Rattle.trace_props.specs.declared.happening.Numbered.{Numbered}
+use Rattle.trace_props.specs.declared.event.Numbered.{Numbered}
 use Rattle.sequencer.specs.declared.TheConstants.{OUTSTANDING}
 use Rattle.sequencer.specs.declared.forwards.PushRefusal.{PushRefusal}
 use Rattle.sequencer.specs.declared.forwards.PushRefusal.TheVariants.{Busy, Exhausted, Memory}

@@ -5,7 +5,7 @@ use Rattle.std.specs.Option.{option_map, option_map_or}
 use Rattle.address.specs.Ids.{Address, same_address}
 use Rattle.packet_values.specs.Values.{Entry}
 use Rattle.nak_stream.specs.declared.TheConstants.{REACH}
-use Rattle.trace_props.specs.declared.happening.Numbered.{Numbered}
+use Rattle.trace_props.specs.declared.event.Numbered.{Numbered}
 use Rattle.sequencer.specs.declared.TheConstants.{OUTSTANDING}
 
 -- a list in which the first element that passes a test is changed

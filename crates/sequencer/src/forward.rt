@@ -13,7 +13,7 @@ pub struct Forward {
 }
 
 impl Model for Forward {
-    ghost use Rattle.trace_props.specs.declared.happening.Numbered.{Numbered};
+    ghost use Rattle.trace_props.specs.declared.event.Numbered.{Numbered};
 
     ghost Value = { Numbered };
 

@@ -1,14 +1,14 @@
--- The states that are kept, one happening further.
+-- The states that are kept, one event further.
 use Rattle.std.proofs.Common.{◌≡◌, ℕ, ◌≤◌, Bool, true, false, cond, List, [], ◌∷◌, ◌++◌, length, Option, Some, None, unwrap_or, option_map, option_and_then, sym, refl, ap, ◌∙◌, subst}
 use Rattle.std.specs.Option.{option_or}
 use Rattle.std.proofs.lemmas.Bool.{cond-true, cond-false}
 use Rattle.std.proofs.lemmas.Option.{none-some, same_Some}
 use Rattle.address.specs.Ids.{Address, ViewId, IsAddress, same_address}
 use Rattle.state_transfer.specs.declared.TheConstants.{PAYLOAD}
-use Rattle.trace_props.specs.declared.happening.Happening.{Happening}
-use Rattle.trace_props.specs.declared.happening.Happening.TheVariants.{Started, Sent, Delivered, Blocked, Installed, Left, Crashed}
-use Rattle.trace_props.specs.declared.happening.Install.{Install}
-use Rattle.trace_props.specs.declared.happening.Delivery.{Delivery}
+use Rattle.trace_props.specs.declared.event.Event.{Event}
+use Rattle.trace_props.specs.declared.event.Event.TheVariants.{Started, Sent, Delivered, Blocked, Installed, Left, Crashed}
+use Rattle.trace_props.specs.declared.event.Install.{Install}
+use Rattle.trace_props.specs.declared.event.Delivery.{Delivery}
 use Rattle.trace_props.specs.Observed.{install_of}
 use Rattle.trace_props.specs.State.{state_after, state_of, installs, entry_state}
 use Rattle.trace_props.specs.Agreeing.{MayEnter}
@@ -24,7 +24,7 @@ or-none None = refl
 or-none (Some x) = refl
 
 -- what installs nothing makes none
-entry_state-still : {S : Type 0} (opening : S) (apply : S → Address → List ℕ → S) (decode : List ℕ → Option S) (v : ViewId) (t : List Happening) (h : Happening)
+entry_state-still : {S : Type 0} (opening : S) (apply : S → Address → List ℕ → S) (decode : List ℕ → Option S) (v : ViewId) (t : List Event) (h : Event)
     → installs v.creator v h ≡ false → entry_state opening apply decode v (t ++ h ∷ []) ≡ entry_state opening apply decode v t
 entry_state-still opening apply decode v t h e =
     entry_state-push opening apply decode v t h
@@ -35,7 +35,7 @@ entry_state-still opening apply decode v t h e =
 
 -- what changes no state and enters no view leaves all as it is
 knows-still : {S : Type 0} (opening : S) (apply : S → Address → List ℕ → S) (decode : List ℕ → Option S) (encode : S → List ℕ) (is_state : S → Type 0)
-    (m : Address → Option S) (e : ViewId → Option (List ℕ)) (t : List Happening) (h : Happening)
+    (m : Address → Option S) (e : ViewId → Option (List ℕ)) (t : List Event) (h : Event)
     → ((p : Address) → state_after apply decode p (state_of opening apply decode p t) h ≡ state_of opening apply decode p t) → ((v : ViewId) → installs v.creator v h ≡ false)
     → KnowsStates opening apply decode encode is_state m e t → KnowsStates opening apply decode encode is_state m e (t ++ h ∷ [])
 knows-still opening apply decode encode is_state m e t h same none r = record {
@@ -45,9 +45,9 @@ knows-still opening apply decode encode is_state m e t h same none r = record {
   are_entered = λ v s x. r.are_entered v s (sym (entry_state-still opening apply decode v t h (none v)) ∙ x);
 }
 
--- a happening that tells nothing and installs nothing
+-- an event that tells nothing and installs nothing
 pub nothing-known : {S : Type 0} (opening : S) (apply : S → Address → List ℕ → S) (decode : List ℕ → Option S) (encode : S → List ℕ) (is_state : S → Type 0)
-    (m : Address → Option S) (e : ViewId → Option (List ℕ)) (t : List Happening) (h : Happening) → None ≡ delivery_of h → None ≡ install_of h
+    (m : Address → Option S) (e : ViewId → Option (List ℕ)) (t : List Event) (h : Event) → None ≡ delivery_of h → None ≡ install_of h
     → KnowsStates opening apply decode encode is_state m e t → MayEnter opening apply decode t h × KnowsStates opening apply decode encode is_state m e (t ++ h ∷ [])
 nothing-known opening apply decode encode is_state m e t (Started p) a b r = (tt, knows-still opening apply decode encode is_state m e t (Started p) (λ p. refl) (λ v. refl) r)
 nothing-known opening apply decode encode is_state m e t (Sent s) a b r = (tt, knows-still opening apply decode encode is_state m e t (Sent s) (λ p. refl) (λ v. refl) r)
@@ -60,7 +60,7 @@ nothing-known opening apply decode encode is_state m e t (Crashed p) a b r = (tt
 -- A MESSAGE
 
 -- the state of one member after a message to another, or to it
-told-state : {S : Type 0} (opening : S) (apply : S → Address → List ℕ → S) (decode : List ℕ → Option S) (m : Address → Option S) (t : List Happening) (d : Delivery) (q : Address) (b : Bool) → same_address d.member q ≡ b
+told-state : {S : Type 0} (opening : S) (apply : S → Address → List ℕ → S) (decode : List ℕ → Option S) (m : Address → Option S) (t : List Event) (d : Delivery) (q : Address) (b : Bool) → same_address d.member q ≡ b
     → ((p : Address) → unwrap_or (m p) opening ≡ state_of opening apply decode p t)
     → cond b (apply (unwrap_or (m d.member) opening) d.message.sender d.message.payload) (unwrap_or (m q) opening) ≡ state_of opening apply decode q (t ++ Delivered d ∷ [])
 told-state opening apply decode m t d q true same r =
@@ -78,7 +78,7 @@ told-is is_state s x false a c = c
 -- a message that is told is applied
 pub message-known : {S : Type 0} (opening : S) (apply : S → Address → List ℕ → S) (decode : List ℕ → Option S) (encode : S → List ℕ) (is_state : S → Type 0)
     (applies : (s : S) (from : Address) (payload : List ℕ) → is_state s → IsAddress from → length payload ≤ PAYLOAD → is_state (apply s from payload))
-    (m n : Address → Option S) (e : ViewId → Option (List ℕ)) (t : List Happening) (d : Delivery) → IsAddress d.message.sender → length d.message.payload ≤ PAYLOAD
+    (m n : Address → Option S) (e : ViewId → Option (List ℕ)) (t : List Event) (d : Delivery) → IsAddress d.message.sender → length d.message.payload ≤ PAYLOAD
     → ((q : Address) → unwrap_or (n q) opening ≡ cond (same_address d.member q) (apply (unwrap_or (m d.member) opening) d.message.sender d.message.payload) (unwrap_or (m q) opening))
     → KnowsStates opening apply decode encode is_state m e t → KnowsStates opening apply decode encode is_state n e (t ++ Delivered d ∷ [])
 message-known opening apply decode encode is_state applies m n e t d from short updates r = record {
@@ -93,7 +93,7 @@ message-known opening apply decode encode is_state applies m n e t d from short 
 -- AN INSTALL
 
 -- the state of one member after an install of another, or its own
-pub taken-state : {S : Type 0} (opening : S) (apply : S → Address → List ℕ → S) (decode : List ℕ → Option S) (m : Address → Option S) (t : List Happening) (i : Install) (q : Address) (b : Bool) → same_address i.member q ≡ b
+pub taken-state : {S : Type 0} (opening : S) (apply : S → Address → List ℕ → S) (decode : List ℕ → Option S) (m : Address → Option S) (t : List Event) (i : Install) (q : Address) (b : Bool) → same_address i.member q ≡ b
     → ((p : Address) → unwrap_or (m p) opening ≡ state_of opening apply decode p t)
     → cond b (unwrap_or (option_and_then decode i.given) (unwrap_or (m i.member) opening)) (unwrap_or (m q) opening) ≡ state_of opening apply decode q (t ++ Installed i ∷ [])
 taken-state opening apply decode m t i q true same r =
@@ -124,7 +124,7 @@ changed-after m k n p f same after q = after q ∙ ap (λ x. cond (same_address 
 -- a message whose payload was lent is applied
 pub message-heard : {S : Type 0} (opening : S) (apply : S → Address → List ℕ → S) (decode : List ℕ → Option S) (encode : S → List ℕ) (is_state : S → Type 0)
     (applies : (s : S) (from : Address) (payload : List ℕ) → is_state s → IsAddress from → length payload ≤ PAYLOAD → is_state (apply s from payload))
-    (m k n : Address → Option S) (e : ViewId → Option (List ℕ)) (t : List Happening) (d : Delivery) (payload : List ℕ) → IsAddress d.message.sender → length d.message.payload ≤ PAYLOAD → payload ≡ d.message.payload
+    (m k n : Address → Option S) (e : ViewId → Option (List ℕ)) (t : List Event) (d : Delivery) (payload : List ℕ) → IsAddress d.message.sender → length d.message.payload ≤ PAYLOAD → payload ≡ d.message.payload
     → ((q : Address) → unwrap_or (k q) opening ≡ unwrap_or (m q) opening)
     → ((q : Address) → unwrap_or (n q) opening ≡ cond (same_address d.member q) (apply (unwrap_or (k d.member) opening) d.message.sender payload) (unwrap_or (k q) opening))
     → KnowsStates opening apply decode encode is_state m e t → KnowsStates opening apply decode encode is_state n e (t ++ Delivered d ∷ [])

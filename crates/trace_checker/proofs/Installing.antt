@@ -6,10 +6,10 @@ use Rattle.std.proofs.lemmas.Bool.{and_right, and_parts, true≢false}
 use Rattle.std.proofs.lemmas.Option.{none-some, same_Some}
 use Rattle.std.proofs.lemmas.Slice.Eq.{bytes_eq-Decides}
 use Rattle.address.specs.Ids.{Address, ViewId, same_address, same_view_id}
-use Rattle.trace_props.specs.declared.happening.Happening.{Happening}
-use Rattle.trace_props.specs.declared.happening.Happening.TheVariants.{Delivered, Installed}
-use Rattle.trace_props.specs.declared.happening.Install.{Install}
-use Rattle.trace_props.specs.declared.happening.Delivery.{Delivery}
+use Rattle.trace_props.specs.declared.event.Event.{Event}
+use Rattle.trace_props.specs.declared.event.Event.TheVariants.{Delivered, Installed}
+use Rattle.trace_props.specs.declared.event.Install.{Install}
+use Rattle.trace_props.specs.declared.event.Delivery.{Delivery}
 use Rattle.trace_props.specs.Observed.{install_of}
 use Rattle.trace_checker.specs.Known.{delivery_of}
 use Rattle.trace_props.proofs.Telling.{install_of-some}
@@ -24,15 +24,15 @@ use Rattle.trace_checker.proofs.Copying.{taken-state, taken-is, told-is, same-by
 module _ {S : Type 0} (opening : S) (apply : S → Address → List ℕ → S) (decode : List ℕ → Option S) (encode : S → List ℕ) (is_state : S → Type 0)
     (decodes : (bytes : List ℕ) (s : S) → decode bytes ≡ Some s → is_state s) (reads_back : (s : S) → is_state s → decode (encode s) ≡ Some s) where
   -- the state of a member after the install
-  abbrev next_state : Address → List Happening → Install → S
+  abbrev next_state : Address → List Event → Install → S
   next_state p t i = state_of opening apply decode p (t ++ Installed i ∷ [])
 
   -- the states that are kept are those of the members, each one that a receiver can be in
-  record HasStates (n : Address → Option S) (t : List Happening) (i : Install) : Type 0 where
+  record HasStates (n : Address → Option S) (t : List Event) (i : Install) : Type 0 where
     known : (q : Address) → unwrap_or (n q) opening ≡ next_state q t i
     are : (q : Address) → is_state (next_state q t i)
 
-  has-states : (m n : Address → Option S) (e : ViewId → Option (List ℕ)) (t : List Happening) (i : Install)
+  has-states : (m n : Address → Option S) (e : ViewId → Option (List ℕ)) (t : List Event) (i : Install)
       → ((q : Address) → unwrap_or (n q) opening ≡ cond (same_address i.member q) (unwrap_or (option_and_then decode i.given) (unwrap_or (m i.member) opening)) (unwrap_or (m q) opening))
       → KnowsStates opening apply decode encode is_state m e t → HasStates n t i
   has-states m n e t i updates r = record {
@@ -48,7 +48,7 @@ module _ {S : Type 0} (opening : S) (apply : S → Address → List ℕ → S) (
   or-is (Some y) b x f a s e = f s e
 
   -- all is known once the states of entry are
-  all-known : (m n : Address → Option S) (e f : ViewId → Option (List ℕ)) (t : List Happening) (i : Install) → KnowsStates opening apply decode encode is_state m e t → HasStates n t i
+  all-known : (m n : Address → Option S) (e f : ViewId → Option (List ℕ)) (t : List Event) (i : Install) → KnowsStates opening apply decode encode is_state m e t → HasStates n t i
       → ((w : ViewId) → f w ≡ option_map encode (option_or (entry_state opening apply decode w t) (cond (installs w.creator w (Installed i)) (Some (next_state w.creator t i)) None)))
       → KnowsStates opening apply decode encode is_state n f (t ++ Installed i ∷ [])
   all-known m n e f t i r states entering = record {
@@ -61,7 +61,7 @@ module _ {S : Type 0} (opening : S) (apply : S → Address → List ℕ → S) (
 
   -- WHERE THE VIEW WAS ENTERED BEFORE
 
-  kept-entry : (t : List Happening) (i : Install) (s : S) (w : ViewId) (b : Bool) → (b ≡ true → i.view.id ≡ w) → entry_state opening apply decode i.view.id t ≡ Some s
+  kept-entry : (t : List Event) (i : Install) (s : S) (w : ViewId) (b : Bool) → (b ≡ true → i.view.id ≡ w) → entry_state opening apply decode i.view.id t ≡ Some s
       → entry_state opening apply decode w t ≡ option_or (entry_state opening apply decode w t) (cond b (Some (next_state w.creator t i)) None)
   kept-entry t i s w true same e =
       let there : entry_state opening apply decode w t ≡ Some s = ap (λ v. entry_state opening apply decode v t) (sym (same refl)) ∙ e in
@@ -72,7 +72,7 @@ module _ {S : Type 0} (opening : S) (apply : S → Address → List ℕ → S) (
       or-nothing None = refl
       or-nothing (Some x) = refl
 
-  entered-before : (m n : Address → Option S) (e f : ViewId → Option (List ℕ)) (t : List Happening) (i : Install) (s : S) (bytes : List ℕ) (ok : Bool)
+  entered-before : (m n : Address → Option S) (e f : ViewId → Option (List ℕ)) (t : List Event) (i : Install) (s : S) (bytes : List ℕ) (ok : Bool)
       → KnowsStates opening apply decode encode is_state m e t → HasStates n t i → ForSome i.given (λ g. IsSome (decode g)) → bytes ≡ encode (next_state i.member t i)
       → entry_state opening apply decode i.view.id t ≡ Some s → ok ≡ bytes_eq (encode s) bytes → ((w : ViewId) → f w ≡ e w)
       → MatchBool ok (MayEnter opening apply decode t (Installed i) × KnowsStates opening apply decode encode is_state n f (t ++ Installed i ∷ [])) (MayEnter opening apply decode t (Installed i) → ⊥)
@@ -92,7 +92,7 @@ module _ {S : Type 0} (opening : S) (apply : S → Address → List ℕ → S) (
 
   -- WHERE IT WAS NOT
 
-  new-entry : (m : Address → Option S) (e : ViewId → Option (List ℕ)) (t : List Happening) (i : Install) (bytes : List ℕ) (w : ViewId) (b : Bool) → same_view_id i.view.id w ≡ b
+  new-entry : (m : Address → Option S) (e : ViewId → Option (List ℕ)) (t : List Event) (i : Install) (bytes : List ℕ) (w : ViewId) (b : Bool) → same_view_id i.view.id w ≡ b
       → KnowsStates opening apply decode encode is_state m e t → bytes ≡ encode (next_state i.member t i) → entry_state opening apply decode i.view.id t ≡ None → same_address i.member i.view.id.creator ≡ true
       → cond b (Some bytes) (e w) ≡ option_map encode (option_or (entry_state opening apply decode w t) (cond (same_address i.member w.creator && b) (Some (next_state w.creator t i)) None))
   new-entry m e t i bytes w true same r is none first =
@@ -110,7 +110,7 @@ module _ {S : Type 0} (opening : S) (apply : S → Address → List ℕ → S) (
       or-nothing None = refl
       or-nothing (Some x) = refl
 
-  entered-first : (m n : Address → Option S) (e f : ViewId → Option (List ℕ)) (t : List Happening) (i : Install) (bytes : List ℕ) (first : Bool)
+  entered-first : (m n : Address → Option S) (e f : ViewId → Option (List ℕ)) (t : List Event) (i : Install) (bytes : List ℕ) (first : Bool)
       → KnowsStates opening apply decode encode is_state m e t → HasStates n t i → ForSome i.given (λ g. IsSome (decode g)) → bytes ≡ encode (next_state i.member t i)
       → entry_state opening apply decode i.view.id t ≡ None → first ≡ same_address i.member i.view.id.creator → ((w : ViewId) → f w ≡ cond (first && same_view_id i.view.id w) (Some bytes) (e w))
       → MatchBool first (MayEnter opening apply decode t (Installed i) × KnowsStates opening apply decode encode is_state n f (t ++ Installed i ∷ [])) (MayEnter opening apply decode t (Installed i) → ⊥)
@@ -121,7 +121,7 @@ module _ {S : Type 0} (opening : S) (apply : S → Address → List ℕ → S) (
   entered-first m n e f t i bytes false r states given is none test updates = λ may.
       true≢false (sym (subst (λ (o : Option S). MatchOption o (same_address i.member i.view.id.creator ≡ true) (λ x. x ≡ next_state i.member t i)) none may.1) ∙ sym test)
 
-  entered-by : (m n : Address → Option S) (e f : ViewId → Option (List ℕ)) (t : List Happening) (i : Install) (bytes : List ℕ) (first ok : Bool) (o : Option S) → entry_state opening apply decode i.view.id t ≡ o
+  entered-by : (m n : Address → Option S) (e f : ViewId → Option (List ℕ)) (t : List Event) (i : Install) (bytes : List ℕ) (first ok : Bool) (o : Option S) → entry_state opening apply decode i.view.id t ≡ o
       → KnowsStates opening apply decode encode is_state m e t → HasStates n t i → ForSome i.given (λ g. IsSome (decode g)) → bytes ≡ encode (next_state i.member t i)
       → first ≡ same_address i.member i.view.id.creator
       → MatchOption (option_map encode o) ((ok ≡ first) × ((w : ViewId) → f w ≡ cond (first && same_view_id i.view.id w) (Some bytes) (e w))) (λ x. (ok ≡ bytes_eq x bytes) × ((w : ViewId) → f w ≡ e w))
@@ -132,7 +132,7 @@ module _ {S : Type 0} (opening : S) (apply : S → Address → List ℕ → S) (
   entered-by m n e f t i bytes first ok (Some s) there r states given is test enters = entered-before m n e f t i s bytes ok r states given is there enters.0 enters.1
 
   -- an install enters its view alike exactly if its bytes are those of the entry, or are the first
-  pub install-known : (m n : Address → Option S) (e f : ViewId → Option (List ℕ)) (t : List Happening) (i : Install) (bytes : List ℕ) (first ok : Bool)
+  pub install-known : (m n : Address → Option S) (e f : ViewId → Option (List ℕ)) (t : List Event) (i : Install) (bytes : List ℕ) (first ok : Bool)
       → ((q : Address) → unwrap_or (n q) opening ≡ cond (same_address i.member q) (unwrap_or (option_and_then decode i.given) (unwrap_or (m i.member) opening)) (unwrap_or (m q) opening))
       → ForSome i.given (λ g. IsSome (decode g)) → bytes ≡ encode (unwrap_or (n i.member) opening) → first ≡ same_address i.member i.view.id.creator
       → EntersWith e f i.view.id first bytes ok → KnowsStates opening apply decode encode is_state m e t
@@ -142,13 +142,13 @@ module _ {S : Type 0} (opening : S) (apply : S → Address → List ℕ → S) (
       entered-by m n e f t i bytes first ok (entry_state opening apply decode i.view.id t) refl r states given (is ∙ ap encode (states.known i.member)) test
       (subst (λ (o : Option (List ℕ)). MatchOption o ((ok ≡ first) × ((w : ViewId) → f w ≡ cond (first && same_view_id i.view.id w) (Some bytes) (e w))) (λ x. (ok ≡ bytes_eq x bytes) × ((w : ViewId) → f w ≡ e w))) (r.entering_known i.view.id) enters)
 
--- what holds of an install holds of the happening that installs it
-pub of-install : (P : Happening → Type 0) (h : Happening) (i : Install) → Some i ≡ install_of h → P (Installed i) → P h
+-- what holds of an install holds of the event that installs it
+pub of-install : (P : Event → Type 0) (h : Event) (i : Install) → Some i ≡ install_of h → P (Installed i) → P h
 of-install P h i e p = subst P (sym (install_of-some h i (sym e))) p
 
 -- a message that is told keeps the rule on states
-pub of-delivery : {S : Type 0} (opening : S) (apply : S → Address → List ℕ → S) (decode : List ℕ → Option S) (P : List Happening → Type 0) (t : List Happening) (h : Happening) (d : Delivery) → Some d ≡ delivery_of h
+pub of-delivery : {S : Type 0} (opening : S) (apply : S → Address → List ℕ → S) (decode : List ℕ → Option S) (P : List Event → Type 0) (t : List Event) (h : Event) (d : Delivery) → Some d ≡ delivery_of h
     → P (t ++ Delivered d ∷ []) → MayEnter opening apply decode t h × P (t ++ h ∷ [])
 of-delivery opening apply decode P t h d e p =
     let same = sym (delivery-is h d (sym e)) in
-    (subst (λ (x : Happening). MayEnter opening apply decode t x) same tt, subst (λ (x : Happening). P (t ++ x ∷ [])) same p)
+    (subst (λ (x : Event). MayEnter opening apply decode t x) same tt, subst (λ (x : Event). P (t ++ x ∷ [])) same p)

@@ -2,12 +2,12 @@
 use Rattle.std.specs.Prelude.{◌≡◌, ℕ, Bool, Option, Some, List, unwrap_or, option_map, MatchOption, cond, ◌&&◌}
 use Rattle.std.specs.Str.{bytes_eq}
 use Rattle.address.specs.Ids.{Address, ViewId, same_view_id}
-use Rattle.trace_props.specs.declared.happening.Happening.{Happening}
+use Rattle.trace_props.specs.declared.event.Event.{Event}
 use Rattle.trace_props.specs.State.{state_of, entry_state}
 
 -- what is kept says what the trace says, and all of it are states that a receiver can be in
 pub record KnowsStates {S : Type 0} (opening : S) (apply : S → Address → List ℕ → S) (decode : List ℕ → Option S) (encode : S → List ℕ) (is_state : S → Type 0)
-    (states : Address → Option S) (entering : ViewId → Option (List ℕ)) (t : List Happening) : Type 0 where
+    (states : Address → Option S) (entering : ViewId → Option (List ℕ)) (t : List Event) : Type 0 where
   pub states_known : (p : Address) → unwrap_or (states p) opening ≡ state_of opening apply decode p t
   pub are_states : (p : Address) → is_state (state_of opening apply decode p t)
   pub entering_known : (v : ViewId) → entering v ≡ option_map encode (entry_state opening apply decode v t)

@@ -7,7 +7,7 @@ use Rattle.view.specs.Members.{View, is_distinct}
 use Rattle.view.specs.View.{view_refusal}
 use Rattle.view.specs.declared.ViewError.{ViewError}
 use Rattle.state_transfer.specs.declared.TheConstants.{PAYLOAD}
-use Rattle.trace_props.specs.declared.happening.Numbered.{Numbered}
+use Rattle.trace_props.specs.declared.event.Numbered.{Numbered}
 use Rattle.script_reader.specs.Lines.{before_byte, behind_byte}
 use Rattle.script_reader.specs.Numbers.{number_in}
 use Rattle.script_reader.specs.AddressText.{address_of_text}

@@ -1,4 +1,4 @@
-//! The text of a trace is read into its happenings, and the text of every run says what happened in it.
+//! The text of a trace is read into its events, and the text of every run says what happened in it.
 #![tactic(auto)]
 
 mod fields;

@@ -15,8 +15,8 @@ use Rattle.packet_values.specs.Values.{Entry, held_at}
 use Rattle.wire.specs.Values as wire
 use Rattle.wire.specs.declared.packet.Body.{Body}
 use Rattle.wire.specs.declared.packet.Body.TheVariants as bodies
-use Rattle.trace_props.specs.declared.happening.Happening.{Happening}
-use Rattle.trace_props.specs.declared.happening.Numbered.{Numbered}
+use Rattle.trace_props.specs.declared.event.Event.{Event}
+use Rattle.trace_props.specs.declared.event.Numbered.{Numbered}
 use Rattle.nak_stream.specs.Windows.{WindowModel, IsWindow, held_with, held_above, taken, delivering}
 use Rattle.nak_stream.proofs.Windows.{held_at-with, held_at-above}
 use Rattle.sequencer.specs.Forwards.{ForwardsModel, one_told}
@@ -83,7 +83,7 @@ pub due-fact : (m : Coordinator) (e : Entry) → m.orderer.ordered ≡ m.window.
 due-fact m e same low h = due-by (may_order m.window.stable m.orderer) m e refl same low h h
 
 module _ {S : Type 0} (apply : S → Address → List ℕ → S) (encode : S → List ℕ) (decode : List ℕ → Option S) where
-  abbrev pub GoesOn : Option Posted → Address → View → List (Address × wire.Install) → Traffic → S → List Posted → List Happening → Traffic → S → Type 0
+  abbrev pub GoesOn : Option Posted → Address → View → List (Address × wire.Install) → Traffic → S → List Posted → List Event → Traffic → S → Type 0
   GoesOn came p v kept t s posted happened u z = Acted apply encode decode came (Some (open_core p v kept t s)) posted happened (Some (open_core p v kept u z))
 
   -- ---- Orders

@@ -10,7 +10,7 @@ use Rattle.address.specs.Ids.{Address}
 use Rattle.packet_values.specs.Values.{Entry, Progress, held_at}
 use Rattle.wire.specs.Values as wire
 use Rattle.wire.specs.declared.packet.Body.TheVariants as bodies
-use Rattle.trace_props.specs.declared.happening.Numbered.{Numbered}
+use Rattle.trace_props.specs.declared.event.Numbered.{Numbered}
 use Rattle.nak_stream.specs.Windows.{WindowModel, held_above}
 use Rattle.agreement.specs.Histories.{Posted}
 use Rattle.agreement.specs.Acts.{Sends, Collects, Puts, Told, HoldsAbove, packet, others_of}

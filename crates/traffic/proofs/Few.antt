@@ -198,7 +198,7 @@ module _ {S : Type 0} (apply : S → Address → List ℕ → S) (encode : S →
       let k = few-by p old.view.members old n x.entries refl x.turns i z w f sound
       (first-by (nat_eq (length old.view.members) 0) (nat_lt 16 (length old.view.members)) (is_distinct old.view.members) (begins_with old.view.id.creator old.view.members) sound)
       (distinct-in old.view sound) in
-      let grown : length more.happenings.items ≡ length out.happenings.items + length x.entries =
-      ap length x.grows.happenings ∙ length-append out.happenings.items (map (delivery p old.view.id) x.entries)
-      ∙ ap (λ j. length out.happenings.items + j) (length-map x.entries (delivery p old.view.id)) in
+      let grown : length more.events.items ≡ length out.events.items + length x.entries =
+      ap length x.grows.events ∙ length-append out.events.items (map (delivery p old.view.id) x.entries)
+      ∙ ap (λ j. length out.events.items + j) (length-map x.entries (delivery p old.view.id)) in
       omega (arith, k, grown)

@@ -9,7 +9,7 @@ use Rattle.view.specs.Members.{View}
 use Rattle.packet_values.specs.Values.{Entry, held_at}
 use Rattle.wire.specs.Values as wire
 use Rattle.wire.specs.declared.packet.Body.{Body}
-use Rattle.trace_props.specs.declared.happening.Numbered.{Numbered}
+use Rattle.trace_props.specs.declared.event.Numbered.{Numbered}
 use Rattle.nak_stream.specs.Windows.{WindowModel, IsWindow, held_with, held_above, offers}
 use Rattle.nak_stream.proofs.Windows.{offered}
 use Rattle.sequencer.specs.Forwards.{ForwardsModel}

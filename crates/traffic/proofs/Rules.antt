@@ -9,8 +9,8 @@ use Rattle.std.proofs.lemmas.Option.{none-some, same_Some}
 use Rattle.address.specs.Ids.{Address, same_address}
 use Rattle.view.specs.Members.{stands_in}
 use Rattle.packet_values.specs.Values.{Entry}
-use Rattle.trace_props.specs.declared.happening.Numbered.{Numbered}
-use Rattle.trace_props.specs.declared.happening.Happening.{Happening}
+use Rattle.trace_props.specs.declared.event.Numbered.{Numbered}
+use Rattle.trace_props.specs.declared.event.Event.{Event}
 use Rattle.trace_props.proofs.Observing.{same_address-refl, same_address-true}
 use Rattle.sequencer.specs.Forwards.{ForwardsModel, IsForwards, pushed, push_refusal}
 use Rattle.sequencer.specs.declared.forwards.PushRefusal.TheVariants.{Busy, Exhausted}
@@ -24,7 +24,7 @@ use Rattle.output.specs.Outputs.{Grows}
 use Rattle.traffic.specs.Coordinators.{IsCoordinator, queued, acknowledged, pushing}
 use Rattle.traffic.specs.Goings.{sending}
 use Rattle.traffic.specs.Turns.{turned, TurnsTo, Starts, Turns, Ordering, AcksOrdering, IsSettled, own_queue, own_entry, SendsOrdering, TellsAtOnce}
-use Rattle.trace_props.specs.declared.happening.Happening.TheVariants.{Sent}
+use Rattle.trace_props.specs.declared.event.Event.TheVariants.{Sent}
 use Rattle.traffic.proofs.Counting.{noted-other}
 use Rattle.traffic.proofs.Few.{collected-by, collected-least, stable-le-noted}
 
@@ -210,12 +210,12 @@ front p e a n es (Turns m k fs f x due) start = front-step e f a k (turned p f k
 
 tells-by : (es : List Entry) (p : Address) (x : List ℕ) (m a n : Coordinator) (out more : Output) → FrontIs (own_entry p m x) a n es → next_ordered a.window.stable a.orderer ≡ Some (own_entry p m x)
     → next_ordered n.window.stable n.orderer ≡ None
-    → more.happenings.items ≡ out.happenings.items ++ Sent (sending p m.view.id (m.forwards.sent + 1) x) ∷ map (delivery p m.view.id) es → TellsAtOnce p x m out more
+    → more.events.items ≡ out.events.items ++ Sent (sending p m.view.id (m.forwards.sent + 1) x) ∷ map (delivery p m.view.id) es → TellsAtOnce p x m out more
 tells-by [] p x m a n out more front start done happens =
     absurd (none-some (own_entry p m x) (sym done ∙ ap (λ (z : Coordinator). next_ordered z.window.stable z.orderer) front ∙ start))
 tells-by (e ∷ es) p x m a n out more front start done happens = record {
   rest = es;
-  happens = happens ∙ ap (λ (f : Entry). out.happenings.items ++ Sent (sending p m.view.id (m.forwards.sent + 1) x) ∷ map (delivery p m.view.id) (f ∷ es)) front;
+  happens = happens ∙ ap (λ (f : Entry). out.events.items ++ Sent (sending p m.view.id (m.forwards.sent + 1) x) ∷ map (delivery p m.view.id) (f ∷ es)) front;
 }
 
 module _ {S : Type 0} (apply : S → Address → List ℕ → S) where
@@ -235,10 +235,10 @@ module _ {S : Type 0} (apply : S → Address → List ℕ → S) where
       let o = sends.orders in
       tells-by o.entries p x m (queued p (m.forwards.sent + 1) x (pushing x m)) new out more
       (front p (own_entry p m x) (queued p (m.forwards.sent + 1) x (pushing x m)) new o.entries o.turns start) start done
-      (o.grows.happenings ∙ ap (λ l. l ++ map (delivery p m.view.id) o.entries) sends.sent.happenings
-      ∙ append_assoc out.happenings.items (Sent (sending p m.view.id (m.forwards.sent + 1) x) ∷ []) (map (delivery p m.view.id) o.entries))
+      (o.grows.events ∙ ap (λ l. l ++ map (delivery p m.view.id) o.entries) sends.sent.events
+      ∙ append_assoc out.events.items (Sent (sending p m.view.id (m.forwards.sent + 1) x) ∷ []) (map (delivery p m.view.id) o.entries))
 
-pub few-more : (v : Happening) (out between more : List Happening) → between ≡ out ++ v ∷ [] → length more ≤ length between + 32 → length more ≤ length out + 33
+pub few-more : (v : Event) (out between more : List Event) → between ≡ out ++ v ∷ [] → length more ≤ length between + 32 → length more ≤ length out + 33
 few-more v out between more sent few = let k : length between ≡ length out + 1 = ap length sent ∙ length-append out (v ∷ []) in omega (arith, k, few)
 
 module _ {S : Type 0} (apply : S → Address → List ℕ → S) where

@@ -2,7 +2,7 @@
 use Rattle.std.proofs.Common.{◌≡◌, ℕ, ◌+◌, ◌≤◌, Option, List, [], ◌∷◌, length, refl, sym, ap, ◌∙◌, subst}
 use Rattle.std.proofs.lemmas.List.Elements.{Contains-push}
 use Rattle.address.specs.Ids.{Address}
-use Rattle.trace_props.specs.declared.happening.Happening.TheVariants.{Sent}
+use Rattle.trace_props.specs.declared.event.Event.TheVariants.{Sent}
 use Rattle.trace_props.proofs.Observing.{same_address-refl}
 use Rattle.agreement.specs.Histories.{Posted}
 use Rattle.agreement.specs.Acts.{Sends}

@@ -72,9 +72,9 @@ module _ {S : Type 0} (apply : S → Address → List ℕ → S) where
   pub telling-few : (p : Address) (group : List ℕ) (m : Other) (s : S) (out : Output) (n : Other) (t : S) (more : Output) → IsWindow m.window → Telling apply p group m s out n t more → IsFew out more
   telling-few p group m s out n t more w x =
       let k = (told-fact p m n x.entries x.tells w).few in
-      let grown : length more.happenings.items ≡ length out.happenings.items + length x.entries =
-      ap length x.grows.happenings ∙ length-append out.happenings.items (map (delivery p m.view.id) x.entries)
-      ∙ ap (λ j. length out.happenings.items + j) (length-map x.entries (delivery p m.view.id)) in
+      let grown : length more.events.items ≡ length out.events.items + length x.entries =
+      ap length x.grows.events ∙ length-append out.events.items (map (delivery p m.view.id) x.entries)
+      ∙ ap (λ j. length out.events.items + j) (length-map x.entries (delivery p m.view.id)) in
       omega (arith, k, grown)
 
   -- ---- an ORDER
@@ -113,15 +113,15 @@ module _ {S : Type 0} (apply : S → Address → List ℕ → S) (encode : S →
   answers-goes came p group before new g a m s t out more most x y =
       other-then apply encode decode came p group a m m s t t out more most x (answers-by (nat_lt before m.window.delivered) new came p group g m t more most y)
 
-asks-few : (p : Address) (group : List ℕ) (g : ℕ) (m : Other) (out more : Output) → AsksUpTo p group g m out more → length more.happenings.items ≡ length out.happenings.items
-asks-few p group g m out more (inl x) = ap length (x.grows.happenings ∙ append-nil out.happenings.items)
-asks-few p group g m out more (inr x) = ap (λ (o : Output). length o.happenings.items) x.1
+asks-few : (p : Address) (group : List ℕ) (g : ℕ) (m : Other) (out more : Output) → AsksUpTo p group g m out more → length more.events.items ≡ length out.events.items
+asks-few p group g m out more (inl x) = ap length (x.grows.events ∙ append-nil out.events.items)
+asks-few p group g m out more (inr x) = ap (λ (o : Output). length o.events.items) x.1
 
 pub answers-few : (b c : Bool) (p : Address) (group : List ℕ) (g : ℕ) (m : Other) (out more : Output)
-    → MatchBool b (Grows group out more (ack_of p m ∷ []) []) (MatchBool c (AsksUpTo p group g m out more) (more ≡ out)) → length more.happenings.items ≡ length out.happenings.items
-answers-few true c p group g m out more x = ap length (x.happenings ∙ append-nil out.happenings.items)
+    → MatchBool b (Grows group out more (ack_of p m ∷ []) []) (MatchBool c (AsksUpTo p group g m out more) (more ≡ out)) → length more.events.items ≡ length out.events.items
+answers-few true c p group g m out more x = ap length (x.events ∙ append-nil out.events.items)
 answers-few false true p group g m out more x = asks-few p group g m out more x
-answers-few false false p group g m out more x = ap (λ (o : Output). length o.happenings.items) x
+answers-few false false p group g m out more x = ap (λ (o : Output). length o.events.items) x
 
 pub order-few : (p : Address) (group : List ℕ) (before : ℕ) (new : Bool) (g : ℕ) (m : Other) (out more most : Output) → IsFew out more → AnswersOrder p group before new g m more most → IsFew out most
 order-few p group before new g m out more most x y = let k = answers-few (nat_lt before m.window.delivered) new p group g m more most y in omega (arith, x, k)

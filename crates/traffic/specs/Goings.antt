@@ -3,8 +3,8 @@ use Rattle.std.specs.Prelude.{◌≡◌, ℕ, true, List, Option, Some, None}
 use Rattle.address.specs.Ids.{Address, ViewId}
 use Rattle.view.specs.Members.{View}
 use Rattle.wire.specs.Values as wire
-use Rattle.trace_props.specs.declared.happening.Happening.{Happening}
-use Rattle.trace_props.specs.declared.happening.Sending.{Sending}
+use Rattle.trace_props.specs.declared.event.Event.{Event}
+use Rattle.trace_props.specs.declared.event.Sending.{Sending}
 use Rattle.agreement.specs.Histories.{Posted}
 use Rattle.agreement.specs.Chains.{Acted}
 use Rattle.agreement.specs.Cores.{Traffic, Core}
@@ -33,7 +33,7 @@ open_core p v kept t s = record {
 pub record Goes {S : Type 0} (apply : S → Address → List ℕ → S) (encode : S → List ℕ) (decode : List ℕ → Option S) (came : Option Posted) (p : Address) (group : List ℕ) (v : View)
     (old : Traffic) (s : S) (out : Output) (new : Traffic) (t : S) (more : Output) : Type 0 where
   pub posted : List Posted
-  pub happened : List Happening
+  pub happened : List Event
   pub acted : (kept : List (Address × wire.Install)) → Acted apply encode decode came (Some (open_core p v kept old s)) posted happened (Some (open_core p v kept new t))
   pub grows : Grows group out more posted happened
 

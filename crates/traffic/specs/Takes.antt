@@ -1,7 +1,7 @@
 -- What another member of a view must do, and has done, on an ORDER.
 use Rattle.std.specs.Prelude.{◌≡◌, ℕ, ◌+◌, ◌-◌, ◌<◌, ◌≤◌, Bool, List, [], ◌∷◌, ◌++◌, map, Option, None, Some, IsSome, MatchBool, nat_lt, ◌⊎◌, ◌||◌, zero, suc}
 use Rattle.std.specs.Option.{option_map_or}
-use Rattle.trace_props.specs.declared.happening.Numbered.{Numbered}
+use Rattle.trace_props.specs.declared.event.Numbered.{Numbered}
 use Rattle.address.specs.Ids.{Address}
 use Rattle.view.specs.Members.{View}
 use Rattle.packet_values.specs.Values.{Entry, held_at, Missing, Progress}
@@ -12,7 +12,7 @@ use Rattle.agreement.specs.Cores.{applied}
 use Rattle.agreement.specs.Acts.{delivery, packet}
 use Rattle.traffic.specs.declared.other.Other.{Other}
 use Rattle.output.specs.declared.output.Output.{Output}
-use Rattle.trace_props.specs.declared.happening.Happening.TheVariants.{Sent}
+use Rattle.trace_props.specs.declared.event.Event.TheVariants.{Sent}
 use Rattle.sequencer.specs.Forwards.{pushed}
 use Rattle.traffic.specs.Traffics.{told_to}
 use Rattle.traffic.specs.Goings.{sending}

@@ -13,7 +13,7 @@ use Rattle.agreement.specs.Cores.{applied}
 use Rattle.agreement.specs.Acts.{delivery, packet, others_of}
 use Rattle.traffic.specs.declared.coordinator.Coordinator.{Coordinator}
 use Rattle.output.specs.declared.output.Output.{Output}
-use Rattle.trace_props.specs.declared.happening.Happening.TheVariants.{Sent}
+use Rattle.trace_props.specs.declared.event.Event.TheVariants.{Sent}
 use Rattle.traffic.specs.Coordinators.{pushing, after_one, acknowledged, queued}
 use Rattle.traffic.specs.Goings.{sending}
 use Rattle.output.specs.Outputs.{Grows}
@@ -69,9 +69,9 @@ pub record IsSettled (p : Address) (m : Coordinator) : Type 0 where
   pub least : m.window.stable ≡ stable_count m.acks
   pub own : find (is_from p) m.orderer.queues ≡ Some (own_queue p m.forwards)
 
--- at most 32 happenings more
+-- at most 32 events more
 abbrev pub IsFew : Output → Output → Type 0
-IsFew old new = length new.happenings.items ≤ length old.happenings.items + 32
+IsFew old new = length new.events.items ≤ length old.events.items + 32
 
 -- an acknowledgement above what was ordered is ignored; else it is heard, and all is ordered that may be
 abbrev pub AcksOrdering : {S : Type 0} → (S → Address → List ℕ → S) → Address → List ℕ → Address → ℕ → Coordinator → S → Output → Coordinator → S → Output → Type 0
@@ -93,8 +93,8 @@ pub record SendsOrdering {S : Type 0} (apply : S → Address → List ℕ → S)
 -- it is delivered at once
 pub record TellsAtOnce (p : Address) (x : List ℕ) (old : Coordinator) (out more : Output) : Type 0 where
   pub rest : List Entry
-  pub happens : more.happenings.items ≡ out.happenings.items ++ Sent (sending p old.view.id (old.forwards.sent + 1) x) ∷ map (delivery p old.view.id) (own_entry p old x ∷ rest)
+  pub happens : more.events.items ≡ out.events.items ++ Sent (sending p old.view.id (old.forwards.sent + 1) x) ∷ map (delivery p old.view.id) (own_entry p old x ∷ rest)
 
--- one happening more than few
+-- one event more than few
 abbrev pub IsFewMore : Output → Output → Type 0
-IsFewMore old new = length new.happenings.items ≤ length old.happenings.items + 33
+IsFewMore old new = length new.events.items ≤ length old.events.items + 33

@@ -11,13 +11,13 @@ use output::{Identity, Output};
 use sequencer::Forwards;
 use state_transfer::Receiver;
 use std::alloc::AllocError;
-use trace_props::{Bytes, Delivery, Happening, Message};
+use trace_props::{Bytes, Delivery, Event, Message};
 
 // The event of a message that is delivered.
-fn delivery(who: &Identity, view: ViewId, entry: &Entry) -> Result<Happening, AllocError>
+fn delivery(who: &Identity, view: ViewId, entry: &Entry) -> Result<Event, AllocError>
     ensures { IfOk result (λ h. h ≡ delivery who.now.address view entry.now) }
 {
-    Ok(Happening::Delivered(Delivery {
+    Ok(Event::Delivered(Delivery {
         member: who.address,
         view,
         message: Message {

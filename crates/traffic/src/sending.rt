@@ -1,7 +1,7 @@
 //! A member sends a message of its own: what is the same for each, and the rule of the coordinator.
 
 ghost use Rattle.std.specs.Prelude.{◌≡◌, ◌+◌, ◌≤◌, length, Option, Some, None, true, [], ◌∷◌, OnOk, IfOk};
-ghost use Rattle.trace_props.specs.declared.happening.Happening.TheVariants.{Sent};
+ghost use Rattle.trace_props.specs.declared.event.Event.TheVariants.{Sent};
 ghost use Rattle.agreement.specs.Histories.{Posted};
 ghost use Rattle.sequencer.specs.Forwards.{pushed, push_refusal};
 ghost use Rattle.sequencer.specs.Queues.{next_ordered, may_order};
@@ -19,7 +19,7 @@ use packet_values::{Number, Payload};
 use sequencer::Forwards;
 use state_transfer::Receiver;
 use std::alloc::AllocError;
-use trace_props::{Bytes, Happening, Numbered, Sending};
+use trace_props::{Bytes, Event, Numbered, Sending};
 
 // The event of a message that is sent.
 fn sending(
@@ -27,10 +27,10 @@ fn sending(
     view: ViewId,
     number: Number,
     payload: &Payload<'_>,
-) -> Result<Happening, AllocError>
+) -> Result<Event, AllocError>
     ensures { IfOk result (λ h. h ≡ Sent (sending who.now.address view number payload.now)) }
 {
-    Ok(Happening::Sent(Sending {
+    Ok(Event::Sent(Sending {
         member: who.address,
         view,
         message: Numbered {

@@ -13,7 +13,7 @@ ghost use Rattle.traffic.specs.Goings.{OtherGoes, sending};
 ghost use Rattle.traffic.specs.Turns.{IsFew};
 ghost use Rattle.traffic.specs.Others.{order_packet, TellsOne, collected_to, held_too};
 ghost use Rattle.traffic.specs.Takes.{Telling, TakesStatus, forward_of, ack_of, other_pushing, SendsForward, IsComplete, AsksUpTo, AnswersOrder, TakesOrder};
-ghost use Rattle.trace_props.specs.declared.happening.Happening.TheVariants.{Sent};
+ghost use Rattle.trace_props.specs.declared.event.Event.TheVariants.{Sent};
 ghost use Rattle.sequencer.specs.Forwards.{push_refusal};
 ghost use Rattle.packet_values.specs.declared.limits.TheConstants.{PAYLOAD};
 

@@ -1,7 +1,7 @@
 -- How the check of a trace ends.
 use Rattle.std.proofs.Common.{◌≡◌, ℕ, List, [], Option, Ok, Err, IfSome, unwrap_or}
 use Rattle.address.specs.Ids.{Address}
-use Rattle.trace_props.specs.declared.happening.Happening.{Happening}
+use Rattle.trace_props.specs.declared.event.Event.{Event}
 use Rattle.trace_props.specs.declared.verdict.Verdict.{Verdict}
 use Rattle.trace_props.specs.Verdicts.{IsVerdict}
 use Rattle.script_reader.specs.declared.fault.Fault.{Fault}
@@ -17,17 +17,17 @@ use Rattle.vsync_runs.specs.Checks.IsCheckText.{Checks, Faulty, Unread}
 use Rattle.vsync_runs.proofs.Ending.{written-as, left-of}
 
 -- a verdict was told
-pub judged-text : {S : Type 0} (opening : S) (apply : S → Address → List ℕ → S) (decode : List ℕ → Option S) (t : List Happening) (v : Verdict) (a b : Option (List ℕ)) (status : Status)
+pub judged-text : {S : Type 0} (opening : S) (apply : S → Address → List ℕ → S) (decode : List ℕ → Option S) (t : List Event) (v : Verdict) (a b : Option (List ℕ)) (status : Status)
     → IsVerdict opening apply decode t v → Written (IsVerdictText v) a b status → Written (IsJudgedText opening apply decode t) a b status
 judged-text opening apply decode t v a b status is w = written-as (IsVerdictText v) (IsJudgedText opening apply decode t) a b status (λ s x says. Judged v s x is says) w
 
 -- memory was refused before there was a verdict
-pub unjudged-text : {S : Type 0} (opening : S) (apply : S → Address → List ℕ → S) (decode : List ℕ → Option S) (t : List Happening) (a b : Option (List ℕ)) (status : Status)
+pub unjudged-text : {S : Type 0} (opening : S) (apply : S → Address → List ℕ → S) (decode : List ℕ → Option S) (t : List Event) (a b : Option (List ℕ)) (status : Status)
     → Ends a b memory_line Memory status → Written (IsJudgedText opening apply decode t) a b status
 unjudged-text opening apply decode t a b status e = record { meant = Memory; text = memory_line; says = Unjudged; ends = e }
 
 -- the trace was read and judged
-pub checked-text : {S : Type 0} (opening : S) (apply : S → Address → List ℕ → S) (decode : List ℕ → Option S) (left a b : Option (List ℕ)) (bytes : List ℕ) (t : List Happening) (status : Status)
+pub checked-text : {S : Type 0} (opening : S) (apply : S → Address → List ℕ → S) (decode : List ℕ → Option S) (left a b : Option (List ℕ)) (bytes : List ℕ) (t : List Event) (status : Status)
     → IfSome left (λ all. bytes ≡ all) → trace_of bytes ≡ Ok t → Written (IsJudgedText opening apply decode t) a b status → ChecksTrace opening apply decode left a b status
 checked-text opening apply decode left a b bytes t status is read w =
     Answers bytes status is (written-as (IsJudgedText opening apply decode t) (IsCheckText opening apply decode bytes) a b status (λ s x says. Checks t s x read says) w)

@@ -2,7 +2,7 @@
 use Rattle.std.specs.Prelude.{◌≡◌, ℕ, List, [], ◌∷◌, ◌++◌, Option, Ok, Err, codes}
 use Rattle.std.specs.Fmt.{decimal}
 use Rattle.address.specs.Ids.{Address}
-use Rattle.trace_props.specs.declared.happening.Happening.{Happening}
+use Rattle.trace_props.specs.declared.event.Event.{Event}
 use Rattle.trace_props.specs.declared.verdict.Rule.{Rule}
 use Rattle.trace_props.specs.declared.verdict.Rule.TheVariants.{WellPlaced, RisingViews, SoundMessages, OneOrder, SameNext, Together, HandedBack, StateOfEntry}
 use Rattle.trace_props.specs.declared.verdict.Verdict.{Verdict}
@@ -37,13 +37,13 @@ pub data IsVerdictText : Verdict → Status → List ℕ → Type 0 where
   Untold : (v : Verdict) → IsVerdictText v Memory memory_line
 
 -- the texts of what happened: of the verdict on it; or `# memory`, where memory is refused
-pub data IsJudgedText {S : Type 0} (opening : S) (apply : S → Address → List ℕ → S) (decode : List ℕ → Option S) (t : List Happening) : Status → List ℕ → Type 0 where
+pub data IsJudgedText {S : Type 0} (opening : S) (apply : S → Address → List ℕ → S) (decode : List ℕ → Option S) (t : List Event) : Status → List ℕ → Type 0 where
   Judged : (v : Verdict) (status : Status) (text : List ℕ) → IsVerdict opening apply decode t v → IsVerdictText v status text → IsJudgedText opening apply decode t status text
   Unjudged : IsJudgedText opening apply decode t Memory memory_line
 
 -- the texts of a trace's bytes: of what they say happened; of their first fault; or `# memory`, where memory is refused
 pub data IsCheckText {S : Type 0} (opening : S) (apply : S → Address → List ℕ → S) (decode : List ℕ → Option S) (bytes : List ℕ) : Status → List ℕ → Type 0 where
-  Checks : (t : List Happening) (status : Status) (text : List ℕ) → trace_of bytes ≡ Ok t → IsJudgedText opening apply decode t status text → IsCheckText opening apply decode bytes status text
+  Checks : (t : List Event) (status : Status) (text : List ℕ) → trace_of bytes ≡ Ok t → IsJudgedText opening apply decode t status text → IsCheckText opening apply decode bytes status text
   Faulty : (line : ℕ) (fault : Fault) (status : Status) (text : List ℕ) → trace_of bytes ≡ Err (record { line = line; fault = fault })
       → IsFaultText line (fault_number fault) status text → IsCheckText opening apply decode bytes status text
   Unread : IsCheckText opening apply decode bytes Memory memory_line

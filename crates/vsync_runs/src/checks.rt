@@ -47,7 +47,7 @@ fn tell_verdict<W: Write>(alloc: Global, writer: &mut W, verdict: Verdict) -> St
 
 /// Checks a trace, and writes the verdict.
 fn judge<R: Receiver, W: Write>(alloc: Global, trace: &Trace, writer: &mut W) -> Status
-    ensures { Written (IsJudgedText R.opening_state R.apply R.decode trace.now.happenings) (W.contents writer.old) (W.contents writer.new) result }
+    ensures { Written (IsJudgedText R.opening_state R.apply R.decode trace.now.events) (W.contents writer.old) (W.contents writer.new) result }
 {
     match check::<R>(alloc, trace) {
         Ok(verdict) => tell_verdict(alloc, writer, verdict),

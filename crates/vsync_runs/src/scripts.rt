@@ -41,8 +41,8 @@ fn tell<R: Receiver, W: Write>(
 ) -> Status
     ensures { Written (IsLinesText (lines_of_run lines.now world.now.history.replies world.now.history.trace) ran) (W.contents writer.old) (W.contents writer.new) result }
 {
-    let happenings = world.trace().happenings();
-    match write_run(alloc, writer, lines, world.replies(), happenings) {
+    let events = world.trace().events();
+    match write_run(alloc, writer, lines, world.replies(), events) {
         Printed::Failed => Status::Outside,
         Printed::Memory => end_in_memory(writer),
         Printed::All => {

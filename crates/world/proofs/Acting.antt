@@ -3,8 +3,8 @@ use Rattle.std.proofs.Common.{◌≡◌, ℕ, List, ◌∷◌, [], Option, Some,
 use Rattle.std.specs.Borrow.{Bor}
 use Rattle.std.proofs.lemmas.List.{append-nil}
 use Rattle.address.specs.Ids.{Address}
-use Rattle.trace_props.specs.declared.happening.Happening.{Happening}
-use Rattle.trace_props.specs.declared.happening.Happening.TheVariants.{Crashed}
+use Rattle.trace_props.specs.declared.event.Event.{Event}
+use Rattle.trace_props.specs.declared.event.Event.TheVariants.{Crashed}
 use Rattle.agreement.specs.Cores.{Core}
 use Rattle.agreement.proofs.Stepping
 use Rattle.member.specs.declared.input.Input.{Input}
@@ -34,12 +34,12 @@ use Rattle.world.proofs.Starting
 module _ {S : Type 0} (opening : S) (apply : S → Address → List ℕ → S) (encode : S → List ℕ) (decode : List ℕ → Option S) (is_state : S → Type 0)
     (laws : Stepping.Laws opening apply encode decode is_state) (at new : ℕ → Seat S) (n : ℕ) (h : History) (w : Turning.World opening apply encode decode is_state at h)
     (others : OthersStand n at new) where
-  abbrev Turned : WorldEvent → Answer → List Happening → List (List ℕ) → Type 0
+  abbrev Turned : WorldEvent → Answer → List Event → List (List ℕ) → Type 0
   Turned e a t pool = Taking.Turned opening apply encode decode is_state new n h e a t pool
 
   -- ---- where no member runs
 
-  refused : (e : WorldEvent) (r : Refusal) (old now : Seat S) (a : Answer) (t : List Happening) (pool : List (List ℕ)) → at n ≡ old → new n ≡ now → Answers h e (Refused r) []
+  refused : (e : WorldEvent) (r : Refusal) (old now : Seat S) (a : Answer) (t : List Event) (pool : List (List ℕ)) → at n ≡ old → new n ≡ now → Answers h e (Refused r) []
       → Stays r old h.trace a now t → pool ≡ h.pool → Turned e a t pool
   refused e r old now a t pool was is answers g same = subst (λ (b : Answer). Turned e b t pool) (sym g.answer) (record {
     ps = [];
@@ -58,7 +58,7 @@ module _ {S : Type 0} (opening : S) (apply : S → Address → List ℕ → S) (
     over : (p : Address) → last_of n h.trace ≡ Some p → IsSeatOf {S = S} n (last_of n h.trace) (is_connected n h) h.trace (Ended p) → Answers h e (Refused Closed) []
     table : (m : MemberModel S) (c : Core S) → Facts.Runs opening apply encode decode is_state h n m c → Taking.Tabled opening apply encode decode is_state h n m c e i
 
-  handed-at : (e : WorldEvent) (i : Input) (old now : Seat S) (a : Answer) (t : List Happening) (pool : List (List ℕ)) → Handed e i → at n ≡ old → new n ≡ now
+  handed-at : (e : WorldEvent) (i : Input) (old now : Seat S) (a : Answer) (t : List Event) (pool : List (List ℕ)) → Handed e i → at n ≡ old → new n ≡ now
       → IsSeatOf n (last_of n h.trace) (is_connected n h) h.trace old → Hands apply encode decode i old h.trace h.pool a now t pool → Turned e a t pool
   handed-at e i Vacant now a t pool x was is k g = refused e NotConnected Vacant now a t pool was is (x.never k) g.0 g.1
   handed-at e i (Ended p) now a t pool x was is k g = refused e Closed (Ended p) now a t pool was is (x.over p k.0 k) g.0 g.1
@@ -66,7 +66,7 @@ module _ {S : Type 0} (opening : S) (apply : S → Address → List ℕ → S) (
       let y = Facts.running-here opening apply encode decode is_state at h n m w was in
       Taking.hands-turn opening apply encode decode is_state laws at new n h e i m y.0 w was y.1 (x.table m y.0 y.1) others a now t pool is g
 
-  handed : (e : WorldEvent) (i : Input) (a : Answer) (t : List Happening) (pool : List (List ℕ)) → Handed e i → Hands apply encode decode i (at n) h.trace h.pool a (new n) t pool
+  handed : (e : WorldEvent) (i : Input) (a : Answer) (t : List Event) (pool : List (List ℕ)) → Handed e i → Hands apply encode decode i (at n) h.trace h.pool a (new n) t pool
       → Turned e a t pool
   handed e i a t pool x g = handed-at e i (at n) (new n) a t pool x refl refl (w.seats n) g
 
@@ -127,7 +127,7 @@ module _ {S : Type 0} (opening : S) (apply : S → Address → List ℕ → S) (
 
   -- ---- a crash
 
-  crash-at : (old now : Seat S) (a : Answer) (t : List Happening) (pool : List (List ℕ)) → at n ≡ old → new n ≡ now
+  crash-at : (old now : Seat S) (a : Answer) (t : List Event) (pool : List (List ℕ)) → at n ≡ old → new n ≡ now
       → IsSeatOf n (last_of n h.trace) (is_connected n h) h.trace old → CrashGives old h.trace a now t → pool ≡ h.pool → Turned (Crash n) a t pool
   crash-at Vacant now a t pool was is k g same = refused (Crash n) NotConnected Vacant now a t pool was is (at-none _ k) g same
   crash-at (Ended p) now a t pool was is k g same = refused (Crash n) Closed (Ended p) now a t pool was is (at-ended _ p k) g same
@@ -151,14 +151,14 @@ module _ {S : Type 0} (opening : S) (apply : S → Address → List ℕ → S) (
       member-is j e = let same : target.Member j ≡ target.Member n = e in cc
 
   -- a payload is lent only to one that runs
-  sent-at : (payload : List ℕ) (a : Answer) (t : List Happening) (pool : List (List ℕ)) (old : Seat S) → at n ≡ old → IsSeatOf n (last_of n h.trace) (is_connected n h) h.trace old
+  sent-at : (payload : List ℕ) (a : Answer) (t : List Event) (pool : List (List ℕ)) (old : Seat S) → at n ≡ old → IsSeatOf n (last_of n h.trace) (is_connected n h) h.trace old
       → HandsLent apply encode decode input.Send payload old h.trace h.pool a (new n) t pool → Turned (Send n payload) a t pool
   sent-at payload a t pool Vacant was k g = refused (Send n payload) NotConnected Vacant (new n) a t pool was refl (at-none _ k) g.0 g.1
   sent-at payload a t pool (Ended p) was k g = refused (Send n payload) Closed (Ended p) (new n) a t pool was refl (at-ended _ p k) g.0 g.1
   sent-at payload a t pool (Running m) was k g =
       subst (λ (y : List ℕ). Turned (Send n y) a t pool) g.1 (handed-at (Send n g.0.now) (input.Send g.0) (Running m) (new n) a t pool (send-handed g.0) was refl k g.2)
 
-  pub acts-turn : (e : WorldEvent) (a : Answer) (t : List Happening) (pool : List (List ℕ)) → target_of e ≡ target.Member n
+  pub acts-turn : (e : WorldEvent) (a : Answer) (t : List Event) (pool : List (List ℕ)) → target_of e ≡ target.Member n
       → Acts opening apply encode decode e (at n) h.trace h.pool a (new n) t pool → Turned e a t pool
   acts-turn (Start k) a t pool here g =
       to-node k (λ j. Acts opening apply encode decode (Start j) (at n) h.trace h.pool a (new n) t pool → Turned (Start j) a t pool) here

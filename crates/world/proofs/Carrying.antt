@@ -3,7 +3,7 @@ use Rattle.std.proofs.Common.{◌≡◌, ℕ, List, ◌++◌, Option, Some, None
 use Rattle.std.specs.Option.{option_map}
 use Rattle.std.proofs.lemmas.Option.{none-some}
 use Rattle.address.specs.Ids.{Address}
-use Rattle.trace_props.specs.declared.happening.Happening.{Happening}
+use Rattle.trace_props.specs.declared.event.Event.{Event}
 use Rattle.trace_props.specs.State.{state_of}
 use Rattle.agreement.specs.Cores.{Core}
 use Rattle.agreement.proofs.Stepping
@@ -49,14 +49,14 @@ module _ {S : Type 0} (opening : S) (apply : S → Address → List ℕ → S) (
   -- ---- one event
 
   -- what an event comes to: a step of the world, and all that a world keeps
-  pub record Carried (at new : ℕ → Seat S) (h : History) (e : WorldEvent) (a : Answer) (t : List Happening) (pool : List (List ℕ)) : Type 0 where
+  pub record Carried (at new : ℕ → Seat S) (h : History) (e : WorldEvent) (a : Answer) (t : List Event) (pool : List (List ℕ)) : Type 0 where
     pub ps : List (List ℕ)
-    pub s : List Happening
+    pub s : List Event
     pub trace : t ≡ h.trace ++ s
     pub puts : pool ≡ h.pool ++ ps
     pub world : World new (then h e a pool t)
 
-  to-world : (at new : ℕ → Seat S) (n : ℕ) (h : History) (e : WorldEvent) (a : Answer) (t : List Happening) (pool : List (List ℕ)) → World at h → OthersStand n at new
+  to-world : (at new : ℕ → Seat S) (n : ℕ) (h : History) (e : WorldEvent) (a : Answer) (t : List Event) (pool : List (List ℕ)) → World at h → OthersStand n at new
       → Taking.Turned opening apply encode decode is_state new n h e a t pool → Carried at new h e a t pool
   to-world at new n h e a t pool w others x = record {
     ps = x.ps;
@@ -65,7 +65,7 @@ module _ {S : Type 0} (opening : S) (apply : S → Address → List ℕ → S) (
     puts = x.puts;
     world =
         subst (λ (l : List (List ℕ)). World new (then h e a l t)) (sym x.puts)
-        (subst (λ (u : List Happening). World new (then h e a (h.pool ++ x.ps) u)) (sym x.trace)
+        (subst (λ (u : List Event). World new (then h e a (h.pool ++ x.ps) u)) (sym x.trace)
         (Turning.turned opening apply encode decode is_state at new n h e a x.ps x.s w x.turn others));
   }
 
@@ -81,7 +81,7 @@ module _ {S : Type 0} (opening : S) (apply : S → Address → List ℕ → S) (
   packet-is (Leave m) k e = absurd (let bad : target.Member m ≡ target.Packet k = e in cc)
   packet-is (Crash m) k e = absurd (let bad : target.Member m ≡ target.Packet k = e in cc)
 
-  turned-by : Stepping.Laws opening apply encode decode is_state → (at new : ℕ → Seat S) (h : History) (e : WorldEvent) (a : Answer) (t : List Happening) (pool : List (List ℕ)) (b : Target)
+  turned-by : Stepping.Laws opening apply encode decode is_state → (at new : ℕ → Seat S) (h : History) (e : WorldEvent) (a : Answer) (t : List Event) (pool : List (List ℕ)) (b : Target)
       → target_of e ≡ b → World at h → Carries opening apply encode decode b e at h.trace h.pool a new t pool → Carried at new h e a t pool
   turned-by laws at new h e a t pool (target.Member n) here w g =
       to-world at new n h e a t pool w g.1 (Acting.acts-turn opening apply encode decode is_state laws at new n h w g.1 e a t pool here g.0)
@@ -89,7 +89,7 @@ module _ {S : Type 0} (opening : S) (apply : S → Address → List ℕ → S) (
       let x = Delivering.delivered opening apply encode decode is_state at h w k laws new (packet_numbered k h.pool) a t pool refl g in
       subst (λ (d : WorldEvent). Carried at new h d a t pool) (sym (packet-is e k here)) (to-world at new x.0 h (Deliver k) a t pool w x.1 x.2)
 
-  pub world-carries : Stepping.Laws opening apply encode decode is_state → (at new : ℕ → Seat S) (h : History) (e : WorldEvent) (a : Answer) (t : List Happening) (pool : List (List ℕ))
+  pub world-carries : Stepping.Laws opening apply encode decode is_state → (at new : ℕ → Seat S) (h : History) (e : WorldEvent) (a : Answer) (t : List Event) (pool : List (List ℕ))
       → World at h → Carries opening apply encode decode (target_of e) e at h.trace h.pool a new t pool → World new (then h e a pool t)
   world-carries laws at new h e a t pool w g = (turned-by laws at new h e a t pool (target_of e) refl w g).world
 

@@ -9,9 +9,9 @@ use Rattle.address.specs.Ids.{Address, ViewId}
 use Rattle.view.specs.Members.{View, stands_in}
 use Rattle.packet_values.specs.declared.limits.TheConstants.{WINDOW}
 use Rattle.packet_values.specs.Values.{held_at}
-use Rattle.trace_props.specs.declared.happening.Happening.{Happening}
-use Rattle.trace_props.specs.declared.happening.Install.{Install}
-use Rattle.trace_props.specs.declared.happening.Message.{Message}
+use Rattle.trace_props.specs.declared.event.Event.{Event}
+use Rattle.trace_props.specs.declared.event.Install.{Install}
+use Rattle.trace_props.specs.declared.event.Message.{Message}
 use Rattle.trace_props.specs.Observed.{delivered_in, entry_of}
 use Rattle.trace_props.specs.Rules.{HasOneOrder}
 use Rattle.agreement.specs.Words.{list_of, members_of, open_count, Tally}

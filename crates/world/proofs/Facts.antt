@@ -3,7 +3,7 @@ use Rattle.std.proofs.Common.{◌≡◌, ℕ, ◌+◌, false, Option, Some, None
 use Rattle.std.specs.Option.{IsSomeAnd, option_map_or}
 use Rattle.address.specs.Ids.{Address}
 use Rattle.view.specs.Members.{View}
-use Rattle.trace_props.specs.declared.happening.Happening.{Happening}
+use Rattle.trace_props.specs.declared.event.Event.{Event}
 use Rattle.trace_props.specs.Observed.{has_ended, current_view, sent_in, delivered_in, own}
 use Rattle.agreement.specs.Cores.{Core, id_of}
 use Rattle.agreement.specs.Members.{MemberFact, ViewFact}
@@ -65,7 +65,7 @@ module _ {S : Type 0} (opening : S) (apply : S → Address → List ℕ → S) (
     pub is-running : running n h.trace ≡ Some m.address
     is-running = rw (x.last, going) refl
 
-    pub at-member : (a : Answer) (s : List Happening) (At : Address → Type 0) → At m.address → AtMember n h a s At
+    pub at-member : (a : Answer) (s : List Event) (At : Address → Type 0) → At m.address → AtMember n h a s At
     at-member a s At y = rw (x.last, going) y
 
     pub connected : is_connected m.address.node h ≡ c.connected

@@ -6,7 +6,7 @@ use Rattle.std.specs.Borrow.{Bor}
 use Rattle.address.specs.Ids.{Address}
 use Rattle.wire.specs.Packets.{IsPacket, spelling}
 use Rattle.wire.proofs.OneSpelling.{spelled_read}
-use Rattle.trace_props.specs.declared.happening.Happening.{Happening}
+use Rattle.trace_props.specs.declared.event.Event.{Event}
 use Rattle.agreement.specs.Histories.{Posted}
 use Rattle.member.specs.declared.error.Error.{Error}
 use Rattle.member.specs.declared.input.Input.{Input}
@@ -38,7 +38,7 @@ module _ {S : Type 0} (apply : S → Address → List ℕ → S) (encode : S →
   fits m left input (Err e) h = tt
 
   -- what comes of a call at the node
-  pub handed-here : (input : Input) (m left : MemberModel S) (r : Result Output Error) (p : Address) (t now : List Happening) (pool more : List (List ℕ)) (a : Answer) (new : Seat S)
+  pub handed-here : (input : Input) (m left : MemberModel S) (r : Result Output Error) (p : Address) (t now : List Event) (pool more : List (List ℕ)) (a : Answer) (new : Seat S)
       → Handled apply encode decode m input r left → p ≡ m.address → Gives p input r left t pool a new now more → HandsHere apply encode decode input m t pool a new now more
   handed-here input m left r p t now pool more a new h is g = record {
     result = r;
@@ -48,12 +48,12 @@ module _ {S : Type 0} (apply : S → Address → List ℕ → S) (encode : S →
   }
 
   -- bytes that are handed to a member that runs
-  pub heard : (b : Bor (List ℕ)) (bytes : List ℕ) (s : Seat S) (m : MemberModel S) (t : List Happening) (pool more : List (List ℕ)) (a : Answer) (new : Seat S) (now : List Happening)
+  pub heard : (b : Bor (List ℕ)) (bytes : List ℕ) (s : Seat S) (m : MemberModel S) (t : List Event) (pool more : List (List ℕ)) (a : Answer) (new : Seat S) (now : List Event)
       → s ≡ Running m → b.now ≡ bytes → HandsHere apply encode decode (Datagram b) m t pool a new now more → Hears apply encode decode bytes s t pool a new now more
   heard b bytes s m t pool more a new now is same g = rw is (b, same, g)
 
   -- what is handed with a payload that is lent
-  pub lent : (input : Bor (List ℕ) → Input) (b : Bor (List ℕ)) (bytes : List ℕ) (s : Seat S) (t : List Happening) (pool more : List (List ℕ)) (a : Answer) (new : Seat S) (now : List Happening)
+  pub lent : (input : Bor (List ℕ) → Input) (b : Bor (List ℕ)) (bytes : List ℕ) (s : Seat S) (t : List Event) (pool more : List (List ℕ)) (a : Answer) (new : Seat S) (now : List Event)
       → b.now ≡ bytes → Hands apply encode decode (input b) s t pool a new now more → HandsLent apply encode decode input bytes s t pool a new now more
   lent input b bytes Vacant t pool more a new now is g = g
   lent input b bytes (Ended p) t pool more a new now is g = g

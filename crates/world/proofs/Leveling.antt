@@ -14,7 +14,7 @@ use Rattle.packet_values.specs.Values.{Entry, Missing, held_at}
 use Rattle.nak_stream.specs.Windows.{WindowModel, IsLeastGap, IsGreatestGap}
 use Rattle.wire.specs.declared.packet.Body.{Body}
 use Rattle.wire.specs.declared.packet.Body.TheVariants as bodies
-use Rattle.trace_props.specs.declared.happening.Happening.{Happening}
+use Rattle.trace_props.specs.declared.event.Event.{Event}
 use Rattle.trace_props.specs.Observed.{delivered_in}
 use Rattle.trace_props.proofs.Observing.{same_address-refl, same_address-true, same_address-sym}
 use Rattle.trace_props.proofs.Places.{slice_get-before}

@@ -6,22 +6,22 @@ use Rattle.std.proofs.lemmas.Option.{none-some, same_Some}
 use Rattle.address.specs.Ids.{Address, same_address}
 use Rattle.view.specs.Members.{View}
 use Rattle.packet_values.specs.Values.{Entry}
-use Rattle.trace_props.specs.declared.happening.Happening.{Happening}
+use Rattle.trace_props.specs.declared.event.Event.{Event}
 use Rattle.trace_props.specs.Observed.{member_of, is_start}
 use Rattle.trace_props.proofs.Observing.{same_address-from}
 use Rattle.agreement.specs.Histories.{Posted}
 use Rattle.agreement.specs.Cores.{Core, is_open}
-use Rattle.agreement.specs.Acts.{Act, Creates, Joins, Puts, Sends, Queues, Orders, Hears, Collects, Holds, Delivers, Promises, Begins, Records, Finishes, Enters, Leaves, after, happenings_of, deliveries, delivery, entering, blocking}
-use Rattle.agreement.specs.Chains.{Acted, Chain, happenings_along}
+use Rattle.agreement.specs.Acts.{Act, Creates, Joins, Puts, Sends, Queues, Orders, Hears, Collects, Holds, Delivers, Promises, Begins, Records, Finishes, Enters, Leaves, after, events_of, deliveries, delivery, entering, blocking}
+use Rattle.agreement.specs.Chains.{Acted, Chain, events_along}
 use Rattle.world_model.specs.Faithful.{is_quiet, are_quiet}
 
-abbrev pub IsOwn : Address → Happening → Type 0
+abbrev pub IsOwn : Address → Event → Type 0
 IsOwn p x = (member_of x ≡ p) × (is_start x ≡ false)
 
-abbrev pub EachOwn : Address → List Happening → Type 0
+abbrev pub EachOwn : Address → List Event → Type 0
 EachOwn p s = AllByRecursion (IsOwn p) s
 
-own-append : (p : Address) (s t : List Happening) → EachOwn p s → EachOwn p t → EachOwn p (s ++ t)
+own-append : (p : Address) (s t : List Event) → EachOwn p s → EachOwn p t → EachOwn p (s ++ t)
 own-append p [] t a b = b
 own-append p (x ∷ s) t a b = (a.0, own-append p s t a.1 b)
 
@@ -41,7 +41,7 @@ module _ {S : Type 0} (apply : S → Address → List ℕ → S) (encode : S →
   own-blocking c true e = rw e ((refl, refl), tt)
   own-blocking c false e = rw e tt
 
-  own-act : (c : Core S) (a : Act) → EachOwn c.me (happenings_of c a)
+  own-act : (c : Core S) (a : Act) → EachOwn c.me (events_of c a)
   own-act c Creates = own-entering c [] _ _ None
   own-act c Joins = tt
   own-act c (Puts q body) = tt
@@ -82,20 +82,20 @@ module _ {S : Type 0} (apply : S → Address → List ℕ → S) (encode : S →
   me-stays c d Leaves e = absurd (none-some d e)
 
   own-chain : (p : Address) (came : Option Posted) (acts : List Act) (o end : Option (Core S)) → ((d : Core S) → o ≡ Some d → d.me ≡ p) → Chain apply encode decode came o acts end
-      → EachOwn p (happenings_along apply encode decode o acts)
+      → EachOwn p (events_along apply encode decode o acts)
   own-chain p came [] o end me x = tt
   own-chain p came (a ∷ acts) None end me x = absurd x
   own-chain p came (a ∷ acts) (Some c) end me x =
-      own-append p (happenings_of c a) _ (subst (λ (q : Address). EachOwn q (happenings_of c a)) (me c refl) (own-act c a))
+      own-append p (events_of c a) _ (subst (λ (q : Address). EachOwn q (events_of c a)) (me c refl) (own-act c a))
       (own-chain p came acts (after apply encode decode c a) end (λ d e. me-stays c d a e ∙ me c refl) x.1)
 
-  pub own-acted : (p : Address) (c : Core S) (came : Option Posted) (posted : List Posted) (s : List Happening) (end : Option (Core S)) → c.me ≡ p
+  pub own-acted : (p : Address) (c : Core S) (came : Option Posted) (posted : List Posted) (s : List Event) (end : Option (Core S)) → c.me ≡ p
       → Acted apply encode decode came (Some c) posted s end → EachOwn p s
   own-acted p c came posted s end me x =
       subst (EachOwn p) (sym x.happens) (own-chain p came x.acts (Some c) end (λ d e. sym (ap me_of (same_Some c d e)) ∙ me) x.chain)
 
 -- what happens to one member and is asked for by no event by itself is quiet for it
-pub own-quiet : (p : Address) (s : List Happening) → EachOwn p s → list_all is_quiet s ≡ true → are_quiet p s ≡ true
+pub own-quiet : (p : Address) (s : List Event) → EachOwn p s → list_all is_quiet s ≡ true → are_quiet p s ≡ true
 own-quiet p [] own quiet = refl
 own-quiet p (x ∷ s) own quiet =
     let q = and_parts (is_quiet x) (list_all is_quiet s) quiet in

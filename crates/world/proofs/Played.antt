@@ -5,9 +5,9 @@ use Rattle.std.specs.Borrow.{Bor}
 use Rattle.std.specs.Option.{IsSomeAnd, option_map}
 use Rattle.std.proofs.lemmas.Option.{none-some}
 use Rattle.address.specs.Ids.{Address}
-use Rattle.trace_props.specs.declared.happening.Happening.{Happening}
-use Rattle.trace_props.specs.declared.happening.Happening.TheVariants.{Started, Delivered, Blocked, Installed, Left, Crashed}
-use Rattle.trace_props.specs.declared.happening.Happening.TheVariants as happening
+use Rattle.trace_props.specs.declared.event.Event.{Event}
+use Rattle.trace_props.specs.declared.event.Event.TheVariants.{Started, Delivered, Blocked, Installed, Left, Crashed}
+use Rattle.trace_props.specs.declared.event.Event.TheVariants as event
 use Rattle.agreement.specs.Histories.{Posted}
 use Rattle.agreement.specs.Cores.{Core}
 use Rattle.output.specs.declared.output.Output.{Output}
@@ -32,10 +32,10 @@ use Rattle.world.specs.Gaps.{lacks_memory}
 use Rattle.world.proofs.Taking.{when-true, when-false}
 
 -- what happened is no want of memory
-lacks-nothing : (hs : List Happening) → lacks_memory (answer_to hs) ≡ false
+lacks-nothing : (hs : List Event) → lacks_memory (answer_to hs) ≡ false
 lacks-nothing [] = refl
 lacks-nothing (Started p ∷ hs) = refl
-lacks-nothing (happening.Sent s ∷ hs) = refl
+lacks-nothing (event.Sent s ∷ hs) = refl
 lacks-nothing (Delivered d ∷ hs) = refl
 lacks-nothing (Blocked p ∷ hs) = refl
 lacks-nothing (Installed i ∷ hs) = refl
@@ -44,23 +44,23 @@ lacks-nothing (Crashed p ∷ hs) = refl
 
 module _ {S : Type 0} (opening : S) (apply : S → Address → List ℕ → S) (encode : S → List ℕ) (decode : List ℕ → Option S) where
   -- a running member took an input, and runs on
-  pub record Taken (input : Input) (m : MemberModel S) (t : List Happening) (pool : List (List ℕ)) (new : Seat S) (t' : List Happening) (pool' : List (List ℕ)) : Type 0 where
+  pub record Taken (input : Input) (m : MemberModel S) (t : List Event) (pool : List (List ℕ)) (new : Seat S) (t' : List Event) (pool' : List (List ℕ)) : Type 0 where
     pub out : Output
     pub left : MemberModel S
     pub handled : Handled apply encode decode m input (Ok out) left
     pub seat : new ≡ (if leaves input then Ended m.address else Running left)
-    pub trace : t' ≡ t ++ out.happenings.items
+    pub trace : t' ≡ t ++ out.events.items
     pub puts : pool' ≡ pool ++ map bytes_of out.packets.items
 
   -- or it crashed for want of memory
-  pub record Lost (p : Address) (t : List Happening) (pool : List (List ℕ)) (t' : List Happening) (pool' : List (List ℕ)) : Type 0 where
+  pub record Lost (p : Address) (t : List Event) (pool : List (List ℕ)) (t' : List Event) (pool' : List (List ℕ)) : Type 0 where
     pub trace : t' ≡ t ++ Crashed p ∷ []
     pub puts : pool' ≡ pool
 
-  abbrev pub Outcome : Input → MemberModel S → List Happening → List (List ℕ) → Answer → Seat S → List Happening → List (List ℕ) → Type 0
+  abbrev pub Outcome : Input → MemberModel S → List Event → List (List ℕ) → Answer → Seat S → List Event → List (List ℕ) → Type 0
   Outcome input m t pool a new t' pool' = ((lacks_memory a ≡ false) × Taken input m t pool new t' pool') ⊎ ((lacks_memory a ≡ true) × Lost m.address t pool t' pool')
 
-  module _ (input : Input) (m : MemberModel S) (t : List Happening) (pool : List (List ℕ)) (a : Answer) (new : Seat S) (t' : List Happening) (pool' : List (List ℕ))
+  module _ (input : Input) (m : MemberModel S) (t : List Event) (pool : List (List ℕ)) (a : Answer) (new : Seat S) (t' : List Event) (pool' : List (List ℕ))
       (free : refusal_of m input ≡ None) (readable : is_unreadable decode m input ≡ false) where
     by-error : (b : Bool) (e : Error) (left : MemberModel S) → is_memory e ≡ b → Handled apply encode decode m input (Err e) left → Gives m.address input (Err e) left t pool a new t' pool'
         → Outcome input m t pool a new t' pool'
@@ -74,7 +74,7 @@ module _ {S : Type 0} (opening : S) (apply : S → Address → List ℕ → S) (
     by-result : (result : Result Output Error) (left : MemberModel S) → Handled apply encode decode m input result left → Gives m.address input result left t pool a new t' pool'
         → Outcome input m t pool a new t' pool'
     by-result (Ok out) left handled (inl g) =
-        inl (ap lacks_memory g.answer ∙ lacks-nothing out.happenings.items, record { out = out; left = left; handled = handled; seat = g.seat; trace = g.trace; puts = g.puts })
+        inl (ap lacks_memory g.answer ∙ lacks-nothing out.events.items, record { out = out; left = left; handled = handled; seat = g.seat; trace = g.trace; puts = g.puts })
     by-result (Ok out) left handled (inr g) = inr (ap lacks_memory g.1.answer, record { trace = g.1.trace; puts = g.1.puts })
     by-result (Err e) left handled g = by-error (is_memory e) e left refl handled g
 

@@ -13,7 +13,7 @@ use Rattle.wire.specs.Packets.{IsPacket, spelling, packet_of, wire_refusal}
 use Rattle.wire.specs.declared.packet.Body.{Body}
 use Rattle.wire.specs.declared.packet.Body.TheVariants as bodies
 use Rattle.wire.proofs.OneSpelling.{spelled_read}
-use Rattle.trace_props.specs.declared.happening.Happening.{Happening}
+use Rattle.trace_props.specs.declared.event.Event.{Event}
 use Rattle.trace_props.proofs.Observing.{same_address-refl, same_view_id-refl}
 use Rattle.agreement.specs.Histories.{Posted}
 use Rattle.agreement.specs.Cores.{Core, is_frozen}
@@ -125,17 +125,17 @@ module _ {S : Type 0} (opening : S) (apply : S → Address → List ℕ → S) (
       }
 
   replies-in : (w : WorldModel S) (p : Address) (l : Life S) (t : Traffic) (r : RunsAs w p l t) (i : Input) (out : Output) (left : MemberModel S) → Handled apply encode decode r.member i (Ok out) left
-      → Replies (core_at p l) i out.happenings.items (core_of left)
+      → Replies (core_at p l) i out.events.items (core_of left)
   replies-in w p l t r i out left handled =
-      subst (λ (o : Option (Core S)). IsSomeAnd o (λ d. Replies d i out.happenings.items (core_of left))) (core-is w p l t r) handled.reply
+      subst (λ (o : Option (Core S)). IsSomeAnd o (λ d. Replies d i out.events.items (core_of left))) (core-is w p l t r) handled.reply
 
   -- all that was put out and happened
-  module _ (start out : Output) (nothing : Puts [] [] start) (posted : List Posted) (happened : List Happening) (x : Grows world_group start out posted happened) where
+  module _ (start out : Output) (nothing : Puts [] [] start) (posted : List Posted) (happened : List Event) (x : Grows world_group start out posted happened) where
     pub put-out : map bytes_of out.packets.items ≡ bytes_for posted
     put-out = ap (map bytes_of) (x.packets ∙ ap (λ (l : List _). l ++ map (spelled world_group) posted) nothing.packets)
 
-    pub happens : out.happenings.items ≡ happened
-    happens = x.happenings ∙ ap (λ (l : List Happening). l ++ happened) nothing.happenings
+    pub happens : out.events.items ≡ happened
+    happens = x.events ∙ ap (λ (l : List Event). l ++ happened) nothing.events
 
   -- ---- a tick of the coordinator
 
@@ -179,7 +179,7 @@ module _ {S : Type 0} (opening : S) (apply : S → Address → List ℕ → S) (
           installed = r.installed;
         };
         others = others;
-        trace = x.trace ∙ ap (λ (hs : List Happening). old.history.trace ++ hs) (happens d.start x.out d.nothing (statuses c k) [] g) ∙ append-nil old.history.trace;
+        trace = x.trace ∙ ap (λ (hs : List Event). old.history.trace ++ hs) (happens d.start x.out d.nothing (statuses c k) [] g) ∙ append-nil old.history.trace;
         puts = x.puts ∙ ap (λ (ps : List (List ℕ)). old.history.pool ++ ps) (put-out d.start x.out d.nothing (statuses c k) [] g);
         sound = g.sound;
       }
@@ -212,7 +212,7 @@ module _ {S : Type 0} (opening : S) (apply : S → Address → List ℕ → S) (
     pub nothing : Puts [] [] start
     pub hears : hearing.Hears apply encode decode world_group q m.source m.body l after start out
     pub others : OthersStand q.node old.seats new.seats
-    pub trace : new.history.trace ≡ old.history.trace ++ out.happenings.items
+    pub trace : new.history.trace ≡ old.history.trace ++ out.events.items
     pub puts : new.history.pool ≡ old.history.pool ++ map bytes_of out.packets.items
 
   -- a packet of the pool that this member is handed

@@ -8,9 +8,9 @@ use Rattle.address.specs.Ids.{Address, ViewId, same_address}
 use Rattle.view.specs.Members.{View}
 use Rattle.address.specs.declared.TheConstants.{GREATEST_NUMBER}
 use Rattle.packet_values.specs.declared.limits.TheConstants.{PAYLOAD, WINDOW}
-use Rattle.trace_props.specs.declared.happening.Happening.{Happening}
-use Rattle.trace_props.specs.declared.happening.Happening.TheVariants.{Delivered, Crashed}
-use Rattle.trace_props.specs.declared.happening.Happening.TheVariants as happening
+use Rattle.trace_props.specs.declared.event.Event.{Event}
+use Rattle.trace_props.specs.declared.event.Event.TheVariants.{Delivered, Crashed}
+use Rattle.trace_props.specs.declared.event.Event.TheVariants as event
 use Rattle.trace_props.specs.Observed.{is_blocked, current_view, sent_in, delivered_in}
 use Rattle.agreement.specs.Cores.{Core, is_frozen}
 use Rattle.sequencer.specs.declared.TheConstants.{OUTSTANDING}
@@ -75,20 +75,20 @@ module _ {S : Type 0} (opening : S) (apply : S → Address → List ℕ → S) (
     lost-in : MaySend c payload → AnswersSend payload m.address h (Refused Memory) (Crashed m.address ∷ [])
     lost-in may = rw (current, may.long, block-is false may.frozen, busy-is false may.busy, unused c.traffic.sent _ count may.used) (inr (refl, refl))
 
-    abbrev sent-happening : ℕ → Address → Happening
-    sent-happening k p = happening.Sent (record { member = p; view = v.id; message = record { number = k; payload = payload } })
+    abbrev sent-event : ℕ → Address → Event
+    sent-event k p = event.Sent (record { member = p; view = v.id; message = record { number = k; payload = payload } })
 
-    taken-in : (s : List Happening) → MaySend c payload → EachOwn m.address s → s ≡ sent-happening (c.traffic.sent + 1) c.me ∷ drop 1 s → list_all member.is_quiet (drop 1 s) ≡ true
+    taken-in : (s : List Event) → MaySend c payload → EachOwn m.address s → s ≡ sent-event (c.traffic.sent + 1) c.me ∷ drop 1 s → list_all member.is_quiet (drop 1 s) ≡ true
         → AnswersSend payload m.address h (Sent (c.traffic.sent + 1)) s
     taken-in s may own first quiet =
         let next : SendsNext m.address v.id payload h.trace (Sent (c.traffic.sent + 1)) s = record {
           number = ap (λ k. Sent (k + 1)) (sym count);
-          first = first ∙ ap (λ p. sent-happening (c.traffic.sent + 1) p ∷ drop 1 s) me-is ∙ ap (λ k. sent-happening (k + 1) m.address ∷ drop 1 s) (sym count);
+          first = first ∙ ap (λ p. sent-event (c.traffic.sent + 1) p ∷ drop 1 s) me-is ∙ ap (λ k. sent-event (k + 1) m.address ∷ drop 1 s) (sym count);
           quiet = own-quiet m.address (drop 1 s) (own-rest s own) (quiet-all (drop 1 s) quiet);
         } in
         rw (current, may.long, block-is false may.frozen, busy-is false may.busy, unused c.traffic.sent _ count may.used) (inl next)
       where
-        own-rest : (t : List Happening) → EachOwn m.address t → EachOwn m.address (drop 1 t)
+        own-rest : (t : List Event) → EachOwn m.address t → EachOwn m.address (drop 1 t)
         own-rest [] o = tt
         own-rest (y ∷ t) o = o.1
 
@@ -110,7 +110,7 @@ module _ {S : Type 0} (opening : S) (apply : S → Address → List ℕ → S) (
     counted k e low = omega arith
 
     -- a message that is told where it is sent is told promptly, whoever is asked for as the node's member and its view
-    prompt-in : (s : List Happening)
+    prompt-in : (s : List Event)
         → (same_address c.me v.id.creator ≡ true → c.traffic.delivered < c.traffic.stable + WINDOW → c.traffic.delivered < GREATEST_NUMBER
         → Contains s (Delivered (record { member = c.me; view = v.id; message = record { sender = c.me; number = c.traffic.sent + 1; payload = payload } })))
         → IsPrompt n payload h.trace (Sent (c.traffic.sent + 1)) s
@@ -146,13 +146,13 @@ module _ {S : Type 0} (opening : S) (apply : S → Address → List ℕ → S) (
   send-not err refused = not-at err c.view refl refused
 
   -- what is known where it takes a message
-  pub record SendTaken (s : List Happening) : Type 0 where
+  pub record SendTaken (s : List Event) : Type 0 where
     pub answer : answer_to s ≡ Sent (c.traffic.sent + 1)
     pub answers : AnswersSend payload m.address h (Sent (c.traffic.sent + 1)) s
     pub prompt : IsPrompt n payload h.trace (Sent (c.traffic.sent + 1)) s
 
-  taken-at : (s : List Happening) (o : Option View) → c.view ≡ o → MaySend c payload → EachOwn m.address s
-      → IsSomeAnd o (λ v. s ≡ happening.Sent (record { member = c.me; view = v.id; message = record { number = c.traffic.sent + 1; payload = payload } }) ∷ drop 1 s)
+  taken-at : (s : List Event) (o : Option View) → c.view ≡ o → MaySend c payload → EachOwn m.address s
+      → IsSomeAnd o (λ v. s ≡ event.Sent (record { member = c.me; view = v.id; message = record { number = c.traffic.sent + 1; payload = payload } }) ∷ drop 1 s)
       → list_all member.is_quiet (drop 1 s) ≡ true
       → IsSomeAnd o (λ v. same_address c.me v.id.creator ≡ true → c.traffic.delivered < c.traffic.stable + WINDOW → c.traffic.delivered < GREATEST_NUMBER
       → Contains s (Delivered (record { member = c.me; view = v.id; message = record { sender = c.me; number = c.traffic.sent + 1; payload = payload } })))
@@ -160,8 +160,8 @@ module _ {S : Type 0} (opening : S) (apply : S → Address → List ℕ → S) (
   taken-at s None e may own first quiet told = absurd first
   taken-at s (Some v) e may own first quiet told = record { answer = ap answer_to first; answers = taken-in v e s may own first quiet; prompt = prompt-in v e s told }
 
-  pub send-taken : (s : List Happening) → send_refusal c payload ≡ None → EachOwn m.address s
-      → IsSomeAnd c.view (λ v. s ≡ happening.Sent (record { member = c.me; view = v.id; message = record { number = c.traffic.sent + 1; payload = payload } }) ∷ drop 1 s)
+  pub send-taken : (s : List Event) → send_refusal c payload ≡ None → EachOwn m.address s
+      → IsSomeAnd c.view (λ v. s ≡ event.Sent (record { member = c.me; view = v.id; message = record { number = c.traffic.sent + 1; payload = payload } }) ∷ drop 1 s)
       → list_all member.is_quiet (drop 1 s) ≡ true
       → IsSomeAnd c.view (λ v. same_address c.me v.id.creator ≡ true → c.traffic.delivered < c.traffic.stable + WINDOW → c.traffic.delivered < GREATEST_NUMBER
       → Contains s (Delivered (record { member = c.me; view = v.id; message = record { sender = c.me; number = c.traffic.sent + 1; payload = payload } })))

@@ -6,7 +6,7 @@ use Rattle.address.specs.Ids.{Address, ViewId, same_address, same_view_id}
 use Rattle.view.specs.Members.{View}
 use Rattle.packet_values.specs.Values.{Entry, held_at}
 use Rattle.wire.specs.declared.packet.Body.TheVariants as bodies
-use Rattle.trace_props.specs.declared.happening.Happening.TheVariants.{Crashed}
+use Rattle.trace_props.specs.declared.event.Event.TheVariants.{Crashed}
 use Rattle.trace_props.proofs.Observing.{same_address-refl, same_address-sym, same_view_id-refl}
 use Rattle.agreement.specs.Histories.{Posted}
 use Rattle.agreement.specs.Cores.{Core, is_frozen}

@@ -6,8 +6,8 @@ use Rattle.std.proofs.lemmas.List.{append-nil}
 use Rattle.std.proofs.lemmas.Option.{none-some}
 use Rattle.address.specs.Ids.{Address}
 use Rattle.wire.specs.Packets.{IsPacket}
-use Rattle.trace_props.specs.declared.happening.Happening.{Happening}
-use Rattle.trace_props.specs.declared.happening.Happening.TheVariants.{Crashed}
+use Rattle.trace_props.specs.declared.event.Event.{Event}
+use Rattle.trace_props.specs.declared.event.Event.TheVariants.{Crashed}
 use Rattle.trace_props.specs.Observed.{has_ended}
 use Rattle.trace_props.proofs.Observing.{has_ended-now}
 use Rattle.agreement.specs.Histories.{Posted}
@@ -71,7 +71,7 @@ when-false false P Q e x = x
 
 module _ {S : Type 0} (opening : S) (apply : S → Address → List ℕ → S) (encode : S → List ℕ) (decode : List ℕ → Option S) (is_state : S → Type 0) where
   -- what an event comes to whose input a running member takes
-  pub record TakesSo (h : History) (n : ℕ) (m : MemberModel S) (e : WorldEvent) (input : Input) (a : Answer) (s : List Happening) (left : MemberModel S) : Type 0 where
+  pub record TakesSo (h : History) (n : ℕ) (m : MemberModel S) (e : WorldEvent) (input : Input) (a : Answer) (s : List Event) (left : MemberModel S) : Type 0 where
     pub answers : Answers h e a s
     pub prompt : SendsPromptly h.trace e a s
     pub ends : leaves input ≡ true → (core_of left ≡ None) × (has_ended m.address (h.trace ++ s) ≡ true)
@@ -89,13 +89,13 @@ module _ {S : Type 0} (opening : S) (apply : S → Address → List ℕ → S) (
     pub comes : Comes (posts_in h.pool) c (came_at m input)
     pub lost : refusal_in c input ≡ None → Answers h e (Refused Memory) (Crashed m.address ∷ [])
     pub not : (err : Error) → refusal_in c input ≡ Some err → RefusesSo h e (answer_for err)
-    pub taken : (out : Output) (left : MemberModel S) → Handled apply encode decode m input (Ok out) left → refusal_in c input ≡ None → EachOwn m.address out.happenings.items
-        → TakesSo h n m e input (answer_to out.happenings.items) out.happenings.items left
+    pub taken : (out : Output) (left : MemberModel S) → Handled apply encode decode m input (Ok out) left → refusal_in c input ≡ None → EachOwn m.address out.events.items
+        → TakesSo h n m e input (answer_to out.events.items) out.events.items left
 
   -- an event is a turn: what it put out, what happened
-  pub record Turned (new : ℕ → Seat S) (n : ℕ) (h : History) (e : WorldEvent) (a : Answer) (t : List Happening) (pool : List (List ℕ)) : Type 0 where
+  pub record Turned (new : ℕ → Seat S) (n : ℕ) (h : History) (e : WorldEvent) (a : Answer) (t : List Event) (pool : List (List ℕ)) : Type 0 where
     pub ps : List (List ℕ)
-    pub s : List Happening
+    pub s : List Event
     pub trace : t ≡ h.trace ++ s
     pub puts : pool ≡ h.pool ++ ps
     pub turn : Turning.Turn opening apply encode decode is_state new n h e a ps s
@@ -145,7 +145,7 @@ module _ {S : Type 0} (opening : S) (apply : S → Address → List ℕ → S) (
     left-core true left e same ends = sym (ends e)
     left-core false left e same ends = core-running m.address left same
 
-    left-seat : (b connected : Bool) (s : List Happening) (left : MemberModel S) → leaves input ≡ b → left.address ≡ m.address → last_of n (h.trace ++ s) ≡ Some m.address
+    left-seat : (b connected : Bool) (s : List Event) (left : MemberModel S) → leaves input ≡ b → left.address ≡ m.address → last_of n (h.trace ++ s) ≡ Some m.address
         → (leaves input ≡ true → has_ended m.address (h.trace ++ s) ≡ true) → (leaves input ≡ false → IsMember connected left) → IsAlive left.group left.address left.life
         → IsSeatOf n (last_of n (h.trace ++ s)) connected (h.trace ++ s) (cond b (Ended m.address) (Running left))
     left-seat true connected s left e same last ended stays alive = (last, x.node, ended e)
@@ -159,9 +159,9 @@ module _ {S : Type 0} (opening : S) (apply : S → Address → List ℕ → S) (
 
     taken-turn : (out : Output) (left : MemberModel S) (now : Seat S) → new n ≡ now → now ≡ cond (leaves input) (Ended m.address) (Running left)
         → Handled apply encode decode m input (Ok out) left → refusal_in c input ≡ None
-        → Turning.Turn opening apply encode decode is_state new n h e (answer_to out.happenings.items) (map bytes_of out.packets.items) out.happenings.items
+        → Turning.Turn opening apply encode decode is_state new n h e (answer_to out.events.items) (map bytes_of out.packets.items) out.events.items
     taken-turn out left now is seat handled free =
-        let s = out.happenings.items in
+        let s = out.events.items in
         let ps = map bytes_of out.packets.items in
         let did = handled.acted in
         let sound : EachSound did.posted = group-sound did.posted did.sound in
@@ -196,18 +196,18 @@ module _ {S : Type 0} (opening : S) (apply : S → Address → List ℕ → S) (
     readable : is_unreadable decode m input ≡ false
     readable = Readable.never-unreadable opening apply encode decode is_state laws (system_of at h.pool h.trace) m c input w.agreed x.core table.comes
 
-    taken : (out : Output) (left : MemberModel S) (a : Answer) (now : Seat S) (t : List Happening) (pool : List (List ℕ)) → new n ≡ now → Handled apply encode decode m input (Ok out) left
+    taken : (out : Output) (left : MemberModel S) (a : Answer) (now : Seat S) (t : List Event) (pool : List (List ℕ)) → new n ≡ now → Handled apply encode decode m input (Ok out) left
         → Takes m.address input out left h.trace h.pool a now t pool → Turned new n h e a t pool
     taken out left a now t pool is handled g = record {
       ps = map bytes_of out.packets.items;
-      s = out.happenings.items;
+      s = out.events.items;
       trace = g.trace;
       puts = g.puts;
-      turn = subst (λ (b : Answer). Turning.Turn opening apply encode decode is_state new n h e b (map bytes_of out.packets.items) out.happenings.items) (sym g.answer)
+      turn = subst (λ (b : Answer). Turning.Turn opening apply encode decode is_state new n h e b (map bytes_of out.packets.items) out.events.items) (sym g.answer)
           (taken-turn out left now is g.seat handled (is-free handled.refused.0));
     }
 
-    lost : (a : Answer) (now : Seat S) (t : List Happening) (pool : List (List ℕ)) → new n ≡ now → refusal_of m input ≡ None → Crashes m.address h.trace h.pool a now t pool
+    lost : (a : Answer) (now : Seat S) (t : List Event) (pool : List (List ℕ)) → new n ≡ now → refusal_of m input ≡ None → Crashes m.address h.trace h.pool a now t pool
         → Turned new n h e a t pool
     lost a now t pool is free g = record {
       ps = [];
@@ -218,7 +218,7 @@ module _ {S : Type 0} (opening : S) (apply : S → Address → List ℕ → S) (
           (crash-turn laws at new n h e m c w there x others table.elsewhere (Refused Memory) (is ∙ g.seat) (table.lost (is-free free)) (refused-prompt h.trace e Memory (Crashed m.address ∷ [])));
     }
 
-    refused : (err : Error) (left : MemberModel S) (a : Answer) (now : Seat S) (t : List Happening) (pool : List (List ℕ)) → new n ≡ now → is_closed err ≡ false
+    refused : (err : Error) (left : MemberModel S) (a : Answer) (now : Seat S) (t : List Event) (pool : List (List ℕ)) → new n ≡ now → is_closed err ≡ false
         → (refusal_of m input ≡ Some err) × (left ≡ m) → Refuses m.address err left h.trace h.pool a now t pool → Turned new n h e a t pool
     refused err left a now t pool is runs says g =
         let so : RefusesSo h e (answer_for err) = table.not err (Facts.free-is opening apply encode decode is_state h n m c x input (Some err) says.0) in
@@ -240,7 +240,7 @@ module _ {S : Type 0} (opening : S) (apply : S → Address → List ℕ → S) (
         by (inl none) = none-some c (sym none ∙ x.core)
         by (inr bad) = let n : true ≡ false = sym bad ∙ readable in absurd (cc)
 
-    not-taken : (err : Error) (left : MemberModel S) (a : Answer) (now : Seat S) (t : List Happening) (pool : List (List ℕ)) (b k : Bool) → new n ≡ now → is_memory err ≡ b → is_closed err ≡ k
+    not-taken : (err : Error) (left : MemberModel S) (a : Answer) (now : Seat S) (t : List Event) (pool : List (List ℕ)) (b k : Bool) → new n ≡ now → is_memory err ≡ b → is_closed err ≡ k
         → Handled apply encode decode m input (Err err) left → Gives m.address input (Err err) left h.trace h.pool a now t pool → Turned new n h e a t pool
     not-taken err left a now t pool true k is memory closed handled g =
         lost a now t pool is (when-true (is_memory err) (refusal_of m input ≡ None) _ memory handled.refused) (when-true (is_memory err) _ _ memory g)
@@ -248,13 +248,13 @@ module _ {S : Type 0} (opening : S) (apply : S → Address → List ℕ → S) (
     not-taken err left a now t pool false false is memory closed handled g =
         refused err left a now t pool is closed (when-false (is_unreadable decode m input) _ _ readable (when-false (is_memory err) _ _ memory handled.refused)) (when-false (is_memory err) _ _ memory g)
 
-    called : (result : Result Output Error) (left : MemberModel S) (a : Answer) (now : Seat S) (t : List Happening) (pool : List (List ℕ)) → new n ≡ now
+    called : (result : Result Output Error) (left : MemberModel S) (a : Answer) (now : Seat S) (t : List Event) (pool : List (List ℕ)) → new n ≡ now
         → Handled apply encode decode m input result left → Gives m.address input result left h.trace h.pool a now t pool → Turned new n h e a t pool
     called (Ok out) left a now t pool is handled (inl g) = taken out left a now t pool is handled g
     called (Ok out) left a now t pool is handled (inr g) = lost a now t pool is handled.refused.0 g.1
     called (Err err) left a now t pool is handled g = not-taken err left a now t pool (is_memory err) (is_closed err) is refl refl handled g
 
     -- one call of `handle` is a turn
-    pub hands-turn : (a : Answer) (now : Seat S) (t : List Happening) (pool : List (List ℕ)) → new n ≡ now → HandsHere apply encode decode input m h.trace h.pool a now t pool
+    pub hands-turn : (a : Answer) (now : Seat S) (t : List Event) (pool : List (List ℕ)) → new n ≡ now → HandsHere apply encode decode input m h.trace h.pool a now t pool
         → Turned new n h e a t pool
     hands-turn a now t pool is g = called g.result g.left a now t pool is g.handled g.gives

@@ -4,8 +4,8 @@ use Rattle.std.specs.Borrow.{Bor}
 use Rattle.std.specs.Prelude.{Option}
 use Rattle.std.proofs.lemmas.List.{append-nil}
 use Rattle.address.specs.Ids.{Address}
-use Rattle.trace_props.specs.declared.happening.Happening.{Happening}
-use Rattle.trace_props.specs.declared.happening.Happening.TheVariants.{Started, Crashed}
+use Rattle.trace_props.specs.declared.event.Event.{Event}
+use Rattle.trace_props.specs.declared.event.Event.TheVariants.{Started, Crashed}
 use Rattle.member.specs.declared.error.Error.{Error}
 use Rattle.member.specs.declared.input.Input.{Input}
 use Rattle.member.specs.declared.input.Input.TheVariants as input
@@ -24,22 +24,22 @@ use Rattle.world.specs.Seats.{bytes_of}
 use Rattle.world.specs.Turns.{Stays, Crashes, Refuses, Gives, HandsHere, Hands, HandsLent, BeginsSo, Begins, StartGives, CrashGives, Acts, Hears}
 
 -- the history after an event, with the pool and the trace that it leaves
-abbrev pub then : History → WorldEvent → Answer → List (List ℕ) → List Happening → History
+abbrev pub then : History → WorldEvent → Answer → List (List ℕ) → List Event → History
 then h e a pool t = record { events = h.events ++ e ∷ []; replies = h.replies ++ record { answer = a; place = length t } ∷ []; pool = pool; trace = t }
 
 -- what happened and what was put out stand behind what was there
-pub record Wider (t u : List Happening) (pool more : List (List ℕ)) : Type 0 where
+pub record Wider (t u : List Event) (pool more : List (List ℕ)) : Type 0 where
   pub packets : List (List ℕ)
-  pub stretch : List Happening
+  pub stretch : List Event
   pub trace : u ≡ t ++ stretch
   pub puts : more ≡ pool ++ packets
 
 -- where nothing is done
-pub still : (t u : List Happening) (pool more : List (List ℕ)) → u ≡ t → more ≡ pool → Wider t u pool more
+pub still : (t u : List Event) (pool more : List (List ℕ)) → u ≡ t → more ≡ pool → Wider t u pool more
 still t u pool more a b = record { packets = []; stretch = []; trace = a ∙ sym (append-nil t); puts = b ∙ sym (append-nil pool) }
 
 -- where nothing is put out
-told : (s t u : List Happening) (pool more : List (List ℕ)) → u ≡ t ++ s → more ≡ pool → Wider t u pool more
+told : (s t u : List Event) (pool more : List (List ℕ)) → u ≡ t ++ s → more ≡ pool → Wider t u pool more
 told s t u pool more a b = record { packets = []; stretch = s; trace = a; puts = b ∙ sym (append-nil pool) }
 
 -- by a test
@@ -47,7 +47,7 @@ either : (b : Bool) (P Q R : Type 0) → MatchBool b P Q → (P → R) → (Q �
 either true P Q R x f g = f x
 either false P Q R x f g = g x
 
-module _ {S : Type 0} (opening : S) (apply : S → Address → List ℕ → S) (encode : S → List ℕ) (decode : List ℕ → Option S) (t u : List Happening) (pool more : List (List ℕ)) where
+module _ {S : Type 0} (opening : S) (apply : S → Address → List ℕ → S) (encode : S → List ℕ) (decode : List ℕ → Option S) (t u : List Event) (pool more : List (List ℕ)) where
   -- ---- a start and a crash
 
   begins-widen : (p : Address) (a : Answer) (new : Seat S) → BeginsSo opening p t a new u → more ≡ pool → Wider t u pool more
@@ -77,7 +77,7 @@ module _ {S : Type 0} (opening : S) (apply : S → Address → List ℕ → S) (
   -- ---- one call of `handle`, whatever it answers
 
   gives-widens : (p : Address) (i : Input) (result : Result Output Error) (left : MemberModel S) (new : Seat S) (a : Answer) → Gives p i result left t pool a new u more → Wider t u pool more
-  gives-widens p i (Ok out) left new a (inl g) = record { packets = map bytes_of out.packets.items; stretch = out.happenings.items; trace = g.trace; puts = g.puts }
+  gives-widens p i (Ok out) left new a (inl g) = record { packets = map bytes_of out.packets.items; stretch = out.events.items; trace = g.trace; puts = g.puts }
   gives-widens p i (Ok out) left new a (inr g) = told (Crashed p ∷ []) t u pool more g.1.trace g.1.puts
   gives-widens p i (Err e) left new a g =
       either (is_memory e) (Crashes p t pool a new u more) (Refuses p e left t pool a new u more) (Wider t u pool more) g

@@ -4,8 +4,8 @@ use Rattle.std.specs.Option.{IsSomeAnd, option_map_or, option_and_then}
 use Rattle.std.specs.List.{position_from}
 use Rattle.address.specs.Ids.{Address, ViewId, same_address, same_view_id}
 use Rattle.view.specs.Members.{View}
-use Rattle.trace_props.specs.declared.happening.Happening.{Happening}
-use Rattle.trace_props.specs.declared.happening.Happening.TheVariants.{Crashed}
+use Rattle.trace_props.specs.declared.event.Event.{Event}
+use Rattle.trace_props.specs.declared.event.Event.TheVariants.{Crashed}
 use Rattle.trace_props.specs.Observed.{delivered_in}
 use Rattle.agreement.specs.Cores.{is_frozen}
 use Rattle.member.specs.Members.{core_of}
@@ -121,7 +121,7 @@ module _ {S : Type 0} (opening : S) (apply : S → Address → List ℕ → S) (
 
 -- the coordinator or the member has crashed at last
 pub record LosesOne {S : Type 0} (pair : Pair) (w : WorldModel S) : Type 0 where
-  pub before : List Happening
+  pub before : List Event
   pub crash : (w.history.trace ≡ before ++ Crashed pair.view.creator ∷ []) ⊎ (w.history.trace ≡ before ++ Crashed pair.member ∷ [])
 
 -- both run, in the view, and are not blocked
@@ -133,5 +133,5 @@ abbrev pub EndsSo : {S : Type 0} → Pair → WorldModel S → Type 0
 EndsSo pair w = LosesOne pair w ⊎ BothRun pair w
 
 -- what the member was told in the view is what its coordinator was told there
-abbrev pub IsLevel : Pair → List Happening → Type 0
+abbrev pub IsLevel : Pair → List Event → Type 0
 IsLevel pair t = delivered_in pair.member pair.view t ≡ delivered_in pair.view.creator pair.view t

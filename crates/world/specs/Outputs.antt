@@ -13,6 +13,6 @@ AreAddressed packets = AllByRecursion (λ o. destination_of o.bytes ≡ Some o.d
 
 -- there is room for what happened, a trace takes it, and the packets are addressed
 pub record Fits (out : Output) : Type 0 where
-  pub few : length out.happenings.items ≤ STEP_PLACES
-  pub short : IsRecordable out.happenings.items
+  pub few : length out.events.items ≤ STEP_PLACES
+  pub short : IsRecordable out.events.items
   pub addressed : AreAddressed out.packets.items

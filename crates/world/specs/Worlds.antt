@@ -4,7 +4,7 @@ use Rattle.std.specs.Ordering.{nat_cmp}
 use Rattle.std.specs.BTreeMap.{is_at}
 use Rattle.std.specs.Map.{lookup}
 use Rattle.address.specs.Ids.{Address}
-use Rattle.trace_props.specs.declared.happening.Happening.{Happening}
+use Rattle.trace_props.specs.declared.event.Event.{Event}
 use Rattle.trace_props.specs.Places.{IsBeginningOf}
 use Rattle.world_model.specs.declared.WorldEvent.{WorldEvent}
 use Rattle.world_model.specs.declared.Answer.{Answer}
@@ -31,7 +31,7 @@ shown w = record { history = w.history; seats = λ n. seat_at (lookup (is_at (na
 abbrev pub no_world : {S : Type 0} → WorldModel S
 no_world = record { history = no_history; seats = λ n. Vacant }
 
--- the old events, replies, packets and happenings are beginnings of the new ones
+-- the old world events, replies, packets and trace are beginnings of the new ones
 pub record IsLonger (old new : History) : Type 0 where
   pub events : IsBeginningOf old.events new.events
   pub replies : IsBeginningOf old.replies new.replies
@@ -43,7 +43,7 @@ module _ {S : Type 0} (opening : S) (apply : S → Address → List ℕ → S) (
   pub record WorldStep (old : WorldModel S) (e : WorldEvent) (new : WorldModel S) : Type 0 where
     pub answer : Answer
     pub packets : List (List ℕ)
-    pub stretch : List Happening
+    pub stretch : List Event
     pub goes_on : new.history ≡ after old.history e answer packets stretch
     pub does : Carries opening apply encode decode (target_of e) e old.seats old.history.trace old.history.pool answer new.seats new.history.trace new.history.pool
 

@@ -31,7 +31,7 @@ use trace_props::{Bytes, Trace};
 use world_model::{Answer, Refusal, Reply, Target, WorldEvent};
 
 /// How many places of the trace are reserved before each step: as many as a step of a member may need.
-pub const STEP_PLACES: usize = member::HAPPENINGS;
+pub const STEP_PLACES: usize = member::EVENTS;
 
 /// A world of members, one at a node at a time, each with its receiver (docs/GUARANTEES.md, "The world"). Contracts see its history and
 /// what stands at each node: nothing yet, one that has ended, or the member that runs.
@@ -53,10 +53,10 @@ impl<R: Receiver> Model for World<R> {
     // What stands at its nodes, as data, which `shown` shows by node.
     ghost Value = { WorldValue R };
 
-    ghost view = { λ w. record { history = record { events = w.events.items; replies = w.replies.items; pool = w.pool; trace = w.trace.happenings }; table = w.seats.entries } };
+    ghost view = { λ w. record { history = record { events = w.events.items; replies = w.replies.items; pool = w.pool; trace = w.trace.events }; table = w.seats.entries } };
 
     // It came from nothing by world steps. All that is kept follows from that alone (proofs/Keeping.antt).
-    ghost invariant = { λ w. IsReached R.opening_state R.apply R.encode R.decode (shown (record { history = record { events = w.events.items; replies = w.replies.items; pool = w.pool; trace = w.trace.happenings }; table = w.seats.entries })) };
+    ghost invariant = { λ w. IsReached R.opening_state R.apply R.encode R.decode (shown (record { history = record { events = w.events.items; replies = w.replies.items; pool = w.pool; trace = w.trace.events }; table = w.seats.entries })) };
 }
 
 /// Makes room for what runs at a node, where there is none yet.
@@ -81,7 +81,7 @@ fn act_at<R: Receiver>(
     event: &WorldEvent,
 ) -> Answer
     requires room { STEP_PLACES ≤ trace.old.room }
-    ensures acts { ActsAt R.opening_state R.apply R.encode R.decode event.now (get nat_cmp seats.old node) trace.old.happenings pool.old result (get nat_cmp seats.new node) trace.new.happenings pool.new }
+    ensures acts { ActsAt R.opening_state R.apply R.encode R.decode event.now (get nat_cmp seats.old node) trace.old.events pool.old result (get nat_cmp seats.new node) trace.new.events pool.new }
     ensures others { (m : ℕ) → nat_eq node m ≡ false → get nat_cmp seats.new m ≡ get nat_cmp seats.old m }
 {
     match seats.get_mut(&node) {
@@ -100,10 +100,10 @@ fn carry_out<R: Receiver>(
     event: &WorldEvent,
 ) -> Result<Answer, AllocError>
     requires room { STEP_PLACES ≤ trace.old.room }
-    ensures ok { IfOk result (λ a. CarriesOut R.opening_state R.apply R.encode R.decode event.now (get nat_cmp seats.old node) trace.old.happenings pool.old a (get nat_cmp seats.new node) trace.new.happenings pool.new) }
+    ensures ok { IfOk result (λ a. CarriesOut R.opening_state R.apply R.encode R.decode event.now (get nat_cmp seats.old node) trace.old.events pool.old a (get nat_cmp seats.new node) trace.new.events pool.new) }
     ensures others { (m : ℕ) → nat_eq node m ≡ false → get nat_cmp seats.new m ≡ get nat_cmp seats.old m }
     ensures err { OnErr result (get nat_cmp seats.new node ≡ get nat_cmp seats.old node) }
-    ensures err_trace { OnErr result (trace.new.happenings ≡ trace.old.happenings) }
+    ensures err_trace { OnErr result (trace.new.events ≡ trace.old.events) }
     ensures err_pool { OnErr result (pool.new ≡ pool.old) }
 {
     if event.is_start() {
@@ -123,7 +123,7 @@ fn hear_at<R: Receiver>(
     number: u64,
 ) -> Answer
     requires room { STEP_PLACES ≤ trace.old.room }
-    ensures hears { (bytes : List ℕ) → packet_numbered number pool.old ≡ Some bytes → Hears R.apply R.encode R.decode bytes (seat_at (get nat_cmp seats.old node)) trace.old.happenings pool.old result (seat_at (get nat_cmp seats.new node)) trace.new.happenings pool.new }
+    ensures hears { (bytes : List ℕ) → packet_numbered number pool.old ≡ Some bytes → Hears R.apply R.encode R.decode bytes (seat_at (get nat_cmp seats.old node)) trace.old.events pool.old result (seat_at (get nat_cmp seats.new node)) trace.new.events pool.new }
     ensures others { (m : ℕ) → nat_eq node m ≡ false → get nat_cmp seats.new m ≡ get nat_cmp seats.old m }
 {
     match seats.get_mut(&node) {
@@ -140,7 +140,7 @@ fn deliver<R: Receiver>(
     number: u64,
 ) -> Answer
     requires room { STEP_PLACES ≤ trace.old.room }
-    ensures { Delivers R.apply R.encode R.decode (packet_numbered number pool.old) (seats_in (get nat_cmp seats.old)) trace.old.happenings pool.old result (seats_in (get nat_cmp seats.new)) trace.new.happenings pool.new }
+    ensures { Delivers R.apply R.encode R.decode (packet_numbered number pool.old) (seats_in (get nat_cmp seats.old)) trace.old.events pool.old result (seats_in (get nat_cmp seats.new)) trace.new.events pool.new }
 {
     match pool.destination(number) {
         Some(destination) => hear_at(seats, trace, pool, destination.node(), number),
@@ -157,9 +157,9 @@ fn carry<R: Receiver>(
     event: &WorldEvent,
 ) -> Result<Answer, AllocError>
     requires room { STEP_PLACES ≤ trace.old.room }
-    ensures ok { IfOk result (λ a. Carries R.opening_state R.apply R.encode R.decode (target_of event.now) event.now (seats_in (get nat_cmp seats.old)) trace.old.happenings pool.old a (seats_in (get nat_cmp seats.new)) trace.new.happenings pool.new) }
+    ensures ok { IfOk result (λ a. Carries R.opening_state R.apply R.encode R.decode (target_of event.now) event.now (seats_in (get nat_cmp seats.old)) trace.old.events pool.old a (seats_in (get nat_cmp seats.new)) trace.new.events pool.new) }
     ensures err { OnErr result (SameSeats (seats_in (get nat_cmp seats.old)) (seats_in (get nat_cmp seats.new))) }
-    ensures err_trace { OnErr result (trace.new.happenings ≡ trace.old.happenings) }
+    ensures err_trace { OnErr result (trace.new.events ≡ trace.old.events) }
     ensures err_pool { OnErr result (pool.new ≡ pool.old) }
 {
     match event.target() {
@@ -177,7 +177,7 @@ fn reserve_step(
     ensures room { OnOk result (STEP_PLACES ≤ trace.new.room) }
     ensures event { OnOk result (vec_len events.new + 1 ≤ vec_capacity events.new) }
     ensures reply { OnOk result (vec_len replies.new + 1 ≤ vec_capacity replies.new) }
-    ensures trace { trace.new.happenings ≡ trace.old.happenings }
+    ensures trace { trace.new.events ≡ trace.old.events }
     ensures events { events.new.items ≡ events.old.items }
     ensures replies { replies.new.items ≡ replies.old.items }
 {
@@ -216,7 +216,7 @@ impl<R: Receiver> World<R> {
             &mut self.pool,
             &event,
         )?;
-        let place = self.trace.happenings().len();
+        let place = self.trace.events().len();
         self.replies.push_reserved(Reply { answer, place });
         self.events.push_reserved(event);
         Ok(answer)
@@ -305,7 +305,7 @@ impl<R: Receiver> World<R> {
 
     /// What happened.
     pub fn trace(&self) -> &Trace
-        ensures { result.now.happenings ≡ self.now.history.trace }
+        ensures { result.now.events ≡ self.now.history.trace }
     {
         &self.trace
     }

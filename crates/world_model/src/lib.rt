@@ -155,7 +155,7 @@ pub enum Answer {
     Refused(Refusal),
 }
 
-/// The answer to an event, and its place: how many happenings stand in the trace after it.
+/// The answer to a world event, and its place: how many events stand in the trace after it.
 #[derive(Clone, Copy, Debug, PartialEq, Eq)]
 pub struct Reply {
     pub answer: Answer,

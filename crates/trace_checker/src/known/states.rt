@@ -4,8 +4,8 @@ ghost use Rattle.address.specs.Ids.{Address, IsAddress, address_cmp, view_id_cmp
 ghost use Rattle.state_transfer.specs.declared.TheConstants.{PAYLOAD};
 ghost use Rattle.std.specs.Bool.{Decides};
 ghost use Rattle.std.specs.Option.{ForSome};
-ghost use Rattle.trace_props.specs.declared.happening.Happening.{Happening};
-ghost use Rattle.trace_props.specs.declared.happening.Happening.TheVariants.{Delivered, Installed};
+ghost use Rattle.trace_props.specs.declared.event.Event.{Event};
+ghost use Rattle.trace_props.specs.declared.event.Event.TheVariants.{Delivered, Installed};
 ghost use Rattle.trace_props.specs.Recorded.{IsShort};
 ghost use Rattle.trace_props.specs.Agreeing.{MayEnter};
 ghost use Rattle.trace_checker.specs.Copies.{EntersWith, KnowsStates};
@@ -15,7 +15,7 @@ use address::{Address, ViewId};
 use state_transfer::Receiver;
 use std::alloc::{AllocError, Global};
 use std::collections::BTreeMap;
-use trace_props::{Bytes, Delivery, Happening, Install};
+use trace_props::{Bytes, Delivery, Event, Install};
 
 /// An address that a program holds is one.
 pub fn known_address(address: Address)
@@ -159,7 +159,7 @@ fn hear<R: Receiver>(
     delivery: &Delivery,
 ) -> Result<(), AllocError>
     requires short { length delivery.now.message.payload ≤ PAYLOAD }
-    ensures { OnOk result ((t : List Happening) → KnowsStates R.opening_state R.apply R.decode R.encode R.is_state (get address_cmp states.old.states) (get view_id_cmp states.old.entering) t
+    ensures { OnOk result ((t : List Event) → KnowsStates R.opening_state R.apply R.decode R.encode R.is_state (get address_cmp states.old.states) (get view_id_cmp states.old.entering) t
         → KnowsStates R.opening_state R.apply R.decode R.encode R.is_state (get address_cmp states.new.states) (get view_id_cmp states.new.entering) (t ++ Delivered delivery.now ∷ [])) }
 {
     known_address(delivery.message.sender);
@@ -179,7 +179,7 @@ fn enter<R: Receiver>(
     states: &mut States<R>,
     install: &Install,
 ) -> Result<bool, AllocError>
-    ensures { IfOk result (λ ok. (t : List Happening) → KnowsStates R.opening_state R.apply R.decode R.encode R.is_state (get address_cmp states.old.states) (get view_id_cmp states.old.entering) t
+    ensures { IfOk result (λ ok. (t : List Event) → KnowsStates R.opening_state R.apply R.decode R.encode R.is_state (get address_cmp states.old.states) (get view_id_cmp states.old.entering) t
         → MatchBool ok
         (MayEnter R.opening_state R.apply R.decode t (Installed install.now)
         × KnowsStates R.opening_state R.apply R.decode R.encode R.is_state (get address_cmp states.new.states) (get view_id_cmp states.new.entering) (t ++ Installed install.now ∷ []))
@@ -206,21 +206,21 @@ impl<R: Receiver> States<R> {
         }
     }
 
-    /// Goes one happening further, and whether it keeps the rule on states.
-    pub fn advance(&mut self, alloc: Global, happening: &Happening) -> Result<bool, AllocError>
-        requires short { IsShort happening.now }
-        ensures { IfOk result (λ ok. (t : List Happening) → KnowsStates R.opening_state R.apply R.decode R.encode R.is_state (get address_cmp self.old.states) (get view_id_cmp self.old.entering) t
+    /// Goes one event further, and whether it keeps the rule on states.
+    pub fn advance(&mut self, alloc: Global, event: &Event) -> Result<bool, AllocError>
+        requires short { IsShort event.now }
+        ensures { IfOk result (λ ok. (t : List Event) → KnowsStates R.opening_state R.apply R.decode R.encode R.is_state (get address_cmp self.old.states) (get view_id_cmp self.old.entering) t
             → MatchBool ok
-            (MayEnter R.opening_state R.apply R.decode t happening.now
-            × KnowsStates R.opening_state R.apply R.decode R.encode R.is_state (get address_cmp self.new.states) (get view_id_cmp self.new.entering) (t ++ happening.now ∷ []))
-            (MayEnter R.opening_state R.apply R.decode t happening.now → ⊥)) }
+            (MayEnter R.opening_state R.apply R.decode t event.now
+            × KnowsStates R.opening_state R.apply R.decode R.encode R.is_state (get address_cmp self.new.states) (get view_id_cmp self.new.entering) (t ++ event.now ∷ []))
+            (MayEnter R.opening_state R.apply R.decode t event.now → ⊥)) }
     {
-        match delivery_in(happening) {
+        match delivery_in(event) {
             Some(delivery) => {
                 hear(alloc, self, delivery)?;
                 Ok(true)
             }
-            None => match install_in(happening) {
+            None => match install_in(event) {
                 Some(install) => {
                     let alike = enter(alloc, self, install)?;
                     Ok(alike)

@@ -13,7 +13,7 @@ returns-in-Err-Failed g c = ReaderFails (appends-none _)
 
 pub returns-in-Ok-read_trace : goal.returns-in-Ok-read_trace
 returns-in-Ok-read_trace g c =
-    checked-text g.R.Receiver.opening_state g.R.Receiver.apply g.R.Receiver.decode _ _ _ c.in-Ok.bytes.items c.in-Ok-read_trace.trace.happenings _ c.in-Ok.ensures
+    checked-text g.R.Receiver.opening_state g.R.Receiver.apply g.R.Receiver.decode _ _ _ c.in-Ok.bytes.items c.in-Ok-read_trace.trace.events _ c.in-Ok.ensures
     (ap trace_of (sym c.as_slice.ensures.value) ∙ c.in-Ok-read_trace.ensures) c.judge.ensures
 
 pub returns-in-Err-Fault : goal.returns-in-Err-Fault

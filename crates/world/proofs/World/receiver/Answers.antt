@@ -14,7 +14,7 @@ use Rattle.world.proofs.World.receiver.Goals as goal
 pub returns-in_err-member : goal.returns-in_err-member
 returns-in_err-member g c =
     ap option_copied c.from_residual.ensures
-    ∙ ap (option_map (λ p. state_of g.R.Receiver.opening_state g.R.Receiver.apply g.R.Receiver.decode p c.self.inside.trace.happenings))
+    ∙ ap (option_map (λ p. state_of g.R.Receiver.opening_state g.R.Receiver.apply g.R.Receiver.decode p c.self.inside.trace.events))
     (nobody-yet g.R.Receiver.opening_state g.R.Receiver.apply g.R.Receiver.encode g.R.Receiver.decode g.R.Receiver.is_state (seats_in (get nat_cmp c.self.inside.seats)) _ c.args.node (reached-keeps g.R.Receiver.opening_state g.R.Receiver.apply g.R.Receiver.encode g.R.Receiver.decode g.R.Receiver.is_state
     (record { opens = g.met.R.Receiver.opens; applies = g.met.R.Receiver.applies; decodes = g.met.R.Receiver.decodes; reads_back = g.met.R.Receiver.reads_back }) _ c.self.invariant)
     (ap seat_at (sym c.get.ensures.value ∙ ap option_copied c.in_err-member.was)))
@@ -32,7 +32,7 @@ returns-in-Running g c =
 -- none runs there yet, or any more
 pub returns-in-Vacant : goal.returns-in-Vacant
 returns-in-Vacant g c =
-    ap (option_map (λ p. state_of g.R.Receiver.opening_state g.R.Receiver.apply g.R.Receiver.decode p c.self.inside.trace.happenings))
+    ap (option_map (λ p. state_of g.R.Receiver.opening_state g.R.Receiver.apply g.R.Receiver.decode p c.self.inside.trace.events))
     (nobody-runs g.R.Receiver.opening_state g.R.Receiver.apply g.R.Receiver.encode g.R.Receiver.decode g.R.Receiver.is_state (seats_in (get nat_cmp c.self.inside.seats)) _ c.args.node c.in_ok-member.field-0.now
     (reached-keeps g.R.Receiver.opening_state g.R.Receiver.apply g.R.Receiver.encode g.R.Receiver.decode g.R.Receiver.is_state
     (record { opens = g.met.R.Receiver.opens; applies = g.met.R.Receiver.applies; decodes = g.met.R.Receiver.decodes; reads_back = g.met.R.Receiver.reads_back }) _ c.self.invariant) (ap seat_at (sym c.get.ensures.value ∙ ap option_copied c.in_ok-member.was)) c.in-Vacant.is)

@@ -15,14 +15,14 @@ invariant_of-self-in_err-answer g c =
 -- the event is carried out
 pub invariant_of-self-2 : goal.invariant_of-self-2
 invariant_of-self-2 g c =
-    rw (c.push_reserved-2.ensures.items, c.reserve_step.ensures.events, c.push_reserved.ensures.items, c.reserve_step.ensures.replies, c.happenings-place.ensures.value)
+    rw (c.push_reserved-2.ensures.items, c.reserve_step.ensures.events, c.push_reserved.ensures.items, c.reserve_step.ensures.replies, c.events-place.ensures.value)
     (reached-on g.R.Receiver.opening_state g.R.Receiver.apply g.R.Receiver.encode g.R.Receiver.decode _ _ c.in_ok-event.event c.self.invariant
     (steps-so g.R.Receiver.opening_state g.R.Receiver.apply g.R.Receiver.encode g.R.Receiver.decode (seats_in (get nat_cmp c.self.inside.seats)) _ _ c.in_ok-event.event
-    c.in_ok-answer.answer _ c.carry.new.trace.happenings c.carry.new.pool c.reserve_step.ensures.trace c.in_ok-answer.ensures.ok))
+    c.in_ok-answer.answer _ c.carry.new.trace.events c.carry.new.pool c.reserve_step.ensures.trace c.in_ok-answer.ensures.ok))
 
 -- and that is a step of the world
 pub returns-clause-ok : goal.returns-clause-ok
 returns-clause-ok g c =
-    rw (sym c.self.view_is, sym c.in_ok-event.ensures, c.push_reserved-2.ensures.items, c.reserve_step.ensures.events, c.push_reserved.ensures.items, c.reserve_step.ensures.replies, c.happenings-place.ensures.value)
+    rw (sym c.self.view_is, sym c.in_ok-event.ensures, c.push_reserved-2.ensures.items, c.reserve_step.ensures.events, c.push_reserved.ensures.items, c.reserve_step.ensures.replies, c.events-place.ensures.value)
     (stepped-so g.R.Receiver.opening_state g.R.Receiver.apply g.R.Receiver.encode g.R.Receiver.decode (seats_in (get nat_cmp c.self.inside.seats)) _ _ c.in_ok-event.event
-    c.in_ok-answer.answer _ c.carry.new.trace.happenings c.carry.new.pool c.reserve_step.ensures.trace c.in_ok-answer.ensures.ok)
+    c.in_ok-answer.answer _ c.carry.new.trace.events c.carry.new.pool c.reserve_step.ensures.trace c.in_ok-answer.ensures.ok)

@@ -24,4 +24,4 @@ returns-clause-prompt g c = tells-at-once _ _ _ _ _ _ _ _ _ _ c.rest-rest.ensure
     (sends-orders _ _ _ _ _ _ _ _ _ _ _ _ _ _ c.in_ok-number.ensures.number c.in_ok-number.ensures.now c.in_ok-queue.ensures c.in_ok-number.ensures.happens c.in_ok-order.ensures.orders) c.in_ok-order.ensures.done
 
 pub returns-clause-few : goal.returns-clause-few
-returns-clause-few g c = few-more _ _ _ _ c.in_ok-number.ensures.happens.happenings c.in_ok-order.ensures.few
+returns-clause-few g c = few-more _ _ _ _ c.in_ok-number.ensures.happens.events c.in_ok-order.ensures.few
