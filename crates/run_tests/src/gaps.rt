@@ -42,11 +42,11 @@ fn behind(alloc: Global, payloads: &[&[u8]]) -> Option<World<ChatLog>> {
 
 /// How many messages were delivered to 2.1.
 fn told_to_second(world: &World<ChatLog>) -> usize {
-    let mut count = 0;
+    let mut count: usize = 0;
     for event in world.trace().events() {
         if let Event::Delivered(delivery) = event {
             if delivery.member.node() == node(2) {
-                count += 1;
+                count = count.wrapping_add(1);
             }
         }
     }
@@ -141,14 +141,12 @@ fn a_node_where_none_runs_is_not_caught_up(rt: HostRuntime) {
 fn thirty_two_lost_messages_are_recovered(rt: HostRuntime) {
     let alloc = rt.alloc();
     let mut world = behind(alloc, &[]).expect(&rt, "the events are done");
-    let mut sent = 0;
-    while sent < 32 {
+    for _ in 0..32 {
         let payload = Bytes::from_slice(alloc, b"x").expect(&rt, "there is memory");
         assert!(rt;
             world.run(&[WorldEvent::Send(node(1), payload)]).is_ok(),
             "it is sent"
         );
-        sent += 1;
     }
     assert!(rt; world.packets().len() == 36, "thirty-two ORDERs are lost");
     assert!(rt;

@@ -1,0 +1,130 @@
+//! Brings a member level that lost two messages, and answers by its exit status what came of it. `bench/gaps` refuses each allocation of it in turn.
+#![tactic(auto)]
+
+use address::{Address, Node};
+use chat_log::ChatLog;
+use std::alloc::{AllocError, Global};
+use std::process::ExitCode;
+use trace_props::{Bytes, Event};
+use world::World;
+use world_model::WorldEvent;
+
+/// The member was brought level.
+const LEVEL: u8 = 0;
+
+/// Something else came of it than `World::catch_up` promises.
+const WRONG: u8 = 1;
+
+/// Memory was refused before the catch-up began.
+const NOT_BEGUN: u8 = 2;
+
+/// Memory was refused in a step: the last that happened is that one of the two crashed, and the other runs.
+const CRASHED: u8 = 3;
+
+/// Memory was refused before a step was begun: both run, and a second catch-up brings the member level.
+const BETWEEN_STEPS: u8 = 4;
+
+/// A node's number as a node.
+fn node(number: u16) -> Node {
+    Node::new(number).unwrap_or(Node::new(1).unwrap())
+}
+
+/// A world of 1.1 and 2.1 in the view 2@1.1.
+fn of_two(alloc: Global) -> Result<World<ChatLog>, AllocError> {
+    let mut world = World::<ChatLog>::new(alloc);
+    let events = [
+        WorldEvent::Start(node(1)),
+        WorldEvent::Create(node(1)),
+        WorldEvent::Start(node(2)),
+        WorldEvent::Join(node(2), Address::first_at(node(1))),
+        WorldEvent::Deliver(1),
+        WorldEvent::Deliver(2),
+        WorldEvent::Deliver(3),
+        WorldEvent::Deliver(4),
+    ];
+    world.run(&events)?;
+    Ok(world)
+}
+
+/// The same after two messages of 1.1 that 2.1 lost.
+fn behind(alloc: Global) -> Result<World<ChatLog>, AllocError> {
+    let mut world = of_two(alloc)?;
+    let sends = [
+        WorldEvent::Send(node(1), Bytes::from_slice(alloc, b"a")?),
+        WorldEvent::Send(node(1), Bytes::from_slice(alloc, b"b")?),
+    ];
+    world.run(&sends)?;
+    Ok(world)
+}
+
+/// How many messages were delivered to the member of a node.
+fn delivered(world: &World<ChatLog>, number: u16) -> usize {
+    let mut count: usize = 0;
+    for event in world.trace().events() {
+        if let Event::Delivered(delivery) = event {
+            if delivery.member.node() == node(number) {
+                count = count.wrapping_add(1);
+            }
+        }
+    }
+    count
+}
+
+/// Whether both were delivered both messages.
+fn is_level(world: &World<ChatLog>) -> bool {
+    delivered(world, 1) == 2 && delivered(world, 2) == 2
+}
+
+/// Whether a member runs at a node.
+fn runs(world: &World<ChatLog>, number: u16) -> bool {
+    world.receiver(node(number)).is_some()
+}
+
+/// Whether both run, and only the two ORDERs were lost.
+fn is_behind(world: &World<ChatLog>) -> bool {
+    let both = runs(world, 1) && runs(world, 2);
+    both && world.packets().len() == 6 && delivered(world, 1) == 2 && delivered(world, 2) == 0
+}
+
+/// What came of a catch-up for which memory was refused.
+fn after_refusal(world: &mut World<ChatLog>) -> u8 {
+    match (runs(world, 1), runs(world, 2)) {
+        (true, true) => {
+            if world.catch_up(node(2)) == Ok(true) && is_level(world) {
+                BETWEEN_STEPS
+            } else {
+                WRONG
+            }
+        }
+        (true, false) | (false, true) => match world.trace().events().last() {
+            Some(Event::Crashed(_)) => CRASHED,
+            _ => WRONG,
+        },
+        (false, false) => WRONG,
+    }
+}
+
+/// What came of the catch-up.
+fn outcome(world: &mut World<ChatLog>) -> u8 {
+    match world.catch_up(node(2)) {
+        Ok(played) => {
+            if played && is_level(world) {
+                LEVEL
+            } else {
+                WRONG
+            }
+        }
+        Err(_) => after_refusal(world),
+    }
+}
+
+fn main(rt: HostRuntime) -> ExitCode {
+    let Ok(mut world) = behind(rt.alloc()) else {
+        return ExitCode::from(NOT_BEGUN);
+    };
+    if is_behind(&world) {
+        ExitCode::from(outcome(&mut world))
+    } else {
+        ExitCode::from(NOT_BEGUN)
+    }
+}
