@@ -6,11 +6,12 @@ ghost use Rattle.candidates.specs.Candidates.{unsuspected, all_candidates, candi
 ghost use Rattle.candidates.specs.Noting.{is_known_here, noting, is_new, new_of, noting_view};
 
 use crate::lists::{add_all, all_current, is_known, is_later, keep_others, stands_in};
-use address::{Address, GREATEST_NUMBER};
+use address::Address;
+use limits::{GREATEST_NUMBER, MEMBERS};
 use std::alloc::{AllocError, Global};
 use std::marker::Model;
 use suspicion::Suspects;
-use view::{Addresses, MEMBERS, View};
+use view::{Addresses, View};
 
 /// What a member notes beside its view: the addresses that it suspects, those that asked to be let in, those of other views that may come in,
 /// and the greatest counter of a proposal that it heard of, at first 0 (docs/PROTOCOL.md, "Candidates").
@@ -132,11 +133,11 @@ impl Notes {
             .find(|member| !self.suspects.has(member))
     }
 
-    /// The counter of the member's next proposal: one more than the greater of the promised counter and what it heard of. `None` where that would be above 2^62.
+    /// The counter of the member's next proposal: one more than the greater of the promised counter and what it heard of. `None` where that would be above `GREATEST_NUMBER`.
     /// Takes no memory.
     pub fn next_counter(&self, promised: u64) -> Option<u64>
         ensures value { result ≡ next_counter promised self.now }
-        ensures in_range { IfSome result (λ n. (1 ≤ n) × (n ≤ 2 ^ 62)) }
+        ensures in_range { IfSome result (λ n. (1 ≤ n) × (n ≤ GREATEST_NUMBER)) }
     {
         let greatest = promised.max(self.heard);
         if greatest < GREATEST_NUMBER {

@@ -13,7 +13,7 @@ pub use chat::Chat;
 pub use law::one_encoding;
 pub use lines::Line;
 pub use log::ChatLog;
-use state_transfer::PAYLOAD;
+use limits::PAYLOAD;
 
 /// The most lines that a chat keeps.
 pub const LINES: usize = 24;

@@ -1,14 +1,15 @@
 ghost use Rattle.std.specs.Prelude.{◌≡◌, ◌≤◌, ◌<◌, ◌++◌, true, false, length, IsOk, IfOk, OnOk, OnErr, MatchOption};
 ghost use Rattle.chat_log.specs.Chat.{IsChat, chat_apply};
 ghost use Rattle.chat_log.specs.Encoding.{chat_encode, chat_decode};
-ghost use Rattle.state_transfer.specs.declared.TheConstants.{STATE};
+ghost use Rattle.limits.specs.declared.TheConstants.{STATE};
 
 use crate::lines::push_line;
 use crate::reading::chat_of;
 use crate::writing::put_chat;
 use crate::{Chat, LINES, Line};
 use address::Address;
-use state_transfer::{PAYLOAD, Receiver};
+use limits::PAYLOAD;
+use state_transfer::Receiver;
 use std::alloc::{AllocError, Global};
 use std::marker::Model;
 use view::View;

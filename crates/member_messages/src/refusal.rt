@@ -6,10 +6,9 @@ ghost use Rattle.membership.specs.Lives.{core_of};
 ghost use Rattle.traffic.specs.Traffics.{traffic_of};
 ghost use Rattle.member_messages.specs.Refusals.{send_refusal};
 
-use address::GREATEST_NUMBER;
+use limits::{GREATEST_NUMBER, OUTSTANDING, PAYLOAD};
 use membership::Life;
-use packet_values::PAYLOAD;
-use sequencer::{Forwards, OUTSTANDING};
+use sequencer::Forwards;
 use state_transfer::Receiver;
 use traffic::Traffic;
 

@@ -12,7 +12,7 @@ pub struct KeptPayload {
 
 impl Model for KeptPayload {
     ghost use Rattle.std.specs.Prelude.{List, ℕ, length, ◌≤◌};
-    ghost use Rattle.packet_values.specs.declared.limits.TheConstants.{PAYLOAD};
+    ghost use Rattle.limits.specs.declared.TheConstants.{PAYLOAD};
 
     ghost Value = { List ℕ };
 

@@ -3,7 +3,7 @@ ghost use Rattle.std.specs.List.{list_all};
 ghost use Rattle.std.specs.Option.{SomeIff};
 ghost use Rattle.packet_values.specs.Names.{is_name_byte, is_group_name};
 
-use crate::{GROUP_NAME, PAYLOAD, STATE};
+use limits::{GROUP_NAME, PAYLOAD, STATE};
 use std::marker::Model;
 
 /// A group's name in lent bytes: 1 to 32 letters, digits, `-` and `_` of ASCII.
@@ -69,7 +69,7 @@ pub struct Payload<'a> {
 
 impl<'a> Model for Payload<'a> {
     ghost use Rattle.std.specs.Prelude.{List, ℕ, length, ◌≤◌};
-    ghost use Rattle.packet_values.specs.declared.limits.TheConstants.{PAYLOAD};
+    ghost use Rattle.limits.specs.declared.TheConstants.{PAYLOAD};
 
     ghost Value = { List ℕ };
 
@@ -106,7 +106,7 @@ pub struct State<'a> {
 
 impl<'a> Model for State<'a> {
     ghost use Rattle.std.specs.Prelude.{List, ℕ, length, ◌≤◌};
-    ghost use Rattle.packet_values.specs.declared.limits.TheConstants.{STATE};
+    ghost use Rattle.limits.specs.declared.TheConstants.{STATE};
 
     ghost Value = { List ℕ };
 

@@ -8,7 +8,8 @@ ghost use Rattle.script_reader.specs.AddressText.{address_of_text};
 ghost use Rattle.script_reader.specs.Script.{node_field, packet_field, address_field};
 
 use crate::Fault;
-use address::{Address, GREATEST_NUMBER, Node};
+use address::{Address, Node};
+use limits::GREATEST_NUMBER;
 
 /// The index of the first byte of a text that is `byte`.
 fn index_of(byte: u8, text: &[u8]) -> Option<usize>

@@ -78,7 +78,7 @@ impl Script {
 
 /// Reads a script, in one pass. It is exactly what its lines say: `start N`, `create N`, `join N ADDR`, `send N TEXT`,
 /// `deliver K`, `tick N`, `leave N` and `crash N` are events, N a node from 1 to 65535, ADDR an address such as `3.1`, K a packet's
-/// number from 1 to 2^62, and lines that are empty or begin with `#` say nothing. A line ends with a line feed, which the last may
+/// number from 1 to `GREATEST_NUMBER`, and lines that are empty or begin with `#` say nothing. A line ends with a line feed, which the last may
 /// lack.
 ///
 /// # Errors

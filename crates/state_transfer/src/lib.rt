@@ -3,17 +3,11 @@
 
 ghost use Rattle.std.specs.Prelude.{◌≡◌, ◌≤◌, ◌++◌, length, List, ℕ, Some, None, Option, true, false, IfOk, OnOk, MatchOption};
 ghost use Rattle.address.specs.Ids.{Address, IsAddress};
-ghost use Rattle.state_transfer.specs.declared.TheConstants.{PAYLOAD, STATE};
+ghost use Rattle.limits.specs.declared.TheConstants.{PAYLOAD, STATE};
 
 use address::Address;
 use std::alloc::{AllocError, Global};
 use view::View;
-
-/// The longest payload of a message, in bytes.
-pub const PAYLOAD: usize = 512;
-
-/// The longest state that a receiver may give, in bytes.
-pub const STATE: usize = 16_384;
 
 /// What an application does with the messages, views and states that its member is told
 /// (docs/GUARANTEES.md, "The receiver's laws"). Its meaning is a state: two copies that were told the same are equal.

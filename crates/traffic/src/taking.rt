@@ -8,19 +8,18 @@ ghost use Rattle.address.specs.Ids.{same_address};
 ghost use Rattle.packet_values.specs.Values.{held_at};
 ghost use Rattle.nak_stream.specs.Windows.{offers, IsLeastGap, IsGreatestGap};
 ghost use Rattle.output.specs.Outputs.{Grows};
-ghost use Rattle.nak_stream.specs.declared.TheConstants.{REACH};
+ghost use Rattle.limits.specs.declared.TheConstants.{PAYLOAD, GREATEST_NUMBER};
 ghost use Rattle.traffic.specs.Goings.{OtherGoes, sending};
 ghost use Rattle.traffic.specs.Turns.{IsFew};
 ghost use Rattle.traffic.specs.Others.{order_packet, TellsOne, collected_to, held_too};
 ghost use Rattle.traffic.specs.Takes.{Telling, TakesStatus, forward_of, ack_of, other_pushing, SendsForward, IsComplete, AsksUpTo, AnswersOrder, TakesOrder};
 ghost use Rattle.trace_props.specs.declared.event.Event.TheVariants.{Sent};
 ghost use Rattle.sequencer.specs.Forwards.{push_refusal};
-ghost use Rattle.packet_values.specs.declared.limits.TheConstants.{PAYLOAD};
 
 use crate::Other;
 use crate::delivering::deliver;
 use crate::sending::say;
-use nak_stream::REACH;
+use limits::WINDOW;
 use output::{Identity, Output};
 use packet_values::{Count, Entry as LentEntry, Missing, Number, Payload, Progress};
 use sequencer::Forward;
@@ -58,9 +57,9 @@ impl Other {
 
     // Lets go of what is stable because a number so far ahead was ordered.
     fn collect_below(&mut self, place: Number)
-        ensures { self.new ≡ collected_to (place - REACH) self.old }
+        ensures { self.new ≡ collected_to (place - WINDOW) self.old }
     {
-        self.window.collect(place.get().saturating_sub(REACH));
+        self.window.collect(place.get().saturating_sub(WINDOW));
     }
 
     // Holds an entry at its number, where that is new and within reach. Answers whether it is.
@@ -108,7 +107,7 @@ impl Other {
 
     // The least and the greatest number that is missing, up to the highest.
     fn missing(&self, highest: u64) -> Option<Missing>
-        requires { highest ≤ 2 ^ 62 }
+        requires { highest ≤ GREATEST_NUMBER }
         ensures least { MatchOption result (IsComplete self.now.window highest) (λ m. IsLeastGap self.now.window highest m.first) }
         ensures greatest { MatchOption result (IsComplete self.now.window highest) (λ m. IsGreatestGap self.now.window highest m.last) }
     {
@@ -135,7 +134,7 @@ impl Other {
 
     // Puts out a NAK of what is missing up to the highest, where something is.
     fn ask_up_to(&self, who: &Identity, highest: u64, out: &mut Output) -> Result<(), AllocError>
-        requires { highest ≤ 2 ^ 62 }
+        requires { highest ≤ GREATEST_NUMBER }
         ensures { OnOk result (AsksUpTo who.now.address who.now.group highest self.now out.old out.new) }
     {
         match self.missing(highest) {
@@ -185,7 +184,7 @@ impl Other {
         ensures few { OnOk result (IsFew out.old out.new) }
     {
         let before = self.window.delivered();
-        if before < place.get().saturating_sub(REACH) {
+        if before < place.get().saturating_sub(WINDOW) {
             return Ok(());
         }
         self.collect_below(place);
@@ -208,7 +207,7 @@ impl Other {
         let delivered = self.window.delivered();
         let stable = progress.stable().get();
         let highest = progress.highest().get();
-        if delivered < stable || delivered < highest.saturating_sub(REACH) {
+        if delivered < stable || delivered < highest.saturating_sub(WINDOW) {
             return Ok(());
         }
         self.window.collect(stable);

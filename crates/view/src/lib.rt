@@ -9,11 +9,9 @@ mod addresses;
 
 use address::{Address, ViewId};
 pub use addresses::Addresses;
+use limits::MEMBERS;
 use std::alloc::{AllocError, Global};
 use std::marker::Model;
-
-/// The most members that a view may have.
-pub const MEMBERS: usize = 16;
 
 /// Why a list of members is no view of its id.
 #[derive(Clone, Copy, Debug, PartialEq, Eq)]

@@ -8,8 +8,8 @@ ghost use Rattle.wire.specs.Lists.{may_follow, members_at, view_at, rest_after, 
 use crate::error::WireError;
 use crate::fields::Reader;
 use address::{Address, ViewId};
+use limits::MEMBERS;
 use std::marker::Model;
-use view::MEMBERS;
 
 /// At most 16 addresses, which lie in the value itself. Contracts see them as a list.
 #[derive(Drop)]
@@ -21,7 +21,7 @@ pub struct Members {
 impl Model for Members {
     ghost use Rattle.std.specs.Prelude.{List, take, ◌≤◌};
     ghost use Rattle.address.specs.Ids.{Address};
-    ghost use Rattle.view.specs.declared.TheConstants.{MEMBERS};
+    ghost use Rattle.limits.specs.declared.TheConstants.{MEMBERS};
 
     ghost Value = { List Address };
 

@@ -9,12 +9,6 @@ use address::{Address, Node};
 use std::alloc::{AllocError, Global};
 use trace_props::Bytes;
 
-/// The most own messages that a member may have sent and not been told yet.
-pub const OUTSTANDING: usize = 8;
-
-/// The most messages of a view past the known stable one.
-pub const REACH: usize = 32;
-
 /// What a world is told to do (docs/GUARANTEES.md, "Faithful").
 #[derive(Debug, Drop)]
 pub enum WorldEvent {
