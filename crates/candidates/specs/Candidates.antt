@@ -25,7 +25,7 @@ all_candidates me members b =
     let list = unsuspected b.suspects (members ++ b.joiners ++ b.merging) in
     filter (is_current me list) list
 
--- who may be in the next view: the first 16 of them
+-- who may be in the next view: the first `MEMBERS` of them
 abbrev pub candidates : Address → List Address → NotesModel → List Address
 candidates me members b = take MEMBERS (all_candidates me members b)
 

@@ -171,7 +171,7 @@ impl Notes {
         Ok(left)
     }
 
-    /// Who may be in the member's next view, at most 16: the view's members by rank, then the joiners, then those of other views, in order of arrival.
+    /// Who may be in the member's next view, at most `MEMBERS`: the view's members by rank, then the joiners, then those of other views, in order of arrival.
     /// None who is suspected, none twice, and none but `me` of whose node a later incarnation is among them.
     pub fn candidates(
         &self,
@@ -186,7 +186,7 @@ impl Notes {
         Ok(Addresses::from_vec(left))
     }
 
-    /// How many could be in the member's next view, were there room: as many as the candidates would be without the bound of 16.
+    /// How many could be in the member's next view, were there room: as many as the candidates would be without the bound of `MEMBERS`.
     pub fn candidate_count(
         &self,
         alloc: Global,
@@ -218,7 +218,7 @@ impl Notes {
     }
 
     /// Notes an address that asks to be let in, last of the joiners. Changes nothing where it, or a later incarnation of its node, is in the view, in the list
-    /// of the member's own flush (`listed`, empty without one) or noted, nor where the candidates would be more than 16.
+    /// of the member's own flush (`listed`, empty without one) or noted, nor where the candidates would be more than `MEMBERS`.
     pub fn note_joiner(
         &mut self,
         alloc: Global,
@@ -262,7 +262,7 @@ impl Notes {
     }
 
     /// Notes those of another view who are neither in the member's own view nor suspected nor noted, in order, and hears of the other view's counter.
-    /// Changes nothing where there are none, nor where the candidates would be more than 16: so all of them are noted, or none.
+    /// Changes nothing where there are none, nor where the candidates would be more than `MEMBERS`: so all of them are noted, or none.
     pub fn note_view(
         &mut self,
         alloc: Global,

@@ -76,7 +76,7 @@ impl Receiver for ChatLog {
         })
     }
 
-    /// Adds a message as the newest line, and drops the oldest above 24. A payload of more than 512 bytes, and memory
+    /// Adds a message as the newest line, and drops the oldest above `LINES`. A payload of more than `PAYLOAD` bytes, and memory
     /// that is refused, leave the lines as they are.
     fn receive(&mut self, from: Address, payload: &[u8]) -> Result<(), AllocError>
         ensures applies { OnOk result (length payload.now ≤ PAYLOAD → self.new ≡ chat_apply self.old from payload.now) }
@@ -97,7 +97,7 @@ impl Receiver for ChatLog {
 
     fn blocked(&mut self) {}
 
-    /// Appends the encoding, at most 12,481 bytes. Where memory is refused, the bytes are as they were.
+    /// Appends the encoding, at most `LONGEST` bytes. Where memory is refused, the bytes are as they were.
     #[tactic(auto, using(crate::specs::ChatLaws::encoded_short))]
     fn get_state(&self, state: &mut Vec<u8>) -> Result<(), AllocError>
         ensures ok { OnOk result (state.new.items ≡ state.old.items ++ chat_encode self.now) }

@@ -3,7 +3,6 @@ ghost use Rattle.std.specs.Option.{IsSomeAnd, option_copied, option_and_then, op
 ghost use Rattle.trace_props.specs.Recorded.{IsRecordable};
 ghost use Rattle.agreement.specs.Cores.{idle, is_frozen};
 ghost use Rattle.member_hearing.specs.Running.{IsAlive};
-ghost use Rattle.limits.specs.declared.TheConstants.{STEP_EVENTS};
 ghost use Rattle.member.specs.Members.{core_of, refusal_of, is_unreadable};
 ghost use Rattle.member.specs.Doing.{Does};
 ghost use Rattle.member.specs.Handling.{HasActed, RefusesAs, EndsWithout, IsClosed, Replies, IsPrompt, Ignores};
@@ -15,6 +14,7 @@ use crate::handling::{
 use crate::watching::watched_in;
 use crate::{Error, Input};
 use address::Address;
+use limits::STEP_EVENTS;
 use membership::Life;
 use output::{Identity, KeptName, Output};
 use packet_values::GroupName;

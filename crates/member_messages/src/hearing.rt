@@ -48,7 +48,7 @@ pub fn takes_ack<R: Receiver>(life: &Life<R>, source: &Address, view: ViewId, co
     }
 }
 
-/// Whether an ORDER is taken: heard by another member from the coordinator, at most 32 past what was delivered there.
+/// Whether an ORDER is taken: heard by another member from the coordinator, at most `WINDOW` past what was delivered there.
 pub fn takes_order<R: Receiver>(
     life: &Life<R>,
     source: &Address,
@@ -68,7 +68,7 @@ pub fn takes_order<R: Receiver>(
     }
 }
 
-// Whether a STATUS is of no more than was delivered here, and reaches at most 32 past it.
+// Whether a STATUS is of no more than was delivered here, and reaches at most `WINDOW` past it.
 fn is_near(other: &Other, progress: Progress) -> bool
     ensures { result ≡ is_near progress other.now }
 {
@@ -77,7 +77,7 @@ fn is_near(other: &Other, progress: Progress) -> bool
         && progress.highest().get().saturating_sub(WINDOW) <= delivered
 }
 
-/// Whether a STATUS is taken: heard by another member from the coordinator, of no more than was delivered there, and at most 32 past it.
+/// Whether a STATUS is taken: heard by another member from the coordinator, of no more than was delivered there, and at most `WINDOW` past it.
 pub fn takes_status<R: Receiver>(
     life: &Life<R>,
     source: &Address,

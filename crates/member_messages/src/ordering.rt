@@ -21,7 +21,7 @@ use state_transfer::Receiver;
 use std::alloc::AllocError;
 use traffic::Traffic;
 
-/// A FORWARD: where it is taken, its message waits where it is new and at most 8 past its source's ordered ones, and all is ordered that may be. Any
+/// A FORWARD: where it is taken, its message waits where it is new and at most `OUTSTANDING` past its source's ordered ones, and all is ordered that may be. Any
 /// other is ignored, and takes no memory. After an error for want of memory nothing is said of the member.
 pub fn on_forward<R: Receiver>(
     life: &mut Life<R>,

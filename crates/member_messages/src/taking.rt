@@ -21,7 +21,7 @@ use state_transfer::Receiver;
 use std::alloc::AllocError;
 use traffic::Traffic;
 
-/// An ORDER: where it is taken, what lies 32 below it is stable, it is held where it is new, what is held in turn is delivered, and it is answered by an
+/// An ORDER: where it is taken, what lies `WINDOW` below it is stable, it is held where it is new, what is held in turn is delivered, and it is answered by an
 /// ACK or a NAK, or not at all. Any other is ignored, and takes no memory. After an error for want of memory nothing is said of the member.
 pub fn on_order<R: Receiver>(
     life: &mut Life<R>,

@@ -1,4 +1,4 @@
--- In a change of view at most 35 events happen, none of which an input asks for by itself.
+-- In a change of view at most `WINDOW` + 3 events happen, none of which an input asks for by itself.
 use Rattle.std.proofs.Common.{◌≡◌, ℕ, zero, suc, ◌+◌, ◌-◌, ◌≤◌, Bool, true, false, Option, Some, None, List, [], ◌∷◌, ◌++◌, map, refl, sym, ap, ◌∙◌, subst, is_some, ◌&&◌, not, length, arith}
 use Rattle.std.specs.Prelude.{MatchBool, MatchOption, drop, if◌then◌else◌}
 use Rattle.std.specs.Option.{option_map_or}

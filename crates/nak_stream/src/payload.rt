@@ -4,7 +4,7 @@ use packet_values::Payload;
 use std::alloc::{AllocError, Global};
 use std::marker::Model;
 
-/// A message's payload that is kept: at most 512 bytes.
+/// A message's payload that is kept: at most `PAYLOAD` bytes.
 #[derive(Debug, Drop)]
 pub struct KeptPayload {
     bytes: Vec<u8>,

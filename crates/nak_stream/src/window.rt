@@ -16,7 +16,7 @@ use std::marker::Model;
 /// A window of a view: how many messages are known to be stable, how many were delivered here, and the entries
 /// that are held, each at its number in the view's one order. Numbers run from 1 to `GREATEST_NUMBER`.
 ///
-/// The stable count is at most the delivered one. All that is held lies above the stable count and at most 32 above
+/// The stable count is at most the delivered one. All that is held lies above the stable count and at most `WINDOW` above
 /// it, and each number from the stable count to the delivered one is held (docs/PROTOCOL.md, "Window").
 #[derive(Debug, Drop)]
 pub struct Window {
@@ -85,7 +85,7 @@ impl Window {
     }
 
     /// Offers a lent entry at the number `g`. It is taken, and true is answered, exactly where `g` is above the delivered count, at most
-    /// 32 above the stable count and at most `GREATEST_NUMBER`, and nothing is held there. The entry is copied.
+    /// `WINDOW` above the stable count and at most `GREATEST_NUMBER`, and nothing is held there. The entry is copied.
     /// An error for want of memory comes only where it was to be taken; it leaves the window as it was.
     pub fn accept(&mut self, g: u64, entry: &LentEntry<'_>) -> Result<bool, AllocError>
         ensures answer { IfOk result (λ answer. answer ≡ offers g self.old) }

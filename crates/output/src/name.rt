@@ -5,7 +5,7 @@ use limits::GROUP_NAME;
 use packet_values::GroupName;
 use std::marker::Model;
 
-/// The name of a group, kept: 1 to 32 bytes.
+/// The name of a group, kept: 1 to `GROUP_NAME` bytes.
 #[derive(Debug, Drop)]
 pub struct KeptName {
     bytes: [u8; GROUP_NAME],

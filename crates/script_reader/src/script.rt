@@ -83,7 +83,7 @@ impl Script {
 ///
 /// # Errors
 ///
-/// `Unread::Fault` has the first line that is none of these and what is wrong with it: it has more than 4,096 bytes (43),
+/// `Unread::Fault` has the first line that is none of these and what is wrong with it: it has more than `SCRIPT_LINE` bytes (43),
 /// begins with no known word (40), lacks a field (42), or has a field that is no such number or one field too many (41).
 /// `Unread::Memory` where memory was refused.
 #[tactic(auto, using(crate::proofs::Reading::script_is_going_on))]

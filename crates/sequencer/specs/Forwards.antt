@@ -10,14 +10,14 @@ pub record ForwardsModel : Type 0 where
   pub sent : ℕ
   pub rest : List Numbered
 
--- the outstanding ones are the last that were sent, at most 8 of them
+-- the outstanding ones are the last that were sent, at most `OUTSTANDING` of them
 pub record IsForwards (w : ForwardsModel) : Type 0 where
   pub some : length w.rest ≤ w.sent
   pub few : length w.rest ≤ OUTSTANDING
   pub last : w.sent ≤ GREATEST_NUMBER
   pub numbered : (k : ℕ) (f : Numbered) → slice_get w.rest k ≡ Some f → f.number + length w.rest ≡ w.sent + k + 1
 
--- each payload has at most 512 bytes
+-- each payload has at most `PAYLOAD` bytes
 abbrev pub AreShort : List Numbered → Type 0
 AreShort messages = (k : ℕ) (m : Numbered) → slice_get messages k ≡ Some m → length m.payload ≤ PAYLOAD
 

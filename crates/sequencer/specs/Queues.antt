@@ -26,7 +26,7 @@ pub record Queue : Type 0 where
 abbrev pub idle : Address → Queue
 idle p = record { sender = p; ordered = 0; waiting = [] }
 
--- whether a message with this number is taken: it was not ordered, is at most 8 past what was, and does not wait already
+-- whether a message with this number is taken: it was not ordered, is at most `OUTSTANDING` past what was, and does not wait already
 abbrev pub takes : ℕ → Queue → Bool
 takes n q = nat_lt q.ordered n && nat_le n (q.ordered + OUTSTANDING) && not (list_any (λ f. nat_eq n f.number) q.waiting)
 

@@ -13,7 +13,7 @@ use trace_props::{Bytes, HandedBack, Numbered};
 /// Why a message is not taken among the outstanding ones.
 #[derive(Clone, Copy, Debug, PartialEq, Eq)]
 pub enum PushRefusal {
-    /// 3: eight messages are outstanding.
+    /// 3: `OUTSTANDING` messages are outstanding.
     Busy,
     /// 8: the numbers of the view are used up.
     Exhausted,
@@ -34,7 +34,7 @@ impl PushRefusal {
     }
 }
 
-/// A member's own messages of a view that were sent and not delivered here, at most 8 of them, by their numbers. Numbers run from 1 to `GREATEST_NUMBER`.
+/// A member's own messages of a view that were sent and not delivered here, at most `OUTSTANDING` of them, by their numbers. Numbers run from 1 to `GREATEST_NUMBER`.
 #[derive(Debug, Drop)]
 pub struct Forwards {
     sent: u64,
@@ -62,7 +62,7 @@ impl Forwards {
         }
     }
 
-    /// Takes a message under the next number, which is answered. Refused, with the payload given back and all as it was, with 3 exactly where 8
+    /// Takes a message under the next number, which is answered. Refused, with the payload given back and all as it was, with 3 exactly where `OUTSTANDING`
     /// messages are outstanding, else with 8 exactly where `GREATEST_NUMBER` were sent, else with 7 where memory was refused.
     pub fn push(&mut self, payload: KeptPayload) -> Result<Number, (KeptPayload, PushRefusal)>
         ensures number { MatchResult result (λ number. number ≡ self.old.sent + 1) (λ refused. refused.0 ≡ payload) }

@@ -54,7 +54,7 @@ impl Orderer {
     }
 
     /// Offers a sender's message. It is taken, and true is answered, exactly where the sender is a member of the view and the number is not ordered yet, does
-    /// not wait already, and is at most 8 past the sender's ordered ones. The payload is copied. An error for want of memory comes only where it was
+    /// not wait already, and is at most `OUTSTANDING` past the sender's ordered ones. The payload is copied. An error for want of memory comes only where it was
     /// to be taken; it leaves all as it was.
     pub fn forward(
         &mut self,
@@ -70,7 +70,7 @@ impl Orderer {
         offer_to(&mut self.queues, self.alloc, sender, number, payload)
     }
 
-    /// Orders one message, where fewer than 32 lie past the `stable` ones and fewer than `GREATEST_NUMBER` were ordered: that of the member of
+    /// Orders one message, where fewer than `WINDOW` lie past the `stable` ones and fewer than `GREATEST_NUMBER` were ordered: that of the member of
     /// lowest rank whose next number waits. Answers its number in the order, from 1, and the message. Takes no memory.
     pub fn ready(&mut self, stable: u64) -> Option<(Number, Entry)>
         ensures answer { result ≡ option_map (λ e. (self.old.ordered + 1, e)) (next_ordered stable self.old) }

@@ -57,7 +57,7 @@ impl Queue {
         self.ordered < number && number - self.ordered <= OUTSTANDING && !self.waits(number)
     }
 
-    /// Takes a copy of the message, where it is new and at most 8 past what was ordered.
+    /// Takes a copy of the message, where it is new and at most `OUTSTANDING` past what was ordered.
     pub fn offer(
         &mut self,
         alloc: Global,

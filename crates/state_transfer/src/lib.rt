@@ -33,7 +33,7 @@ pub trait Receiver: Drop + Sized {
     fn opening(alloc: Global) -> Result<Self, AllocError>
         ensures { IfOk result (λ r. r ≡ opening_state) };
 
-    /// Applies a message of at most 512 bytes.
+    /// Applies a message of at most `PAYLOAD` bytes.
     fn receive(&mut self, from: Address, payload: &[u8]) -> Result<(), AllocError>
         ensures { OnOk result (length payload.now ≤ PAYLOAD → self.new ≡ apply self.old from payload.now) };
 
@@ -45,7 +45,7 @@ pub trait Receiver: Drop + Sized {
     fn blocked(&mut self)
         ensures { self.new ≡ self.old };
 
-    /// Appends its state as bytes, at most 16,384 of them.
+    /// Appends its state as bytes, at most `STATE` of them.
     fn get_state(&self, state: &mut Vec<u8>) -> Result<(), AllocError>
         ensures appends { OnOk result (state.new.items ≡ state.old.items ++ encode self.now) }
         ensures short { OnOk result (length (encode self.now) ≤ STATE) };

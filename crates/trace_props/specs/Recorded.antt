@@ -10,7 +10,7 @@ pub record Recorded : Type 0 where
   pub events : List Event
   pub room : ℕ
 
--- each payload that an event carries has at most 512 bytes
+-- each payload that an event carries has at most `PAYLOAD` bytes
 abbrev pub IsShort : Event → Type 0
 IsShort (Started p) = Unit {0}
 IsShort (Sent s) = length s.message.payload ≤ PAYLOAD

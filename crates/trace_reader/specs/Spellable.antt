@@ -25,7 +25,7 @@ pub record IsViewId (v : ViewId) : Type 0 where
 abbrev pub AreBytes : List ℕ → Type 0
 AreBytes bytes = All (λ b. b < 256) bytes
 
--- at most 512 bytes
+-- at most `PAYLOAD` bytes
 pub record IsPayload (x : List ℕ) : Type 0 where
   pub bytes : AreBytes x
   pub short : length x ≤ PAYLOAD

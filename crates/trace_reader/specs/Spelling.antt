@@ -83,7 +83,7 @@ messages_of_text text = each_of message_of_text (parts_of text)
 unfoldable pub handed_back_of_text : List ℕ → Option (List Numbered)
 handed_back_of_text text = if bytes_eq text dash then Some [] else messages_of_text text
 
--- each payload has at most 512 bytes
+-- each payload has at most `PAYLOAD` bytes
 abbrev pub AreShort : List Numbered → Type 0
 AreShort messages = (k : ℕ) (m : Numbered) → slice_get messages k ≡ Some m → length m.payload ≤ PAYLOAD
 

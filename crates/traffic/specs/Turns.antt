@@ -70,7 +70,7 @@ pub record IsSettled (p : Address) (m : Coordinator) : Type 0 where
   pub least : m.window.stable ≡ stable_count m.acks
   pub own : find (is_from p) m.orderer.queues ≡ Some (own_queue p m.forwards)
 
--- at most 32 events more
+-- at most `WINDOW` events more
 abbrev pub IsFew : Output → Output → Type 0
 IsFew old new = length new.events.items ≤ length old.events.items + WINDOW
 

@@ -167,8 +167,8 @@ impl Other {
         Ok(())
     }
 
-    /// An ORDER of the coordinator: what lies 32 below it is stable, it is held where it is new, and what is held in turn is delivered. An ACK is put out
-    /// where messages were delivered, else a NAK where it was new. An ORDER more than 32 past what was delivered here is ignored. After an error for want of
+    /// An ORDER of the coordinator: what lies `WINDOW` below it is stable, it is held where it is new, and what is held in turn is delivered. An ACK is put out
+    /// where messages were delivered, else a NAK where it was new. An ORDER more than `WINDOW` past what was delivered here is ignored. After an error for want of
     /// memory nothing is said of the member.
     pub fn order<R: Receiver>(
         &mut self,
@@ -195,7 +195,7 @@ impl Other {
     }
 
     /// A STATUS of the coordinator: what is stable is let go of, and a NAK is put out where something is missing. A stable count above what was delivered here,
-    /// or a highest number more than 32 past it, is ignored. After an error for want of memory nothing is said of the output.
+    /// or a highest number more than `WINDOW` past it, is ignored. After an error for want of memory nothing is said of the output.
     pub fn status(
         &mut self,
         who: &Identity,

@@ -120,7 +120,7 @@ impl Traffic {
         self.window().kept();
     }
 
-    /// How many entries are held, at most 32.
+    /// How many entries are held, at most `WINDOW`.
     pub fn held_count(&self) -> u8
         ensures { result ≡ length (traffic_of self.now).held }
     {

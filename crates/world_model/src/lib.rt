@@ -106,9 +106,9 @@ pub enum Refusal {
     NotConnected,
     /// 2: the member is blocked until its next view.
     Blocked,
-    /// 3: eight own messages are not delivered yet.
+    /// 3: `OUTSTANDING` own messages are not delivered yet.
     Busy,
-    /// 4: the payload has more than 512 bytes.
+    /// 4: the payload has more than `PAYLOAD` bytes.
     TooLong,
     /// 5: the member is connected, or runs, already.
     AlreadyConnected,
