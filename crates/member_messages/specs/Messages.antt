@@ -111,7 +111,7 @@ pub record DeliversNext (me : Address) (v : ViewId) (sent : ℕ) (payload : List
   pub more : List Event
   pub grows : later.events.items
       ≡ out.events.items ++ Sent (sending me v (sent + 1) payload) ∷ delivery me v (record { sender = me; number = sent + 1; payload = payload }) ∷ more
-  pub few : length more ≤ (WINDOW - 1)
+  pub few : length more ≤ WINDOW - 1
   pub quiet : list_all is_quiet more ≡ true
 
 abbrev pub DeliversAtOnce : {S : Type 0} → Address → List ℕ → Life S → Output → Output → Type 0

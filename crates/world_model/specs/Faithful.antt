@@ -45,7 +45,7 @@ AnswersStart n h a stretch =
     ⊎ ((a ≡ Refused Memory) × (stretch ≡ Started (next_member n h.trace) ∷ Crashed (next_member n h.trace) ∷ [])))
     (Refuses Exhausted a stretch))
 
--- ALL OTHER STEP_EVENTS
+-- ALL OTHER EVENTS
 
 -- at a node's member: refused where the node was never started, and where its last member has ended
 abbrev pub AtMember : ℕ → History → Answer → List Event → (Address → Type 0) → Type 0
