@@ -1,4 +1,4 @@
-ghost use Rattle.std.specs.Prelude.{◌≡◌, ◌≤◌, ◌^◌, ◌++◌, [], fold, filter, length, IfOk, OnOk, OnErr, IfSome};
+ghost use Rattle.std.specs.Prelude.{◌≡◌, ◌≤◌, ◌++◌, [], fold, filter, length, IfOk, OnOk, OnErr, IfSome};
 ghost use Rattle.view.specs.Members.{stands_in};
 ghost use Rattle.suspicion.specs.Suspicion.{leads};
 ghost use Rattle.candidates.specs.Notes.{no_notes, settled, having_heard, suspecting, outdates, outdating};

@@ -11,9 +11,9 @@ mod writing;
 
 pub use chat::Chat;
 pub use law::one_encoding;
+use limits::PAYLOAD;
 pub use lines::Line;
 pub use log::ChatLog;
-use limits::PAYLOAD;
 
 /// The most lines that a chat keeps.
 pub const LINES: usize = 24;

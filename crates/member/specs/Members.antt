@@ -1,5 +1,5 @@
 -- A member as contracts see it: who it is, what it decides by while it runs, and why it refuses an input.
-use Rattle.std.specs.Prelude.{ℕ, ◌^◌, Bool, true, false, not, is_some, List, length, Result, Ok, Err, Option, None, Some, nat_lt, nat_le, if◌then◌else◌}
+use Rattle.std.specs.Prelude.{ℕ, Bool, true, false, not, is_some, List, length, Result, Ok, Err, Option, None, Some, nat_lt, nat_le, if◌then◌else◌}
 use Rattle.std.specs.Option.{option_map, option_map_or, option_and_then}
 use Rattle.address.specs.Ids.{Address}
 use Rattle.limits.specs.declared.TheConstants.{PAYLOAD, OUTSTANDING, GREATEST_NUMBER}

@@ -1,5 +1,5 @@
 -- What a member does with the messages of its view.
-use Rattle.std.specs.Prelude.{◌≡◌, ℕ, ◌+◌, ◌-◌, ◌≤◌, ◌^◌, true, Bool, List, [], ◌∷◌, ◌++◌, map, length, Option, None, Some, nat_lt, ◌&&◌, MatchBool}
+use Rattle.std.specs.Prelude.{◌≡◌, ℕ, ◌+◌, ◌-◌, ◌≤◌, true, Bool, List, [], ◌∷◌, ◌++◌, map, length, Option, None, Some, nat_lt, ◌&&◌, MatchBool}
 use Rattle.std.specs.List.{list_all}
 use Rattle.address.specs.Ids.{Address, ViewId}
 use Rattle.limits.specs.declared.TheConstants.{WINDOW, GREATEST_NUMBER}

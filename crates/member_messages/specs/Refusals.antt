@@ -1,5 +1,5 @@
 -- Why a message of the member's own is refused.
-use Rattle.std.specs.Prelude.{ℕ, ◌^◌, not, is_some, List, length, Option, None, Some, nat_lt, nat_le, if◌then◌else◌}
+use Rattle.std.specs.Prelude.{ℕ, not, is_some, List, length, Option, None, Some, nat_lt, nat_le, if◌then◌else◌}
 use Rattle.limits.specs.declared.TheConstants.{PAYLOAD, OUTSTANDING, GREATEST_NUMBER}
 use Rattle.agreement.specs.Cores.{Core, is_frozen}
 use Rattle.member_messages.specs.declared.refusal.SendRefusal.{SendRefusal}

@@ -1,4 +1,4 @@
-ghost use Rattle.std.specs.Prelude.{◌≡◌, ◌+◌, ◌≤◌, ◌^◌, false, map, position, IfOk, OnOk, OnErr, IsTrue, MatchOption};
+ghost use Rattle.std.specs.Prelude.{◌≡◌, ◌+◌, ◌≤◌, false, map, position, IfOk, OnOk, OnErr, IsTrue, MatchOption};
 ghost use Rattle.std.specs.List.{find};
 ghost use Rattle.std.specs.Option.{option_map, option_map_or};
 ghost use Rattle.sequencer.specs.Queues.{OrdererModel, idle, has_next, is_from, is_taken, forwarded, first_next, change_first, served, takes, offered, may_order, next_ordered, ordering};
@@ -22,7 +22,7 @@ pub struct Orderer {
 }
 
 impl Model for Orderer {
-    ghost use Rattle.std.specs.Prelude.{◌≤◌, ◌^◌};
+    ghost use Rattle.std.specs.Prelude.{◌≤◌};
     ghost use Rattle.limits.specs.declared.TheConstants.{GREATEST_NUMBER};
     ghost use Rattle.sequencer.specs.Queues.{OrdererModel};
 

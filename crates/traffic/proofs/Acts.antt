@@ -1,5 +1,5 @@
 -- What the coordinator of a view does is acts.
-use Rattle.std.proofs.Common.{◌≡◌, ℕ, ◌+◌, ◌<◌, ◌≤◌, ◌^◌, Bool, true, false, cond, not, max, min, Option, Some, None, List, [], ◌∷◌, map, drop, length, refl, sym, ap, ◌∙◌, subst, arith, is_some}
+use Rattle.std.proofs.Common.{◌≡◌, ℕ, ◌+◌, ◌<◌, ◌≤◌, Bool, true, false, cond, not, max, min, Option, Some, None, List, [], ◌∷◌, map, drop, length, refl, sym, ap, ◌∙◌, subst, arith, is_some}
 use Rattle.std.specs.Prelude.{if◌then◌else◌, nat_lt, nat_eq, MatchBool}
 use Rattle.std.specs.List.{Contains, cons_option}
 use Rattle.std.proofs.lemmas.Bool.Decides.{nat_tests}

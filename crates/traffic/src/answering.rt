@@ -1,6 +1,6 @@
 //! The coordinator answers a NAK, and puts out on a tick how far its order has come.
 
-ghost use Rattle.std.specs.Prelude.{◌≡◌, ◌+◌, ◌-◌, ◌≤◌, ◌<◌, ◌^◌, [], map, OnOk};
+ghost use Rattle.std.specs.Prelude.{◌≡◌, ◌+◌, ◌-◌, ◌≤◌, ◌<◌, [], map, OnOk};
 ghost use Rattle.wire.specs.declared.packet.Body.TheVariants as bodies;
 ghost use Rattle.agreement.specs.Acts.{packet, others_of};
 ghost use Rattle.output.specs.Outputs.{Grows};

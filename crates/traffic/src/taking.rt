@@ -1,6 +1,6 @@
 //! The rules of a member of a view other than its coordinator: what it takes, what it asks for, and what it sends.
 
-ghost use Rattle.std.specs.Prelude.{◌≡◌, ◌+◌, ◌-◌, ◌<◌, ◌≤◌, ◌^◌, ◌||◌, nat_lt, map, length, Option, Some, None, true, false, [], ◌∷◌, ◌++◌, OnOk, IfOk, MatchBool, MatchOption};
+ghost use Rattle.std.specs.Prelude.{◌≡◌, ◌+◌, ◌-◌, ◌<◌, ◌≤◌, ◌||◌, nat_lt, map, length, Option, Some, None, true, false, [], ◌∷◌, ◌++◌, OnOk, IfOk, MatchBool, MatchOption};
 ghost use Rattle.wire.specs.declared.packet.Body.TheVariants as bodies;
 ghost use Rattle.agreement.specs.Histories.{Posted};
 ghost use Rattle.agreement.specs.Acts.{packet};

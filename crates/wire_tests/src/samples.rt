@@ -1,4 +1,4 @@
-ghost use Rattle.std.specs.Prelude.{◌≤◌, ◌^◌, length};
+ghost use Rattle.std.specs.Prelude.{◌≤◌, length};
 ghost use Rattle.limits.specs.declared.TheConstants.{GREATEST_NUMBER, PAYLOAD};
 
 use address::{Address, Node, ViewId};

@@ -1,6 +1,6 @@
 -- A window fills up: each ORDER that answers a request brings it one number further.
 use Rattle.std.proofs.Common.{◌≡◌, ℕ, ◌+◌, ◌-◌, ◌<◌, ◌≤◌, Bool, true, false, cond, not, ◌&&◌, Option, Some, None, List, [], ◌∷◌, ◌++◌, inl, inr, nat_eq, nat_lt, min, refl, sym, ap, ◌∙◌, subst, arith}
-use Rattle.std.specs.Prelude.{◌^◌, nat_le, is_some, IsSome, ◌⊎◌}
+use Rattle.std.specs.Prelude.{nat_le, is_some, IsSome, ◌⊎◌}
 use Rattle.std.proofs.lemmas.Bool.{cond-true}
 use Rattle.std.proofs.lemmas.Bool.Decides.{nat_tests}
 use Rattle.limits.specs.declared.TheConstants.{WINDOW, GREATEST_NUMBER}

@@ -1,6 +1,6 @@
 -- A catch-up brings a member level with the coordinator of its view.
 use Rattle.std.proofs.Common.{◌≡◌, ℕ, zero, suc, ◌+◌, ◌-◌, ◌<◌, ◌≤◌, Bool, true, false, cond, not, ◌&&◌, Option, Some, None, Ok, List, [], ◌∷◌, ◌++◌, map, drop, length, is_some, nat_eq, nat_lt, inl, inr, ◌⊎◌, refl, sym, ap, ◌∙◌, subst, arith}
-use Rattle.std.specs.Prelude.{◌^◌, ◌||◌, IsSome}
+use Rattle.std.specs.Prelude.{◌||◌, IsSome}
 use Rattle.std.specs.List.{slice_get, position_from, AllByRecursion}
 use Rattle.std.specs.Option.{option_map, option_map_or}
 use Rattle.std.proofs.lemmas.Bool.{cond-true, cond-false, eqb-true}
