@@ -5,7 +5,7 @@ use Rattle.std.proofs.lemmas.Option.{none-some}
 use Rattle.address.specs.Ids.{Address, IsAddress}
 use Rattle.packet_values.specs.Values.{Entry}
 use Rattle.wire.specs.Values.{Report}
-use Rattle.packet_values.specs.declared.limits.TheConstants.{PAYLOAD}
+use Rattle.limits.specs.declared.TheConstants.{PAYLOAD}
 use Rattle.flush.specs.Cuts.{held_among, greatest_stable, IsCut}
 use Rattle.flush.specs.Flushes.{group}
 use Rattle.trace_props.specs.Rules.{IsBelow}

@@ -3,7 +3,7 @@ use Rattle.std.proofs.Common.{◌≡◌, ℕ, ◌≤◌, true, false, length, Op
 use Rattle.std.specs.Prelude.{IsSome}
 use Rattle.std.specs.Option.{IsSomeAnd, option_map_or}
 use Rattle.address.specs.Ids.{Address, IsAddress}
-use Rattle.packet_values.specs.declared.limits.TheConstants.{PAYLOAD}
+use Rattle.limits.specs.declared.TheConstants.{PAYLOAD}
 use Rattle.agreement.specs.Cores.{Core}
 use Rattle.agreement.specs.Acts.{Act, Creates, Joins, Puts, Sends, Queues, Orders, Hears, Collects, Holds, Delivers, Promises, Begins, Records, Finishes, Enters, Leaves, Allowed}
 use Rattle.agreement.specs.Steps.{System, Step, Start, Crash, Does, MayStep, MayRun, nothing_yet, came_of, acted, stepped, after_steps}

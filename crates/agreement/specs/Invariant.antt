@@ -1,7 +1,7 @@
 -- The invariant: what holds of every history that comes of steps, in four families. Of the trace, of each packet, of each install, of each member.
 use Rattle.std.specs.Prelude.{◌≡◌, ◌≤◌, ℕ, true, Option, None, Some, List, [], length, slice_get, is_some}
 use Rattle.address.specs.Ids.{Address, ViewId, IsAddress}
-use Rattle.packet_values.specs.declared.limits.TheConstants.{PAYLOAD}
+use Rattle.limits.specs.declared.TheConstants.{PAYLOAD}
 use Rattle.wire.specs.Values as wire
 use Rattle.trace_props.specs.declared.event.Event.{Event}
 use Rattle.trace_props.specs.declared.event.Numbered.{Numbered}

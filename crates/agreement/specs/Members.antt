@@ -4,7 +4,7 @@ use Rattle.std.specs.Option.{ForSome, IsSomeAnd, option_map}
 use Rattle.address.specs.Ids.{Address, ViewId, same_address}
 use Rattle.view.specs.Members.{View, stands_in}
 use Rattle.view.specs.View.{view_refusal}
-use Rattle.packet_values.specs.declared.limits.TheConstants.{WINDOW}
+use Rattle.limits.specs.declared.TheConstants.{WINDOW}
 use Rattle.packet_values.specs.Values.{Entry, held_at}
 use Rattle.wire.specs.Values.{Report}
 use Rattle.wire.specs.Values as wire

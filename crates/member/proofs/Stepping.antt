@@ -8,8 +8,7 @@ use Rattle.std.proofs.lemmas.Bool.{and_from}
 use Rattle.std.proofs.lemmas.Bool.Decides.{nat_tests}
 use Rattle.std.proofs.lemmas.Option.{none-some, same_Some}
 use Rattle.address.specs.Ids.{Address, ViewId, same_address}
-use Rattle.address.specs.declared.TheConstants.{GREATEST_NUMBER}
-use Rattle.packet_values.specs.declared.limits.TheConstants.{WINDOW}
+use Rattle.limits.specs.declared.TheConstants.{GREATEST_NUMBER, WINDOW, STEP_EVENTS}
 use Rattle.trace_props.specs.Recorded.{IsShort, IsRecordable}
 use Rattle.trace_props.specs.declared.event.Event.{Event}
 use Rattle.trace_props.specs.declared.event.Event.TheVariants.{Sent, Delivered, Installed, Left}
@@ -37,7 +36,6 @@ use Rattle.member_views.specs.Ignoring.{is_hint_ignored}
 use Rattle.member_views.specs.Views.{Creates, Asks, OnSuspect, TellsView, Leaves, is_suspectable, has_member, has_promised}
 use Rattle.member_views.proofs.Doing.{create-did, ask-did, hint-did, suspect-did, leave-acted}
 use Rattle.member_views.proofs.Living.{outside}
-use Rattle.member.specs.declared.TheConstants.{EVENTS}
 use Rattle.member.specs.declared.error.Error.{Error}
 use Rattle.member.specs.declared.error.Error.TheVariants.{Memory, Closed, AlreadyConnected}
 use Rattle.member.specs.declared.input.Input.{Input}
@@ -81,9 +79,9 @@ steady-runs group p old new steady life runs = record { life = life; ordered = s
 pub only : (start out : Output) (happened : List Event) → Puts [] [] start → out.events.items ≡ start.events.items ++ happened → out.events.items ≡ happened
 only start out happened nothing grows = grows ∙ ap (λ l. l ++ happened) nothing.events
 
-pub calm-few : (n : ℕ) (start out : Output) → Puts [] [] start → IsCalm n start out → n ≤ EVENTS → length out.events.items ≤ EVENTS
+pub calm-few : (n : ℕ) (start out : Output) → Puts [] [] start → IsCalm n start out → n ≤ STEP_EVENTS → length out.events.items ≤ STEP_EVENTS
 calm-few n start out nothing calm less =
-    subst (λ l. length l ≤ EVENTS) (sym (only start out calm.more nothing calm.grows)) (let f : length calm.more ≤ n = calm.few in omega (arith, f, less))
+    subst (λ l. length l ≤ STEP_EVENTS) (sym (only start out calm.more nothing calm.grows)) (let f : length calm.more ≤ n = calm.few in omega (arith, f, less))
 
 pub calm-quiet : (n : ℕ) (start out : Output) → Puts [] [] start → IsCalm n start out → list_all is_quiet out.events.items ≡ true
 calm-quiet n start out nothing calm = ap (list_all is_quiet) (only start out calm.more nothing calm.grows) ∙ calm.quiet
@@ -215,7 +213,7 @@ module _ {S : Type 0} (apply : S → Address → List ℕ → S) (encode : S →
       → refusal_in (core_at p old) input ≡ None → is_unreadable decode (at (Some old)) input ≡ false
       → Replies (core_at p old) input out.events.items (Some (core_at p new)) → IsPrompt (core_at p old) input out.events.items
       → DoesBy apply encode decode group p (came_at (at (Some old)) input) input old new start out
-      → Ignores (at (Some old)) input (Ok out) (at (Some new)) → length out.events.items ≤ EVENTS → IsRunning group p new → Holds (Some old) input (Ok out) (Some new)
+      → Ignores (at (Some old)) input (Ok out) (at (Some new)) → length out.events.items ≤ STEP_EVENTS → IsRunning group p new → Holds (Some old) input (Ok out) (Some new)
   ok-handled old new input start out nothing did free readable reply prompt does ignored few runs =
       let happens : out.events.items ≡ did.happened = only start out did.happened nothing did.grows.events in
       record {
@@ -257,7 +255,7 @@ module _ {S : Type 0} (apply : S → Address → List ℕ → S) (encode : S →
       let happens : out.events.items ≡ Installed (lone_install p) ∷ [] = only start out _ nothing x.grows.events in
       ok-handled old new Create start out nothing (create-did apply encode decode group p None old new start out kept off x)
       (ap (λ b. if b then Some AlreadyConnected else None) off) refl (happens, ap is_connected x.life) tt x (λ i. absurd (let n : false ≡ true = i in cc))
-      (subst (λ l. length l ≤ EVENTS) (sym happens) (omega arith)) runs
+      (subst (λ l. length l ≤ STEP_EVENTS) (sym happens) (omega arith)) runs
 
   view-none : (traffic : Option Traffic) → traffic ≡ None → (if is_some (view_in traffic) then Some AlreadyConnected else None) ≡ None
   view-none None e = refl
@@ -269,7 +267,7 @@ module _ {S : Type 0} (apply : S → Address → List ℕ → S) (encode : S →
       let happens : out.events.items ≡ [] = only start out _ nothing x.grows.events in
       ok-handled old new (Join contact) start out nothing (ask-did apply encode decode group p None contact old new start out kept none x) (view-none old.traffic none) refl
       (happens, ap is_connected x.life ∙ ap (λ (t : Option Traffic). is_some t || true) none) tt x (λ i. absurd (let n : false ≡ true = i in cc))
-      (subst (λ l. length l ≤ EVENTS) (sym happens) (omega arith)) runs
+      (subst (λ l. length l ≤ STEP_EVENTS) (sym happens) (omega arith)) runs
 
   -- ---- it does not, where it is connected, or in a view
 
@@ -292,18 +290,18 @@ module _ {S : Type 0} (apply : S → Address → List ℕ → S) (encode : S →
   record IsSaid (traffic : Option Traffic) (payload : List ℕ) (happened : List Event) : Type 0 where
     first : Said traffic payload happened
     quiet : list_all is_quiet (drop 1 happened) ≡ true
-    few : length happened ≤ EVENTS
+    few : length happened ≤ STEP_EVENTS
     inside : is_some traffic ≡ true
 
   said-by : (v : ViewId) (sent : ℕ) (payload : List ℕ) (start out : Output) → Puts [] [] start → SendsNext p v sent payload start out
       → (out.events.items ≡ Sent (record { member = p; view = v; message = record { number = sent + 1; payload = payload } }) ∷ drop 1 out.events.items)
-      × (list_all is_quiet (drop 1 out.events.items) ≡ true) × (length out.events.items ≤ EVENTS)
+      × (list_all is_quiet (drop 1 out.events.items) ≡ true) × (length out.events.items ≤ STEP_EVENTS)
   said-by v sent payload start out nothing x =
       let s : Event = Sent (record { member = p; view = v; message = record { number = sent + 1; payload = payload } }) in
       let e : out.events.items ≡ s ∷ x.more = only start out (s ∷ x.more) nothing x.grows in (
         e ∙ ap (λ l. s ∷ l) (sym (ap (drop 1) e)),
         ap (λ l. list_all is_quiet (drop 1 l)) e ∙ x.quiet,
-        subst (λ l. length l ≤ EVENTS) (sym e) (let f : length x.more ≤ 32 = x.few in omega (arith, f)),
+        subst (λ l. length l ≤ STEP_EVENTS) (sym e) (let f : length x.more ≤ WINDOW = x.few in omega (arith, f)),
       )
 
   said : (traffic : Option Traffic) (payload : List ℕ) (start out : Output) → Puts [] [] start
@@ -365,21 +363,21 @@ module _ {S : Type 0} (apply : S → Address → List ℕ → S) (encode : S →
       let y : StaysAs old new start out = subst (λ (b : Bool). MatchBool b (TakesSuspicion apply encode group p q old new start out) (StaysAs old new start out)) e x in
       ap is_connected y.0
 
-  pub suspect-handled : (q : Address) (old new : Life S) (start out : Output) → IsLife group p old → Puts [] [] start → OnSuspect apply encode group p q old new start out → IsCalm 35 start out
+  pub suspect-handled : (q : Address) (old new : Life S) (start out : Output) → IsLife group p old → Puts [] [] start → OnSuspect apply encode group p q old new start out → IsCalm (WINDOW + 3) start out
       → (is_suspectable p q old ≡ false → StaysAs old new start out) → IsRunning group p new → Holds (Some old) (Suspect q) (Ok out) (Some new)
   suspect-handled q old new start out kept nothing x calm stays runs =
       let did = suspect-did apply encode decode group p None q old new start out kept x in
       ok-handled old new (Suspect q) start out nothing did refl refl
-      (calm-quiet 35 start out nothing calm, stays-so (is_connected old) None old new start out refl (λ off. suspect-off q old new start out off x) did) tt x
+      (calm-quiet (WINDOW + 3) start out nothing calm, stays-so (is_connected old) None old new start out refl (λ off. suspect-off q old new start out off x) did) tt x
       (λ i. let y = stays (not-so (is_suspectable p q old) i) in (same-nothing start out nothing y.1, ap {B = MemberModel S} (λ (l : Life S). at (Some l)) y.0))
-      (calm-few 35 start out nothing calm (omega arith)) runs
+      (calm-few (WINDOW + 3) start out nothing calm (omega arith)) runs
 
   pub hint-handled : (q : Address) (old : Life S) (start out : Output) → IsLife group p old → Puts [] [] start → TellsView group p q old old start out
       → (is_hint_ignored p q old ≡ true → out ≡ start) → IsRunning group p old → Holds (Some old) (MergeHint q) (Ok out) (Some old)
   hint-handled q old start out kept nothing x stays runs =
       let happens : out.events.items ≡ [] = only start out _ nothing x.grows.events in
       ok-handled old old (MergeHint q) start out nothing (hint-did apply encode decode group p None q old old start out kept x) refl refl (happens, refl) tt x
-      (λ i. (same-nothing start out nothing (stays i), refl)) (subst (λ l. length l ≤ EVENTS) (sym happens) (omega arith)) runs
+      (λ i. (same-nothing start out nothing (stays i), refl)) (subst (λ l. length l ≤ STEP_EVENTS) (sym happens) (omega arith)) runs
 
   -- ---- it leaves
 
@@ -400,7 +398,7 @@ module _ {S : Type 0} (apply : S → Address → List ℕ → S) (encode : S →
         reply = (happens, refl);
         prompt = tt;
         does = record { start = start; nothing = nothing; does = x };
-        few = subst (λ l. length l ≤ EVENTS) (sym happens) (omega arith);
+        few = subst (λ l. length l ≤ STEP_EVENTS) (sym happens) (omega arith);
         short = subst IsRecordable (sym happens) (recordable (Left p ∷ []) left.grows.short);
         ignored = λ i. absurd (let n : false ≡ true = i in cc);
         alive = λ l none. absurd (none-some l none);

@@ -3,6 +3,7 @@ use Rattle.std.proofs.Common.{◌≡◌, ℕ, Bool, true, false, cond, not, ◌&
 use Rattle.std.specs.Prelude.{MatchBool, MatchOption}
 use Rattle.std.specs.Option.{option_map, option_map_or, option_and_then}
 use Rattle.std.proofs.lemmas.Bool.{and_parts}
+use Rattle.limits.specs.declared.TheConstants.{WINDOW}
 use Rattle.address.specs.Ids.{Address, same_address}
 use Rattle.wire.specs.Values as wire
 use Rattle.wire.specs.declared.error.WireError.{WireError}
@@ -126,7 +127,7 @@ module _ {S : Type 0} (apply : S → Address → List ℕ → S) (encode : S →
   -- a packet that it took, or that is not for it
   pub packet-handled : (bytes : Bor (List ℕ)) (k : Packet) (old new : Life S) (start out : Output) → packet_of bytes.now ≡ Ok k → Puts [] [] start
       → MatchOption (came_in (here old) (Ok k)) (StaysAs old new start out) (λ m. Hears apply encode decode group p m.source m.body old new start out)
-      → Did apply encode decode (came_in (here old) (Ok k)) group p old new start out → is_connected new ≡ is_connected old → IsCalm 35 start out
+      → Did apply encode decode (came_in (here old) (Ok k)) group p old new start out → is_connected new ≡ is_connected old → IsCalm (WINDOW + 3) start out
       → (ignores_packet p (came_in (here old) (Ok k)) old ≡ true → StaysAs old new start out) → IsRunning group p new → Holds (Some old) bytes (Ok out) (Some new)
   packet-handled bytes k old new start out e nothing does did on calm stays runs =
       let does-at = subst (λ (r : Result Packet WireError). MatchOption (came_in (here old) r) (StaysAs old new start out) (λ m. Hears apply encode decode group p m.source m.body old new start out)) (sym e) does in
@@ -134,10 +135,10 @@ module _ {S : Type 0} (apply : S → Address → List ℕ → S) (encode : S →
       (subst (λ (r : Result Packet WireError). Did apply encode decode (came_in (here old) r) group p old new start out) (sym e) did)
       (ap (λ (r : Result Packet WireError). option_map Wire (error_in r)) e)
       (readable-by (came_in (here old) (packet_of bytes.now)) old new start out does-at)
-      (Stepping.calm-quiet 35 start out nothing calm, on) tt does-at
+      (Stepping.calm-quiet (WINDOW + 3) start out nothing calm, on) tt does-at
       (λ i. let y = stays (ignored-in bytes k old e i) in
       (Stepping.same-nothing start out nothing y.1, ap {B = MemberModel S} (λ (l : Life S). here l) y.0))
-      (Stepping.calm-few 35 start out nothing calm (omega arith)) runs
+      (Stepping.calm-few (WINDOW + 3) start out nothing calm (omega arith)) runs
 
   -- one by which it ended
   stopped-handled : (s : Stop) (bytes : Bor (List ℕ)) (k : Packet) (old : Life S) → packet_of bytes.now ≡ Ok k → (ignores_packet p (came_in (here old) (Ok k)) old ≡ true → ⊥)

@@ -3,8 +3,7 @@ use Rattle.std.specs.Prelude.{◌≡◌, ℕ, ◌+◌, ◌<◌, ◌≤◌, Bool,
 use Rattle.std.specs.Option.{IsSomeAnd}
 use Rattle.std.specs.List.{list_all, Contains, AllByRecursion}
 use Rattle.address.specs.Ids.{Address, same_address}
-use Rattle.address.specs.declared.TheConstants.{GREATEST_NUMBER}
-use Rattle.packet_values.specs.declared.limits.TheConstants.{WINDOW}
+use Rattle.limits.specs.declared.TheConstants.{GREATEST_NUMBER, WINDOW, STEP_EVENTS}
 use Rattle.wire.specs.Packets.{IsPacket}
 use Rattle.trace_props.specs.declared.event.Event.{Event}
 use Rattle.trace_props.specs.declared.event.Event.TheVariants.{Sent, Delivered, Installed, Left}
@@ -16,7 +15,6 @@ use Rattle.output.specs.declared.output.Output.{Output}
 use Rattle.output.specs.Outputs.{Puts, packet_in, spelled}
 pub use Rattle.output.specs.Calm.{is_quiet}
 use Rattle.member_hearing.specs.Running.{IsAlive}
-use Rattle.member.specs.declared.TheConstants.{EVENTS}
 use Rattle.member.specs.declared.error.Error.{Error}
 use Rattle.member.specs.declared.error.Error.TheVariants.{Memory, Closed}
 use Rattle.member.specs.declared.input.Input.{Input}
@@ -114,7 +112,7 @@ pub record Handled {S : Type 0} (apply : S → Address → List ℕ → S) (enco
   pub reply : IfOk result (λ out. IsSomeAnd (core_of old) (λ c. Replies c input out.events.items (core_of new)))
   pub prompt : IfOk result (λ out. IsSomeAnd (core_of old) (λ c. IsPrompt c input out.events.items))
   pub does : IfOk result (λ out. Does apply encode decode old input out new)
-  pub few : IfOk result (λ out. length out.events.items ≤ EVENTS)
+  pub few : IfOk result (λ out. length out.events.items ≤ STEP_EVENTS)
   pub short : IfOk result (λ out. IsRecordable out.events.items)
   pub ignored : Ignores old input result new
   -- what holds of a member between its calls

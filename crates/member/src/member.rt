@@ -3,7 +3,6 @@ ghost use Rattle.std.specs.Option.{IsSomeAnd, option_copied, option_and_then, op
 ghost use Rattle.trace_props.specs.Recorded.{IsRecordable};
 ghost use Rattle.agreement.specs.Cores.{idle, is_frozen};
 ghost use Rattle.member_hearing.specs.Running.{IsAlive};
-ghost use Rattle.member.specs.declared.TheConstants.{EVENTS};
 ghost use Rattle.member.specs.Members.{core_of, refusal_of, is_unreadable};
 ghost use Rattle.member.specs.Doing.{Does};
 ghost use Rattle.member.specs.Handling.{HasActed, RefusesAs, EndsWithout, IsClosed, Replies, IsPrompt, Ignores};
@@ -15,6 +14,7 @@ use crate::handling::{
 use crate::watching::watched_in;
 use crate::{Error, Input};
 use address::Address;
+use limits::STEP_EVENTS;
 use membership::Life;
 use output::{Identity, KeptName, Output};
 use packet_values::GroupName;
@@ -132,7 +132,7 @@ impl<R: Receiver> Member<R> {
         // what it must do by each input and each kind of packet: what is put out, what happens, and what it keeps and notes then;
         ensures does { IfOk result (λ out. Does R.apply R.encode R.decode self.old input.entry out self.new) }
         // how much happens at most, and that a trace takes it;
-        ensures few { IfOk result (λ out. length out.events.items ≤ EVENTS) }
+        ensures few { IfOk result (λ out. length out.events.items ≤ STEP_EVENTS) }
         ensures short { IfOk result (λ out. IsRecordable out.events.items) }
         // what it ignores leaves it as it was;
         ensures ignored { Ignores self.old input.entry result self.new }

@@ -1,8 +1,8 @@
 -- What a member does with the messages of its view.
-use Rattle.std.specs.Prelude.{◌≡◌, ℕ, ◌+◌, ◌-◌, ◌≤◌, ◌^◌, true, Bool, List, [], ◌∷◌, ◌++◌, map, length, Option, None, Some, nat_lt, ◌&&◌, MatchBool}
+use Rattle.std.specs.Prelude.{◌≡◌, ℕ, ◌+◌, ◌-◌, ◌≤◌, true, Bool, List, [], ◌∷◌, ◌++◌, map, length, Option, None, Some, nat_lt, ◌&&◌, MatchBool}
 use Rattle.std.specs.List.{list_all}
 use Rattle.address.specs.Ids.{Address, ViewId}
-use Rattle.packet_values.specs.declared.limits.TheConstants.{WINDOW}
+use Rattle.limits.specs.declared.TheConstants.{WINDOW, GREATEST_NUMBER}
 use Rattle.packet_values.specs.Values.{Entry, Missing, Progress}
 use Rattle.wire.specs.declared.packet.Body.TheVariants as bodies
 use Rattle.trace_props.specs.declared.event.Event.{Event}
@@ -95,7 +95,7 @@ Sends apply group me payload old new out later =
 pub record SendsNext (me : Address) (v : ViewId) (sent : ℕ) (payload : List ℕ) (out later : Output) : Type 0 where
   pub more : List Event
   pub grows : later.events.items ≡ out.events.items ++ Sent (sending me v (sent + 1) payload) ∷ more
-  pub few : length more ≤ 32
+  pub few : length more ≤ WINDOW
   pub quiet : list_all is_quiet more ≡ true
 
 abbrev pub SendsFirst : {S : Type 0} → Address → List ℕ → Life S → Output → Output → Type 0
@@ -104,14 +104,14 @@ SendsFirst me payload old out later =
 
 -- whether one more message may be ordered at the coordinator of the view
 abbrev pub has_room : Option Traffic → Bool
-has_room traffic = is_coordinator_that (λ m. nat_lt m.window.delivered (m.window.stable + WINDOW) && nat_lt m.window.delivered (2 ^ 62)) traffic
+has_room traffic = is_coordinator_that (λ m. nat_lt m.window.delivered (m.window.stable + WINDOW) && nat_lt m.window.delivered GREATEST_NUMBER) traffic
 
 -- right after it is sent it is delivered to the member itself
 pub record DeliversNext (me : Address) (v : ViewId) (sent : ℕ) (payload : List ℕ) (out later : Output) : Type 0 where
   pub more : List Event
   pub grows : later.events.items
       ≡ out.events.items ++ Sent (sending me v (sent + 1) payload) ∷ delivery me v (record { sender = me; number = sent + 1; payload = payload }) ∷ more
-  pub few : length more ≤ 31
+  pub few : length more ≤ WINDOW - 1
   pub quiet : list_all is_quiet more ≡ true
 
 abbrev pub DeliversAtOnce : {S : Type 0} → Address → List ℕ → Life S → Output → Output → Type 0

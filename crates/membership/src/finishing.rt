@@ -2,7 +2,7 @@
 
 ghost use Rattle.std.specs.Prelude.{◌≡◌, ◌≤◌, ◌++◌, drop, [], ◌∷◌, OnOk, IfOk, Some, None, length, map, true};
 ghost use Rattle.std.specs.List.{flat_map, AllByRecursion};
-ghost use Rattle.packet_values.specs.declared.limits.TheConstants.{STATE};
+ghost use Rattle.limits.specs.declared.TheConstants.{STATE};
 ghost use Rattle.view.specs.View.{view_refusal};
 ghost use Rattle.wire.specs.Fields.{entry_bytes, IsEntry};
 ghost use Rattle.flush.specs.Flushes.{together_of, previous_of};

@@ -52,7 +52,7 @@ impl Identity {
         Ok(())
     }
 
-    /// Something happens to the member, behind what happened before; a payload that it carries has at most 512 bytes. After an error for want of memory nothing is said of the output.
+    /// Something happens to the member, behind what happened before; a payload that it carries has at most `PAYLOAD` bytes. After an error for want of memory nothing is said of the output.
     pub fn record(&self, event: Event, out: &mut Output) -> Result<(), AllocError>
         requires short { IsShort event }
         ensures { OnOk result (Grows self.now.group out.old out.new [] (event ∷ [])) }

@@ -5,7 +5,7 @@ use address::Address;
 use std::alloc::Global;
 use trace_props::{Bytes, Event};
 
-/// A packet to be put out: to whom, and its bytes, at most 40,000 of them (docs/WIRE.md).
+/// A packet to be put out: to whom, and its bytes, at most `DATAGRAM` of them (docs/WIRE.md).
 #[derive(Debug, Drop)]
 pub struct Outgoing {
     pub destination: Address,

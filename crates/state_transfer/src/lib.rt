@@ -3,17 +3,11 @@
 
 ghost use Rattle.std.specs.Prelude.{◌≡◌, ◌≤◌, ◌++◌, length, List, ℕ, Some, None, Option, true, false, IfOk, OnOk, MatchOption};
 ghost use Rattle.address.specs.Ids.{Address, IsAddress};
-ghost use Rattle.state_transfer.specs.declared.TheConstants.{PAYLOAD, STATE};
+ghost use Rattle.limits.specs.declared.TheConstants.{PAYLOAD, STATE};
 
 use address::Address;
 use std::alloc::{AllocError, Global};
 use view::View;
-
-/// The longest payload of a message, in bytes.
-pub const PAYLOAD: usize = 512;
-
-/// The longest state that a receiver may give, in bytes.
-pub const STATE: usize = 16_384;
 
 /// What an application does with the messages, views and states that its member is told
 /// (docs/GUARANTEES.md, "The receiver's laws"). Its meaning is a state: two copies that were told the same are equal.
@@ -39,7 +33,7 @@ pub trait Receiver: Drop + Sized {
     fn opening(alloc: Global) -> Result<Self, AllocError>
         ensures { IfOk result (λ r. r ≡ opening_state) };
 
-    /// Applies a message of at most 512 bytes.
+    /// Applies a message of at most `PAYLOAD` bytes.
     fn receive(&mut self, from: Address, payload: &[u8]) -> Result<(), AllocError>
         ensures { OnOk result (length payload.now ≤ PAYLOAD → self.new ≡ apply self.old from payload.now) };
 
@@ -51,7 +45,7 @@ pub trait Receiver: Drop + Sized {
     fn blocked(&mut self)
         ensures { self.new ≡ self.old };
 
-    /// Appends its state as bytes, at most 16,384 of them.
+    /// Appends its state as bytes, at most `STATE` of them.
     fn get_state(&self, state: &mut Vec<u8>) -> Result<(), AllocError>
         ensures appends { OnOk result (state.new.items ≡ state.old.items ++ encode self.now) }
         ensures short { OnOk result (length (encode self.now) ≤ STATE) };

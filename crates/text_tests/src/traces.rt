@@ -1,11 +1,12 @@
 use crate::fixtures::{address, with_copies};
 use chat_log::ChatLog;
+use limits::TRACE_LINE;
 use script_reader::Unread;
 use std::alloc::Global;
 use std::process::Abort;
 use trace_checker::check;
 use trace_props::{Event, Install, Rule, Verdict};
-use trace_reader::{TRACE_LINE, read_trace, reads_what_is_written};
+use trace_reader::{read_trace, reads_what_is_written};
 use vsync_text::append_event;
 
 /// Whether a text is read, and printed again as this.

@@ -1,6 +1,6 @@
 -- A trace as contracts see it, and what every trace keeps.
 use Rattle.std.specs.Prelude.{◌≡◌, ℕ, ◌≤◌, List, length, slice_get, Some}
-use Rattle.state_transfer.specs.declared.TheConstants.{PAYLOAD}
+use Rattle.limits.specs.declared.TheConstants.{PAYLOAD}
 use Rattle.trace_props.specs.declared.event.Event.{Event}
 use Rattle.trace_props.specs.declared.event.Event.TheVariants.{Started, Sent, Delivered, Blocked, Installed, Left, Crashed}
 use Rattle.trace_props.specs.declared.event.Numbered.{Numbered}
@@ -10,7 +10,7 @@ pub record Recorded : Type 0 where
   pub events : List Event
   pub room : ℕ
 
--- each payload that an event carries has at most 512 bytes
+-- each payload that an event carries has at most `PAYLOAD` bytes
 abbrev pub IsShort : Event → Type 0
 IsShort (Started p) = Unit {0}
 IsShort (Sent s) = length s.message.payload ≤ PAYLOAD

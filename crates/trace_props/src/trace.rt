@@ -5,7 +5,7 @@ use crate::Event;
 use std::alloc::{AllocError, Global};
 use std::marker::Model;
 
-/// A list of events in the order of time, whose payloads have at most 512 bytes each. Contracts see it as
+/// A list of events in the order of time, whose payloads have at most `PAYLOAD` bytes each. Contracts see it as
 /// the events and the room that is reserved for more.
 #[derive(Debug, Drop)]
 pub struct Trace {

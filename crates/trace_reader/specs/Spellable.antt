@@ -3,10 +3,9 @@ use Rattle.std.specs.Prelude.{◌≡◌, ℕ, ◌+◌, ◌<◌, ◌≤◌, true,
 use Rattle.std.specs.List.{list_any}
 use Rattle.std.specs.Option.{ForSome}
 use Rattle.address.specs.Ids.{ViewId, IsAddress}
-use Rattle.address.specs.declared.TheConstants.{GREATEST_NUMBER}
+use Rattle.limits.specs.declared.TheConstants.{GREATEST_NUMBER, PAYLOAD, TRACE_LINE}
 use Rattle.view.specs.Members.{is_distinct}
 use Rattle.view.specs.View.{view_refusal}
-use Rattle.state_transfer.specs.declared.TheConstants.{PAYLOAD}
 use Rattle.trace_props.specs.declared.event.Event.{Event}
 use Rattle.trace_props.specs.declared.event.Event.TheVariants.{Started, Sent, Delivered, Blocked, Installed, Left, Crashed}
 use Rattle.trace_props.specs.declared.event.Sending.{Sending}
@@ -14,9 +13,8 @@ use Rattle.trace_props.specs.declared.event.Delivery.{Delivery}
 use Rattle.trace_props.specs.declared.event.Install.{Install}
 use Rattle.trace_props.specs.declared.event.Numbered.{Numbered}
 use Rattle.vsync_text.specs.TraceText.{line_of}
-use Rattle.trace_reader.specs.declared.TheConstants.{TRACE_LINE}
 
--- a counter, or the number of a message in its view: 1 to 2^62
+-- a counter, or the number of a message in its view: 1 to `GREATEST_NUMBER`
 abbrev pub IsNumber : ℕ → Type 0
 IsNumber n = (1 ≤ n) × (n ≤ GREATEST_NUMBER)
 
@@ -27,7 +25,7 @@ pub record IsViewId (v : ViewId) : Type 0 where
 abbrev pub AreBytes : List ℕ → Type 0
 AreBytes bytes = All (λ b. b < 256) bytes
 
--- at most 512 bytes
+-- at most `PAYLOAD` bytes
 pub record IsPayload (x : List ℕ) : Type 0 where
   pub bytes : AreBytes x
   pub short : length x ≤ PAYLOAD

@@ -12,7 +12,7 @@ use Rattle.script_reader.specs.Script.{FaultAt, numbered_lines, is_skipped, IsUn
 use Rattle.script_reader.specs.AddressText.{address_of_text}
 use Rattle.trace_reader.specs.declared.line.Word.{Word}
 use Rattle.trace_reader.specs.declared.line.Word.TheVariants.{Started, Sent, Delivered, Blocked, Installed, Left, Crashed}
-use Rattle.trace_reader.specs.declared.TheConstants.{TRACE_LINE}
+use Rattle.limits.specs.declared.TheConstants.{TRACE_LINE}
 use Rattle.trace_reader.specs.Fields.{◌>>=◌, spelled_at, sending_at, delivery_at, install_at, last}
 
 abbrev pub word_of : List ℕ → Option Word

@@ -10,6 +10,3 @@ mod text;
 
 pub use law::reads_what_is_written;
 pub use text::read_trace;
-
-/// The most bytes that a line of a trace may have, without its line feed (docs/FORMATS.md, "Trace text").
-pub const TRACE_LINE: usize = 65_536;

@@ -2,7 +2,7 @@
 
 ghost use Rattle.std.specs.Prelude.{◌≡◌, ◌≤◌, length, None, Some, Ok, IfOk, IfSome};
 ghost use Rattle.std.specs.Option.{option_copied};
-ghost use Rattle.state_transfer.specs.declared.TheConstants.{PAYLOAD};
+ghost use Rattle.limits.specs.declared.TheConstants.{PAYLOAD};
 ghost use Rattle.trace_props.specs.Recorded.{IsShort};
 ghost use Rattle.script_reader.specs.Script.{is_skipped};
 ghost use Rattle.script_reader.specs.AddressText.{address_of_text};
@@ -10,9 +10,9 @@ ghost use Rattle.trace_reader.specs.Spelling.{AreShort};
 ghost use Rattle.trace_reader.specs.Fields.{Gives, spelled_at, sending_at, delivery_at, view_at, install_at, last};
 ghost use Rattle.trace_reader.specs.Traces.{word_of, event_of, told, reading_of};
 
-use crate::TRACE_LINE;
 use crate::fields::{Fields, Unheard};
 use address::Address;
+use limits::TRACE_LINE;
 use script_reader::{Fault, first_field};
 use std::alloc::Global;
 use trace_props::{Delivery, Event, Install, Message, Numbered, Sending};

@@ -46,7 +46,7 @@ fn read_on(alloc: Global, trace: &mut Trace, number: u64, line: &[u8]) -> Result
 /// # Errors
 ///
 /// `Unread::Fault` has the first line that is no event, counted from 1, skipped lines among them, and what is wrong with it:
-/// it has more than 65,536 bytes (43), or begins with no known word (40); else the first of its fields from the left that is
+/// it has more than `TRACE_LINE` bytes (43), or begins with no known word (40); else the first of its fields from the left that is
 /// missing (42), or not of its form or range (41); or it has a field too many (41). `Unread::Memory` where memory was refused.
 /// Either way nothing of the trace is left.
 #[tactic(auto, using(crate::proofs::Reading::trace_is_going_on))]

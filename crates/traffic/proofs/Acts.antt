@@ -1,11 +1,12 @@
 -- What the coordinator of a view does is acts.
-use Rattle.std.proofs.Common.{◌≡◌, ℕ, ◌+◌, ◌<◌, ◌≤◌, ◌^◌, Bool, true, false, cond, not, max, min, Option, Some, None, List, [], ◌∷◌, map, drop, length, refl, sym, ap, ◌∙◌, subst, arith, is_some}
+use Rattle.std.proofs.Common.{◌≡◌, ℕ, ◌+◌, ◌<◌, ◌≤◌, Bool, true, false, cond, not, max, min, Option, Some, None, List, [], ◌∷◌, map, drop, length, refl, sym, ap, ◌∙◌, subst, arith, is_some}
 use Rattle.std.specs.Prelude.{if◌then◌else◌, nat_lt, nat_eq, MatchBool}
 use Rattle.std.specs.List.{Contains, cons_option}
 use Rattle.std.proofs.lemmas.Bool.Decides.{nat_tests}
 use Rattle.std.proofs.lemmas.Bool.{cond-true, cond-false}
 use Rattle.std.proofs.lemmas.Option.{none-some}
 use Rattle.std.proofs.Math.Nat.{max-eq_right}
+use Rattle.limits.specs.declared.TheConstants.{MEMBERS, WINDOW, GREATEST_NUMBER}
 use mathlib.Core.Path.{fun_ext}
 use Rattle.address.specs.Ids.{Address, same_address}
 use Rattle.view.specs.Members.{View, stands_in, is_distinct}
@@ -46,7 +47,7 @@ distinct-by false false true d e = refl
 distinct-by false false false d e = absurd (none-some Repeated (sym e))
 
 pub distinct-in : (v : View) → view_refusal v.id v.members ≡ None → is_distinct v.members ≡ true
-distinct-in v e = distinct-by (nat_eq (length v.members) 0) (nat_lt 16 (length v.members)) (is_distinct v.members) (begins_with v.id.creator v.members) e
+distinct-in v e = distinct-by (nat_eq (length v.members) 0) (nat_lt MEMBERS (length v.members)) (is_distinct v.members) (begins_with v.id.creator v.members) e
 
 -- ---- one act
 
@@ -68,8 +69,8 @@ told-by false n f = refl
 
 -- why the next message may be ordered
 pub record Due (m : Coordinator) (e : Entry) : Type 0 where
-  pub room : m.window.delivered < m.window.stable + 32
-  pub small : m.window.delivered < 2 ^ 62
+  pub room : m.window.delivered < m.window.stable + WINDOW
+  pub small : m.window.delivered < GREATEST_NUMBER
   pub next : first_next m.orderer.queues ≡ Some e
   pub due : next_ordered m.window.stable m.orderer ≡ Some e
 

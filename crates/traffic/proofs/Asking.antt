@@ -6,6 +6,7 @@ use Rattle.std.proofs.lemmas.Bool.Decides.{nat_tests}
 use Rattle.std.proofs.lemmas.Bool.{cond-true, cond-false}
 use Rattle.std.proofs.lemmas.List.Elements.{Contains-push}
 use Rattle.std.proofs.Math.Nat.{max-eq_right}
+use Rattle.limits.specs.declared.TheConstants.{WINDOW, PAYLOAD}
 use Rattle.address.specs.Ids.{Address}
 use Rattle.packet_values.specs.Values.{Entry, Progress, held_at}
 use Rattle.wire.specs.Values as wire
@@ -82,9 +83,9 @@ module _ {S : Type 0} (apply : S → Address → List ℕ → S) (encode : S →
 
   pub status-goes : (p : Address) (group : List ℕ) (a : Progress) (m : Other) (s : S) (out : Output) (new : Other) (more : Output) → TakesStatus p group a m out new more
       → OtherGoes apply encode decode (status_packet p m.view a) p group m s out new s more
-  status-goes p group a m s out new more x = status-by (nat_lt m.window.delivered a.stable || nat_lt m.window.delivered (a.highest - 32)) p group a m s out new more x
+  status-goes p group a m s out new more x = status-by (nat_lt m.window.delivered a.stable || nat_lt m.window.delivered (a.highest - WINDOW)) p group a m s out new more x
 
-  pub send-goes : (came : Option Posted) (p : Address) (group : List ℕ) (x : List ℕ) (m : Other) (s : S) (out : Output) (new : Other) (more : Output) → length x ≤ 512 → new ≡ other_pushing x m
+  pub send-goes : (came : Option Posted) (p : Address) (group : List ℕ) (x : List ℕ) (m : Other) (s : S) (out : Output) (new : Other) (more : Output) → length x ≤ PAYLOAD → new ≡ other_pushing x m
       → SendsForward p group x m out more → OtherGoes apply encode decode came p group m s out new s more
   send-goes came p group x m s out new more short now sends =
       let f : Numbered = record { number = m.forwards.sent + 1; payload = x } in

@@ -5,6 +5,7 @@ use Rattle.std.specs.List.{find}
 use Rattle.std.proofs.lemmas.Bool.Decides.{nat_tests}
 use Rattle.std.proofs.lemmas.Option.{none-some, same_Some}
 use Rattle.std.proofs.lemmas.List.{append-nil, length-map}
+use Rattle.limits.specs.declared.TheConstants.{WINDOW, MEMBERS}
 use Rattle.address.specs.Ids.{Address, same_address}
 use Rattle.view.specs.Members.{View, stands_in, is_distinct}
 use Rattle.view.specs.View.{view_refusal, begins_with}
@@ -119,7 +120,7 @@ module _ {S : Type 0} (apply : S → Address → List ℕ → S) (encode : S →
 
   -- another member is in the view
   record Near (p q : Address) (old : Coordinator) (entries : List Entry) (n : Coordinator) : Type 0 where
-    pub few : length entries ≤ 32
+    pub few : length entries ≤ WINDOW
     pub stable : n.window.stable ≤ old.window.delivered
     pub heard : count_of q n.acks ≡ count_of q old.acks
 
@@ -173,7 +174,7 @@ module _ {S : Type 0} (apply : S → Address → List ℕ → S) (encode : S →
 
   few-by : (p : Address) (members : List Address) (old n : Coordinator) (entries : List Entry) → old.view.members ≡ members → TurnsTo p old entries n → IsCoordinator p old → IsSettled p old
       → IsWindow old.window → IsForwards old.forwards → view_refusal old.view.id old.view.members ≡ None → begins_with old.view.id.creator members ≡ true → is_distinct members ≡ true
-      → length entries ≤ 32
+      → length entries ≤ WINDOW
   few-by p [] old n entries is x i s w f sound begins distinct = cc
   few-by p (a ∷ []) old n entries is x i s w f sound begins distinct =
       let y = turning p old n entries x i w.counts sound in
@@ -196,7 +197,7 @@ module _ {S : Type 0} (apply : S → Address → List ℕ → S) (encode : S →
       → IsWindow old.window → IsForwards old.forwards → view_refusal old.view.id old.view.members ≡ None → IsFew out more
   few p group old s out n t more x i z w f sound =
       let k = few-by p old.view.members old n x.entries refl x.turns i z w f sound
-      (first-by (nat_eq (length old.view.members) 0) (nat_lt 16 (length old.view.members)) (is_distinct old.view.members) (begins_with old.view.id.creator old.view.members) sound)
+      (first-by (nat_eq (length old.view.members) 0) (nat_lt MEMBERS (length old.view.members)) (is_distinct old.view.members) (begins_with old.view.id.creator old.view.members) sound)
       (distinct-in old.view sound) in
       let grown : length more.events.items ≡ length out.events.items + length x.entries =
       ap length x.grows.events ∙ length-append out.events.items (map (delivery p old.view.id) x.entries)

@@ -1,9 +1,10 @@
 -- What another member of a view does is acts.
-use Rattle.std.proofs.Common.{◌≡◌, ℕ, ◌+◌, ◌-◌, ◌<◌, ◌≤◌, ◌^◌, Bool, ◌&&◌, true, false, not, max, min, Option, Some, None, List, [], ◌∷◌, refl, sym, ap, ◌∙◌, subst, arith, is_some}
+use Rattle.std.proofs.Common.{◌≡◌, ℕ, ◌+◌, ◌-◌, ◌<◌, ◌≤◌, Bool, ◌&&◌, true, false, not, max, min, Option, Some, None, List, [], ◌∷◌, refl, sym, ap, ◌∙◌, subst, arith, is_some}
 use Rattle.std.specs.Prelude.{nat_lt, nat_le, MatchOption}
 use Rattle.std.proofs.lemmas.Bool.Decides.{nat_tests}
 use Rattle.std.proofs.lemmas.Bool.{cond-true, cond-false}
 use Rattle.std.proofs.Math.Nat.{max-eq_right}
+use Rattle.limits.specs.declared.TheConstants.{WINDOW, GREATEST_NUMBER}
 use Rattle.address.specs.Ids.{Address, same_address}
 use Rattle.view.specs.Members.{View}
 use Rattle.packet_values.specs.Values.{Entry, held_at}
@@ -30,7 +31,7 @@ use Rattle.traffic.proofs.Going.{other-nothing, other-then}
 
 record Taken (g : ℕ) (w : WindowModel) : Type 0 where
   pub past : w.delivered < g
-  pub near : g ≤ w.stable + 32
+  pub near : g ≤ w.stable + WINDOW
   pub free : held_at g w.held ≡ None
 
 none-is : (o : Option Entry) → not (is_some o) ≡ true → o ≡ None
@@ -44,7 +45,7 @@ both-true false b e = cc
 taken-fact : (g : ℕ) (w : WindowModel) → offers g w ≡ true → Taken g w
 taken-fact g w h =
     let free = not (is_some (held_at g w.held)) in
-    let z = both-true (nat_lt w.delivered g && nat_le g (w.stable + 32) && nat_le g (2 ^ 62)) free h in
+    let z = both-true (nat_lt w.delivered g && nat_le g (w.stable + WINDOW) && nat_le g GREATEST_NUMBER) free h in
     let o = offered g w h in
     record { past = o.past; near = o.reach; free = none-is (held_at g w.held) z.1 }
 
@@ -89,10 +90,10 @@ module _ {S : Type 0} (apply : S → Address → List ℕ → S) (encode : S →
 
   -- ---- Collects and Holds, by an ORDER
 
-  collects-by : (b : Bool) (p : Address) (kept : List (Address × wire.Install)) (m : Other) (s : S) (g : ℕ) (e : Entry) → nat_lt m.window.stable (min (g - 32) m.window.delivered) ≡ b
-      → Acted apply encode decode (order_packet p m.view g e) (Some (open_core p m.view kept (other_traffic m) s)) [] [] (Some (open_core p m.view kept (other_traffic (collected_to (g - 32) m)) s))
+  collects-by : (b : Bool) (p : Address) (kept : List (Address × wire.Install)) (m : Other) (s : S) (g : ℕ) (e : Entry) → nat_lt m.window.stable (min (g - WINDOW) m.window.delivered) ≡ b
+      → Acted apply encode decode (order_packet p m.view g e) (Some (open_core p m.view kept (other_traffic m) s)) [] [] (Some (open_core p m.view kept (other_traffic (collected_to (g - WINDOW) m)) s))
   collects-by true p kept m s g e more =
-      let t = min (g - 32) m.window.delivered in
+      let t = min (g - WINDOW) m.window.delivered in
       let over : m.window.stable < t = grind (arith, nat_tests) in
       let next : WindowModel = record { stable = t; delivered = m.window.delivered; held = held_above t m.window.held } in
       let top : max m.window.stable t ≡ t = max-eq_right (omega arith) in
@@ -112,7 +113,7 @@ module _ {S : Type 0} (apply : S → Address → List ℕ → S) (encode : S →
         happens = refl;
       }
   collects-by false p kept m s g e more =
-      let t = min (g - 32) m.window.delivered in
+      let t = min (g - WINDOW) m.window.delivered in
       let next : WindowModel = record { stable = t; delivered = m.window.delivered; held = held_above t m.window.held } in
       record {
         acts = [];
@@ -146,9 +147,9 @@ module _ {S : Type 0} (apply : S → Address → List ℕ → S) (encode : S →
 
   -- an ORDER: what is stable by it is let go of, and it is held
   pub takes-goes : (p : Address) (group : List ℕ) (m : Other) (s : S) (out : Output) (g : ℕ) (e : Entry) (more most : Other) → same_address p m.view.id.creator ≡ false
-      → more ≡ collected_to (g - 32) m → most ≡ held_too g e more → Does (order_packet p m.view g e) p group m s out most s out
+      → more ≡ collected_to (g - WINDOW) m → most ≡ held_too g e more → Does (order_packet p m.view g e) p group m s out most s out
   takes-goes p group m s out g e more most other now after =
-      let next = collected_to (g - 32) m in
+      let next = collected_to (g - WINDOW) m in
       let one : Does (order_packet p m.view g e) p group m s out next s out =
       (record { posted = []; happened = []; acted = λ kept. collects-by _ p kept m s g e refl; grows = grows-nothing group out }, refl) in
       let two : Does (order_packet p m.view g e) p group next s out (held_too g e next) s out =
@@ -199,15 +200,15 @@ module _ {S : Type 0} (apply : S → Address → List ℕ → S) (encode : S →
 
   near-by : (held : Option Entry) (p : Address) (group : List ℕ) (m : Other) (s : S) (out : Output) (new : Other) (t : S) (more : Output) → IsWindow m.window
       → held_at (m.window.delivered + 1) m.window.held ≡ held → Told p group true held m s out new t more
-      → new.window.stable + 32 - new.window.delivered < m.window.stable + 32 - m.window.delivered
+      → new.window.stable + WINDOW - new.window.delivered < m.window.stable + WINDOW - m.window.delivered
   near-by None p group m s out new t more w there x = let f = x.0 in cc
   near-by (Some e) p group m s out new t more w there x =
       let y = x.1 in
-      let near : m.window.delivered + 1 ≤ m.window.stable + 32 = w.within (m.window.delivered + 1) (ap is_some there) in
-      subst (λ (n : Other). n.window.stable + 32 - n.window.delivered < m.window.stable + 32 - m.window.delivered) (sym y.now) (omega arith)
+      let near : m.window.delivered + 1 ≤ m.window.stable + WINDOW = w.within (m.window.delivered + 1) (ap is_some there) in
+      subst (λ (n : Other). n.window.stable + WINDOW - n.window.delivered < m.window.stable + WINDOW - m.window.delivered) (sym y.now) (omega arith)
 
   pub turn-nears : (p : Address) (group : List ℕ) (m : Other) (s : S) (out : Output) (new : Other) (t : S) (more : Output) → IsWindow m.window
-      → Told p group true (held_at (m.window.delivered + 1) m.window.held) m s out new t more → new.window.stable + 32 - new.window.delivered < m.window.stable + 32 - m.window.delivered
+      → Told p group true (held_at (m.window.delivered + 1) m.window.held) m s out new t more → new.window.stable + WINDOW - new.window.delivered < m.window.stable + WINDOW - m.window.delivered
   turn-nears p group m s out new t more w x = near-by (held_at (m.window.delivered + 1) m.window.held) p group m s out new t more w refl x
 
   pub turn-then : (came : Option Posted) (p : Address) (group : List ℕ) (told : Bool) (a b c : Other) (s t u : S) (out more most : Output) → same_address p a.view.id.creator ≡ false
@@ -217,7 +218,7 @@ module _ {S : Type 0} (apply : S → Address → List ℕ → S) (encode : S →
       (turn-goes came p group told b t more c u most (ap (λ (v : View). same_address p v.id.creator) x.1 ∙ other) y)
 
   pub order-goes : (p : Address) (group : List ℕ) (m : Other) (s : S) (out : Output) (g : ℕ) (e : Entry) (more most last : Other) (t : S) (end : Output) → same_address p m.view.id.creator ≡ false
-      → more ≡ collected_to (g - 32) m → most ≡ held_too g e more → ((came : Option Posted) → Does came p group most s out last t end) → Does (order_packet p m.view g e) p group m s out last t end
+      → more ≡ collected_to (g - WINDOW) m → most ≡ held_too g e more → ((came : Option Posted) → Does came p group most s out last t end) → Does (order_packet p m.view g e) p group m s out last t end
   order-goes p group m s out g e more most last t end other now after told =
       other-then apply encode decode (order_packet p m.view g e) p group m most last s s t out out end (takes-goes p group m s out g e more most other now after) (told (order_packet p m.view g e))
 

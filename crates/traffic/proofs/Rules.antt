@@ -1,11 +1,12 @@
 -- What holds of the coordinator between its steps, after a FORWARD, an ACK and a message of its own; and its own message is delivered at once.
-use Rattle.std.proofs.Common.{◌≡◌, ℕ, ◌+◌, ◌-◌, ◌<◌, ◌≤◌, ◌^◌, Bool, ◌||◌, ◌&&◌, true, false, cond, not, min, Option, Some, None, List, [], ◌∷◌, ◌++◌, map, length, refl, sym, ap, ◌∙◌, subst, arith, length-append, append_assoc, suc}
+use Rattle.std.proofs.Common.{◌≡◌, ℕ, ◌+◌, ◌-◌, ◌<◌, ◌≤◌, Bool, ◌||◌, ◌&&◌, true, false, cond, not, min, Option, Some, None, List, [], ◌∷◌, ◌++◌, map, length, refl, sym, ap, ◌∙◌, subst, arith, length-append, append_assoc, suc}
 use Rattle.std.specs.Prelude.{if◌then◌else◌, nat_lt, nat_eq, nat_le, slice_get}
 use Rattle.std.specs.List.{find, list_any}
 use Rattle.std.specs.Option.{option_map}
 use Rattle.std.proofs.lemmas.Bool.Decides.{nat_tests}
 use Rattle.std.proofs.lemmas.Bool.{cond-true, cond-false}
 use Rattle.std.proofs.lemmas.Option.{none-some, same_Some}
+use Rattle.limits.specs.declared.TheConstants.{OUTSTANDING, GREATEST_NUMBER, WINDOW}
 use Rattle.address.specs.Ids.{Address, same_address}
 use Rattle.view.specs.Members.{stands_in}
 use Rattle.packet_values.specs.Values.{Entry}
@@ -106,13 +107,13 @@ busy-by false b e = refl
 own-pushed : (p : Address) (x : List ℕ) (f : ForwardsModel) → IsForwards f → push_refusal f ≡ None → offered (f.sent + 1) x (own_queue p f) ≡ own_queue p (pushed x f)
 own-pushed p x f i free =
     let len = length f.rest in
-    let busy : nat_eq len 8 ≡ false = busy-by (nat_eq len 8) (nat_eq f.sent (2 ^ 62)) free in
-    let room : len < 8 = grind (arith, nat_tests, i.few) in
+    let busy : nat_eq len OUTSTANDING ≡ false = busy-by (nat_eq len OUTSTANDING) (nat_eq f.sent GREATEST_NUMBER) free in
+    let room : len < OUTSTANDING = grind (arith, nat_tests, i.few) in
     let a : nat_lt (f.sent - len) (f.sent + 1) ≡ true = (let k : f.sent - len < f.sent + 1 = omega arith in grind (arith, nat_tests)) in
-    let b : nat_le (f.sent + 1) (f.sent - len + 8) ≡ true = (let k : f.sent + 1 ≤ f.sent - len + 8 = omega (arith, room, i.some) in grind (arith, nat_tests)) in
+    let b : nat_le (f.sent + 1) (f.sent - len + OUTSTANDING) ≡ true = (let k : f.sent + 1 ≤ f.sent - len + OUTSTANDING = omega (arith, room, i.some) in grind (arith, nat_tests)) in
     let c : list_any (λ g. nat_eq (f.sent + 1) g.number) f.rest ≡ false = none-waits f.sent len 0 f.rest (λ k g at. i.numbered k g at ∙ (let e : f.sent + k + 1 ≡ f.sent + (0 + k) + 1 = omega arith in e)) (omega arith) in
     let t : takes (f.sent + 1) (own_queue p f) ≡ true =
-    ap (λ (z : Bool). z && nat_le (f.sent + 1) (f.sent - len + 8) && not (list_any (λ g. nat_eq (f.sent + 1) g.number) f.rest)) a
+    ap (λ (z : Bool). z && nat_le (f.sent + 1) (f.sent - len + OUTSTANDING) && not (list_any (λ g. nat_eq (f.sent + 1) g.number) f.rest)) a
     ∙ ap (λ (z : Bool). z && not (list_any (λ g. nat_eq (f.sent + 1) g.number) f.rest)) b ∙ ap not c in
     let more = f.rest ++ record { number = f.sent + 1; payload = x } ∷ [] in
     let count : f.sent - len ≡ f.sent + 1 - length more = (let k : length more ≡ len + 1 = length-append f.rest (record { number = f.sent + 1; payload = x } ∷ []) in omega (arith, k)) in
@@ -238,7 +239,7 @@ module _ {S : Type 0} (apply : S → Address → List ℕ → S) where
       (o.grows.events ∙ ap (λ l. l ++ map (delivery p m.view.id) o.entries) sends.sent.events
       ∙ append_assoc out.events.items (Sent (sending p m.view.id (m.forwards.sent + 1) x) ∷ []) (map (delivery p m.view.id) o.entries))
 
-pub few-more : (v : Event) (out between more : List Event) → between ≡ out ++ v ∷ [] → length more ≤ length between + 32 → length more ≤ length out + 33
+pub few-more : (v : Event) (out between more : List Event) → between ≡ out ++ v ∷ [] → length more ≤ length between + WINDOW → length more ≤ length out + (WINDOW + 1)
 few-more v out between more sent few = let k : length between ≡ length out + 1 = ap length sent ∙ length-append out (v ∷ []) in omega (arith, k, few)
 
 module _ {S : Type 0} (apply : S → Address → List ℕ → S) where

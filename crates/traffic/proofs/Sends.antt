@@ -1,6 +1,7 @@
 -- Its own message is sent.
 use Rattle.std.proofs.Common.{◌≡◌, ℕ, ◌+◌, ◌≤◌, Option, List, [], ◌∷◌, length, refl, sym, ap, ◌∙◌, subst}
 use Rattle.std.proofs.lemmas.List.Elements.{Contains-push}
+use Rattle.limits.specs.declared.TheConstants.{PAYLOAD}
 use Rattle.address.specs.Ids.{Address}
 use Rattle.trace_props.specs.declared.event.Event.TheVariants.{Sent}
 use Rattle.trace_props.proofs.Observing.{same_address-refl}
@@ -15,7 +16,7 @@ use Rattle.traffic.proofs.Coordinators.{queue-goes}
 use Rattle.traffic.proofs.Going.{goes-then}
 
 module _ {S : Type 0} (apply : S → Address → List ℕ → S) (encode : S → List ℕ) (decode : List ℕ → Option S) where
-  pub send-goes : (came : Option Posted) (p : Address) (group : List ℕ) (m : Coordinator) (s : S) (out : Output) (x : List ℕ) (n : ℕ) (a b : Coordinator) (more : Output) → IsCoordinator p m → length x ≤ 512
+  pub send-goes : (came : Option Posted) (p : Address) (group : List ℕ) (m : Coordinator) (s : S) (out : Output) (x : List ℕ) (n : ℕ) (a b : Coordinator) (more : Output) → IsCoordinator p m → length x ≤ PAYLOAD
       → n ≡ m.forwards.sent + 1 → a ≡ pushing x m → Grows group out more [] (Sent (sending p m.view.id (m.forwards.sent + 1) x) ∷ []) → b ≡ queued p n x a
       → CoordinatorGoes apply encode decode came p group m s out b s more
   send-goes came p group m s out x n a b more i short number now grows end =

@@ -4,6 +4,7 @@ use Rattle.std.specs.Prelude.{MatchOption, MatchBool, nat_lt}
 use Rattle.std.proofs.lemmas.Bool.Decides.{nat_tests}
 use Rattle.std.proofs.lemmas.List.{append-nil, map-append, length-map}
 use Rattle.std.proofs.lemmas.List.Sums.{fold-append}
+use Rattle.limits.specs.declared.TheConstants.{WINDOW}
 use Rattle.address.specs.Ids.{Address}
 use Rattle.view.specs.Members.{View}
 use Rattle.packet_values.specs.Values.{Entry, held_at}
@@ -27,13 +28,13 @@ pub record Told (p : Address) (old : Other) (entries : List Entry) (n : Other) :
   pub held : n.window.held ≡ old.window.held
   pub stable : n.window.stable ≡ old.window.stable
   pub delivered : n.window.delivered ≡ old.window.delivered + length entries
-  pub few : length entries ≤ 32
+  pub few : length entries ≤ WINDOW
 
 pub told-fact : (p : Address) (old n : Other) (entries : List Entry) → TellsTo p old entries n → IsWindow old.window → Told p old entries n
 told-fact p old n entries (Starts m) w = record { view = refl; held = refl; stable = refl; delivered = omega arith; few = omega arith }
 told-fact p old n entries (Tells m k es e x there) w =
     let y = told-fact p old k es x w in
-    let near : k.window.delivered + 1 ≤ old.window.stable + 32 =
+    let near : k.window.delivered + 1 ≤ old.window.stable + WINDOW =
     w.within (k.window.delivered + 1) (ap is_some (ap (held_at (k.window.delivered + 1)) (sym y.held) ∙ there)) in
     record {
       view = y.view;
@@ -79,14 +80,14 @@ module _ {S : Type 0} (apply : S → Address → List ℕ → S) where
 
   -- ---- an ORDER
 
-  pub order-ignored : (p : Address) (group : List ℕ) (g : ℕ) (e : Entry) (m : Other) (s : S) (out : Output) (before : ℕ) → before < g - 32 → before ≡ m.window.delivered → TakesOrder apply p group g e m s out m s out
-  order-ignored p group g e m s out before far is = let t : nat_lt m.window.delivered (g - 32) ≡ true = grind (arith, nat_tests) in rw t (refl, refl, refl)
+  pub order-ignored : (p : Address) (group : List ℕ) (g : ℕ) (e : Entry) (m : Other) (s : S) (out : Output) (before : ℕ) → before < g - WINDOW → before ≡ m.window.delivered → TakesOrder apply p group g e m s out m s out
+  order-ignored p group g e m s out before far is = let t : nat_lt m.window.delivered (g - WINDOW) ≡ true = grind (arith, nat_tests) in rw t (refl, refl, refl)
 
-  pub order-taken : (p : Address) (group : List ℕ) (g : ℕ) (e : Entry) (m a b : Other) (s : S) (out : Output) (n : Other) (t : S) (between more : Output) (before : ℕ) (new : Bool) → g - 32 ≤ before → before ≡ m.window.delivered
-      → a ≡ collected_to (g - 32) m → new ≡ offers g a.window → b ≡ held_too g e a → Telling apply p group b s out n t between → held_at (n.window.delivered + 1) n.window.held ≡ None
+  pub order-taken : (p : Address) (group : List ℕ) (g : ℕ) (e : Entry) (m a b : Other) (s : S) (out : Output) (n : Other) (t : S) (between more : Output) (before : ℕ) (new : Bool) → g - WINDOW ≤ before → before ≡ m.window.delivered
+      → a ≡ collected_to (g - WINDOW) m → new ≡ offers g a.window → b ≡ held_too g e a → Telling apply p group b s out n t between → held_at (n.window.delivered + 1) n.window.held ≡ None
       → AnswersOrder p group before new g n between more → TakesOrder apply p group g e m s out n t more
   order-taken p group g e m a b s out n t between more before new near is now fresh after tells ready answers =
-      let f : nat_lt m.window.delivered (g - 32) ≡ false = grind (arith, nat_tests) in
+      let f : nat_lt m.window.delivered (g - WINDOW) ≡ false = grind (arith, nat_tests) in
       let taken : TakesNear apply p group g e m s out n t more = record {
         between = between;
         tells = subst (λ (z : Other). Telling apply p group z s out n t between) (after ∙ ap (held_too g e) now) tells;

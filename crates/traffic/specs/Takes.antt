@@ -1,6 +1,7 @@
 -- What another member of a view must do, and has done, on an ORDER.
 use Rattle.std.specs.Prelude.{◌≡◌, ℕ, ◌+◌, ◌-◌, ◌<◌, ◌≤◌, Bool, List, [], ◌∷◌, ◌++◌, map, Option, None, Some, IsSome, MatchBool, nat_lt, ◌⊎◌, ◌||◌, zero, suc}
 use Rattle.std.specs.Option.{option_map_or}
+use Rattle.limits.specs.declared.TheConstants.{WINDOW}
 use Rattle.trace_props.specs.declared.event.Numbered.{Numbered}
 use Rattle.address.specs.Ids.{Address}
 use Rattle.view.specs.Members.{View}
@@ -58,14 +59,14 @@ AnswersOrder p group before new g m out more =
 
 pub record TakesNear {S : Type 0} (apply : S → Address → List ℕ → S) (p : Address) (group : List ℕ) (g : ℕ) (e : Entry) (old : Other) (s : S) (out : Output) (new : Other) (t : S) (more : Output) : Type 0 where
   pub between : Output
-  pub tells : Telling apply p group (held_too g e (collected_to (g - 32) old)) s out new t between
+  pub tells : Telling apply p group (held_too g e (collected_to (g - WINDOW) old)) s out new t between
   pub ready : held_at (new.window.delivered + 1) new.window.held ≡ None
-  pub answers : AnswersOrder p group old.window.delivered (offers g (collected (g - 32) old.window)) g new between more
+  pub answers : AnswersOrder p group old.window.delivered (offers g (collected (g - WINDOW) old.window)) g new between more
 
 -- an ORDER too far ahead is ignored
 abbrev pub TakesOrder : {S : Type 0} → (S → Address → List ℕ → S) → Address → List ℕ → ℕ → Entry → Other → S → Output → Other → S → Output → Type 0
 TakesOrder apply p group g e old s out new t more =
-    MatchBool (nat_lt old.window.delivered (g - 32)) ((new ≡ old) × (t ≡ s) × (more ≡ out)) (TakesNear apply p group g e old s out new t more)
+    MatchBool (nat_lt old.window.delivered (g - WINDOW)) ((new ≡ old) × (t ≡ s) × (more ≡ out)) (TakesNear apply p group g e old s out new t more)
 
 -- ---- a STATUS
 
@@ -75,7 +76,7 @@ status_packet p v a = Some (packet v.id.creator (bodies.Status v.id a) p)
 -- ignored where it does not fit; else what is stable is let go of, and what is missing asked for
 abbrev pub TakesStatus : Address → List ℕ → Progress → Other → Output → Other → Output → Type 0
 TakesStatus p group a old out new more =
-    MatchBool (nat_lt old.window.delivered a.stable || nat_lt old.window.delivered (a.highest - 32)) ((new ≡ old) × (more ≡ out))
+    MatchBool (nat_lt old.window.delivered a.stable || nat_lt old.window.delivered (a.highest - WINDOW)) ((new ≡ old) × (more ≡ out))
     ((new ≡ collected_to a.stable old) × AsksUpTo p group a.highest new out more)
 
 -- ---- its own messages

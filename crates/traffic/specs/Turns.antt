@@ -5,6 +5,7 @@ use Rattle.view.specs.Members.{View}
 use Rattle.packet_values.specs.Values.{Entry}
 use Rattle.wire.specs.declared.packet.Body.TheVariants as bodies
 use Rattle.std.specs.List.{find}
+use Rattle.limits.specs.declared.TheConstants.{WINDOW}
 use Rattle.stability.specs.Counts.{count_of, stable_count}
 use Rattle.sequencer.specs.Forwards.{ForwardsModel}
 use Rattle.sequencer.specs.Queues.{Queue, is_from, next_ordered}
@@ -69,9 +70,9 @@ pub record IsSettled (p : Address) (m : Coordinator) : Type 0 where
   pub least : m.window.stable ≡ stable_count m.acks
   pub own : find (is_from p) m.orderer.queues ≡ Some (own_queue p m.forwards)
 
--- at most 32 events more
+-- at most `WINDOW` events more
 abbrev pub IsFew : Output → Output → Type 0
-IsFew old new = length new.events.items ≤ length old.events.items + 32
+IsFew old new = length new.events.items ≤ length old.events.items + WINDOW
 
 -- an acknowledgement above what was ordered is ignored; else it is heard, and all is ordered that may be
 abbrev pub AcksOrdering : {S : Type 0} → (S → Address → List ℕ → S) → Address → List ℕ → Address → ℕ → Coordinator → S → Output → Coordinator → S → Output → Type 0
@@ -97,4 +98,4 @@ pub record TellsAtOnce (p : Address) (x : List ℕ) (old : Coordinator) (out mor
 
 -- one event more than few
 abbrev pub IsFewMore : Output → Output → Type 0
-IsFewMore old new = length new.events.items ≤ length old.events.items + 33
+IsFewMore old new = length new.events.items ≤ length old.events.items + (WINDOW + 1)

@@ -153,7 +153,7 @@ impl Coordinator {
         }
     }
 
-    /// A member's FORWARD: its message waits where it is new and at most 8 past the sender's ordered ones, and all is ordered that may be. After an error
+    /// A member's FORWARD: its message waits where it is new and at most `OUTSTANDING` past the sender's ordered ones, and all is ordered that may be. After an error
     /// for want of memory nothing is said of the member.
     pub fn forward<R: Receiver>(
         &mut self,

@@ -5,7 +5,7 @@ ghost use Rattle.trace_props.specs.declared.event.Event.TheVariants.{Sent};
 ghost use Rattle.agreement.specs.Histories.{Posted};
 ghost use Rattle.sequencer.specs.Forwards.{pushed, push_refusal};
 ghost use Rattle.sequencer.specs.Queues.{next_ordered, may_order};
-ghost use Rattle.packet_values.specs.declared.limits.TheConstants.{PAYLOAD};
+ghost use Rattle.limits.specs.declared.TheConstants.{PAYLOAD};
 ghost use Rattle.output.specs.Outputs.{Grows};
 ghost use Rattle.traffic.specs.Coordinators.{IsCoordinator, pushing};
 ghost use Rattle.traffic.specs.Goings.{CoordinatorGoes, sending};

@@ -1,6 +1,6 @@
 -- A catch-up brings a member level with the coordinator of its view.
 use Rattle.std.proofs.Common.{◌≡◌, ℕ, zero, suc, ◌+◌, ◌-◌, ◌<◌, ◌≤◌, Bool, true, false, cond, not, ◌&&◌, Option, Some, None, Ok, List, [], ◌∷◌, ◌++◌, map, drop, length, is_some, nat_eq, nat_lt, inl, inr, ◌⊎◌, refl, sym, ap, ◌∙◌, subst, arith}
-use Rattle.std.specs.Prelude.{◌^◌, ◌||◌, IsSome}
+use Rattle.std.specs.Prelude.{◌||◌, IsSome}
 use Rattle.std.specs.List.{slice_get, position_from, AllByRecursion}
 use Rattle.std.specs.Option.{option_map, option_map_or}
 use Rattle.std.proofs.lemmas.Bool.{cond-true, cond-false, eqb-true}
@@ -8,6 +8,7 @@ use Rattle.std.proofs.lemmas.Bool.Decides.{nat_tests}
 use Rattle.std.proofs.lemmas.Option.{none-some, same_Some, slice_get-map}
 use Rattle.std.proofs.lemmas.List.{append-nil, length-append, length-map}
 use Rattle.std.proofs.Math.Seq.{drop-append_seam}
+use Rattle.limits.specs.declared.TheConstants.{WINDOW}
 use Rattle.address.specs.Ids.{Address, ViewId, same_address}
 use Rattle.view.specs.Members.{View, stands_in}
 use Rattle.packet_values.specs.Values.{Entry, Missing, held_at}
@@ -194,7 +195,7 @@ module _ {S : Type 0} (opening : S) (apply : S → Address → List ℕ → S) (
   -- how far they have come
   pub record Numbers (w : WorldModel S) (c q : Address) (kc : Coordinator) (kq : Other) : Type 0 where
     pub stable : kc.window.stable ≤ kq.window.delivered
-    pub reach : kc.window.delivered ≤ kc.window.stable + 32
+    pub reach : kc.window.delivered ≤ kc.window.stable + WINDOW
     pub top : kq.window.delivered ≤ kc.window.delivered
     pub holds : HoldsAll kc.window.stable kc.window.delivered kc.window.held
     pub listed : stands_in q kc.view.members ≡ true
@@ -310,8 +311,8 @@ module _ {S : Type 0} (opening : S) (apply : S → Address → List ℕ → S) (
       let stable = n.stable in
       let reach = n.reach in
       let a : nat_lt kq.window.delivered kc.window.stable ≡ false = grind (arith, nat_tests) in
-      let far : kc.window.delivered - 32 ≤ kq.window.delivered = omega (arith, stable, reach) in
-      let b : nat_lt kq.window.delivered (kc.window.delivered - 32) ≡ false = grind (arith, nat_tests) in
+      let far : kc.window.delivered - WINDOW ≤ kq.window.delivered = omega (arith, stable, reach) in
+      let b : nat_lt kq.window.delivered (kc.window.delivered - WINDOW) ≡ false = grind (arith, nat_tests) in
       rw (a, b) refl
 
   own-of : (v w : View) (c : Address) → w ≡ v → v.id.creator ≡ c → w.id.creator ≡ c
@@ -378,15 +379,15 @@ module _ {S : Type 0} (opening : S) (apply : S → Address → List ℕ → S) (
       let n = numbers w c q lc lq kc kq x in
       let stable = n.stable in
       let reach = n.reach in
-      let far : g - 32 ≤ kq.window.delivered = omega (arith, stable, reach, known) in
-      let near : nat_lt kq.window.delivered (g - 32) ≡ false = grind (arith, nat_tests) in
+      let far : g - WINDOW ≤ kq.window.delivered = omega (arith, stable, reach, known) in
+      let near : nat_lt kq.window.delivered (g - WINDOW) ≡ false = grind (arith, nat_tests) in
       let r = Replying.ordered opening apply encode decode w mid c q lq kq g e x.other (own-of kc.view kq.view c x.same x.own) (listed-of kc.view kq.view c x.same n.coordinator) near
       (subst (λ (v : View). Replying.Heard opening apply encode decode w mid q lq (packet c (bodies.Order v.id g e) q)) (sym x.same) h) in
       record {
         life = r.after;
         now = r.now;
         couple = other-moves w mid c q lc lq r.after kc kq r.now x keeps r.runs r.others r.takes.tells.view;
-        within = filled q g last kc.window.delivered e kq (held_too g e (collected_to (g - 32) kq)) r.now r.takes.tells.entries sound.body.1.1 far refl r.takes.tells.tells within;
+        within = filled q g last kc.window.delivered e kq (held_too g e (collected_to (g - WINDOW) kq)) r.now r.takes.tells.entries sound.body.1.1 far refl r.takes.tells.tells within;
         more = map bytes_of r.out.packets.items;
         puts = r.puts;
       }

@@ -6,6 +6,7 @@ use Rattle.std.specs.List.{AllByRecursion}
 use Rattle.std.specs.Option.{IsSomeAnd, option_map, option_map_or, option_and_then}
 use Rattle.std.proofs.lemmas.List.{append-nil}
 use Rattle.std.proofs.lemmas.Option.{none-some}
+use Rattle.limits.specs.declared.TheConstants.{WINDOW}
 use Rattle.address.specs.Ids.{Address, ViewId, same_address, same_view_id}
 use Rattle.view.specs.Members.{View, stands_in}
 use Rattle.packet_values.specs.Values.{Entry, Missing, Progress, held_at}
@@ -302,7 +303,7 @@ module _ {S : Type 0} (opening : S) (apply : S → Address → List ℕ → S) (
     takes-status : (a : Progress) → is_near a k ≡ true → takes_status c k.view.id a l ≡ true
     takes-status a near = rw (traffic, inst, same_view_id-refl k.view.id, listed, from-coordinator, near) refl
 
-    takes-order : (g : ℕ) → nat_lt k.window.delivered (g - 32) ≡ false → takes_order c k.view.id g l ≡ true
+    takes-order : (g : ℕ) → nat_lt k.window.delivered (g - WINDOW) ≡ false → takes_order c k.view.id g l ≡ true
     takes-order g near = rw (traffic, inst, same_view_id-refl k.view.id, listed, from-coordinator, near) refl
 
   -- a STATUS
@@ -318,8 +319,8 @@ module _ {S : Type 0} (opening : S) (apply : S → Address → List ℕ → S) (
     pub others : OthersStand q.node old.seats new.seats
     pub puts : new.history.pool ≡ old.history.pool ++ map bytes_of out.packets.items
 
-  fits : (a : Progress) (k : Other) → is_near a k ≡ true → (nat_lt k.window.delivered a.stable || nat_lt k.window.delivered (a.highest - 32)) ≡ false
-  fits a k near = by (nat_lt k.window.delivered a.stable) (nat_lt k.window.delivered (a.highest - 32)) near
+  fits : (a : Progress) (k : Other) → is_near a k ≡ true → (nat_lt k.window.delivered a.stable || nat_lt k.window.delivered (a.highest - WINDOW)) ≡ false
+  fits a k near = by (nat_lt k.window.delivered a.stable) (nat_lt k.window.delivered (a.highest - WINDOW)) near
     where
       by : (x y : Bool) → (not x && not y) ≡ true → (x || y) ≡ false
       by true y e = absurd (let bad : false ≡ true = e in cc)
@@ -332,7 +333,7 @@ module _ {S : Type 0} (opening : S) (apply : S → Address → List ℕ → S) (
       let x : OnStatus world_group q c k.view.id a l h.after h.start h.out = h.hears in
       let y = when-true (takes_status c k.view.id a l) _ _ (takes-status c l k r.traffic r.installed own listed a near) x in
       let z = still-other (λ m n. TakesStatus q world_group a m h.start n h.out × (h.after.receiver ≡ l.receiver)) l h.after k r.traffic y in
-      let u = when-false (nat_lt k.window.delivered a.stable || nat_lt k.window.delivered (a.highest - 32)) _ _ (fits a k near) z.does.0 in
+      let u = when-false (nat_lt k.window.delivered a.stable || nat_lt k.window.delivered (a.highest - WINDOW)) _ _ (fits a k near) z.does.0 in
       record {
         after = h.after;
         now = z.now;
@@ -360,7 +361,7 @@ module _ {S : Type 0} (opening : S) (apply : S → Address → List ℕ → S) (
     pub puts : new.history.pool ≡ old.history.pool ++ map bytes_of out.packets.items
 
   pub ordered : (old new : WorldModel S) (c q : Address) (l : Life S) (k : Other) (g : ℕ) (e : Entry) (r : RunsAs old q l (kinds.Other k)) → k.view.id.creator ≡ c → stands_in c k.view.members ≡ true
-      → nat_lt k.window.delivered (g - 32) ≡ false → Heard old new q l (packet c (bodies.Order k.view.id g e) q) → Ordered old new q k g e
+      → nat_lt k.window.delivered (g - WINDOW) ≡ false → Heard old new q l (packet c (bodies.Order k.view.id g e) q) → Ordered old new q k g e
   ordered old new c q l k g e r own listed near h =
       let x : OnOrder apply world_group q c k.view.id g e l h.after h.start h.out = h.hears in
       let y = when-true (takes_order c k.view.id g l) _ _ (takes-order c l k r.traffic r.installed own listed g near) x in
@@ -373,7 +374,7 @@ module _ {S : Type 0} (opening : S) (apply : S → Address → List ℕ → S) (
         new_state = h.after.receiver;
         start = h.start;
         out = h.out;
-        takes = when-false (nat_lt k.window.delivered (g - 32)) _ _ near z.does;
+        takes = when-false (nat_lt k.window.delivered (g - WINDOW)) _ _ near z.does;
         others = h.others;
         puts = h.puts;
       }

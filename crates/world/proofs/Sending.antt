@@ -1,25 +1,21 @@
 -- The table of events, for a running member that is to send.
-use Rattle.std.proofs.Common.{◌≡◌, ℕ, ◌+◌, ◌<◌, ◌^◌, Bool, true, false, not, cond, Option, Some, None, List, [], ◌∷◌, length, nat_le, nat_lt, drop, is_some, refl, sym, ap, ◌∙◌, subst, arith, inl, inr}
+use Rattle.std.proofs.Common.{◌≡◌, ℕ, ◌+◌, ◌<◌, Bool, true, false, not, cond, Option, Some, None, List, [], ◌∷◌, length, nat_le, nat_lt, drop, is_some, refl, sym, ap, ◌∙◌, subst, arith, inl, inr}
 use Rattle.std.specs.List.{list_all, Contains}
 use Rattle.std.specs.Option.{IsSomeAnd}
 use Rattle.std.proofs.lemmas.Bool.Decides.{nat_tests}
 use Rattle.std.proofs.lemmas.Option.{none-some, same_Some}
 use Rattle.address.specs.Ids.{Address, ViewId, same_address}
 use Rattle.view.specs.Members.{View}
-use Rattle.address.specs.declared.TheConstants.{GREATEST_NUMBER}
-use Rattle.packet_values.specs.declared.limits.TheConstants.{PAYLOAD, WINDOW}
+use Rattle.limits.specs.declared.TheConstants.{GREATEST_NUMBER, PAYLOAD, WINDOW, OUTSTANDING}
 use Rattle.trace_props.specs.declared.event.Event.{Event}
 use Rattle.trace_props.specs.declared.event.Event.TheVariants.{Delivered, Crashed}
 use Rattle.trace_props.specs.declared.event.Event.TheVariants as event
 use Rattle.trace_props.specs.Observed.{is_blocked, current_view, sent_in, delivered_in}
 use Rattle.agreement.specs.Cores.{Core, is_frozen}
-use Rattle.sequencer.specs.declared.TheConstants.{OUTSTANDING}
 use Rattle.member.specs.declared.error.Error.{Error}
 use Rattle.member.specs.declared.error.Error.TheVariants as error
 use Rattle.member.specs.Members.{MemberModel, send_refusal}
 use Rattle.member.specs.Handling as member
-use Rattle.world_model.specs.declared.TheConstants.{REACH}
-use Rattle.world_model.specs.declared.TheConstants as model
 use Rattle.world_model.specs.declared.Answer.TheVariants.{Sent, Refused}
 use Rattle.world_model.specs.declared.Refusal.TheVariants.{Memory}
 use Rattle.world_model.specs.Histories.{History}
@@ -35,7 +31,7 @@ pub record MaySend {S : Type 0} (c : Core S) (payload : List ℕ) : Type 0 where
   pub long : nat_lt PAYLOAD (length payload) ≡ false
   pub frozen : is_frozen c.view c.installed ≡ false
   pub busy : nat_le OUTSTANDING (length c.traffic.outstanding) ≡ false
-  pub used : nat_le (2 ^ 62) c.traffic.sent ≡ false
+  pub used : nat_le GREATEST_NUMBER c.traffic.sent ≡ false
 
 pub may-send : {S : Type 0} (c : Core S) (payload : List ℕ) → send_refusal c payload ≡ None → MaySend c payload
 may-send c payload e =
@@ -43,14 +39,14 @@ may-send c payload e =
     let b = free-of (nat_lt PAYLOAD (length payload)) error.TooLong _ a.1 in
     let d = free-of (is_frozen c.view c.installed) error.Blocked _ b.1 in
     let f = free-of (nat_le OUTSTANDING (length c.traffic.outstanding)) error.Busy _ d.1 in
-    let g = free-of (nat_le (2 ^ 62) c.traffic.sent) error.Exhausted None f.1 in
+    let g = free-of (nat_le GREATEST_NUMBER c.traffic.sent) error.Exhausted None f.1 in
     record { inside = a.0; long = b.0; frozen = d.0; busy = f.0; used = g.0 }
 
-unused : (k n : ℕ) → n ≡ k → nat_le (2 ^ 62) k ≡ false → nat_lt n (2 ^ 62) ≡ true
-unused k n e test = subst (λ (j : ℕ). nat_lt j (2 ^ 62) ≡ true) (sym e) (grind (arith, nat_tests))
+unused : (k n : ℕ) → n ≡ k → nat_le GREATEST_NUMBER k ≡ false → nat_lt n GREATEST_NUMBER ≡ true
+unused k n e test = subst (λ (j : ℕ). nat_lt j GREATEST_NUMBER ≡ true) (sym e) (grind (arith, nat_tests))
 
-used-up : (k n : ℕ) → n ≡ k → nat_le (2 ^ 62) k ≡ true → nat_lt n (2 ^ 62) ≡ false
-used-up k n e test = subst (λ (j : ℕ). nat_lt j (2 ^ 62) ≡ false) (sym e) (grind (arith, nat_tests))
+used-up : (k n : ℕ) → n ≡ k → nat_le GREATEST_NUMBER k ≡ true → nat_lt n GREATEST_NUMBER ≡ false
+used-up k n e test = subst (λ (j : ℕ). nat_lt j GREATEST_NUMBER ≡ false) (sym e) (grind (arith, nat_tests))
 
 module _ {S : Type 0} (opening : S) (apply : S → Address → List ℕ → S) (encode : S → List ℕ) (decode : List ℕ → Option S) (is_state : S → Type 0) (h : History) (n : ℕ) (m : MemberModel S)
     (c : Core S) (x : Facts.Runs opening apply encode decode is_state h n m c) (payload : List ℕ) where
@@ -69,7 +65,7 @@ module _ {S : Type 0} (opening : S) (apply : S → Address → List ℕ → S) (
     count : length (sent_in m.address v.id h.trace) ≡ c.traffic.sent
     count = Facts.sent-count opening apply encode decode is_state h n m c x v inside
 
-    busy-is : (b : Bool) → nat_le OUTSTANDING (length c.traffic.outstanding) ≡ b → nat_le model.OUTSTANDING (outstanding m.address v.id h.trace) ≡ b
+    busy-is : (b : Bool) → nat_le OUTSTANDING (length c.traffic.outstanding) ≡ b → nat_le OUTSTANDING (outstanding m.address v.id h.trace) ≡ b
     busy-is b e = ap (nat_le OUTSTANDING) (Facts.outstanding-is opening apply encode decode is_state h n m c x v inside) ∙ e
 
     lost-in : MaySend c payload → AnswersSend payload m.address h (Refused Memory) (Crashed m.address ∷ [])
@@ -93,7 +89,7 @@ module _ {S : Type 0} (opening : S) (apply : S → Address → List ℕ → S) (
         own-rest (y ∷ t) o = o.1
 
     not-in : (err : Error) (b1 b2 b3 b4 : Bool) → nat_lt PAYLOAD (length payload) ≡ b1 → is_frozen c.view c.installed ≡ b2 → nat_le OUTSTANDING (length c.traffic.outstanding) ≡ b3
-        → nat_le (2 ^ 62) c.traffic.sent ≡ b4
+        → nat_le GREATEST_NUMBER c.traffic.sent ≡ b4
         → cond b1 (Some error.TooLong) (cond b2 (Some error.Blocked) (cond b3 (Some error.Busy) (cond b4 (Some error.Exhausted) None))) ≡ Some err
         → AnswersSend payload m.address h (answer_for err) []
     not-in err true b2 b3 b4 t1 t2 t3 t4 e = rw (current, t1) (ap answer_for (sym (same_Some error.TooLong err e)), refl)
@@ -103,10 +99,10 @@ module _ {S : Type 0} (opening : S) (apply : S → Address → List ℕ → S) (
         rw (current, t1, block-is false t2, busy-is false t3, used-up c.traffic.sent _ count t4) (ap answer_for (sym (same_Some error.Exhausted err e)), refl)
     not-in err false false false false t1 t2 t3 t4 e = absurd (none-some err e)
 
-    near : (k : ℕ) → k ≡ c.traffic.delivered → k < REACH → c.traffic.delivered < c.traffic.stable + WINDOW
+    near : (k : ℕ) → k ≡ c.traffic.delivered → k < WINDOW → c.traffic.delivered < c.traffic.stable + WINDOW
     near k e low = omega arith
 
-    counted : (k : ℕ) → k ≡ c.traffic.delivered → k < REACH → c.traffic.delivered < GREATEST_NUMBER
+    counted : (k : ℕ) → k ≡ c.traffic.delivered → k < WINDOW → c.traffic.delivered < GREATEST_NUMBER
     counted k e low = omega arith
 
     -- a message that is told where it is sent is told promptly, whoever is asked for as the node's member and its view
@@ -137,7 +133,7 @@ module _ {S : Type 0} (opening : S) (apply : S → Address → List ℕ → S) (
 
   not-at : (err : Error) (o : Option View) → c.view ≡ o
       → cond (not (is_some o)) (Some error.NotConnected) (cond (nat_lt PAYLOAD (length payload)) (Some error.TooLong) (cond (is_frozen c.view c.installed) (Some error.Blocked)
-      (cond (nat_le OUTSTANDING (length c.traffic.outstanding)) (Some error.Busy) (cond (nat_le (2 ^ 62) c.traffic.sent) (Some error.Exhausted) None)))) ≡ Some err
+      (cond (nat_le OUTSTANDING (length c.traffic.outstanding)) (Some error.Busy) (cond (nat_le GREATEST_NUMBER c.traffic.sent) (Some error.Exhausted) None)))) ≡ Some err
       → AnswersSend payload m.address h (answer_for err) []
   not-at err None e r = rw (Facts.view-is opening apply encode decode is_state h n m c x None e) (ap answer_for (sym (same_Some error.NotConnected err r)), refl)
   not-at err (Some v) e r = not-in v e err _ _ _ _ refl refl refl refl r

@@ -12,7 +12,6 @@ ghost use Rattle.world_model.specs.Histories.{target_of, running};
 ghost use Rattle.world.specs.Worlds.{shown, no_world, IsLonger, WorldStep, Runs};
 ghost use Rattle.world_model.specs.Packets.{packet_numbered};
 ghost use Rattle.world_model.specs.Faithful.{IsFaithful};
-ghost use Rattle.world.specs.declared.TheConstants.{STEP_PLACES};
 ghost use Rattle.world.specs.Seats.{seat_at, seats_in};
 ghost use Rattle.world.specs.Turns.{ActsAt, KeepsSeat, CarriesOut, Carries, Hears, Delivers, SameSeats};
 
@@ -23,15 +22,13 @@ mod seat;
 use crate::pool::Pool;
 use crate::seat::Seat;
 use address::{Address, Node};
+use limits::STEP_EVENTS;
 use state_transfer::Receiver;
 use std::alloc::{AllocError, Global};
 use std::collections::BTreeMap;
 use std::marker::Model;
 use trace_props::{Bytes, Trace};
 use world_model::{Answer, Refusal, Reply, Target, WorldEvent};
-
-/// How many places of the trace are reserved before each step: as many as a step of a member may need.
-pub const STEP_PLACES: usize = member::EVENTS;
 
 /// A world of members, one at a node at a time, each with its receiver (docs/GUARANTEES.md, "The world"). Contracts see its history and
 /// what stands at each node: nothing yet, one that has ended, or the member that runs.
@@ -80,7 +77,7 @@ fn act_at<R: Receiver>(
     node: Node,
     event: &WorldEvent,
 ) -> Answer
-    requires room { STEP_PLACES ≤ trace.old.room }
+    requires room { STEP_EVENTS ≤ trace.old.room }
     ensures acts { ActsAt R.opening_state R.apply R.encode R.decode event.now (get nat_cmp seats.old node) trace.old.events pool.old result (get nat_cmp seats.new node) trace.new.events pool.new }
     ensures others { (m : ℕ) → nat_eq node m ≡ false → get nat_cmp seats.new m ≡ get nat_cmp seats.old m }
 {
@@ -99,7 +96,7 @@ fn carry_out<R: Receiver>(
     node: Node,
     event: &WorldEvent,
 ) -> Result<Answer, AllocError>
-    requires room { STEP_PLACES ≤ trace.old.room }
+    requires room { STEP_EVENTS ≤ trace.old.room }
     ensures ok { IfOk result (λ a. CarriesOut R.opening_state R.apply R.encode R.decode event.now (get nat_cmp seats.old node) trace.old.events pool.old a (get nat_cmp seats.new node) trace.new.events pool.new) }
     ensures others { (m : ℕ) → nat_eq node m ≡ false → get nat_cmp seats.new m ≡ get nat_cmp seats.old m }
     ensures err { OnErr result (get nat_cmp seats.new node ≡ get nat_cmp seats.old node) }
@@ -122,7 +119,7 @@ fn hear_at<R: Receiver>(
     node: Node,
     number: u64,
 ) -> Answer
-    requires room { STEP_PLACES ≤ trace.old.room }
+    requires room { STEP_EVENTS ≤ trace.old.room }
     ensures hears { (bytes : List ℕ) → packet_numbered number pool.old ≡ Some bytes → Hears R.apply R.encode R.decode bytes (seat_at (get nat_cmp seats.old node)) trace.old.events pool.old result (seat_at (get nat_cmp seats.new node)) trace.new.events pool.new }
     ensures others { (m : ℕ) → nat_eq node m ≡ false → get nat_cmp seats.new m ≡ get nat_cmp seats.old m }
 {
@@ -139,7 +136,7 @@ fn deliver<R: Receiver>(
     pool: &mut Pool,
     number: u64,
 ) -> Answer
-    requires room { STEP_PLACES ≤ trace.old.room }
+    requires room { STEP_EVENTS ≤ trace.old.room }
     ensures { Delivers R.apply R.encode R.decode (packet_numbered number pool.old) (seats_in (get nat_cmp seats.old)) trace.old.events pool.old result (seats_in (get nat_cmp seats.new)) trace.new.events pool.new }
 {
     match pool.destination(number) {
@@ -156,7 +153,7 @@ fn carry<R: Receiver>(
     pool: &mut Pool,
     event: &WorldEvent,
 ) -> Result<Answer, AllocError>
-    requires room { STEP_PLACES ≤ trace.old.room }
+    requires room { STEP_EVENTS ≤ trace.old.room }
     ensures ok { IfOk result (λ a. Carries R.opening_state R.apply R.encode R.decode (target_of event.now) event.now (seats_in (get nat_cmp seats.old)) trace.old.events pool.old a (seats_in (get nat_cmp seats.new)) trace.new.events pool.new) }
     ensures err { OnErr result (SameSeats (seats_in (get nat_cmp seats.old)) (seats_in (get nat_cmp seats.new))) }
     ensures err_trace { OnErr result (trace.new.events ≡ trace.old.events) }
@@ -174,14 +171,14 @@ fn reserve_step(
     events: &mut Vec<WorldEvent>,
     replies: &mut Vec<Reply>,
 ) -> Result<(), AllocError>
-    ensures room { OnOk result (STEP_PLACES ≤ trace.new.room) }
+    ensures room { OnOk result (STEP_EVENTS ≤ trace.new.room) }
     ensures event { OnOk result (vec_len events.new + 1 ≤ vec_capacity events.new) }
     ensures reply { OnOk result (vec_len replies.new + 1 ≤ vec_capacity replies.new) }
     ensures trace { trace.new.events ≡ trace.old.events }
     ensures events { events.new.items ≡ events.old.items }
     ensures replies { replies.new.items ≡ replies.old.items }
 {
-    trace.reserve(STEP_PLACES)?;
+    trace.reserve(STEP_EVENTS)?;
     events.reserve(1)?;
     replies.reserve(1)
 }

@@ -4,7 +4,7 @@ ghost use Rattle.std.specs.Prelude.{◌≡◌, ◌≤◌, ◌++◌, ◌∷◌, [
 ghost use Rattle.address.specs.Ids.{IsAddress};
 ghost use Rattle.trace_props.specs.declared.event.Event.TheVariants.{Crashed};
 ghost use Rattle.trace_props.specs.Recorded.{IsRecordable};
-ghost use Rattle.world.specs.declared.TheConstants.{STEP_PLACES};
+ghost use Rattle.limits.specs.declared.TheConstants.{STEP_EVENTS};
 ghost use Rattle.member.specs.Handling.{Handled};
 ghost use Rattle.member.specs.declared.input.Input.{Input};
 ghost use Rattle.member.specs.Members.{MemberModel, leaves};
@@ -125,7 +125,7 @@ fn settle<R: Receiver>(
     leaving: bool,
     called: Result<Output, Error>,
 ) -> Answer
-    requires room { STEP_PLACES ≤ trace.old.room }
+    requires room { STEP_EVENTS ≤ trace.old.room }
     requires fits { IfOk called Fits }
     ensures { (input : Input) (left : MemberModel R) → leaves input ≡ leaving → seat.old ≡ Running left → Gives address input called left trace.old.events pool.old result seat.new trace.new.events pool.new }
 {
@@ -164,7 +164,7 @@ fn hand<R: Receiver>(
     pool: &mut Pool,
     input: &Input<'_>,
 ) -> Answer
-    requires room { STEP_PLACES ≤ trace.old.room }
+    requires room { STEP_EVENTS ≤ trace.old.room }
     ensures { Hands R.apply R.encode R.decode input.now seat.old trace.old.events pool.old result seat.new trace.new.events pool.new }
 {
     match seat {
@@ -242,7 +242,7 @@ pub fn hear<R: Receiver>(
     pool: &mut Pool,
     number: u64,
 ) -> Answer
-    requires room { STEP_PLACES ≤ trace.old.room }
+    requires room { STEP_EVENTS ≤ trace.old.room }
     ensures { (bytes : List ℕ) → packet_numbered number pool.old ≡ Some bytes → Hears R.apply R.encode R.decode bytes seat.old trace.old.events pool.old result seat.new trace.new.events pool.new }
 {
     match seat {
@@ -266,7 +266,7 @@ pub fn act<R: Receiver>(
     pool: &mut Pool,
     event: &WorldEvent,
 ) -> Answer
-    requires room { STEP_PLACES ≤ trace.old.room }
+    requires room { STEP_EVENTS ≤ trace.old.room }
     ensures { Acts R.opening_state R.apply R.encode R.decode event.now seat.old trace.old.events pool.old result seat.new trace.new.events pool.new }
 {
     match event {

@@ -3,7 +3,7 @@ use Rattle.std.specs.Prelude.{◌≡◌, ℕ, ◌+◌, ◌-◌, ◌<◌, ◌^◌
 use Rattle.std.specs.Option.{option_map_or, ForSome}
 use Rattle.std.specs.List.{list_all, Contains}
 use Rattle.address.specs.Ids.{Address, ViewId, same_address}
-use Rattle.state_transfer.specs.declared.TheConstants.{PAYLOAD}
+use Rattle.limits.specs.declared.TheConstants.{PAYLOAD, OUTSTANDING, WINDOW, GREATEST_NUMBER}
 use Rattle.trace_props.specs.declared.event.Event.{Event}
 use Rattle.trace_props.specs.declared.event.Event.TheVariants.{Started, Sent, Delivered, Blocked, Installed, Left, Crashed}
 use Rattle.trace_props.specs.declared.event.Install.{Install}
@@ -16,7 +16,6 @@ use Rattle.world_model.specs.declared.Answer.TheVariants as answer
 use Rattle.world_model.specs.declared.Refusal.{Refusal}
 use Rattle.world_model.specs.declared.Refusal.TheVariants.{NotConnected, Busy, TooLong, AlreadyConnected, Closed, Memory, Exhausted}
 use Rattle.world_model.specs.declared.Refusal.TheVariants as refusal
-use Rattle.world_model.specs.declared.TheConstants.{OUTSTANDING, REACH}
 use Rattle.world_model.specs.Histories.{History, last_of, is_connected, after, no_history}
 use Rattle.world_model.specs.Packets.{recipient}
 
@@ -104,7 +103,7 @@ AnswersSend payload p h a stretch =
     (λ v. MatchBool (nat_lt PAYLOAD (length payload)) (Refuses TooLong a stretch)
     (MatchBool (is_blocked p h.trace) (Refuses refusal.Blocked a stretch)
     (MatchBool (nat_le OUTSTANDING (outstanding p v h.trace)) (Refuses Busy a stretch)
-    (MatchBool (nat_lt (length (sent_in p v h.trace)) (2 ^ 62))
+    (MatchBool (nat_lt (length (sent_in p v h.trace)) GREATEST_NUMBER)
     (SendsNext p v payload h.trace a stretch ⊎ Fails p a stretch)
     (Refuses Exhausted a stretch)))))
 
@@ -145,7 +144,7 @@ Answers h (Crash n) a stretch = AtMember n h a stretch (λ p. AnswersCrash p a s
 abbrev pub IsPrompt : ℕ → List ℕ → List Event → Answer → List Event → Type 0
 IsPrompt n payload t (answer.Sent k) stretch =
     ForSome (last_of n t) (λ p. ForSome (current_view p t) (λ v.
-    same_address p v.creator ≡ true → length (delivered_in p v t) < REACH
+    same_address p v.creator ≡ true → length (delivered_in p v t) < WINDOW
     → Contains stretch (Delivered (record { member = p; view = v; message = record { sender = p; number = k; payload = payload } }))))
 IsPrompt n payload t Done stretch = Unit {0}
 IsPrompt n payload t (Refused r) stretch = Unit {0}

@@ -1,7 +1,7 @@
 ghost use Rattle.std.specs.Prelude.{◌≡◌, ◌≤◌, ◌++◌, ◌∷◌, [], List, true, Some, length, unwrap_or, option_and_then, OnOk, IfOk, if◌then◌else◌, is_some, IsSome, MatchBool};
 ghost use Rattle.std.specs.BTreeMap.{get};
 ghost use Rattle.address.specs.Ids.{Address, IsAddress, address_cmp, view_id_cmp, same_address};
-ghost use Rattle.state_transfer.specs.declared.TheConstants.{PAYLOAD};
+ghost use Rattle.limits.specs.declared.TheConstants.{PAYLOAD};
 ghost use Rattle.std.specs.Bool.{Decides};
 ghost use Rattle.std.specs.Option.{ForSome};
 ghost use Rattle.trace_props.specs.declared.event.Event.{Event};

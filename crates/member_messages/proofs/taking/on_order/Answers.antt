@@ -1,5 +1,6 @@
 use Rattle.std.proofs.Common.{◌-◌, Some, not, sym}
 use Rattle.std.specs.Prelude.{nat_lt}
+use Rattle.limits.specs.declared.TheConstants.{WINDOW}
 use Rattle.wire.specs.declared.packet.Body.TheVariants as bodies
 use Rattle.agreement.specs.Acts.{packet}
 use Rattle.member_messages.proofs.Opening.{there-is, orderly-in, ordered-by, nothing-did}
@@ -35,7 +36,7 @@ returns-in_ok-order-in-Some-Other-clause-did g c =
     let heard = heard-in _ _ _ _ _ there (sym c.if-not-takes_order.ensures) in
     let does = c.in_ok-order-in-Some-Other.ensures in
     other-did _ _ _ (λ q i. Some (packet q (bodies.Order i c.args.place c.args.entry.now) c.args.who.now.address)) _ _ _ _ _ _ _ _ _ _ c.requires.life heard there
-    (from-in _ _ c.args.life.now c.in-Some-Other.other (λ m. not (nat_lt m.window.delivered (c.args.place - 32))) there (sym c.if-not-takes_order.ensures)) does.goes
+    (from-in _ _ c.args.life.now c.in-Some-Other.other (λ m. not (nat_lt m.window.delivered (c.args.place - WINDOW))) there (sym c.if-not-takes_order.ensures)) does.goes
 
 pub returns-in_ok-order-in-Some-Other-clause-calm : goal.returns-in_ok-order-in-Some-Other-clause-calm
 returns-in_ok-order-in-Some-Other-clause-calm g c =
