@@ -17,7 +17,7 @@ use membership::Life;
 use output::{Identity, Output};
 use state_transfer::Receiver;
 use std::alloc::AllocError;
-use trace_props::{HandedBack, Event, Install};
+use trace_props::{Event, HandedBack, Install};
 use traffic::Traffic;
 use view::{Addresses, View};
 use wire::{Body, Roster};

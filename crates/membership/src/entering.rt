@@ -20,7 +20,7 @@ use output::{Identity, Output};
 use packet_values::{Entry, State};
 use state_transfer::Receiver;
 use std::alloc::{AllocError, Global};
-use trace_props::{Bytes, HandedBack, Event, Install as Installed};
+use trace_props::{Bytes, Event, HandedBack, Install as Installed};
 use traffic::Traffic;
 use view::{Addresses, View};
 use wire::{Install, Items, Roster};

@@ -1,6 +1,6 @@
 use crate::fixtures::first_of;
 use std::alloc::{AllocError, Global};
-use trace_props::{Bytes, HandedBack, Event, Numbered, Trace};
+use trace_props::{Bytes, Event, HandedBack, Numbered, Trace};
 
 // What each rule refuses and what it lets pass is tested as text, by the files `check-*.txt` of the crate `worked`.
 

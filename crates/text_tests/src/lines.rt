@@ -1,7 +1,7 @@
 use crate::fixtures::address;
 use address::ViewId;
 use std::alloc::{AllocError, Global};
-use trace_props::{Bytes, Delivery, HandedBack, Event, Install, Message, Numbered, Sending};
+use trace_props::{Bytes, Delivery, Event, HandedBack, Install, Message, Numbered, Sending};
 use view::{Addresses, View};
 use vsync_text::append_event;
 

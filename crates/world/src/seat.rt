@@ -130,12 +130,7 @@ fn settle<R: Receiver>(
     ensures { (input : Input) (left : MemberModel R) → leaves input ≡ leaving → seat.old ≡ Running left → Gives address input called left trace.old.events pool.old result seat.new trace.new.events pool.new }
 {
     match called {
-        Ok(
-            Output {
-                packets,
-                events,
-            },
-        ) => {
+        Ok(Output { packets, events }) => {
             if pool.put_all(packets).is_err() {
                 return lose(seat, trace, address);
             }

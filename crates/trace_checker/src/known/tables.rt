@@ -83,11 +83,7 @@ fn keep_install<'a>(
 }
 
 /// Keeps what happened next, whose message, if it tells one, is its sender's next.
-pub fn keep<'a>(
-    alloc: Global,
-    tables: &mut Tables<'a>,
-    event: &'a Event,
-) -> Result<(), AllocError>
+pub fn keep<'a>(alloc: Global, tables: &mut Tables<'a>, event: &'a Event) -> Result<(), AllocError>
     ensures kept { OnOk result (pointed tables.new.events.items ≡ pointed tables.old.events.items ++ event.now ∷ []) }
     ensures known { OnOk result ((t : List Event) → MayCarry t event.now
         → KnowsPast (get address_cmp tables.old.standings) (get seat_cmp tables.old.sent.lists) (get seat_cmp tables.old.told.lists) (get pair_cmp tables.old.last)
