@@ -27,7 +27,7 @@ pub returns-in_ok-order-in-Some-Other-clause-ordered : goal.returns-in_ok-order-
 returns-in_ok-order-in-Some-Other-clause-ordered g c =
     let there = there-is _ _ _ c.in-Some-Other.is c.in-Some-Other.field-0-is in
     let does = c.in_ok-order-in-Some-Other.ensures in
-    ordered-by _ _ (order-orderly g.R.Receiver.apply c.args.who.now.address c.args.who.now.group _ _ c.in-Some-Other.other _ _ _ _ _ does.takes does.goes.1 (orderly-in _ _ _ c.requires.ordered there))
+    ordered-by _ _ (order-orderly g.R.Receiver.meaning c.args.who.now.address c.args.who.now.group _ _ c.in-Some-Other.other _ _ _ _ _ does.takes does.goes.1 (orderly-in _ _ _ c.requires.ordered there))
 
 pub returns-in_ok-order-in-Some-Other-clause-did : goal.returns-in_ok-order-in-Some-Other-clause-did
 returns-in_ok-order-in-Some-Other-clause-did g c =

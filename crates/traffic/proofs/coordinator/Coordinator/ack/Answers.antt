@@ -9,7 +9,7 @@ returns-then-count-delivered g c = record { goes = goes-nothing _ _ _ _ _ _ _ _ 
 
 pub order-requires : goal.order-requires
 order-requires g c = record {
-  coordinator = (ack-goes g.R.Receiver.apply g.R.Receiver.encode g.R.Receiver.decode _ c.args.who.now.group _ c.args.receiver.now c.args.out.now _ _ _ c.requires.coordinator c.requires.other c.requires.member c.acknowledge.ensures).coordinator;
+  coordinator = (ack-goes g.R.Receiver.meaning _ c.args.who.now.group _ c.args.receiver.now c.args.out.now _ _ _ c.requires.coordinator c.requires.other c.requires.member c.acknowledge.ensures).coordinator;
   settled = settled-heard _ _ _ _ _ c.requires.other c.requires.coordinator c.requires.member (omega arith) c.requires.settled c.acknowledge.ensures;
 }
 

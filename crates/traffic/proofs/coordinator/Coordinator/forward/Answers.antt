@@ -5,7 +5,7 @@ use Rattle.traffic.proofs.coordinator.Coordinator.forward.Goals as goal
 
 pub order-requires : goal.order-requires
 order-requires g c = record {
-  coordinator = (forward-goes g.R.Receiver.apply g.R.Receiver.encode g.R.Receiver.decode _ c.args.who.now.group _ c.args.receiver.now c.args.out.now _ _ _ _ c.requires.coordinator c.requires.other c.in_ok-queue.ensures).coordinator;
+  coordinator = (forward-goes g.R.Receiver.meaning _ c.args.who.now.group _ c.args.receiver.now c.args.out.now _ _ _ _ c.requires.coordinator c.requires.other c.in_ok-queue.ensures).coordinator;
   settled = settled-queued _ _ _ _ _ _ c.requires.other c.requires.settled c.in_ok-queue.ensures;
 }
 

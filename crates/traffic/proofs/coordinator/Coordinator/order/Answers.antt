@@ -24,5 +24,5 @@ pub returns-then-not-branch-clause-orders : goal.returns-then-not-branch-clause-
 returns-then-not-branch-clause-orders g c = ordering-then _ _ _ _ _ _ _ _ _ _ _ _ _ c.loop.invariant.2 c.in_ok-order_next.ensures.does
 
 pub returns-then-not-branch-clause-few : goal.returns-then-not-branch-clause-few
-returns-then-not-branch-clause-few g c = few _ g.R.Receiver.encode g.R.Receiver.decode _ _ _ _ _ _ _ _ (ordering-then _ _ _ _ _ _ _ _ _ _ _ _ _ c.loop.invariant.2 c.in_ok-order_next.ensures.does)
+returns-then-not-branch-clause-few g c = few _ g.R.Receiver.meaning _ _ _ _ _ _ _ _ (ordering-then _ _ _ _ _ _ _ _ _ _ _ _ _ c.loop.invariant.2 c.in_ok-order_next.ensures.does)
     c.requires.coordinator c.requires.settled c.kept.ensures c.rest-rest.ensures.kept c.members-members.ensures.sound

@@ -6,7 +6,7 @@ use Rattle.traffic.proofs.coordinator.Coordinator.send.Goals as goal
 
 pub order-requires : goal.order-requires
 order-requires g c = record {
-  coordinator = (send-goes g.R.Receiver.apply g.R.Receiver.encode g.R.Receiver.decode None _ _ _ c.args.receiver.now _ _ _ _ _ _ c.requires.coordinator c.in_ok-number.ensures.short c.in_ok-number.ensures.number
+  coordinator = (send-goes g.R.Receiver.meaning None _ _ _ c.args.receiver.now _ _ _ _ _ _ c.requires.coordinator c.in_ok-number.ensures.short c.in_ok-number.ensures.number
       c.in_ok-number.ensures.now c.in_ok-number.ensures.happens c.in_ok-queue.ensures).coordinator;
   settled = settled-sent _ _ _ _ _ _ c.rest-rest.ensures.kept c.requires.free c.requires.settled c.in_ok-number.ensures.number c.in_ok-number.ensures.now c.in_ok-queue.ensures;
 }
