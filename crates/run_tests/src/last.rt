@@ -31,11 +31,11 @@ impl Model for Last {
 
 impl Receiver for Last {
     ghost meaning = { record {
-        opening = 0;
-        apply = λ s from payload. slice_index_or payload 0 s;
-        encode = λ s. s ∷ [];
-        decode = λ bytes. if nat_eq (length bytes) 1 then Some (slice_index bytes 0) else None;
-        is_state = λ s. Unit {0};
+      opening = 0;
+      apply = λ s from payload. slice_index_or payload 0 s;
+      encode = λ s. s ∷ [];
+      decode = λ bytes. if nat_eq (length bytes) 1 then Some (slice_index bytes 0) else None;
+      is_state = λ s. Unit {0};
     } };
 
     ghost opens = { tt };
