@@ -56,8 +56,7 @@ module _ {S : Type 0} (meaning : Meaning S) where
   Fact h p c = MemberFact meaning h p c
 
   -- the act keeps the invariant
-  pub creates-keep : (s : System S) (c : Core S) → Invariant meaning s → Fact s.history c.me c → MayCreate c
-      → Invariant meaning (acted meaning s c.me Creates c)
+  pub creates-keep : (s : System S) (c : Core S) → Invariant meaning s → Fact s.history c.me c → MayCreate c → Invariant meaning (acted meaning s c.me Creates c)
   creates-keep s c inv x a =
       let h = s.history in
       let t = h.trace in

@@ -101,8 +101,7 @@ states-later meaning h k m same none each x =
 -- ---- one member moves
 
 -- what is to be shown when a member moves: all that is new of the history, and what then holds of it, if it still runs
-pub record Moves {S : Type 0} (meaning : Meaning S) (p : Address)
-    (h k : History) (o : Option (Core S)) : Type 0 where
+pub record Moves {S : Type 0} (meaning : Meaning S) (p : Address) (h k : History) (o : Option (Core S)) : Type 0 where
   pub later : Later h k
   pub only : Only p h k
   pub state : OnlyState meaning p h.trace k.trace

@@ -62,8 +62,7 @@ pub record IsNobody {S : Type 0} (meaning : Meaning S) (p : Address) (t : List E
 Nobody : {S : Type 0} → Meaning S → Address → List Event → Type 0
 Nobody meaning p t = EachEvent MayStand t → has_started p t ≡ false → IsNobody meaning p t
 
-nobody-push : {S : Type 0} (meaning : Meaning S) (p : Address) (t : List Event) (x : Event)
-    → Nobody meaning p t → Nobody meaning p (t ++ x ∷ [])
+nobody-push : {S : Type 0} (meaning : Meaning S) (p : Address) (t : List Event) (x : Event) → Nobody meaning p t → Nobody meaning p (t ++ x ∷ [])
 unfolding Nobody
 nobody-push meaning p t x later placed fresh =
     let before = later (EachEvent-before MayStand t x placed) (started-before p t x (has_started p t) refl fresh) in
@@ -76,8 +75,7 @@ nobody-push meaning p t x later placed fresh =
       silent = λ v. sent_in-other p v t x other ∙ before.silent v;
     }
 
-pub nobody : {S : Type 0} (meaning : Meaning S) (p : Address) (t : List Event) → EachEvent MayStand t → has_started p t ≡ false
-    → IsNobody meaning p t
+pub nobody : {S : Type 0} (meaning : Meaning S) (p : Address) (t : List Event) → EachEvent MayStand t → has_started p t ≡ false → IsNobody meaning p t
 unfolding Nobody
 nobody meaning p t =
     by_pushes (Nobody meaning p) (λ placed fresh. record { going = refl; outside = refl; free = refl; state = refl; silent = λ v. refl })

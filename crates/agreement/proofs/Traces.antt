@@ -35,15 +35,13 @@ use Rattle.agreement.proofs.Others.{OnlyState, not-another}
 -- ---- what may stand
 
 -- whatever goes on may stand
-pub stands-of : {S : Type 0} (meaning : Meaning S) (t : List Event) (h : Event) → GoesOn meaning t h
-    → MayStand t h
+pub stands-of : {S : Type 0} (meaning : Meaning S) (t : List Event) (h : Event) → GoesOn meaning t h → MayStand t h
 stands-of meaning t h m = m.seven.1.1.1.1.1.1.0
 
 pub views-of : {S : Type 0} (meaning : Meaning S) (h : History) → TraceFact meaning h → HasRisingViews h.trace
 views-of meaning h x = (EachPlace-whole (KeepsRules meaning) h.trace x.synchronous).ordered.views
 
-pub rules-of : {S : Type 0} (meaning : Meaning S) (h : History) → TraceFact meaning h
-    → KeepsRules meaning h.trace
+pub rules-of : {S : Type 0} (meaning : Meaning S) (h : History) → TraceFact meaning h → KeepsRules meaning h.trace
 rules-of meaning h x = EachPlace-whole (KeepsRules meaning) h.trace x.synchronous
 
 -- ---- nothing before the install
@@ -192,8 +190,7 @@ entry_state-kept meaning v t u s e = by (position_from (installs v.creator v) 0 
     by None at = absurd (none-some s (sym (entry_state-none meaning v t at) ∙ e))
     by (Some k) at = entry_state-stays meaning v t u k at ∙ e
 
-pub state-still : {S : Type 0} (meaning : Meaning S) (q : Address) (s : S) (h : Event) → same_address (member_of h) q ≡ false
-    → state_after meaning q s h ≡ s
+pub state-still : {S : Type 0} (meaning : Meaning S) (q : Address) (s : S) (h : Event) → same_address (member_of h) q ≡ false → state_after meaning q s h ≡ s
 state-still meaning q s (Started x) o = refl
 state-still meaning q s (Sent x) o = refl
 state-still meaning q s (Delivered d) o = cond-false (same_address d.member q) _ s o
@@ -203,8 +200,7 @@ state-still meaning q s (Left x) o = refl
 state-still meaning q s (Crashed x) o = refl
 
 -- what happens to one leaves the states of others
-pub only-state : {S : Type 0} (meaning : Meaning S) (p : Address) (t : List Event) (x : Event) → member_of x ≡ p
-    → OnlyState meaning p t (t ++ x ∷ [])
+pub only-state : {S : Type 0} (meaning : Meaning S) (p : Address) (t : List Event) (x : Event) → member_of x ≡ p → OnlyState meaning p t (t ++ x ∷ [])
 only-state meaning p t x same = record {
   now = λ q o. state_of-push meaning q t x ∙ state-still meaning q (state_of meaning q t) x (not-another p q (member_of x) same o);
   entered = λ v s e. entry_state-kept meaning v t (x ∷ []) s e;
@@ -213,8 +209,7 @@ only-state meaning p t x same = record {
 pub only_state-refl : {S : Type 0} (meaning : Meaning S) (p : Address) (t : List Event) → OnlyState meaning p t t
 only_state-refl meaning p t = record { now = λ q o. refl; entered = λ v s e. e }
 
-pub only_state-trans : {S : Type 0} (meaning : Meaning S) (p : Address) (t u w : List Event)
-    → OnlyState meaning p t u → OnlyState meaning p u w → OnlyState meaning p t w
+pub only_state-trans : {S : Type 0} (meaning : Meaning S) (p : Address) (t u w : List Event) → OnlyState meaning p t u → OnlyState meaning p u w → OnlyState meaning p t w
 only_state-trans meaning p t u w a b = record {
   now = λ q o. b.now q o ∙ a.now q o;
   entered = λ v s e. b.entered v s (a.entered v s e);

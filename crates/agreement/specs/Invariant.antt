@@ -59,8 +59,7 @@ pub record StateFact {S : Type 0} (meaning : Meaning S) (h : History) : Type 0 w
   pub begins : (w : ViewId) (e : Install) → entry_of w.creator w h.trace ≡ Some e → BeginsWith meaning h.trace w e
   pub are : (w : ViewId) (s : S) → entry_state meaning w h.trace ≡ Some s → meaning.is_state s
 
-pub record Invariant {S : Type 0} (meaning : Meaning S)
-    (s : System S) : Type 0 where
+pub record Invariant {S : Type 0} (meaning : Meaning S) (s : System S) : Type 0 where
   pub trace : TraceFact meaning s.history
   pub packets : EachPacket s.history
   pub entries : EachEntry s.history

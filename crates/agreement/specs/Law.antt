@@ -11,8 +11,7 @@ use Rattle.agreement.specs.Chains.{Acted}
 use Rattle.agreement.specs.Invariant.{Invariant}
 
 abbrev pub KeepsInvariant : {S : Type 0} → Meaning S → Type 0
-KeepsInvariant meaning = (steps : List Step) → MayRun meaning nothing_yet steps
-    → Invariant meaning (after_steps meaning nothing_yet steps)
+KeepsInvariant meaning = (steps : List Step) → MayRun meaning nothing_yet steps → Invariant meaning (after_steps meaning nothing_yet steps)
 
 -- all eight rules at every place, within the events of a step too
 abbrev pub IsAlwaysSynchronous : {S : Type 0} → Meaning S → Type 0

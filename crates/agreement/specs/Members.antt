@@ -132,8 +132,7 @@ pub record ViewFact (h : History) (p : Address) (installed : Bool) (traffic : Tr
 
 -- ---- its state
 
-pub record HasState {S : Type 0} (meaning : Meaning S) (t : List Event) (p : Address)
-    (view : Option View) (state : S) : Type 0 where
+pub record HasState {S : Type 0} (meaning : Meaning S) (t : List Event) (p : Address) (view : Option View) (state : S) : Type 0 where
   pub now : state_of meaning p t ≡ state
   pub is : meaning.is_state state
   -- in a view, that of the view's beginning with all applied that it was told there
@@ -141,8 +140,7 @@ pub record HasState {S : Type 0} (meaning : Meaning S) (t : List Event) (p : Add
 
 -- ---- all of it
 
-pub record MemberFact {S : Type 0} (meaning : Meaning S) (h : History) (p : Address)
-    (c : Core S) : Type 0 where
+pub record MemberFact {S : Type 0} (meaning : Meaning S) (h : History) (p : Address) (c : Core S) : Type 0 where
   pub seat : HasSeat h.trace p c.me c.view c.installed
   pub promise : PromiseOf p c.promise c.view c.installed
   pub announced : IsAnnounced h.pool p c.promise

@@ -172,5 +172,4 @@ GivesState meaning h q i = (e : Install) (r : Report) → entry_of i.view.id.cre
 
 -- a view begins with the state that its coordinator had at the end of the view from which it came
 abbrev pub BeginsWith : {S : Type 0} → Meaning S → List Event → ViewId → Install → Type 0
-BeginsWith meaning t w e = (v : ViewId) → e.previous ≡ Some v
-    → state_with meaning v (list_of w.creator v t) t ≡ entry_state meaning w t
+BeginsWith meaning t w e = (v : ViewId) → e.previous ≡ Some v → state_with meaning v (list_of w.creator v t) t ≡ entry_state meaning w t

@@ -38,8 +38,7 @@ DoesBy meaning group me came (MergeHint q) old new out later = TellsView group m
 DoesBy meaning group me came Leave old new out later = ⊥
 
 -- from one that runs to one that runs; where it leaves, it ends
-abbrev pub DoesAt : {S : Type 0} → Meaning S → List ℕ → Address → Option Posted → Input → Option (Life S) → Option (Life S) → Output → Output
-    → Type 0
+abbrev pub DoesAt : {S : Type 0} → Meaning S → List ℕ → Address → Option Posted → Input → Option (Life S) → Option (Life S) → Output → Output → Type 0
 DoesAt meaning group me came input (Some old) (Some new) out later = DoesBy meaning group me came input old new out later
 DoesAt meaning group me came input (Some old) None out later = Leaves group me old out later
 DoesAt meaning group me came input None new out later = ⊥

@@ -29,8 +29,7 @@ use Rattle.member.specs.Doing.{Does, is_ignored}
 -- ---- acted
 
 -- it went on by nothing but acts: what they put out is what the bytes spell, as packets that are read back, and what happened is what they let happen
-pub record HasActed {S : Type 0} (meaning : Meaning S) (old : MemberModel S) (input : Input) (out : Output)
-    (new : MemberModel S) : Type 0 where
+pub record HasActed {S : Type 0} (meaning : Meaning S) (old : MemberModel S) (input : Input) (out : Output) (new : MemberModel S) : Type 0 where
   pub posted : List Posted
   pub acted : Acted meaning (came_at old input) (core_of old) posted out.events.items (core_of new)
   pub spelled : out.packets.items ≡ map (spelled old.group) posted
@@ -106,8 +105,7 @@ Ignores old input result new = is_ignored old input ≡ true → IsNothing resul
 
 -- ---- all of it
 
-pub record Handled {S : Type 0} (meaning : Meaning S) (old : MemberModel S) (input : Input)
-    (result : Result Output Error) (new : MemberModel S) : Type 0 where
+pub record Handled {S : Type 0} (meaning : Meaning S) (old : MemberModel S) (input : Input) (result : Result Output Error) (new : MemberModel S) : Type 0 where
   pub acted : IfOk result (λ out. HasActed meaning old input out new)
   pub refused : RefusesAs (refusal_of old input) (is_unreadable meaning old input) old result new
   pub memory : EndsWithout old input new result

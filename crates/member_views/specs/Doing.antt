@@ -11,8 +11,7 @@ use Rattle.membership.specs.declared.life.Life.{Life}
 use Rattle.membership.specs.Lives.{core_of}
 
 -- on a packet that came, or on none, it left by acts alone, and what they put out is what grew
-pub record HasLeft {S : Type 0} (meaning : Meaning S) (came : Option Posted) (group : List ℕ) (me : Address)
-    (old : Life S) (out later : Output) : Type 0 where
+pub record HasLeft {S : Type 0} (meaning : Meaning S) (came : Option Posted) (group : List ℕ) (me : Address) (old : Life S) (out later : Output) : Type 0 where
   pub posted : List Posted
   pub grows : Grows group out later posted (Left me ∷ [])
   pub acted : Acted meaning came (Some (core_of me old)) posted (Left me ∷ []) None

@@ -11,8 +11,7 @@ use Rattle.membership.specs.declared.life.Life.{Life}
 use Rattle.membership.specs.Lives.{core_of}
 
 -- on a packet that came, or on none, it went on by acts alone, and what they put out and let happen is what grew
-pub record Did {S : Type 0} (meaning : Meaning S) (came : Option Posted) (group : List ℕ) (me : Address)
-    (old new : Life S) (out later : Output) : Type 0 where
+pub record Did {S : Type 0} (meaning : Meaning S) (came : Option Posted) (group : List ℕ) (me : Address) (old new : Life S) (out later : Output) : Type 0 where
   pub posted : List Posted
   pub happened : List Event
   pub grows : Grows group out later posted happened

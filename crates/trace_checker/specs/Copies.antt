@@ -7,8 +7,7 @@ use Rattle.trace_props.specs.declared.event.Event.{Event}
 use Rattle.trace_props.specs.State.{state_of, entry_state}
 
 -- what is kept says what the trace says, and all of it are states that a receiver can be in
-pub record KnowsStates {S : Type 0} (meaning : Meaning S)
-    (states : Address → Option S) (entering : ViewId → Option (List ℕ)) (t : List Event) : Type 0 where
+pub record KnowsStates {S : Type 0} (meaning : Meaning S) (states : Address → Option S) (entering : ViewId → Option (List ℕ)) (t : List Event) : Type 0 where
   pub states_known : (p : Address) → unwrap_or (states p) meaning.opening ≡ state_of meaning p t
   pub are_states : (p : Address) → meaning.is_state (state_of meaning p t)
   pub entering_known : (v : ViewId) → entering v ≡ option_map meaning.encode (entry_state meaning v t)

@@ -87,8 +87,7 @@ entry_state-new meaning v t h e =
     entry-cond meaning v t h false = refl
 
 -- nothing is known of a state of entry that no place has
-pub entry_state-none : {S : Type 0} (meaning : Meaning S) (v : ViewId) (t : List Event)
-    → position_from (installs v.creator v) 0 t ≡ None → entry_state meaning v t ≡ None
+pub entry_state-none : {S : Type 0} (meaning : Meaning S) (v : ViewId) (t : List Event) → position_from (installs v.creator v) 0 t ≡ None → entry_state meaning v t ≡ None
 entry_state-none meaning v t e = ap (entry_at meaning v t) (position_from-zero (installs v.creator v) t ∙ e)
 
 pub entry_state-some : {S : Type 0} (meaning : Meaning S) (v : ViewId) (t : List Event) (k : ℕ)
@@ -160,8 +159,7 @@ may-from meaning t (Left p) m = tt
 may-from meaning t (Crashed p) m = tt
 
 -- what happens under the rule may enter
-pub enters-needed : {S : Type 0} (meaning : Meaning S) (t : List Event) (h : Event)
-    → EntersWithState meaning (t ++ h ∷ []) → MayEnter meaning t h
+pub enters-needed : {S : Type 0} (meaning : Meaning S) (t : List Event) (h : Event) → EntersWithState meaning (t ++ h ∷ []) → MayEnter meaning t h
 enters-needed meaning t h r = may-from meaning t h (EachEvent-last (EntersAlike meaning) t h r)
 
 -- THE STATE OF ENTRY, ONE EVENT FURTHER

@@ -62,8 +62,7 @@ pub data IsRunText {S : Type 0} (meaning : Meaning S) (script : Script) : Status
 -- alone, where the script was not run to its end for want of memory
 pub data IsEndText {S : Type 0} (meaning : Meaning S) (lines_of : History → List (List ℕ)) (script : Script) : Status → List ℕ → Type 0 where
   All : (w : WorldModel S) → Ran meaning script.events w → IsEndText meaning lines_of script Done (concat (lines_of w.history))
-  Part : (w : WorldModel S) (count : ℕ) → Ran meaning script.events w
-      → IsEndText meaning lines_of script Memory (concat (take count (lines_of w.history)) ++ memory_line)
+  Part : (w : WorldModel S) (count : ℕ) → Ran meaning script.events w → IsEndText meaning lines_of script Memory (concat (take count (lines_of w.history)) ++ memory_line)
   Stopped : IsEndText meaning lines_of script Memory memory_line
 
 -- the texts of an input's first fault: its line; or `# memory`, where memory is refused

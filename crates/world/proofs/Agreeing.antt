@@ -21,8 +21,7 @@ use Rattle.world.proofs.Seats.{OnlyHere, runs, runs-put}
 use Rattle.world.proofs.Posts.{EachSound, bytes_for, posts-more}
 use Rattle.world.proofs.Turning
 
-module _ {S : Type 0} (meaning : Meaning S)
-    (laws : Stepping.Laws meaning) where
+module _ {S : Type 0} (meaning : Meaning S) (laws : Stepping.Laws meaning) where
   abbrev Holding : System S → Type 0
   Holding s = Turning.Holding meaning s
 

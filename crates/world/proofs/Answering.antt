@@ -60,8 +60,7 @@ quiet-done (Crashed p ∷ s) e = refl
 pub done-here : {X : Type 0} (n : ℕ) (y z : X) → cond (nat_eq n n && true) y z ≡ y
 done-here n y z = cond-true (nat_eq n n && true) y z (and_from (nat_eq n n) true (eq-eqb n n refl) refl)
 
-module _ {S : Type 0} (meaning : Meaning S) (h : History) (n : ℕ) (m : MemberModel S)
-    (c : Core S) (x : Facts.Runs meaning h n m c) where
+module _ {S : Type 0} (meaning : Meaning S) (h : History) (n : ℕ) (m : MemberModel S) (c : Core S) (x : Facts.Runs meaning h n m c) where
   me-is : c.me ≡ m.address
   me-is = x.fact.seat.itself
 

@@ -123,8 +123,7 @@ module _ {S : Type 0} where
 
 -- ---- a catch-up
 
-module _ {S : Type 0} (meaning : Meaning S)
-    (laws : Stepping.Laws meaning) where
+module _ {S : Type 0} (meaning : Meaning S) (laws : Stepping.Laws meaning) where
   abbrev Keeps : WorldModel S → Type 0
   Keeps w = IsWorld meaning w.seats w.history
 

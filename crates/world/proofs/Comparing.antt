@@ -39,8 +39,7 @@ members-by : (o : Option Install) (v : View) → option_map (λ (e : Install). e
 members-by None v e = absurd (none-some v e)
 members-by (Some x) v e = ap (λ (w : View). w.members) (same_Some x.view v e)
 
-module _ {S : Type 0} (meaning : Meaning S)
-    (s : System S) (i : Invariant meaning s) where
+module _ {S : Type 0} (meaning : Meaning S) (s : System S) (i : Invariant meaning s) where
   -- two members that run, in the same view, which one of them made
   pub record Both (c q : Address) (first other : Core S) (v : View) : Type 0 where
     pub coordinator : s.running c ≡ Some first

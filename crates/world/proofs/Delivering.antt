@@ -74,8 +74,7 @@ module _ {S : Type 0} (pool : List (List ℕ)) (m : MemberModel S) (c : Core S) 
 
 -- ---- a delivery
 
-module _ {S : Type 0} (meaning : Meaning S) (at : ℕ → Seat S) (h : History)
-    (w : Turning.World meaning at h) (k : ℕ) where
+module _ {S : Type 0} (meaning : Meaning S) (at : ℕ → Seat S) (h : History) (w : Turning.World meaning at h) (k : ℕ) where
   -- the packet of that number, and whom it is for
   pub record IsPacketFor (bytes : List ℕ) (p : Address) : Type 0 where
     pub there : packet_numbered k h.pool ≡ Some bytes

@@ -43,8 +43,7 @@ module _ {S : Type 0} (meaning : Meaning S) where
       → runs at m.address ≡ core_of m
   runs-at at h n m w there node = subst (λ (k : ℕ). core_here m.address (at k) ≡ core_of m) (sym node) (ap (core_here m.address) there ∙ core-running m.address m refl)
 
-  pub running-here : (at : ℕ → Seat S) (h : History) (n : ℕ) (m : MemberModel S) → Turning.World meaning at h → at n ≡ Running m
-      → (c : Core S) × Runs h n m c
+  pub running-here : (at : ℕ → Seat S) (h : History) (n : ℕ) (m : MemberModel S) → Turning.World meaning at h → at n ≡ Running m → (c : Core S) × Runs h n m c
   running-here at h n m w there =
       let k : IsSeatOf n (last_of n h.trace) (is_connected n h) h.trace (Running m) = subst (IsSeatOf n (last_of n h.trace) (is_connected n h) h.trace) there (w.seats n) in
       let x = core-there (core_of m) (λ c. is_connected n h ≡ c.connected) k.2.joined in (

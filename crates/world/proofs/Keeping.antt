@@ -10,8 +10,7 @@ use Rattle.world.specs.Worlds.{WorldModel, WorldStep, Runs, IsReached, no_world}
 use Rattle.world.specs.Worlds.Runs.{Still, Next}
 use Rattle.world.proofs.Carrying
 
-module _ {S : Type 0} (meaning : Meaning S)
-    (laws : Stepping.Laws meaning) where
+module _ {S : Type 0} (meaning : Meaning S) (laws : Stepping.Laws meaning) where
   -- what every world keeps
   abbrev pub Keeps : WorldModel S → Type 0
   Keeps w = IsWorld meaning w.seats w.history

@@ -160,8 +160,7 @@ module _ {S : Type 0} (meaning : Meaning S) where
 -- ---- the two
 
 -- different members run at different nodes
-module _ {S : Type 0} (meaning : Meaning S)
-    (laws : Stepping.Laws meaning) where
+module _ {S : Type 0} (meaning : Meaning S) (laws : Stepping.Laws meaning) where
   abbrev pub RunsAs : WorldModel S → Address → Life S → Traffic → Type 0
   RunsAs w p l t = Replying.RunsAs meaning w p l t
 

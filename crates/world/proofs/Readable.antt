@@ -60,8 +60,7 @@ what-is : {X : Type 0} (o : Option X) → is_some o ≡ true → (x : X) × (o �
 what-is None e = absurd (let bad : false ≡ true = e in cc)
 what-is (Some x) e = (x, refl)
 
-module _ {S : Type 0} (meaning : Meaning S)
-    (laws : Stepping.Laws meaning) where
+module _ {S : Type 0} (meaning : Meaning S) (laws : Stepping.Laws meaning) where
   -- a state that a receiver can be in is read back
   read-back : (b : Bool) (o : Option S) (given : Option (List ℕ)) → ((s : S) → o ≡ Some s → meaning.is_state s) → given ≡ cond b None (option_map meaning.encode o) → is_readable meaning given ≡ true
   read-back true o given are e = ap (is_readable meaning) e

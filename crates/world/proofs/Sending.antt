@@ -53,8 +53,7 @@ unused k n e test = subst (λ (j : ℕ). nat_lt j (2 ^ 62) ≡ true) (sym e) (gr
 used-up : (k n : ℕ) → n ≡ k → nat_le (2 ^ 62) k ≡ true → nat_lt n (2 ^ 62) ≡ false
 used-up k n e test = subst (λ (j : ℕ). nat_lt j (2 ^ 62) ≡ false) (sym e) (grind (arith, nat_tests))
 
-module _ {S : Type 0} (meaning : Meaning S) (h : History) (n : ℕ) (m : MemberModel S)
-    (c : Core S) (x : Facts.Runs meaning h n m c) (payload : List ℕ) where
+module _ {S : Type 0} (meaning : Meaning S) (h : History) (n : ℕ) (m : MemberModel S) (c : Core S) (x : Facts.Runs meaning h n m c) (payload : List ℕ) where
   me-is : c.me ≡ m.address
   me-is = x.fact.seat.itself
 

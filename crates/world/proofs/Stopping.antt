@@ -66,8 +66,7 @@ module _ {S : Type 0} (meaning : Meaning S) where
       ap (λ (o : Option View). option_map_or (λ (x : View). same_view_id x.id v) o false) view ∙ ap (λ (x : ViewId). same_view_id x v) id ∙ same_view_id-refl v in
       subst (λ (s : Seat S). is_open_in p v s ≡ true) (sym r.seat) (and_from (same_address r.member.address p) _ same seen)
 
-module _ {S : Type 0} (meaning : Meaning S)
-    (laws : Stepping.Laws meaning) where
+module _ {S : Type 0} (meaning : Meaning S) (laws : Stepping.Laws meaning) where
   abbrev Couple : WorldModel S → Address → Address → Life S → Life S → Coordinator → Other → Type 0
   Couple w c q lc lq kc kq = Leveling.Couple meaning laws w c q lc lq kc kq
 
@@ -185,8 +184,7 @@ module _ {S : Type 0} (meaning : Meaning S)
 
 -- ---- from what the code did
 
-module _ {S : Type 0} (meaning : Meaning S) (pair : Pair) (old : WorldModel S) (n : ℕ)
-    (node : n ≡ pair.view.creator.node) where
+module _ {S : Type 0} (meaning : Meaning S) (pair : Pair) (old : WorldModel S) (n : ℕ) (node : n ≡ pair.view.creator.node) where
   pub at-tick : (new : WorldModel S) → Fails meaning old (Tick n) new → Stops meaning pair old new
   at-tick new x = AtTick new (subst (λ (k : ℕ). Fails meaning old (Tick k) new) node x)
 

@@ -43,8 +43,7 @@ some-map : {X : Type 0} (o : Option X) (P Q : X → Type 0) → ((y : X) → P y
 some-map None P Q f y = absurd y
 some-map (Some z) P Q f y = f z y
 
-module _ {S : Type 0} (meaning : Meaning S) (h : History) (n : ℕ) (m : MemberModel S)
-    (c : Core S) (x : Facts.Runs meaning h n m c) where
+module _ {S : Type 0} (meaning : Meaning S) (h : History) (n : ℕ) (m : MemberModel S) (c : Core S) (x : Facts.Runs meaning h n m c) where
   abbrev Tabled : WorldEvent → Input → Type 0
   Tabled e i = Taking.Tabled meaning h n m c e i
 
@@ -113,8 +112,7 @@ module _ {S : Type 0} (meaning : Meaning S) (h : History) (n : ℕ) (m : MemberM
   join-taken contact out left handled free =
       let r = replies (input.Join contact) out left handled in
       subst (λ (l : List Event). TakesSo (Join n contact) (input.Join contact) (answer_to l) l left) (sym r.0) (record {
-        answers = Facts.at-member meaning h n m c x Done [] (λ p. AnswersJoin p h Done [])
-            (Answering.join-taken meaning h n m c x free);
+        answers = Facts.at-member meaning h n m c x Done [] (λ p. AnswersJoin p h Done []) (Answering.join-taken meaning h n m c x free);
         prompt = tt;
         ends = λ e. absurd (let bad : false ≡ true = e in cc);
         stays = λ e. connected-so left _ handled.group r.1 (done-here n true (is_connected n h));

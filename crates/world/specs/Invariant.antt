@@ -43,8 +43,7 @@ IsSpelled bytes = IsSomeAnd (read_as bytes) (λ m. packet_of bytes ≡ Ok (packe
 abbrev pub EachSpelled : List (List ℕ) → Type 0
 EachSpelled pool = (k : ℕ) (bytes : List ℕ) → slice_get pool k ≡ Some bytes → IsSpelled bytes
 
-pub record IsWorld {S : Type 0} (meaning : Meaning S) (at : ℕ → Seat S)
-    (h : History) : Type 0 where
+pub record IsWorld {S : Type 0} (meaning : Meaning S) (at : ℕ → Seat S) (h : History) : Type 0 where
   pub faithful : IsFaithful h
   pub paired : length h.events ≡ length h.replies
   pub agreed : Invariant meaning (system_of at h.pool h.trace)

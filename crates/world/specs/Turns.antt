@@ -54,8 +54,7 @@ pub record HasFailed {S : Type 0} (meaning : Meaning S) (input : Input) (m : Mem
   pub puts : pool' ≡ pool
 
 -- a step of a member, by what of it is told further: what happened, or the error
-abbrev pub Steps : {S Z : Type 0} → Meaning S → Input → MemberModel S → List (List ℕ) → Result (Vec Event Z) Error
-    → MemberModel S → List (List ℕ) → Type 0
+abbrev pub Steps : {S Z : Type 0} → Meaning S → Input → MemberModel S → List (List ℕ) → Result (Vec Event Z) Error → MemberModel S → List (List ℕ) → Type 0
 Steps meaning input m pool (Ok happened) left pool' = HasPut meaning input m pool happened.items left pool'
 Steps meaning input m pool (Err e) left pool' = HasFailed meaning input m pool e left pool'
 
@@ -103,8 +102,7 @@ pub record HandsHere {S : Type 0} (meaning : Meaning S) (input : Input) (m : Mem
   pub handled : Handled meaning m input result left
   pub gives : Gives m.address input result left t pool a new t' pool'
 
-abbrev pub Hands : {S : Type 0} → Meaning S → Input → Seat S → List Event → List (List ℕ) → Answer → Seat S → List Event
-    → List (List ℕ) → Type 0
+abbrev pub Hands : {S : Type 0} → Meaning S → Input → Seat S → List Event → List (List ℕ) → Answer → Seat S → List Event → List (List ℕ) → Type 0
 Hands meaning input Vacant t pool a new t' pool' = Stays NotConnected Vacant t a new t' × (pool' ≡ pool)
 Hands meaning input (Ended p) t pool a new t' pool' = Stays Closed (Ended p) t a new t' × (pool' ≡ pool)
 Hands meaning input (Running m) t pool a new t' pool' = HandsHere meaning input m t pool a new t' pool'
@@ -158,8 +156,7 @@ HandsLent meaning input bytes (Ended p) t pool a new t' pool' = Stays Closed (En
 HandsLent meaning input bytes (Running m) t pool a new t' pool' = (b : Bor (List ℕ)) × (b.now ≡ bytes) × HandsHere meaning (input b) m t pool a new t' pool'
 
 -- an event at its node
-abbrev pub Acts : {S : Type 0} → Meaning S → WorldEvent → Seat S → List Event → List (List ℕ) → Answer → Seat S → List Event
-    → List (List ℕ) → Type 0
+abbrev pub Acts : {S : Type 0} → Meaning S → WorldEvent → Seat S → List Event → List (List ℕ) → Answer → Seat S → List Event → List (List ℕ) → Type 0
 Acts meaning (Start n) old t pool a new t' pool' = StartGives meaning n old t a new t' × (pool' ≡ pool)
 Acts meaning (Create n) old t pool a new t' pool' = Hands meaning input.Create old t pool a new t' pool'
 Acts meaning (Join n contact) old t pool a new t' pool' = Hands meaning (input.Join contact) old t pool a new t' pool'
@@ -179,8 +176,7 @@ pub record Idles {S : Type 0} (old : Seat S) (t : List Event) (pool : List (List
   pub puts : pool' ≡ pool
 
 -- the bytes of a packet at a node
-abbrev pub Hears : {S : Type 0} → Meaning S → List ℕ → Seat S → List Event → List (List ℕ) → Answer → Seat S → List Event
-    → List (List ℕ) → Type 0
+abbrev pub Hears : {S : Type 0} → Meaning S → List ℕ → Seat S → List Event → List (List ℕ) → Answer → Seat S → List Event → List (List ℕ) → Type 0
 Hears meaning bytes Vacant t pool a new t' pool' = Idles Vacant t pool a new t' pool'
 Hears meaning bytes (Ended p) t pool a new t' pool' = Idles (Ended p) t pool a new t' pool'
 Hears meaning bytes (Running m) t pool a new t' pool' = HandsLent meaning input.Datagram bytes (Running m) t pool a new t' pool'
@@ -188,8 +184,7 @@ Hears meaning bytes (Running m) t pool a new t' pool' = HandsLent meaning input.
 -- ---- nodes
 
 -- an event at its node, which may not be kept yet
-abbrev pub ActsAt : {S : Type 0} → Meaning S → WorldEvent → Option (Seat S) → List Event → List (List ℕ) → Answer → Option (Seat S)
-    → List Event → List (List ℕ) → Type 0
+abbrev pub ActsAt : {S : Type 0} → Meaning S → WorldEvent → Option (Seat S) → List Event → List (List ℕ) → Answer → Option (Seat S) → List Event → List (List ℕ) → Type 0
 ActsAt meaning e None t pool a new t' pool' = (a ≡ Refused NotConnected) × (new ≡ None) × (t' ≡ t) × (pool' ≡ pool)
 ActsAt meaning e (Some s) t pool a new t' pool' = Acts meaning e s t pool a (seat_at new) t' pool'
 
@@ -227,8 +222,7 @@ HandsOver meaning bytes None at t pool a new t' pool' = Rests at t pool a new t'
 HandsOver meaning bytes (Some p) at t pool a new t' pool' = Hears meaning bytes (at p.node) t pool a (new p.node) t' pool' × OthersStand p.node at new
 
 -- a packet is delivered, if there is one of that number
-abbrev pub Delivers : {S : Type 0} → Meaning S → Option (List ℕ) → (ℕ → Seat S) → List Event → List (List ℕ) → Answer
-    → (ℕ → Seat S) → List Event → List (List ℕ) → Type 0
+abbrev pub Delivers : {S : Type 0} → Meaning S → Option (List ℕ) → (ℕ → Seat S) → List Event → List (List ℕ) → Answer → (ℕ → Seat S) → List Event → List (List ℕ) → Type 0
 Delivers meaning None at t pool a new t' pool' = Rests at t pool a new t' pool'
 Delivers meaning (Some bytes) at t pool a new t' pool' = HandsOver meaning bytes (destination_of bytes) at t pool a new t' pool'
 
