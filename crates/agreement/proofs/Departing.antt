@@ -1,5 +1,5 @@
 -- The coordinator of a flush goes from its view into its proposal: its install may follow.
-use Rattle.std.proofs.Common.{◌≡◌, ℕ, Bool, true, false, Option, Some, None, List, [], ◌++◌, length, drop, filter, refl, sym, ap, ◌∙◌, subst, MatchOption}
+use Rattle.std.proofs.Common.{◌≡◌, Bool, true, false, Option, Some, None, List, [], ◌++◌, length, drop, filter, refl, sym, ap, ◌∙◌, subst, MatchOption}
 use Rattle.std.specs.Prelude.{MatchBool}
 use Rattle.std.specs.Option.{ForSome, IsSomeAnd, option_map_or}
 use Rattle.std.proofs.lemmas.Option.{same_Some}
@@ -19,6 +19,7 @@ use Rattle.trace_props.proofs.Observing.{same_address-true, same_view_id-true}
 use Rattle.trace_props.proofs.Telling.{enters, register-stands}
 use Rattle.trace_props.proofs.Standing.{not-entered}
 use Rattle.std.proofs.lemmas.Bool.{and_parts}
+use Rattle.state_transfer.specs.Meanings.{Meaning}
 use Rattle.agreement.specs.Words.{members_of}
 use Rattle.agreement.specs.Histories.{History, report_of}
 use Rattle.agreement.specs.Cores.{Traffic, Core, id_of, left_of, report_with}
@@ -104,9 +105,9 @@ maker_install c v f cuts = record {
   given = None;
 }
 
-module _ {S : Type 0} (opening : S) (apply : S → Address → List ℕ → S) (encode : S → List ℕ) (decode : List ℕ → Option S) (is_state : S → Type 0) where
+module _ {S : Type 0} (meaning : Meaning S) where
   abbrev Fact : History → Address → Core S → Type 0
-  Fact h p c = MemberFact opening apply decode is_state h p c
+  Fact h p c = MemberFact meaning h p c
 
   -- what holds while its flush runs
   pub record IsReady (h : History) (c : Core S) (v : View) (f : FlushModel) (cuts : Cuts) : Type 0 where
@@ -130,8 +131,8 @@ module _ {S : Type 0} (opening : S) (apply : S → Address → List ℕ → S) (
       }
 
   -- nobody has installed the proposal, and its coordinator may
-  pub departs : (s : System S) (h : History) (c : Core S) (v : View) (f : FlushModel) (cuts : Cuts) → Invariant opening apply encode decode is_state s → MayFinish c v f cuts
-      → IsReady s.history c v f cuts → GoesOut opening apply encode decode is_state s.history h c (last_entries c v cuts) → MayMake h.trace (maker_install c v f cuts)
+  pub departs : (s : System S) (h : History) (c : Core S) (v : View) (f : FlushModel) (cuts : Cuts) → Invariant meaning s → MayFinish c v f cuts
+      → IsReady s.history c v f cuts → GoesOut meaning s.history h c (last_entries c v cuts) → MayMake h.trace (maker_install c v f cuts)
   departs s h c v f cuts inv a x out =
       let old = s.history in
       let t = h.trace in
@@ -140,7 +141,7 @@ module _ {S : Type 0} (opening : S) (apply : S → Address → List ℕ → S) (
       let i = maker_install c v f cuts in
       let mine = report_with c.view c.traffic in
       let runs = x.runs in
-      let views = views-of opening apply decode h out.quiet.trace in
+      let views = views-of meaning h out.quiet.trace in
       let listed : stands_in p f.members ≡ true = ap (λ z. stands_in z f.members) (sym runs.own) ∙ coordinator-in w f.members runs.list in
       let above : EntersAbove t i = record {
         inside = listed;

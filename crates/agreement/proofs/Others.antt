@@ -11,6 +11,7 @@ use Rattle.wire.specs.Values.{Report}
 use Rattle.wire.specs.Values as wire
 use Rattle.wire.specs.declared.packet.Body.{Body}
 use Rattle.wire.specs.declared.packet.Body.TheVariants as bodies
+use Rattle.state_transfer.specs.Meanings.{Meaning}
 use Rattle.flush.specs.Flushes.{FlushModel}
 use Rattle.trace_props.specs.declared.event.Event.{Event}
 use Rattle.trace_props.specs.declared.event.Event.TheVariants.{Started, Sent, Delivered, Blocked, Installed, Left, Crashed}
@@ -222,9 +223,9 @@ only-packets p h more from = record {
 -- ---- states
 
 -- what the trace says of states went on as it was, but for one member's
-pub record OnlyState {S : Type 0} (opening : S) (apply : S → Address → List ℕ → S) (decode : List ℕ → Option S) (p : Address) (t u : List Event) : Type 0 where
-  pub now : (q : Address) → same_address q p ≡ false → state_of opening apply decode q u ≡ state_of opening apply decode q t
-  pub entered : (v : ViewId) (s : S) → entry_state opening apply decode v t ≡ Some s → entry_state opening apply decode v u ≡ Some s
+pub record OnlyState {S : Type 0} (meaning : Meaning S) (p : Address) (t u : List Event) : Type 0 where
+  pub now : (q : Address) → same_address q p ≡ false → state_of meaning q u ≡ state_of meaning q t
+  pub entered : (v : ViewId) (s : S) → entry_state meaning v t ≡ Some s → entry_state meaning v u ≡ Some s
 
 -- ---- what holds of another
 
@@ -321,20 +322,20 @@ view-other p q h k installed traffic kept v o m only x = record {
 }
 
 -- the state in a view stays that of its beginning with all applied
-pub state_with-later : {S : Type 0} (opening : S) (apply : S → Address → List ℕ → S) (decode : List ℕ → Option S) (v : ViewId) (entries : List Entry) (t u : List Event) (s : S)
-    → ((z : S) → entry_state opening apply decode v t ≡ Some z → entry_state opening apply decode v u ≡ Some z)
-    → state_with opening apply decode v entries t ≡ Some s → state_with opening apply decode v entries u ≡ Some s
-state_with-later {S} opening apply decode v entries t u s kept e = by (entry_state opening apply decode v t) (entry_state opening apply decode v u) kept e
+pub state_with-later : {S : Type 0} (meaning : Meaning S) (v : ViewId) (entries : List Entry) (t u : List Event) (s : S)
+    → ((z : S) → entry_state meaning v t ≡ Some z → entry_state meaning v u ≡ Some z)
+    → state_with meaning v entries t ≡ Some s → state_with meaning v entries u ≡ Some s
+state_with-later {S} meaning v entries t u s kept e = by (entry_state meaning v t) (entry_state meaning v u) kept e
   where
-    by : (o b : Option S) → ((z : S) → o ≡ Some z → b ≡ Some z) → option_map (λ z. applied apply z entries) o ≡ Some s
-        → option_map (λ z. applied apply z entries) b ≡ Some s
+    by : (o b : Option S) → ((z : S) → o ≡ Some z → b ≡ Some z) → option_map (λ z. applied meaning z entries) o ≡ Some s
+        → option_map (λ z. applied meaning z entries) b ≡ Some s
     by None b k y = absurd (none-some s y)
-    by (Some z) b k y = ap (option_map (λ x. applied apply x entries)) (k z refl) ∙ y
+    by (Some z) b k y = ap (option_map (λ x. applied meaning x entries)) (k z refl) ∙ y
 
-pub member-other : {S : Type 0} (opening : S) (apply : S → Address → List ℕ → S) (decode : List ℕ → Option S) (is_state : S → Type 0) (p q : Address) (h k : History) (c : Core S)
-    → same_address q p ≡ false → Later h k → Only p h k → OnlyState opening apply decode p h.trace k.trace
-    → MemberFact opening apply decode is_state h q c → MemberFact opening apply decode is_state k q c
-member-other opening apply decode is_state p q h k c o m only states x = record {
+pub member-other : {S : Type 0} (meaning : Meaning S) (p q : Address) (h k : History) (c : Core S)
+    → same_address q p ≡ false → Later h k → Only p h k → OnlyState meaning p h.trace k.trace
+    → MemberFact meaning h q c → MemberFact meaning k q c
+member-other meaning p q h k c o m only states x = record {
   seat = seat-other p q c.me h k c.view c.installed o only x.seat;
   promise = x.promise;
   announced = λ w e other. m.flush w.id w.members (x.announced w e other);
@@ -346,7 +347,7 @@ member-other opening apply decode is_state p q h k c o m only states x = record 
     now = states.now q o ∙ x.state.now;
     is = x.state.is;
     in_view = λ v e.
-        ap (λ l. state_with opening apply decode v.id l k.trace) (only.list q v.id o)
-        ∙ state_with-later opening apply decode v.id (list_of q v.id h.trace) h.trace k.trace c.state (λ z y. states.entered v.id z y) (x.state.in_view v e);
+        ap (λ l. state_with meaning v.id l k.trace) (only.list q v.id o)
+        ∙ state_with-later meaning v.id (list_of q v.id h.trace) h.trace k.trace c.state (λ z y. states.entered v.id z y) (x.state.in_view v e);
   };
 }

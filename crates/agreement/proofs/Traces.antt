@@ -7,6 +7,7 @@ use Rattle.std.proofs.lemmas.Bool.{cond-true, cond-false}
 use Rattle.std.proofs.lemmas.Option.{none-some}
 use Rattle.address.specs.Ids.{Address, ViewId, IsAddress, same_address}
 use Rattle.limits.specs.declared.TheConstants.{PAYLOAD}
+use Rattle.state_transfer.specs.Meanings.{Meaning}
 use Rattle.trace_props.specs.declared.event.Event.{Event}
 use Rattle.trace_props.specs.declared.event.Event.TheVariants.{Started, Sent, Delivered, Blocked, Installed, Left, Crashed}
 use Rattle.trace_props.specs.declared.event.Install.{Install}
@@ -34,16 +35,14 @@ use Rattle.agreement.proofs.Others.{OnlyState, not-another}
 -- ---- what may stand
 
 -- whatever goes on may stand
-pub stands-of : {S : Type 0} (opening : S) (apply : S → Address → List ℕ → S) (decode : List ℕ → Option S) (t : List Event) (h : Event) → GoesOn opening apply decode t h
-    → MayStand t h
-stands-of opening apply decode t h m = m.seven.1.1.1.1.1.1.0
+pub stands-of : {S : Type 0} (meaning : Meaning S) (t : List Event) (h : Event) → GoesOn meaning t h → MayStand t h
+stands-of meaning t h m = m.seven.1.1.1.1.1.1.0
 
-pub views-of : {S : Type 0} (opening : S) (apply : S → Address → List ℕ → S) (decode : List ℕ → Option S) (h : History) → TraceFact opening apply decode h → HasRisingViews h.trace
-views-of opening apply decode h x = (EachPlace-whole (KeepsRules opening apply decode) h.trace x.synchronous).ordered.views
+pub views-of : {S : Type 0} (meaning : Meaning S) (h : History) → TraceFact meaning h → HasRisingViews h.trace
+views-of meaning h x = (EachPlace-whole (KeepsRules meaning) h.trace x.synchronous).ordered.views
 
-pub rules-of : {S : Type 0} (opening : S) (apply : S → Address → List ℕ → S) (decode : List ℕ → Option S) (h : History) → TraceFact opening apply decode h
-    → KeepsRules opening apply decode h.trace
-rules-of opening apply decode h x = EachPlace-whole (KeepsRules opening apply decode) h.trace x.synchronous
+pub rules-of : {S : Type 0} (meaning : Meaning S) (h : History) → TraceFact meaning h → KeepsRules meaning h.trace
+rules-of meaning h x = EachPlace-whole (KeepsRules meaning) h.trace x.synchronous
 
 -- ---- nothing before the install
 
@@ -158,21 +157,21 @@ starts-push t (Crashed q) proper x p s = x p (sym (has_started-still p t (Crashe
 -- ---- all of it
 
 -- what holds of the trace holds one event further, where all conditions on it hold
-pub trace-push : {S : Type 0} (opening : S) (apply : S → Address → List ℕ → S) (decode : List ℕ → Option S) (h : History) (x : Event) → TraceFact opening apply decode h
-    → GoesOn opening apply decode h.trace x → IsProper x → TraceFact opening apply decode (record { pool = h.pool; trace = h.trace ++ x ∷ [] })
-trace-push opening apply decode h x fact goes proper = record {
-  synchronous = synchronous-push opening apply decode h.trace x fact.synchronous goes;
-  before = before-push h.trace x (stands-of opening apply decode h.trace x goes) fact.before;
+pub trace-push : {S : Type 0} (meaning : Meaning S) (h : History) (x : Event) → TraceFact meaning h
+    → GoesOn meaning h.trace x → IsProper x → TraceFact meaning (record { pool = h.pool; trace = h.trace ++ x ∷ [] })
+trace-push meaning h x fact goes proper = record {
+  synchronous = synchronous-push meaning h.trace x fact.synchronous goes;
+  before = before-push h.trace x (stands-of meaning h.trace x goes) fact.before;
   short = sends_short-push h.trace x proper fact.short;
   proper = starts-push h.trace x proper fact.proper;
   senders = λ k m at. has_started-stays m.source h.trace (x ∷ []) (fact.senders k m at);
 }
 
 -- packets more, of one who started
-pub trace-packets : {S : Type 0} (opening : S) (apply : S → Address → List ℕ → S) (decode : List ℕ → Option S) (h : History) (more : List Posted) (p : Address)
-    → TraceFact opening apply decode h → has_started p h.trace ≡ true → ((k : ℕ) (m : Posted) → slice_get more k ≡ Some m → m.source ≡ p)
-    → TraceFact opening apply decode (record { pool = h.pool ++ more; trace = h.trace })
-trace-packets opening apply decode h more p fact started from = record {
+pub trace-packets : {S : Type 0} (meaning : Meaning S) (h : History) (more : List Posted) (p : Address)
+    → TraceFact meaning h → has_started p h.trace ≡ true → ((k : ℕ) (m : Posted) → slice_get more k ≡ Some m → m.source ≡ p)
+    → TraceFact meaning (record { pool = h.pool ++ more; trace = h.trace })
+trace-packets meaning h more p fact started from = record {
   synchronous = fact.synchronous;
   before = fact.before;
   short = fact.short;
@@ -183,38 +182,35 @@ trace-packets opening apply decode h more p fact started from = record {
 -- ---- states
 
 -- the state with which a view began stays that
-pub entry_state-kept : {S : Type 0} (opening : S) (apply : S → Address → List ℕ → S) (decode : List ℕ → Option S) (v : ViewId) (t u : List Event) (s : S)
-    → entry_state opening apply decode v t ≡ Some s → entry_state opening apply decode v (t ++ u) ≡ Some s
-entry_state-kept opening apply decode v t u s e = by (position_from (installs v.creator v) 0 t) refl
+pub entry_state-kept : {S : Type 0} (meaning : Meaning S) (v : ViewId) (t u : List Event) (s : S)
+    → entry_state meaning v t ≡ Some s → entry_state meaning v (t ++ u) ≡ Some s
+entry_state-kept meaning v t u s e = by (position_from (installs v.creator v) 0 t) refl
   where
-    by : (o : Option ℕ) → position_from (installs v.creator v) 0 t ≡ o → entry_state opening apply decode v (t ++ u) ≡ Some s
-    by None at = absurd (none-some s (sym (entry_state-none opening apply decode v t at) ∙ e))
-    by (Some k) at = entry_state-stays opening apply decode v t u k at ∙ e
+    by : (o : Option ℕ) → position_from (installs v.creator v) 0 t ≡ o → entry_state meaning v (t ++ u) ≡ Some s
+    by None at = absurd (none-some s (sym (entry_state-none meaning v t at) ∙ e))
+    by (Some k) at = entry_state-stays meaning v t u k at ∙ e
 
-pub state-still : {S : Type 0} (opening : S) (apply : S → Address → List ℕ → S) (decode : List ℕ → Option S) (q : Address) (s : S) (h : Event) → same_address (member_of h) q ≡ false
-    → state_after apply decode q s h ≡ s
-state-still opening apply decode q s (Started x) o = refl
-state-still opening apply decode q s (Sent x) o = refl
-state-still opening apply decode q s (Delivered d) o = cond-false (same_address d.member q) _ s o
-state-still opening apply decode q s (Blocked x) o = refl
-state-still opening apply decode q s (Installed i) o = cond-false (same_address i.member q) _ s o
-state-still opening apply decode q s (Left x) o = refl
-state-still opening apply decode q s (Crashed x) o = refl
+pub state-still : {S : Type 0} (meaning : Meaning S) (q : Address) (s : S) (h : Event) → same_address (member_of h) q ≡ false → state_after meaning q s h ≡ s
+state-still meaning q s (Started x) o = refl
+state-still meaning q s (Sent x) o = refl
+state-still meaning q s (Delivered d) o = cond-false (same_address d.member q) _ s o
+state-still meaning q s (Blocked x) o = refl
+state-still meaning q s (Installed i) o = cond-false (same_address i.member q) _ s o
+state-still meaning q s (Left x) o = refl
+state-still meaning q s (Crashed x) o = refl
 
 -- what happens to one leaves the states of others
-pub only-state : {S : Type 0} (opening : S) (apply : S → Address → List ℕ → S) (decode : List ℕ → Option S) (p : Address) (t : List Event) (x : Event) → member_of x ≡ p
-    → OnlyState opening apply decode p t (t ++ x ∷ [])
-only-state opening apply decode p t x same = record {
-  now = λ q o. state_of-push opening apply decode q t x ∙ state-still opening apply decode q (state_of opening apply decode q t) x (not-another p q (member_of x) same o);
-  entered = λ v s e. entry_state-kept opening apply decode v t (x ∷ []) s e;
+pub only-state : {S : Type 0} (meaning : Meaning S) (p : Address) (t : List Event) (x : Event) → member_of x ≡ p → OnlyState meaning p t (t ++ x ∷ [])
+only-state meaning p t x same = record {
+  now = λ q o. state_of-push meaning q t x ∙ state-still meaning q (state_of meaning q t) x (not-another p q (member_of x) same o);
+  entered = λ v s e. entry_state-kept meaning v t (x ∷ []) s e;
 }
 
-pub only_state-refl : {S : Type 0} (opening : S) (apply : S → Address → List ℕ → S) (decode : List ℕ → Option S) (p : Address) (t : List Event) → OnlyState opening apply decode p t t
-only_state-refl opening apply decode p t = record { now = λ q o. refl; entered = λ v s e. e }
+pub only_state-refl : {S : Type 0} (meaning : Meaning S) (p : Address) (t : List Event) → OnlyState meaning p t t
+only_state-refl meaning p t = record { now = λ q o. refl; entered = λ v s e. e }
 
-pub only_state-trans : {S : Type 0} (opening : S) (apply : S → Address → List ℕ → S) (decode : List ℕ → Option S) (p : Address) (t u w : List Event)
-    → OnlyState opening apply decode p t u → OnlyState opening apply decode p u w → OnlyState opening apply decode p t w
-only_state-trans opening apply decode p t u w a b = record {
+pub only_state-trans : {S : Type 0} (meaning : Meaning S) (p : Address) (t u w : List Event) → OnlyState meaning p t u → OnlyState meaning p u w → OnlyState meaning p t w
+only_state-trans meaning p t u w a b = record {
   now = λ q o. b.now q o ∙ a.now q o;
   entered = λ v s e. b.entered v s (a.entered v s e);
 }

@@ -7,6 +7,7 @@ use Rattle.view.specs.Members.{View}
 use Rattle.packet_values.specs.Values.{Entry}
 use Rattle.wire.specs.Values.{Report}
 use Rattle.wire.specs.Values as wire
+use Rattle.state_transfer.specs.Meanings.{Meaning}
 use Rattle.flush.specs.Flushes.{FlushModel}
 use Rattle.trace_props.specs.declared.event.Numbered.{Numbered}
 use Rattle.trace_props.specs.Observed.{own}
@@ -50,8 +51,8 @@ pub record Core (S : Type 0) : Type 0 where
   pub state : S
 
 -- a member that has just started
-abbrev pub idle : {S : Type 0} → S → Address → Core S
-idle opening p = record {
+abbrev pub idle : {S : Type 0} → Meaning S → Address → Core S
+idle meaning p = record {
   me = p;
   connected = false;
   promise = None;
@@ -60,7 +61,7 @@ idle opening p = record {
   traffic = fresh_traffic;
   flush = None;
   kept = [];
-  state = opening;
+  state = meaning.opening;
 }
 
 abbrev pub kept_for : Address → List (Address × wire.Install) → Option wire.Install
@@ -91,5 +92,5 @@ abbrev pub told_more : Address → List Entry → Traffic → Traffic
 told_more p entries t = record t { delivered = t.delivered + length entries; outstanding = left_of p entries t.outstanding }
 
 -- the state after these entries
-abbrev pub applied : {S : Type 0} → (S → Address → List ℕ → S) → S → List Entry → S
-applied apply s entries = fold (λ z e. apply z e.sender e.payload) s entries
+abbrev pub applied : {S : Type 0} → Meaning S → S → List Entry → S
+applied meaning s entries = fold (λ z e. meaning.apply z e.sender e.payload) s entries

@@ -1,10 +1,11 @@
 -- The crash of the first: three members come together, the first orders two messages, of which the second is told one, and crashes; the second takes
 -- over, and is told the other by the cut.
-use Rattle.std.specs.Prelude.{ℕ, Option, None, Some, List, [], ◌∷◌, ◌++◌, take}
+use Rattle.std.specs.Prelude.{ℕ, None, Some, List, [], ◌∷◌, ◌++◌, take}
 use Rattle.address.specs.Ids.{Address}
 use Rattle.packet_values.specs.Values.{Entry}
 use Rattle.wire.specs.Values.{Report}
 use Rattle.wire.specs.declared.packet.Body.TheVariants as bodies
+use Rattle.state_transfer.specs.Meanings.{Meaning}
 use Rattle.trace_props.specs.declared.event.Event.{Event}
 use Rattle.trace_props.specs.declared.event.Event.TheVariants.{Blocked, Crashed}
 use Rattle.agreement.specs.Acts.{Cuts, Puts, Sends, Queues, Orders, Hears, Collects, Holds, Delivers, Promises, Begins, Records, Finishes, Enters, delivery}
@@ -92,5 +93,5 @@ crash_happened state =
     ∷ installs three (Some view_of_three.id) view_of_rest (two ∷ three ∷ []) None
     ∷ []
 
-abbrev pub CrashPlays : {S : Type 0} → S → (S → Address → List ℕ → S) → (S → List ℕ) → (List ℕ → Option S) → Type 0
-CrashPlays opening apply encode decode = Plays opening apply encode decode (crash_of_the_first (encode opening)) (crash_happened (encode opening))
+abbrev pub CrashPlays : {S : Type 0} → Meaning S → Type 0
+CrashPlays meaning = Plays meaning (crash_of_the_first (meaning.encode meaning.opening)) (crash_happened (meaning.encode meaning.opening))

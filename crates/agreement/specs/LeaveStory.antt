@@ -1,11 +1,12 @@
 -- The leave of the first: three members come together, and a message of the second becomes stable; the first leaves before it has ordered the next, which is
 -- handed back to the second.
-use Rattle.std.specs.Prelude.{ℕ, Option, None, Some, List, [], ◌∷◌, ◌++◌, take}
+use Rattle.std.specs.Prelude.{ℕ, None, Some, List, [], ◌∷◌, ◌++◌, take}
 use Rattle.address.specs.Ids.{Address}
 use Rattle.packet_values.specs.Values.{Entry}
 use Rattle.wire.specs.Values.{Report}
 use Rattle.wire.specs.Values as wire
 use Rattle.wire.specs.declared.packet.Body.TheVariants as bodies
+use Rattle.state_transfer.specs.Meanings.{Meaning}
 use Rattle.trace_props.specs.declared.event.Event.{Event}
 use Rattle.trace_props.specs.declared.event.Event.TheVariants.{Blocked, Installed, Left}
 use Rattle.trace_props.specs.declared.event.Install.{Install}
@@ -103,5 +104,5 @@ leave_happened state =
     ∷ installs three (Some view_of_three.id) view_of_rest (two ∷ three ∷ []) None
     ∷ []
 
-abbrev pub LeavePlays : {S : Type 0} → S → (S → Address → List ℕ → S) → (S → List ℕ) → (List ℕ → Option S) → Type 0
-LeavePlays opening apply encode decode = Plays opening apply encode decode (leave_of_the_first (encode opening)) (leave_happened (encode opening))
+abbrev pub LeavePlays : {S : Type 0} → Meaning S → Type 0
+LeavePlays meaning = Plays meaning (leave_of_the_first (meaning.encode meaning.opening)) (leave_happened (meaning.encode meaning.opening))

@@ -8,6 +8,7 @@ use Rattle.limits.specs.declared.TheConstants.{WINDOW}
 use Rattle.packet_values.specs.Values.{Entry, held_at}
 use Rattle.wire.specs.Values.{Report}
 use Rattle.wire.specs.Values as wire
+use Rattle.state_transfer.specs.Meanings.{Meaning}
 use Rattle.flush.specs.Flushes.{FlushModel, report_from}
 use Rattle.trace_props.specs.declared.event.Event.{Event}
 use Rattle.trace_props.specs.declared.event.Numbered.{Numbered}
@@ -131,17 +132,15 @@ pub record ViewFact (h : History) (p : Address) (installed : Bool) (traffic : Tr
 
 -- ---- its state
 
-pub record HasState {S : Type 0} (opening : S) (apply : S → Address → List ℕ → S) (decode : List ℕ → Option S) (is_state : S → Type 0) (t : List Event) (p : Address)
-    (view : Option View) (state : S) : Type 0 where
-  pub now : state_of opening apply decode p t ≡ state
-  pub is : is_state state
+pub record HasState {S : Type 0} (meaning : Meaning S) (t : List Event) (p : Address) (view : Option View) (state : S) : Type 0 where
+  pub now : state_of meaning p t ≡ state
+  pub is : meaning.is_state state
   -- in a view, that of the view's beginning with all applied that it was told there
-  pub in_view : ForSome view (λ v. state_with opening apply decode v.id (list_of p v.id t) t ≡ Some state)
+  pub in_view : ForSome view (λ v. state_with meaning v.id (list_of p v.id t) t ≡ Some state)
 
 -- ---- all of it
 
-pub record MemberFact {S : Type 0} (opening : S) (apply : S → Address → List ℕ → S) (decode : List ℕ → Option S) (is_state : S → Type 0) (h : History) (p : Address)
-    (c : Core S) : Type 0 where
+pub record MemberFact {S : Type 0} (meaning : Meaning S) (h : History) (p : Address) (c : Core S) : Type 0 where
   pub seat : HasSeat h.trace p c.me c.view c.installed
   pub promise : PromiseOf p c.promise c.view c.installed
   pub announced : IsAnnounced h.pool p c.promise
@@ -149,4 +148,4 @@ pub record MemberFact {S : Type 0} (opening : S) (apply : S → Address → List
   pub reported : IsReported h.pool p c.promise c.installed c.view c.traffic
   pub flush : ForSome c.flush (RunsFlush h.pool p c.promise c.installed c.view c.traffic)
   pub view : ForSome c.view (ViewFact h p c.installed c.traffic c.kept)
-  pub state : HasState opening apply decode is_state h.trace p c.view c.state
+  pub state : HasState meaning h.trace p c.view c.state

@@ -10,6 +10,7 @@ use Rattle.wire.specs.Values.{Report}
 use Rattle.wire.specs.Values as wire
 use Rattle.wire.specs.declared.packet.Body.{Body}
 use Rattle.wire.specs.declared.packet.Body.TheVariants as bodies
+use Rattle.state_transfer.specs.Meanings.{Meaning}
 use Rattle.trace_props.specs.declared.event.Event.{Event}
 use Rattle.trace_props.specs.declared.event.Install.{Install}
 use Rattle.trace_props.specs.Observed.{sent_in, entry_of}
@@ -161,15 +162,14 @@ pub record IsEntry (h : History) (q : Address) (w : ViewId) (e : Install) : Type
 -- ---- states
 
 -- the state that all who were told a view's order up to somewhere have: that of its beginning, with these applied; None where nobody has begun it
-abbrev pub state_with : {S : Type 0} → S → (S → Address → List ℕ → S) → (List ℕ → Option S) → ViewId → List Entry → List Event → Option S
-state_with opening apply decode v entries t = option_map (λ s. applied apply s entries) (entry_state opening apply decode v t)
+abbrev pub state_with : {S : Type 0} → Meaning S → ViewId → List Entry → List Event → Option S
+state_with meaning v entries t = option_map (λ s. applied meaning s entries) (entry_state meaning v t)
 
 -- an INSTALL gives the state with which its view begins to all who come from another view than its coordinator
-abbrev pub GivesState : {S : Type 0} → S → (S → Address → List ℕ → S) → (S → List ℕ) → (List ℕ → Option S) → History → Address → wire.Install → Type 0
-GivesState opening apply encode decode h q i = (e : Install) (r : Report) → entry_of i.view.id.creator i.view.id h.trace ≡ Some e → report_of q i.view.id h.pool ≡ Some r
-    → i.state ≡ (if option_eq same_view_id r.previous e.previous then None else option_map encode (entry_state opening apply decode i.view.id h.trace))
+abbrev pub GivesState : {S : Type 0} → Meaning S → History → Address → wire.Install → Type 0
+GivesState meaning h q i = (e : Install) (r : Report) → entry_of i.view.id.creator i.view.id h.trace ≡ Some e → report_of q i.view.id h.pool ≡ Some r
+    → i.state ≡ (if option_eq same_view_id r.previous e.previous then None else option_map meaning.encode (entry_state meaning i.view.id h.trace))
 
 -- a view begins with the state that its coordinator had at the end of the view from which it came
-abbrev pub BeginsWith : {S : Type 0} → S → (S → Address → List ℕ → S) → (List ℕ → Option S) → List Event → ViewId → Install → Type 0
-BeginsWith opening apply decode t w e = (v : ViewId) → e.previous ≡ Some v
-    → state_with opening apply decode v (list_of w.creator v t) t ≡ entry_state opening apply decode w t
+abbrev pub BeginsWith : {S : Type 0} → Meaning S → List Event → ViewId → Install → Type 0
+BeginsWith meaning t w e = (v : ViewId) → e.previous ≡ Some v → state_with meaning v (list_of w.creator v t) t ≡ entry_state meaning w t

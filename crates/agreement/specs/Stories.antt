@@ -6,6 +6,7 @@ use Rattle.packet_values.specs.Values.{Entry}
 use Rattle.wire.specs.Values.{Report, nothing_reported}
 use Rattle.wire.specs.Values as wire
 use Rattle.wire.specs.declared.packet.Body.TheVariants as bodies
+use Rattle.state_transfer.specs.Meanings.{Meaning}
 use Rattle.flush.specs.Flushes.{FlushModel}
 use Rattle.trace_props.specs.declared.event.Event.{Event}
 use Rattle.trace_props.specs.declared.event.Event.TheVariants.{Started, Sent, Blocked, Installed}
@@ -13,9 +14,9 @@ use Rattle.agreement.specs.Acts.{Cuts, Creates, Joins, Puts, Promises, Begins, R
 use Rattle.agreement.specs.Steps.{Step, Start, Does, nothing_yet, MayRun, after_steps}
 
 -- a list of steps is allowed from the beginning on, and this trace comes of it
-abbrev pub Plays : {S : Type 0} → S → (S → Address → List ℕ → S) → (S → List ℕ) → (List ℕ → Option S) → List Step → List Event → Type 0
-Plays opening apply encode decode story trace =
-    MayRun opening apply encode decode nothing_yet story × ((after_steps opening apply encode decode nothing_yet story).history.trace ≡ trace)
+abbrev pub Plays : {S : Type 0} → Meaning S → List Step → List Event → Type 0
+Plays meaning story trace =
+    MayRun meaning nothing_yet story × ((after_steps meaning nothing_yet story).history.trace ≡ trace)
 
 -- ---- who takes part
 

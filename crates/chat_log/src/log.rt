@@ -44,20 +44,10 @@ impl ChatLog {
 }
 
 impl Receiver for ChatLog {
-    ghost use Rattle.std.specs.Prelude.{[]};
-    ghost use Rattle.chat_log.specs.Chat.{IsChat, chat_apply};
-    ghost use Rattle.chat_log.specs.Encoding.{chat_encode, chat_decode};
+    ghost use Rattle.chat_log.specs.Meanings.{chat_meaning};
     ghost use Rattle.chat_log.specs.ChatLaws.{nothing_is_chat, applied_is_chat, decoded_is_chat, encoded_is_decoded, encoded_short};
 
-    ghost opening_state = { [] };
-
-    ghost apply = { chat_apply };
-
-    ghost encode = { chat_encode };
-
-    ghost decode = { chat_decode };
-
-    ghost is_state = { IsChat };
+    ghost meaning = { chat_meaning };
 
     ghost opens = { nothing_is_chat };
 

@@ -2,9 +2,10 @@
 use Rattle.std.specs.Prelude.{◌≡◌, ℕ, ◌+◌, ◌<◌, ◌≤◌, Bool, true, false, map, length, [], ◌∷◌, List, Result, Ok, Err, Option, None, Some, MatchBool, IfOk, ◌⊎◌, drop}
 use Rattle.std.specs.Option.{IsSomeAnd}
 use Rattle.std.specs.List.{list_all, Contains, AllByRecursion}
-use Rattle.address.specs.Ids.{Address, same_address}
+use Rattle.address.specs.Ids.{same_address}
 use Rattle.limits.specs.declared.TheConstants.{GREATEST_NUMBER, WINDOW, STEP_EVENTS}
 use Rattle.wire.specs.Packets.{IsPacket}
+use Rattle.state_transfer.specs.Meanings.{Meaning}
 use Rattle.trace_props.specs.declared.event.Event.{Event}
 use Rattle.trace_props.specs.declared.event.Event.TheVariants.{Sent, Delivered, Installed, Left}
 use Rattle.trace_props.specs.Recorded.{IsRecordable}
@@ -26,10 +27,9 @@ use Rattle.member.specs.Doing.{Does, is_ignored}
 -- ---- acted
 
 -- it went on by nothing but acts: what they put out is what the bytes spell, as packets that are read back, and what happened is what they let happen
-pub record HasActed {S : Type 0} (apply : S → Address → List ℕ → S) (encode : S → List ℕ) (decode : List ℕ → Option S) (old : MemberModel S) (input : Input) (out : Output)
-    (new : MemberModel S) : Type 0 where
+pub record HasActed {S : Type 0} (meaning : Meaning S) (old : MemberModel S) (input : Input) (out : Output) (new : MemberModel S) : Type 0 where
   pub posted : List Posted
-  pub acted : Acted apply encode decode (came_at old input) (core_of old) posted out.events.items (core_of new)
+  pub acted : Acted meaning (came_at old input) (core_of old) posted out.events.items (core_of new)
   pub spelled : out.packets.items ≡ map (spelled old.group) posted
   pub sound : AllByRecursion (λ m. IsPacket (packet_in old.group m)) posted
 
@@ -46,9 +46,9 @@ abbrev pub EndsWithout : {S : Type 0} → MemberModel S → Input → MemberMode
 EndsWithout old input new result = result ≡ Err Memory → (core_of new ≡ None) × (is_ignored old input ≡ false)
 
 -- 6 after its end, and before it where it cannot read a state that it would take
-pub record IsClosed {S : Type 0} (decode : List ℕ → Option S) (old : MemberModel S) (input : Input) (result : Result Output Error) : Type 0 where
+pub record IsClosed {S : Type 0} (meaning : Meaning S) (old : MemberModel S) (input : Input) (result : Result Output Error) : Type 0 where
   pub ended : core_of old ≡ None → result ≡ Err Closed
-  pub only : result ≡ Err Closed → (core_of old ≡ None) ⊎ (is_unreadable decode old input ≡ true)
+  pub only : result ≡ Err Closed → (core_of old ≡ None) ⊎ (is_unreadable meaning old input ≡ true)
 
 -- ---- reply
 
@@ -103,15 +103,14 @@ Ignores old input result new = is_ignored old input ≡ true → IsNothing resul
 
 -- ---- all of it
 
-pub record Handled {S : Type 0} (apply : S → Address → List ℕ → S) (encode : S → List ℕ) (decode : List ℕ → Option S) (old : MemberModel S) (input : Input)
-    (result : Result Output Error) (new : MemberModel S) : Type 0 where
-  pub acted : IfOk result (λ out. HasActed apply encode decode old input out new)
-  pub refused : RefusesAs (refusal_of old input) (is_unreadable decode old input) old result new
+pub record Handled {S : Type 0} (meaning : Meaning S) (old : MemberModel S) (input : Input) (result : Result Output Error) (new : MemberModel S) : Type 0 where
+  pub acted : IfOk result (λ out. HasActed meaning old input out new)
+  pub refused : RefusesAs (refusal_of old input) (is_unreadable meaning old input) old result new
   pub memory : EndsWithout old input new result
-  pub closed : IsClosed decode old input result
+  pub closed : IsClosed meaning old input result
   pub reply : IfOk result (λ out. IsSomeAnd (core_of old) (λ c. Replies c input out.events.items (core_of new)))
   pub prompt : IfOk result (λ out. IsSomeAnd (core_of old) (λ c. IsPrompt c input out.events.items))
-  pub does : IfOk result (λ out. Does apply encode decode old input out new)
+  pub does : IfOk result (λ out. Does meaning old input out new)
   pub few : IfOk result (λ out. length out.events.items ≤ STEP_EVENTS)
   pub short : IfOk result (λ out. IsRecordable out.events.items)
   pub ignored : Ignores old input result new

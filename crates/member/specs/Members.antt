@@ -7,6 +7,7 @@ use Rattle.wire.specs.declared.error.WireError.{WireError}
 use Rattle.wire.specs.declared.packet.Packet.{Packet}
 use Rattle.wire.specs.Values as wire
 use Rattle.wire.specs.Packets.{packet_of, wire_refusal}
+use Rattle.state_transfer.specs.Meanings.{Meaning}
 use Rattle.agreement.specs.Histories.{Posted}
 use Rattle.agreement.specs.Cores.{Core, is_frozen}
 use Rattle.agreement.specs.Steps.{handed}
@@ -69,8 +70,8 @@ abbrev pub entry_at : {S : Type 0} → MemberModel S → Input → Option wire.I
 entry_at m input = option_and_then (λ c. option_and_then (entry_of c) (came_at m input)) (core_of m)
 
 -- whether it is handed an INSTALL that it would enter, whose state the receiver cannot read
-abbrev pub is_unreadable : {S : Type 0} → (List ℕ → Option S) → MemberModel S → Input → Bool
-is_unreadable decode m input = option_map_or (λ i. not (is_readable decode i.state)) (entry_at m input) false
+abbrev pub is_unreadable : {S : Type 0} → Meaning S → MemberModel S → Input → Bool
+is_unreadable meaning m input = option_map_or (λ i. not (is_readable meaning i.state)) (entry_at m input) false
 
 -- ---- refusals
 

@@ -7,6 +7,7 @@ use Rattle.std.proofs.lemmas.Bool.Decides.{nat_tests}
 use Rattle.std.proofs.lemmas.Option.{none-some}
 use Rattle.address.specs.Ids.{Address}
 use Rattle.limits.specs.declared.TheConstants.{PAYLOAD, WINDOW, OUTSTANDING, GREATEST_NUMBER}
+use Rattle.state_transfer.specs.Meanings.{Meaning}
 use Rattle.trace_props.specs.declared.event.Event.{Event}
 use Rattle.trace_props.specs.declared.event.Event.TheVariants.{Sent}
 use Rattle.sequencer.specs.Queues.{may_order}
@@ -57,8 +58,8 @@ promised-in me l payload t free there =
 
 -- ---- what happens
 
-module _ {S : Type 0} (apply : S → Address → List ℕ → S) where
-  pub sends-next : (p : Address) (group : List ℕ) (x : List ℕ) (m : Coordinator) (s : S) (out : Output) (n : Coordinator) (t : S) (later : Output) → SendsOrdering apply p group x m s out n t later
+module _ {S : Type 0} (meaning : Meaning S) where
+  pub sends-next : (p : Address) (group : List ℕ) (x : List ℕ) (m : Coordinator) (s : S) (out : Output) (n : Coordinator) (t : S) (later : Output) → SendsOrdering meaning p group x m s out n t later
       → IsFewMore out later → SendsNext p m.view.id m.forwards.sent x out later
   sends-next p group x m s out n t later sent few =
       let e = Sent (sending p m.view.id (m.forwards.sent + 1) x) in
@@ -84,15 +85,15 @@ room-fact p m i room =
 
 -- ---- of the whole member
 
-module _ {S : Type 0} (apply : S → Address → List ℕ → S) where
+module _ {S : Type 0} (meaning : Meaning S) where
   pub sends-first : (p : Address) (group x y : List ℕ) (l : Life S) (m : Coordinator) (out : Output) (n : Coordinator) (t : S) (later : Output) → y ≡ x → l.traffic ≡ Some (kinds.Coordinator m)
-      → SendsOrdering apply p group y m l.receiver out n t later → IsFewMore out later → SendsFirst p x l out later
+      → SendsOrdering meaning p group y m l.receiver out n t later → IsFewMore out later → SendsFirst p x l out later
   sends-first p group x y l m out n t later same there sent few =
-      let next = subst (λ (z : List ℕ). SendsNext p m.view.id m.forwards.sent z out later) same (sends-next apply p group y m l.receiver out n t later sent few) in
+      let next = subst (λ (z : List ℕ). SendsNext p m.view.id m.forwards.sent z out later) same (sends-next meaning p group y m l.receiver out n t later sent few) in
       rw there next
 
   pub sends-other : (p : Address) (group x y : List ℕ) (l : Life S) (m : Other) (out : Output) (n : Other) (later : Output) → y ≡ x → l.traffic ≡ Some (kinds.Other m) → n ≡ other_pushing y m
-      → SendsForward p group y m out later → Sends apply group p x l (going_on l (kinds.Other n) l.receiver) out later
+      → SendsForward p group y m out later → Sends meaning group p x l (going_on l (kinds.Other n) l.receiver) out later
   sends-other p group x y l m out n later same there now sent =
       let does : (n ≡ other_pushing x m) × (l.receiver ≡ l.receiver) × SendsForward p group x m out later =
       subst (λ (z : List ℕ). (n ≡ other_pushing z m) × (l.receiver ≡ l.receiver) × SendsForward p group z m out later) same (now, refl, sent) in

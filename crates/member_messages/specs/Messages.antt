@@ -5,6 +5,7 @@ use Rattle.address.specs.Ids.{Address, ViewId}
 use Rattle.limits.specs.declared.TheConstants.{WINDOW, GREATEST_NUMBER}
 use Rattle.packet_values.specs.Values.{Entry, Missing, Progress}
 use Rattle.wire.specs.declared.packet.Body.TheVariants as bodies
+use Rattle.state_transfer.specs.Meanings.{Meaning}
 use Rattle.trace_props.specs.declared.event.Event.{Event}
 use Rattle.trace_props.specs.declared.event.Event.TheVariants.{Sent}
 use Rattle.agreement.specs.Acts.{packet, others_of, delivery}
@@ -47,17 +48,17 @@ AtOther Does old new = IsSameBeside old new × ByKind (λ m. ⊥) (λ m. ByKind 
 -- ---- packets of messages: ignored, or taken
 
 -- a FORWARD: its message waits, and all is ordered that may be
-abbrev pub OnForward : {S : Type 0} → (S → Address → List ℕ → S) → List ℕ → Address → Address → ViewId → ℕ → List ℕ → Life S → Life S → Output → Output → Type 0
-OnForward apply group me source id number payload old new out later =
+abbrev pub OnForward : {S : Type 0} → Meaning S → List ℕ → Address → Address → ViewId → ℕ → List ℕ → Life S → Life S → Output → Output → Type 0
+OnForward meaning group me source id number payload old new out later =
     MatchBool (takes_forward source id old)
-    (AtCoordinator (λ m n. Ordering apply me group (queued source number payload m) old.receiver out n new.receiver later) old new)
+    (AtCoordinator (λ m n. Ordering meaning me group (queued source number payload m) old.receiver out n new.receiver later) old new)
     (StaysAs old new out later)
 
 -- an ACK: it is noted, and all is ordered that may be
-abbrev pub OnAck : {S : Type 0} → (S → Address → List ℕ → S) → List ℕ → Address → Address → ViewId → ℕ → Life S → Life S → Output → Output → Type 0
-OnAck apply group me source id count old new out later =
+abbrev pub OnAck : {S : Type 0} → Meaning S → List ℕ → Address → Address → ViewId → ℕ → Life S → Life S → Output → Output → Type 0
+OnAck meaning group me source id count old new out later =
     MatchBool (takes_ack source id count old)
-    (AtCoordinator (λ m n. AcksOrdering apply me group source count m old.receiver out n new.receiver later) old new)
+    (AtCoordinator (λ m n. AcksOrdering meaning me group source count m old.receiver out n new.receiver later) old new)
     (StaysAs old new out later)
 
 -- a NAK: the ORDERs that it asks for go to its source
@@ -68,10 +69,10 @@ OnNak group me source id missing old new out later =
     (StaysAs old new out later)
 
 -- an ORDER: held, delivered in turn, and answered
-abbrev pub OnOrder : {S : Type 0} → (S → Address → List ℕ → S) → List ℕ → Address → Address → ViewId → ℕ → Entry → Life S → Life S → Output → Output → Type 0
-OnOrder apply group me source id place entry old new out later =
+abbrev pub OnOrder : {S : Type 0} → Meaning S → List ℕ → Address → Address → ViewId → ℕ → Entry → Life S → Life S → Output → Output → Type 0
+OnOrder meaning group me source id place entry old new out later =
     MatchBool (takes_order source id place old)
-    (AtOther (λ m n. TakesOrder apply me group place entry m old.receiver out n new.receiver later) old new)
+    (AtOther (λ m n. TakesOrder meaning me group place entry m old.receiver out n new.receiver later) old new)
     (StaysAs old new out later)
 
 -- a STATUS: what is stable is let go of, and what is missing asked for
@@ -84,10 +85,10 @@ OnStatus group me source id progress old new out later =
 -- ---- a message of its own
 
 -- the coordinator orders it where it may; another member puts out its FORWARD
-abbrev pub Sends : {S : Type 0} → (S → Address → List ℕ → S) → List ℕ → Address → List ℕ → Life S → Life S → Output → Output → Type 0
-Sends apply group me payload old new out later =
+abbrev pub Sends : {S : Type 0} → Meaning S → List ℕ → Address → List ℕ → Life S → Life S → Output → Output → Type 0
+Sends meaning group me payload old new out later =
     IsSameBeside old new × ByKind
-    (λ m. ByKind (λ n. SendsOrdering apply me group payload m old.receiver out n new.receiver later) (λ n. ⊥) ⊥ new.traffic)
+    (λ m. ByKind (λ n. SendsOrdering meaning me group payload m old.receiver out n new.receiver later) (λ n. ⊥) ⊥ new.traffic)
     (λ m. ByKind (λ n. ⊥) (λ n. (n ≡ other_pushing payload m) × (new.receiver ≡ old.receiver) × SendsForward me group payload m out later) ⊥ new.traffic)
     ⊥ old.traffic
 

@@ -37,8 +37,8 @@ pub fn on_forward<R: Receiver>(
     requires other { same_address source.now who.now.address ≡ false }
     ensures life { OnOk result (IsLife who.now.group who.now.address life.new) }
     ensures ordered { OnOk result (IsOrdered who.now.address life.new) }
-    ensures does { OnOk result (OnForward R.apply who.now.group who.now.address source.now view number payload.now life.old life.new out.old out.new) }
-    ensures did { OnOk result (Did R.apply R.encode R.decode (Some (packet source.now (bodies.Forward view number payload.now) who.now.address)) who.now.group who.now.address life.old life.new out.old out.new) }
+    ensures does { OnOk result (OnForward R.meaning who.now.group who.now.address source.now view number payload.now life.old life.new out.old out.new) }
+    ensures did { OnOk result (Did R.meaning (Some (packet source.now (bodies.Forward view number payload.now) who.now.address)) who.now.group who.now.address life.old life.new out.old out.new) }
     ensures calm { OnOk result (IsCalm WINDOW out.old out.new) }
     ensures ignored { takes_forward source.now view life.old ≡ false → (result ≡ Ok tt) × StaysAs life.old life.new out.old out.new }
 {
@@ -70,8 +70,8 @@ pub fn on_ack<R: Receiver>(
     requires other { same_address source.now who.now.address ≡ false }
     ensures life { OnOk result (IsLife who.now.group who.now.address life.new) }
     ensures ordered { OnOk result (IsOrdered who.now.address life.new) }
-    ensures does { OnOk result (OnAck R.apply who.now.group who.now.address source.now view delivered life.old life.new out.old out.new) }
-    ensures did { OnOk result (Did R.apply R.encode R.decode (Some (packet source.now (bodies.Ack view delivered) who.now.address)) who.now.group who.now.address life.old life.new out.old out.new) }
+    ensures does { OnOk result (OnAck R.meaning who.now.group who.now.address source.now view delivered life.old life.new out.old out.new) }
+    ensures did { OnOk result (Did R.meaning (Some (packet source.now (bodies.Ack view delivered) who.now.address)) who.now.group who.now.address life.old life.new out.old out.new) }
     ensures calm { OnOk result (IsCalm WINDOW out.old out.new) }
     ensures ignored { takes_ack source.now view delivered life.old ≡ false → (result ≡ Ok tt) × StaysAs life.old life.new out.old out.new }
 {
@@ -105,7 +105,7 @@ pub fn on_nak<R: Receiver>(
     ensures life { OnOk result (IsLife who.now.group who.now.address life.new) }
     ensures ordered { OnOk result (IsOrdered who.now.address life.new) }
     ensures does { OnOk result (OnNak who.now.group who.now.address source.now view missing life.old life.new out.old out.new) }
-    ensures did { OnOk result (Did R.apply R.encode R.decode (Some (packet source.now (bodies.Nak view missing) who.now.address)) who.now.group who.now.address life.old life.new out.old out.new) }
+    ensures did { OnOk result (Did R.meaning (Some (packet source.now (bodies.Nak view missing) who.now.address)) who.now.group who.now.address life.old life.new out.old out.new) }
     ensures calm { OnOk result (IsCalm WINDOW out.old out.new) }
     ensures ignored { takes_nak source.now view life.old ≡ false → (result ≡ Ok tt) × StaysAs life.old life.new out.old out.new }
 {

@@ -37,8 +37,8 @@ pub fn on_order<R: Receiver>(
     requires other { same_address source.now who.now.address ≡ false }
     ensures life { OnOk result (IsLife who.now.group who.now.address life.new) }
     ensures ordered { OnOk result (IsOrdered who.now.address life.new) }
-    ensures does { OnOk result (OnOrder R.apply who.now.group who.now.address source.now view place entry.now life.old life.new out.old out.new) }
-    ensures did { OnOk result (Did R.apply R.encode R.decode (Some (packet source.now (bodies.Order view place entry.now) who.now.address)) who.now.group who.now.address life.old life.new out.old out.new) }
+    ensures does { OnOk result (OnOrder R.meaning who.now.group who.now.address source.now view place entry.now life.old life.new out.old out.new) }
+    ensures did { OnOk result (Did R.meaning (Some (packet source.now (bodies.Order view place entry.now) who.now.address)) who.now.group who.now.address life.old life.new out.old out.new) }
     ensures calm { OnOk result (IsCalm WINDOW out.old out.new) }
     ensures ignored { takes_order source.now view place life.old ≡ false → (result ≡ Ok tt) × StaysAs life.old life.new out.old out.new }
 {
@@ -71,7 +71,7 @@ pub fn on_status<R: Receiver>(
     ensures life { OnOk result (IsLife who.now.group who.now.address life.new) }
     ensures ordered { OnOk result (IsOrdered who.now.address life.new) }
     ensures does { OnOk result (OnStatus who.now.group who.now.address source.now view progress life.old life.new out.old out.new) }
-    ensures did { OnOk result (Did R.apply R.encode R.decode (Some (packet source.now (bodies.Status view progress) who.now.address)) who.now.group who.now.address life.old life.new out.old out.new) }
+    ensures did { OnOk result (Did R.meaning (Some (packet source.now (bodies.Status view progress) who.now.address)) who.now.group who.now.address life.old life.new out.old out.new) }
     ensures calm { OnOk result (IsCalm WINDOW out.old out.new) }
     ensures ignored { takes_status source.now view progress life.old ≡ false → (result ≡ Ok tt) × StaysAs life.old life.new out.old out.new }
 {

@@ -183,7 +183,7 @@ fn admit<R: Receiver>(
     requires life { IsLife who.now.group who.now.address life.old }
     requires other { same_address source who.now.address ≡ false }
     ensures life { OnOk result (IsLife who.now.group who.now.address life.new) }
-    ensures does { OnOk result (Admits R.apply R.encode who.now.group who.now.address source life.old life.new out.old out.new) }
+    ensures does { OnOk result (Admits R.meaning who.now.group who.now.address source life.old life.new out.old out.new) }
 {
     if leads_now(life, who) {
         note_joiner(life, who, source)?;
@@ -205,7 +205,7 @@ pub fn on_join<R: Receiver>(
     requires life { IsLife who.now.group who.now.address life.old }
     requires other { same_address source who.now.address ≡ false }
     ensures life { OnOk result (IsLife who.now.group who.now.address life.new) }
-    ensures does { OnOk result (OnJoin R.apply R.encode who.now.group who.now.address source life.old life.new out.old out.new) }
+    ensures does { OnOk result (OnJoin R.meaning who.now.group who.now.address source life.old life.new out.old out.new) }
     ensures ignored { is_some life.old.traffic ≡ false → (result ≡ Ok tt) × StaysAs life.old life.new out.old out.new }
 {
     if life.traffic.is_none() {

@@ -8,6 +8,7 @@ use Rattle.wire.specs.Values as wire
 use Rattle.wire.specs.declared.packet.Body.TheVariants as bodies
 use Rattle.wire.specs.Lists.{is_install}
 use Rattle.wire.specs.Fields.{IsEntry, entry_bytes}
+use Rattle.state_transfer.specs.Meanings.{Meaning}
 use Rattle.flush.specs.Flushes.{FlushModel, together_of, previous_of}
 use Rattle.trace_props.specs.Observed.{own}
 use Rattle.trace_props.specs.declared.event.Event.{Event}
@@ -72,8 +73,8 @@ going me f t n = Installed (record {
 })
 
 -- the state with which the view begins
-abbrev pub finished_state : {S : Type 0} → (S → Address → List ℕ → S) → FlushModel → Traffic → S → S
-finished_state apply f t s = applied apply s (told_by f t)
+abbrev pub finished_state : {S : Type 0} → Meaning S → FlushModel → Traffic → S → S
+finished_state meaning f t s = applied meaning s (told_by f t)
 
 -- what its creator puts out
 abbrev pub finish_packets : Address → FlushModel → Traffic → List ℕ → List Posted
@@ -94,8 +95,8 @@ abbrev pub left_in : Option Traffic → ℕ → List Numbered
 left_in traffic n = option_map_or (λ t. drop n (traffic_of t).outstanding) traffic []
 
 -- the state with which it goes on
-abbrev pub state_by : {S : Type 0} → (S → Address → List ℕ → S) → (List ℕ → Option S) → Option Traffic → wire.Install → S → S
-state_by apply decode traffic i s = unwrap_or (option_and_then decode i.state) (applied apply s (lacking traffic i))
+abbrev pub state_by : {S : Type 0} → Meaning S → Option Traffic → wire.Install → S → S
+state_by meaning traffic i s = unwrap_or (option_and_then meaning.decode i.state) (applied meaning s (lacking traffic i))
 
 -- it is told the view
 abbrev pub arriving : Address → Option Traffic → wire.Install → ℕ → Event

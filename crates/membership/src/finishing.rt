@@ -79,7 +79,7 @@ fn deliver<R: Receiver>(
     receiver: &mut R,
     out: &mut Output,
 ) -> Result<(), AllocError>
-    ensures state { OnOk result (receiver.new ≡ R.apply receiver.old entry.now.sender entry.now.payload) }
+    ensures state { OnOk result (receiver.new ≡ R.meaning.apply receiver.old entry.now.sender entry.now.payload) }
     ensures out { OnOk result (Grows who.now.group out.old out.new [] (delivery who.now.address view entry.now ∷ [])) }
 {
     receiver.receive(entry.sender, entry.payload.as_slice())?;
@@ -107,7 +107,7 @@ pub(crate) fn deliver_all<R: Receiver>(
     receiver: &mut R,
     out: &mut Output,
 ) -> Result<(), AllocError>
-    ensures state { OnOk result (receiver.new ≡ applied R.apply receiver.old entries.now) }
+    ensures state { OnOk result (receiver.new ≡ applied R.meaning receiver.old entries.now) }
     ensures out { OnOk result (Grows who.now.group out.old out.new [] (map (delivery who.now.address view) entries.now)) }
 {
     match entries.split_first() {
@@ -224,7 +224,7 @@ fn deliver_cut<R: Receiver>(
     receiver: &mut R,
     out: &mut Output,
 ) -> Result<usize, AllocError>
-    ensures state { OnOk result (receiver.new ≡ applied R.apply receiver.old (told_by flush.now traffic.now)) }
+    ensures state { OnOk result (receiver.new ≡ applied R.meaning receiver.old (told_by flush.now traffic.now)) }
     ensures out { OnOk result (Grows who.now.group out.old out.new [] (map (delivery who.now.address (view_of traffic.now).id) (told_by flush.now traffic.now))) }
     ensures own { IfOk result (λ n. n ≡ own_of who.now.address (told_by flush.now traffic.now)) }
 {
@@ -274,9 +274,9 @@ pub(crate) fn finish<R: Receiver>(
     out: &mut Output,
 ) -> Result<(), AllocError>
     requires list { view_refusal flush.now.proposal flush.now.members ≡ None }
-    requires sound { AllByRecursion (IsSayable flush.now (view_of traffic).id (R.encode (finished_state R.apply flush.now traffic receiver.old))) (others_of who.now.address flush.now.members) }
-    ensures state { OnOk result (receiver.new ≡ finished_state R.apply flush.now traffic receiver.old) }
-    ensures out { OnOk result (Grows who.now.group out.old out.new (finish_packets who.now.address flush.now traffic (R.encode (finished_state R.apply flush.now traffic receiver.old))) (finish_events who.now.address flush.now traffic)) }
+    requires sound { AllByRecursion (IsSayable flush.now (view_of traffic).id (R.meaning.encode (finished_state R.meaning flush.now traffic receiver.old))) (others_of who.now.address flush.now.members) }
+    ensures state { OnOk result (receiver.new ≡ finished_state R.meaning flush.now traffic receiver.old) }
+    ensures out { OnOk result (Grows who.now.group out.old out.new (finish_packets who.now.address flush.now traffic (R.meaning.encode (finished_state R.meaning flush.now traffic receiver.old))) (finish_events who.now.address flush.now traffic)) }
 {
     let view = traffic.view().id();
     let own = deliver_cut(who, flush, &traffic, receiver, out)?;

@@ -21,12 +21,12 @@ fn judge<'a, R: Receiver>(
     event: &'a Event,
 ) -> Result<Option<Rule>, AllocError>
     requires short { IsShort event.now }
-    requires known { KnowsStates R.opening_state R.apply R.decode R.encode R.is_state (get address_cmp states.old.states) (get view_id_cmp states.old.entering) past.old }
+    requires known { KnowsStates R.meaning (get address_cmp states.old.states) (get view_id_cmp states.old.entering) past.old }
     ensures past { IfOk result (λ broken. broken ≡ None → past.new ≡ past.old ++ event.now ∷ []) }
     ensures judged { IfOk result (λ broken. MatchOption broken
-        (GoesOn R.opening_state R.apply R.decode past.old event.now
-        × KnowsStates R.opening_state R.apply R.decode R.encode R.is_state (get address_cmp states.new.states) (get view_id_cmp states.new.entering) (past.old ++ event.now ∷ []))
-        (λ rule. BreaksNext R.opening_state R.apply R.decode rule past.old event.now)) }
+        (GoesOn R.meaning past.old event.now
+        × KnowsStates R.meaning (get address_cmp states.new.states) (get view_id_cmp states.new.entering) (past.old ++ event.now ∷ []))
+        (λ rule. BreaksNext R.meaning rule past.old event.now)) }
 {
     match broken_rule(past, event) {
         Some(rule) => Ok(Some(rule)),
@@ -50,8 +50,8 @@ fn check_all<'a, R: Receiver>(
 ) -> Result<Verdict, AllocError>
     requires short { IsRecordable events.now }
     requires none { past.old ≡ [] }
-    requires known { KnowsStates R.opening_state R.apply R.decode R.encode R.is_state (get address_cmp states.old.states) (get view_id_cmp states.old.entering) [] }
-    ensures { IfOk result (λ v. IsVerdict R.opening_state R.apply R.decode events.now v) }
+    requires known { KnowsStates R.meaning (get address_cmp states.old.states) (get view_id_cmp states.old.entering) [] }
+    ensures { IfOk result (λ v. IsVerdict R.meaning events.now v) }
 {
     for (index, event) in events.iter().enumerate() {
         match judge(alloc, past, states, event)? {
@@ -68,8 +68,8 @@ fn check_all<'a, R: Receiver>(
 /// Whether a trace is virtually synchronous for the receiver, or else which rule breaks first and where.
 /// Reads the trace once; what an event costs grows by no more than the look-up in a map.
 pub fn check<R: Receiver>(alloc: Global, trace: &Trace) -> Result<Verdict, AllocError>
-    ensures verdict { IfOk result (λ v. IsVerdict R.opening_state R.apply R.decode trace.now.events v) }
-    ensures exact { IfOk result (λ v. (v ≡ Holds) ↔ IsVirtuallySynchronous R.opening_state R.apply R.decode trace.now.events) }
+    ensures verdict { IfOk result (λ v. IsVerdict R.meaning trace.now.events v) }
+    ensures exact { IfOk result (λ v. (v ≡ Holds) ↔ IsVirtuallySynchronous R.meaning trace.now.events) }
 {
     let mut past = Past::new(alloc);
     let mut states: States<R> = States::new(alloc);

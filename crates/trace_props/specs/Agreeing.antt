@@ -1,9 +1,10 @@
 -- What may follow a trace under the rules on members that go from view to view: same next view, together, handed back,
 -- state of entry. Each condition speaks of the newest event and of registers and lists of the trace before it.
-use Rattle.std.specs.Prelude.{◌≡◌, ◌↔◌, ℕ, Bool, true, false, ◌&&◌, Option, None, Some, List, [], ◌∷◌, ◌++◌, length, drop, find, IsSome, MatchOption}
+use Rattle.std.specs.Prelude.{◌≡◌, ◌↔◌, Bool, true, false, ◌&&◌, Option, None, Some, List, [], ◌∷◌, ◌++◌, length, drop, find, IsSome, MatchOption}
 use Rattle.std.specs.Option.{ForSome}
 use Rattle.address.specs.Ids.{Address, ViewId, same_address, same_view_id}
 use Rattle.view.specs.Members.{stands_in}
+use Rattle.state_transfer.specs.Meanings.{Meaning}
 use Rattle.trace_props.specs.declared.event.Event.{Event}
 use Rattle.trace_props.specs.declared.event.Event.TheVariants.{Started, Sent, Delivered, Blocked, Installed, Left, Crashed}
 use Rattle.trace_props.specs.declared.event.Install.{Install}
@@ -75,15 +76,15 @@ MayHandBack past (Crashed p) = Unit {0}
 -- STATE OF ENTRY
 
 -- a given state can be read; the coordinator enters first, all others with its state
-abbrev pub MayEnter : {S : Type 0} → S → (S → Address → List ℕ → S) → (List ℕ → Option S) → List Event → Event → Type 0
-MayEnter opening apply decode past (Started p) = Unit {0}
-MayEnter opening apply decode past (Sent m) = Unit {0}
-MayEnter opening apply decode past (Delivered d) = Unit {0}
-MayEnter opening apply decode past (Blocked p) = Unit {0}
-MayEnter opening apply decode past (Installed i) =
-    ForSome i.given (λ g. IsSome (decode g))
-    × MatchOption (entry_state opening apply decode i.view.id past)
+abbrev pub MayEnter : {S : Type 0} → Meaning S → List Event → Event → Type 0
+MayEnter meaning past (Started p) = Unit {0}
+MayEnter meaning past (Sent m) = Unit {0}
+MayEnter meaning past (Delivered d) = Unit {0}
+MayEnter meaning past (Blocked p) = Unit {0}
+MayEnter meaning past (Installed i) =
+    ForSome i.given (λ g. IsSome (meaning.decode g))
+    × MatchOption (entry_state meaning i.view.id past)
     (same_address i.member i.view.id.creator ≡ true)
-    (λ s. s ≡ state_of opening apply decode i.member (past ++ Installed i ∷ []))
-MayEnter opening apply decode past (Left p) = Unit {0}
-MayEnter opening apply decode past (Crashed p) = Unit {0}
+    (λ s. s ≡ state_of meaning i.member (past ++ Installed i ∷ []))
+MayEnter meaning past (Left p) = Unit {0}
+MayEnter meaning past (Crashed p) = Unit {0}

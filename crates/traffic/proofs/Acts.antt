@@ -16,6 +16,7 @@ use Rattle.packet_values.specs.Values.{Entry, held_at}
 use Rattle.wire.specs.Values as wire
 use Rattle.wire.specs.declared.packet.Body.{Body}
 use Rattle.wire.specs.declared.packet.Body.TheVariants as bodies
+use Rattle.state_transfer.specs.Meanings.{Meaning}
 use Rattle.trace_props.specs.declared.event.Event.{Event}
 use Rattle.trace_props.specs.declared.event.Numbered.{Numbered}
 use Rattle.nak_stream.specs.Windows.{WindowModel, IsWindow, held_with, held_above, taken, delivering}
@@ -83,15 +84,15 @@ due-by false m e t same low h due = absurd (none-some e h)
 pub due-fact : (m : Coordinator) (e : Entry) → m.orderer.ordered ≡ m.window.delivered → m.window.stable ≤ m.window.delivered → next_ordered m.window.stable m.orderer ≡ Some e → Due m e
 due-fact m e same low h = due-by (may_order m.window.stable m.orderer) m e refl same low h h
 
-module _ {S : Type 0} (apply : S → Address → List ℕ → S) (encode : S → List ℕ) (decode : List ℕ → Option S) where
+module _ {S : Type 0} (meaning : Meaning S) where
   abbrev pub GoesOn : Option Posted → Address → View → List (Address × wire.Install) → Traffic → S → List Posted → List Event → Traffic → S → Type 0
-  GoesOn came p v kept t s posted happened u z = Acted apply encode decode came (Some (open_core p v kept t s)) posted happened (Some (open_core p v kept u z))
+  GoesOn came p v kept t s posted happened u z = Acted meaning came (Some (open_core p v kept t s)) posted happened (Some (open_core p v kept u z))
 
   -- ---- Orders
 
   pub orders-acts : (came : Option Posted) (p : Address) (kept : List (Address × wire.Install)) (m : Coordinator) (s : S) (e : Entry) → IsCoordinator p m → IsWindow m.window
       → is_distinct m.view.members ≡ true → Due m e
-      → GoesOn came p m.view kept (coordinator_traffic m) s [] (delivery p m.view.id e ∷ []) (coordinator_traffic (after_one p (m.orderer.ordered + 1, e) m)) (apply s e.sender e.payload)
+      → GoesOn came p m.view kept (coordinator_traffic m) s [] (delivery p m.view.id e ∷ []) (coordinator_traffic (after_one p (m.orderer.ordered + 1, e) m)) (meaning.apply s e.sender e.payload)
   orders-acts came p kept m s e i w distinct d =
       let queues = m.orderer.queues in
       let later = change_first has_next served queues in
@@ -121,10 +122,10 @@ module _ {S : Type 0} (apply : S → Address → List ℕ → S) (encode : S →
             fewer = x.fewer.each;
             more = holds-more g e m.window.held free;
           },
-          ap (λ (w : WindowModel). Some (open_core p m.view kept (traffic_at w left acks (one_more e.sender (ordered_of queues)) (waiting_of later)) (apply s e.sender e.payload))) window
-              ∙ ap (λ (f : ForwardsModel). Some (open_core p m.view kept (traffic_at (delivering (taken (m.orderer.ordered + 1) e m.window)) f acks (one_more e.sender (ordered_of queues)) (waiting_of later)) (apply s e.sender e.payload))) forwards
-              ∙ ap (λ (c : Address → ℕ). Some (open_core p m.view kept (traffic_at (delivering (taken (m.orderer.ordered + 1) e m.window)) (told_to p e m.forwards) acks c (waiting_of later)) (apply s e.sender e.payload))) counts
-              ∙ ap (λ (o : OrdererModel). Some (open_core p m.view kept (traffic_at (delivering (taken (m.orderer.ordered + 1) e m.window)) (told_to p e m.forwards) acks (ordered_of o.queues) (waiting_of o.queues)) (apply s e.sender e.payload))) orderer,
+          ap (λ (w : WindowModel). Some (open_core p m.view kept (traffic_at w left acks (one_more e.sender (ordered_of queues)) (waiting_of later)) (meaning.apply s e.sender e.payload))) window
+              ∙ ap (λ (f : ForwardsModel). Some (open_core p m.view kept (traffic_at (delivering (taken (m.orderer.ordered + 1) e m.window)) f acks (one_more e.sender (ordered_of queues)) (waiting_of later)) (meaning.apply s e.sender e.payload))) forwards
+              ∙ ap (λ (c : Address → ℕ). Some (open_core p m.view kept (traffic_at (delivering (taken (m.orderer.ordered + 1) e m.window)) (told_to p e m.forwards) acks c (waiting_of later)) (meaning.apply s e.sender e.payload))) counts
+              ∙ ap (λ (o : OrdererModel). Some (open_core p m.view kept (traffic_at (delivering (taken (m.orderer.ordered + 1) e m.window)) (told_to p e m.forwards) acks (ordered_of o.queues) (waiting_of o.queues)) (meaning.apply s e.sender e.payload))) orderer,
         );
         puts = refl;
         happens = refl;
@@ -223,8 +224,8 @@ module _ {S : Type 0} (apply : S → Address → List ℕ → S) (encode : S →
   -- ---- Puts to each of a list
 
   pub puts-acts : (came : Option Posted) (c : Core S) (b : Body) (list : List Address) → ((q : Address) → Describes c q b)
-      → Acted apply encode decode came (Some c) (map (packet c.me b) list) [] (Some c)
-  puts-acts came c b [] says = nothing-acted apply encode decode came (Some c)
+      → Acted meaning came (Some c) (map (packet c.me b) list) [] (Some c)
+  puts-acts came c b [] says = nothing-acted meaning came (Some c)
   puts-acts came c b (q ∷ list) says =
       let rest = puts-acts came c b list says in
       record { acts = Puts q b ∷ rest.acts; chain = (says q, rest.chain); puts = ap (λ l. packet c.me b q ∷ l) rest.puts; happens = rest.happens }

@@ -10,6 +10,7 @@ use Rattle.limits.specs.declared.TheConstants.{OUTSTANDING, GREATEST_NUMBER, WIN
 use Rattle.address.specs.Ids.{Address, same_address}
 use Rattle.view.specs.Members.{stands_in}
 use Rattle.packet_values.specs.Values.{Entry}
+use Rattle.state_transfer.specs.Meanings.{Meaning}
 use Rattle.trace_props.specs.declared.event.Numbered.{Numbered}
 use Rattle.trace_props.specs.declared.event.Event.{Event}
 use Rattle.trace_props.proofs.Observing.{same_address-refl, same_address-true}
@@ -219,17 +220,17 @@ tells-by (e ∷ es) p x m a n out more front start done happens = record {
   happens = happens ∙ ap (λ (f : Entry). out.events.items ++ Sent (sending p m.view.id (m.forwards.sent + 1) x) ∷ map (delivery p m.view.id) (f ∷ es)) front;
 }
 
-module _ {S : Type 0} (apply : S → Address → List ℕ → S) where
+module _ {S : Type 0} (meaning : Meaning S) where
   pub sends-orders : (p : Address) (group : List ℕ) (x : List ℕ) (n : ℕ) (m a b : Coordinator) (s : S) (out between : Output) (new : Coordinator) (t : S) (more : Output) → n ≡ m.forwards.sent + 1 → a ≡ pushing x m → b ≡ queued p n x a
-      → Grows group out between [] (Sent (sending p m.view.id (m.forwards.sent + 1) x) ∷ []) → Ordering apply p group b s between new t more → SendsOrdering apply p group x m s out new t more
+      → Grows group out between [] (Sent (sending p m.view.id (m.forwards.sent + 1) x) ∷ []) → Ordering meaning p group b s between new t more → SendsOrdering meaning p group x m s out new t more
   sends-orders p group x n m a b s out between new t more number now end sent orders = record {
     between = between;
     sent = sent;
-    orders = subst (λ (z : Coordinator). Ordering apply p group z s between new t more) (end ∙ ap (λ (z : Coordinator). queued p n x z) now ∙ ap (λ (z : ℕ). queued p z x (pushing x m)) number) orders;
+    orders = subst (λ (z : Coordinator). Ordering meaning p group z s between new t more) (end ∙ ap (λ (z : Coordinator). queued p n x z) now ∙ ap (λ (z : ℕ). queued p z x (pushing x m)) number) orders;
   }
 
   pub tells-at-once : (p : Address) (group : List ℕ) (x : List ℕ) (m : Coordinator) (s : S) (out : Output) (new : Coordinator) (t : S) (more : Output) → IsForwards m.forwards → push_refusal m.forwards ≡ None → IsSettled p m
-      → next_ordered m.window.stable m.orderer ≡ None → SendsOrdering apply p group x m s out new t more → next_ordered new.window.stable new.orderer ≡ None
+      → next_ordered m.window.stable m.orderer ≡ None → SendsOrdering meaning p group x m s out new t more → next_ordered new.window.stable new.orderer ≡ None
       → may_order m.window.stable m.orderer ≡ true → TellsAtOnce p x m out more
   tells-at-once p group x m s out new t more f free z rested sends done may =
       let start = own-next p x m f free z rested may in
@@ -242,10 +243,10 @@ module _ {S : Type 0} (apply : S → Address → List ℕ → S) where
 pub few-more : (v : Event) (out between more : List Event) → between ≡ out ++ v ∷ [] → length more ≤ length between + WINDOW → length more ≤ length out + (WINDOW + 1)
 few-more v out between more sent few = let k : length between ≡ length out + 1 = ap length sent ∙ length-append out (v ∷ []) in omega (arith, k, few)
 
-module _ {S : Type 0} (apply : S → Address → List ℕ → S) where
-  pub ack-ignored : (p : Address) (group : List ℕ) (q : Address) (n : ℕ) (m : Coordinator) (s : S) (out : Output) (told : ℕ) → told < n → told ≡ m.window.delivered → AcksOrdering apply p group q n m s out m s out
+module _ {S : Type 0} (meaning : Meaning S) where
+  pub ack-ignored : (p : Address) (group : List ℕ) (q : Address) (n : ℕ) (m : Coordinator) (s : S) (out : Output) (told : ℕ) → told < n → told ≡ m.window.delivered → AcksOrdering meaning p group q n m s out m s out
   ack-ignored p group q n m s out told over is = let t : nat_lt m.window.delivered n ≡ true = grind (arith, nat_tests) in rw t (refl, refl, refl)
 
   pub ack-heard : (p : Address) (group : List ℕ) (q : Address) (n : ℕ) (m a : Coordinator) (s : S) (out : Output) (new : Coordinator) (t : S) (more : Output) (told : ℕ) → n ≤ told → told ≡ m.window.delivered → a ≡ acknowledged q n m
-      → Ordering apply p group a s out new t more → next_ordered new.window.stable new.orderer ≡ None → AcksOrdering apply p group q n m s out new t more
-  ack-heard p group q n m a s out new t more told under is heard orders done = let f : nat_lt m.window.delivered n ≡ false = grind (arith, nat_tests) in rw f (subst (λ (z : Coordinator). Ordering apply p group z s out new t more) heard orders, done)
+      → Ordering meaning p group a s out new t more → next_ordered new.window.stable new.orderer ≡ None → AcksOrdering meaning p group q n m s out new t more
+  ack-heard p group q n m a s out new t more told under is heard orders done = let f : nat_lt m.window.delivered n ≡ false = grind (arith, nat_tests) in rw f (subst (λ (z : Coordinator). Ordering meaning p group z s out new t more) heard orders, done)

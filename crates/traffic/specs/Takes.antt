@@ -7,6 +7,7 @@ use Rattle.address.specs.Ids.{Address}
 use Rattle.view.specs.Members.{View}
 use Rattle.packet_values.specs.Values.{Entry, held_at, Missing, Progress}
 use Rattle.wire.specs.declared.packet.Body.TheVariants as bodies
+use Rattle.state_transfer.specs.Meanings.{Meaning}
 use Rattle.nak_stream.specs.Windows.{WindowModel, offers, collected, IsLeastGap, IsGreatestGap}
 use Rattle.agreement.specs.Histories.{Posted}
 use Rattle.agreement.specs.Cores.{applied}
@@ -28,10 +29,10 @@ pub data TellsTo (p : Address) : Other → List Entry → Other → Type 0 where
   Starts : (m : Other) → TellsTo p m [] m
   Tells : (m n : Other) (entries : List Entry) (e : Entry) → TellsTo p m entries n → held_at (n.window.delivered + 1) n.window.held ≡ Some e → TellsTo p m (entries ++ e ∷ []) (told_next p e n)
 
-pub record Telling {S : Type 0} (apply : S → Address → List ℕ → S) (p : Address) (group : List ℕ) (old : Other) (s : S) (out : Output) (new : Other) (t : S) (more : Output) : Type 0 where
+pub record Telling {S : Type 0} (meaning : Meaning S) (p : Address) (group : List ℕ) (old : Other) (s : S) (out : Output) (new : Other) (t : S) (more : Output) : Type 0 where
   pub entries : List Entry
   pub tells : TellsTo p old entries new
-  pub state : t ≡ applied apply s entries
+  pub state : t ≡ applied meaning s entries
   pub grows : Grows group out more [] (map (delivery p old.view.id) entries)
   pub view : new.view ≡ old.view
 
@@ -57,16 +58,16 @@ abbrev pub AnswersOrder : Address → List ℕ → ℕ → Bool → ℕ → Othe
 AnswersOrder p group before new g m out more =
     MatchBool (nat_lt before m.window.delivered) (Grows group out more (ack_of p m ∷ []) []) (MatchBool new (AsksUpTo p group g m out more) (more ≡ out))
 
-pub record TakesNear {S : Type 0} (apply : S → Address → List ℕ → S) (p : Address) (group : List ℕ) (g : ℕ) (e : Entry) (old : Other) (s : S) (out : Output) (new : Other) (t : S) (more : Output) : Type 0 where
+pub record TakesNear {S : Type 0} (meaning : Meaning S) (p : Address) (group : List ℕ) (g : ℕ) (e : Entry) (old : Other) (s : S) (out : Output) (new : Other) (t : S) (more : Output) : Type 0 where
   pub between : Output
-  pub tells : Telling apply p group (held_too g e (collected_to (g - WINDOW) old)) s out new t between
+  pub tells : Telling meaning p group (held_too g e (collected_to (g - WINDOW) old)) s out new t between
   pub ready : held_at (new.window.delivered + 1) new.window.held ≡ None
   pub answers : AnswersOrder p group old.window.delivered (offers g (collected (g - WINDOW) old.window)) g new between more
 
 -- an ORDER too far ahead is ignored
-abbrev pub TakesOrder : {S : Type 0} → (S → Address → List ℕ → S) → Address → List ℕ → ℕ → Entry → Other → S → Output → Other → S → Output → Type 0
-TakesOrder apply p group g e old s out new t more =
-    MatchBool (nat_lt old.window.delivered (g - WINDOW)) ((new ≡ old) × (t ≡ s) × (more ≡ out)) (TakesNear apply p group g e old s out new t more)
+abbrev pub TakesOrder : {S : Type 0} → Meaning S → Address → List ℕ → ℕ → Entry → Other → S → Output → Other → S → Output → Type 0
+TakesOrder meaning p group g e old s out new t more =
+    MatchBool (nat_lt old.window.delivered (g - WINDOW)) ((new ≡ old) × (t ≡ s) × (more ≡ out)) (TakesNear meaning p group g e old s out new t more)
 
 -- ---- a STATUS
 

@@ -37,7 +37,7 @@ pub(crate) fn deliver<R: Receiver>(
     receiver: &mut R,
     out: &mut Output,
 ) -> Result<(), AllocError>
-    ensures state { OnOk result (receiver.new ≡ R.apply receiver.old entry.now.sender entry.now.payload) }
+    ensures state { OnOk result (receiver.new ≡ R.meaning.apply receiver.old entry.now.sender entry.now.payload) }
     ensures happens { OnOk result (Grows who.now.group out.old out.new [] (delivery who.now.address view entry.now ∷ [])) }
     ensures left { OnOk result (forwards.new ≡ told_to who.now.address entry.now forwards.old) }
 {

@@ -37,7 +37,7 @@ impl Other {
     ) -> Result<bool, AllocError>
         ensures does { IfOk result (λ told. MatchOption (held_at (self.old.window.delivered + 1) self.old.window.held)
             ((told ≡ false) × (self.new ≡ self.old) × (receiver.new ≡ receiver.old) × (out.new ≡ out.old))
-            (λ e. (told ≡ true) × TellsOne R.apply who.now.address who.now.group e self.old receiver.old out.old self.new receiver.new out.new)) }
+            (λ e. (told ≡ true) × TellsOne R.meaning who.now.address who.now.group e self.old receiver.old out.old self.new receiver.new out.new)) }
     {
         match self.window.take_ready()? {
             None => Ok(false),
@@ -79,9 +79,9 @@ impl Other {
         out: &mut Output,
     ) -> Result<(), AllocError>
         requires other { same_address who.now.address self.old.view.id.creator ≡ false }
-        ensures goes { OnOk result ((came : Option Posted) → OtherGoes R.apply R.encode R.decode came who.now.address who.now.group self.old receiver.old out.old self.new receiver.new out.new) }
+        ensures goes { OnOk result ((came : Option Posted) → OtherGoes R.meaning came who.now.address who.now.group self.old receiver.old out.old self.new receiver.new out.new) }
         ensures done { OnOk result (held_at (self.new.window.delivered + 1) self.new.window.held ≡ None) }
-        ensures tells { OnOk result (Telling R.apply who.now.address who.now.group self.old receiver.old out.old self.new receiver.new out.new) }
+        ensures tells { OnOk result (Telling R.meaning who.now.address who.now.group self.old receiver.old out.old self.new receiver.new out.new) }
         ensures few { OnOk result (IsFew out.old out.new) }
     {
         self.window.kept();
@@ -179,8 +179,8 @@ impl Other {
         out: &mut Output,
     ) -> Result<(), AllocError>
         requires other { same_address who.now.address self.old.view.id.creator ≡ false }
-        ensures goes { OnOk result (OtherGoes R.apply R.encode R.decode (order_packet who.now.address self.old.view place entry.now) who.now.address who.now.group self.old receiver.old out.old self.new receiver.new out.new) }
-        ensures takes { OnOk result (TakesOrder R.apply who.now.address who.now.group place entry.now self.old receiver.old out.old self.new receiver.new out.new) }
+        ensures goes { OnOk result (OtherGoes R.meaning (order_packet who.now.address self.old.view place entry.now) who.now.address who.now.group self.old receiver.old out.old self.new receiver.new out.new) }
+        ensures takes { OnOk result (TakesOrder R.meaning who.now.address who.now.group place entry.now self.old receiver.old out.old self.new receiver.new out.new) }
         ensures few { OnOk result (IsFew out.old out.new) }
     {
         let before = self.window.delivered();

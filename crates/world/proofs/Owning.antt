@@ -6,6 +6,7 @@ use Rattle.std.proofs.lemmas.Option.{none-some, same_Some}
 use Rattle.address.specs.Ids.{Address, same_address}
 use Rattle.view.specs.Members.{View}
 use Rattle.packet_values.specs.Values.{Entry}
+use Rattle.state_transfer.specs.Meanings.{Meaning}
 use Rattle.trace_props.specs.declared.event.Event.{Event}
 use Rattle.trace_props.specs.Observed.{member_of, is_start}
 use Rattle.trace_props.proofs.Observing.{same_address-from}
@@ -33,7 +34,7 @@ own-deliveries : (p : Address) (v : Option View) (entries : List Entry) → Each
 own-deliveries p None entries = tt
 own-deliveries p (Some u) entries = own-told p u entries
 
-module _ {S : Type 0} (apply : S → Address → List ℕ → S) (encode : S → List ℕ) (decode : List ℕ → Option S) where
+module _ {S : Type 0} (meaning : Meaning S) where
   own-entering : (c : Core S) (entries : List Entry) (w : View) (together : List Address) (given : Option (List ℕ)) → EachOwn c.me (entering c entries w together given)
   own-entering c entries w together given = own-append c.me (deliveries c.me c.view entries) _ (own-deliveries c.me c.view entries) ((refl, refl), tt)
 
@@ -63,7 +64,7 @@ module _ {S : Type 0} (apply : S → Address → List ℕ → S) (encode : S →
   me_of c = c.me
 
   -- an act leaves a member its address
-  me-stays : (c d : Core S) (a : Act) → after apply encode decode c a ≡ Some d → d.me ≡ c.me
+  me-stays : (c d : Core S) (a : Act) → after meaning c a ≡ Some d → d.me ≡ c.me
   me-stays c d Creates e = sym (ap me_of (same_Some _ d e))
   me-stays c d Joins e = sym (ap me_of (same_Some _ d e))
   me-stays c d (Puts q body) e = sym (ap me_of (same_Some _ d e))
@@ -81,16 +82,16 @@ module _ {S : Type 0} (apply : S → Address → List ℕ → S) (encode : S →
   me-stays c d (Enters i) e = sym (ap me_of (same_Some _ d e))
   me-stays c d Leaves e = absurd (none-some d e)
 
-  own-chain : (p : Address) (came : Option Posted) (acts : List Act) (o end : Option (Core S)) → ((d : Core S) → o ≡ Some d → d.me ≡ p) → Chain apply encode decode came o acts end
-      → EachOwn p (events_along apply encode decode o acts)
+  own-chain : (p : Address) (came : Option Posted) (acts : List Act) (o end : Option (Core S)) → ((d : Core S) → o ≡ Some d → d.me ≡ p) → Chain meaning came o acts end
+      → EachOwn p (events_along meaning o acts)
   own-chain p came [] o end me x = tt
   own-chain p came (a ∷ acts) None end me x = absurd x
   own-chain p came (a ∷ acts) (Some c) end me x =
       own-append p (events_of c a) _ (subst (λ (q : Address). EachOwn q (events_of c a)) (me c refl) (own-act c a))
-      (own-chain p came acts (after apply encode decode c a) end (λ d e. me-stays c d a e ∙ me c refl) x.1)
+      (own-chain p came acts (after meaning c a) end (λ d e. me-stays c d a e ∙ me c refl) x.1)
 
   pub own-acted : (p : Address) (c : Core S) (came : Option Posted) (posted : List Posted) (s : List Event) (end : Option (Core S)) → c.me ≡ p
-      → Acted apply encode decode came (Some c) posted s end → EachOwn p s
+      → Acted meaning came (Some c) posted s end → EachOwn p s
   own-acted p c came posted s end me x =
       subst (EachOwn p) (sym x.happens) (own-chain p came x.acts (Some c) end (λ d e. sym (ap me_of (same_Some c d e)) ∙ me) x.chain)
 

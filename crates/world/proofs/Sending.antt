@@ -7,6 +7,7 @@ use Rattle.std.proofs.lemmas.Option.{none-some, same_Some}
 use Rattle.address.specs.Ids.{Address, ViewId, same_address}
 use Rattle.view.specs.Members.{View}
 use Rattle.limits.specs.declared.TheConstants.{GREATEST_NUMBER, PAYLOAD, WINDOW, OUTSTANDING}
+use Rattle.state_transfer.specs.Meanings.{Meaning}
 use Rattle.trace_props.specs.declared.event.Event.{Event}
 use Rattle.trace_props.specs.declared.event.Event.TheVariants.{Delivered, Crashed}
 use Rattle.trace_props.specs.declared.event.Event.TheVariants as event
@@ -48,8 +49,7 @@ unused k n e test = subst (λ (j : ℕ). nat_lt j GREATEST_NUMBER ≡ true) (sym
 used-up : (k n : ℕ) → n ≡ k → nat_le GREATEST_NUMBER k ≡ true → nat_lt n GREATEST_NUMBER ≡ false
 used-up k n e test = subst (λ (j : ℕ). nat_lt j GREATEST_NUMBER ≡ false) (sym e) (grind (arith, nat_tests))
 
-module _ {S : Type 0} (opening : S) (apply : S → Address → List ℕ → S) (encode : S → List ℕ) (decode : List ℕ → Option S) (is_state : S → Type 0) (h : History) (n : ℕ) (m : MemberModel S)
-    (c : Core S) (x : Facts.Runs opening apply encode decode is_state h n m c) (payload : List ℕ) where
+module _ {S : Type 0} (meaning : Meaning S) (h : History) (n : ℕ) (m : MemberModel S) (c : Core S) (x : Facts.Runs meaning h n m c) (payload : List ℕ) where
   me-is : c.me ≡ m.address
   me-is = x.fact.seat.itself
 
@@ -60,13 +60,13 @@ module _ {S : Type 0} (opening : S) (apply : S → Address → List ℕ → S) (
 
   module _ (v : View) (inside : c.view ≡ Some v) where
     current : current_view m.address h.trace ≡ Some v.id
-    current = Facts.view-is opening apply encode decode is_state h n m c x (Some v) inside
+    current = Facts.view-is meaning h n m c x (Some v) inside
 
     count : length (sent_in m.address v.id h.trace) ≡ c.traffic.sent
-    count = Facts.sent-count opening apply encode decode is_state h n m c x v inside
+    count = Facts.sent-count meaning h n m c x v inside
 
     busy-is : (b : Bool) → nat_le OUTSTANDING (length c.traffic.outstanding) ≡ b → nat_le OUTSTANDING (outstanding m.address v.id h.trace) ≡ b
-    busy-is b e = ap (nat_le OUTSTANDING) (Facts.outstanding-is opening apply encode decode is_state h n m c x v inside) ∙ e
+    busy-is b e = ap (nat_le OUTSTANDING) (Facts.outstanding-is meaning h n m c x v inside) ∙ e
 
     lost-in : MaySend c payload → AnswersSend payload m.address h (Refused Memory) (Crashed m.address ∷ [])
     lost-in may = rw (current, may.long, block-is false may.frozen, busy-is false may.busy, unused c.traffic.sent _ count may.used) (inr (refl, refl))
@@ -115,7 +115,7 @@ module _ {S : Type 0} (opening : S) (apply : S → Address → List ℕ → S) (
         let own : q ≡ c.me = is ∙ sym me-is in
         let same : w ≡ v.id = same_Some w v.id (sym view ∙ ap (λ p. current_view p h.trace) is ∙ current) in
         let k : length (delivered_in q w h.trace) ≡ c.traffic.delivered =
-        ap (λ p. length (delivered_in p w h.trace)) is ∙ ap (λ u. length (delivered_in m.address u h.trace)) same ∙ Facts.told-count opening apply encode decode is_state h n m c x v inside in
+        ap (λ p. length (delivered_in p w h.trace)) is ∙ ap (λ u. length (delivered_in m.address u h.trace)) same ∙ Facts.told-count meaning h n m c x v inside in
         let at : same_address c.me v.id.creator ≡ true =
         ap (λ p. same_address p v.id.creator) (sym own) ∙ ap (λ (u : ViewId). same_address q u.creator) (sym same) ∙ first in
         subst (λ (p : Address). Contains s (Delivered (record { member = p; view = w; message = record { sender = p; number = c.traffic.sent + 1; payload = payload } }))) (sym own)
@@ -135,7 +135,7 @@ module _ {S : Type 0} (opening : S) (apply : S → Address → List ℕ → S) (
       → cond (not (is_some o)) (Some error.NotConnected) (cond (nat_lt PAYLOAD (length payload)) (Some error.TooLong) (cond (is_frozen c.view c.installed) (Some error.Blocked)
       (cond (nat_le OUTSTANDING (length c.traffic.outstanding)) (Some error.Busy) (cond (nat_le GREATEST_NUMBER c.traffic.sent) (Some error.Exhausted) None)))) ≡ Some err
       → AnswersSend payload m.address h (answer_for err) []
-  not-at err None e r = rw (Facts.view-is opening apply encode decode is_state h n m c x None e) (ap answer_for (sym (same_Some error.NotConnected err r)), refl)
+  not-at err None e r = rw (Facts.view-is meaning h n m c x None e) (ap answer_for (sym (same_Some error.NotConnected err r)), refl)
   not-at err (Some v) e r = not-in v e err _ _ _ _ refl refl refl refl r
 
   pub send-not : (err : Error) → send_refusal c payload ≡ Some err → AnswersSend payload m.address h (answer_for err) []

@@ -3,6 +3,7 @@ use Rattle.std.proofs.Common.{◌≡◌, ℕ, ◌+◌, true, false, Bool, Option
 use Rattle.std.proofs.lemmas.Bool.{eqb-true}
 use Rattle.std.proofs.lemmas.List.{append-nil}
 use Rattle.address.specs.Ids.{Address}
+use Rattle.state_transfer.specs.Meanings.{Meaning}
 use Rattle.trace_props.specs.declared.event.Event.{Event}
 use Rattle.trace_props.proofs.Observing.{has_ended-stays}
 use Rattle.agreement.specs.Histories.{Posted}
@@ -28,12 +29,12 @@ seat-kept n last connected t s Vacant k = k
 seat-kept n last connected t s (Ended p) k = (k.0, k.1, has_ended-stays p t s k.2)
 seat-kept n last connected t s (Running m) k = k
 
-module _ {S : Type 0} (opening : S) (apply : S → Address → List ℕ → S) (encode : S → List ℕ) (decode : List ℕ → Option S) (is_state : S → Type 0) where
+module _ {S : Type 0} (meaning : Meaning S) where
   abbrev pub Holding : System S → Type 0
-  Holding s = Invariant opening apply encode decode is_state s
+  Holding s = Invariant meaning s
 
   abbrev pub World : (ℕ → Seat S) → History → Type 0
-  World at h = IsWorld opening apply encode decode is_state at h
+  World at h = IsWorld meaning at h
 
   -- what has to be shown of an event at a node, with its answer, what is put out and what happens
   pub record Turn (new : ℕ → Seat S) (n : ℕ) (h : History) (e : WorldEvent) (a : Answer) (ps : List (List ℕ)) (s : List Event) : Type 0 where

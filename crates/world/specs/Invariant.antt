@@ -3,6 +3,7 @@ use Rattle.std.specs.Prelude.{◌≡◌, ℕ, ◌≤◌, Bool, true, Option, Non
 use Rattle.std.specs.Option.{IsSomeAnd, option_map_or}
 use Rattle.address.specs.Ids.{Address}
 use Rattle.wire.specs.Packets.{packet_of}
+use Rattle.state_transfer.specs.Meanings.{Meaning}
 use Rattle.trace_props.specs.declared.event.Event.{Event}
 use Rattle.trace_props.specs.Observed.{has_started, has_ended}
 use Rattle.agreement.specs.Invariant.{Invariant}
@@ -42,11 +43,10 @@ IsSpelled bytes = IsSomeAnd (read_as bytes) (λ m. packet_of bytes ≡ Ok (packe
 abbrev pub EachSpelled : List (List ℕ) → Type 0
 EachSpelled pool = (k : ℕ) (bytes : List ℕ) → slice_get pool k ≡ Some bytes → IsSpelled bytes
 
-pub record IsWorld {S : Type 0} (opening : S) (apply : S → Address → List ℕ → S) (encode : S → List ℕ) (decode : List ℕ → Option S) (is_state : S → Type 0) (at : ℕ → Seat S)
-    (h : History) : Type 0 where
+pub record IsWorld {S : Type 0} (meaning : Meaning S) (at : ℕ → Seat S) (h : History) : Type 0 where
   pub faithful : IsFaithful h
   pub paired : length h.events ≡ length h.replies
-  pub agreed : Invariant opening apply encode decode is_state (system_of at h.pool h.trace)
+  pub agreed : Invariant meaning (system_of at h.pool h.trace)
   pub spelled : EachSpelled h.pool
   pub starts : StartsInTurn h.trace
   pub seats : (n : ℕ) → IsSeatOf n (last_of n h.trace) (is_connected n h) h.trace (at n)

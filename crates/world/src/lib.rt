@@ -53,7 +53,7 @@ impl<R: Receiver> Model for World<R> {
     ghost view = { λ w. record { history = record { events = w.events.items; replies = w.replies.items; pool = w.pool; trace = w.trace.events }; table = w.seats.entries } };
 
     // It came from nothing by world steps. All that is kept follows from that alone (proofs/Keeping.antt).
-    ghost invariant = { λ w. IsReached R.opening_state R.apply R.encode R.decode (shown (record { history = record { events = w.events.items; replies = w.replies.items; pool = w.pool; trace = w.trace.events }; table = w.seats.entries })) };
+    ghost invariant = { λ w. IsReached R.meaning (shown (record { history = record { events = w.events.items; replies = w.replies.items; pool = w.pool; trace = w.trace.events }; table = w.seats.entries })) };
 }
 
 /// Makes room for what runs at a node, where there is none yet.
@@ -78,7 +78,7 @@ fn act_at<R: Receiver>(
     event: &WorldEvent,
 ) -> Answer
     requires room { STEP_EVENTS ≤ trace.old.room }
-    ensures acts { ActsAt R.opening_state R.apply R.encode R.decode event.now (get nat_cmp seats.old node) trace.old.events pool.old result (get nat_cmp seats.new node) trace.new.events pool.new }
+    ensures acts { ActsAt R.meaning event.now (get nat_cmp seats.old node) trace.old.events pool.old result (get nat_cmp seats.new node) trace.new.events pool.new }
     ensures others { (m : ℕ) → nat_eq node m ≡ false → get nat_cmp seats.new m ≡ get nat_cmp seats.old m }
 {
     match seats.get_mut(&node) {
@@ -97,7 +97,7 @@ fn carry_out<R: Receiver>(
     event: &WorldEvent,
 ) -> Result<Answer, AllocError>
     requires room { STEP_EVENTS ≤ trace.old.room }
-    ensures ok { IfOk result (λ a. CarriesOut R.opening_state R.apply R.encode R.decode event.now (get nat_cmp seats.old node) trace.old.events pool.old a (get nat_cmp seats.new node) trace.new.events pool.new) }
+    ensures ok { IfOk result (λ a. CarriesOut R.meaning event.now (get nat_cmp seats.old node) trace.old.events pool.old a (get nat_cmp seats.new node) trace.new.events pool.new) }
     ensures others { (m : ℕ) → nat_eq node m ≡ false → get nat_cmp seats.new m ≡ get nat_cmp seats.old m }
     ensures err { OnErr result (get nat_cmp seats.new node ≡ get nat_cmp seats.old node) }
     ensures err_trace { OnErr result (trace.new.events ≡ trace.old.events) }
@@ -120,7 +120,7 @@ fn hear_at<R: Receiver>(
     number: u64,
 ) -> Answer
     requires room { STEP_EVENTS ≤ trace.old.room }
-    ensures hears { (bytes : List ℕ) → packet_numbered number pool.old ≡ Some bytes → Hears R.apply R.encode R.decode bytes (seat_at (get nat_cmp seats.old node)) trace.old.events pool.old result (seat_at (get nat_cmp seats.new node)) trace.new.events pool.new }
+    ensures hears { (bytes : List ℕ) → packet_numbered number pool.old ≡ Some bytes → Hears R.meaning bytes (seat_at (get nat_cmp seats.old node)) trace.old.events pool.old result (seat_at (get nat_cmp seats.new node)) trace.new.events pool.new }
     ensures others { (m : ℕ) → nat_eq node m ≡ false → get nat_cmp seats.new m ≡ get nat_cmp seats.old m }
 {
     match seats.get_mut(&node) {
@@ -137,7 +137,7 @@ fn deliver<R: Receiver>(
     number: u64,
 ) -> Answer
     requires room { STEP_EVENTS ≤ trace.old.room }
-    ensures { Delivers R.apply R.encode R.decode (packet_numbered number pool.old) (seats_in (get nat_cmp seats.old)) trace.old.events pool.old result (seats_in (get nat_cmp seats.new)) trace.new.events pool.new }
+    ensures { Delivers R.meaning (packet_numbered number pool.old) (seats_in (get nat_cmp seats.old)) trace.old.events pool.old result (seats_in (get nat_cmp seats.new)) trace.new.events pool.new }
 {
     match pool.destination(number) {
         Some(destination) => hear_at(seats, trace, pool, destination.node(), number),
@@ -154,7 +154,7 @@ fn carry<R: Receiver>(
     event: &WorldEvent,
 ) -> Result<Answer, AllocError>
     requires room { STEP_EVENTS ≤ trace.old.room }
-    ensures ok { IfOk result (λ a. Carries R.opening_state R.apply R.encode R.decode (target_of event.now) event.now (seats_in (get nat_cmp seats.old)) trace.old.events pool.old a (seats_in (get nat_cmp seats.new)) trace.new.events pool.new) }
+    ensures ok { IfOk result (λ a. Carries R.meaning (target_of event.now) event.now (seats_in (get nat_cmp seats.old)) trace.old.events pool.old a (seats_in (get nat_cmp seats.new)) trace.new.events pool.new) }
     ensures err { OnErr result (SameSeats (seats_in (get nat_cmp seats.old)) (seats_in (get nat_cmp seats.new))) }
     ensures err_trace { OnErr result (trace.new.events ≡ trace.old.events) }
     ensures err_pool { OnErr result (pool.new ≡ pool.old) }
@@ -200,7 +200,7 @@ impl<R: Receiver> World<R> {
 
     /// Carries out one event: a world step, and its answer. On refusal of the places of a step nothing has changed.
     fn step(&mut self, event: &WorldEvent) -> Result<Answer, AllocError>
-        ensures ok { IfOk result (λ a. (step : WorldStep R.opening_state R.apply R.encode R.decode (shown self.old) event.now (shown self.new)) × (step.answer ≡ a)) }
+        ensures ok { IfOk result (λ a. (step : WorldStep R.meaning (shown self.old) event.now (shown self.new)) × (step.answer ≡ a)) }
         ensures err { OnErr result (shown self.new ≡ shown self.old) }
     {
         let alloc = self.alloc;
@@ -223,7 +223,7 @@ impl<R: Receiver> World<R> {
     fn kept(&self)
         ensures faithful { IsFaithful self.now.history }
         ensures ordered { EachPlace IsWellOrdered self.now.history.trace }
-        ensures synchronous { IsVirtuallySynchronous R.opening_state R.apply R.decode self.now.history.trace }
+        ensures synchronous { IsVirtuallySynchronous R.meaning self.now.history.trace }
     {
         let _ = &self.trace;
     }
@@ -232,14 +232,14 @@ impl<R: Receiver> World<R> {
     /// refused: then the events before it are carried out, and all stands as before that step.
     pub fn run(&mut self, events: &[WorldEvent]) -> Result<(), AllocError>
         // It comes from where it stood by a world step for each event, of all of them or of the first few;
-        ensures all { OnOk result (Runs R.opening_state R.apply R.encode R.decode (shown self.old) events.now (shown self.new)) }
-        ensures some { (k : ℕ) × Runs R.opening_state R.apply R.encode R.decode (shown self.old) (take k events.now) (shown self.new) }
+        ensures all { OnOk result (Runs R.meaning (shown self.old) events.now (shown self.new)) }
+        ensures some { (k : ℕ) × Runs R.meaning (shown self.old) (take k events.now) (shown self.new) }
         // so what was there is the beginning of what is there,
         ensures longer { IsLonger self.old.history self.new.history }
         // each event is answered as the table says, and all rules hold at every place.
         ensures faithful { IsFaithful self.new.history }
         ensures ordered { EachPlace IsWellOrdered self.new.history.trace }
-        ensures synchronous { IsVirtuallySynchronous R.opening_state R.apply R.decode self.new.history.trace }
+        ensures synchronous { IsVirtuallySynchronous R.meaning self.new.history.trace }
     {
         for event in events {
             if let Err(refused) = self.step(event) {
@@ -292,7 +292,7 @@ impl<R: Receiver> World<R> {
 
     /// The receiver of the member that runs at a node, as it was told all that happened to that member; None where none runs there.
     pub fn receiver(&self, node: Node) -> Option<&R>
-        ensures { option_copied result ≡ option_map (λ p. state_of R.opening_state R.apply R.decode p self.now.history.trace) (running node self.now.history.trace) }
+        ensures { option_copied result ≡ option_map (λ p. state_of R.meaning p self.now.history.trace) (running node self.now.history.trace) }
     {
         match self.seats.get(&node)? {
             Seat::Vacant | Seat::Ended(_) => None,

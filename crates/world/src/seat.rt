@@ -74,7 +74,7 @@ fn record_all(trace: &mut Trace, events: Vec<Event>)
 
 /// Hands an input to a member.
 fn handled<R: Receiver>(member: &mut Member<R>, input: &Input<'_>) -> Result<Output, Error>
-    ensures { Handled R.apply R.encode R.decode member.old input.now result member.new }
+    ensures { Handled R.meaning member.old input.now result member.new }
 {
     // Taken apart and put together again: an enum that lends bytes is not passed on whole.
     match input {
@@ -160,7 +160,7 @@ fn hand<R: Receiver>(
     input: &Input<'_>,
 ) -> Answer
     requires room { STEP_EVENTS ≤ trace.old.room }
-    ensures { Hands R.apply R.encode R.decode input.now seat.old trace.old.events pool.old result seat.new trace.new.events pool.new }
+    ensures { Hands R.meaning input.now seat.old trace.old.events pool.old result seat.new trace.new.events pool.new }
 {
     match seat {
         Seat::Vacant => Answer::Refused(Refusal::NotConnected),
@@ -177,7 +177,7 @@ fn hand<R: Receiver>(
 /// memory is refused: then the member has started and crashed.
 fn start<R: Receiver>(alloc: Global, seat: &mut Seat<R>, trace: &mut Trace, node: Node) -> Answer
     requires room { 2 ≤ trace.old.room }
-    ensures { StartGives R.opening_state node seat.old trace.old.events result seat.new trace.new.events }
+    ensures { StartGives R.meaning node seat.old trace.old.events result seat.new trace.new.events }
 {
     let next = match seat {
         Seat::Running(_) => return Answer::Refused(Refusal::AlreadyConnected),
@@ -199,7 +199,7 @@ fn started<R: Receiver>(
     address: Address,
 ) -> Answer
     requires room { 2 ≤ trace.old.room }
-    ensures { Begins R.opening_state address trace.old.events result seat.new trace.new.events }
+    ensures { Begins R.meaning address trace.old.events result seat.new trace.new.events }
 {
     trace.record(Event::Started(address));
     match R::opening(alloc) {
@@ -238,7 +238,7 @@ pub fn hear<R: Receiver>(
     number: u64,
 ) -> Answer
     requires room { STEP_EVENTS ≤ trace.old.room }
-    ensures { (bytes : List ℕ) → packet_numbered number pool.old ≡ Some bytes → Hears R.apply R.encode R.decode bytes seat.old trace.old.events pool.old result seat.new trace.new.events pool.new }
+    ensures { (bytes : List ℕ) → packet_numbered number pool.old ≡ Some bytes → Hears R.meaning bytes seat.old trace.old.events pool.old result seat.new trace.new.events pool.new }
 {
     match seat {
         Seat::Vacant | Seat::Ended(_) => Answer::Done,
@@ -262,7 +262,7 @@ pub fn act<R: Receiver>(
     event: &WorldEvent,
 ) -> Answer
     requires room { STEP_EVENTS ≤ trace.old.room }
-    ensures { Acts R.opening_state R.apply R.encode R.decode event.now seat.old trace.old.events pool.old result seat.new trace.new.events pool.new }
+    ensures { Acts R.meaning event.now seat.old trace.old.events pool.old result seat.new trace.new.events pool.new }
 {
     match event {
         WorldEvent::Start(node) => start(alloc, seat, trace, *node),

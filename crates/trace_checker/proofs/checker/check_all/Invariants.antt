@@ -9,6 +9,6 @@ use Rattle.trace_checker.proofs.checker.check_all.Given as goal
 abbrev pub invariant-loop-index : goal.invariant-loop-index
 invariant-loop-index g l = record {
   so_far : l.past ≡ take l.index l.events;
-  holds : IsVirtuallySynchronous g.R.Receiver.opening_state g.R.Receiver.apply g.R.Receiver.decode (take l.index l.events);
-  known : KnowsStates g.R.Receiver.opening_state g.R.Receiver.apply g.R.Receiver.decode g.R.Receiver.encode g.R.Receiver.is_state (get address_cmp l.states.states) (get view_id_cmp l.states.entering) (take l.index l.events);
+  holds : IsVirtuallySynchronous g.R.Receiver.meaning (take l.index l.events);
+  known : KnowsStates g.R.Receiver.meaning (get address_cmp l.states.states) (get view_id_cmp l.states.entering) (take l.index l.events);
 }
