@@ -3,8 +3,8 @@
 
 ghost use Rattle.std.specs.Prelude.{◌≡◌, ◌≤◌, ◌++◌, length, List, ℕ, Some, None, Option, true, false, IfOk, OnOk, MatchOption};
 ghost use Rattle.address.specs.Ids.{Address, IsAddress};
-ghost use Rattle.limits.specs.Meanings.{Meaning};
-ghost use Rattle.state_transfer.specs.declared.TheConstants.{PAYLOAD, STATE};
+ghost use Rattle.state_transfer.specs.Meanings.{Meaning};
+ghost use Rattle.limits.specs.declared.TheConstants.{PAYLOAD, STATE};
 
 use address::Address;
 use std::alloc::{AllocError, Global};
