@@ -107,7 +107,7 @@ module _ {S : Type 0} (meaning : Meaning S) where
   starts-goes t p fresh = record { seven = (tt, (tt, (tt, (tt, (tt, (tt, (fresh, tt))))))); enters = tt }
 
   pub starts-keep : (s : System S) (p : Address) → meaning.is_state meaning.opening → Invariant meaning s → IsAddress p → has_started p s.history.trace ≡ false
-      → Invariant meaning (record { running = put p (Some (idle meaning p)) s.running; history = grown s.history [] (Started p ∷ []) })
+      → Invariant meaning (record { running = put p (Some (idle meaning.opening p)) s.running; history = grown s.history [] (Started p ∷ []) })
   starts-keep s p opens i proper fresh =
       let h = s.history in
       let t = h.trace in
@@ -115,7 +115,7 @@ module _ {S : Type 0} (meaning : Meaning S) where
       let rules = rules-of meaning h i.trace in
       let quiet = quiet-event meaning p h (Started p) refl refl i.trace (starts-goes t p fresh) proper in
       let was = nobody meaning p t rules.ordered.placed fresh in
-      let fact : MemberFact meaning k p (idle meaning p) = record {
+      let fact : MemberFact meaning k p (idle meaning.opening p) = record {
         seat = record {
           itself = refl;
           running = record { started = has_started-now p t; going = has_ended-still p t (Started p) refl ∙ was.going };
@@ -142,8 +142,8 @@ module _ {S : Type 0} (meaning : Meaning S) where
           in_view = λ v y. absurd (none-some v y);
         };
       } in
-      subst (λ (l : History). Invariant meaning (record { running = put p (Some (idle meaning p)) s.running; history = l }))
+      subst (λ (l : History). Invariant meaning (record { running = put p (Some (idle meaning.opening p)) s.running; history = l }))
       (sym (grown-trace meaning h (Started p ∷ [])))
-      (moved meaning s p k (Some (idle meaning p)) i
-      (quiet-moves meaning s p k [] (Some (idle meaning p)) i quiet (sym (append-nil h.pool)) (λ n m at. absurd (none-some m at))
-      (λ c e. subst (λ (z : Core S). MemberFact meaning k p z) (same_Some (idle meaning p) c e) fact)))
+      (moved meaning s p k (Some (idle meaning.opening p)) i
+      (quiet-moves meaning s p k [] (Some (idle meaning.opening p)) i quiet (sym (append-nil h.pool)) (λ n m at. absurd (none-some m at))
+      (λ c e. subst (λ (z : Core S). MemberFact meaning k p z) (same_Some (idle meaning.opening p) c e) fact)))

@@ -51,8 +51,8 @@ pub record Core (S : Type 0) : Type 0 where
   pub state : S
 
 -- a member that has just started
-abbrev pub idle : {S : Type 0} → Meaning S → Address → Core S
-idle meaning p = record {
+abbrev pub idle : {S : Type 0} → S → Address → Core S
+idle opening p = record {
   me = p;
   connected = false;
   promise = None;
@@ -61,7 +61,7 @@ idle meaning p = record {
   traffic = fresh_traffic;
   flush = None;
   kept = [];
-  state = meaning.opening;
+  state = opening;
 }
 
 abbrev pub kept_for : Address → List (Address × wire.Install) → Option wire.Install

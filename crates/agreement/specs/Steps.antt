@@ -58,7 +58,7 @@ acted meaning s p act c = record {
 -- the system after a step
 abbrev pub stepped : {S : Type 0} → Meaning S → System S → Step → System S
 stepped meaning s (Start p) =
-    record { running = put p (Some (idle meaning p)) s.running; history = grown s.history [] (Started p ∷ []) }
+    record { running = put p (Some (idle meaning.opening p)) s.running; history = grown s.history [] (Started p ∷ []) }
 stepped meaning s (Crash p) = record { running = put p None s.running; history = grown s.history [] (Crashed p ∷ []) }
 stepped meaning s (Does p which act) = option_map_or (acted meaning s p act) (s.running p) s
 

@@ -78,13 +78,13 @@ module _ {S : Type 0} (meaning : Meaning S) (laws : Stepping.Laws meaning) where
 
     -- ---- a member started
     started-system : (pool : List (List ℕ)) (t : List Event) → IsAddress p → has_started p t ≡ false → Holding (system_of at pool t)
-        → Holding (system_at (put p (Some (idle meaning p)) (runs at)) (posts_in pool ++ []) (t ++ Started p ∷ []))
+        → Holding (system_at (put p (Some (idle meaning.opening p)) (runs at)) (posts_in pool ++ []) (t ++ Started p ∷ []))
     started-system pool t real new_one i = Stepping.step-keeps meaning laws (system_of at pool t) (Start p) i (real, new_one)
 
-    pub started-agreed : (pool : List (List ℕ)) (t : List Event) → IsAddress p → has_started p t ≡ false → core_here p now ≡ Some (idle meaning p) → Holding (system_of at pool t)
+    pub started-agreed : (pool : List (List ℕ)) (t : List Event) → IsAddress p → has_started p t ≡ false → core_here p now ≡ Some (idle meaning.opening p) → Holding (system_of at pool t)
         → Holding (system_of new (pool ++ []) (t ++ Started p ∷ []))
     started-agreed pool t real new_one is i =
-        to-system (pool ++ []) (posts_in pool ++ []) (t ++ Started p ∷ []) (Some (idle meaning p)) is (ap posts_in (append-nil pool) ∙ sym (append-nil (posts_in pool))) (started-system pool t real new_one i)
+        to-system (pool ++ []) (posts_in pool ++ []) (t ++ Started p ∷ []) (Some (idle meaning.opening p)) is (ap posts_in (append-nil pool) ∙ sym (append-nil (posts_in pool))) (started-system pool t real new_one i)
 
     put-again-by : {X : Type 0} (b : Bool) (u v z : X) → cond b u (cond b v z) ≡ cond b u z
     put-again-by true u v z = refl
@@ -100,11 +100,11 @@ module _ {S : Type 0} (meaning : Meaning S) (laws : Stepping.Laws meaning) where
     pub failed-agreed : (pool : List (List ℕ)) (t : List Event) → IsAddress p → has_started p t ≡ false → core_here p now ≡ None → Holding (system_of at pool t)
         → Holding (system_of new (pool ++ []) (t ++ Started p ∷ Crashed p ∷ []))
     failed-agreed pool t real new_one is i =
-        let u = system_at (put p (Some (idle meaning p)) (runs at)) (posts_in pool ++ []) (t ++ Started p ∷ []) in
-        let j : Holding (system_at (put p None (put p (Some (idle meaning p)) (runs at))) ((posts_in pool ++ []) ++ []) ((t ++ Started p ∷ []) ++ Crashed p ∷ [])) =
-        Stepping.step-keeps meaning laws (system_at (put p (Some (idle meaning p)) (runs at)) (posts_in pool ++ []) (t ++ Started p ∷ [])) (Crash p)
-        (started-system pool t real new_one i) (ap is_some (put-at (Some (idle meaning p)) (runs at))) in
+        let u = system_at (put p (Some (idle meaning.opening p)) (runs at)) (posts_in pool ++ []) (t ++ Started p ∷ []) in
+        let j : Holding (system_at (put p None (put p (Some (idle meaning.opening p)) (runs at))) ((posts_in pool ++ []) ++ []) ((t ++ Started p ∷ []) ++ Crashed p ∷ [])) =
+        Stepping.step-keeps meaning laws (system_at (put p (Some (idle meaning.opening p)) (runs at)) (posts_in pool ++ []) (t ++ Started p ∷ [])) (Crash p)
+        (started-system pool t real new_one i) (ap is_some (put-at (Some (idle meaning.opening p)) (runs at))) in
         to-system (pool ++ []) ((posts_in pool ++ []) ++ []) (t ++ Started p ∷ Crashed p ∷ []) None is
         (ap posts_in (append-nil pool) ∙ sym (append-nil (posts_in pool)) ∙ sym (append-nil (posts_in pool ++ [])))
-        (subst (λ (r : Address → Option (Core S)). Holding (system_at r ((posts_in pool ++ []) ++ []) (t ++ Started p ∷ Crashed p ∷ []))) (put-again None (Some (idle meaning p)) (runs at))
-        (subst (λ (v : List Event). Holding (system_at (put p None (put p (Some (idle meaning p)) (runs at))) ((posts_in pool ++ []) ++ []) v)) (append_assoc t (Started p ∷ []) (Crashed p ∷ [])) j))
+        (subst (λ (r : Address → Option (Core S)). Holding (system_at r ((posts_in pool ++ []) ++ []) (t ++ Started p ∷ Crashed p ∷ []))) (put-again None (Some (idle meaning.opening p)) (runs at))
+        (subst (λ (v : List Event). Holding (system_at (put p None (put p (Some (idle meaning.opening p)) (runs at))) ((posts_in pool ++ []) ++ []) v)) (append_assoc t (Started p ∷ []) (Crashed p ∷ [])) j))

@@ -115,7 +115,7 @@ pub record Begun {S : Type 0} (meaning : Meaning S) (p : Address) (t : List Even
   pub seat : new ≡ Running member
   pub address : member.address ≡ p
   pub group : member.group ≡ world_group
-  pub core : core_of member ≡ Some (idle meaning p)
+  pub core : core_of member ≡ Some (idle meaning.opening p)
   pub alive : IsAlive member.group member.address member.life
   pub trace : t' ≡ t ++ Started p ∷ []
 
