@@ -1,6 +1,6 @@
 //! A running member is handed a packet, and time passes for it.
 
-ghost use Rattle.std.specs.Prelude.{◌≡◌, Option, Some, Ok, Err, OnOk, MatchOption, is_some, true, false};
+ghost use Rattle.std.specs.Prelude.{◌≡◌, ◌+◌, Option, Some, Ok, Err, OnOk, MatchOption, is_some, true, false};
 ghost use Rattle.std.specs.Option.{option_map_or};
 ghost use Rattle.limits.specs.declared.TheConstants.{WINDOW};
 ghost use Rattle.agreement.specs.Histories.{Posted};
