@@ -5,11 +5,9 @@ ghost use Rattle.std.specs.Prelude.{◌≡◌, ℕ, ◌+◌, ◌<◌, ◌≤◌,
 ghost use Rattle.std.specs.Option.{SomeIff};
 ghost use Rattle.std.specs.Result.{OkIff};
 
+use limits::GREATEST_NUMBER;
 use std::fmt;
 use std::marker::Model;
-
-/// The greatest counter of a view id, and the greatest number of a message in its view: 2 to the 62.
-pub const GREATEST_NUMBER: u64 = 4_611_686_018_427_387_904;
 
 /// A node of the network, numbered 1 to 65535 (docs/PROTOCOL.md, "Ids").
 #[derive(Clone, Copy, Debug, PartialEq, Eq, PartialOrd, Ord, Hash)]
@@ -145,7 +143,7 @@ impl fmt::Display for Address {
     }
 }
 
-/// The id of a view: a counter, 1 to 2^62, and the address that made it (docs/PROTOCOL.md, "Ids").
+/// The id of a view: a counter, 1 to `GREATEST_NUMBER`, and the address that made it (docs/PROTOCOL.md, "Ids").
 /// View ids are ordered by counter, then creator, and written `7@3.1`.
 #[derive(Clone, Copy, Debug, PartialEq, Eq, PartialOrd, Ord, Hash)]
 pub struct ViewId {
@@ -155,21 +153,22 @@ pub struct ViewId {
 
 impl Model for ViewId {
     ghost use Rattle.std.specs.Prelude.{◌≤◌, ◌^◌};
+    ghost use Rattle.limits.specs.declared.TheConstants.{GREATEST_NUMBER};
     ghost use Rattle.address.specs.Ids.{ViewId};
 
     ghost Value = { ViewId };
 
     ghost view = { λ v. record { counter = v.counter; creator = v.creator } };
 
-    ghost invariant = { λ v. (1 ≤ v.counter) × (v.counter ≤ 2 ^ 62) };
+    ghost invariant = { λ v. (1 ≤ v.counter) × (v.counter ≤ GREATEST_NUMBER) };
 
     ghost inverse = { λ v. record { counter = v.counter; creator = v.creator } };
 }
 
 impl ViewId {
-    /// The id of a counter from 1 to 2^62 and its creator; `None` for another counter.
+    /// The id of a counter from 1 to `GREATEST_NUMBER` and its creator; `None` for another counter.
     pub fn new(counter: u64, creator: Address) -> Option<ViewId>
-        ensures { SomeIff result ((1 ≤ counter) × (counter ≤ 2 ^ 62)) (record { counter = counter; creator = creator }) }
+        ensures { SomeIff result ((1 ≤ counter) × (counter ≤ GREATEST_NUMBER)) (record { counter = counter; creator = creator }) }
     {
         if counter == 0 || counter > GREATEST_NUMBER {
             return None;
@@ -187,10 +186,10 @@ impl ViewId {
         }
     }
 
-    /// Its counter, 1 to 2^62.
+    /// Its counter, 1 to `GREATEST_NUMBER`.
     pub fn counter(self) -> u64
         ensures value { result ≡ self.counter }
-        ensures in_range { (1 ≤ result) × (result ≤ 2 ^ 62) }
+        ensures in_range { (1 ≤ result) × (result ≤ GREATEST_NUMBER) }
     {
         self.counter
     }
@@ -230,9 +229,9 @@ impl Exhausted {
 }
 
 /// The view id that `creator` makes after `last`: the next counter. Refused with 8 exactly where
-/// the counter of `last` is 2^62 (docs/PROTOCOL.md, "Ids").
+/// the counter of `last` is `GREATEST_NUMBER` (docs/PROTOCOL.md, "Ids").
 pub fn next_after(last: &ViewId, creator: Address) -> Result<ViewId, Exhausted>
-    ensures { OkIff result (last.now.counter < 2 ^ 62) (record { counter = last.now.counter + 1; creator = creator }) }
+    ensures { OkIff result (last.now.counter < GREATEST_NUMBER) (record { counter = last.now.counter + 1; creator = creator }) }
 {
     if last.counter == GREATEST_NUMBER {
         return Err(Exhausted);

@@ -7,9 +7,9 @@ use Rattle.std.proofs.lemmas.Option.{none-some, same_Some}
 use Rattle.address.specs.Ids.{Address, ViewId, same_address, same_view_id}
 use Rattle.view.specs.Members.{stands_in}
 use Rattle.wire.specs.Values.{Report}
-use Rattle.trace_props.specs.declared.happening.Happening.{Happening}
-use Rattle.trace_props.specs.declared.happening.Happening.TheVariants.{Installed}
-use Rattle.trace_props.specs.declared.happening.Install.{Install}
+use Rattle.trace_props.specs.declared.event.Event.{Event}
+use Rattle.trace_props.specs.declared.event.Event.TheVariants.{Installed}
+use Rattle.trace_props.specs.declared.event.Install.{Install}
 use Rattle.trace_props.specs.Observed.{entry_of}
 use Rattle.trace_props.specs.Rules.{HasRisingViews, HasOneOrder}
 use Rattle.trace_props.proofs.Observing.{same_address-true, same_view_id-true}
@@ -28,7 +28,7 @@ use Rattle.agreement.proofs.Meeting.{found, same-previous}
 -- ---- members
 
 -- the members of a view are those of each install of it
-pub members-agree : (t : List Happening) (v : ViewId) (k : ℕ) (f : Install) → HasRisingViews t → is_some (entry_of v.creator v t) ≡ true → slice_get t k ≡ Some (Installed f)
+pub members-agree : (t : List Event) (v : ViewId) (k : ℕ) (f : Install) → HasRisingViews t → is_some (entry_of v.creator v t) ≡ true → slice_get t k ≡ Some (Installed f)
     → f.view.id ≡ v → members_of v t ≡ f.view.members
 members-agree t v k f views there stands same =
     let e = found (entry_of v.creator v t) there in
@@ -97,6 +97,6 @@ filter-within test q (x ∷ l) there = by (test x) there (filter-within test q l
 -- ---- lists
 
 -- lists of one view that are equally long are equal
-pub same-list : (t : List Happening) (p q : Address) (v : ViewId) → HasOneOrder t → length (list_of p v t) ≡ length (list_of q v t) → list_of p v t ≡ list_of q v t
+pub same-list : (t : List Event) (p q : Address) (v : ViewId) → HasOneOrder t → length (list_of p v t) ≡ length (list_of q v t) → list_of p v t ≡ list_of q v t
 unfolding list_of
 same-list t p q v order e = ap (map entry_for) (same-length t p q v order (sym (told-many p v t) ∙ e ∙ told-many q v t))

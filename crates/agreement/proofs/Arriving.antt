@@ -1,14 +1,15 @@
 -- A member has gone into a view: what then holds of it.
-use Rattle.std.proofs.Common.{◌≡◌, ℕ, ◌<◌, ◌≤◌, true, false, Option, Some, None, List, [], ◌∷◌, ◌++◌, length, map, refl, sym, ap, ◌∙◌, subst, arith}
+use Rattle.std.proofs.Common.{◌≡◌, ◌<◌, ◌≤◌, true, false, Some, None, List, [], ◌∷◌, ◌++◌, length, map, refl, sym, ap, ◌∙◌, subst, arith}
 use Rattle.std.specs.Option.{option_map}
 use Rattle.std.proofs.lemmas.Bool.{and_from, cond-true}
 use Rattle.std.proofs.lemmas.Option.{none-some, same_Some}
 use Rattle.address.specs.Ids.{Address, ViewId, same_address, same_view_id}
 use Rattle.view.specs.Members.{View, stands_in}
 use Rattle.wire.specs.Values as wire
-use Rattle.trace_props.specs.declared.happening.Happening.{Happening}
-use Rattle.trace_props.specs.declared.happening.Happening.TheVariants.{Installed}
-use Rattle.trace_props.specs.declared.happening.Install.{Install}
+use Rattle.state_transfer.specs.Meanings.{Meaning}
+use Rattle.trace_props.specs.declared.event.Event.{Event}
+use Rattle.trace_props.specs.declared.event.Event.TheVariants.{Installed}
+use Rattle.trace_props.specs.declared.event.Install.{Install}
 use Rattle.trace_props.specs.Observed.{current_view, is_blocked, delivered_in, own, entry_of}
 use Rattle.trace_props.specs.Rules.{IsRunning}
 use Rattle.trace_props.specs.State.{state_of, entry_state}
@@ -25,11 +26,11 @@ use Rattle.agreement.proofs.Words.{list_of-still, tally_of-push}
 use Rattle.agreement.proofs.Installing.{installed_on, entry-now}
 
 -- who was told no message was told no entry
-list-none : (p : Address) (v : ViewId) (t : List Happening) → delivered_in p v t ≡ [] → list_of p v t ≡ []
+list-none : (p : Address) (v : ViewId) (t : List Event) → delivered_in p v t ≡ [] → list_of p v t ≡ []
 unfolding list_of
 list-none p v t e = ap (map entry_for) e
 
-module _ {S : Type 0} (opening : S) (apply : S → Address → List ℕ → S) (decode : List ℕ → Option S) (is_state : S → Type 0) where
+module _ {S : Type 0} (meaning : Meaning S) where
   -- what is to be shown of a member that goes into a view by this install; the history is that right before it, with all packets of the act
   pub record Comes (h : History) (c : Core S) (i : Install) (s : S) (kept : List (Address × wire.Install)) : Type 0 where
     pub itself : i.member ≡ c.me
@@ -41,13 +42,13 @@ module _ {S : Type 0} (opening : S) (apply : S → Address → List ℕ → S) (
     pub announced : same_address i.view.id.creator c.me ≡ false → flush_of i.view.id h.pool ≡ Some i.view.members
     pub below : LiesBelow h.pool c.me (Some i.view)
     pub keeps : KeepsInstructions h.pool c.me kept i.view
-    pub now : state_of opening apply decode c.me (installed_on h i).trace ≡ s
-    pub is : is_state s
-    pub begins : entry_state opening apply decode i.view.id (installed_on h i).trace ≡ Some s
+    pub now : state_of meaning c.me (installed_on h i).trace ≡ s
+    pub is : meaning.is_state s
+    pub begins : entry_state meaning i.view.id (installed_on h i).trace ≡ Some s
 
   -- so it is open in that view, with nothing told, sent or held there yet
   pub arrives : (h : History) (c : Core S) (i : Install) (s : S) (kept : List (Address × wire.Install)) → Comes h c i s kept
-      → MemberFact opening apply decode is_state (installed_on h i) c.me (gone_into i.view s kept c)
+      → MemberFact meaning (installed_on h i) c.me (gone_into i.view s kept c)
   arrives h c i s kept x =
       let t = h.trace in
       let me = c.me in
@@ -105,7 +106,7 @@ module _ {S : Type 0} (opening : S) (apply : S → Address → List ℕ → S) (
           now = x.now;
           is = x.is;
           in_view = λ u e.
-              subst (λ (w : View). state_with opening apply decode w.id (list_of me w.id k.trace) k.trace ≡ Some s) (same_Some v u e)
-              (ap (λ l. state_with opening apply decode v.id l k.trace) list ∙ ap (option_map _) x.begins);
+              subst (λ (w : View). state_with meaning w.id (list_of me w.id k.trace) k.trace ≡ Some s) (same_Some v u e)
+              (ap (λ l. state_with meaning v.id l k.trace) list ∙ ap (option_map _) x.begins);
         };
       }

@@ -1,7 +1,8 @@
 -- Where nothing happened the invariant holds.
-use Rattle.std.proofs.Common.{◌≡◌, ℕ, true, false, Option, None, List, [], refl, sym, ◌∙◌}
+use Rattle.std.proofs.Common.{◌≡◌, true, false, None, [], refl, sym, ◌∙◌}
 use Rattle.std.proofs.lemmas.Option.{none-some}
 use Rattle.address.specs.Ids.{Address, ViewId}
+use Rattle.state_transfer.specs.Meanings.{Meaning}
 use Rattle.trace_props.proofs.Judging.{synchronous-nil}
 use Rattle.agreement.specs.Words.{tally_of, no_tally}
 use Rattle.agreement.specs.Histories.{install_of}
@@ -16,11 +17,11 @@ no-install : (w : ViewId) (q : Address) → install_of w q [] ≡ None
 unfolding install_of
 no-install w q = refl
 
-module _ {S : Type 0} (opening : S) (apply : S → Address → List ℕ → S) (encode : S → List ℕ) (decode : List ℕ → Option S) (is_state : S → Type 0) where
-  pub nothing-holds : Invariant opening apply encode decode is_state nothing_yet
+module _ {S : Type 0} (meaning : Meaning S) where
+  pub nothing-holds : Invariant meaning nothing_yet
   nothing-holds = record {
     trace = record {
-      synchronous = synchronous-nil opening apply decode;
+      synchronous = synchronous-nil meaning;
       before = λ p v none. record { told = refl; sent = refl; tally = no-tally p v };
       short = λ p v k m at. absurd (none-some m at);
       proper = λ p started. absurd (let n : false ≡ true = started in cc);

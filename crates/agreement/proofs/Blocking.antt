@@ -1,5 +1,5 @@
 -- A member promises a proposal: it is blocked in its view, if it has one and was open there, and what holds of it then.
-use Rattle.std.proofs.Common.{◌≡◌, ℕ, Bool, true, false, cond, Option, Some, None, List, [], ◌∷◌, ◌++◌, length, refl, sym, ap, ◌∙◌, subst, is_some}
+use Rattle.std.proofs.Common.{◌≡◌, Bool, true, false, cond, Option, Some, None, List, [], ◌∷◌, ◌++◌, length, refl, sym, ap, ◌∙◌, subst, is_some}
 use Rattle.std.specs.Prelude.{IsSome}
 use Rattle.std.specs.Option.{ForSome, IsSomeAnd, option_map}
 use Rattle.std.proofs.lemmas.Bool.{cond-true}
@@ -9,8 +9,9 @@ use Rattle.address.specs.Ids.{Address, ViewId, same_address}
 use Rattle.view.specs.Members.{View, stands_in}
 use Rattle.wire.specs.Values.{Report}
 use Rattle.wire.specs.Values as wire
-use Rattle.trace_props.specs.declared.happening.Happening.{Happening}
-use Rattle.trace_props.specs.declared.happening.Happening.TheVariants.{Blocked}
+use Rattle.state_transfer.specs.Meanings.{Meaning}
+use Rattle.trace_props.specs.declared.event.Event.{Event}
+use Rattle.trace_props.specs.declared.event.Event.TheVariants.{Blocked}
 use Rattle.trace_props.specs.Observed.{current_view, own}
 use Rattle.trace_props.specs.Rules.{IsBelow}
 use Rattle.trace_props.specs.Verdicts.{GoesOn}
@@ -27,26 +28,26 @@ use Rattle.agreement.specs.Members.{HasSeat, ViewFact, HasState, PromiseOf, IsNo
 use Rattle.agreement.specs.Invariant.{TraceFact}
 use Rattle.agreement.proofs.Words.{list_of-still, tally_of-push}
 use Rattle.agreement.proofs.Others.{inside-later, window-later, acks-later, waiting-later, first-entered}
-use Rattle.agreement.proofs.Quiet.{Quiet, quiet-refl, quiet-happening}
+use Rattle.agreement.proofs.Quiet.{Quiet, quiet-refl, quiet-event}
 use Rattle.agreement.proofs.Gathering.{members-are}
 
--- the happenings by which a member that stands so is blocked
-abbrev pub blocked_by : Address → Option View → Bool → List Happening
+-- the events by which a member that stands so is blocked
+abbrev pub blocked_by : Address → Option View → Bool → List Event
 blocked_by p view installed = cond (is_open view installed) (Blocked p ∷ []) []
 
 abbrev pub with_blocked : History → Address → Option View → Bool → History
 with_blocked h p view installed = record { pool = h.pool; trace = h.trace ++ blocked_by p view installed }
 
 -- what holds of a member once it is blocked
-pub record IsHalted {S : Type 0} (opening : S) (apply : S → Address → List ℕ → S) (decode : List ℕ → Option S) (is_state : S → Type 0) (h k : History) (p : Address)
+pub record IsHalted {S : Type 0} (meaning : Meaning S) (h k : History) (p : Address)
     (view : Option View) (traffic : Traffic) (kept : List (Address × wire.Install)) (state : S) : Type 0 where
-  pub quiet : Quiet opening apply decode p h k
+  pub quiet : Quiet meaning p h k
   pub seat : HasSeat k.trace p p view false
   pub inside : ForSome view (ViewFact k p false traffic kept)
-  pub own : HasState opening apply decode is_state k.trace p view state
+  pub own : HasState meaning k.trace p view state
 
-module _ {S : Type 0} (opening : S) (apply : S → Address → List ℕ → S) (encode : S → List ℕ) (decode : List ℕ → Option S) (is_state : S → Type 0) where
-  blocked-goes : (t : List Happening) (p : Address) (v : View) → HasSeat t p p (Some v) true → GoesOn opening apply decode t (Blocked p)
+module _ {S : Type 0} (meaning : Meaning S) where
+  blocked-goes : (t : List Event) (p : Address) (v : View) → HasSeat t p p (Some v) true → GoesOn meaning t (Blocked p)
   blocked-goes t p v x = record {
     seven = (tt, (tt, (tt, (tt, (tt, (tt, ((x.running, there, x.block), tt)))))));
     enters = tt;
@@ -56,14 +57,14 @@ module _ {S : Type 0} (opening : S) (apply : S → Address → List ℕ → S) (
       there = ap is_some x.current
 
   -- an open member is blocked
-  halts-open : (h : History) (p : Address) (v : View) (traffic : Traffic) (kept : List (Address × wire.Install)) (state : S) → TraceFact opening apply decode h → HasSeat h.trace p p (Some v) true
-      → ForSome (Some v) (ViewFact h p true traffic kept) → HasState opening apply decode is_state h.trace p (Some v) state
-      → IsHalted opening apply decode is_state h (record { pool = h.pool; trace = h.trace ++ Blocked p ∷ [] }) p (Some v) traffic kept state
+  halts-open : (h : History) (p : Address) (v : View) (traffic : Traffic) (kept : List (Address × wire.Install)) (state : S) → TraceFact meaning h → HasSeat h.trace p p (Some v) true
+      → ForSome (Some v) (ViewFact h p true traffic kept) → HasState meaning h.trace p (Some v) state
+      → IsHalted meaning h (record { pool = h.pool; trace = h.trace ++ Blocked p ∷ [] }) p (Some v) traffic kept state
   halts-open h p v traffic kept state trace seat view own_state =
       let t = h.trace in
       let x = Blocked p in
       let k : History = record { pool = h.pool; trace = t ++ x ∷ [] } in
-      let quiet = quiet-happening opening apply encode decode is_state p h x refl refl trace (blocked-goes t p v seat) tt in
+      let quiet = quiet-event meaning p h x refl refl trace (blocked-goes t p v seat) tt in
       let m = quiet.later in
       let f = view v refl in
       let list = list_of-still p v.id t x refl in
@@ -94,26 +95,26 @@ module _ {S : Type 0} (opening : S) (apply : S → Address → List ℕ → S) (
         };
         inside = λ u e. subst (λ (w : View). ViewFact k p false traffic kept w) (same_Some v u e) fact;
         own = record {
-          now = state_of-push opening apply decode p t x ∙ own_state.now;
+          now = state_of-push meaning p t x ∙ own_state.now;
           is = own_state.is;
           in_view = λ u e.
-              ap (λ l. state_with opening apply decode u.id l (t ++ x ∷ [])) (list_of-still p u.id t x refl)
+              ap (λ l. state_with meaning u.id l (t ++ x ∷ [])) (list_of-still p u.id t x refl)
               ∙ ap (option_map _) (quiet.begun u.id) ∙ own_state.in_view u e;
         };
       }
 
   -- a member without a view, or one that waits, already is
-  halts-still : (h : History) (p : Address) (view : Option View) (traffic : Traffic) (kept : List (Address × wire.Install)) (state : S) → TraceFact opening apply decode h
-      → HasSeat h.trace p p view false → ForSome view (ViewFact h p false traffic kept) → HasState opening apply decode is_state h.trace p view state
-      → IsHalted opening apply decode is_state h (record { pool = h.pool; trace = h.trace ++ [] }) p view traffic kept state
+  halts-still : (h : History) (p : Address) (view : Option View) (traffic : Traffic) (kept : List (Address × wire.Install)) (state : S) → TraceFact meaning h
+      → HasSeat h.trace p p view false → ForSome view (ViewFact h p false traffic kept) → HasState meaning h.trace p view state
+      → IsHalted meaning h (record { pool = h.pool; trace = h.trace ++ [] }) p view traffic kept state
   halts-still h p view traffic kept state trace seat fact own_state =
-      subst (λ (t : List Happening). IsHalted opening apply decode is_state h (record { pool = h.pool; trace = t }) p view traffic kept state) (sym (append-nil h.trace))
-      (record { quiet = quiet-refl opening apply encode decode is_state p h trace; seat = seat; inside = fact; own = own_state })
+      subst (λ (t : List Event). IsHalted meaning h (record { pool = h.pool; trace = t }) p view traffic kept state) (sym (append-nil h.trace))
+      (record { quiet = quiet-refl meaning p h trace; seat = seat; inside = fact; own = own_state })
 
-  pub halts : (h : History) (p : Address) (view : Option View) (installed : Bool) (traffic : Traffic) (kept : List (Address × wire.Install)) (state : S) → TraceFact opening apply decode h
+  pub halts : (h : History) (p : Address) (view : Option View) (installed : Bool) (traffic : Traffic) (kept : List (Address × wire.Install)) (state : S) → TraceFact meaning h
       → (installed ≡ true → is_some view ≡ true) → HasSeat h.trace p p view installed → ForSome view (ViewFact h p installed traffic kept)
-      → HasState opening apply decode is_state h.trace p view state
-      → IsHalted opening apply decode is_state h (with_blocked h p view installed) p view traffic kept state
+      → HasState meaning h.trace p view state
+      → IsHalted meaning h (with_blocked h p view installed) p view traffic kept state
   halts h p None true traffic kept state trace there seat fact own_state = absurd (let n : false ≡ true = there refl in cc)
   halts h p None false traffic kept state trace there seat fact own_state = halts-still h p None traffic kept state trace seat fact own_state
   halts h p (Some v) true traffic kept state trace there seat fact own_state = halts-open h p v traffic kept state trace seat fact own_state
@@ -121,7 +122,7 @@ module _ {S : Type 0} (opening : S) (apply : S → Address → List ℕ → S) (
 
 -- ---- what it reports then is so
 
-tells-by : (t : List Happening) (h : History) (p : Address) (traffic : Traffic) (kept : List (Address × wire.Install)) (v : View) → ViewFact h p false traffic kept v
+tells-by : (t : List Event) (h : History) (p : Address) (traffic : Traffic) (kept : List (Address × wire.Install)) (v : View) → ViewFact h p false traffic kept v
     → TellsOf h.trace p (report_with (Some v) traffic) v.id
 tells-by t h p traffic kept v f = record {
   closed = ap (λ (s : Tally). s.phase) f.counts.tally;

@@ -8,12 +8,13 @@ use Rattle.std.proofs.lemmas.List.{append-nil, append_assoc, length-drop, length
 use Rattle.std.proofs.lemmas.List.Elements.{filter_map-append}
 use Rattle.address.specs.Ids.{Address, ViewId, IsAddress, same_address}
 use Rattle.view.specs.Members.{View}
-use Rattle.packet_values.specs.declared.limits.TheConstants.{PAYLOAD}
+use Rattle.limits.specs.declared.TheConstants.{PAYLOAD}
 use Rattle.packet_values.specs.Values.{Entry}
-use Rattle.trace_props.specs.declared.happening.Happening.{Happening}
-use Rattle.trace_props.specs.declared.happening.Happening.TheVariants.{Delivered}
-use Rattle.trace_props.specs.declared.happening.Delivery.{Delivery}
-use Rattle.trace_props.specs.declared.happening.Numbered.{Numbered}
+use Rattle.state_transfer.specs.Meanings.{Meaning}
+use Rattle.trace_props.specs.declared.event.Event.{Event}
+use Rattle.trace_props.specs.declared.event.Event.TheVariants.{Delivered}
+use Rattle.trace_props.specs.declared.event.Delivery.{Delivery}
+use Rattle.trace_props.specs.declared.event.Numbered.{Numbered}
 use Rattle.trace_props.specs.Observed.{current_view, delivered_in, sent_in, own, own_by}
 use Rattle.trace_props.specs.Rules.{IsRunning}
 use Rattle.trace_props.specs.State.{state_of}
@@ -30,12 +31,12 @@ use Rattle.agreement.specs.Members.{MemberFact}
 use Rattle.agreement.specs.Invariant.{TraceFact}
 use Rattle.agreement.proofs.Words.{list_of-hit, list_of-other}
 use Rattle.agreement.proofs.Traces.{rules-of}
-use Rattle.agreement.proofs.Quiet.{Quiet, quiet-refl, quiet-trans, quiet-happening}
+use Rattle.agreement.proofs.Quiet.{Quiet, quiet-refl, quiet-trans, quiet-event}
 use Rattle.agreement.proofs.Order.{next-of-order}
 use Rattle.agreement.proofs.Delivering.{own-next, next-state}
 
 -- entries that come next in a view's order, for one who was told so many
-abbrev pub Follow : List Happening → Address → ViewId → List Entry → Type 0
+abbrev pub Follow : List Event → Address → ViewId → List Entry → Type 0
 Follow t p v entries = (j : ℕ) (e : Entry) → slice_get entries j ≡ Some e → slice_get (order_of v t) (length (list_of p v t) + j) ≡ Some e
 
 -- ---- of a cut what was not told yet
@@ -45,7 +46,7 @@ pub undelivered-end : (d base : ℕ) (items : List Entry) → base ≤ d → d �
 undelivered-end d base items low high = let long : length (drop (d - base) items) ≡ length items - (d - base) = length-drop (d - base) items in omega arith
 
 -- and it comes next in the order of the view
-pub undelivered-follow : (t : List Happening) (p : Address) (v : ViewId) (d base : ℕ) (items : List Entry) → length (list_of p v t) ≡ d → base ≤ d
+pub undelivered-follow : (t : List Event) (p : Address) (v : ViewId) (d base : ℕ) (items : List Entry) → length (list_of p v t) ≡ d → base ≤ d
     → ((j : ℕ) (e : Entry) → slice_get items j ≡ Some e → slice_get (order_of v t) (base + j) ≡ Some e) → Follow t p v (undelivered d base items)
 undelivered-follow t p v d base items told low order j e at =
     let there : slice_get items (d - base + j) ≡ Some e = sym (slice_get-drop (d - base) items j) ∙ at in
@@ -74,7 +75,7 @@ left-more p e entries rest =
     ∙ ap (λ n. drop n rest) (length-append one others) ∙ sym (drop-twice (length one) (length others) rest)
 
 -- who is told the next of the order of its view is not the first there
-not-first : (b : Bool) (t : List Happening) (p : Address) (v : ViewId) (e : Entry) → same_address p v.creator ≡ b → slice_get (order_of v t) (length (list_of p v t)) ≡ Some e
+not-first : (b : Bool) (t : List Event) (p : Address) (v : ViewId) (e : Entry) → same_address p v.creator ≡ b → slice_get (order_of v t) (length (list_of p v t)) ≡ Some e
     → same_address p v.creator ≡ false
 not-first false t p v e test at = test
 not-first true t p v e test at =
@@ -86,12 +87,12 @@ not-first true t p v e test at =
 abbrev pub told_on : History → Address → Option View → List Entry → History
 told_on h p v entries = record { pool = h.pool; trace = h.trace ++ deliveries p v entries }
 
-module _ {S : Type 0} (opening : S) (apply : S → Address → List ℕ → S) (encode : S → List ℕ) (decode : List ℕ → Option S) (is_state : S → Type 0) where
+module _ {S : Type 0} (meaning : Meaning S) where
   abbrev pub Law : Type 0
-  Law = (z : S) (from : Address) (payload : List ℕ) → is_state z → IsAddress from → length payload ≤ PAYLOAD → is_state (apply z from payload)
+  Law = (z : S) (from : Address) (payload : List ℕ) → meaning.is_state z → IsAddress from → length payload ≤ PAYLOAD → meaning.is_state (meaning.apply z from payload)
 
   abbrev Fact : History → Address → Core S → Type 0
-  Fact h p c = MemberFact opening apply decode is_state h p c
+  Fact h p c = MemberFact meaning h p c
 
   -- what is so of a view after entries were told there
   pub record CatchesUp (h k : History) (p : Address) (v : ViewId) (rest : List Numbered) (entries : List Entry) : Type 0 where
@@ -101,28 +102,28 @@ module _ {S : Type 0} (opening : S) (apply : S → Address → List ℕ → S) (
 
   -- what is so of a member in a view after it was told entries there
   record Tells (h k : History) (p : Address) (v : ViewId) (rest : List Numbered) (s : S) (entries : List Entry) : Type 0 where
-    quiet : Quiet opening apply decode p h k
+    quiet : Quiet meaning p h k
     running : IsRunning p k.trace
     current : current_view p k.trace ≡ Some v
     view : CatchesUp h k p v rest entries
-    state : state_of opening apply decode p k.trace ≡ applied apply s entries
-    is : is_state (applied apply s entries)
+    state : state_of meaning p k.trace ≡ applied meaning s entries
+    is : meaning.is_state (applied meaning s entries)
 
   -- what is so of it before
   record Stands (h : History) (p : Address) (v : ViewId) (rest : List Numbered) (s : S) : Type 0 where
-    trace : TraceFact opening apply decode h
+    trace : TraceFact meaning h
     running : IsRunning p h.trace
     current : current_view p h.trace ≡ Some v
     sent : sent_in p v h.trace ≡ own p (delivered_in p v h.trace) ++ rest
-    state : state_of opening apply decode p h.trace ≡ s
-    is : is_state s
+    state : state_of meaning p h.trace ≡ s
+    is : meaning.is_state s
 
   -- told no entry
   tells-none : (h : History) (p : Address) (v : ViewId) (rest : List Numbered) (s : S) → Stands h p v rest s
       → Tells h (record { pool = h.pool; trace = h.trace ++ [] }) p v rest s []
   tells-none h p v rest s x =
-      subst (λ (t : List Happening). Tells h (record { pool = h.pool; trace = t }) p v rest s []) (sym (append-nil h.trace)) (record {
-        quiet = quiet-refl opening apply encode decode is_state p h x.trace;
+      subst (λ (t : List Event). Tells h (record { pool = h.pool; trace = t }) p v rest s []) (sym (append-nil h.trace)) (record {
+        quiet = quiet-refl meaning p h x.trace;
         running = x.running;
         current = x.current;
         view = record { list = sym (append-nil (list_of p v h.trace)); order = refl; sent = x.sent };
@@ -132,10 +133,10 @@ module _ {S : Type 0} (opening : S) (apply : S → Address → List ℕ → S) (
 
   -- what is so of it after the first of them
   record First (h : History) (p : Address) (v : ViewId) (rest : List Numbered) (s : S) (e : Entry) (entries : List Entry) : Type 0 where
-    quiet : Quiet opening apply decode p h (record { pool = h.pool; trace = h.trace ++ delivery p v e ∷ [] })
+    quiet : Quiet meaning p h (record { pool = h.pool; trace = h.trace ++ delivery p v e ∷ [] })
     list : list_of p v (h.trace ++ delivery p v e ∷ []) ≡ list_of p v h.trace ++ e ∷ []
     order : order_of v (h.trace ++ delivery p v e ∷ []) ≡ order_of v h.trace
-    stands : Stands (record { pool = h.pool; trace = h.trace ++ delivery p v e ∷ [] }) p v (left_of p (e ∷ []) rest) (apply s e.sender e.payload)
+    stands : Stands (record { pool = h.pool; trace = h.trace ++ delivery p v e ∷ [] }) p v (left_of p (e ∷ []) rest) (meaning.apply s e.sender e.payload)
     follow : Follow (h.trace ++ delivery p v e ∷ []) p v entries
 
   -- told the first of some entries
@@ -146,15 +147,15 @@ module _ {S : Type 0} (opening : S) (apply : S → Address → List ℕ → S) (
       let d : Delivery = record { member = p; view = v; message = message_for e } in
       let happened = Delivered d in
       let n = length (list_of p v t) in
-      let rules = rules-of opening apply decode h x.trace in
+      let rules = rules-of meaning h x.trace in
       let at : slice_get (order_of v t) n ≡ Some e = ap (slice_get (order_of v t)) (let z : n ≡ n + 0 = omega arith in z) ∙ follow 0 e refl in
       let other = not-first (same_address p v.creator) t p v e refl at in
       let next = next-of-order t p v e n rules.ordered.messages rules.ordered.order refl at in
-      let goes : GoesOn opening apply decode t happened = record {
+      let goes : GoesOn meaning t happened = record {
         seven = (tt, (tt, (tt, ((λ first. next.order), ((next.number, next.sent), (tt, ((x.running, x.current), tt)))))));
         enters = tt;
       } in
-      let quiet = quiet-happening opening apply encode decode is_state p h happened refl refl x.trace goes tt in
+      let quiet = quiet-event meaning p h happened refl refl x.trace goes tt in
       let told = delivered_in-hit p v t d (told_to-at d) in
       let list : list_of p v (t ++ happened ∷ []) ≡ list_of p v t ++ e ∷ [] = list_of-hit p v t d (told_to-at d) in
       let order : order_of v (t ++ happened ∷ []) ≡ order_of v t = list_of-other v.creator v t happened other in
@@ -167,10 +168,10 @@ module _ {S : Type 0} (opening : S) (apply : S → Address → List ℕ → S) (
           running = record { started = has_started-stays p t (happened ∷ []) x.running.started; going = has_ended-still p t happened refl ∙ x.running.going };
           current = current_view-push p t happened ∙ x.current;
           sent = sent_in-still p v t happened refl ∙ own-next t p v rest e x.sent next ∙ ap (λ l. own p l ++ left_of p (e ∷ []) rest) (sym told);
-          state = state_of-push opening apply decode p t happened
-              ∙ cond-true (same_address p p) (apply (state_of opening apply decode p t) e.sender e.payload) (state_of opening apply decode p t) (same_address-refl p)
-              ∙ ap (λ z. apply z e.sender e.payload) x.state;
-          is = next-state opening apply decode is_state h p v e s law x.trace next x.is;
+          state = state_of-push meaning p t happened
+              ∙ cond-true (same_address p p) (meaning.apply (state_of meaning p t) e.sender e.payload) (state_of meaning p t) (same_address-refl p)
+              ∙ ap (λ z. meaning.apply z e.sender e.payload) x.state;
+          is = next-state meaning h p v e s law x.trace next x.is;
         };
         follow = λ j y there.
             let long : length (list_of p v (t ++ happened ∷ [])) ≡ n + 1 = ap length list ∙ length_push (list_of p v t) e in
@@ -186,11 +187,11 @@ module _ {S : Type 0} (opening : S) (apply : S → Address → List ℕ → S) (
       let k : History = record { pool = h.pool; trace = h.trace ++ delivery p v e ∷ [] } in
       let l : History = record { pool = h.pool; trace = h.trace ++ delivery p v e ∷ [] ++ map (delivery p v) entries } in
       let one = tells-first h p v rest s e entries law x follow in
-      let all : Tells k l p v (left_of p (e ∷ []) rest) (apply s e.sender e.payload) entries =
-      tells k p v (left_of p (e ∷ []) rest) (apply s e.sender e.payload) entries law one.stands one.follow in
-      subst (λ (t : List Happening). Tells h (record { pool = h.pool; trace = t }) p v rest s (e ∷ entries))
+      let all : Tells k l p v (left_of p (e ∷ []) rest) (meaning.apply s e.sender e.payload) entries =
+      tells k p v (left_of p (e ∷ []) rest) (meaning.apply s e.sender e.payload) entries law one.stands one.follow in
+      subst (λ (t : List Event). Tells h (record { pool = h.pool; trace = t }) p v rest s (e ∷ entries))
       (append_assoc h.trace (delivery p v e ∷ []) (map (delivery p v) entries)) (record {
-        quiet = quiet-trans opening apply encode decode is_state p h k l one.quiet all.quiet;
+        quiet = quiet-trans meaning p h k l one.quiet all.quiet;
         running = all.running;
         current = all.current;
         view = record {
@@ -204,29 +205,29 @@ module _ {S : Type 0} (opening : S) (apply : S → Address → List ℕ → S) (
 
   -- what is so of a member after it was told its last entries of its view, if it has one
   pub record GoesOut (h k : History) (c : Core S) (entries : List Entry) : Type 0 where
-    pub quiet : Quiet opening apply decode c.me h k
+    pub quiet : Quiet meaning c.me h k
     pub running : IsRunning c.me k.trace
     pub current : current_view c.me k.trace ≡ id_of c.view
     pub view : ForSome c.view (λ v. CatchesUp h k c.me v.id c.traffic.outstanding entries)
-    pub state : state_of opening apply decode c.me k.trace ≡ applied apply c.state entries
-    pub is : is_state (state_of opening apply decode c.me k.trace)
+    pub state : state_of meaning c.me k.trace ≡ applied meaning c.state entries
+    pub is : meaning.is_state (state_of meaning c.me k.trace)
 
   -- a member without a view is told nothing
-  goes-none : (h : History) (c : Core S) (entries : List Entry) → TraceFact opening apply decode h → Fact h c.me c → c.view ≡ None → entries ≡ []
+  goes-none : (h : History) (c : Core S) (entries : List Entry) → TraceFact meaning h → Fact h c.me c → c.view ≡ None → entries ≡ []
       → GoesOut h (told_on h c.me c.view entries) c entries
   goes-none h c entries trace x is none =
       subst (λ (o : Option View). GoesOut h (told_on h c.me o entries) c entries) (sym is)
-      (subst (λ (t : List Happening). GoesOut h (record { pool = h.pool; trace = t }) c entries) (sym (append-nil h.trace)) (record {
-        quiet = quiet-refl opening apply encode decode is_state c.me h trace;
+      (subst (λ (t : List Event). GoesOut h (record { pool = h.pool; trace = t }) c entries) (sym (append-nil h.trace)) (record {
+        quiet = quiet-refl meaning c.me h trace;
         running = x.seat.running;
         current = x.seat.current;
         view = λ v e. absurd (none-some v (sym is ∙ e));
-        state = x.state.now ∙ ap (applied apply c.state) (sym none);
-        is = subst is_state (sym x.state.now) x.state.is;
+        state = x.state.now ∙ ap (applied meaning c.state) (sym none);
+        is = subst meaning.is_state (sym x.state.now) x.state.is;
       }))
 
   -- a member with a view
-  goes-from : (h : History) (c : Core S) (v : View) (entries : List Entry) → Law → TraceFact opening apply decode h → Fact h c.me c → c.view ≡ Some v → Follow h.trace c.me v.id entries
+  goes-from : (h : History) (c : Core S) (v : View) (entries : List Entry) → Law → TraceFact meaning h → Fact h c.me c → c.view ≡ Some v → Follow h.trace c.me v.id entries
       → GoesOut h (told_on h c.me c.view entries) c entries
   goes-from h c v entries law trace x is follow =
       let k : History = told_on h c.me (Some v) entries in
@@ -246,11 +247,11 @@ module _ {S : Type 0} (opening : S) (apply : S → Address → List ℕ → S) (
         current = all.current ∙ ap id_of (sym is);
         view = λ u e. subst (λ (w : View). CatchesUp h k c.me w.id c.traffic.outstanding entries) (same_Some v u (sym is ∙ e)) all.view;
         state = all.state;
-        is = subst is_state (sym all.state) all.is;
+        is = subst meaning.is_state (sym all.state) all.is;
       })
 
   -- a member is told its last entries of its view, if it has one
-  pub goes-out : (h : History) (c : Core S) (entries : List Entry) → Law → TraceFact opening apply decode h → Fact h c.me c
+  pub goes-out : (h : History) (c : Core S) (entries : List Entry) → Law → TraceFact meaning h → Fact h c.me c
       → ForSome c.view (λ v. Follow h.trace c.me v.id entries) → (c.view ≡ None → entries ≡ [])
       → GoesOut h (told_on h c.me c.view entries) c entries
   goes-out h c entries law trace x follow none = by c.view refl

@@ -1,11 +1,11 @@
 -- The story of the crash of the first plays: each of its steps is allowed after those before, and the trace is the one that is told.
-use Rattle.std.proofs.Common.{◌≡◌, ℕ, zero, suc, ◌+◌, cond, Option, Some, None, List, [], ◌∷◌, ◌++◌, refl, sym, ◌∙◌, arith, inl}
+use Rattle.std.proofs.Common.{◌≡◌, ℕ, zero, suc, ◌+◌, cond, Some, None, List, [], ◌∷◌, ◌++◌, refl, sym, ◌∙◌, arith, inl}
 use Rattle.std.specs.Prelude.{IsSome, slice_get, nat_eq}
 use Rattle.std.proofs.lemmas.Option.{none-some}
 use Rattle.std.proofs.lemmas.Bool.Decides.{nat_tests}
-use Rattle.address.specs.Ids.{Address}
 use Rattle.packet_values.specs.Values.{Entry, held_at}
 use Rattle.wire.specs.Values.{Report}
+use Rattle.state_transfer.specs.Meanings.{Meaning}
 use Rattle.flush.specs.Cuts.{held_among, greatest_stable, IsCut}
 use Rattle.flush.specs.Flushes.{group}
 use Rattle.trace_props.specs.Rules.{IsBelow}
@@ -42,15 +42,15 @@ rest-cuts =
     let cut = for-some (λ u. IsCut (group (Some u) rest_reports) 0 (entry_a ∷ entry_b ∷ [])) view_of_three.id cut in
     (cut, (cut, tt))
 
-module _ {S : Type 0} (opening : S) (apply : S → Address → List ℕ → S) (encode : S → List ℕ) (decode : List ℕ → Option S) where
+module _ {S : Type 0} (meaning : Meaning S) where
   abbrev Runs : System S → List Step → Type 0
-  Runs s steps = playing.Runs opening apply encode decode s steps
+  Runs s steps = playing.Runs meaning s steps
 
   abbrev fourth_system : System S
-  fourth_system = playing.fourth_system opening apply encode decode
+  fourth_system = playing.fourth_system meaning
 
   abbrev fifth_system : System S
-  fifth_system = playing.After opening apply encode decode fourth_system messages_chapter
+  fifth_system = playing.After meaning fourth_system messages_chapter
 
   messages-run : Runs fourth_system messages_chapter
   messages-run =
@@ -86,10 +86,10 @@ module _ {S : Type 0} (opening : S) (apply : S → Address → List ℕ → S) (
       ▸ record { asked = refl; listed = refl; connected = refl; above = inl (for-some (λ p. IsBelow p.id view_of_rest.id) view_of_three refl) }
       ▸ record { flush = refl; told = refl; listed = refl; new = refl }
       ▸ record { view = refl; flush = refl; all = all-reported rest_reports; cut = cuts-of rest_reports both_cuts rest-cuts }
-      ▸ record { asked = refl; promised = refl; waiting = refl; fits = omega arith; readable = for-none (λ bytes. IsSome (decode bytes)) }
+      ▸ record { asked = refl; promised = refl; waiting = refl; fits = omega arith; readable = for-none (λ bytes. IsSome (meaning.decode bytes)) }
       ▸ tt
 
-  pub crash-plays : decode (encode opening) ≡ Some opening → CrashPlays opening apply encode decode
+  pub crash-plays : meaning.decode (meaning.encode meaning.opening) ≡ Some meaning.opening → CrashPlays meaning
   crash-plays reads =
-      let rest = playing.run-then opening apply encode decode fourth_system messages_chapter crash_chapter messages-run crash-runs in
-      (playing.joined-then opening apply encode decode reads (messages_chapter ++ crash_chapter) rest, refl)
+      let rest = playing.run-then meaning fourth_system messages_chapter crash_chapter messages-run crash-runs in
+      (playing.joined-then meaning reads (messages_chapter ++ crash_chapter) rest, refl)

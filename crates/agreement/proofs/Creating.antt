@@ -1,14 +1,15 @@
 -- The act Creates: a member makes a first view of itself alone.
-use Rattle.std.proofs.Common.{◌≡◌, ℕ, true, false, cond, Option, Some, None, List, [], ◌∷◌, ◌++◌, refl, sym, ap, ◌∙◌, subst, is_some, ◌⊎◌, inl, inr}
+use Rattle.std.proofs.Common.{◌≡◌, true, false, cond, Option, Some, None, List, [], ◌∷◌, ◌++◌, refl, sym, ap, ◌∙◌, subst, is_some, ◌⊎◌, inl, inr}
 use Rattle.std.specs.Option.{option_map_or, option_eq}
 use Rattle.std.proofs.lemmas.Bool.{or_left}
 use Rattle.std.proofs.lemmas.Option.{none-some}
 use Rattle.std.proofs.lemmas.List.{append-nil}
 use Rattle.address.specs.Ids.{Address, ViewId, same_address, same_view_id}
 use Rattle.view.specs.Members.{View, stands_in}
-use Rattle.trace_props.specs.declared.happening.Happening.{Happening}
-use Rattle.trace_props.specs.declared.happening.Happening.TheVariants.{Installed}
-use Rattle.trace_props.specs.declared.happening.Install.{Install}
+use Rattle.state_transfer.specs.Meanings.{Meaning}
+use Rattle.trace_props.specs.declared.event.Event.{Event}
+use Rattle.trace_props.specs.declared.event.Event.TheVariants.{Installed}
+use Rattle.trace_props.specs.declared.event.Install.{Install}
 use Rattle.trace_props.specs.Observed.{current_view, entry_of}
 use Rattle.trace_props.specs.Rules.{EntersAbove}
 use Rattle.trace_props.proofs.Observing.{same_address-refl, same_address-true}
@@ -50,13 +51,12 @@ only-one q p there = by (or-cases (same_address q p) false there)
     by (inl e) = same_address-true q p e
     by (inr e) = absurd (let n : false ≡ true = e in cc)
 
-module _ {S : Type 0} (opening : S) (apply : S → Address → List ℕ → S) (encode : S → List ℕ) (decode : List ℕ → Option S) (is_state : S → Type 0) where
+module _ {S : Type 0} (meaning : Meaning S) where
   abbrev Fact : History → Address → Core S → Type 0
-  Fact h p c = MemberFact opening apply decode is_state h p c
+  Fact h p c = MemberFact meaning h p c
 
   -- the act keeps the invariant
-  pub creates-keep : (s : System S) (c : Core S) → Invariant opening apply encode decode is_state s → Fact s.history c.me c → MayCreate c
-      → Invariant opening apply encode decode is_state (acted apply encode decode s c.me Creates c)
+  pub creates-keep : (s : System S) (c : Core S) → Invariant meaning s → Fact s.history c.me c → MayCreate c → Invariant meaning (acted meaning s c.me Creates c)
   creates-keep s c inv x a =
       let h = s.history in
       let t = h.trace in
@@ -67,12 +67,12 @@ module _ {S : Type 0} (opening : S) (apply : S → Address → List ℕ → S) (
       let outside : current_view p t ≡ None = x.seat.current ∙ ap id_of a.outside in
       let alone : stands_in p (p ∷ []) ≡ true = or_left (same_address p p) false (same_address-refl p) in
       let above : EntersAbove t i = record { inside = alone; previous = sym outside; rises = λ v e. absurd (none-some v e) } in
-      let none : entry_of p w t ≡ None = none-of (entry_of p w t) (not-entered t i (views-of opening apply decode h inv.trace) above) in
+      let none : entry_of p w t ≡ None = none-of (entry_of p w t) (not-entered t i (views-of meaning h inv.trace) above) in
       let goes : goes_from k w p ≡ Some None = coordinator-goes k w p i (same_address-refl p) (entry-now h i none) in
       let past : (u : ViewId) → IsNotPast c.promise u → ⊥ = λ u y. subst (λ (o : Option View). IsNotPast o u) a.unpromised y in
-      subst (λ (u : List Happening). Invariant opening apply encode decode is_state (record { running = put p (Some (gone_into (lone_view p) c.state [] c)) s.running; history = record { pool = h.pool ++ []; trace = t ++ u } }))
+      subst (λ (u : List Event). Invariant meaning (record { running = put p (Some (gone_into (lone_view p) c.state [] c)) s.running; history = record { pool = h.pool ++ []; trace = t ++ u } }))
       (sym (entering-lone c a.outside))
-      (made opening apply encode decode is_state s c h [] i c.state [] inv (quiet-refl opening apply encode decode is_state p h inv.trace) refl (record {
+      (made meaning s c h [] i c.state [] inv (quiet-refl meaning p h inv.trace) refl (record {
         itself = refl;
         may = record {
           mine = refl;

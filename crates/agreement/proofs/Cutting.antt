@@ -12,7 +12,7 @@ use Rattle.wire.specs.Values as wire
 use Rattle.flush.specs.Cuts.{greatest_stable, IsCut}
 use Rattle.flush.specs.Flushes.{FlushModel, comes_from, group}
 use Rattle.flush.proofs.Covers.{first-stands, none-gives, stable-le, greatest-le}
-use Rattle.trace_props.specs.declared.happening.Happening.{Happening}
+use Rattle.trace_props.specs.declared.event.Event.{Event}
 use Rattle.trace_props.proofs.Observing.{same_view_id-true}
 use Rattle.agreement.specs.Histories.{History, report_of}
 use Rattle.agreement.specs.Cores.{Traffic, report_with}
@@ -29,7 +29,7 @@ option_eq-some None v e = absurd (let n : false ≡ true = e in cc)
 option_eq-some (Some u) v e = ap Some (same_view_id-true u v e)
 
 -- a report from a view, by somebody, that tells of it
-pub record IsReportFrom (t : List Happening) (v : ViewId) (r : Report) : Type 0 where
+pub record IsReportFrom (t : List Event) (v : ViewId) (r : Report) : Type 0 where
   pub reporter : Address
   pub tells : TellsOf t reporter r v
 
@@ -69,7 +69,7 @@ group-real h p w mine reports v each own recorded k r at =
 
 -- ---- the cut
 
-reaches : (b : Bool) (t : List Happening) (v : ViewId) (rs : List Report) (base : ℕ) (items : List Entry) (k : ℕ) (r : Report) → nat_lt (base + length items) r.delivered ≡ b
+reaches : (b : Bool) (t : List Event) (v : ViewId) (rs : List Report) (base : ℕ) (items : List Entry) (k : ℕ) (r : Report) → nat_lt (base + length items) r.delivered ≡ b
     → IsCut rs base items → slice_get rs k ≡ Some r → IsReportFrom t v r → r.delivered ≤ base + length items
 reaches false t v rs base items k r test cut at x = grind (arith, nat_tests)
 reaches true t v rs base items k r test cut at x =
@@ -81,7 +81,7 @@ reaches true t v rs base items k r test cut at x =
     absurd (let n : false ≡ true = sym (ap is_some gone) ∙ there in cc)
 
 -- a cut of real reports from a view is a cut of its order for each of them
-pub cut-real : (t : List Happening) (v : ViewId) (rs : List Report) (base : ℕ) (items : List Entry) → ((k : ℕ) (r : Report) → slice_get rs k ≡ Some r → IsReportFrom t v r) → IsCut rs base items
+pub cut-real : (t : List Event) (v : ViewId) (rs : List Report) (base : ℕ) (items : List Entry) → ((k : ℕ) (r : Report) → slice_get rs k ≡ Some r → IsReportFrom t v r) → IsCut rs base items
     → (k : ℕ) (r : Report) → slice_get rs k ≡ Some r → IsCutOf t base items r v
 cut-real t v rs base items real cut k r at =
     let x = real k r at in

@@ -9,13 +9,14 @@ use Rattle.std.proofs.lemmas.List.{append-nil, append_assoc, length_push}
 use Rattle.std.proofs.lemmas.List.Sums.{fold-append}
 use Rattle.address.specs.Ids.{Address, ViewId, IsAddress, same_address}
 use Rattle.view.specs.Members.{View}
-use Rattle.packet_values.specs.declared.limits.TheConstants.{PAYLOAD}
+use Rattle.limits.specs.declared.TheConstants.{PAYLOAD}
 use Rattle.packet_values.specs.Values.{Entry, held_at}
-use Rattle.trace_props.specs.declared.happening.Happening.{Happening}
-use Rattle.trace_props.specs.declared.happening.Happening.TheVariants.{Delivered}
-use Rattle.trace_props.specs.declared.happening.Delivery.{Delivery}
-use Rattle.trace_props.specs.declared.happening.Message.{Message}
-use Rattle.trace_props.specs.declared.happening.Numbered.{Numbered}
+use Rattle.state_transfer.specs.Meanings.{Meaning}
+use Rattle.trace_props.specs.declared.event.Event.{Event}
+use Rattle.trace_props.specs.declared.event.Event.TheVariants.{Delivered}
+use Rattle.trace_props.specs.declared.event.Delivery.{Delivery}
+use Rattle.trace_props.specs.declared.event.Message.{Message}
+use Rattle.trace_props.specs.declared.event.Numbered.{Numbered}
 use Rattle.trace_props.specs.Observed.{has_started, delivered_in, sent_in, own, numbered}
 use Rattle.trace_props.specs.Verdicts.{GoesOn}
 use Rattle.trace_props.proofs.Observing.{same_address-true, same_address-refl, has_started-stays, has_ended-still, current_view-push, is_blocked-push}
@@ -33,7 +34,7 @@ use Rattle.agreement.specs.Invariant.{TraceFact, Invariant}
 use Rattle.agreement.proofs.Words.{list_of-hit, tally_of-push}
 use Rattle.agreement.proofs.Others.{inside-later, window-later, acks-later, waiting-later, first-entered}
 use Rattle.agreement.proofs.Moving.{moved}
-use Rattle.agreement.proofs.Quiet.{quiet-happening, quiet-moves, grown-trace}
+use Rattle.agreement.proofs.Quiet.{quiet-event, quiet-moves, grown-trace}
 use Rattle.agreement.proofs.Lists.{slice_get-right}
 use Rattle.agreement.proofs.Traces.{rules-of}
 use Rattle.agreement.proofs.Starting.{nobody}
@@ -61,7 +62,7 @@ own-by false p told sent rest m test is next =
     is ∙ ap (λ l. l ++ rest) (sym (own-miss p told m test)) ∙ ap (λ l. own p (told ++ m ∷ []) ++ drop (length l) rest) (sym none)
 
 -- what a member is told next, if it is its own, is the first that is outstanding: what it sent is still its own messages and then the rest
-pub own-next : (t : List Happening) (p : Address) (v : ViewId) (rest : List Numbered) (e : Entry) → sent_in p v t ≡ own p (delivered_in p v t) ++ rest → IsNext t p v (message_for e)
+pub own-next : (t : List Event) (p : Address) (v : ViewId) (rest : List Numbered) (e : Entry) → sent_in p v t ≡ own p (delivered_in p v t) ++ rest → IsNext t p v (message_for e)
     → sent_in p v t ≡ own p (delivered_in p v t ++ message_for e ∷ []) ++ left_of p (e ∷ []) rest
 own-next t p v rest e is next =
     own-by (same_address e.sender p) p (delivered_in p v t) (sent_in p v t) rest (message_for e) refl is
@@ -69,48 +70,48 @@ own-next t p v rest e is next =
 
 -- ---- who sent has started
 
-pub sender-started : {S : Type 0} (opening : S) (apply : S → Address → List ℕ → S) (decode : List ℕ → Option S) (h : History) (p : Address) (v : ViewId) (k : ℕ) (m : Numbered)
-    → TraceFact opening apply decode h → slice_get (sent_in p v h.trace) k ≡ Some m → has_started p h.trace ≡ true
-sender-started opening apply decode h p v k m trace at = by (has_started p h.trace) refl
+pub sender-started : {S : Type 0} (meaning : Meaning S) (h : History) (p : Address) (v : ViewId) (k : ℕ) (m : Numbered)
+    → TraceFact meaning h → slice_get (sent_in p v h.trace) k ≡ Some m → has_started p h.trace ≡ true
+sender-started meaning h p v k m trace at = by (has_started p h.trace) refl
   where
     by : (b : Bool) → has_started p h.trace ≡ b → has_started p h.trace ≡ true
     by true e = e
     by false e =
-        let none = (nobody opening apply decode p h.trace (rules-of opening apply decode h trace).ordered.placed e).silent v in
+        let none = (nobody meaning p h.trace (rules-of meaning h trace).ordered.placed e).silent v in
         absurd (none-some m (sym (ap (λ l. slice_get l k) none) ∙ at))
 
 -- so the state after a message that is told next is one that a receiver can be in
-pub next-state : {S : Type 0} (opening : S) (apply : S → Address → List ℕ → S) (decode : List ℕ → Option S) (is_state : S → Type 0) (h : History) (p : Address) (v : ViewId) (e : Entry) (s : S)
-    → ((z : S) (from : Address) (payload : List ℕ) → is_state z → IsAddress from → length payload ≤ PAYLOAD → is_state (apply z from payload))
-    → TraceFact opening apply decode h → IsNext h.trace p v (message_for e) → is_state s → is_state (apply s e.sender e.payload)
-next-state opening apply decode is_state h p v e s law trace next is =
-    law s e.sender e.payload is (trace.proper e.sender (sender-started opening apply decode h e.sender v _ _ trace next.sent)) (trace.short e.sender v _ _ next.sent)
+pub next-state : {S : Type 0} (meaning : Meaning S) (h : History) (p : Address) (v : ViewId) (e : Entry) (s : S)
+    → ((z : S) (from : Address) (payload : List ℕ) → meaning.is_state z → IsAddress from → length payload ≤ PAYLOAD → meaning.is_state (meaning.apply z from payload))
+    → TraceFact meaning h → IsNext h.trace p v (message_for e) → meaning.is_state s → meaning.is_state (meaning.apply s e.sender e.payload)
+next-state meaning h p v e s law trace next is =
+    law s e.sender e.payload is (trace.proper e.sender (sender-started meaning h e.sender v _ _ trace next.sent)) (trace.short e.sender v _ _ next.sent)
 
 -- one entry more is applied
-pub state_with-more : {S : Type 0} (opening : S) (apply : S → Address → List ℕ → S) (decode : List ℕ → Option S) (v : ViewId) (entries : List Entry) (e : Entry) (t : List Happening) (s : S)
-    → state_with opening apply decode v entries t ≡ Some s → state_with opening apply decode v (entries ++ e ∷ []) t ≡ Some (applied apply s (e ∷ []))
-state_with-more {S} opening apply decode v entries e t s is = by (entry_state opening apply decode v t) is
+pub state_with-more : {S : Type 0} (meaning : Meaning S) (v : ViewId) (entries : List Entry) (e : Entry) (t : List Event) (s : S)
+    → state_with meaning v entries t ≡ Some s → state_with meaning v (entries ++ e ∷ []) t ≡ Some (applied meaning s (e ∷ []))
+state_with-more {S} meaning v entries e t s is = by (entry_state meaning v t) is
   where
-    by : (o : Option S) → option_map (λ z. applied apply z entries) o ≡ Some s → option_map (λ z. applied apply z (entries ++ e ∷ [])) o ≡ Some (applied apply s (e ∷ []))
+    by : (o : Option S) → option_map (λ z. applied meaning z entries) o ≡ Some s → option_map (λ z. applied meaning z (entries ++ e ∷ [])) o ≡ Some (applied meaning s (e ∷ []))
     by None x = absurd (none-some s x)
     by (Some z) x =
-        ap Some (fold-append (λ y (w : Entry). apply y w.sender w.payload) z entries (e ∷ []) ∙ ap (λ y. apply y e.sender e.payload) (same_Some (applied apply z entries) s x))
+        ap Some (fold-append (λ y (w : Entry). meaning.apply y w.sender w.payload) z entries (e ∷ []) ∙ ap (λ y. meaning.apply y e.sender e.payload) (same_Some (applied meaning z entries) s x))
 
 -- ---- the act
 
-module _ {S : Type 0} (opening : S) (apply : S → Address → List ℕ → S) (encode : S → List ℕ) (decode : List ℕ → Option S) (is_state : S → Type 0) where
+module _ {S : Type 0} (meaning : Meaning S) where
   abbrev Fact : History → Address → Core S → Type 0
-  Fact h p c = MemberFact opening apply decode is_state h p c
+  Fact h p c = MemberFact meaning h p c
 
   abbrev delivery_of : Core S → View → Entry → Delivery
   delivery_of c v e = record { member = c.me; view = v.id; message = message_for e }
 
   -- the core after it
   abbrev told_next : Core S → Entry → Core S
-  told_next c e = record c { traffic = told_more c.me (e ∷ []) c.traffic; state = applied apply c.state (e ∷ []) }
+  told_next c e = record c { traffic = told_more c.me (e ∷ []) c.traffic; state = applied meaning c.state (e ∷ []) }
 
   delivers-goes : (h : History) (c : Core S) (v : View) (e : Entry) → c.view ≡ Some v → Fact h c.me c → IsNext h.trace c.me v.id (message_for e)
-      → GoesOn opening apply decode h.trace (Delivered (delivery_of c v e))
+      → GoesOn meaning h.trace (Delivered (delivery_of c v e))
   delivers-goes h c v e is x next = record {
     seven = (tt, (tt, (tt, ((λ other. next.order), ((next.number, next.sent), (tt, ((x.seat.running, x.seat.current ∙ ap id_of is), tt)))))));
     enters = tt;
@@ -124,9 +125,9 @@ module _ {S : Type 0} (opening : S) (apply : S → Address → List ℕ → S) (
           let same : t.delivered + 1 ≡ g = grind (arith, nat_tests) in ap (λ n. is_some (held_at n t.held)) (sym same) ∙ ap is_some at
       by false test = all g past (grind (arith, nat_tests))
 
-  pub delivers-keep : (s : System S) (c : Core S) (v : View) (e : Entry) → ((z : S) (from : Address) (payload : List ℕ) → is_state z → IsAddress from → length payload ≤ PAYLOAD → is_state (apply z from payload))
-      → Invariant opening apply encode decode is_state s → Fact s.history c.me c → MayDeliver c v e
-      → Invariant opening apply encode decode is_state (record { running = put c.me (Some (told_next c e)) s.running; history = grown s.history [] (Delivered (delivery_of c v e) ∷ []) })
+  pub delivers-keep : (s : System S) (c : Core S) (v : View) (e : Entry) → ((z : S) (from : Address) (payload : List ℕ) → meaning.is_state z → IsAddress from → length payload ≤ PAYLOAD → meaning.is_state (meaning.apply z from payload))
+      → Invariant meaning s → Fact s.history c.me c → MayDeliver c v e
+      → Invariant meaning (record { running = put c.me (Some (told_next c e)) s.running; history = grown s.history [] (Delivered (delivery_of c v e) ∷ []) })
   delivers-keep s c v e law i x a =
       let h = s.history in
       let t = h.trace in
@@ -136,9 +137,9 @@ module _ {S : Type 0} (opening : S) (apply : S → Address → List ℕ → S) (
       let k : History = record { pool = h.pool; trace = t ++ happened ∷ [] } in
       let f = x.view v a.open_in.view in
       let d = c.traffic.delivered in
-      let rules = rules-of opening apply decode h i.trace in
+      let rules = rules-of meaning h i.trace in
       let next = next-of-order t me v.id e d rules.ordered.messages rules.ordered.order f.counts.told (f.window.order (d + 1) e a.next d refl) in
-      let quiet = quiet-happening opening apply encode decode is_state me h happened refl refl i.trace (delivers-goes h c v e a.open_in.view x next) tt in
+      let quiet = quiet-event meaning me h happened refl refl i.trace (delivers-goes h c v e a.open_in.view x next) tt in
       let m = quiet.later in
       let told = delivered_in-hit me v.id t y (told_to-at y) in
       let list = list_of-hit me v.id t y (told_to-at y) in
@@ -178,19 +179,19 @@ module _ {S : Type 0} (opening : S) (apply : S → Address → List ℕ → S) (
         flush = λ g z. absurd (let n : true ≡ false = sym a.open_in.installed ∙ (x.flush g z).waits in cc);
         view = λ u z. subst (λ (w : View). ViewFact k me c.installed (told_more me (e ∷ []) c.traffic) c.kept w) (same_Some v u (sym a.open_in.view ∙ z)) fact;
         state = record {
-          now = state_of-push opening apply decode me t happened
-              ∙ cond-true (same_address me me) (apply (state_of opening apply decode me t) e.sender e.payload) (state_of opening apply decode me t) (same_address-refl me)
-              ∙ ap (λ z. apply z e.sender e.payload) x.state.now;
-          is = next-state opening apply decode is_state h me v.id e c.state law i.trace next x.state.is;
+          now = state_of-push meaning me t happened
+              ∙ cond-true (same_address me me) (meaning.apply (state_of meaning me t) e.sender e.payload) (state_of meaning me t) (same_address-refl me)
+              ∙ ap (λ z. meaning.apply z e.sender e.payload) x.state.now;
+          is = next-state meaning h me v.id e c.state law i.trace next x.state.is;
           in_view = λ u z.
-              subst (λ (w : View). state_with opening apply decode w.id (list_of me w.id k.trace) k.trace ≡ Some (applied apply c.state (e ∷ []))) (same_Some v u (sym a.open_in.view ∙ z))
-              (ap (λ l. state_with opening apply decode v.id l k.trace) list
+              subst (λ (w : View). state_with meaning w.id (list_of me w.id k.trace) k.trace ≡ Some (applied meaning c.state (e ∷ []))) (same_Some v u (sym a.open_in.view ∙ z))
+              (ap (λ l. state_with meaning v.id l k.trace) list
               ∙ ap (option_map _) (quiet.begun v.id)
-              ∙ state_with-more opening apply decode v.id (list_of me v.id t) e t c.state (x.state.in_view v a.open_in.view));
+              ∙ state_with-more meaning v.id (list_of me v.id t) e t c.state (x.state.in_view v a.open_in.view));
         };
       } in
-      subst (λ (l : History). Invariant opening apply encode decode is_state (record { running = put me (Some (told_next c e)) s.running; history = l }))
-      (sym (grown-trace opening apply encode decode is_state h (happened ∷ [])))
-      (moved opening apply encode decode is_state s me k (Some (told_next c e)) i
-      (quiet-moves opening apply encode decode is_state s me k [] (Some (told_next c e)) i quiet (sym (append-nil h.pool)) (λ n z at. absurd (none-some z at))
+      subst (λ (l : History). Invariant meaning (record { running = put me (Some (told_next c e)) s.running; history = l }))
+      (sym (grown-trace meaning h (happened ∷ [])))
+      (moved meaning s me k (Some (told_next c e)) i
+      (quiet-moves meaning s me k [] (Some (told_next c e)) i quiet (sym (append-nil h.pool)) (λ n z at. absurd (none-some z at))
       (λ g z. subst (λ (w : Core S). Fact k me w) (same_Some (told_next c e) g z) new)))

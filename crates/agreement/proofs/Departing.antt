@@ -1,5 +1,5 @@
 -- The coordinator of a flush goes from its view into its proposal: its install may follow.
-use Rattle.std.proofs.Common.{◌≡◌, ℕ, Bool, true, false, Option, Some, None, List, [], ◌++◌, length, drop, filter, refl, sym, ap, ◌∙◌, subst, MatchOption}
+use Rattle.std.proofs.Common.{◌≡◌, Bool, true, false, Option, Some, None, List, [], ◌++◌, length, drop, filter, refl, sym, ap, ◌∙◌, subst, MatchOption}
 use Rattle.std.specs.Prelude.{MatchBool}
 use Rattle.std.specs.Option.{ForSome, IsSomeAnd, option_map_or}
 use Rattle.std.proofs.lemmas.Option.{same_Some}
@@ -10,15 +10,16 @@ use Rattle.packet_values.specs.Values.{Entry}
 use Rattle.wire.specs.Values.{Report}
 use Rattle.wire.specs.Values as wire
 use Rattle.flush.specs.Flushes.{FlushModel, report_from, comes_from, has_come_from, together_of}
-use Rattle.trace_props.specs.declared.happening.Happening.{Happening}
-use Rattle.trace_props.specs.declared.happening.Install.{Install}
-use Rattle.trace_props.specs.declared.happening.Numbered.{Numbered}
+use Rattle.trace_props.specs.declared.event.Event.{Event}
+use Rattle.trace_props.specs.declared.event.Install.{Install}
+use Rattle.trace_props.specs.declared.event.Numbered.{Numbered}
 use Rattle.trace_props.specs.Observed.{delivered_in, sent_in, own, entry_of, first_install}
 use Rattle.trace_props.specs.Rules.{IsBelow, EntersAbove, HasRisingViews}
 use Rattle.trace_props.proofs.Observing.{same_address-true, same_view_id-true}
 use Rattle.trace_props.proofs.Telling.{enters, register-stands}
 use Rattle.trace_props.proofs.Standing.{not-entered}
 use Rattle.std.proofs.lemmas.Bool.{and_parts}
+use Rattle.state_transfer.specs.Meanings.{Meaning}
 use Rattle.agreement.specs.Words.{members_of}
 use Rattle.agreement.specs.Histories.{History, report_of}
 use Rattle.agreement.specs.Cores.{Traffic, Core, id_of, left_of, report_with}
@@ -61,7 +62,7 @@ reports-tell h p q promise view traffic kept f r u each runs inside said from =
     tell-by (same_address y.it.0 p) h p q f.proposal (report_with view traffic) r y.it u refl each (tells h p view traffic kept inside) (runs.recorded y.place y.it y.stands) y.reporter y.report from
 
 -- who comes from a view is a member of it, as all have installed it
-first-members : (t : List Happening) (u : ViewId) (g : Install) (q : Address) → HasRisingViews t → first_install u t ≡ Some g → stands_in q (members_of u t) ≡ true → stands_in q g.view.members ≡ true
+first-members : (t : List Event) (u : ViewId) (g : Install) (q : Address) → HasRisingViews t → first_install u t ≡ Some g → stands_in q (members_of u t) ≡ true → stands_in q g.view.members ≡ true
 first-members t u g q views first there =
     let e = found (entry_of u.creator u t) (members-entered q u t there) in
     let a = register-stands (λ i. same_view_id i.view.id u) t g first in
@@ -80,7 +81,7 @@ came-by None v e = absurd (let n : false ≡ true = e in cc)
 came-by (Some r) v e = (r, refl, same-previous r.previous v e)
 
 -- what is handed back is what was not told of what was sent
-back-by : (o : Option View) (t : List Happening) (p : Address) (rest : List Numbered) (entries : List Entry) → ((v : View) → o ≡ Some v → sent_in p v.id t ≡ own p (delivered_in p v.id t) ++ left_of p entries rest)
+back-by : (o : Option View) (t : List Event) (p : Address) (rest : List Numbered) (entries : List Entry) → ((v : View) → o ≡ Some v → sent_in p v.id t ≡ own p (delivered_in p v.id t) ++ left_of p entries rest)
     → MatchOption (id_of o) (option_map_or (λ v. left_of p entries rest) o [] ≡ [])
     (λ v. option_map_or (λ v. left_of p entries rest) o [] ≡ drop (length (own p (delivered_in p v t))) (sent_in p v t))
 back-by None t p rest entries sent = refl
@@ -104,9 +105,9 @@ maker_install c v f cuts = record {
   given = None;
 }
 
-module _ {S : Type 0} (opening : S) (apply : S → Address → List ℕ → S) (encode : S → List ℕ) (decode : List ℕ → Option S) (is_state : S → Type 0) where
+module _ {S : Type 0} (meaning : Meaning S) where
   abbrev Fact : History → Address → Core S → Type 0
-  Fact h p c = MemberFact opening apply decode is_state h p c
+  Fact h p c = MemberFact meaning h p c
 
   -- what holds while its flush runs
   pub record IsReady (h : History) (c : Core S) (v : View) (f : FlushModel) (cuts : Cuts) : Type 0 where
@@ -130,8 +131,8 @@ module _ {S : Type 0} (opening : S) (apply : S → Address → List ℕ → S) (
       }
 
   -- nobody has installed the proposal, and its coordinator may
-  pub departs : (s : System S) (h : History) (c : Core S) (v : View) (f : FlushModel) (cuts : Cuts) → Invariant opening apply encode decode is_state s → MayFinish c v f cuts
-      → IsReady s.history c v f cuts → GoesOut opening apply encode decode is_state s.history h c (last_entries c v cuts) → MayMake h.trace (maker_install c v f cuts)
+  pub departs : (s : System S) (h : History) (c : Core S) (v : View) (f : FlushModel) (cuts : Cuts) → Invariant meaning s → MayFinish c v f cuts
+      → IsReady s.history c v f cuts → GoesOut meaning s.history h c (last_entries c v cuts) → MayMake h.trace (maker_install c v f cuts)
   departs s h c v f cuts inv a x out =
       let old = s.history in
       let t = h.trace in
@@ -140,7 +141,7 @@ module _ {S : Type 0} (opening : S) (apply : S → Address → List ℕ → S) (
       let i = maker_install c v f cuts in
       let mine = report_with c.view c.traffic in
       let runs = x.runs in
-      let views = views-of opening apply decode h out.quiet.trace in
+      let views = views-of meaning h out.quiet.trace in
       let listed : stands_in p f.members ≡ true = ap (λ z. stands_in z f.members) (sym runs.own) ∙ coordinator-in w f.members runs.list in
       let above : EntersAbove t i = record {
         inside = listed;

@@ -11,9 +11,10 @@ use Rattle.packet_values.specs.Values.{Entry}
 use Rattle.wire.specs.Values.{Report}
 use Rattle.wire.specs.Values as wire
 use Rattle.wire.specs.declared.packet.Body.TheVariants as bodies
-use Rattle.trace_props.specs.declared.happening.Happening.{Happening}
-use Rattle.trace_props.specs.declared.happening.Happening.TheVariants.{Installed}
-use Rattle.trace_props.specs.declared.happening.Numbered.{Numbered}
+use Rattle.state_transfer.specs.Meanings.{Meaning}
+use Rattle.trace_props.specs.declared.event.Event.{Event}
+use Rattle.trace_props.specs.declared.event.Event.TheVariants.{Installed}
+use Rattle.trace_props.specs.declared.event.Numbered.{Numbered}
 use Rattle.trace_props.specs.Observed.{delivered_in, sent_in, own}
 use Rattle.trace_props.specs.Rules.{IsBelow}
 use Rattle.trace_props.specs.State.{entry_state}
@@ -25,9 +26,9 @@ use Rattle.agreement.specs.Steps.{System, put, came_of, acted}
 use Rattle.agreement.specs.Packets.{end_of, IsCutOf, IsFitting, IsInstruction, state_with}
 use Rattle.agreement.specs.Members.{LiesBelow, MemberFact}
 use Rattle.agreement.specs.Invariant.{Invariant}
-use Rattle.agreement.proofs.Growing.{later-trans, later-happening}
+use Rattle.agreement.proofs.Growing.{later-trans, later-event}
 use Rattle.agreement.proofs.Staying.{instruction-later}
-use Rattle.agreement.proofs.Others.{only-trans, only-happening}
+use Rattle.agreement.proofs.Others.{only-trans, only-event}
 use Rattle.agreement.proofs.Traces.{views-of, stands-of, trace-push, only-state, only_state-trans}
 use Rattle.agreement.proofs.Moving.{packets-later, entries-later, states-later, Moves, moved}
 use Rattle.agreement.proofs.Quiet.{grown-trace}
@@ -51,20 +52,20 @@ match-id A P (Some u) none some = some u refl
 -- ---- states
 
 -- more entries are applied
-pub state_with-append : {S : Type 0} (opening : S) (apply : S → Address → List ℕ → S) (decode : List ℕ → Option S) (v : ViewId) (entries more : List Entry) (t : List Happening) (s : S)
-    → state_with opening apply decode v entries t ≡ Some s → state_with opening apply decode v (entries ++ more) t ≡ Some (applied apply s more)
-state_with-append {S} opening apply decode v entries more t s is = by (entry_state opening apply decode v t) is
+pub state_with-append : {S : Type 0} (meaning : Meaning S) (v : ViewId) (entries more : List Entry) (t : List Event) (s : S)
+    → state_with meaning v entries t ≡ Some s → state_with meaning v (entries ++ more) t ≡ Some (applied meaning s more)
+state_with-append {S} meaning v entries more t s is = by (entry_state meaning v t) is
   where
-    by : (o : Option S) → option_map (λ z. applied apply z entries) o ≡ Some s → option_map (λ z. applied apply z (entries ++ more)) o ≡ Some (applied apply s more)
+    by : (o : Option S) → option_map (λ z. applied meaning z entries) o ≡ Some s → option_map (λ z. applied meaning z (entries ++ more)) o ≡ Some (applied meaning s more)
     by None x = absurd (none-some s x)
     by (Some z) x =
-        ap Some (fold-append (λ y (w : Entry). apply y w.sender w.payload) z entries more ∙ ap (λ y. applied apply y more) (same_Some (applied apply z entries) s x))
+        ap Some (fold-append (λ y (w : Entry). meaning.apply y w.sender w.payload) z entries more ∙ ap (λ y. applied meaning y more) (same_Some (applied meaning z entries) s x))
 
 -- ---- the act
 
-module _ {S : Type 0} (opening : S) (apply : S → Address → List ℕ → S) (encode : S → List ℕ) (decode : List ℕ → Option S) (is_state : S → Type 0) where
+module _ {S : Type 0} (meaning : Meaning S) where
   abbrev Fact : History → Address → Core S → Type 0
-  Fact h p c = MemberFact opening apply decode is_state h p c
+  Fact h p c = MemberFact meaning h p c
 
   -- what is told
   abbrev last_told : Core S → wire.Install → List Entry
@@ -101,10 +102,10 @@ module _ {S : Type 0} (opening : S) (apply : S → Address → List ℕ → S) (
       ∙ undelivered-end c.traffic.delivered i.base i.items cut.low cut.high
 
   -- once it was told its last entries it is ready
-  ready : (s : System S) (c : Core S) (i : wire.Install) (k : History) → Invariant opening apply encode decode is_state s → Fact s.history c.me c
+  ready : (s : System S) (c : Core S) (i : wire.Install) (k : History) → Invariant meaning s → Fact s.history c.me c
       → IsInstruction s.history i.view.id.creator c.me i → c.promise ≡ Some i.view → c.installed ≡ false → report_of c.me i.view.id s.history.pool ≡ Some (mine_of c)
-      → GoesOut opening apply encode decode is_state s.history k c (last_told c i) → k.pool ≡ s.history.pool → ForSome i.state (λ bytes. IsSome (decode bytes))
-      → IsReady opening apply encode decode is_state k c.me i (mine_of c) (left_back c i) (applied apply c.state (last_told c i))
+      → GoesOut meaning s.history k c (last_told c i) → k.pool ≡ s.history.pool → ForSome i.state (λ bytes. IsSome (meaning.decode bytes))
+      → IsReady meaning k c.me i (mine_of c) (left_back c i) (applied meaning c.state (last_told c i))
   ready s c i k inv x told promised waiting report out pool readable =
       let h = s.history in
       let p = c.me in
@@ -114,7 +115,7 @@ module _ {S : Type 0} (opening : S) (apply : S → Address → List ℕ → S) (
         trace = quiet.trace;
         packets = packets-later h k [] quiet.later (pool ∙ sym (append-nil h.pool)) inv.packets (λ n z at. absurd (none-some z at));
         entries = entries-later h k quiet.later quiet.none inv.entries;
-        states = states-later opening apply encode decode is_state h k quiet.later quiet.begun quiet.none inv.packets inv.states;
+        states = states-later meaning h k quiet.later quiet.begun quiet.none inv.packets inv.states;
         running = out.running;
         current = out.current;
         rises = for-id (λ v. IsBelow v i.view.id) c.view (λ v e. subst (λ (o : Option View). IsSomeAnd o (λ w. IsBelow v.id w.id)) promised (x.promise.above waiting v e));
@@ -126,60 +127,60 @@ module _ {S : Type 0} (opening : S) (apply : S → Address → List ℕ → S) (
             (λ v e. (out.view v e).sent
             ∙ ap (λ (l : List Numbered). own p (delivered_in p v.id k.trace) ++ l) (sym (ap (λ o. option_map_or (λ (u : View). left_of p (last_told c i) c.traffic.outstanding) o []) e)));
         now = out.state;
-        in_view = for-id (λ v. state_with opening apply decode v (list_of p v k.trace) k.trace ≡ Some (applied apply c.state (last_told c i))) c.view (λ v e.
-            ap (λ l. state_with opening apply decode v.id l k.trace) (out.view v e).list
+        in_view = for-id (λ v. state_with meaning v (list_of p v k.trace) k.trace ≡ Some (applied meaning c.state (last_told c i))) c.view (λ v e.
+            ap (λ l. state_with meaning v.id l k.trace) (out.view v e).list
             ∙ ap (option_map _) (quiet.begun v.id)
-            ∙ state_with-append opening apply decode v.id (list_of p v.id h.trace) (last_told c i) h.trace c.state (x.state.in_view v e));
+            ∙ state_with-append meaning v.id (list_of p v.id h.trace) (last_told c i) h.trace c.state (x.state.in_view v e));
         readable = readable;
       }
 
   -- what is new of the history, and of the member
-  enters-moves : (s : System S) (c : Core S) (i : wire.Install) (k : History) → ((y : S) → is_state y → decode (encode y) ≡ Some y) → Invariant opening apply encode decode is_state s
+  enters-moves : (s : System S) (c : Core S) (i : wire.Install) (k : History) → ((y : S) → meaning.is_state y → meaning.decode (meaning.encode y) ≡ Some y) → Invariant meaning s
       → Fact s.history c.me c → c.promise ≡ Some i.view → same_address i.view.id.creator c.me ≡ false
-      → GoesOut opening apply encode decode is_state s.history k c (last_told c i) → k.pool ≡ s.history.pool
-      → IsReady opening apply encode decode is_state k c.me i (mine_of c) (left_back c i) (applied apply c.state (last_told c i))
-      → Moves opening apply encode decode is_state c.me s.history (installed_on k (going c.me i (id_of c.view) (left_back c i)))
-      (Some (gone_into i.view (state_into apply decode c (last_told c i) i.state) [] c))
+      → GoesOut meaning s.history k c (last_told c i) → k.pool ≡ s.history.pool
+      → IsReady meaning k c.me i (mine_of c) (left_back c i) (applied meaning c.state (last_told c i))
+      → Moves meaning c.me s.history (installed_on k (going c.me i (id_of c.view) (left_back c i)))
+      (Some (gone_into i.view (state_into meaning c (last_told c i) i.state) [] c))
   enters-moves s c i k reads inv x promised other out pool y =
       let h = s.history in
       let p = c.me in
       let r = mine_of c in
       let back = left_back c i in
-      let st = applied apply c.state (last_told c i) in
+      let st = applied meaning c.state (last_told c i) in
       let mine = going p i (id_of c.view) back in
       let z = installed_on k mine in
-      let goes = install-goes opening apply encode decode is_state k p i r back st y reads in
-      let m = later-happening k (Installed mine) (views-of opening apply decode k y.trace) (stands-of opening apply decode k.trace (Installed mine) goes) in
-      let none = not-yet opening apply encode decode is_state k p i r back st y in
+      let goes = install-goes meaning k p i r back st y reads in
+      let m = later-event k (Installed mine) (views-of meaning k y.trace) (stands-of meaning k.trace (Installed mine) goes) in
+      let none = not-yet meaning k p i r back st y in
       let coordinator = y.instruction.other in
       record {
         later = later-trans h k z out.quiet.later m;
-        only = only-trans p h k z out.quiet.only (only-happening p k (Installed mine) refl);
-        state = only_state-trans opening apply decode p h.trace k.trace z.trace out.quiet.state (only-state opening apply decode p k.trace (Installed mine) refl);
-        trace = trace-push opening apply decode k (Installed mine) y.trace goes tt;
+        only = only-trans p h k z out.quiet.only (only-event p k (Installed mine) refl);
+        state = only_state-trans meaning p h.trace k.trace z.trace out.quiet.state (only-state meaning p k.trace (Installed mine) refl);
+        trace = trace-push meaning k (Installed mine) y.trace goes tt;
         packets = packets-later k z [] m (sym (append-nil k.pool)) y.packets (λ n q at. absurd (none-some q at));
-        entries = entries-installed k mine m y.entries none (install-entry opening apply encode decode is_state k p i r back st y m);
-        states = states-entered opening apply encode decode is_state k mine m coordinator y.packets y.states;
+        entries = entries-installed k mine m y.entries none (install-entry meaning k p i r back st y m);
+        states = states-entered meaning k mine m coordinator y.packets y.states;
         member = λ d e. subst (λ (w : Core S). Fact z p w) (same_Some _ d e)
-            (arrives opening apply decode is_state k c mine (state_into apply decode c (last_told c i) i.state) [] (record {
+            (arrives meaning k c mine (state_into meaning c (last_told c i) i.state) [] (record {
               itself = refl;
               before = y.trace.before;
               running = y.running;
               new = none;
               listed = y.instruction.listed;
-              first = same-view opening apply encode decode is_state k p i r back st y m;
+              first = same-view meaning k p i r back st y m;
               announced = λ o. ap (flush_of i.view.id) pool ∙ x.announced i.view promised o;
               below = subst (λ (o : Option View). LiesBelow k.pool p o) promised (subst (λ (l : List Posted). LiesBelow l p c.promise) (sym pool) x.below);
               keeps = λ q j there. absurd (none-some j there);
-              now = has-taken opening apply encode decode is_state k p i r back st y;
-              is = takes-state opening apply encode decode is_state k p i r back st y reads;
-              begins = begun-same opening apply encode decode is_state k mine coordinator i.view.id ∙ view-begins opening apply encode decode is_state k p i r back st y reads;
+              now = has-taken meaning k p i r back st y;
+              is = takes-state meaning k p i r back st y reads;
+              begins = begun-same meaning k mine coordinator i.view.id ∙ view-begins meaning k p i r back st y reads;
             }));
       }
 
-  pub enters-keep : (s : System S) (c : Core S) (which : Option ℕ) (i : wire.Install) → Law opening apply encode decode is_state → ((y : S) → is_state y → decode (encode y) ≡ Some y)
-      → Invariant opening apply encode decode is_state s → Fact s.history c.me c → MayEnter decode (came_of c s.history.pool which) c i
-      → Invariant opening apply encode decode is_state (acted apply encode decode s c.me (Enters i) c)
+  pub enters-keep : (s : System S) (c : Core S) (which : Option ℕ) (i : wire.Install) → Law meaning → ((y : S) → meaning.is_state y → meaning.decode (meaning.encode y) ≡ Some y)
+      → Invariant meaning s → Fact s.history c.me c → MayEnter meaning (came_of c s.history.pool which) c i
+      → Invariant meaning (acted meaning s c.me (Enters i) c)
   enters-keep s c which i law reads inv x a =
       let h = s.history in
       let p = c.me in
@@ -188,13 +189,13 @@ module _ {S : Type 0} (opening : S) (apply : S → Address → List ℕ → S) (
       let said = said-of h c which i.view.id.creator (bodies.Install i) inv.packets a.asked in
       let told : IsInstruction h i.view.id.creator p i = said.fact in
       let report : report_of p i.view.id h.pool ≡ Some (mine_of c) = x.reported a.waiting i.view a.promised said.other in
-      let out : GoesOut opening apply encode decode is_state h k c entries =
-      goes-out opening apply encode decode is_state h c entries law inv.trace x (follows h c i x (told.fits (mine_of c) report))
+      let out : GoesOut meaning h k c entries =
+      goes-out meaning h c entries law inv.trace x (follows h c i x (told.fits (mine_of c) report))
       (λ e. ap (λ o. option_map_or (λ (u : View). undelivered c.traffic.delivered i.base i.items) o []) e) in
       let y = ready s c i k inv x told a.promised a.waiting report out refl a.readable in
       let mine = going p i (id_of c.view) (left_back c i) in
-      subst (λ (l : History). Invariant opening apply encode decode is_state (record { running = put p (Some (gone_into i.view (state_into apply decode c entries i.state) [] c)) s.running; history = l }))
-      (sym (grown-trace opening apply encode decode is_state h (deliveries p c.view entries ++ Installed mine ∷ [])
-      ∙ ap {B = History} (λ (t : List Happening). record { pool = h.pool; trace = t }) (sym (append_assoc h.trace (deliveries p c.view entries) (Installed mine ∷ [])))))
-      (moved opening apply encode decode is_state s p (installed_on k mine) (Some (gone_into i.view (state_into apply decode c entries i.state) [] c)) inv
+      subst (λ (l : History). Invariant meaning (record { running = put p (Some (gone_into i.view (state_into meaning c entries i.state) [] c)) s.running; history = l }))
+      (sym (grown-trace meaning h (deliveries p c.view entries ++ Installed mine ∷ [])
+      ∙ ap {B = History} (λ (t : List Event). record { pool = h.pool; trace = t }) (sym (append_assoc h.trace (deliveries p c.view entries) (Installed mine ∷ [])))))
+      (moved meaning s p (installed_on k mine) (Some (gone_into i.view (state_into meaning c entries i.state) [] c)) inv
       (enters-moves s c i k reads inv x a.promised said.other out refl y))

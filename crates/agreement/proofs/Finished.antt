@@ -8,7 +8,7 @@ use Rattle.view.specs.Members.{View, stands_in}
 use Rattle.wire.specs.Values.{Report}
 use Rattle.wire.specs.Values as wire
 use Rattle.flush.specs.Flushes.{FlushModel, report_from, comes_from, has_come_from, group, together_of}
-use Rattle.trace_props.specs.declared.happening.Install.{Install}
+use Rattle.trace_props.specs.declared.event.Install.{Install}
 use Rattle.trace_props.specs.Observed.{entry_of}
 use Rattle.trace_props.proofs.Observing.{same_address-true, same_address-from}
 use Rattle.agreement.specs.Words.{list_of}

@@ -1,5 +1,5 @@
 -- A member makes a view: what its install keeps of the states, of what was put out, and of all others.
-use Rattle.std.proofs.Common.{◌≡◌, ℕ, Bool, true, false, cond, Option, Some, None, List, [], ◌∷◌, ◌++◌, filter, refl, sym, ap, ◌∙◌, subst, is_some, ◌⊎◌, inl, inr}
+use Rattle.std.proofs.Common.{◌≡◌, ℕ, Bool, true, false, cond, Some, None, List, [], ◌∷◌, ◌++◌, filter, refl, sym, ap, ◌∙◌, subst, is_some, ◌⊎◌, inl, inr}
 use Rattle.std.specs.Prelude.{slice_get}
 use Rattle.std.specs.Option.{option_map, option_or}
 use Rattle.std.proofs.lemmas.Bool.{and_right, cond-true}
@@ -8,9 +8,10 @@ use Rattle.std.proofs.lemmas.List.{append-nil}
 use Rattle.address.specs.Ids.{Address, ViewId, same_address, same_view_id}
 use Rattle.view.specs.Members.{stands_in}
 use Rattle.wire.specs.Values as wire
-use Rattle.trace_props.specs.declared.happening.Happening.{Happening}
-use Rattle.trace_props.specs.declared.happening.Happening.TheVariants.{Installed}
-use Rattle.trace_props.specs.declared.happening.Install.{Install}
+use Rattle.state_transfer.specs.Meanings.{Meaning}
+use Rattle.trace_props.specs.declared.event.Event.{Event}
+use Rattle.trace_props.specs.declared.event.Event.TheVariants.{Installed}
+use Rattle.trace_props.specs.declared.event.Install.{Install}
 use Rattle.trace_props.specs.Observed.{entry_of}
 use Rattle.trace_props.specs.Rules.{IsRunning, HasRisingViews}
 use Rattle.trace_props.specs.State.{state_of, entry_state}
@@ -23,9 +24,9 @@ use Rattle.agreement.specs.Steps.{System, put}
 use Rattle.agreement.specs.Packets.{PacketFact, AllAnswered, IsEntry, GivesState, BeginsWith}
 use Rattle.agreement.specs.Members.{LiesBelow, KeepsInstructions, MemberFact}
 use Rattle.agreement.specs.Invariant.{EachPacket, StateFact, Invariant}
-use Rattle.agreement.proofs.Growing.{Later, later-trans, later-packets, later-happening}
+use Rattle.agreement.proofs.Growing.{Later, later-trans, later-packets, later-event}
 use Rattle.agreement.proofs.Staying.{there-later, is_entry-later}
-use Rattle.agreement.proofs.Others.{IsFrom, only-trans, only-packets, only-happening}
+use Rattle.agreement.proofs.Others.{IsFrom, only-trans, only-packets, only-event}
 use Rattle.agreement.proofs.Traces.{stands-of, views-of, trace-push, trace-packets, only-state, only_state-trans, entry_state-kept}
 use Rattle.agreement.proofs.Moving.{packets-later, entries-later, states-later, given-later, begins-later, moved}
 use Rattle.agreement.proofs.Quiet.{Quiet}
@@ -38,7 +39,7 @@ abbrev pub made_on : History → List Posted → Install → History
 made_on h more i = record { pool = h.pool ++ more; trace = h.trace ++ Installed i ∷ [] }
 
 -- installs of other views are as before
-entry-other : (t : List Happening) (i : Install) (q : Address) (u : ViewId) → same_view_id i.view.id u ≡ false → entry_of q u (t ++ Installed i ∷ []) ≡ entry_of q u t
+entry-other : (t : List Event) (i : Install) (q : Address) (u : ViewId) → same_view_id i.view.id u ≡ false → entry_of q u (t ++ Installed i ∷ []) ≡ entry_of q u t
 entry-other t i q u other =
     register-push (enters q u) t i
     ∙ ap (λ b. option_or (entry_of q u t) (cond b (Some i) None)) (and_right (same_address i.member q) (same_view_id i.view.id u) other)
@@ -48,20 +49,20 @@ entry-other t i q u other =
 pub coordinator-goes : (h : History) (w : ViewId) (p : Address) (e : Install) → same_address p w.creator ≡ true → entry_of p w h.trace ≡ Some e → goes_from h w p ≡ Some e.previous
 coordinator-goes h w p e mine entry = cond-true (same_address p w.creator) _ _ mine ∙ ap (option_map (λ (z : Install). z.previous)) entry
 
-module _ {S : Type 0} (opening : S) (apply : S → Address → List ℕ → S) (encode : S → List ℕ) (decode : List ℕ → Option S) (is_state : S → Type 0) where
+module _ {S : Type 0} (meaning : Meaning S) where
   -- ---- states
 
-  begun-later : (t : List Happening) (i : Install) (w : ViewId) → is_some (entry_state opening apply decode w t) ≡ true → is_some (entry_state opening apply decode w (t ++ Installed i ∷ [])) ≡ true
+  begun-later : (t : List Event) (i : Install) (w : ViewId) → is_some (entry_state meaning w t) ≡ true → is_some (entry_state meaning w (t ++ Installed i ∷ [])) ≡ true
   begun-later t i w there =
-      there-later (entry_state opening apply decode w t) (entry_state opening apply decode w (t ++ Installed i ∷ []))
-      (λ s e. entry_state-kept opening apply decode w t (Installed i ∷ []) s e) there
+      there-later (entry_state meaning w t) (entry_state meaning w (t ++ Installed i ∷ []))
+      (λ s e. entry_state-kept meaning w t (Installed i ∷ []) s e) there
 
   there-by : (b : Bool) (h : History) (i : Install) (w : ViewId) (e : Install) → same_view_id i.view.id w ≡ b → MayMake h.trace i
-      → StateFact opening apply encode decode is_state h → entry_of w.creator w (h.trace ++ Installed i ∷ []) ≡ Some e
-      → is_some (entry_state opening apply decode w (h.trace ++ Installed i ∷ [])) ≡ true
+      → StateFact meaning h → entry_of w.creator w (h.trace ++ Installed i ∷ []) ≡ Some e
+      → is_some (entry_state meaning w (h.trace ++ Installed i ∷ [])) ≡ true
   there-by true h i w e test may x entry =
-      ap (λ (u : ViewId). is_some (entry_state opening apply decode u (h.trace ++ Installed i ∷ []))) (sym (same_view_id-true i.view.id w test))
-      ∙ ap is_some (made-state opening apply decode h.trace i may)
+      ap (λ (u : ViewId). is_some (entry_state meaning u (h.trace ++ Installed i ∷ []))) (sym (same_view_id-true i.view.id w test))
+      ∙ ap is_some (made-state meaning h.trace i may)
   there-by false h i w e test may x entry = begun-later h.trace i w (x.there w e (sym (entry-other h.trace i w.creator w test) ∙ entry))
 
   -- the new install is its coordinator's
@@ -69,32 +70,32 @@ module _ {S : Type 0} (opening : S) (apply : S → Address → List ℕ → S) (
   made-entry h i may = ap (λ q. entry_of q i.view.id (h.trace ++ Installed i ∷ [])) (sym may.mine) ∙ entry-now h i (may.new i.member)
 
   begins-by : (b : Bool) (h k : History) (i : Install) (w : ViewId) (e : Install) → same_view_id i.view.id w ≡ b → k.trace ≡ h.trace ++ Installed i ∷ [] → MayMake h.trace i → Later h k
-      → BeginsWith opening apply decode k.trace i.view.id i → StateFact opening apply encode decode is_state h → entry_of w.creator w k.trace ≡ Some e
-      → BeginsWith opening apply decode k.trace w e
+      → BeginsWith meaning k.trace i.view.id i → StateFact meaning h → entry_of w.creator w k.trace ≡ Some e
+      → BeginsWith meaning k.trace w e
   begins-by true h k i w e test trace may m begins x entry =
       let same = same_view_id-true i.view.id w test in
       let there : entry_of w.creator w k.trace ≡ Some i = ap (λ (u : ViewId). entry_of u.creator u k.trace) (sym same) ∙ ap (entry_of i.view.id.creator i.view.id) trace ∙ made-entry h i may in
-      subst (λ (y : Install). BeginsWith opening apply decode k.trace w y) (same_Some i e (sym there ∙ entry))
-      (subst (λ (u : ViewId). BeginsWith opening apply decode k.trace u i) same begins)
+      subst (λ (y : Install). BeginsWith meaning k.trace w y) (same_Some i e (sym there ∙ entry))
+      (subst (λ (u : ViewId). BeginsWith meaning k.trace u i) same begins)
   begins-by false h k i w e test trace may m begins x entry =
       let was = sym (entry-other h.trace i w.creator w test) ∙ ap (entry_of w.creator w) (sym trace) ∙ entry in
-      begins-later opening apply decode h k w e m
-      (λ v s y. ap (entry_state opening apply decode v) trace ∙ entry_state-kept opening apply decode v h.trace (Installed i ∷ []) s y)
+      begins-later meaning h k w e m
+      (λ v s y. ap (entry_state meaning v) trace ∙ entry_state-kept meaning v h.trace (Installed i ∷ []) s y)
       was (x.there w e was) (x.begins w e was)
 
-  are-by : (b : Bool) (h : History) (i : Install) (w : ViewId) (s : S) → same_view_id i.view.id w ≡ b → MayMake h.trace i → is_state (state_of opening apply decode i.member h.trace)
-      → StateFact opening apply encode decode is_state h → entry_state opening apply decode w (h.trace ++ Installed i ∷ []) ≡ Some s → is_state s
+  are-by : (b : Bool) (h : History) (i : Install) (w : ViewId) (s : S) → same_view_id i.view.id w ≡ b → MayMake h.trace i → meaning.is_state (state_of meaning i.member h.trace)
+      → StateFact meaning h → entry_state meaning w (h.trace ++ Installed i ∷ []) ≡ Some s → meaning.is_state s
   are-by true h i w s test may is x e =
-      let there = ap (λ (u : ViewId). entry_state opening apply decode u (h.trace ++ Installed i ∷ [])) (sym (same_view_id-true i.view.id w test)) ∙ made-state opening apply decode h.trace i may in
-      subst is_state (same_Some (state_of opening apply decode i.member h.trace) s (sym there ∙ e)) is
-  are-by false h i w s test may is x e = x.are w s (sym (other-state opening apply decode h.trace i w test) ∙ e)
+      let there = ap (λ (u : ViewId). entry_state meaning u (h.trace ++ Installed i ∷ [])) (sym (same_view_id-true i.view.id w test)) ∙ made-state meaning h.trace i may in
+      subst meaning.is_state (same_Some (state_of meaning i.member h.trace) s (sym there ∙ e)) is
+  are-by false h i w s test may is x e = x.are w s (sym (other-state meaning h.trace i w test) ∙ e)
 
   -- what holds of states holds after a coordinator's install
   pub states-made : (h : History) (more : List Posted) (i : Install) → MayMake h.trace i → Later h (made_on h more i) → EachPacket h
-      → is_state (state_of opening apply decode i.member h.trace)
-      → ((w : ViewId) (q : Address) (j : wire.Install) → install_of w q (h.pool ++ more) ≡ Some j → (install_of w q h.pool ≡ Some j) ⊎ GivesState opening apply encode decode (made_on h more i) q j)
-      → BeginsWith opening apply decode (h.trace ++ Installed i ∷ []) i.view.id i
-      → StateFact opening apply encode decode is_state h → StateFact opening apply encode decode is_state (made_on h more i)
+      → meaning.is_state (state_of meaning i.member h.trace)
+      → ((w : ViewId) (q : Address) (j : wire.Install) → install_of w q (h.pool ++ more) ≡ Some j → (install_of w q h.pool ≡ Some j) ⊎ GivesState meaning (made_on h more i) q j)
+      → BeginsWith meaning (h.trace ++ Installed i ∷ []) i.view.id i
+      → StateFact meaning h → StateFact meaning (made_on h more i)
   states-made h more i may m each is gives begins x = record {
     there = λ w e entry. there-by (same_view_id i.view.id w) h i w e refl may x entry;
     given = λ w q j there. by w q j (gives w q j there);
@@ -102,10 +103,10 @@ module _ {S : Type 0} (opening : S) (apply : S → Address → List ℕ → S) (
     are = λ w s e. are-by (same_view_id i.view.id w) h i w s refl may is x e;
   }
     where
-      by : (w : ViewId) (q : Address) (j : wire.Install) → (install_of w q h.pool ≡ Some j) ⊎ GivesState opening apply encode decode (made_on h more i) q j
-          → GivesState opening apply encode decode (made_on h more i) q j
+      by : (w : ViewId) (q : Address) (j : wire.Install) → (install_of w q h.pool ≡ Some j) ⊎ GivesState meaning (made_on h more i) q j
+          → GivesState meaning (made_on h more i) q j
       by w q j (inl old) =
-          given-later opening apply encode decode h (made_on h more i) w q j m (λ v s y. entry_state-kept opening apply decode v h.trace (Installed i ∷ []) s y) each
+          given-later meaning h (made_on h more i) w q j m (λ v s y. entry_state-kept meaning v h.trace (Installed i ∷ []) s y) each
           (λ e y. x.there j.view.id e y) old (x.given w q j old)
       by w q j (inr new) = new
 
@@ -115,8 +116,8 @@ module _ {S : Type 0} (opening : S) (apply : S → Address → List ℕ → S) (
   pub record Makes (h : History) (c : Core S) (more : List Posted) (i : Install) (z : S) (kept : List (Address × wire.Install)) : Type 0 where
     pub itself : i.member ≡ c.me
     pub may : MayMake h.trace i
-    pub state : state_of opening apply decode c.me h.trace ≡ z
-    pub is : is_state z
+    pub state : state_of meaning c.me h.trace ≡ z
+    pub is : meaning.is_state z
     -- the packets are the coordinator's, and tell nobody to go into another view
     pub from : (n : ℕ) (m : Posted) → slice_get more n ≡ Some m → IsFrom c.me m
     pub tells : (w : ViewId) (q : Address) → same_view_id i.view.id w ≡ false → install_of w q (h.pool ++ more) ≡ install_of w q h.pool
@@ -127,10 +128,10 @@ module _ {S : Type 0} (opening : S) (apply : S → Address → List ℕ → S) (
     pub complete : AllAnswered (made_on h more i) i.view.id i.view.members
     pub together : i.together ≡ filter (goes_with (made_on h more i) i.view.id i.previous) i.view.members
     pub gives : (w : ViewId) (q : Address) (j : wire.Install) → install_of w q (h.pool ++ more) ≡ Some j
-        → (install_of w q h.pool ≡ Some j) ⊎ GivesState opening apply encode decode (made_on h more i) q j
-    pub begins : BeginsWith opening apply decode (h.trace ++ Installed i ∷ []) i.view.id i
+        → (install_of w q h.pool ≡ Some j) ⊎ GivesState meaning (made_on h more i) q j
+    pub begins : BeginsWith meaning (h.trace ++ Installed i ∷ []) i.view.id i
 
-  not-it : (b : Bool) (t : List Happening) (i : Install) (w : ViewId) → same_view_id i.view.id w ≡ b → MayMake t i → is_some (entry_of w.creator w t) ≡ true
+  not-it : (b : Bool) (t : List Event) (i : Install) (w : ViewId) → same_view_id i.view.id w ≡ b → MayMake t i → is_some (entry_of w.creator w t) ≡ true
       → same_view_id i.view.id w ≡ false
   not-it false t i w test may there = test
   not-it true t i w test may there =
@@ -147,12 +148,12 @@ module _ {S : Type 0} (opening : S) (apply : S → Address → List ℕ → S) (
       → ((w : ViewId) (q : Address) → same_view_id i.view.id w ≡ false → install_of w q (h.pool ++ more) ≡ install_of w q h.pool) → Later h (made_on h more i)
   made-later h more i views may tells =
       let k2 : History = record { pool = h.pool ++ more; trace = h.trace } in
-      later-trans h k2 (made_on h more i) (packed-later h more i may tells) (later-happening k2 (Installed i) views may.running)
+      later-trans h k2 (made_on h more i) (packed-later h more i may tells) (later-event k2 (Installed i) views may.running)
 
   -- the member that makes a view keeps the invariant
-  pub made : (s : System S) (c : Core S) (h : History) (more : List Posted) (i : Install) (z : S) (kept : List (Address × wire.Install)) → Invariant opening apply encode decode is_state s
-      → Quiet opening apply decode c.me s.history h → h.pool ≡ s.history.pool → Makes h c more i z kept
-      → Invariant opening apply encode decode is_state (record { running = put c.me (Some (gone_into i.view z kept c)) s.running; history = made_on h more i })
+  pub made : (s : System S) (c : Core S) (h : History) (more : List Posted) (i : Install) (z : S) (kept : List (Address × wire.Install)) → Invariant meaning s
+      → Quiet meaning c.me s.history h → h.pool ≡ s.history.pool → Makes h c more i z kept
+      → Invariant meaning (record { running = put c.me (Some (gone_into i.view z kept c)) s.running; history = made_on h more i })
   made s c h more i z kept inv quiet pool x =
       let t = h.trace in
       let w = i.view.id in
@@ -161,12 +162,12 @@ module _ {S : Type 0} (opening : S) (apply : S → Address → List ℕ → S) (
       let k = made_on h more i in
       let each = packets-later s.history h [] quiet.later (pool ∙ sym (append-nil s.history.pool)) inv.packets (λ n m at. absurd (none-some m at)) in
       let entries = entries-later s.history h quiet.later quiet.none inv.entries in
-      let states = states-later opening apply encode decode is_state s.history h quiet.later quiet.begun quiet.none inv.packets inv.states in
-      let goes = makes-goes opening apply decode t i may in
+      let states = states-later meaning s.history h quiet.later quiet.begun quiet.none inv.packets inv.states in
+      let goes = makes-goes meaning t i may in
       let running = subst (λ (q : Address). IsRunning q t) x.itself may.running in
       let packed : Later h k2 = packed-later h more i may x.tells in
-      let trace = trace-packets opening apply decode h more c.me quiet.trace running.started (λ n m at. (x.from n m at).source) in
-      let installed : Later k2 k = later-happening k2 (Installed i) (views-of opening apply decode k2 trace) (stands-of opening apply decode t (Installed i) goes) in
+      let trace = trace-packets meaning h more c.me quiet.trace running.started (λ n m at. (x.from n m at).source) in
+      let installed : Later k2 k = later-event k2 (Installed i) (views-of meaning k2 trace) (stands-of meaning t (Installed i) goes) in
       let later = later-trans h k2 k packed installed in
       let entry = made-entry h i may in
       let mine = same_address-from i.member w.creator may.mine in
@@ -178,20 +179,20 @@ module _ {S : Type 0} (opening : S) (apply : S → Address → List ℕ → S) (
         told = λ other. absurd (let n : true ≡ false = sym mine ∙ other in cc);
         end = λ j v other install from. absurd (let n : true ≡ false = sym mine ∙ other in cc);
       } in
-      let now = kept-state opening apply decode t i may.nothing in
-      let state = ap (λ q. state_of opening apply decode q (t ++ Installed i ∷ [])) (sym x.itself) ∙ now ∙ ap (λ q. state_of opening apply decode q t) x.itself ∙ x.state in
-      let before : state_of opening apply decode i.member t ≡ z = ap (λ q. state_of opening apply decode q t) x.itself ∙ x.state in
+      let now = kept-state meaning t i may.nothing in
+      let state = ap (λ q. state_of meaning q (t ++ Installed i ∷ [])) (sym x.itself) ∙ now ∙ ap (λ q. state_of meaning q t) x.itself ∙ x.state in
+      let before : state_of meaning i.member t ≡ z = ap (λ q. state_of meaning q t) x.itself ∙ x.state in
       let owner : c.me ≡ w.creator = sym x.itself ∙ may.mine in
-      moved opening apply encode decode is_state s c.me k (Some (gone_into i.view z kept c)) inv (record {
+      moved meaning s c.me k (Some (gone_into i.view z kept c)) inv (record {
         later = later-trans s.history h k quiet.later later;
-        only = only-trans c.me s.history h k quiet.only (only-trans c.me h k2 k (only-packets c.me h more x.from) (only-happening c.me k2 (Installed i) x.itself));
-        state = only_state-trans opening apply decode c.me s.history.trace t k.trace quiet.state (only-state opening apply decode c.me t (Installed i) x.itself);
-        trace = trace-push opening apply decode k2 (Installed i) trace goes tt;
+        only = only-trans c.me s.history h k quiet.only (only-trans c.me h k2 k (only-packets c.me h more x.from) (only-event c.me k2 (Installed i) x.itself));
+        state = only_state-trans meaning c.me s.history.trace t k.trace quiet.state (only-state meaning c.me t (Installed i) x.itself);
+        trace = trace-push meaning k2 (Installed i) trace goes tt;
         packets = packets-later h k more later refl each x.packets;
         entries = entries-installed k2 i installed (λ q u e y. is_entry-later h k2 q u e packed y (entries q u e y)) (may.new i.member) new;
-        states = states-made h more i may later each (subst is_state (sym before) x.is) x.gives x.begins states;
-        member = λ d e. subst (λ (y : Core S). MemberFact opening apply decode is_state k c.me y) (same_Some (gone_into i.view z kept c) d e)
-            (arrives opening apply decode is_state k2 c i z kept (record {
+        states = states-made h more i may later each (subst meaning.is_state (sym before) x.is) x.gives x.begins states;
+        member = λ d e. subst (λ (y : Core S). MemberFact meaning k c.me y) (same_Some (gone_into i.view z kept c) d e)
+            (arrives meaning k2 c i z kept (record {
               itself = x.itself;
               before = trace.before;
               running = running;
@@ -203,6 +204,6 @@ module _ {S : Type 0} (opening : S) (apply : S → Address → List ℕ → S) (
               keeps = x.keeps;
               now = state;
               is = x.is;
-              begins = made-state opening apply decode t i may ∙ ap Some before;
+              begins = made-state meaning t i may ∙ ap Some before;
             }));
       })

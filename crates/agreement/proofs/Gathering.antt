@@ -8,14 +8,15 @@ use Rattle.std.proofs.lemmas.Bool.Decides.{nat_tests}
 use Rattle.std.proofs.lemmas.Option.{none-some, same_Some}
 use Rattle.address.specs.Ids.{Address, ViewId, same_address}
 use Rattle.view.specs.Members.{View, stands_in}
-use Rattle.packet_values.specs.declared.limits.TheConstants.{WINDOW}
+use Rattle.limits.specs.declared.TheConstants.{WINDOW}
 use Rattle.packet_values.specs.Values.{Entry, held_at}
 use Rattle.wire.specs.Values.{Report}
 use Rattle.wire.specs.declared.packet.Body.TheVariants as bodies
+use Rattle.state_transfer.specs.Meanings.{Meaning}
 use Rattle.flush.specs.Flushes.{FlushModel}
-use Rattle.trace_props.specs.declared.happening.Happening.{Happening}
-use Rattle.trace_props.specs.declared.happening.Install.{Install}
-use Rattle.trace_props.specs.declared.happening.Numbered.{Numbered}
+use Rattle.trace_props.specs.declared.event.Event.{Event}
+use Rattle.trace_props.specs.declared.event.Install.{Install}
+use Rattle.trace_props.specs.declared.event.Numbered.{Numbered}
 use Rattle.trace_props.specs.Observed.{delivered_in, sent_in, own, entry_of}
 use Rattle.trace_props.proofs.Observing.{same_address-true}
 use Rattle.agreement.specs.Words.{Tally, members_of, open_count}
@@ -33,10 +34,10 @@ use Rattle.agreement.proofs.Coming.{said-of}
 -- ---- a member that is open
 
 -- while open nothing is owed of a flush and a report
-pub open-fact : {S : Type 0} (opening : S) (apply : S → Address → List ℕ → S) (decode : List ℕ → Option S) (is_state : S → Type 0) (h : History) (p : Address) (c : Core S) (v : View)
-    (t : Traffic) → MemberFact opening apply decode is_state h p c → IsOpenIn c v → ViewFact h p c.installed t c.kept v
-    → MemberFact opening apply decode is_state h p (with_traffic t c)
-open-fact opening apply decode is_state h p c v t x o fact = record {
+pub open-fact : {S : Type 0} (meaning : Meaning S) (h : History) (p : Address) (c : Core S) (v : View)
+    (t : Traffic) → MemberFact meaning h p c → IsOpenIn c v → ViewFact h p c.installed t c.kept v
+    → MemberFact meaning h p (with_traffic t c)
+open-fact meaning h p c v t x o fact = record {
   seat = x.seat;
   promise = x.promise;
   announced = x.announced;
@@ -48,7 +49,7 @@ open-fact opening apply decode is_state h p c v t x o fact = record {
 }
 
 -- the members of the view are those of its coordinator's install
-pub members-are : (t : List Happening) (v : View) → installed_as v.id.creator v.id t ≡ Some v → members_of v.id t ≡ v.members
+pub members-are : (t : List Event) (v : View) → installed_as v.id.creator v.id t ≡ Some v → members_of v.id t ≡ v.members
 members-are t v x = by (entry_of v.id.creator v.id t) x
   where
     by : (o : Option Install) → option_map (λ e. e.view) o ≡ Some v → option_map_or (λ (e : Install). e.view.members) o [] ≡ v.members
@@ -57,9 +58,9 @@ members-are t v x = by (entry_of v.id.creator v.id t) x
 
 -- ---- Joins
 
-pub joins-fact : {S : Type 0} (opening : S) (apply : S → Address → List ℕ → S) (decode : List ℕ → Option S) (is_state : S → Type 0) (h : History) (p : Address) (c : Core S)
-    → MemberFact opening apply decode is_state h p c → MemberFact opening apply decode is_state h p (record c { connected = true })
-joins-fact opening apply decode is_state h p c x = record {
+pub joins-fact : {S : Type 0} (meaning : Meaning S) (h : History) (p : Address) (c : Core S)
+    → MemberFact meaning h p c → MemberFact meaning h p (record c { connected = true })
+joins-fact meaning h p c x = record {
   seat = x.seat;
   promise = x.promise;
   announced = x.announced;
@@ -73,7 +74,7 @@ joins-fact opening apply decode is_state h p c x = record {
 -- ---- Queues
 
 -- an outstanding message was sent under its number
-pub outstanding-sent : (t : List Happening) (p : Address) (v : ViewId) (rest : List Numbered) (m : Numbered) → ((k : ℕ) (n : Numbered) → slice_get (sent_in p v t) k ≡ Some n → n.number ≡ k + 1)
+pub outstanding-sent : (t : List Event) (p : Address) (v : ViewId) (rest : List Numbered) (m : Numbered) → ((k : ℕ) (n : Numbered) → slice_get (sent_in p v t) k ≡ Some n → n.number ≡ k + 1)
     → sent_in p v t ≡ own p (delivered_in p v t) ++ rest → (j : ℕ) → slice_get rest j ≡ Some m → (k : ℕ) → m.number ≡ k + 1 → slice_get (sent_in p v t) k ≡ Some m
 outstanding-sent t p v rest m numbers sent j at k number =
     let before = own p (delivered_in p v t) in
@@ -93,14 +94,14 @@ queued-by true h c which v e test each numbers sent out k number =
     ∙ outstanding-sent h.trace c.me v.id c.traffic.outstanding (record { number = e.number; payload = e.payload }) numbers sent at.0 at.1 k number
 queued-by false h c which v e test each numbers sent came k number = (said-of h c which e.sender (bodies.Forward v.id e.number e.payload) each came).fact k number
 
-pub queues-fact : {S : Type 0} (opening : S) (apply : S → Address → List ℕ → S) (decode : List ℕ → Option S) (is_state : S → Type 0) (h : History) (c : Core S) (which : Option ℕ) (v : View)
-    (e : Entry) (waiting : List Entry) → TraceFact opening apply decode h → EachPacket h → MemberFact opening apply decode is_state h c.me c
-    → MayQueue (came_of c h.pool which) c v e waiting → MemberFact opening apply decode is_state h c.me (with_traffic (record c.traffic { waiting = waiting }) c)
-queues-fact opening apply decode is_state h c which v e waiting trace each x a =
+pub queues-fact : {S : Type 0} (meaning : Meaning S) (h : History) (c : Core S) (which : Option ℕ) (v : View)
+    (e : Entry) (waiting : List Entry) → TraceFact meaning h → EachPacket h → MemberFact meaning h c.me c
+    → MayQueue (came_of c h.pool which) c v e waiting → MemberFact meaning h c.me (with_traffic (record c.traffic { waiting = waiting }) c)
+queues-fact meaning h c which v e waiting trace each x a =
     let f = x.view v a.open_in.view in
-    let sent = queued-by (same_address e.sender c.me) h c which v e refl each ((rules-of opening apply decode h trace).ordered.messages.numbers c.me v.id) f.mine.sent a.sent in
+    let sent = queued-by (same_address e.sender c.me) h c which v e refl each ((rules-of meaning h trace).ordered.messages.numbers c.me v.id) f.mine.sent a.sent in
     let all = slice_get-split (IsSent h.trace v.id) c.traffic.waiting (e ∷ []) f.waiting (slice_get-one (IsSent h.trace v.id) e sent) in
-    open-fact opening apply decode is_state h c.me c v (record c.traffic { waiting = waiting }) x a.open_in (record {
+    open-fact meaning h c.me c v (record c.traffic { waiting = waiting }) x a.open_in (record {
       inside = f.inside;
       counts = f.counts;
       mine = f.mine;
@@ -113,20 +114,20 @@ queues-fact opening apply decode is_state h c which v e waiting trace each x a =
 
 -- ---- Hears
 
-heard-by : (b : Bool) (t : List Happening) (v : ViewId) (q r : Address) (n m : ℕ) → same_address r q ≡ b → m ≤ open_count r v t → n ≤ open_count q v t
+heard-by : (b : Bool) (t : List Event) (v : ViewId) (q r : Address) (n m : ℕ) → same_address r q ≡ b → m ≤ open_count r v t → n ≤ open_count q v t
     → cond b (max m n) m ≤ open_count r v t
 heard-by true t v q r n m test old new =
     let here : n ≤ open_count r v t = subst (λ (z : Address). n ≤ open_count z v t) (sym (same_address-true r q test)) new in grind (arith, nat_tests)
 heard-by false t v q r n m test old new = old
 
-pub hears-fact : {S : Type 0} (opening : S) (apply : S → Address → List ℕ → S) (decode : List ℕ → Option S) (is_state : S → Type 0) (h : History) (c : Core S) (which : Option ℕ) (v : View)
-    (q : Address) (n : ℕ) → EachPacket h → MemberFact opening apply decode is_state h c.me c → MayHear (came_of c h.pool which) c v q n
-    → MemberFact opening apply decode is_state h c.me (with_traffic (record c.traffic { acks = heard q n c.traffic.acks }) c)
-hears-fact opening apply decode is_state h c which v q n each x a =
+pub hears-fact : {S : Type 0} (meaning : Meaning S) (h : History) (c : Core S) (which : Option ℕ) (v : View)
+    (q : Address) (n : ℕ) → EachPacket h → MemberFact meaning h c.me c → MayHear (came_of c h.pool which) c v q n
+    → MemberFact meaning h c.me (with_traffic (record c.traffic { acks = heard q n c.traffic.acks }) c)
+hears-fact meaning h c which v q n each x a =
     let f = x.view v a.open_in.view in
     let counts : open_count c.me v.id h.trace ≡ c.traffic.delivered = ap (λ (s : Tally). s.count) f.counts.tally in
     let new : n ≤ open_count q v.id h.trace = by (same_address q c.me) refl counts a.told in
-    open-fact opening apply decode is_state h c.me c v (record c.traffic { acks = heard q n c.traffic.acks }) x a.open_in (record {
+    open-fact meaning h c.me c v (record c.traffic { acks = heard q n c.traffic.acks }) x a.open_in (record {
       inside = f.inside;
       counts = f.counts;
       mine = f.mine;
@@ -174,14 +175,14 @@ at-least a b c d p = grind (arith, nat_tests)
 above-max : (a b g : ℕ) → max a b < g → a < g
 above-max a b g p = grind (arith, nat_tests)
 
-pub collects-fact : {S : Type 0} (opening : S) (apply : S → Address → List ℕ → S) (decode : List ℕ → Option S) (is_state : S → Type 0) (h : History) (c : Core S) (which : Option ℕ) (v : View)
-    (n : ℕ) (held : List (ℕ × Entry)) → EachPacket h → MemberFact opening apply decode is_state h c.me c → MayCollect (came_of c h.pool which) c v n held
-    → MemberFact opening apply decode is_state h c.me (with_traffic (record c.traffic { stable = max c.traffic.stable n; held = held }) c)
-collects-fact opening apply decode is_state h c which v n held each x a =
+pub collects-fact : {S : Type 0} (meaning : Meaning S) (h : History) (c : Core S) (which : Option ℕ) (v : View)
+    (n : ℕ) (held : List (ℕ × Entry)) → EachPacket h → MemberFact meaning h c.me c → MayCollect (came_of c h.pool which) c v n held
+    → MemberFact meaning h c.me (with_traffic (record c.traffic { stable = max c.traffic.stable n; held = held }) c)
+collects-fact meaning h c which v n held each x a =
     let f = x.view v a.open_in.view in
     let members = members-are h.trace v f.inside.first in
     let new = stable-by h c which v n each f.acks members a.stable in
-    open-fact opening apply decode is_state h c.me c v (record c.traffic { stable = max c.traffic.stable n; held = held }) x a.open_in (record {
+    open-fact meaning h c.me c v (record c.traffic { stable = max c.traffic.stable n; held = held }) x a.open_in (record {
       inside = f.inside;
       counts = f.counts;
       mine = f.mine;
@@ -201,7 +202,7 @@ collects-fact opening apply decode is_state h c which v n held each x a =
 
 -- ---- Holds
 
-pub held-order : (b : Bool) (t : List Happening) (v : ViewId) (held new : List (ℕ × Entry)) (g k : ℕ) (e x : Entry) → nat_eq k g ≡ b → HoldsMore held g e new → HoldsOrder t v held → IsOrdered t v g e
+pub held-order : (b : Bool) (t : List Event) (v : ViewId) (held new : List (ℕ × Entry)) (g k : ℕ) (e x : Entry) → nat_eq k g ≡ b → HoldsMore held g e new → HoldsOrder t v held → IsOrdered t v g e
     → held_at k new ≡ Some x → IsOrdered t v k x
 held-order true t v held new g k e x test more old is at =
     let same : k ≡ g = eqb-true k g test in
@@ -219,13 +220,13 @@ held-near true held new g k n e test more here old there = let same : k ≡ g = 
 held-near false held new g k n e test more here old there =
     old (sym (ap is_some (more.now k ∙ cond-false (nat_eq k g) (Some e) (held_at k held) test)) ∙ there)
 
-pub holds-fact : {S : Type 0} (opening : S) (apply : S → Address → List ℕ → S) (decode : List ℕ → Option S) (is_state : S → Type 0) (h : History) (c : Core S) (which : Option ℕ) (v : View)
-    (g : ℕ) (e : Entry) (held : List (ℕ × Entry)) → EachPacket h → MemberFact opening apply decode is_state h c.me c → MayHold (came_of c h.pool which) c v g e held
-    → MemberFact opening apply decode is_state h c.me (with_traffic (record c.traffic { held = held }) c)
-holds-fact opening apply decode is_state h c which v g e held each x a =
+pub holds-fact : {S : Type 0} (meaning : Meaning S) (h : History) (c : Core S) (which : Option ℕ) (v : View)
+    (g : ℕ) (e : Entry) (held : List (ℕ × Entry)) → EachPacket h → MemberFact meaning h c.me c → MayHold (came_of c h.pool which) c v g e held
+    → MemberFact meaning h c.me (with_traffic (record c.traffic { held = held }) c)
+holds-fact meaning h c which v g e held each x a =
     let f = x.view v a.open_in.view in
     let said = (said-of h c which v.id.creator (bodies.Order v.id g e) each a.ordered).fact in
-    open-fact opening apply decode is_state h c.me c v (record c.traffic { held = held }) x a.open_in (record {
+    open-fact meaning h c.me c v (record c.traffic { held = held }) x a.open_in (record {
       inside = f.inside;
       counts = f.counts;
       mine = f.mine;
@@ -248,10 +249,10 @@ recorded-new : (b : Bool) (pool : List Posted) (p q : Address) (w : ViewId) (min
 recorded-new true pool p q w mine r test other one = absurd (let n : true ≡ false = sym test ∙ other in cc)
 recorded-new false pool p q w mine r test other one = one
 
-pub records-fact : {S : Type 0} (opening : S) (apply : S → Address → List ℕ → S) (decode : List ℕ → Option S) (is_state : S → Type 0) (h : History) (c : Core S) (which : Option ℕ)
-    (f : FlushModel) (q : Address) (r : Report) → EachPacket h → MemberFact opening apply decode is_state h c.me c → MayRecord (came_of c h.pool which) c f q r
-    → MemberFact opening apply decode is_state h c.me (record c { flush = Some (record f { reports = f.reports ++ (q, r) ∷ [] }) })
-records-fact opening apply decode is_state h c which f q r each x a =
+pub records-fact : {S : Type 0} (meaning : Meaning S) (h : History) (c : Core S) (which : Option ℕ)
+    (f : FlushModel) (q : Address) (r : Report) → EachPacket h → MemberFact meaning h c.me c → MayRecord (came_of c h.pool which) c f q r
+    → MemberFact meaning h c.me (record c { flush = Some (record f { reports = f.reports ++ (q, r) ∷ [] }) })
+records-fact meaning h c which f q r each x a =
     let old = x.flush f a.flush in
     let said = said-of h c which q (bodies.Report f.proposal r) each a.told in
     record {

@@ -9,9 +9,10 @@ use Rattle.address.specs.Ids.{Address, ViewId, same_address, same_view_id}
 use Rattle.view.specs.Members.{View, stands_in}
 use Rattle.wire.specs.Values.{Report}
 use Rattle.wire.specs.Values as wire
-use Rattle.trace_props.specs.declared.happening.Happening.TheVariants.{Installed}
-use Rattle.trace_props.specs.declared.happening.Install.{Install}
-use Rattle.trace_props.specs.declared.happening.Numbered.{Numbered}
+use Rattle.state_transfer.specs.Meanings.{Meaning}
+use Rattle.trace_props.specs.declared.event.Event.TheVariants.{Installed}
+use Rattle.trace_props.specs.declared.event.Install.{Install}
+use Rattle.trace_props.specs.declared.event.Numbered.{Numbered}
 use Rattle.trace_props.specs.Observed.{current_view, delivered_in, sent_in, own, entry_of, first_install}
 use Rattle.trace_props.specs.Rules.{IsRunning, IsBelow, EntersAbove, HasRisingViews, LiesWithin}
 use Rattle.trace_props.specs.Agreeing.{goes, is_view, KnowEachOther, KnowsAll, MayMeet, MayHandBack}
@@ -49,13 +50,13 @@ going p i from back = record {
   given = i.state;
 }
 
-module _ {S : Type 0} (opening : S) (apply : S → Address → List ℕ → S) (encode : S → List ℕ) (decode : List ℕ → Option S) (is_state : S → Type 0) where
+module _ {S : Type 0} (meaning : Meaning S) where
   -- it runs, and has been told its last messages; the instruction is for its report
   pub record IsReady (k : History) (p : Address) (i : wire.Install) (r : Report) (back : List Numbered) (s : S) : Type 0 where
-    pub trace : TraceFact opening apply decode k
+    pub trace : TraceFact meaning k
     pub packets : EachPacket k
     pub entries : EachEntry k
-    pub states : StateFact opening apply encode decode is_state k
+    pub states : StateFact meaning k
     pub running : IsRunning p k.trace
     pub current : current_view p k.trace ≡ r.previous
     pub rises : ForSome r.previous (λ v. IsBelow v i.view.id)
@@ -63,9 +64,9 @@ module _ {S : Type 0} (opening : S) (apply : S → Address → List ℕ → S) (
     pub report : report_of p i.view.id k.pool ≡ Some r
     pub end : ForSome r.previous (λ v. length (list_of p v k.trace) ≡ end_of i)
     pub rest : MatchOption r.previous (back ≡ []) (λ v. sent_in p v k.trace ≡ own p (delivered_in p v k.trace) ++ back)
-    pub now : state_of opening apply decode p k.trace ≡ s
-    pub in_view : ForSome r.previous (λ v. state_with opening apply decode v (list_of p v k.trace) k.trace ≡ Some s)
-    pub readable : ForSome i.state (λ bytes. IsSome (decode bytes))
+    pub now : state_of meaning p k.trace ≡ s
+    pub in_view : ForSome r.previous (λ v. state_with meaning v (list_of p v k.trace) k.trace ≡ Some s)
+    pub readable : ForSome i.state (λ bytes. IsSome (meaning.decode bytes))
 
   module _ (k : History) (p : Address) (i : wire.Install) (r : Report) (back : List Numbered) (s : S) (x : IsReady k p i r back s) where
     abbrev w : ViewId
@@ -78,7 +79,7 @@ module _ {S : Type 0} (opening : S) (apply : S → Address → List ℕ → S) (
     fits = x.instruction.fits r x.report
 
     views : HasRisingViews k.trace
-    views = (rules-of opening apply decode k x.trace).ordered.views
+    views = (rules-of meaning k x.trace).ordered.views
 
     -- its members are those of each install of the view
     view-members : (n : ℕ) (f : Install) → slice_get k.trace n ≡ Some (Installed f) → f.view.id ≡ w → f.view.members ≡ i.view.members
@@ -159,39 +160,39 @@ module _ {S : Type 0} (opening : S) (apply : S → Address → List ℕ → S) (
     coordinator : (e : Install) × (entry_of w.creator w k.trace ≡ Some e)
     coordinator = found (entry_of w.creator w k.trace) x.instruction.led.entered
 
-    begun : (z : S) × (entry_state opening apply decode w k.trace ≡ Some z)
-    begun = found (entry_state opening apply decode w k.trace) (x.states.there w coordinator.0 coordinator.1)
+    begun : (z : S) × (entry_state meaning w k.trace ≡ Some z)
+    begun = found (entry_state meaning w k.trace) (x.states.there w coordinator.0 coordinator.1)
 
     -- the state that it takes: a given one, else its own
     abbrev taken : S
-    taken = unwrap_or (option_and_then decode i.state) s
+    taken = unwrap_or (option_and_then meaning.decode i.state) s
 
-    after-install : state_of opening apply decode p (k.trace ++ Installed mine ∷ []) ≡ taken
+    after-install : state_of meaning p (k.trace ++ Installed mine ∷ []) ≡ taken
     after-install =
-        state_of-push opening apply decode p k.trace (Installed mine)
-        ∙ cond-true (same_address p p) (unwrap_or (option_and_then decode i.state) (state_of opening apply decode p k.trace)) (state_of opening apply decode p k.trace) (same_address-refl p)
-        ∙ ap (λ z. unwrap_or (option_and_then decode i.state) z) x.now
+        state_of-push meaning p k.trace (Installed mine)
+        ∙ cond-true (same_address p p) (unwrap_or (option_and_then meaning.decode i.state) (state_of meaning p k.trace)) (state_of meaning p k.trace) (same_address-refl p)
+        ∙ ap (λ z. unwrap_or (option_and_then meaning.decode i.state) z) x.now
 
     -- who comes along with the coordinator has the coordinator's state
-    along : (e : Install) (v : ViewId) (z : S) → entry_of w.creator w k.trace ≡ Some e → e.previous ≡ Some v → r.previous ≡ Some v → entry_state opening apply decode w k.trace ≡ Some z → s ≡ z
+    along : (e : Install) (v : ViewId) (z : S) → entry_of w.creator w k.trace ≡ Some e → e.previous ≡ Some v → r.previous ≡ Some v → entry_state meaning w k.trace ≡ Some z → s ≡ z
     along e v z entry theirs ours begins =
-        let lists = same-list k.trace p w.creator v (rules-of opening apply decode k x.trace).ordered.order (x.end v ours ∙ sym (fits.coordinator e v entry theirs ours)) in
+        let lists = same-list k.trace p w.creator v (rules-of meaning k x.trace).ordered.order (x.end v ours ∙ sym (fits.coordinator e v entry theirs ours)) in
         same_Some s z
-        (sym (x.in_view v ours) ∙ ap (λ l. state_with opening apply decode v l k.trace) lists ∙ x.states.begins w e entry v theirs ∙ begins)
+        (sym (x.in_view v ours) ∙ ap (λ l. state_with meaning v l k.trace) lists ∙ x.states.begins w e entry v theirs ∙ begins)
 
-    takes-by : (b : Bool) (e : Install) (z : S) → ((y : S) → is_state y → decode (encode y) ≡ Some y) → entry_of w.creator w k.trace ≡ Some e
-        → entry_state opening apply decode w k.trace ≡ Some z → option_eq same_view_id r.previous e.previous ≡ b
-        → i.state ≡ cond b None (option_map encode (entry_state opening apply decode w k.trace)) → taken ≡ z
+    takes-by : (b : Bool) (e : Install) (z : S) → ((y : S) → meaning.is_state y → meaning.decode (meaning.encode y) ≡ Some y) → entry_of w.creator w k.trace ≡ Some e
+        → entry_state meaning w k.trace ≡ Some z → option_eq same_view_id r.previous e.previous ≡ b
+        → i.state ≡ cond b None (option_map meaning.encode (entry_state meaning w k.trace)) → taken ≡ z
     takes-by true e z reads entry begins same given =
         let from = found e.previous (x.instruction.led.from e entry) in
-        ap (λ o. unwrap_or (option_and_then decode o) s) given
+        ap (λ o. unwrap_or (option_and_then meaning.decode o) s) given
         ∙ along e from.0 z entry from.1 (same-previous r.previous e.previous same ∙ from.1) begins
     takes-by false e z reads entry begins other given =
-        ap (λ o. unwrap_or (option_and_then decode o) s) (given ∙ ap (option_map encode) begins)
+        ap (λ o. unwrap_or (option_and_then meaning.decode o) s) (given ∙ ap (option_map meaning.encode) begins)
         ∙ ap (λ o. unwrap_or o s) (reads z (x.states.are w z begins))
 
     -- it takes the state with which the view begins
-    takes : ((y : S) → is_state y → decode (encode y) ≡ Some y) → taken ≡ begun.0
+    takes : ((y : S) → meaning.is_state y → meaning.decode (meaning.encode y) ≡ Some y) → taken ≡ begun.0
     takes reads =
         takes-by (option_eq same_view_id r.previous coordinator.0.previous) coordinator.0 begun.0 reads coordinator.1 begun.1 refl
         (x.states.given w p i x.instruction.one coordinator.0 r coordinator.1 x.report)
@@ -199,12 +200,12 @@ module _ {S : Type 0} (opening : S) (apply : S → Address → List ℕ → S) (
     -- ---- all of it
 
     -- the install may follow
-    pub install-goes : ((y : S) → is_state y → decode (encode y) ≡ Some y) → GoesOn opening apply decode k.trace (Installed mine)
+    pub install-goes : ((y : S) → meaning.is_state y → meaning.decode (meaning.encode y) ≡ Some y) → GoesOn meaning k.trace (Installed mine)
     install-goes reads = record {
       seven = (hands, (knows-all, (meets, (tt, (tt, ((above, rises-with), (x.running, tt)))))));
       enters = (
         x.readable,
-        subst (λ (o : Option S). MatchOption o (same_address p w.creator ≡ true) (λ z. z ≡ state_of opening apply decode p (k.trace ++ Installed mine ∷ []))) (sym begun.1)
+        subst (λ (o : Option S). MatchOption o (same_address p w.creator ≡ true) (λ z. z ≡ state_of meaning p (k.trace ++ Installed mine ∷ []))) (sym begun.1)
             (sym (takes reads) ∙ sym after-install),
       );
     }
@@ -241,11 +242,11 @@ module _ {S : Type 0} (opening : S) (apply : S → Address → List ℕ → S) (
         ∙ ap {B = View} (λ (l : List Address). record { id = w; members = l }) (view-members at.place e.0 at.stands id))
 
     -- the state that it takes is one that a receiver can be in, and that with which the view begins
-    pub takes-state : ((y : S) → is_state y → decode (encode y) ≡ Some y) → is_state taken
-    takes-state reads = subst is_state (sym (takes reads)) (x.states.are w begun.0 begun.1)
+    pub takes-state : ((y : S) → meaning.is_state y → meaning.decode (meaning.encode y) ≡ Some y) → meaning.is_state taken
+    takes-state reads = subst meaning.is_state (sym (takes reads)) (x.states.are w begun.0 begun.1)
 
-    pub view-begins : ((y : S) → is_state y → decode (encode y) ≡ Some y) → entry_state opening apply decode w k.trace ≡ Some taken
+    pub view-begins : ((y : S) → meaning.is_state y → meaning.decode (meaning.encode y) ≡ Some y) → entry_state meaning w k.trace ≡ Some taken
     view-begins reads = begun.1 ∙ ap Some (sym (takes reads))
 
-    pub has-taken : state_of opening apply decode p (installed_on k mine).trace ≡ taken
+    pub has-taken : state_of meaning p (installed_on k mine).trace ≡ taken
     has-taken = after-install

@@ -5,12 +5,12 @@ use Rattle.address.specs.Ids.{Address, ViewId, same_address, same_view_id}
 use Rattle.packet_values.specs.Values.{Entry}
 use Rattle.wire.specs.Values.{Report}
 use Rattle.wire.specs.Values as wire
-use Rattle.trace_props.specs.declared.happening.Happening.{Happening}
-use Rattle.trace_props.specs.declared.happening.Happening.TheVariants.{Started, Sent, Delivered, Blocked, Installed, Left, Crashed}
-use Rattle.trace_props.specs.declared.happening.Delivery.{Delivery}
-use Rattle.trace_props.specs.declared.happening.Sending.{Sending}
-use Rattle.trace_props.specs.declared.happening.Numbered.{Numbered}
-use Rattle.trace_props.specs.declared.happening.Install.{Install}
+use Rattle.trace_props.specs.declared.event.Event.{Event}
+use Rattle.trace_props.specs.declared.event.Event.TheVariants.{Started, Sent, Delivered, Blocked, Installed, Left, Crashed}
+use Rattle.trace_props.specs.declared.event.Delivery.{Delivery}
+use Rattle.trace_props.specs.declared.event.Sending.{Sending}
+use Rattle.trace_props.specs.declared.event.Numbered.{Numbered}
+use Rattle.trace_props.specs.declared.event.Install.{Install}
 use Rattle.trace_props.specs.Observed.{current_view, sent_in, entry_of}
 use Rattle.trace_props.specs.Rules.{MayStand, HasRisingViews}
 use Rattle.trace_props.proofs.Places.{slice_get-before}
@@ -37,7 +37,7 @@ pub install_of-kept : (w : ViewId) (q : Address) (pool more : List Posted) (i : 
 unfolding install_of
 install_of-kept w q pool more i e = first_of-kept _ pool more i e
 
-pub entry_of-kept : (p : Address) (v : ViewId) (t u : List Happening) (e : Install) → entry_of p v t ≡ Some e → entry_of p v (t ++ u) ≡ Some e
+pub entry_of-kept : (p : Address) (v : ViewId) (t u : List Event) (e : Install) → entry_of p v t ≡ Some e → entry_of p v (t ++ u) ≡ Some e
 entry_of-kept p v t u e x = register-stays (enters p v) t u e x
 
 -- ---- later
@@ -114,15 +114,15 @@ later-packets h more none = record {
   installs = λ w q x. none.same w q x;
 }
 
--- ---- one happening more
+-- ---- one event more
 
-list-delivered : (b : Bool) (p : Address) (v : ViewId) (t : List Happening) (d : Delivery) (n : ℕ) (e : Entry) → told_to p v d ≡ b
+list-delivered : (b : Bool) (p : Address) (v : ViewId) (t : List Event) (d : Delivery) (n : ℕ) (e : Entry) → told_to p v d ≡ b
     → slice_get (list_of p v t) n ≡ Some e → slice_get (list_of p v (t ++ Delivered d ∷ [])) n ≡ Some e
 list-delivered true p v t d n e test x =
     subst (λ l. slice_get l n ≡ Some e) (sym (list_of-hit p v t d test)) (slice_get-before (list_of p v t) (entry_for d.message ∷ []) n e x)
 list-delivered false p v t d n e test x = subst (λ l. slice_get l n ≡ Some e) (sym (list_of-miss p v t d test)) x
 
-pub list_of-grows : (p : Address) (v : ViewId) (t : List Happening) (h : Happening) (n : ℕ) (e : Entry) → slice_get (list_of p v t) n ≡ Some e
+pub list_of-grows : (p : Address) (v : ViewId) (t : List Event) (h : Event) (n : ℕ) (e : Entry) → slice_get (list_of p v t) n ≡ Some e
     → slice_get (list_of p v (t ++ h ∷ [])) n ≡ Some e
 list_of-grows p v t (Started q) n e x = subst (λ l. slice_get l n ≡ Some e) (sym (list_of-still p v t (Started q) refl)) x
 list_of-grows p v t (Sent m) n e x = subst (λ l. slice_get l n ≡ Some e) (sym (list_of-still p v t (Sent m) refl)) x
@@ -132,12 +132,12 @@ list_of-grows p v t (Installed i) n e x = subst (λ l. slice_get l n ≡ Some e)
 list_of-grows p v t (Left q) n e x = subst (λ l. slice_get l n ≡ Some e) (sym (list_of-still p v t (Left q) refl)) x
 list_of-grows p v t (Crashed q) n e x = subst (λ l. slice_get l n ≡ Some e) (sym (list_of-still p v t (Crashed q) refl)) x
 
-sent-said : (b : Bool) (p : Address) (v : ViewId) (t : List Happening) (s : Sending) (n : ℕ) (m : Numbered) → said_by p v s ≡ b
+sent-said : (b : Bool) (p : Address) (v : ViewId) (t : List Event) (s : Sending) (n : ℕ) (m : Numbered) → said_by p v s ≡ b
     → slice_get (sent_in p v t) n ≡ Some m → slice_get (sent_in p v (t ++ Sent s ∷ [])) n ≡ Some m
 sent-said true p v t s n m test x = subst (λ l. slice_get l n ≡ Some m) (sym (sent_in-hit p v t s test)) (slice_get-before (sent_in p v t) (s.message ∷ []) n m x)
 sent-said false p v t s n m test x = subst (λ l. slice_get l n ≡ Some m) (sym (sent_in-miss p v t s test)) x
 
-pub sent_in-grows : (p : Address) (v : ViewId) (t : List Happening) (h : Happening) (n : ℕ) (m : Numbered) → slice_get (sent_in p v t) n ≡ Some m
+pub sent_in-grows : (p : Address) (v : ViewId) (t : List Event) (h : Event) (n : ℕ) (m : Numbered) → slice_get (sent_in p v t) n ≡ Some m
     → slice_get (sent_in p v (t ++ h ∷ [])) n ≡ Some m
 sent_in-grows p v t (Started q) n m x = subst (λ l. slice_get l n ≡ Some m) (sym (sent_in-still p v t (Started q) refl)) x
 sent_in-grows p v t (Sent s) n m x = sent-said (said_by p v s) p v t s n m refl x
@@ -148,7 +148,7 @@ sent_in-grows p v t (Left q) n m x = subst (λ l. slice_get l n ≡ Some m) (sym
 sent_in-grows p v t (Crashed q) n m x = subst (λ l. slice_get l n ≡ Some m) (sym (sent_in-still p v t (Crashed q) refl)) x
 
 -- a delivery is in no view that its member left
-left-delivered : (b : Bool) (t : List Happening) (d : Delivery) (p : Address) (v w : ViewId) (e : Install) → told_to p v d ≡ b → HasRisingViews t → MayStand t (Delivered d)
+left-delivered : (b : Bool) (t : List Event) (d : Delivery) (p : Address) (v w : ViewId) (e : Install) → told_to p v d ≡ b → HasRisingViews t → MayStand t (Delivered d)
     → entry_of p w t ≡ Some e → e.previous ≡ Some v → list_of p v (t ++ Delivered d ∷ []) ≡ list_of p v t
 left-delivered false t d p v w e test views stands x came = list_of-miss p v t d test
 left-delivered true t d p v w e test views stands x came =
@@ -157,7 +157,7 @@ left-delivered true t d p v w e test views stands x came =
     let itself = same_address-true e.member p (and_parts (same_address e.member p) (same_view_id e.view.id w) at.passes).0 in
     absurd (gone t views at.place e at.stands v came (ap (λ q. current_view q t) itself ∙ ap (λ q. current_view q t) (sym same.0) ∙ stands.1 ∙ ap Some same.1))
 
-left-stays : (t : List Happening) (h : Happening) (p : Address) (v w : ViewId) (e : Install) → HasRisingViews t → MayStand t h → entry_of p w t ≡ Some e → e.previous ≡ Some v
+left-stays : (t : List Event) (h : Event) (p : Address) (v w : ViewId) (e : Install) → HasRisingViews t → MayStand t h → entry_of p w t ≡ Some e → e.previous ≡ Some v
     → list_of p v (t ++ h ∷ []) ≡ list_of p v t
 left-stays t (Started q) p v w e views stands x came = list_of-still p v t (Started q) refl
 left-stays t (Sent m) p v w e views stands x came = list_of-still p v t (Sent m) refl
@@ -167,8 +167,8 @@ left-stays t (Installed i) p v w e views stands x came = list_of-still p v t (In
 left-stays t (Left q) p v w e views stands x came = list_of-still p v t (Left q) refl
 left-stays t (Crashed q) p v w e views stands x came = list_of-still p v t (Crashed q) refl
 
-pub later-happening : (h : History) (x : Happening) → HasRisingViews h.trace → MayStand h.trace x → Later h (record { pool = h.pool; trace = h.trace ++ x ∷ [] })
-later-happening h x views stands = record {
+pub later-event : (h : History) (x : Event) → HasRisingViews h.trace → MayStand h.trace x → Later h (record { pool = h.pool; trace = h.trace ++ x ∷ [] })
+later-event h x views stands = record {
   flush = λ w l y. y;
   report = λ p w r y. y;
   install = λ w q i y. y;

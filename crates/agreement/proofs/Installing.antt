@@ -1,12 +1,13 @@
 -- A member installs a view: what is kept of the installs and the states before.
-use Rattle.std.proofs.Common.{◌≡◌, ℕ, Bool, true, false, cond, ◌&&◌, Option, Some, None, List, [], ◌∷◌, ◌++◌, refl, sym, ap, ◌∙◌, subst}
+use Rattle.std.proofs.Common.{◌≡◌, Bool, true, false, cond, ◌&&◌, Option, Some, None, [], ◌∷◌, ◌++◌, refl, sym, ap, ◌∙◌, subst}
 use Rattle.std.specs.List.{position_from}
 use Rattle.std.specs.Option.{option_or}
 use Rattle.std.proofs.lemmas.Bool.{and_parts, cond-true, cond-false}
 use Rattle.std.proofs.lemmas.Option.{none-some, same_Some}
 use Rattle.address.specs.Ids.{Address, ViewId, same_address, same_view_id}
-use Rattle.trace_props.specs.declared.happening.Happening.TheVariants.{Installed}
-use Rattle.trace_props.specs.declared.happening.Install.{Install}
+use Rattle.state_transfer.specs.Meanings.{Meaning}
+use Rattle.trace_props.specs.declared.event.Event.TheVariants.{Installed}
+use Rattle.trace_props.specs.declared.event.Install.{Install}
 use Rattle.trace_props.specs.Observed.{entry_of}
 use Rattle.trace_props.specs.State.{installs, entry_state}
 use Rattle.trace_props.proofs.Observing.{same_address-true, same_address-refl, same_view_id-true, same_view_id-refl}
@@ -73,14 +74,14 @@ coordinators-same h i other w =
     ∙ ap (option_or (entry_of w.creator w h.trace)) (cond-false (enters w.creator w i) (Some i) None (no-coordinator i w (enters w.creator w i) refl other))
     ∙ or-none (entry_of w.creator w h.trace)
 
-module _ {S : Type 0} (opening : S) (apply : S → Address → List ℕ → S) (encode : S → List ℕ) (decode : List ℕ → Option S) (is_state : S → Type 0) where
+module _ {S : Type 0} (meaning : Meaning S) where
   -- one who is not the view's coordinator begins no view
   pub begun-same : (h : History) (i : Install) → same_address i.member i.view.id.creator ≡ false → (v : ViewId)
-      → entry_state opening apply decode v (installed_on h i).trace ≡ entry_state opening apply decode v h.trace
+      → entry_state meaning v (installed_on h i).trace ≡ entry_state meaning v h.trace
   begun-same h i other v =
-      no-entry opening apply encode decode is_state v h.trace (Installed i) (no-coordinator i v (enters v.creator v i) refl other) (position_from (installs v.creator v) 0 h.trace) refl
+      no-entry meaning v h.trace (Installed i) (no-coordinator i v (enters v.creator v i) refl other) (position_from (installs v.creator v) 0 h.trace) refl
 
   pub states-entered : (h : History) (i : Install) → Later h (installed_on h i) → same_address i.member i.view.id.creator ≡ false → EachPacket h
-      → StateFact opening apply encode decode is_state h → StateFact opening apply encode decode is_state (installed_on h i)
+      → StateFact meaning h → StateFact meaning (installed_on h i)
   states-entered h i m other each x =
-      states-kept opening apply encode decode is_state h (installed_on h i) m (begun-same h i other) (coordinators-same h i other) (λ w q. refl) each x
+      states-kept meaning h (installed_on h i) m (begun-same h i other) (coordinators-same h i other) (λ w q. refl) each x

@@ -1,11 +1,12 @@
 -- The story of the two halves plays: each of its steps is allowed after those before, and the trace is the one that is told.
-use Rattle.std.proofs.Common.{◌≡◌, ℕ, zero, suc, ◌+◌, Option, Some, None, List, [], ◌∷◌, ◌++◌, refl, sym, ap, ◌∙◌, is_some, arith, inl}
+use Rattle.std.proofs.Common.{◌≡◌, ℕ, zero, suc, ◌+◌, Some, None, List, [], ◌∷◌, ◌++◌, refl, sym, ap, ◌∙◌, is_some, arith, inl}
 use Rattle.std.specs.Prelude.{IsSome, slice_get, length, ◌≤◌}
 use Rattle.std.proofs.lemmas.Option.{none-some}
-use Rattle.address.specs.Ids.{Address, IsAddress}
+use Rattle.address.specs.Ids.{IsAddress}
 use Rattle.packet_values.specs.Values.{Entry}
 use Rattle.wire.specs.Values.{Report}
-use Rattle.packet_values.specs.declared.limits.TheConstants.{PAYLOAD}
+use Rattle.limits.specs.declared.TheConstants.{PAYLOAD}
+use Rattle.state_transfer.specs.Meanings.{Meaning}
 use Rattle.flush.specs.Cuts.{held_among, greatest_stable, IsCut}
 use Rattle.flush.specs.Flushes.{group}
 use Rattle.trace_props.specs.Rules.{IsBelow}
@@ -60,22 +61,22 @@ all-cuts =
 pub is-short : length message_a ≤ PAYLOAD
 is-short = omega arith
 
-module _ {S : Type 0} (opening : S) (apply : S → Address → List ℕ → S) (encode : S → List ℕ) (decode : List ℕ → Option S) where
+module _ {S : Type 0} (meaning : Meaning S) where
   abbrev Runs : System S → List Step → Type 0
-  Runs s steps = playing.Runs opening apply encode decode s steps
+  Runs s steps = playing.Runs meaning s steps
 
   abbrev After : System S → List Step → System S
-  After s steps = playing.After opening apply encode decode s steps
+  After s steps = playing.After meaning s steps
 
   -- the state of the first half
   abbrev half : S
-  half = apply opening one message_a
+  half = meaning.apply meaning.opening one message_a
 
   abbrev fourth_system : System S
-  fourth_system = playing.fourth_system opening apply encode decode
+  fourth_system = playing.fourth_system meaning
 
   abbrev fifth_system : System S
-  fifth_system = After fourth_system (fourth_chapter (encode opening))
+  fifth_system = After fourth_system (fourth_chapter (meaning.encode meaning.opening))
 
   abbrev sixth_system : System S
   sixth_system = After fifth_system parting_chapter
@@ -83,7 +84,7 @@ module _ {S : Type 0} (opening : S) (apply : S → Address → List ℕ → S) (
   abbrev seventh_system : System S
   seventh_system = After sixth_system apart_chapter
 
-  fourth-runs : decode (encode opening) ≡ Some opening → Runs fourth_system (fourth_chapter (encode opening))
+  fourth-runs : meaning.decode (meaning.encode meaning.opening) ≡ Some meaning.opening → Runs fourth_system (fourth_chapter (meaning.encode meaning.opening))
   fourth-runs reads =
       (four-is, refl)
       ▸ refl
@@ -96,9 +97,9 @@ module _ {S : Type 0} (opening : S) (apply : S → Address → List ℕ → S) (
       ▸ record { flush = refl; told = refl; listed = refl; new = refl }
       ▸ record { flush = refl; told = refl; listed = refl; new = refl }
       ▸ record { view = refl; flush = refl; all = all-reported four_reports; cut = cuts-of four_reports empty_cuts four-cuts }
-      ▸ record { asked = refl; promised = refl; waiting = refl; fits = omega arith; readable = for-none (λ bytes. IsSome (decode bytes)) }
-      ▸ record { asked = refl; promised = refl; waiting = refl; fits = omega arith; readable = for-none (λ bytes. IsSome (decode bytes)) }
-      ▸ record { asked = refl; promised = refl; waiting = refl; fits = record { base = refl; items = refl; state = refl }; readable = for-some (λ bytes. IsSome (decode bytes)) (encode opening) (ap is_some reads) }
+      ▸ record { asked = refl; promised = refl; waiting = refl; fits = omega arith; readable = for-none (λ bytes. IsSome (meaning.decode bytes)) }
+      ▸ record { asked = refl; promised = refl; waiting = refl; fits = omega arith; readable = for-none (λ bytes. IsSome (meaning.decode bytes)) }
+      ▸ record { asked = refl; promised = refl; waiting = refl; fits = record { base = refl; items = refl; state = refl }; readable = for-some (λ bytes. IsSome (meaning.decode bytes)) (meaning.encode meaning.opening) (ap is_some reads) }
       ▸ tt
 
   parting-runs : Runs fifth_system parting_chapter
@@ -109,11 +110,11 @@ module _ {S : Type 0} (opening : S) (apply : S → Address → List ℕ → S) (
       ▸ record { asked = refl; listed = refl; connected = refl; above = inl (for-some (λ p. IsBelow p.id first_half.id) view_of_four refl) }
       ▸ record { flush = refl; told = refl; listed = refl; new = refl }
       ▸ record { view = refl; flush = refl; all = all-reported first_reports; cut = cuts-of first_reports empty_cuts first-cuts }
-      ▸ record { asked = refl; promised = refl; waiting = refl; fits = omega arith; readable = for-none (λ bytes. IsSome (decode bytes)) }
+      ▸ record { asked = refl; promised = refl; waiting = refl; fits = omega arith; readable = for-none (λ bytes. IsSome (meaning.decode bytes)) }
       ▸ record { asked = refl; listed = refl; connected = refl; above = inl (for-some (λ p. IsBelow p.id second_half.id) view_of_four refl) }
       ▸ record { flush = refl; told = refl; listed = refl; new = refl }
       ▸ record { view = refl; flush = refl; all = all-reported second_reports; cut = cuts-of second_reports empty_cuts second-cuts }
-      ▸ record { asked = refl; promised = refl; waiting = refl; fits = omega arith; readable = for-none (λ bytes. IsSome (decode bytes)) }
+      ▸ record { asked = refl; promised = refl; waiting = refl; fits = omega arith; readable = for-none (λ bytes. IsSome (meaning.decode bytes)) }
       ▸ tt
 
   apart-runs : Runs sixth_system apart_chapter
@@ -135,7 +136,7 @@ module _ {S : Type 0} (opening : S) (apply : S → Address → List ℕ → S) (
       ▸ record { open_in = record { view = refl; installed = refl }; told = omega arith; stable = All refl (λ q listed. at-least-none _); fewer = keeps-all (held_first entry_of_three) refl }
       ▸ tt
 
-  merge-runs : decode (encode half) ≡ Some half → Runs seventh_system (merge_chapter (encode half))
+  merge-runs : meaning.decode (meaning.encode half) ≡ Some half → Runs seventh_system (merge_chapter (meaning.encode half))
   merge-runs reads =
       tt
       ▸ record { inside = refl; own = refl; above = for-some (λ p. IsBelow p.id view_of_all.id) first_half refl; view = refl }
@@ -146,17 +147,17 @@ module _ {S : Type 0} (opening : S) (apply : S → Address → List ℕ → S) (
       ▸ record { flush = refl; told = refl; listed = refl; new = refl }
       ▸ record { flush = refl; told = refl; listed = refl; new = refl }
       ▸ record { view = refl; flush = refl; all = all-reported all_reports; cut = cuts-of all_reports half_cuts all-cuts }
-      ▸ record { asked = refl; promised = refl; waiting = refl; fits = omega arith; readable = for-none (λ bytes. IsSome (decode bytes)) }
-      ▸ record { asked = refl; promised = refl; waiting = refl; fits = omega arith; readable = for-some (λ bytes. IsSome (decode bytes)) (encode half) (ap is_some reads) }
-      ▸ record { asked = refl; promised = refl; waiting = refl; fits = omega arith; readable = for-some (λ bytes. IsSome (decode bytes)) (encode half) (ap is_some reads) }
+      ▸ record { asked = refl; promised = refl; waiting = refl; fits = omega arith; readable = for-none (λ bytes. IsSome (meaning.decode bytes)) }
+      ▸ record { asked = refl; promised = refl; waiting = refl; fits = omega arith; readable = for-some (λ bytes. IsSome (meaning.decode bytes)) (meaning.encode half) (ap is_some reads) }
+      ▸ record { asked = refl; promised = refl; waiting = refl; fits = omega arith; readable = for-some (λ bytes. IsSome (meaning.decode bytes)) (meaning.encode half) (ap is_some reads) }
       ▸ tt
 
-  pub merge-plays : decode (encode opening) ≡ Some opening → decode (encode half) ≡ Some half → MergePlays opening apply encode decode
+  pub merge-plays : meaning.decode (meaning.encode meaning.opening) ≡ Some meaning.opening → meaning.decode (meaning.encode half) ≡ Some half → MergePlays meaning
   merge-plays reads reads_half =
-      let apart : List Step = apart_chapter ++ merge_chapter (encode half) in
+      let apart : List Step = apart_chapter ++ merge_chapter (meaning.encode half) in
       let parting : List Step = parting_chapter ++ apart in
-      let fourth : List Step = fourth_chapter (encode opening) ++ parting in
-      let rest = playing.run-then opening apply encode decode sixth_system apart_chapter (merge_chapter (encode half)) apart-runs (merge-runs reads_half) in
-      let rest = playing.run-then opening apply encode decode fifth_system parting_chapter apart parting-runs rest in
-      let rest = playing.run-then opening apply encode decode fourth_system (fourth_chapter (encode opening)) parting (fourth-runs reads) rest in
-      (playing.joined-then opening apply encode decode reads fourth rest, refl)
+      let fourth : List Step = fourth_chapter (meaning.encode meaning.opening) ++ parting in
+      let rest = playing.run-then meaning sixth_system apart_chapter (merge_chapter (meaning.encode half)) apart-runs (merge-runs reads_half) in
+      let rest = playing.run-then meaning fifth_system parting_chapter apart parting-runs rest in
+      let rest = playing.run-then meaning fourth_system (fourth_chapter (meaning.encode meaning.opening)) parting (fourth-runs reads) rest in
+      (playing.joined-then meaning reads fourth rest, refl)

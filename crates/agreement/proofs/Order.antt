@@ -5,9 +5,9 @@ use Rattle.std.specs.List.{cons_option}
 use Rattle.std.proofs.lemmas.Option.{none-some, same_Some}
 use Rattle.address.specs.Ids.{Address, ViewId, same_address}
 use Rattle.packet_values.specs.Values.{Entry}
-use Rattle.trace_props.specs.declared.happening.Happening.{Happening}
-use Rattle.trace_props.specs.declared.happening.Message.{Message}
-use Rattle.trace_props.specs.declared.happening.Numbered.{Numbered}
+use Rattle.trace_props.specs.declared.event.Event.{Event}
+use Rattle.trace_props.specs.declared.event.Message.{Message}
+use Rattle.trace_props.specs.declared.event.Numbered.{Numbered}
 use Rattle.trace_props.specs.Observed.{delivered_in, sent_in, own, numbered}
 use Rattle.trace_props.specs.Rules.{HasSoundMessages, HasOneOrder}
 use Rattle.trace_props.proofs.Places.{IsBeginningOf-at}
@@ -20,12 +20,12 @@ message-at [] k e at = absurd (none-some e at)
 message-at (m ∷ l) zero e at = ap Some (ap message_for (same_Some (entry_for m) e at))
 message-at (m ∷ l) (suc k) e at = message-at l k e at
 
-pub order-message : (v : ViewId) (t : List Happening) (k : ℕ) (e : Entry) → slice_get (order_of v t) k ≡ Some e → slice_get (delivered_in v.creator v t) k ≡ Some (message_for e)
+pub order-message : (v : ViewId) (t : List Event) (k : ℕ) (e : Entry) → slice_get (order_of v t) k ≡ Some e → slice_get (delivered_in v.creator v t) k ≡ Some (message_for e)
 unfolding list_of
 order-message v t k e at = message-at (delivered_in v.creator v t) k e at
 
 -- as many messages were told as entries
-pub told-many : (p : Address) (v : ViewId) (t : List Happening) → length (list_of p v t) ≡ length (delivered_in p v t)
+pub told-many : (p : Address) (v : ViewId) (t : List Event) → length (list_of p v t) ≡ length (delivered_in p v t)
 unfolding list_of
 told-many p v t = by (delivered_in p v t)
   where
@@ -49,12 +49,12 @@ own-place (x ∷ l) (suc k) m at =
     own-step (same_address x.sender m.sender) m.sender x m (own m.sender l) (own m.sender (take k l)) refl (own-place l k m at)
 
 -- what is needed of a message that is told next
-pub record IsNext (t : List Happening) (p : Address) (v : ViewId) (m : Message) : Type 0 where
+pub record IsNext (t : List Event) (p : Address) (v : ViewId) (m : Message) : Type 0 where
   pub number : m.number ≡ length (own m.sender (delivered_in p v t)) + 1
   pub sent : slice_get (sent_in m.sender v t) (length (own m.sender (delivered_in p v t))) ≡ Some (numbered m)
   pub order : slice_get (delivered_in v.creator v t) (length (delivered_in p v t)) ≡ Some m
 
-pub next-of-order : (t : List Happening) (p : Address) (v : ViewId) (e : Entry) (d : ℕ) → HasSoundMessages t → HasOneOrder t → length (list_of p v t) ≡ d
+pub next-of-order : (t : List Event) (p : Address) (v : ViewId) (e : Entry) (d : ℕ) → HasSoundMessages t → HasOneOrder t → length (list_of p v t) ≡ d
     → slice_get (order_of v t) d ≡ Some e → IsNext t p v (message_for e)
 next-of-order t p v e d sound one told at =
     let m = message_for e in

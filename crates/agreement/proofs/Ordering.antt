@@ -1,5 +1,5 @@
 -- The act Orders: a view's coordinator orders the next message of a sender, and is told it by that.
-use Rattle.std.proofs.Common.{◌≡◌, ℕ, ◌+◌, ◌<◌, ◌≤◌, Bool, true, false, cond, Option, Some, List, [], ◌∷◌, ◌++◌, length, refl, sym, ap, ◌∙◌, subst, arith, is_some, nat_eq}
+use Rattle.std.proofs.Common.{◌≡◌, ℕ, ◌+◌, ◌<◌, ◌≤◌, Bool, true, false, cond, Some, List, [], ◌∷◌, ◌++◌, length, refl, sym, ap, ◌∙◌, subst, arith, is_some, nat_eq}
 use Rattle.std.specs.Prelude.{slice_get}
 use Rattle.std.specs.Option.{option_map}
 use Rattle.std.proofs.lemmas.Bool.{cond-true, cond-false}
@@ -8,12 +8,13 @@ use Rattle.std.proofs.lemmas.Option.{none-some, same_Some}
 use Rattle.std.proofs.lemmas.List.{append-nil, length_push}
 use Rattle.address.specs.Ids.{Address, ViewId, same_address}
 use Rattle.view.specs.Members.{View}
-use Rattle.packet_values.specs.declared.limits.TheConstants.{WINDOW}
+use Rattle.limits.specs.declared.TheConstants.{WINDOW}
 use Rattle.packet_values.specs.Values.{Entry, held_at}
-use Rattle.trace_props.specs.declared.happening.Happening.{Happening}
-use Rattle.trace_props.specs.declared.happening.Happening.TheVariants.{Delivered}
-use Rattle.trace_props.specs.declared.happening.Delivery.{Delivery}
-use Rattle.trace_props.specs.declared.happening.Message.{Message}
+use Rattle.state_transfer.specs.Meanings.{Meaning}
+use Rattle.trace_props.specs.declared.event.Event.{Event}
+use Rattle.trace_props.specs.declared.event.Event.TheVariants.{Delivered}
+use Rattle.trace_props.specs.declared.event.Delivery.{Delivery}
+use Rattle.trace_props.specs.declared.event.Message.{Message}
 use Rattle.trace_props.specs.Observed.{delivered_in, sent_in, own, numbered}
 use Rattle.trace_props.specs.Verdicts.{GoesOn}
 use Rattle.trace_props.specs.State.{state_of}
@@ -34,7 +35,7 @@ use Rattle.agreement.proofs.Words.{list_of-hit, tally_of-push}
 use Rattle.agreement.proofs.Staying.{sent-later}
 use Rattle.agreement.proofs.Others.{inside-later, window-later, acks-later, first-entered}
 use Rattle.agreement.proofs.Moving.{moved}
-use Rattle.agreement.proofs.Quiet.{quiet-happening, quiet-moves, grown-trace}
+use Rattle.agreement.proofs.Quiet.{quiet-event, quiet-moves, grown-trace}
 use Rattle.agreement.proofs.Gathering.{held-order, held-near}
 use Rattle.agreement.proofs.Delivering.{own-by, sender-started, state_with-more}
 use Rattle.agreement.proofs.Catching.{Law}
@@ -42,12 +43,12 @@ use Rattle.agreement.proofs.Catching.{Law}
 -- ---- what may be ordered
 
 -- what is needed of a message that the coordinator orders: it was sent, and it is its sender's next there
-record IsDue (t : List Happening) (p : Address) (v : ViewId) (m : Message) : Type 0 where
+record IsDue (t : List Event) (p : Address) (v : ViewId) (m : Message) : Type 0 where
   number : m.number ≡ length (own m.sender (delivered_in p v t)) + 1
   sent : slice_get (sent_in m.sender v t) (length (own m.sender (delivered_in p v t))) ≡ Some (numbered m)
 
 -- what waits was sent, and what was ordered is counted, so a message that may be ordered is due
-due-of : {S : Type 0} (t : List Happening) (c : Core S) (v : View) (e : Entry) (waiting : List Entry) (held : List (ℕ × Entry)) → HasWaiting t v.id c.traffic.waiting
+due-of : {S : Type 0} (t : List Event) (c : Core S) (v : View) (e : Entry) (waiting : List Entry) (held : List (ℕ × Entry)) → HasWaiting t v.id c.traffic.waiting
     → HasOrdered t c.me v.id c.traffic.ordered → MayOrder c v e waiting held → IsDue t c.me v.id (message_for e)
 due-of t c v e waiting held waits ordered a =
     let at = place-of c.traffic.waiting e a.waits in
@@ -57,7 +58,7 @@ due-of t c v e waiting held waits ordered a =
 -- ---- what is held and counted afterwards
 
 -- at the view's coordinator the order is its own list, so it ends with the new entry
-ordered-last : (t u : List Happening) (p : Address) (v : ViewId) (d : ℕ) (e : Entry) → same_address p v.creator ≡ true → list_of p v u ≡ list_of p v t ++ e ∷ [] → length (list_of p v t) ≡ d
+ordered-last : (t u : List Event) (p : Address) (v : ViewId) (d : ℕ) (e : Entry) → same_address p v.creator ≡ true → list_of p v u ≡ list_of p v t ++ e ∷ [] → length (list_of p v t) ≡ d
     → IsOrdered u v (d + 1) e
 ordered-last t u p v d e first list told k number =
     let here : length (list_of p v t) ≡ k = omega arith in
@@ -73,7 +74,7 @@ all-by false held new s d g e test more all past within =
     ap is_some (more.now g ∙ cond-false (nat_eq g (d + 1)) (Some e) (held_at g held) test) ∙ all g past low
 
 -- the window with the new entry at the number after those that were told
-window-next : (t : List Happening) (v : ViewId) (s d : ℕ) (old new : List (ℕ × Entry)) (e : Entry) → HasWindow t v s d old → IsOrdered t v (d + 1) e → d < s + WINDOW
+window-next : (t : List Event) (v : ViewId) (s d : ℕ) (old new : List (ℕ × Entry)) (e : Entry) → HasWindow t v s d old → IsOrdered t v (d + 1) e → d < s + WINDOW
     → HoldsMore old (d + 1) e new → HasWindow t v s (d + 1) new
 window-next t v s d old new e w is room more = record {
   order = λ g x at. held-order (nat_eq g (d + 1)) t v old new (d + 1) g e x refl more w.order is at;
@@ -91,9 +92,9 @@ ordered-by false q told m n test is = is ∙ ap length (sym (own-miss q told m (
 
 -- ---- the act
 
-module _ {S : Type 0} (opening : S) (apply : S → Address → List ℕ → S) (encode : S → List ℕ) (decode : List ℕ → Option S) (is_state : S → Type 0) where
+module _ {S : Type 0} (meaning : Meaning S) where
   abbrev Fact : History → Address → Core S → Type 0
-  Fact h p c = MemberFact opening apply decode is_state h p c
+  Fact h p c = MemberFact meaning h p c
 
   abbrev delivery_of : Core S → View → Entry → Delivery
   delivery_of c v e = record { member = c.me; view = v.id; message = message_for e }
@@ -103,20 +104,20 @@ module _ {S : Type 0} (opening : S) (apply : S → Address → List ℕ → S) (
   ordering c e waiting held = record (told_more c.me (e ∷ []) c.traffic) { waiting = waiting; held = held; ordered = one_more e.sender c.traffic.ordered }
 
   abbrev with_ordered : Core S → Entry → List Entry → List (ℕ × Entry) → Core S
-  with_ordered c e waiting held = record c { traffic = ordering c e waiting held; state = applied apply c.state (e ∷ []) }
+  with_ordered c e waiting held = record c { traffic = ordering c e waiting held; state = applied meaning c.state (e ∷ []) }
 
   -- it may follow
   orders-goes : (h : History) (c : Core S) (v : View) (e : Entry) → c.view ≡ Some v → same_address c.me v.id.creator ≡ true → Fact h c.me c → IsDue h.trace c.me v.id (message_for e)
-      → GoesOn opening apply decode h.trace (Delivered (delivery_of c v e))
+      → GoesOn meaning h.trace (Delivered (delivery_of c v e))
   orders-goes h c v e is first x due = record {
     seven = (tt, (tt, (tt, ((λ other. absurd (let n : true ≡ false = sym first ∙ other in cc)), ((due.number, due.sent), (tt, ((x.seat.running, x.seat.current ∙ ap id_of is), tt)))))));
     enters = tt;
   }
 
   -- the act keeps the invariant
-  pub orders-keep : (s : System S) (c : Core S) (v : View) (e : Entry) (waiting : List Entry) (held : List (ℕ × Entry)) → Law opening apply encode decode is_state
-      → Invariant opening apply encode decode is_state s → Fact s.history c.me c → MayOrder c v e waiting held
-      → Invariant opening apply encode decode is_state (acted apply encode decode s c.me (Orders v e waiting held) c)
+  pub orders-keep : (s : System S) (c : Core S) (v : View) (e : Entry) (waiting : List Entry) (held : List (ℕ × Entry)) → Law meaning
+      → Invariant meaning s → Fact s.history c.me c → MayOrder c v e waiting held
+      → Invariant meaning (acted meaning s c.me (Orders v e waiting held) c)
   orders-keep s c v e waiting held law i x a =
       let h = s.history in
       let t = h.trace in
@@ -127,7 +128,7 @@ module _ {S : Type 0} (opening : S) (apply : S → Address → List ℕ → S) (
       let f = x.view v a.open_in.view in
       let d = c.traffic.delivered in
       let due = due-of t c v e waiting held f.waiting f.ordered a in
-      let quiet = quiet-happening opening apply encode decode is_state me h happened refl refl i.trace (orders-goes h c v e a.open_in.view a.first x due) tt in
+      let quiet = quiet-event meaning me h happened refl refl i.trace (orders-goes h c v e a.open_in.view a.first x due) tt in
       let m = quiet.later in
       let told = delivered_in-hit me v.id t y (told_to-at y) in
       let list : list_of me v.id k.trace ≡ list_of me v.id t ++ e ∷ [] = list_of-hit me v.id t y (told_to-at y) in
@@ -172,20 +173,20 @@ module _ {S : Type 0} (opening : S) (apply : S → Address → List ℕ → S) (
         flush = λ g z. absurd (let n : true ≡ false = sym a.open_in.installed ∙ (x.flush g z).waits in cc);
         view = λ u z. subst (λ (w : View). ViewFact k me c.installed (ordering c e waiting held) c.kept w) (same_Some v u (sym a.open_in.view ∙ z)) fact;
         state = record {
-          now = state_of-push opening apply decode me t happened
-              ∙ cond-true (same_address me me) (apply (state_of opening apply decode me t) e.sender e.payload) (state_of opening apply decode me t) (same_address-refl me)
-              ∙ ap (λ z. apply z e.sender e.payload) x.state.now;
+          now = state_of-push meaning me t happened
+              ∙ cond-true (same_address me me) (meaning.apply (state_of meaning me t) e.sender e.payload) (state_of meaning me t) (same_address-refl me)
+              ∙ ap (λ z. meaning.apply z e.sender e.payload) x.state.now;
           is = law c.state e.sender e.payload x.state.is
-              (i.trace.proper e.sender (sender-started opening apply decode h e.sender v.id _ _ i.trace due.sent)) (i.trace.short e.sender v.id _ _ due.sent);
+              (i.trace.proper e.sender (sender-started meaning h e.sender v.id _ _ i.trace due.sent)) (i.trace.short e.sender v.id _ _ due.sent);
           in_view = λ u z.
-              subst (λ (w : View). state_with opening apply decode w.id (list_of me w.id k.trace) k.trace ≡ Some (applied apply c.state (e ∷ []))) (same_Some v u (sym a.open_in.view ∙ z))
-              (ap (λ l. state_with opening apply decode v.id l k.trace) list
+              subst (λ (w : View). state_with meaning w.id (list_of me w.id k.trace) k.trace ≡ Some (applied meaning c.state (e ∷ []))) (same_Some v u (sym a.open_in.view ∙ z))
+              (ap (λ l. state_with meaning v.id l k.trace) list
               ∙ ap (option_map _) (quiet.begun v.id)
-              ∙ state_with-more opening apply decode v.id (list_of me v.id t) e t c.state (x.state.in_view v a.open_in.view));
+              ∙ state_with-more meaning v.id (list_of me v.id t) e t c.state (x.state.in_view v a.open_in.view));
         };
       } in
-      subst (λ (l : History). Invariant opening apply encode decode is_state (record { running = put me (Some after) s.running; history = l }))
-      (sym (grown-trace opening apply encode decode is_state h (happened ∷ [])))
-      (moved opening apply encode decode is_state s me k (Some after) i
-      (quiet-moves opening apply encode decode is_state s me k [] (Some after) i quiet (sym (append-nil h.pool)) (λ n z at. absurd (none-some z at))
+      subst (λ (l : History). Invariant meaning (record { running = put me (Some after) s.running; history = l }))
+      (sym (grown-trace meaning h (happened ∷ [])))
+      (moved meaning s me k (Some after) i
+      (quiet-moves meaning s me k [] (Some after) i quiet (sym (append-nil h.pool)) (λ n z at. absurd (none-some z at))
       (λ g z. subst (λ (w : Core S). Fact k me w) (same_Some after g z) new)))

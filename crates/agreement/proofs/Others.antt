@@ -11,11 +11,12 @@ use Rattle.wire.specs.Values.{Report}
 use Rattle.wire.specs.Values as wire
 use Rattle.wire.specs.declared.packet.Body.{Body}
 use Rattle.wire.specs.declared.packet.Body.TheVariants as bodies
+use Rattle.state_transfer.specs.Meanings.{Meaning}
 use Rattle.flush.specs.Flushes.{FlushModel}
-use Rattle.trace_props.specs.declared.happening.Happening.{Happening}
-use Rattle.trace_props.specs.declared.happening.Happening.TheVariants.{Started, Sent, Delivered, Blocked, Installed, Left, Crashed}
-use Rattle.trace_props.specs.declared.happening.Numbered.{Numbered}
-use Rattle.trace_props.specs.declared.happening.Install.{Install}
+use Rattle.trace_props.specs.declared.event.Event.{Event}
+use Rattle.trace_props.specs.declared.event.Event.TheVariants.{Started, Sent, Delivered, Blocked, Installed, Left, Crashed}
+use Rattle.trace_props.specs.declared.event.Numbered.{Numbered}
+use Rattle.trace_props.specs.declared.event.Install.{Install}
 use Rattle.trace_props.specs.Observed.{member_of, current_view, is_blocked, delivered_in, sent_in, own, entry_of}
 use Rattle.trace_props.specs.Rules.{IsRunning}
 use Rattle.trace_props.specs.State.{state_of, entry_state}
@@ -81,7 +82,7 @@ only-trans p h k l a b = record {
   install = λ w q o. b.install w q o ∙ a.install w q o;
 }
 
--- ---- one happening more
+-- ---- one event more
 
 pub not-another : (p q r : Address) → r ≡ p → same_address q p ≡ false → same_address r q ≡ false
 not-another p q r same other = by (same_address r q) refl
@@ -90,7 +91,7 @@ not-another p q r same other = by (same_address r q) refl
     by true e = absurd (let n : true ≡ false = sym (same_address-from q p (sym (same_address-true r q e) ∙ same)) ∙ other in cc)
     by false e = e
 
-entry_of-other : (q : Address) (v : ViewId) (t : List Happening) (h : Happening) → same_address (member_of h) q ≡ false → entry_of q v (t ++ h ∷ []) ≡ entry_of q v t
+entry_of-other : (q : Address) (v : ViewId) (t : List Event) (h : Event) → same_address (member_of h) q ≡ false → entry_of q v (t ++ h ∷ []) ≡ entry_of q v t
 entry_of-other q v t (Started x) o = register-still (enters q v) t (Started x) refl
 entry_of-other q v t (Sent x) o = register-still (enters q v) t (Sent x) refl
 entry_of-other q v t (Delivered x) o = register-still (enters q v) t (Delivered x) refl
@@ -106,8 +107,8 @@ entry_of-other q v t (Installed i) o =
 entry_of-other q v t (Left x) o = register-still (enters q v) t (Left x) refl
 entry_of-other q v t (Crashed x) o = register-still (enters q v) t (Crashed x) refl
 
-pub only-happening : (p : Address) (h : History) (x : Happening) → member_of x ≡ p → Only p h (record { pool = h.pool; trace = h.trace ++ x ∷ [] })
-only-happening p h x same = record {
+pub only-event : (p : Address) (h : History) (x : Event) → member_of x ≡ p → Only p h (record { pool = h.pool; trace = h.trace ++ x ∷ [] })
+only-event p h x same = record {
   running = λ q o r. record {
     started = has_started-stays q h.trace (x ∷ []) r.started;
     going = has_ended-other q h.trace x (not-another p q (member_of x) same o) ∙ r.going;
@@ -222,9 +223,9 @@ only-packets p h more from = record {
 -- ---- states
 
 -- what the trace says of states went on as it was, but for one member's
-pub record OnlyState {S : Type 0} (opening : S) (apply : S → Address → List ℕ → S) (decode : List ℕ → Option S) (p : Address) (t u : List Happening) : Type 0 where
-  pub now : (q : Address) → same_address q p ≡ false → state_of opening apply decode q u ≡ state_of opening apply decode q t
-  pub entered : (v : ViewId) (s : S) → entry_state opening apply decode v t ≡ Some s → entry_state opening apply decode v u ≡ Some s
+pub record OnlyState {S : Type 0} (meaning : Meaning S) (p : Address) (t u : List Event) : Type 0 where
+  pub now : (q : Address) → same_address q p ≡ false → state_of meaning q u ≡ state_of meaning q t
+  pub entered : (v : ViewId) (s : S) → entry_state meaning v t ≡ Some s → entry_state meaning v u ≡ Some s
 
 -- ---- what holds of another
 
@@ -300,7 +301,7 @@ acks-later h k v acks m x r = let was = x r in let more = m.count r v in omega a
 pub waiting-later : (h k : History) (v : ViewId) (waiting : List Entry) → Later h k → HasWaiting h.trace v waiting → HasWaiting k.trace v waiting
 waiting-later h k v waiting m x n e at = sent-later h k v e m (x n e at)
 
-pub first-entered : (t : List Happening) (p : Address) (v : View) → installed_as p v.id t ≡ Some v → is_some (entry_of p v.id t) ≡ true
+pub first-entered : (t : List Event) (p : Address) (v : View) → installed_as p v.id t ≡ Some v → is_some (entry_of p v.id t) ≡ true
 first-entered t p v x = by (entry_of p v.id t) x
   where
     by : (o : Option Install) → option_map (λ e. e.view) o ≡ Some v → is_some o ≡ true
@@ -321,20 +322,20 @@ view-other p q h k installed traffic kept v o m only x = record {
 }
 
 -- the state in a view stays that of its beginning with all applied
-pub state_with-later : {S : Type 0} (opening : S) (apply : S → Address → List ℕ → S) (decode : List ℕ → Option S) (v : ViewId) (entries : List Entry) (t u : List Happening) (s : S)
-    → ((z : S) → entry_state opening apply decode v t ≡ Some z → entry_state opening apply decode v u ≡ Some z)
-    → state_with opening apply decode v entries t ≡ Some s → state_with opening apply decode v entries u ≡ Some s
-state_with-later {S} opening apply decode v entries t u s kept e = by (entry_state opening apply decode v t) (entry_state opening apply decode v u) kept e
+pub state_with-later : {S : Type 0} (meaning : Meaning S) (v : ViewId) (entries : List Entry) (t u : List Event) (s : S)
+    → ((z : S) → entry_state meaning v t ≡ Some z → entry_state meaning v u ≡ Some z)
+    → state_with meaning v entries t ≡ Some s → state_with meaning v entries u ≡ Some s
+state_with-later {S} meaning v entries t u s kept e = by (entry_state meaning v t) (entry_state meaning v u) kept e
   where
-    by : (o b : Option S) → ((z : S) → o ≡ Some z → b ≡ Some z) → option_map (λ z. applied apply z entries) o ≡ Some s
-        → option_map (λ z. applied apply z entries) b ≡ Some s
+    by : (o b : Option S) → ((z : S) → o ≡ Some z → b ≡ Some z) → option_map (λ z. applied meaning z entries) o ≡ Some s
+        → option_map (λ z. applied meaning z entries) b ≡ Some s
     by None b k y = absurd (none-some s y)
-    by (Some z) b k y = ap (option_map (λ x. applied apply x entries)) (k z refl) ∙ y
+    by (Some z) b k y = ap (option_map (λ x. applied meaning x entries)) (k z refl) ∙ y
 
-pub member-other : {S : Type 0} (opening : S) (apply : S → Address → List ℕ → S) (decode : List ℕ → Option S) (is_state : S → Type 0) (p q : Address) (h k : History) (c : Core S)
-    → same_address q p ≡ false → Later h k → Only p h k → OnlyState opening apply decode p h.trace k.trace
-    → MemberFact opening apply decode is_state h q c → MemberFact opening apply decode is_state k q c
-member-other opening apply decode is_state p q h k c o m only states x = record {
+pub member-other : {S : Type 0} (meaning : Meaning S) (p q : Address) (h k : History) (c : Core S)
+    → same_address q p ≡ false → Later h k → Only p h k → OnlyState meaning p h.trace k.trace
+    → MemberFact meaning h q c → MemberFact meaning k q c
+member-other meaning p q h k c o m only states x = record {
   seat = seat-other p q c.me h k c.view c.installed o only x.seat;
   promise = x.promise;
   announced = λ w e other. m.flush w.id w.members (x.announced w e other);
@@ -346,7 +347,7 @@ member-other opening apply decode is_state p q h k c o m only states x = record 
     now = states.now q o ∙ x.state.now;
     is = x.state.is;
     in_view = λ v e.
-        ap (λ l. state_with opening apply decode v.id l k.trace) (only.list q v.id o)
-        ∙ state_with-later opening apply decode v.id (list_of q v.id h.trace) h.trace k.trace c.state (λ z y. states.entered v.id z y) (x.state.in_view v e);
+        ap (λ l. state_with meaning v.id l k.trace) (only.list q v.id o)
+        ∙ state_with-later meaning v.id (list_of q v.id h.trace) h.trace k.trace c.state (λ z y. states.entered v.id z y) (x.state.in_view v e);
   };
 }

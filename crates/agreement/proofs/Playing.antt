@@ -9,6 +9,7 @@ use Rattle.address.specs.Ids.{Address, ViewId, IsAddress, same_address}
 use Rattle.view.specs.Members.{stands_in}
 use Rattle.packet_values.specs.Values.{Entry, held_at}
 use Rattle.wire.specs.Values.{Report}
+use Rattle.state_transfer.specs.Meanings.{Meaning}
 use Rattle.flush.specs.Cuts.{held_among, greatest_stable, IsCut}
 use Rattle.flush.specs.Flushes.{report_from, group}
 use Rattle.flush.proofs.Keeping.{reporter-stands}
@@ -109,17 +110,17 @@ three-cuts =
     let cut = for-some (λ u. IsCut (group (Some u) three_reports) 0 []) view_of_two.id (no-items (told_nothing view_of_two ∷ told_nothing view_of_two ∷ []) 0 refl refl) in
     (cut, (cut, (for-none (λ u. IsCut (group (Some u) three_reports) 0 []), tt)))
 
-module _ {S : Type 0} (opening : S) (apply : S → Address → List ℕ → S) (encode : S → List ℕ) (decode : List ℕ → Option S) where
+module _ {S : Type 0} (meaning : Meaning S) where
   abbrev pub Runs : System S → List Step → Type 0
-  Runs s steps = MayRun opening apply encode decode s steps
+  Runs s steps = MayRun meaning s steps
 
   abbrev pub After : System S → List Step → System S
-  After s steps = after_steps opening apply encode decode s steps
+  After s steps = after_steps meaning s steps
 
   -- two lists of steps one after the other
   pub run-then : (s : System S) (steps more : List Step) → Runs s steps → Runs (After s steps) more → Runs s (steps ++ more)
   run-then s [] more a b = b
-  run-then s (x ∷ steps) more a b = (a.0, run-then (stepped opening apply encode decode s x) steps more a.1 b)
+  run-then s (x ∷ steps) more a b = (a.0, run-then (stepped meaning s x) steps more a.1 b)
 
   -- ---- the first chapters
 
@@ -127,15 +128,15 @@ module _ {S : Type 0} (opening : S) (apply : S → Address → List ℕ → S) (
   second_system = After nothing_yet first_chapter
 
   abbrev pub third_system : System S
-  third_system = After second_system (second_chapter (encode opening))
+  third_system = After second_system (second_chapter (meaning.encode meaning.opening))
 
   abbrev pub fourth_system : System S
-  fourth_system = After third_system (third_chapter (encode opening))
+  fourth_system = After third_system (third_chapter (meaning.encode meaning.opening))
 
   first-runs : Runs nothing_yet first_chapter
   first-runs = (one-is, refl) ▸ record { unconnected = refl; unpromised = refl; outside = refl } ▸ tt
 
-  second-runs : decode (encode opening) ≡ Some opening → Runs second_system (second_chapter (encode opening))
+  second-runs : meaning.decode (meaning.encode meaning.opening) ≡ Some meaning.opening → Runs second_system (second_chapter (meaning.encode meaning.opening))
   second-runs reads =
       (two-is, refl)
       ▸ refl
@@ -144,10 +145,10 @@ module _ {S : Type 0} (opening : S) (apply : S → Address → List ℕ → S) (
       ▸ record { asked = refl; listed = refl; connected = refl; above = inl (for-none (λ p. IsBelow p.id view_of_two.id)) }
       ▸ record { flush = refl; told = refl; listed = refl; new = refl }
       ▸ record { view = refl; flush = refl; all = all-reported two_reports; cut = cuts-of two_reports empty_cuts two-cuts }
-      ▸ record { asked = refl; promised = refl; waiting = refl; fits = record { base = refl; items = refl; state = refl }; readable = for-some (λ bytes. IsSome (decode bytes)) (encode opening) (ap is_some reads) }
+      ▸ record { asked = refl; promised = refl; waiting = refl; fits = record { base = refl; items = refl; state = refl }; readable = for-some (λ bytes. IsSome (meaning.decode bytes)) (meaning.encode meaning.opening) (ap is_some reads) }
       ▸ tt
 
-  third-runs : decode (encode opening) ≡ Some opening → Runs third_system (third_chapter (encode opening))
+  third-runs : meaning.decode (meaning.encode meaning.opening) ≡ Some meaning.opening → Runs third_system (third_chapter (meaning.encode meaning.opening))
   third-runs reads =
       (three-is, refl)
       ▸ refl
@@ -158,13 +159,13 @@ module _ {S : Type 0} (opening : S) (apply : S → Address → List ℕ → S) (
       ▸ record { flush = refl; told = refl; listed = refl; new = refl }
       ▸ record { flush = refl; told = refl; listed = refl; new = refl }
       ▸ record { view = refl; flush = refl; all = all-reported three_reports; cut = cuts-of three_reports empty_cuts three-cuts }
-      ▸ record { asked = refl; promised = refl; waiting = refl; fits = omega arith; readable = for-none (λ bytes. IsSome (decode bytes)) }
-      ▸ record { asked = refl; promised = refl; waiting = refl; fits = record { base = refl; items = refl; state = refl }; readable = for-some (λ bytes. IsSome (decode bytes)) (encode opening) (ap is_some reads) }
+      ▸ record { asked = refl; promised = refl; waiting = refl; fits = omega arith; readable = for-none (λ bytes. IsSome (meaning.decode bytes)) }
+      ▸ record { asked = refl; promised = refl; waiting = refl; fits = record { base = refl; items = refl; state = refl }; readable = for-some (λ bytes. IsSome (meaning.decode bytes)) (meaning.encode meaning.opening) (ap is_some reads) }
       ▸ tt
 
   -- what goes on from the three
-  pub joined-then : decode (encode opening) ≡ Some opening → (more : List Step) → Runs fourth_system more → Runs nothing_yet (joining (encode opening) more)
+  pub joined-then : meaning.decode (meaning.encode meaning.opening) ≡ Some meaning.opening → (more : List Step) → Runs fourth_system more → Runs nothing_yet (joining (meaning.encode meaning.opening) more)
   joined-then reads more rest =
-      let rest = run-then third_system (third_chapter (encode opening)) more (third-runs reads) rest in
-      let rest = run-then second_system (second_chapter (encode opening)) (third_chapter (encode opening) ++ more) (second-runs reads) rest in
-      run-then nothing_yet first_chapter (second_chapter (encode opening) ++ third_chapter (encode opening) ++ more) first-runs rest
+      let rest = run-then third_system (third_chapter (meaning.encode meaning.opening)) more (third-runs reads) rest in
+      let rest = run-then second_system (second_chapter (meaning.encode meaning.opening)) (third_chapter (meaning.encode meaning.opening) ++ more) (second-runs reads) rest in
+      run-then nothing_yet first_chapter (second_chapter (meaning.encode meaning.opening) ++ third_chapter (meaning.encode meaning.opening) ++ more) first-runs rest

@@ -8,7 +8,8 @@ use Rattle.address.specs.Ids.{Address, ViewId, same_address, same_view_id}
 use Rattle.view.specs.Members.{View, stands_in}
 use Rattle.wire.specs.Values.{Report}
 use Rattle.wire.specs.declared.packet.Body.TheVariants as bodies
-use Rattle.trace_props.specs.declared.happening.Happening.{Happening}
+use Rattle.state_transfer.specs.Meanings.{Meaning}
+use Rattle.trace_props.specs.declared.event.Event.{Event}
 use Rattle.trace_props.specs.Rules.{IsBelow}
 use Rattle.trace_props.proofs.Observing.{same_address-refl, same_address-sym, same_view_id-refl, same_view_id-true}
 use Rattle.trace_props.proofs.Standing.{IsBelow-irreflexive}
@@ -134,11 +135,11 @@ report-risen pool p promise view installed traffic w (inr again) below other rep
 
 -- ---- the act
 
-module _ {S : Type 0} (opening : S) (apply : S → Address → List ℕ → S) (encode : S → List ℕ) (decode : List ℕ → Option S) (is_state : S → Type 0) where
+module _ {S : Type 0} (meaning : Meaning S) where
   abbrev Fact : History → Address → Core S → Type 0
-  Fact h p c = MemberFact opening apply decode is_state h p c
+  Fact h p c = MemberFact meaning h p c
 
-  below-after : (h : History) (p : Address) (promise : Option View) (installed : Bool) (w : View) (r : Report) (t : List Happening) → LiesBelow h.pool p promise → MayRise w.id promise installed
+  below-after : (h : History) (p : Address) (promise : Option View) (installed : Bool) (w : View) (r : Report) (t : List Event) → LiesBelow h.pool p promise → MayRise w.id promise installed
       → LiesBelow (h.pool ++ reporting p w.id r ∷ []) p (Some w)
   below-after h p promise installed w r t x above = record {
     announced = λ u list mine e. not-past-risen promise w installed u above (x.announced u list mine (sym (report-announces p w.id u r h.pool) ∙ e));
@@ -150,9 +151,9 @@ module _ {S : Type 0} (opening : S) (apply : S → Address → List ℕ → S) (
       by u (inr same) = λ b. IsBelow-irreflexive w.id (subst (λ (v : ViewId). IsBelow w.id v) (sym same) b)
 
   -- what is new of the history, and of the member
-  pub promises-moves : (s : System S) (c : Core S) (which : Option ℕ) (w : View) → Invariant opening apply encode decode is_state s → Fact s.history c.me c
+  pub promises-moves : (s : System S) (c : Core S) (which : Option ℕ) (w : View) → Invariant meaning s → Fact s.history c.me c
       → MayPromise (came_of c s.history.pool which) c w
-      → Moves opening apply encode decode is_state c.me s.history (grown s.history (reporting c.me w.id (report_with c.view c.traffic) ∷ []) (blocking c)) (Some (promised w None c))
+      → Moves meaning c.me s.history (grown s.history (reporting c.me w.id (report_with c.view c.traffic) ∷ []) (blocking c)) (Some (promised w None c))
   promises-moves s c which w i x a =
       let h = s.history in
       let p = c.me in
@@ -162,13 +163,13 @@ module _ {S : Type 0} (opening : S) (apply : S → Address → List ℕ → S) (
       let k = grown h (m ∷ []) (blocking c) in
       let said = said-of h c which w.id.creator (bodies.Flush w) i.packets a.asked in
       let asked : IsProposal h w.id.creator w = said.fact in
-      let halted = halts opening apply encode decode is_state h p c.view c.installed c.traffic c.kept c.state i.trace x.promise.inside x.seat x.view x.state in
+      let halted = halts meaning h p c.view c.installed c.traffic c.kept c.state i.trace x.promise.inside x.seat x.view x.state in
       let other = same_address-sym p w.id.creator ∙ said.other in
       let first : report_of p w.id k.pool ≡ Some r = report-risen h.pool p c.promise c.view c.installed c.traffic w.id a.above x.below said.other x.reported in
-      let posted = quiet-packets opening apply encode decode is_state p h1 (m ∷ []) halted.seat.running.started
+      let posted = quiet-packets meaning p h1 (m ∷ []) halted.seat.running.started
       (slice_get-one (IsFrom p) m (record { source = refl; mine = tt }))
       (λ n y v at. slice_get-one (λ (z : Posted). install_in v z.body ≡ None) m refl n y at) halted.quiet.trace in
-      let quiet = quiet-trans opening apply encode decode is_state p h h1 k halted.quiet posted in
+      let quiet = quiet-trans meaning p h h1 k halted.quiet posted in
       let one : flush_of w.id k.pool ≡ Some w.members = flush_of-kept w.id h.pool (m ∷ []) w.members asked.one in
       let answer : IsAnswer k p w.id r = record {
         other = other;
@@ -199,12 +200,12 @@ module _ {S : Type 0} (opening : S) (apply : S → Address → List ℕ → S) (
         };
         state = halted.own;
       } in
-      quiet-moves opening apply encode decode is_state s p k (m ∷ []) (Some (promised w None c)) i quiet refl (slice_get-one (PacketFact k) m answer)
+      quiet-moves meaning s p k (m ∷ []) (Some (promised w None c)) i quiet refl (slice_get-one (PacketFact k) m answer)
       (λ d e. subst (λ (z : Core S). Fact k p z) (same_Some (promised w None c) d e) fact)
 
-  pub promises-keep : (s : System S) (p : Address) (c : Core S) (which : Option ℕ) (w : View) → Invariant opening apply encode decode is_state s → s.running p ≡ Some c
+  pub promises-keep : (s : System S) (p : Address) (c : Core S) (which : Option ℕ) (w : View) → Invariant meaning s → s.running p ≡ Some c
       → MayPromise (came_of c s.history.pool which) c w
-      → Invariant opening apply encode decode is_state (record {
+      → Invariant meaning (record {
         running = put p (Some (promised w None c)) s.running;
         history = grown s.history (reporting c.me w.id (report_with c.view c.traffic) ∷ []) (blocking c);
       })
@@ -212,9 +213,9 @@ module _ {S : Type 0} (opening : S) (apply : S → Address → List ℕ → S) (
       let x = i.members p c runs in
       let itself : c.me ≡ p = x.seat.itself in
       let mine : Fact s.history c.me c = subst (λ (q : Address). Fact s.history q c) (sym itself) x in
-      subst (λ (q : Address). Invariant opening apply encode decode is_state (record {
+      subst (λ (q : Address). Invariant meaning (record {
         running = put q (Some (promised w None c)) s.running;
         history = grown s.history (reporting c.me w.id (report_with c.view c.traffic) ∷ []) (blocking c);
       })) itself
-      (moved opening apply encode decode is_state s c.me (grown s.history (reporting c.me w.id (report_with c.view c.traffic) ∷ []) (blocking c)) (Some (promised w None c)) i
+      (moved meaning s c.me (grown s.history (reporting c.me w.id (report_with c.view c.traffic) ∷ []) (blocking c)) (Some (promised w None c)) i
       (promises-moves s c which w i mine a))

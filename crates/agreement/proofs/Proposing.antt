@@ -7,10 +7,11 @@ use Rattle.std.proofs.lemmas.Option.{none-some, same_Some}
 use Rattle.address.specs.Ids.{Address, ViewId, same_address, same_view_id}
 use Rattle.view.specs.Members.{View, stands_in, is_distinct}
 use Rattle.view.specs.declared.ViewError.TheVariants.{Empty, TooMany, Repeated, NotFirst}
-use Rattle.view.specs.declared.TheConstants.{MEMBERS}
+use Rattle.limits.specs.declared.TheConstants.{MEMBERS}
 use Rattle.view.specs.View.{view_refusal, begins_with}
 use Rattle.wire.specs.Values.{Report}
 use Rattle.wire.specs.declared.packet.Body.TheVariants as bodies
+use Rattle.state_transfer.specs.Meanings.{Meaning}
 use Rattle.flush.specs.Cuts.{first_of}
 use Rattle.flush.specs.Flushes.{FlushModel}
 use Rattle.flush.proofs.Covers.{first-stands}
@@ -138,9 +139,9 @@ coordinator-in w list e =
 
 -- ---- the act
 
-module _ {S : Type 0} (opening : S) (apply : S → Address → List ℕ → S) (encode : S → List ℕ) (decode : List ℕ → Option S) (is_state : S → Type 0) where
+module _ {S : Type 0} (meaning : Meaning S) where
   abbrev Fact : History → Address → Core S → Type 0
-  Fact h p c = MemberFact opening apply decode is_state h p c
+  Fact h p c = MemberFact meaning h p c
 
   below-after : (h : History) (p : Address) (promise : Option View) (w : View) → LiesBelow h.pool p promise → IsAbovePromise w.id promise → LiesBelow (h.pool ++ announcing p w) p (Some w)
   below-after h p promise w x above = record {
@@ -156,8 +157,8 @@ module _ {S : Type 0} (opening : S) (apply : S → Address → List ℕ → S) (
   own-recorded true p r R e = refl
   own-recorded false p r R e = absurd (let n : false ≡ true = e in cc)
 
-  pub begins-moves : (s : System S) (c : Core S) (w : View) → Invariant opening apply encode decode is_state s → Fact s.history c.me c → MayBegin c w
-      → Moves opening apply encode decode is_state c.me s.history (grown s.history (announcing c.me w) (blocking c)) (Some (promised w (Some (begun w c)) c))
+  pub begins-moves : (s : System S) (c : Core S) (w : View) → Invariant meaning s → Fact s.history c.me c → MayBegin c w
+      → Moves meaning c.me s.history (grown s.history (announcing c.me w) (blocking c)) (Some (promised w (Some (begun w c)) c))
   begins-moves s c w i x a =
       let h = s.history in
       let p = c.me in
@@ -165,13 +166,13 @@ module _ {S : Type 0} (opening : S) (apply : S → Address → List ℕ → S) (
       let more = announcing p w in
       let h1 = with_blocked h p c.view c.installed in
       let k = grown h more (blocking c) in
-      let halted = halts opening apply encode decode is_state h p c.view c.installed c.traffic c.kept c.state i.trace x.promise.inside x.seat x.view x.state in
+      let halted = halts meaning h p c.view c.installed c.traffic c.kept c.state i.trace x.promise.inside x.seat x.view x.state in
       let mine : same_address w.id.creator p ≡ true = same_address-from w.id.creator p a.own in
       let none : flush_of w.id h.pool ≡ None = none-by (flush_of w.id h.pool) h.pool w.id refl (λ l e. is-past c.promise w.id a.above (x.below.announced w.id l mine e)) in
-      let posted = quiet-packets opening apply encode decode is_state p h1 more halted.seat.running.started
+      let posted = quiet-packets meaning p h1 more halted.seat.running.started
       (map-each (IsFrom p) (packet p (bodies.Flush w)) (others_of p w.members) (λ q. record { source = refl; mine = a.own }))
       (λ n y v at. map-each (λ (z : Posted). install_in v z.body ≡ None) (packet p (bodies.Flush w)) (others_of p w.members) (λ q. refl) n y at) halted.quiet.trace in
-      let quiet = quiet-trans opening apply encode decode is_state p h h1 k halted.quiet posted in
+      let quiet = quiet-trans meaning p h h1 k halted.quiet posted in
       let fact : Fact k p (promised w (Some (begun w c)) c) = record {
         seat = halted.seat;
         promise = record {
@@ -208,14 +209,14 @@ module _ {S : Type 0} (opening : S) (apply : S → Address → List ℕ → S) (
         };
         state = halted.own;
       } in
-      quiet-moves opening apply encode decode is_state s p k more (Some (promised w (Some (begun w c)) c)) i quiet refl
+      quiet-moves meaning s p k more (Some (promised w (Some (begun w c)) c)) i quiet refl
       (λ n m at. map-each (λ (z : Posted). flush_of w.id k.pool ≡ Some w.members → PacketFact k z) (packet p (bodies.Flush w)) (others_of p w.members)
       (λ q one. record { own = a.own; view = a.view; one = one }) n m at
       (announced-new p w h.pool none (map-first (λ (z : Posted). flush_in w.id z.body) (packet p (bodies.Flush w)) (others_of p w.members) w.members (λ z. flush-says w) n m at)))
       (λ d e. subst (λ (z : Core S). Fact k p z) (same_Some (promised w (Some (begun w c)) c) d e) fact)
 
-  pub begins-keep : (s : System S) (p : Address) (c : Core S) (w : View) → Invariant opening apply encode decode is_state s → s.running p ≡ Some c → MayBegin c w
-      → Invariant opening apply encode decode is_state (record {
+  pub begins-keep : (s : System S) (p : Address) (c : Core S) (w : View) → Invariant meaning s → s.running p ≡ Some c → MayBegin c w
+      → Invariant meaning (record {
         running = put p (Some (promised w (Some (begun w c)) c)) s.running;
         history = grown s.history (announcing c.me w) (blocking c);
       })
@@ -223,8 +224,8 @@ module _ {S : Type 0} (opening : S) (apply : S → Address → List ℕ → S) (
       let x = i.members p c runs in
       let itself : c.me ≡ p = x.seat.itself in
       let mine : Fact s.history c.me c = subst (λ (q : Address). Fact s.history q c) (sym itself) x in
-      subst (λ (q : Address). Invariant opening apply encode decode is_state (record {
+      subst (λ (q : Address). Invariant meaning (record {
         running = put q (Some (promised w (Some (begun w c)) c)) s.running;
         history = grown s.history (announcing c.me w) (blocking c);
       })) itself
-      (moved opening apply encode decode is_state s c.me (grown s.history (announcing c.me w) (blocking c)) (Some (promised w (Some (begun w c)) c)) i (begins-moves s c w i mine a))
+      (moved meaning s c.me (grown s.history (announcing c.me w) (blocking c)) (Some (promised w (Some (begun w c)) c)) i (begins-moves s c w i mine a))

@@ -9,6 +9,7 @@ use Rattle.wire.specs.Values.{Report}
 use Rattle.wire.specs.Values as wire
 use Rattle.wire.specs.declared.packet.Body.{Body}
 use Rattle.wire.specs.declared.packet.Body.TheVariants as bodies
+use Rattle.state_transfer.specs.Meanings.{Meaning}
 use Rattle.flush.specs.Cuts.{first_of}
 use Rattle.trace_props.specs.Observed.{has_started}
 use Rattle.trace_props.proofs.Observing.{same_address-true}
@@ -68,23 +69,23 @@ install-again h m w q fact =
 
 -- ---- what is put out is true
 
-module _ {S : Type 0} (opening : S) (apply : S → Address → List ℕ → S) (encode : S → List ℕ) (decode : List ℕ → Option S) (is_state : S → Type 0) where
+module _ {S : Type 0} (meaning : Meaning S) where
   abbrev Fact : History → Address → Core S → Type 0
-  Fact h p c = MemberFact opening apply decode is_state h p c
+  Fact h p c = MemberFact meaning h p c
 
   -- a member whose view has this id
   viewed : (o : Option View) (v : ViewId) → id_of o ≡ Some v → (u : View) × (o ≡ Some u) × (u.id ≡ v)
   viewed None v e = absurd (none-some v e)
   viewed (Some u) v e = (u, refl, same_Some u.id v e)
 
-  forward-true : (h : History) (c : Core S) (v : ViewId) (n : ℕ) (payload : List ℕ) → TraceFact opening apply decode h → Fact h c.me c → Describes c c.me (bodies.Forward v n payload)
+  forward-true : (h : History) (c : Core S) (v : ViewId) (n : ℕ) (payload : List ℕ) → TraceFact meaning h → Fact h c.me c → Describes c c.me (bodies.Forward v n payload)
       → IsSent h.trace v (record { sender = c.me; number = n; payload = payload })
   forward-true h c v n payload trace x a =
       let u = viewed c.view v a.0 in
       let f = x.view u.0 u.1 in
       let at = place-of c.traffic.outstanding (record { number = n; payload = payload }) a.1 in
       subst (λ (w : ViewId). IsSent h.trace w (record { sender = c.me; number = n; payload = payload })) u.2
-      (outstanding-sent h.trace c.me u.0.id c.traffic.outstanding (record { number = n; payload = payload }) ((rules-of opening apply decode h trace).ordered.messages.numbers c.me u.0.id) f.mine.sent at.0 at.1)
+      (outstanding-sent h.trace c.me u.0.id c.traffic.outstanding (record { number = n; payload = payload }) ((rules-of meaning h trace).ordered.messages.numbers c.me u.0.id) f.mine.sent at.0 at.1)
 
   order-true : (h : History) (c : Core S) (v : ViewId) (g : ℕ) (e : Entry) → Fact h c.me c → Describes c c.me (bodies.Order v g e) → IsOrder h.trace c.me v g e
   order-true h c v g e x a =
@@ -115,7 +116,7 @@ module _ {S : Type 0} (opening : S) (apply : S → Address → List ℕ → S) (
       })
 
   -- whatever a member may put out again is true
-  pub describes-true : (h : History) (c : Core S) (q : Address) (b : Body) → TraceFact opening apply decode h → EachPacket h → Fact h c.me c → Describes c q b → BodyFact h c.me q b
+  pub describes-true : (h : History) (c : Core S) (q : Address) (b : Body) → TraceFact meaning h → EachPacket h → Fact h c.me c → Describes c q b → BodyFact h c.me q b
   describes-true h c q bodies.Join trace each x a = tt
   describes-true h c q (bodies.Redirect coordinator) trace each x a = tt
   describes-true h c q bodies.Leave trace each x a = tt
@@ -156,21 +157,21 @@ module _ {S : Type 0} (opening : S) (apply : S → Address → List ℕ → S) (
   own-of h p q (bodies.Install install) x = x.own
   own-of h p q (bodies.Merge view) x = tt
 
-  again-quiet : (h : History) (c : Core S) (q : Address) (b : Body) → TraceFact opening apply decode h → has_started c.me h.trace ≡ true → BodyFact h c.me q b
-      → Quiet opening apply decode c.me h (record { pool = h.pool ++ packet c.me b q ∷ []; trace = h.trace })
+  again-quiet : (h : History) (c : Core S) (q : Address) (b : Body) → TraceFact meaning h → has_started c.me h.trace ≡ true → BodyFact h c.me q b
+      → Quiet meaning c.me h (record { pool = h.pool ++ packet c.me b q ∷ []; trace = h.trace })
   again-quiet h c q b trace started fact =
       let m = packet c.me b q in
       record {
         later = later-packets h (m ∷ []) (record { same = λ w r there. install-again h m w r fact });
         only = only-packets c.me h (m ∷ []) (slice_get-one (IsFrom c.me) m (record { source = refl; mine = own-of h c.me q b fact }));
-        state = only_state-refl opening apply decode c.me h.trace;
-        trace = trace-packets opening apply decode h (m ∷ []) c.me trace started (slice_get-one (λ (z : Posted). z.source ≡ c.me) m refl);
+        state = only_state-refl meaning c.me h.trace;
+        trace = trace-packets meaning h (m ∷ []) c.me trace started (slice_get-one (λ (z : Posted). z.source ≡ c.me) m refl);
         none = record { entry = λ r w. refl; install = λ w r. install-again h m w r fact };
         begun = λ v. refl;
       }
 
-  pub puts-keep : (s : System S) (c : Core S) (q : Address) (b : Body) → Invariant opening apply encode decode is_state s → Fact s.history c.me c → Describes c q b
-      → Invariant opening apply encode decode is_state (record { running = put c.me (Some c) s.running; history = grown s.history (packet c.me b q ∷ []) [] })
+  pub puts-keep : (s : System S) (c : Core S) (q : Address) (b : Body) → Invariant meaning s → Fact s.history c.me c → Describes c q b
+      → Invariant meaning (record { running = put c.me (Some c) s.running; history = grown s.history (packet c.me b q ∷ []) [] })
   puts-keep s c q b i x a =
       let h = s.history in
       let m = packet c.me b q in
@@ -199,9 +200,9 @@ module _ {S : Type 0} (opening : S) (apply : S → Address → List ℕ → S) (
         };
         state = x.state;
       } in
-      subst (λ (l : History). Invariant opening apply encode decode is_state (record { running = put c.me (Some c) s.running; history = l }))
-      (sym (grown-pool opening apply encode decode is_state h (m ∷ [])))
-      (moved opening apply encode decode is_state s c.me k (Some c) i
-      (quiet-moves opening apply encode decode is_state s c.me k (m ∷ []) (Some c) i quiet refl
+      subst (λ (l : History). Invariant meaning (record { running = put c.me (Some c) s.running; history = l }))
+      (sym (grown-pool meaning h (m ∷ [])))
+      (moved meaning s c.me k (Some c) i
+      (quiet-moves meaning s c.me k (m ∷ []) (Some c) i quiet refl
       (slice_get-one (PacketFact k) m (packet-later h k m quiet.later true_now))
       (λ d e. subst (λ (z : Core S). Fact k c.me z) (same_Some c d e) fact)))

@@ -5,8 +5,9 @@ use Rattle.std.proofs.lemmas.Option.{none-some, same_Some}
 use Rattle.std.proofs.lemmas.List.{append-nil, append_assoc, length_push}
 use Rattle.address.specs.Ids.{Address}
 use Rattle.view.specs.Members.{View}
-use Rattle.trace_props.specs.declared.happening.Happening.TheVariants.{Sent}
-use Rattle.trace_props.specs.declared.happening.Sending.{Sending}
+use Rattle.state_transfer.specs.Meanings.{Meaning}
+use Rattle.trace_props.specs.declared.event.Event.TheVariants.{Sent}
+use Rattle.trace_props.specs.declared.event.Sending.{Sending}
 use Rattle.trace_props.specs.Observed.{delivered_in, sent_in, own}
 use Rattle.trace_props.specs.Verdicts.{GoesOn}
 use Rattle.trace_props.proofs.Observing.{has_started-stays, has_ended-still, current_view-push, is_blocked-push}
@@ -22,20 +23,20 @@ use Rattle.agreement.specs.Invariant.{Invariant}
 use Rattle.agreement.proofs.Words.{list_of-still, tally_of-push}
 use Rattle.agreement.proofs.Others.{inside-later, window-later, acks-later, waiting-later, first-entered}
 use Rattle.agreement.proofs.Moving.{moved}
-use Rattle.agreement.proofs.Quiet.{quiet-happening, quiet-moves, grown-trace}
+use Rattle.agreement.proofs.Quiet.{quiet-event, quiet-moves, grown-trace}
 
 -- the traffic with one more message outstanding
 abbrev pub sending : List ℕ → Traffic → Traffic
 sending payload t = record t { sent = t.sent + 1; outstanding = t.outstanding ++ record { number = t.sent + 1; payload = payload } ∷ [] }
 
-module _ {S : Type 0} (opening : S) (apply : S → Address → List ℕ → S) (encode : S → List ℕ) (decode : List ℕ → Option S) (is_state : S → Type 0) where
+module _ {S : Type 0} (meaning : Meaning S) where
   abbrev Fact : History → Address → Core S → Type 0
-  Fact h p c = MemberFact opening apply decode is_state h p c
+  Fact h p c = MemberFact meaning h p c
 
   abbrev sending_of : Core S → View → List ℕ → Sending
   sending_of c v payload = record { member = c.me; view = v.id; message = record { number = c.traffic.sent + 1; payload = payload } }
 
-  sends-goes : (h : History) (c : Core S) (v : View) (payload : List ℕ) → Fact h c.me c → MaySend c v payload → GoesOn opening apply decode h.trace (Sent (sending_of c v payload))
+  sends-goes : (h : History) (c : Core S) (v : View) (payload : List ℕ) → Fact h c.me c → MaySend c v payload → GoesOn meaning h.trace (Sent (sending_of c v payload))
   sends-goes h c v payload x a = record {
     seven = (tt, (tt, (tt, (tt, (number, (tt, ((x.seat.running, x.seat.current ∙ ap id_of a.open_in.view, x.seat.block ∙ ap (is_frozen c.view) a.open_in.installed ∙ free), tt)))))));
     enters = tt;
@@ -51,8 +52,8 @@ module _ {S : Type 0} (opening : S) (apply : S → Address → List ℕ → S) (
           by None = refl
           by (Some u) = refl
 
-  pub sends-keep : (s : System S) (c : Core S) (v : View) (payload : List ℕ) → Invariant opening apply encode decode is_state s → Fact s.history c.me c → MaySend c v payload
-      → Invariant opening apply encode decode is_state (record {
+  pub sends-keep : (s : System S) (c : Core S) (v : View) (payload : List ℕ) → Invariant meaning s → Fact s.history c.me c → MaySend c v payload
+      → Invariant meaning (record {
         running = put c.me (Some (with_traffic (sending payload c.traffic) c)) s.running;
         history = grown s.history [] (Sent (sending_of c v payload) ∷ []);
       })
@@ -63,7 +64,7 @@ module _ {S : Type 0} (opening : S) (apply : S → Address → List ℕ → S) (
       let y = sending_of c v payload in
       let happened = Sent y in
       let k : History = record { pool = h.pool; trace = t ++ happened ∷ [] } in
-      let quiet = quiet-happening opening apply encode decode is_state me h happened refl refl i.trace (sends-goes h c v payload x a) a.short in
+      let quiet = quiet-event meaning me h happened refl refl i.trace (sends-goes h c v payload x a) a.short in
       let m = quiet.later in
       let f = x.view v a.open_in.view in
       let told = delivered_in-still me v.id t happened refl in
@@ -97,15 +98,15 @@ module _ {S : Type 0} (opening : S) (apply : S → Address → List ℕ → S) (
         flush = λ g e. absurd (let n : true ≡ false = sym a.open_in.installed ∙ (x.flush g e).waits in cc);
         view = λ u e. subst (λ (w : View). ViewFact k me c.installed (sending payload c.traffic) c.kept w) (same_Some v u (sym a.open_in.view ∙ e)) fact;
         state = record {
-          now = state_of-push opening apply decode me t happened ∙ x.state.now;
+          now = state_of-push meaning me t happened ∙ x.state.now;
           is = x.state.is;
           in_view = λ u e.
-              ap (λ l. state_with opening apply decode u.id l (t ++ happened ∷ [])) (list_of-still me u.id t happened refl)
+              ap (λ l. state_with meaning u.id l (t ++ happened ∷ [])) (list_of-still me u.id t happened refl)
               ∙ ap (option_map _) (quiet.begun u.id) ∙ x.state.in_view u e;
         };
       } in
-      subst (λ (l : History). Invariant opening apply encode decode is_state (record { running = put me (Some (with_traffic (sending payload c.traffic) c)) s.running; history = l }))
-      (sym (grown-trace opening apply encode decode is_state h (happened ∷ [])))
-      (moved opening apply encode decode is_state s me k (Some (with_traffic (sending payload c.traffic) c)) i
-      (quiet-moves opening apply encode decode is_state s me k [] (Some (with_traffic (sending payload c.traffic) c)) i quiet (sym (append-nil h.pool)) (λ n z at. absurd (none-some z at))
+      subst (λ (l : History). Invariant meaning (record { running = put me (Some (with_traffic (sending payload c.traffic) c)) s.running; history = l }))
+      (sym (grown-trace meaning h (happened ∷ [])))
+      (moved meaning s me k (Some (with_traffic (sending payload c.traffic) c)) i
+      (quiet-moves meaning s me k [] (Some (with_traffic (sending payload c.traffic) c)) i quiet (sym (append-nil h.pool)) (λ n z at. absurd (none-some z at))
       (λ d e. subst (λ (z : Core S). Fact k me z) (same_Some (with_traffic (sending payload c.traffic) c) d e) new)))

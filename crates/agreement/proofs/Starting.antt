@@ -1,17 +1,18 @@
 -- A member starts at an address that never started: nothing of the history is its own.
-use Rattle.std.proofs.Common.{◌≡◌, ℕ, Bool, true, false, Option, Some, None, List, [], ◌∷◌, ◌++◌, refl, sym, ap, ◌∙◌, subst}
+use Rattle.std.proofs.Common.{◌≡◌, Bool, true, false, Some, None, List, [], ◌∷◌, ◌++◌, refl, sym, ap, ◌∙◌, subst}
 use Rattle.std.proofs.lemmas.Option.{none-some, same_Some}
 use Rattle.std.proofs.lemmas.List.{append-nil}
 use Rattle.address.specs.Ids.{Address, ViewId, IsAddress, same_address}
 use Rattle.wire.specs.Values.{Report}
-use Rattle.trace_props.specs.declared.happening.Happening.{Happening}
-use Rattle.trace_props.specs.declared.happening.Happening.TheVariants.{Started, Sent, Delivered, Blocked, Installed, Left, Crashed}
+use Rattle.state_transfer.specs.Meanings.{Meaning}
+use Rattle.trace_props.specs.declared.event.Event.{Event}
+use Rattle.trace_props.specs.declared.event.Event.TheVariants.{Started, Sent, Delivered, Blocked, Installed, Left, Crashed}
 use Rattle.trace_props.specs.Observed.{member_of, has_started, has_ended, current_view, is_blocked, sent_in}
-use Rattle.trace_props.specs.Places.{EachHappening}
+use Rattle.trace_props.specs.Places.{EachEvent}
 use Rattle.trace_props.specs.Rules.{MayStand}
 use Rattle.trace_props.specs.State.{state_of}
 use Rattle.trace_props.specs.Verdicts.{GoesOn}
-use Rattle.trace_props.proofs.Places.{EachHappening-before, EachHappening-last}
+use Rattle.trace_props.proofs.Places.{EachEvent-before, EachEvent-last}
 use Rattle.trace_props.proofs.Observing.{same_address-true, has_started-now, has_started-stays, has_ended-still, has_ended-other, current_view-push, current_view-other, is_blocked-push, is_blocked-other}
 use Rattle.trace_props.proofs.Standing.{by_pushes}
 use Rattle.trace_props.proofs.Telling.{sent_in-other}
@@ -27,12 +28,12 @@ use Rattle.agreement.specs.Invariant.{EachPacket, HasRealSenders, Invariant}
 use Rattle.agreement.proofs.Traces.{rules-of, state-still}
 use Rattle.agreement.proofs.Registers.{flush-stands, report-stands}
 use Rattle.agreement.proofs.Moving.{moved}
-use Rattle.agreement.proofs.Quiet.{quiet-happening, quiet-moves, grown-trace}
+use Rattle.agreement.proofs.Quiet.{quiet-event, quiet-moves, grown-trace}
 
 -- ---- nothing happened to one who never started
 
 -- whoever something happens to has started by then
-started-by : (t : List Happening) (x : Happening) → MayStand t x → has_started (member_of x) (t ++ x ∷ []) ≡ true
+started-by : (t : List Event) (x : Event) → MayStand t x → has_started (member_of x) (t ++ x ∷ []) ≡ true
 started-by t (Started q) stands = has_started-now q t
 started-by t (Sent s) stands = has_started-stays s.member t (Sent s ∷ []) stands.0.started
 started-by t (Delivered d) stands = has_started-stays d.member t (Delivered d ∷ []) stands.0.started
@@ -41,46 +42,44 @@ started-by t (Installed i) stands = has_started-stays i.member t (Installed i �
 started-by t (Left q) stands = has_started-stays q t (Left q ∷ []) stands.started
 started-by t (Crashed q) stands = has_started-stays q t (Crashed q ∷ []) stands.started
 
-not-member : (p : Address) (t : List Happening) (x : Happening) (b : Bool) → same_address (member_of x) p ≡ b → MayStand t x → has_started p (t ++ x ∷ []) ≡ false → same_address (member_of x) p ≡ false
+not-member : (p : Address) (t : List Event) (x : Event) (b : Bool) → same_address (member_of x) p ≡ b → MayStand t x → has_started p (t ++ x ∷ []) ≡ false → same_address (member_of x) p ≡ false
 not-member p t x false e stands fresh = e
 not-member p t x true e stands fresh =
     absurd (let n : true ≡ false = sym (started-by t x stands) ∙ ap (λ q. has_started q (t ++ x ∷ [])) (same_address-true (member_of x) p e) ∙ fresh in cc)
 
-started-before : (p : Address) (t : List Happening) (x : Happening) (b : Bool) → has_started p t ≡ b → has_started p (t ++ x ∷ []) ≡ false → has_started p t ≡ false
+started-before : (p : Address) (t : List Event) (x : Event) (b : Bool) → has_started p t ≡ b → has_started p (t ++ x ∷ []) ≡ false → has_started p t ≡ false
 started-before p t x false e fresh = e
 started-before p t x true e fresh = absurd (let n : true ≡ false = sym (has_started-stays p t (x ∷ []) e) ∙ fresh in cc)
 
 -- what the trace says of one to whom nothing happened
-pub record IsNobody {S : Type 0} (opening : S) (apply : S → Address → List ℕ → S) (decode : List ℕ → Option S) (p : Address) (t : List Happening) : Type 0 where
+pub record IsNobody {S : Type 0} (meaning : Meaning S) (p : Address) (t : List Event) : Type 0 where
   pub going : has_ended p t ≡ false
   pub outside : current_view p t ≡ None
   pub free : is_blocked p t ≡ false
-  pub state : state_of opening apply decode p t ≡ opening
+  pub state : state_of meaning p t ≡ meaning.opening
   pub silent : (v : ViewId) → sent_in p v t ≡ []
 
-Nobody : {S : Type 0} → S → (S → Address → List ℕ → S) → (List ℕ → Option S) → Address → List Happening → Type 0
-Nobody opening apply decode p t = EachHappening MayStand t → has_started p t ≡ false → IsNobody opening apply decode p t
+Nobody : {S : Type 0} → Meaning S → Address → List Event → Type 0
+Nobody meaning p t = EachEvent MayStand t → has_started p t ≡ false → IsNobody meaning p t
 
-nobody-push : {S : Type 0} (opening : S) (apply : S → Address → List ℕ → S) (decode : List ℕ → Option S) (p : Address) (t : List Happening) (x : Happening)
-    → Nobody opening apply decode p t → Nobody opening apply decode p (t ++ x ∷ [])
+nobody-push : {S : Type 0} (meaning : Meaning S) (p : Address) (t : List Event) (x : Event) → Nobody meaning p t → Nobody meaning p (t ++ x ∷ [])
 unfolding Nobody
-nobody-push opening apply decode p t x later placed fresh =
-    let before = later (EachHappening-before MayStand t x placed) (started-before p t x (has_started p t) refl fresh) in
-    let other = not-member p t x (same_address (member_of x) p) refl (EachHappening-last MayStand t x placed) fresh in
+nobody-push meaning p t x later placed fresh =
+    let before = later (EachEvent-before MayStand t x placed) (started-before p t x (has_started p t) refl fresh) in
+    let other = not-member p t x (same_address (member_of x) p) refl (EachEvent-last MayStand t x placed) fresh in
     record {
       going = has_ended-other p t x other ∙ before.going;
       outside = current_view-other p t x other ∙ before.outside;
       free = is_blocked-other p t x other ∙ before.free;
-      state = state_of-push opening apply decode p t x ∙ state-still opening apply decode p (state_of opening apply decode p t) x other ∙ before.state;
+      state = state_of-push meaning p t x ∙ state-still meaning p (state_of meaning p t) x other ∙ before.state;
       silent = λ v. sent_in-other p v t x other ∙ before.silent v;
     }
 
-pub nobody : {S : Type 0} (opening : S) (apply : S → Address → List ℕ → S) (decode : List ℕ → Option S) (p : Address) (t : List Happening) → EachHappening MayStand t → has_started p t ≡ false
-    → IsNobody opening apply decode p t
+pub nobody : {S : Type 0} (meaning : Meaning S) (p : Address) (t : List Event) → EachEvent MayStand t → has_started p t ≡ false → IsNobody meaning p t
 unfolding Nobody
-nobody opening apply decode p t =
-    by_pushes (Nobody opening apply decode p) (λ placed fresh. record { going = refl; outside = refl; free = refl; state = refl; silent = λ v. refl })
-    (λ u x later. nobody-push opening apply decode p u x later) t
+nobody meaning p t =
+    by_pushes (Nobody meaning p) (λ placed fresh. record { going = refl; outside = refl; free = refl; state = refl; silent = λ v. refl })
+    (λ u x later. nobody-push meaning p u x later) t
 
 -- ---- nothing was put out by it
 
@@ -103,20 +102,20 @@ no-report h p w r real fresh e =
 
 -- ---- the step
 
-module _ {S : Type 0} (opening : S) (apply : S → Address → List ℕ → S) (encode : S → List ℕ) (decode : List ℕ → Option S) (is_state : S → Type 0) where
-  starts-goes : (t : List Happening) (p : Address) → has_started p t ≡ false → GoesOn opening apply decode t (Started p)
+module _ {S : Type 0} (meaning : Meaning S) where
+  starts-goes : (t : List Event) (p : Address) → has_started p t ≡ false → GoesOn meaning t (Started p)
   starts-goes t p fresh = record { seven = (tt, (tt, (tt, (tt, (tt, (tt, (fresh, tt))))))); enters = tt }
 
-  pub starts-keep : (s : System S) (p : Address) → is_state opening → Invariant opening apply encode decode is_state s → IsAddress p → has_started p s.history.trace ≡ false
-      → Invariant opening apply encode decode is_state (record { running = put p (Some (idle opening p)) s.running; history = grown s.history [] (Started p ∷ []) })
+  pub starts-keep : (s : System S) (p : Address) → meaning.is_state meaning.opening → Invariant meaning s → IsAddress p → has_started p s.history.trace ≡ false
+      → Invariant meaning (record { running = put p (Some (idle meaning.opening p)) s.running; history = grown s.history [] (Started p ∷ []) })
   starts-keep s p opens i proper fresh =
       let h = s.history in
       let t = h.trace in
       let k : History = record { pool = h.pool; trace = t ++ Started p ∷ [] } in
-      let rules = rules-of opening apply decode h i.trace in
-      let quiet = quiet-happening opening apply encode decode is_state p h (Started p) refl refl i.trace (starts-goes t p fresh) proper in
-      let was = nobody opening apply decode p t rules.ordered.placed fresh in
-      let fact : MemberFact opening apply decode is_state k p (idle opening p) = record {
+      let rules = rules-of meaning h i.trace in
+      let quiet = quiet-event meaning p h (Started p) refl refl i.trace (starts-goes t p fresh) proper in
+      let was = nobody meaning p t rules.ordered.placed fresh in
+      let fact : MemberFact meaning k p (idle meaning.opening p) = record {
         seat = record {
           itself = refl;
           running = record { started = has_started-now p t; going = has_ended-still p t (Started p) refl ∙ was.going };
@@ -138,13 +137,13 @@ module _ {S : Type 0} (opening : S) (apply : S → Address → List ℕ → S) (
         flush = λ f y. absurd (none-some f y);
         view = λ v y. absurd (none-some v y);
         state = record {
-          now = state_of-push opening apply decode p t (Started p) ∙ was.state;
+          now = state_of-push meaning p t (Started p) ∙ was.state;
           is = opens;
           in_view = λ v y. absurd (none-some v y);
         };
       } in
-      subst (λ (l : History). Invariant opening apply encode decode is_state (record { running = put p (Some (idle opening p)) s.running; history = l }))
-      (sym (grown-trace opening apply encode decode is_state h (Started p ∷ [])))
-      (moved opening apply encode decode is_state s p k (Some (idle opening p)) i
-      (quiet-moves opening apply encode decode is_state s p k [] (Some (idle opening p)) i quiet (sym (append-nil h.pool)) (λ n m at. absurd (none-some m at))
-      (λ c e. subst (λ (z : Core S). MemberFact opening apply decode is_state k p z) (same_Some (idle opening p) c e) fact)))
+      subst (λ (l : History). Invariant meaning (record { running = put p (Some (idle meaning.opening p)) s.running; history = l }))
+      (sym (grown-trace meaning h (Started p ∷ [])))
+      (moved meaning s p k (Some (idle meaning.opening p)) i
+      (quiet-moves meaning s p k [] (Some (idle meaning.opening p)) i quiet (sym (append-nil h.pool)) (λ n m at. absurd (none-some m at))
+      (λ c e. subst (λ (z : Core S). MemberFact meaning k p z) (same_Some (idle meaning.opening p) c e) fact)))

@@ -9,8 +9,8 @@ use Rattle.wire.specs.Values.{Report}
 use Rattle.wire.specs.Values as wire
 use Rattle.wire.specs.declared.packet.Body.{Body}
 use Rattle.wire.specs.declared.packet.Body.TheVariants as bodies
-use Rattle.trace_props.specs.declared.happening.Happening.{Happening}
-use Rattle.trace_props.specs.declared.happening.Install.{Install}
+use Rattle.trace_props.specs.declared.event.Event.{Event}
+use Rattle.trace_props.specs.declared.event.Install.{Install}
 use Rattle.trace_props.specs.Observed.{entry_of}
 use Rattle.agreement.specs.Words.{Tally, members_of, open_count}
 use Rattle.agreement.specs.Histories.{Posted, History, report_of, goes_from, goes_with}
@@ -46,7 +46,7 @@ in-members q None s = absurd (let n : false ≡ true = s in cc)
 in-members q (Some e) s = refl
 
 -- who is among the members of a view is so because its coordinator installed it
-pub members-entered : (q : Address) (v : ViewId) (t : List Happening) → stands_in q (members_of v t) ≡ true → is_some (entry_of v.creator v t) ≡ true
+pub members-entered : (q : Address) (v : ViewId) (t : List Event) → stands_in q (members_of v t) ≡ true → is_some (entry_of v.creator v t) ≡ true
 members-entered q v t s = in-members q (entry_of v.creator v t) s
 
 -- ---- from where one goes
@@ -165,7 +165,7 @@ instruction-later h k p q i m x =
 pub coordinator-later : (h k : History) (p : Address) (v : ViewId) → Later h k → IsCoordinator h.trace p v → IsCoordinator k.trace p v
 coordinator-later h k p v m x = record { own = x.own; entered = entered-later h k p v m x.entered }
 
-coordinator-entered : (t : List Happening) (p : Address) (v : ViewId) → IsCoordinator t p v → is_some (entry_of v.creator v t) ≡ true
+coordinator-entered : (t : List Event) (p : Address) (v : ViewId) → IsCoordinator t p v → is_some (entry_of v.creator v t) ≡ true
 coordinator-entered t p v x = ap (λ q. is_some (entry_of q v t)) x.own ∙ x.entered
 
 pub order-later : (h k : History) (p : Address) (v : ViewId) (g : ℕ) (e : Entry) → Later h k → IsOrder h.trace p v g e → IsOrder k.trace p v g e

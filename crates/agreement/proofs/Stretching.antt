@@ -6,14 +6,15 @@ use Rattle.std.proofs.lemmas.Bool.{cond-true, and_parts, and_from}
 use Rattle.std.proofs.lemmas.Option.{none-some, same_Some}
 use Rattle.std.proofs.lemmas.List.{append_assoc}
 use Rattle.address.specs.Ids.{Address, same_address}
-use Rattle.trace_props.specs.declared.happening.Happening.{Happening}
+use Rattle.state_transfer.specs.Meanings.{Meaning}
+use Rattle.trace_props.specs.declared.event.Event.{Event}
 use Rattle.trace_props.proofs.Observing.{same_address-true, same_address-refl}
 use Rattle.trace_props.proofs.Places.{slice_get-before}
 use Rattle.agreement.specs.Histories.{Posted, History}
 use Rattle.agreement.specs.Cores.{Core}
-use Rattle.agreement.specs.Acts.{Act, Creates, Joins, Puts, Sends, Queues, Orders, Hears, Collects, Holds, Delivers, Promises, Begins, Records, Finishes, Enters, Leaves, Allowed, after, packets_of, happenings_of}
+use Rattle.agreement.specs.Acts.{Act, Creates, Joins, Puts, Sends, Queues, Orders, Hears, Collects, Holds, Delivers, Promises, Begins, Records, Finishes, Enters, Leaves, Allowed, after, packets_of, events_of}
 use Rattle.agreement.specs.Steps.{System, put, handed, came_of, grown, acted}
-use Rattle.agreement.specs.Chains.{Chain, packets_along, happenings_along}
+use Rattle.agreement.specs.Chains.{Chain, packets_along, events_along}
 use Rattle.agreement.specs.Invariant.{Invariant}
 use Rattle.agreement.specs.Law.{ActsKeep}
 use Rattle.agreement.proofs.Stepping
@@ -41,10 +42,10 @@ put-same p x running at = λ i q. put-same-by (same_address q p) p q x running r
 put-at : {S : Type 0} (p : Address) (x : Option (Core S)) (running : Address → Option (Core S)) → put p x running p ≡ x
 put-at p x running = ap (λ b. cond b x (running p)) (same_address-refl p)
 
-grown-again : (h : History) (a b : List Posted) (x y : List Happening) → grown (grown h a x) b y ≡ grown h (a ++ b) (x ++ y)
+grown-again : (h : History) (a b : List Posted) (x y : List Event) → grown (grown h a x) b y ≡ grown h (a ++ b) (x ++ y)
 grown-again h a b x y =
     ap {B = History} (λ (l : List Posted). record { pool = l; trace = h.trace ++ x ++ y }) (append_assoc h.pool a b)
-    ∙ ap {B = History} (λ (t : List Happening). record { pool = h.pool ++ (a ++ b); trace = t }) (append_assoc h.trace x y)
+    ∙ ap {B = History} (λ (t : List Event). record { pool = h.pool ++ (a ++ b); trace = t }) (append_assoc h.trace x y)
 
 -- ---- what came is still what came
 
@@ -53,8 +54,8 @@ record IsStill {S : Type 0} (c d : Core S) : Type 0 where
   itself : d.me ≡ c.me
   connected : c.connected ≡ true → d.connected ≡ true
 
-module _ {S : Type 0} (opening : S) (apply : S → Address → List ℕ → S) (encode : S → List ℕ) (decode : List ℕ → Option S) (is_state : S → Type 0) where
-  act-still : (c d : Core S) (a : Act) → after apply encode decode c a ≡ Some d → IsStill c d
+module _ {S : Type 0} (meaning : Meaning S) where
+  act-still : (c d : Core S) (a : Act) → after meaning c a ≡ Some d → IsStill c d
   act-still c d Creates e = subst (IsStill c) (same_Some _ d e) (record { itself = refl; connected = λ x. refl })
   act-still c d Joins e = subst (IsStill c) (same_Some _ d e) (record { itself = refl; connected = λ x. refl })
   act-still c d (Puts q body) e = subst (IsStill c) (same_Some _ d e) (record { itself = refl; connected = λ x. x })
@@ -100,41 +101,41 @@ module _ {S : Type 0} (opening : S) (apply : S → Address → List ℕ → S) (
   -- ---- the acts
 
   abbrev Holding : System S → Type 0
-  Holding s = Invariant opening apply encode decode is_state s
+  Holding s = Invariant meaning s
 
   -- the system after acts
   abbrev along : System S → Address → Option (Core S) → List Act → Option (Core S) → System S
-  along s p c acts end = record { running = put p end s.running; history = grown s.history (packets_along apply encode decode c acts) (happenings_along apply encode decode c acts) }
+  along s p c acts end = record { running = put p end s.running; history = grown s.history (packets_along meaning c acts) (events_along meaning c acts) }
 
   nothing-more : (s : System S) (p : Address) (c end : Option (Core S)) → s.running p ≡ c → c ≡ end → along s p c [] end ≡ s
   nothing-more s p c end runs same =
       ap {B = System S} (λ (f : Address → Option (Core S)). record { running = f; history = grown s.history [] [] }) (put-same p end s.running (runs ∙ same))
-      ∙ ap {B = System S} (λ (h : History). record { running = s.running; history = h }) (grown-none opening apply encode decode is_state s.history)
+      ∙ ap {B = System S} (λ (h : History). record { running = s.running; history = h }) (grown-none meaning s.history)
 
   one-more : (s : System S) (p : Address) (c : Core S) (a : Act) (acts : List Act) (end : Option (Core S))
-      → along (acted apply encode decode s p a c) p (after apply encode decode c a) acts end ≡ along s p (Some c) (a ∷ acts) end
+      → along (acted meaning s p a c) p (after meaning c a) acts end ≡ along s p (Some c) (a ∷ acts) end
   one-more s p c a acts end =
-      ap {B = System S} (λ (f : Address → Option (Core S)). record { running = f; history = grown (grown s.history (packets_of apply encode c a) (happenings_of c a)) (packets_along apply encode decode (after apply encode decode c a) acts) (happenings_along apply encode decode (after apply encode decode c a) acts) })
-      (put-again p end (after apply encode decode c a) s.running)
+      ap {B = System S} (λ (f : Address → Option (Core S)). record { running = f; history = grown (grown s.history (packets_of meaning c a) (events_of c a)) (packets_along meaning (after meaning c a) acts) (events_along meaning (after meaning c a) acts) })
+      (put-again p end (after meaning c a) s.running)
       ∙ ap {B = System S} (λ (h : History). record { running = put p end s.running; history = h })
-      (grown-again s.history (packets_of apply encode c a) (packets_along apply encode decode (after apply encode decode c a) acts) (happenings_of c a) (happenings_along apply encode decode (after apply encode decode c a) acts))
+      (grown-again s.history (packets_of meaning c a) (packets_along meaning (after meaning c a) acts) (events_of c a) (events_along meaning (after meaning c a) acts))
 
-  chain-keeps : Stepping.Laws opening apply encode decode is_state → (acts : List Act) (s : System S) (p : Address) (c end : Option (Core S)) (which : Option ℕ) (came : Option Posted) → Holding s
-      → s.running p ≡ c → ((d : Core S) → c ≡ Some d → came ≡ came_of d s.history.pool which) → (came ≡ None → which ≡ None) → Chain apply encode decode came c acts end
+  chain-keeps : Stepping.Laws meaning → (acts : List Act) (s : System S) (p : Address) (c end : Option (Core S)) (which : Option ℕ) (came : Option Posted) → Holding s
+      → s.running p ≡ c → ((d : Core S) → c ≡ Some d → came ≡ came_of d s.history.pool which) → (came ≡ None → which ≡ None) → Chain meaning came c acts end
       → Holding (along s p c acts end)
   chain-keeps l [] s p c end which came i runs comes none x = subst Holding (sym (nothing-more s p c end runs x)) i
   chain-keeps l (a ∷ acts) s p None end which came i runs comes none x = absurd x
   chain-keeps l (a ∷ acts) s p (Some c) end which came i runs comes none x =
       let was = comes c refl in
-      let i1 = Stepping.act-keeps opening apply encode decode is_state l a s p c which i runs (subst (λ (o : Option Posted). Allowed decode o c a) was x.0) in
+      let i1 = Stepping.act-keeps meaning l a s p c which i runs (subst (λ (o : Option Posted). Allowed meaning o c a) was x.0) in
       subst Holding (one-more s p c a acts end)
-      (chain-keeps l acts (acted apply encode decode s p a c) p (after apply encode decode c a) end which came i1 (put-at p (after apply encode decode c a) s.running)
-      (λ d e. came-still c d s.history.pool (packets_of apply encode c a) which came (act-still c d a e) was none) none x.1)
+      (chain-keeps l acts (acted meaning s p a c) p (after meaning c a) end which came i1 (put-at p (after meaning c a) s.running)
+      (λ d e. came-still c d s.history.pool (packets_of meaning c a) which came (act-still c d a e) was none) none x.1)
 
   -- a member that acted in one call, on a packet of the pool or on none, has kept the invariant
-  pub acted-keeps : Stepping.Laws opening apply encode decode is_state → ActsKeep opening apply encode decode is_state
-  acted-keeps l s p c end which came packets happenings i runs comes none x =
+  pub acted-keeps : Stepping.Laws meaning → ActsKeep meaning
+  acted-keeps l s p c end which came packets events i runs comes none x =
       subst Holding
-      (ap {B = System S} (λ (m : List Posted). record { running = put p end s.running; history = grown s.history m (happenings_along apply encode decode (Some c) x.acts) }) (sym x.puts)
-      ∙ ap {B = System S} (λ (t : List Happening). record { running = put p end s.running; history = grown s.history packets t }) (sym x.happens))
+      (ap {B = System S} (λ (m : List Posted). record { running = put p end s.running; history = grown s.history m (events_along meaning (Some c) x.acts) }) (sym x.puts)
+      ∙ ap {B = System S} (λ (t : List Event). record { running = put p end s.running; history = grown s.history packets t }) (sym x.happens))
       (chain-keeps l x.acts s p (Some c) end which came i runs (λ d e. comes ∙ ap (λ (z : Core S). came_of z s.history.pool which) (same_Some c d e)) none x.chain)

@@ -1,42 +1,42 @@
--- What one more happening changes of a view's order and of a member's tally there.
+-- What one more event changes of a view's order and of a member's tally there.
 use Rattle.std.proofs.Common.{◌≡◌, ℕ, ◌≤◌, Bool, true, false, cond, ◌&&◌, None, List, [], ◌∷◌, ◌++◌, map, refl, sym, ap, ◌∙◌, subst, arith}
 use Rattle.std.proofs.lemmas.Bool.{cond-false, and_left}
 use Rattle.std.proofs.lemmas.List.{map-append}
 use Rattle.std.proofs.lemmas.List.Sums.{fold-append}
 use Rattle.address.specs.Ids.{Address, ViewId, same_address, same_view_id}
-use Rattle.trace_props.specs.declared.happening.Happening.{Happening}
-use Rattle.trace_props.specs.declared.happening.Happening.TheVariants.{Started, Sent, Delivered, Blocked, Installed, Left, Crashed}
-use Rattle.trace_props.specs.declared.happening.Delivery.{Delivery}
+use Rattle.trace_props.specs.declared.event.Event.{Event}
+use Rattle.trace_props.specs.declared.event.Event.TheVariants.{Started, Sent, Delivered, Blocked, Installed, Left, Crashed}
+use Rattle.trace_props.specs.declared.event.Delivery.{Delivery}
 use Rattle.trace_props.specs.Observed.{member_of, delivered_in, told}
 use Rattle.trace_props.proofs.Telling.{told_to, delivered_in-still, delivered_in-miss, delivered_in-hit, delivered_in-other}
 use Rattle.agreement.specs.Words.{entry_for, list_of, Phase, Before, Open, Past, opened, blocked, counted, Tally, tally_of, tally_after, no_tally, open_count, IsClosed}
 
 -- ---- the order
 
--- a happening that tells nothing
-pub list_of-still : (p : Address) (v : ViewId) (t : List Happening) (h : Happening) → told p v h ≡ None → list_of p v (t ++ h ∷ []) ≡ list_of p v t
+-- an event that tells nothing
+pub list_of-still : (p : Address) (v : ViewId) (t : List Event) (h : Event) → told p v h ≡ None → list_of p v (t ++ h ∷ []) ≡ list_of p v t
 unfolding list_of
 list_of-still p v t h e = ap (map entry_for) (delivered_in-still p v t h e)
 
 -- what another is told, or in another view
-pub list_of-miss : (p : Address) (v : ViewId) (t : List Happening) (d : Delivery) → told_to p v d ≡ false → list_of p v (t ++ Delivered d ∷ []) ≡ list_of p v t
+pub list_of-miss : (p : Address) (v : ViewId) (t : List Event) (d : Delivery) → told_to p v d ≡ false → list_of p v (t ++ Delivered d ∷ []) ≡ list_of p v t
 unfolding list_of
 list_of-miss p v t d e = ap (map entry_for) (delivered_in-miss p v t d e)
 
 -- one message more
-pub list_of-hit : (p : Address) (v : ViewId) (t : List Happening) (d : Delivery) → told_to p v d ≡ true → list_of p v (t ++ Delivered d ∷ []) ≡ list_of p v t ++ entry_for d.message ∷ []
+pub list_of-hit : (p : Address) (v : ViewId) (t : List Event) (d : Delivery) → told_to p v d ≡ true → list_of p v (t ++ Delivered d ∷ []) ≡ list_of p v t ++ entry_for d.message ∷ []
 unfolding list_of
 list_of-hit p v t d e = ap (map entry_for) (delivered_in-hit p v t d e) ∙ map-append entry_for (delivered_in p v t) (d.message ∷ [])
 
 -- what happens to another
-pub list_of-other : (p : Address) (v : ViewId) (t : List Happening) (h : Happening) → same_address (member_of h) p ≡ false → list_of p v (t ++ h ∷ []) ≡ list_of p v t
+pub list_of-other : (p : Address) (v : ViewId) (t : List Event) (h : Event) → same_address (member_of h) p ≡ false → list_of p v (t ++ h ∷ []) ≡ list_of p v t
 unfolding list_of
 list_of-other p v t h e = ap (map entry_for) (delivered_in-other p v t h e)
 
 -- ---- the tally
 
--- one happening more
-pub tally_of-push : (p : Address) (v : ViewId) (t : List Happening) (h : Happening) → tally_of p v (t ++ h ∷ []) ≡ tally_after p v (tally_of p v t) h
+-- one event more
+pub tally_of-push : (p : Address) (v : ViewId) (t : List Event) (h : Event) → tally_of p v (t ++ h ∷ []) ≡ tally_after p v (tally_of p v t) h
 unfolding tally_of
 tally_of-push p v t h = fold-append (tally_after p v) no_tally t (h ∷ [])
 
@@ -45,7 +45,7 @@ either true x = refl
 either false x = refl
 
 -- a tally that is past changes no more
-past-after : (p : Address) (v : ViewId) (n : ℕ) (h : Happening) → tally_after p v (record { phase = Past; count = n }) h ≡ record { phase = Past; count = n }
+past-after : (p : Address) (v : ViewId) (n : ℕ) (h : Event) → tally_after p v (record { phase = Past; count = n }) h ≡ record { phase = Past; count = n }
 past-after p v n (Started q) = refl
 past-after p v n (Sent m) = refl
 past-after p v n (Delivered d) = either (same_address d.member p && same_view_id d.view v) (record { phase = Past; count = n })
@@ -55,7 +55,7 @@ past-after p v n (Left q) = refl
 past-after p v n (Crashed q) = refl
 
 -- who was blocked in a view counts no more there
-pub tally_of-closed : (p : Address) (v : ViewId) (t : List Happening) (h : Happening) → IsClosed p v t → tally_of p v (t ++ h ∷ []) ≡ tally_of p v t
+pub tally_of-closed : (p : Address) (v : ViewId) (t : List Event) (h : Event) → IsClosed p v t → tally_of p v (t ++ h ∷ []) ≡ tally_of p v t
 tally_of-closed p v t h closed =
     let now : tally_of p v t ≡ record { phase = Past; count = open_count p v t } = ap {B = Tally} (λ (f : Phase). record { phase = f; count = open_count p v t }) closed in
     tally_of-push p v t h ∙ ap (λ s. tally_after p v s h) now ∙ past-after p v (open_count p v t) h ∙ sym now
@@ -69,7 +69,7 @@ counted-more Before n = omega arith
 counted-more Open n = omega arith
 counted-more Past n = omega arith
 
-count-after : (p : Address) (v : ViewId) (s : Tally) (h : Happening) → s.count ≤ (tally_after p v s h).count
+count-after : (p : Address) (v : ViewId) (s : Tally) (h : Event) → s.count ≤ (tally_after p v s h).count
 count-after p v s (Started q) = omega arith
 count-after p v s (Sent m) = omega arith
 count-after p v s (Delivered d) =
@@ -80,10 +80,10 @@ count-after p v s (Left q) = omega arith
 count-after p v s (Crashed q) = omega arith
 
 -- counts never fall
-pub open_count-grows : (p : Address) (v : ViewId) (t : List Happening) (h : Happening) → open_count p v t ≤ open_count p v (t ++ h ∷ [])
+pub open_count-grows : (p : Address) (v : ViewId) (t : List Event) (h : Event) → open_count p v t ≤ open_count p v (t ++ h ∷ [])
 open_count-grows p v t h = subst (λ (s : Tally). open_count p v t ≤ s.count) (sym (tally_of-push p v t h)) (count-after p v (tally_of p v t) h)
 
-after-other : (p : Address) (v : ViewId) (s : Tally) (h : Happening) → same_address (member_of h) p ≡ false → tally_after p v s h ≡ s
+after-other : (p : Address) (v : ViewId) (s : Tally) (h : Event) → same_address (member_of h) p ≡ false → tally_after p v s h ≡ s
 after-other p v s (Started q) e = refl
 after-other p v s (Sent m) e = refl
 after-other p v s (Delivered d) e =
@@ -95,5 +95,5 @@ after-other p v s (Left q) e = refl
 after-other p v s (Crashed q) e = refl
 
 -- what happens to another leaves a member's tally
-pub tally_of-other : (p : Address) (v : ViewId) (t : List Happening) (h : Happening) → same_address (member_of h) p ≡ false → tally_of p v (t ++ h ∷ []) ≡ tally_of p v t
+pub tally_of-other : (p : Address) (v : ViewId) (t : List Event) (h : Event) → same_address (member_of h) p ≡ false → tally_of p v (t ++ h ∷ []) ≡ tally_of p v t
 tally_of-other p v t h e = tally_of-push p v t h ∙ after-other p v (tally_of p v t) h e

@@ -5,16 +5,17 @@ use Rattle.std.specs.List.{Contains}
 use Rattle.address.specs.Ids.{Address, ViewId, same_address, same_view_id}
 use Rattle.view.specs.Members.{View, stands_in}
 use Rattle.view.specs.View.{view_refusal}
-use Rattle.packet_values.specs.declared.limits.TheConstants.{PAYLOAD, WINDOW}
+use Rattle.limits.specs.declared.TheConstants.{PAYLOAD, WINDOW}
 use Rattle.packet_values.specs.Values.{Entry, held_at}
 use Rattle.wire.specs.Values.{Report, nothing_reported}
 use Rattle.wire.specs.Values as wire
 use Rattle.wire.specs.declared.packet.Body.{Body}
 use Rattle.wire.specs.declared.packet.Body.TheVariants as bodies
+use Rattle.state_transfer.specs.Meanings.{Meaning}
 use Rattle.flush.specs.Cuts.{IsCut}
 use Rattle.flush.specs.Flushes.{FlushModel, report_from, group, together_of}
-use Rattle.trace_props.specs.declared.happening.Happening.{Happening}
-use Rattle.trace_props.specs.declared.happening.Happening.TheVariants.{Sent, Delivered, Blocked, Installed, Left}
+use Rattle.trace_props.specs.declared.event.Event.{Event}
+use Rattle.trace_props.specs.declared.event.Event.TheVariants.{Sent, Delivered, Blocked, Installed, Left}
 use Rattle.trace_props.specs.Rules.{IsBelow}
 use Rattle.agreement.specs.Words.{message_for}
 use Rattle.agreement.specs.Histories.{Posted}
@@ -218,30 +219,30 @@ pub record IsForNewcomer (i : wire.Install) : Type 0 where
   pub items : i.items ≡ []
   pub state : IsSome i.state
 
-pub record MayEnter {S : Type 0} (decode : List ℕ → Option S) (came : Option Posted) (c : Core S) (i : wire.Install) : Type 0 where
+pub record MayEnter {S : Type 0} (meaning : Meaning S) (came : Option Posted) (c : Core S) (i : wire.Install) : Type 0 where
   pub asked : Says came c i.view.id.creator (bodies.Install i)
   pub promised : c.promise ≡ Some i.view
   pub waiting : c.installed ≡ false
   pub fits : MatchOption c.view (IsForNewcomer i) (λ v. i.base ≤ c.traffic.delivered)
-  pub readable : ForSome i.state (λ bytes. IsSome (decode bytes))
+  pub readable : ForSome i.state (λ bytes. IsSome (meaning.decode bytes))
 
-abbrev pub Allowed : {S : Type 0} → (List ℕ → Option S) → Option Posted → Core S → Act → Type 0
-Allowed decode came c Creates = MayCreate c
-Allowed decode came c Joins = c.view ≡ None
-Allowed decode came c (Puts q body) = Describes c q body
-Allowed decode came c (Sends v payload) = MaySend c v payload
-Allowed decode came c (Queues v e waiting) = MayQueue came c v e waiting
-Allowed decode came c (Orders v e waiting held) = MayOrder c v e waiting held
-Allowed decode came c (Hears v q n) = MayHear came c v q n
-Allowed decode came c (Collects v t held) = MayCollect came c v t held
-Allowed decode came c (Holds v g e held) = MayHold came c v g e held
-Allowed decode came c (Delivers v e) = MayDeliver c v e
-Allowed decode came c (Promises w) = MayPromise came c w
-Allowed decode came c (Begins w) = MayBegin c w
-Allowed decode came c (Records f q r) = MayRecord came c f q r
-Allowed decode came c (Finishes v f cuts) = MayFinish c v f cuts
-Allowed decode came c (Enters i) = MayEnter decode came c i
-Allowed decode came c Leaves = Unit {0}
+abbrev pub Allowed : {S : Type 0} → Meaning S → Option Posted → Core S → Act → Type 0
+Allowed meaning came c Creates = MayCreate c
+Allowed meaning came c Joins = c.view ≡ None
+Allowed meaning came c (Puts q body) = Describes c q body
+Allowed meaning came c (Sends v payload) = MaySend c v payload
+Allowed meaning came c (Queues v e waiting) = MayQueue came c v e waiting
+Allowed meaning came c (Orders v e waiting held) = MayOrder c v e waiting held
+Allowed meaning came c (Hears v q n) = MayHear came c v q n
+Allowed meaning came c (Collects v t held) = MayCollect came c v t held
+Allowed meaning came c (Holds v g e held) = MayHold came c v g e held
+Allowed meaning came c (Delivers v e) = MayDeliver c v e
+Allowed meaning came c (Promises w) = MayPromise came c w
+Allowed meaning came c (Begins w) = MayBegin c w
+Allowed meaning came c (Records f q r) = MayRecord came c f q r
+Allowed meaning came c (Finishes v f cuts) = MayFinish c v f cuts
+Allowed meaning came c (Enters i) = MayEnter meaning came c i
+Allowed meaning came c Leaves = Unit {0}
 
 -- ---- what an act leaves
 
@@ -280,8 +281,8 @@ abbrev pub told_at : {S : Type 0} → Core S → ℕ → List Entry → List Ent
 told_at c base items = option_map_or (λ v. undelivered c.traffic.delivered base items) c.view []
 
 -- the state with which a member goes into a view
-abbrev pub state_into : {S : Type 0} → (S → Address → List ℕ → S) → (List ℕ → Option S) → Core S → List Entry → Option (List ℕ) → S
-state_into apply decode c entries given = unwrap_or (option_and_then decode given) (applied apply c.state entries)
+abbrev pub state_into : {S : Type 0} → Meaning S → Core S → List Entry → Option (List ℕ) → S
+state_into meaning c entries given = unwrap_or (option_and_then meaning.decode given) (applied meaning c.state entries)
 
 -- the proposal of a flush
 abbrev pub proposed : FlushModel → View
@@ -307,13 +308,13 @@ abbrev pub instruction_for : FlushModel → Cuts → ViewId → List ℕ → Add
 instruction_for f cuts v state q = instruction f cuts v state q (unwrap_or (report_from q f.reports) nothing_reported)
 
 -- the state after the own cut
-abbrev pub state_after_cut : {S : Type 0} → (S → Address → List ℕ → S) → Core S → View → Cuts → S
-state_after_cut apply c v cuts = applied apply c.state (undelivered c.traffic.delivered (cuts.base v.id) (cuts.items v.id))
+abbrev pub state_after_cut : {S : Type 0} → Meaning S → Core S → View → Cuts → S
+state_after_cut meaning c v cuts = applied meaning c.state (undelivered c.traffic.delivered (cuts.base v.id) (cuts.items v.id))
 
 -- the instructions to all others of the list
-abbrev pub instructions : {S : Type 0} → (S → Address → List ℕ → S) → (S → List ℕ) → Core S → View → FlushModel → Cuts → List (Address × wire.Install)
-instructions apply encode c v f cuts =
-    let state = encode (state_after_cut apply c v cuts) in
+abbrev pub instructions : {S : Type 0} → Meaning S → Core S → View → FlushModel → Cuts → List (Address × wire.Install)
+instructions meaning c v f cuts =
+    let state = meaning.encode (state_after_cut meaning c v cuts) in
     map (λ q. (q, instruction_for f cuts v.id state q)) (others_of c.me f.members)
 
 -- an acknowledgement never lowers what is known
@@ -328,62 +329,62 @@ abbrev pub with_traffic : {S : Type 0} → Traffic → Core S → Core S
 with_traffic t c = record c { traffic = t }
 
 -- the core after an act; None once the member has left
-abbrev pub after : {S : Type 0} → (S → Address → List ℕ → S) → (S → List ℕ) → (List ℕ → Option S) → Core S → Act → Option (Core S)
-after apply encode decode c Creates = Some (gone_into (lone_view c.me) c.state [] c)
-after apply encode decode c Joins = Some (record c { connected = true })
-after apply encode decode c (Puts q body) = Some c
-after apply encode decode c (Sends v payload) =
+abbrev pub after : {S : Type 0} → Meaning S → Core S → Act → Option (Core S)
+after meaning c Creates = Some (gone_into (lone_view c.me) c.state [] c)
+after meaning c Joins = Some (record c { connected = true })
+after meaning c (Puts q body) = Some c
+after meaning c (Sends v payload) =
     let t = c.traffic in
     Some (with_traffic (record t { sent = t.sent + 1; outstanding = t.outstanding ++ record { number = t.sent + 1; payload = payload } ∷ [] }) c)
-after apply encode decode c (Queues v e waiting) = let t = c.traffic in Some (with_traffic (record t { waiting = waiting }) c)
-after apply encode decode c (Orders v e waiting held) =
+after meaning c (Queues v e waiting) = let t = c.traffic in Some (with_traffic (record t { waiting = waiting }) c)
+after meaning c (Orders v e waiting held) =
     let t = told_more c.me (e ∷ []) c.traffic in
     Some (record c {
       traffic = record t { waiting = waiting; held = held; ordered = one_more e.sender t.ordered };
-      state = applied apply c.state (e ∷ []);
+      state = applied meaning c.state (e ∷ []);
     })
-after apply encode decode c (Hears v q n) = let t = c.traffic in Some (with_traffic (record t { acks = heard q n t.acks }) c)
-after apply encode decode c (Collects v n held) = let t = c.traffic in Some (with_traffic (record t { stable = max t.stable n; held = held }) c)
-after apply encode decode c (Holds v g e held) = let t = c.traffic in Some (with_traffic (record t { held = held }) c)
-after apply encode decode c (Delivers v e) = Some (record c { traffic = told_more c.me (e ∷ []) c.traffic; state = applied apply c.state (e ∷ []) })
-after apply encode decode c (Promises w) = Some (promised w None c)
-after apply encode decode c (Begins w) = Some (promised w (Some (begun w c)) c)
-after apply encode decode c (Records f q r) = Some (record c { flush = Some (record f { reports = f.reports ++ (q, r) ∷ [] }) })
-after apply encode decode c (Finishes v f cuts) = Some (gone_into (proposed f) (state_after_cut apply c v cuts) (instructions apply encode c v f cuts) c)
-after apply encode decode c (Enters i) = Some (gone_into i.view (state_into apply decode c (told_at c i.base i.items) i.state) [] c)
-after apply encode decode c Leaves = None
+after meaning c (Hears v q n) = let t = c.traffic in Some (with_traffic (record t { acks = heard q n t.acks }) c)
+after meaning c (Collects v n held) = let t = c.traffic in Some (with_traffic (record t { stable = max t.stable n; held = held }) c)
+after meaning c (Holds v g e held) = let t = c.traffic in Some (with_traffic (record t { held = held }) c)
+after meaning c (Delivers v e) = Some (record c { traffic = told_more c.me (e ∷ []) c.traffic; state = applied meaning c.state (e ∷ []) })
+after meaning c (Promises w) = Some (promised w None c)
+after meaning c (Begins w) = Some (promised w (Some (begun w c)) c)
+after meaning c (Records f q r) = Some (record c { flush = Some (record f { reports = f.reports ++ (q, r) ∷ [] }) })
+after meaning c (Finishes v f cuts) = Some (gone_into (proposed f) (state_after_cut meaning c v cuts) (instructions meaning c v f cuts) c)
+after meaning c (Enters i) = Some (gone_into i.view (state_into meaning c (told_at c i.base i.items) i.state) [] c)
+after meaning c Leaves = None
 
 -- ---- what an act puts out
 
-abbrev pub packets_of : {S : Type 0} → (S → Address → List ℕ → S) → (S → List ℕ) → Core S → Act → List Posted
-packets_of apply encode c Creates = []
-packets_of apply encode c Joins = []
-packets_of apply encode c (Puts q body) = packet c.me body q ∷ []
-packets_of apply encode c (Sends v payload) = []
-packets_of apply encode c (Queues v e waiting) = []
-packets_of apply encode c (Orders v e waiting held) = []
-packets_of apply encode c (Hears v q n) = []
-packets_of apply encode c (Collects v n held) = []
-packets_of apply encode c (Holds v g e held) = []
-packets_of apply encode c (Delivers v e) = []
-packets_of apply encode c (Promises w) = packet c.me (bodies.Report w.id (report_with c.view c.traffic)) w.id.creator ∷ []
-packets_of apply encode c (Begins w) = map (packet c.me (bodies.Flush w)) (others_of c.me w.members)
-packets_of apply encode c (Records f q r) = []
-packets_of apply encode c (Finishes v f cuts) = map (λ p. packet c.me (bodies.Install p.1) p.0) (instructions apply encode c v f cuts)
-packets_of apply encode c (Enters i) = []
-packets_of apply encode c Leaves = []
+abbrev pub packets_of : {S : Type 0} → Meaning S → Core S → Act → List Posted
+packets_of meaning c Creates = []
+packets_of meaning c Joins = []
+packets_of meaning c (Puts q body) = packet c.me body q ∷ []
+packets_of meaning c (Sends v payload) = []
+packets_of meaning c (Queues v e waiting) = []
+packets_of meaning c (Orders v e waiting held) = []
+packets_of meaning c (Hears v q n) = []
+packets_of meaning c (Collects v n held) = []
+packets_of meaning c (Holds v g e held) = []
+packets_of meaning c (Delivers v e) = []
+packets_of meaning c (Promises w) = packet c.me (bodies.Report w.id (report_with c.view c.traffic)) w.id.creator ∷ []
+packets_of meaning c (Begins w) = map (packet c.me (bodies.Flush w)) (others_of c.me w.members)
+packets_of meaning c (Records f q r) = []
+packets_of meaning c (Finishes v f cuts) = map (λ p. packet c.me (bodies.Install p.1) p.0) (instructions meaning c v f cuts)
+packets_of meaning c (Enters i) = []
+packets_of meaning c Leaves = []
 
 -- ---- what happens by an act
 
-abbrev pub delivery : Address → ViewId → Entry → Happening
+abbrev pub delivery : Address → ViewId → Entry → Event
 delivery p v e = Delivered (record { member = p; view = v; message = message_for e })
 
 -- a member is told entries in the view from which it goes
-abbrev pub deliveries : Address → Option View → List Entry → List Happening
+abbrev pub deliveries : Address → Option View → List Entry → List Event
 deliveries p v entries = option_map_or (λ u. map (delivery p u.id) entries) v []
 
 -- a member goes into a view: it is told some last entries, and what was not told of its own messages is handed back
-abbrev pub entering : {S : Type 0} → Core S → List Entry → View → List Address → Option (List ℕ) → List Happening
+abbrev pub entering : {S : Type 0} → Core S → List Entry → View → List Address → Option (List ℕ) → List Event
 entering c entries w together given =
     deliveries c.me c.view entries
     ++ Installed (record {
@@ -397,23 +398,23 @@ entering c entries w together given =
     ∷ []
 
 -- a member that was open is blocked
-abbrev pub blocking : {S : Type 0} → Core S → List Happening
+abbrev pub blocking : {S : Type 0} → Core S → List Event
 blocking c = if is_open c.view c.installed then Blocked c.me ∷ [] else []
 
-abbrev pub happenings_of : {S : Type 0} → Core S → Act → List Happening
-happenings_of c Creates = entering c [] (lone_view c.me) (c.me ∷ []) None
-happenings_of c Joins = []
-happenings_of c (Puts q body) = []
-happenings_of c (Sends v payload) = Sent (record { member = c.me; view = v.id; message = record { number = c.traffic.sent + 1; payload = payload } }) ∷ []
-happenings_of c (Queues v e waiting) = []
-happenings_of c (Orders v e waiting held) = delivery c.me v.id e ∷ []
-happenings_of c (Hears v q n) = []
-happenings_of c (Collects v n held) = []
-happenings_of c (Holds v g e held) = []
-happenings_of c (Delivers v e) = delivery c.me v.id e ∷ []
-happenings_of c (Promises w) = blocking c
-happenings_of c (Begins w) = blocking c
-happenings_of c (Records f q r) = []
-happenings_of c (Finishes v f cuts) = entering c (undelivered c.traffic.delivered (cuts.base v.id) (cuts.items v.id)) (proposed f) (together_of c.me f) None
-happenings_of c (Enters i) = entering c (told_at c i.base i.items) i.view i.together i.state
-happenings_of c Leaves = Left c.me ∷ []
+abbrev pub events_of : {S : Type 0} → Core S → Act → List Event
+events_of c Creates = entering c [] (lone_view c.me) (c.me ∷ []) None
+events_of c Joins = []
+events_of c (Puts q body) = []
+events_of c (Sends v payload) = Sent (record { member = c.me; view = v.id; message = record { number = c.traffic.sent + 1; payload = payload } }) ∷ []
+events_of c (Queues v e waiting) = []
+events_of c (Orders v e waiting held) = delivery c.me v.id e ∷ []
+events_of c (Hears v q n) = []
+events_of c (Collects v n held) = []
+events_of c (Holds v g e held) = []
+events_of c (Delivers v e) = delivery c.me v.id e ∷ []
+events_of c (Promises w) = blocking c
+events_of c (Begins w) = blocking c
+events_of c (Records f q r) = []
+events_of c (Finishes v f cuts) = entering c (undelivered c.traffic.delivered (cuts.base v.id) (cuts.items v.id)) (proposed f) (together_of c.me f) None
+events_of c (Enters i) = entering c (told_at c i.base i.items) i.view i.together i.state
+events_of c Leaves = Left c.me ∷ []

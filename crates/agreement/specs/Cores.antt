@@ -7,8 +7,9 @@ use Rattle.view.specs.Members.{View}
 use Rattle.packet_values.specs.Values.{Entry}
 use Rattle.wire.specs.Values.{Report}
 use Rattle.wire.specs.Values as wire
+use Rattle.state_transfer.specs.Meanings.{Meaning}
 use Rattle.flush.specs.Flushes.{FlushModel}
-use Rattle.trace_props.specs.declared.happening.Numbered.{Numbered}
+use Rattle.trace_props.specs.declared.event.Numbered.{Numbered}
 use Rattle.trace_props.specs.Observed.{own}
 use Rattle.agreement.specs.Words.{message_for}
 
@@ -91,5 +92,5 @@ abbrev pub told_more : Address → List Entry → Traffic → Traffic
 told_more p entries t = record t { delivered = t.delivered + length entries; outstanding = left_of p entries t.outstanding }
 
 -- the state after these entries
-abbrev pub applied : {S : Type 0} → (S → Address → List ℕ → S) → S → List Entry → S
-applied apply s entries = fold (λ z e. apply z e.sender e.payload) s entries
+abbrev pub applied : {S : Type 0} → Meaning S → S → List Entry → S
+applied meaning s entries = fold (λ z e. meaning.apply z e.sender e.payload) s entries

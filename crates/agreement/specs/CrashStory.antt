@@ -1,12 +1,13 @@
 -- The crash of the first: three members come together, the first orders two messages, of which the second is told one, and crashes; the second takes
 -- over, and is told the other by the cut.
-use Rattle.std.specs.Prelude.{ℕ, Option, None, Some, List, [], ◌∷◌, ◌++◌, take}
+use Rattle.std.specs.Prelude.{ℕ, None, Some, List, [], ◌∷◌, ◌++◌, take}
 use Rattle.address.specs.Ids.{Address}
 use Rattle.packet_values.specs.Values.{Entry}
 use Rattle.wire.specs.Values.{Report}
 use Rattle.wire.specs.declared.packet.Body.TheVariants as bodies
-use Rattle.trace_props.specs.declared.happening.Happening.{Happening}
-use Rattle.trace_props.specs.declared.happening.Happening.TheVariants.{Blocked, Crashed}
+use Rattle.state_transfer.specs.Meanings.{Meaning}
+use Rattle.trace_props.specs.declared.event.Event.{Event}
+use Rattle.trace_props.specs.declared.event.Event.TheVariants.{Blocked, Crashed}
 use Rattle.agreement.specs.Acts.{Cuts, Puts, Sends, Queues, Orders, Hears, Collects, Holds, Delivers, Promises, Begins, Records, Finishes, Enters, delivery}
 use Rattle.agreement.specs.Steps.{Step, Crash, Does}
 use Rattle.agreement.specs.Stories.{Plays, one, two, three, view_of_three, view_of_rest, message_a, message_b, held_first, told_first, flush_with, for_companion, joining, three_joined, installs, sends}
@@ -74,7 +75,7 @@ abbrev pub crash_of_the_first : List ℕ → List Step
 crash_of_the_first state = joining state (messages_chapter ++ crash_chapter)
 
 -- the trace of the crash
-abbrev pub crash_happened : List ℕ → List Happening
+abbrev pub crash_happened : List ℕ → List Event
 crash_happened state =
     three_joined state
     ++ sends one view_of_three 1 message_a
@@ -92,5 +93,5 @@ crash_happened state =
     ∷ installs three (Some view_of_three.id) view_of_rest (two ∷ three ∷ []) None
     ∷ []
 
-abbrev pub CrashPlays : {S : Type 0} → S → (S → Address → List ℕ → S) → (S → List ℕ) → (List ℕ → Option S) → Type 0
-CrashPlays opening apply encode decode = Plays opening apply encode decode (crash_of_the_first (encode opening)) (crash_happened (encode opening))
+abbrev pub CrashPlays : {S : Type 0} → Meaning S → Type 0
+CrashPlays meaning = Plays meaning (crash_of_the_first (meaning.encode meaning.opening)) (crash_happened (meaning.encode meaning.opening))

@@ -6,7 +6,7 @@ use Rattle.wire.specs.Values.{Report}
 use Rattle.wire.specs.Values as wire
 use Rattle.wire.specs.declared.packet.Body.{Body}
 use Rattle.wire.specs.declared.packet.Body.TheVariants as bodies
-use Rattle.trace_props.specs.declared.happening.Happening.{Happening}
+use Rattle.trace_props.specs.declared.event.Event.{Event}
 use Rattle.trace_props.specs.Observed.{entry_of}
 use Rattle.flush.specs.Cuts.{first_of}
 
@@ -19,7 +19,7 @@ pub record Posted : Type 0 where
 -- all packets that were put out, and what happened
 pub record History : Type 0 where
   pub pool : List Posted
-  pub trace : List Happening
+  pub trace : List Event
 
 -- ---- what one packet says
 

@@ -1,11 +1,12 @@
 -- The invariant: what holds of every history that comes of steps, in four families. Of the trace, of each packet, of each install, of each member.
-use Rattle.std.specs.Prelude.{◌≡◌, ◌≤◌, ℕ, true, Option, None, Some, List, [], length, slice_get, is_some}
+use Rattle.std.specs.Prelude.{◌≡◌, ◌≤◌, ℕ, true, None, Some, List, [], length, slice_get, is_some}
 use Rattle.address.specs.Ids.{Address, ViewId, IsAddress}
-use Rattle.packet_values.specs.declared.limits.TheConstants.{PAYLOAD}
+use Rattle.limits.specs.declared.TheConstants.{PAYLOAD}
 use Rattle.wire.specs.Values as wire
-use Rattle.trace_props.specs.declared.happening.Happening.{Happening}
-use Rattle.trace_props.specs.declared.happening.Numbered.{Numbered}
-use Rattle.trace_props.specs.declared.happening.Install.{Install}
+use Rattle.state_transfer.specs.Meanings.{Meaning}
+use Rattle.trace_props.specs.declared.event.Event.{Event}
+use Rattle.trace_props.specs.declared.event.Numbered.{Numbered}
+use Rattle.trace_props.specs.declared.event.Install.{Install}
 use Rattle.trace_props.specs.Observed.{has_started, delivered_in, sent_in, entry_of}
 use Rattle.trace_props.specs.State.{entry_state}
 use Rattle.trace_props.specs.Synchrony.{IsVirtuallySynchronous}
@@ -17,28 +18,28 @@ use Rattle.agreement.specs.Packets.{PacketFact, IsEntry, GivesState, BeginsWith}
 use Rattle.agreement.specs.Members.{MemberFact}
 
 -- a member that has not installed a view was told nothing and sent nothing there
-pub record IsUntouched (t : List Happening) (p : Address) (v : ViewId) : Type 0 where
+pub record IsUntouched (t : List Event) (p : Address) (v : ViewId) : Type 0 where
   pub told : delivered_in p v t ≡ []
   pub sent : sent_in p v t ≡ []
   pub tally : tally_of p v t ≡ no_tally
 
-abbrev pub NothingBefore : List Happening → Type 0
+abbrev pub NothingBefore : List Event → Type 0
 NothingBefore t = (p : Address) (v : ViewId) → entry_of p v t ≡ None → IsUntouched t p v
 
 -- payloads are short
-abbrev pub SendsShort : List Happening → Type 0
+abbrev pub SendsShort : List Event → Type 0
 SendsShort t = (p : Address) (v : ViewId) (k : ℕ) (m : Numbered) → slice_get (sent_in p v t) k ≡ Some m → length m.payload ≤ PAYLOAD
 
 -- who started has an address that a program can hold
-abbrev pub StartsProper : List Happening → Type 0
+abbrev pub StartsProper : List Event → Type 0
 StartsProper t = (p : Address) → has_started p t ≡ true → IsAddress p
 
 -- each packet comes from one who started
 abbrev pub HasRealSenders : History → Type 0
 HasRealSenders h = (k : ℕ) (m : Posted) → slice_get h.pool k ≡ Some m → has_started m.source h.trace ≡ true
 
-pub record TraceFact {S : Type 0} (opening : S) (apply : S → Address → List ℕ → S) (decode : List ℕ → Option S) (h : History) : Type 0 where
-  pub synchronous : IsVirtuallySynchronous opening apply decode h.trace
+pub record TraceFact {S : Type 0} (meaning : Meaning S) (h : History) : Type 0 where
+  pub synchronous : IsVirtuallySynchronous meaning h.trace
   pub before : NothingBefore h.trace
   pub short : SendsShort h.trace
   pub proper : StartsProper h.trace
@@ -52,16 +53,15 @@ abbrev pub EachEntry : History → Type 0
 EachEntry h = (q : Address) (w : ViewId) (e : Install) → entry_of q w h.trace ≡ Some e → IsEntry h q w e
 
 -- the states that are given, and those with which views begin
-pub record StateFact {S : Type 0} (opening : S) (apply : S → Address → List ℕ → S) (encode : S → List ℕ) (decode : List ℕ → Option S) (is_state : S → Type 0) (h : History) : Type 0 where
-  pub there : (w : ViewId) (e : Install) → entry_of w.creator w h.trace ≡ Some e → is_some (entry_state opening apply decode w h.trace) ≡ true
-  pub given : (w : ViewId) (q : Address) (i : wire.Install) → install_of w q h.pool ≡ Some i → GivesState opening apply encode decode h q i
-  pub begins : (w : ViewId) (e : Install) → entry_of w.creator w h.trace ≡ Some e → BeginsWith opening apply decode h.trace w e
-  pub are : (w : ViewId) (s : S) → entry_state opening apply decode w h.trace ≡ Some s → is_state s
+pub record StateFact {S : Type 0} (meaning : Meaning S) (h : History) : Type 0 where
+  pub there : (w : ViewId) (e : Install) → entry_of w.creator w h.trace ≡ Some e → is_some (entry_state meaning w h.trace) ≡ true
+  pub given : (w : ViewId) (q : Address) (i : wire.Install) → install_of w q h.pool ≡ Some i → GivesState meaning h q i
+  pub begins : (w : ViewId) (e : Install) → entry_of w.creator w h.trace ≡ Some e → BeginsWith meaning h.trace w e
+  pub are : (w : ViewId) (s : S) → entry_state meaning w h.trace ≡ Some s → meaning.is_state s
 
-pub record Invariant {S : Type 0} (opening : S) (apply : S → Address → List ℕ → S) (encode : S → List ℕ) (decode : List ℕ → Option S) (is_state : S → Type 0)
-    (s : System S) : Type 0 where
-  pub trace : TraceFact opening apply decode s.history
+pub record Invariant {S : Type 0} (meaning : Meaning S) (s : System S) : Type 0 where
+  pub trace : TraceFact meaning s.history
   pub packets : EachPacket s.history
   pub entries : EachEntry s.history
-  pub states : StateFact opening apply encode decode is_state s.history
-  pub members : (p : Address) (c : Core S) → s.running p ≡ Some c → MemberFact opening apply decode is_state s.history p c
+  pub states : StateFact meaning s.history
+  pub members : (p : Address) (c : Core S) → s.running p ≡ Some c → MemberFact meaning s.history p c

@@ -1,14 +1,15 @@
 -- The leave of the first: three members come together, and a message of the second becomes stable; the first leaves before it has ordered the next, which is
 -- handed back to the second.
-use Rattle.std.specs.Prelude.{ℕ, Option, None, Some, List, [], ◌∷◌, ◌++◌, take}
+use Rattle.std.specs.Prelude.{ℕ, None, Some, List, [], ◌∷◌, ◌++◌, take}
 use Rattle.address.specs.Ids.{Address}
 use Rattle.packet_values.specs.Values.{Entry}
 use Rattle.wire.specs.Values.{Report}
 use Rattle.wire.specs.Values as wire
 use Rattle.wire.specs.declared.packet.Body.TheVariants as bodies
-use Rattle.trace_props.specs.declared.happening.Happening.{Happening}
-use Rattle.trace_props.specs.declared.happening.Happening.TheVariants.{Blocked, Installed, Left}
-use Rattle.trace_props.specs.declared.happening.Install.{Install}
+use Rattle.state_transfer.specs.Meanings.{Meaning}
+use Rattle.trace_props.specs.declared.event.Event.{Event}
+use Rattle.trace_props.specs.declared.event.Event.TheVariants.{Blocked, Installed, Left}
+use Rattle.trace_props.specs.declared.event.Install.{Install}
 use Rattle.agreement.specs.Acts.{Cuts, Puts, Sends, Queues, Orders, Hears, Collects, Holds, Delivers, Promises, Begins, Records, Finishes, Enters, Leaves, delivery}
 use Rattle.agreement.specs.Steps.{Step, Does}
 use Rattle.agreement.specs.Stories.{Plays, one, two, three, view_of_three, view_of_rest, message_a, message_b, held_first, told_first, flush_with, joining, three_joined, installs, sends}
@@ -88,7 +89,7 @@ second_goes = record {
 }
 
 -- the trace of the leave
-abbrev pub leave_happened : List ℕ → List Happening
+abbrev pub leave_happened : List ℕ → List Event
 leave_happened state =
     three_joined state
     ++ sends two view_of_three 1 message_a
@@ -103,5 +104,5 @@ leave_happened state =
     ∷ installs three (Some view_of_three.id) view_of_rest (two ∷ three ∷ []) None
     ∷ []
 
-abbrev pub LeavePlays : {S : Type 0} → S → (S → Address → List ℕ → S) → (S → List ℕ) → (List ℕ → Option S) → Type 0
-LeavePlays opening apply encode decode = Plays opening apply encode decode (leave_of_the_first (encode opening)) (leave_happened (encode opening))
+abbrev pub LeavePlays : {S : Type 0} → Meaning S → Type 0
+LeavePlays meaning = Plays meaning (leave_of_the_first (meaning.encode meaning.opening)) (leave_happened (meaning.encode meaning.opening))

@@ -4,13 +4,14 @@ use Rattle.std.specs.Option.{ForSome, IsSomeAnd, option_map}
 use Rattle.address.specs.Ids.{Address, ViewId, same_address}
 use Rattle.view.specs.Members.{View, stands_in}
 use Rattle.view.specs.View.{view_refusal}
-use Rattle.packet_values.specs.declared.limits.TheConstants.{WINDOW}
+use Rattle.limits.specs.declared.TheConstants.{WINDOW}
 use Rattle.packet_values.specs.Values.{Entry, held_at}
 use Rattle.wire.specs.Values.{Report}
 use Rattle.wire.specs.Values as wire
+use Rattle.state_transfer.specs.Meanings.{Meaning}
 use Rattle.flush.specs.Flushes.{FlushModel, report_from}
-use Rattle.trace_props.specs.declared.happening.Happening.{Happening}
-use Rattle.trace_props.specs.declared.happening.Numbered.{Numbered}
+use Rattle.trace_props.specs.declared.event.Event.{Event}
+use Rattle.trace_props.specs.declared.event.Numbered.{Numbered}
 use Rattle.trace_props.specs.Rules.{IsRunning, IsBelow}
 use Rattle.trace_props.specs.Observed.{current_view, is_blocked, delivered_in, sent_in, own, entry_of}
 use Rattle.trace_props.specs.State.{state_of}
@@ -22,7 +23,7 @@ use Rattle.agreement.specs.Packets.{IsSent, AllHave, HoldsOrder, HoldsAll, state
 
 -- ---- what the trace says of it
 
-pub record HasSeat (t : List Happening) (p me : Address) (view : Option View) (installed : Bool) : Type 0 where
+pub record HasSeat (t : List Event) (p me : Address) (view : Option View) (installed : Bool) : Type 0 where
   pub itself : me ≡ p
   pub running : IsRunning p t
   pub current : current_view p t ≡ id_of view
@@ -31,11 +32,11 @@ pub record HasSeat (t : List Happening) (p me : Address) (view : Option View) (i
 -- ---- its view
 
 -- the view that a member installed under an id
-abbrev pub installed_as : Address → ViewId → List Happening → Option View
+abbrev pub installed_as : Address → ViewId → List Event → Option View
 installed_as p v t = option_map (λ e. e.view) (entry_of p v t)
 
 -- it installed it, so did the view's coordinator, and it is one of the members
-pub record IsInside (t : List Happening) (p : Address) (v : View) : Type 0 where
+pub record IsInside (t : List Event) (p : Address) (v : View) : Type 0 where
   pub own : installed_as p v.id t ≡ Some v
   pub first : installed_as v.id.creator v.id t ≡ Some v
   pub listed : stands_in p v.members ≡ true
@@ -92,30 +93,30 @@ KeepsInstructions pool p kept v = (q : Address) (i : wire.Install) → kept_for 
 -- ---- the traffic of its view
 
 -- how many messages it was told, and whether that is all that it will be told while open
-pub record HasCounts (t : List Happening) (p : Address) (v : ViewId) (installed : Bool) (delivered : ℕ) : Type 0 where
+pub record HasCounts (t : List Event) (p : Address) (v : ViewId) (installed : Bool) (delivered : ℕ) : Type 0 where
   pub told : length (list_of p v t) ≡ delivered
   pub tally : tally_of p v t ≡ record { phase = if installed then Open else Past; count = delivered }
 
 -- what it sent is its own messages that it was told, and then the outstanding ones
-pub record HasOwn (t : List Happening) (p : Address) (v : ViewId) (number : ℕ) (outstanding : List Numbered) : Type 0 where
+pub record HasOwn (t : List Event) (p : Address) (v : ViewId) (number : ℕ) (outstanding : List Numbered) : Type 0 where
   pub sent : sent_in p v t ≡ own p (delivered_in p v t) ++ outstanding
   pub count : length (sent_in p v t) ≡ number
 
 -- what it holds is the order's, and all that is not stable; what it takes as stable all members were told
-pub record HasWindow (t : List Happening) (v : ViewId) (stable delivered : ℕ) (held : List (ℕ × Entry)) : Type 0 where
+pub record HasWindow (t : List Event) (v : ViewId) (stable delivered : ℕ) (held : List (ℕ × Entry)) : Type 0 where
   pub order : HoldsOrder t v held
   pub all : HoldsAll stable delivered held
   pub near : (g : ℕ) → is_some (held_at g held) ≡ true → g ≤ stable + WINDOW
   pub told : AllHave t v stable 0
 
 -- what the coordinator knows of others: acknowledgements are at most what was told, what waits was sent, what was ordered is counted
-abbrev pub HasAcks : List Happening → ViewId → (Address → ℕ) → Type 0
+abbrev pub HasAcks : List Event → ViewId → (Address → ℕ) → Type 0
 HasAcks t v acks = (q : Address) → acks q ≤ open_count q v t
 
-abbrev pub HasWaiting : List Happening → ViewId → List Entry → Type 0
+abbrev pub HasWaiting : List Event → ViewId → List Entry → Type 0
 HasWaiting t v waiting = (k : ℕ) (e : Entry) → slice_get waiting k ≡ Some e → IsSent t v e
 
-abbrev pub HasOrdered : List Happening → Address → ViewId → (Address → ℕ) → Type 0
+abbrev pub HasOrdered : List Event → Address → ViewId → (Address → ℕ) → Type 0
 HasOrdered t p v ordered = (q : Address) → same_address p v.creator ≡ true → ordered q ≡ length (own q (delivered_in p v t))
 
 -- all that holds of a member's view
@@ -131,17 +132,15 @@ pub record ViewFact (h : History) (p : Address) (installed : Bool) (traffic : Tr
 
 -- ---- its state
 
-pub record HasState {S : Type 0} (opening : S) (apply : S → Address → List ℕ → S) (decode : List ℕ → Option S) (is_state : S → Type 0) (t : List Happening) (p : Address)
-    (view : Option View) (state : S) : Type 0 where
-  pub now : state_of opening apply decode p t ≡ state
-  pub is : is_state state
+pub record HasState {S : Type 0} (meaning : Meaning S) (t : List Event) (p : Address) (view : Option View) (state : S) : Type 0 where
+  pub now : state_of meaning p t ≡ state
+  pub is : meaning.is_state state
   -- in a view, that of the view's beginning with all applied that it was told there
-  pub in_view : ForSome view (λ v. state_with opening apply decode v.id (list_of p v.id t) t ≡ Some state)
+  pub in_view : ForSome view (λ v. state_with meaning v.id (list_of p v.id t) t ≡ Some state)
 
 -- ---- all of it
 
-pub record MemberFact {S : Type 0} (opening : S) (apply : S → Address → List ℕ → S) (decode : List ℕ → Option S) (is_state : S → Type 0) (h : History) (p : Address)
-    (c : Core S) : Type 0 where
+pub record MemberFact {S : Type 0} (meaning : Meaning S) (h : History) (p : Address) (c : Core S) : Type 0 where
   pub seat : HasSeat h.trace p c.me c.view c.installed
   pub promise : PromiseOf p c.promise c.view c.installed
   pub announced : IsAnnounced h.pool p c.promise
@@ -149,4 +148,4 @@ pub record MemberFact {S : Type 0} (opening : S) (apply : S → Address → List
   pub reported : IsReported h.pool p c.promise c.installed c.view c.traffic
   pub flush : ForSome c.flush (RunsFlush h.pool p c.promise c.installed c.view c.traffic)
   pub view : ForSome c.view (ViewFact h p c.installed c.traffic c.kept)
-  pub state : HasState opening apply decode is_state h.trace p c.view c.state
+  pub state : HasState meaning h.trace p c.view c.state

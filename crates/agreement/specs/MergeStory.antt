@@ -1,14 +1,15 @@
 -- Two halves: four members come together and fall into two halves, in each of which a message is ordered; the halves merge. The second half is given the
 -- state of the first, and the fourth member is told the message of its own half that it lacks.
-use Rattle.std.specs.Prelude.{ℕ, Option, None, Some, List, [], ◌∷◌, ◌++◌, take, if◌then◌else◌}
+use Rattle.std.specs.Prelude.{ℕ, None, Some, List, [], ◌∷◌, ◌++◌, take, if◌then◌else◌}
 use Rattle.address.specs.Ids.{Address, same_view_id}
 use Rattle.view.specs.Members.{View}
 use Rattle.packet_values.specs.Values.{Entry}
 use Rattle.wire.specs.Values.{Report, nothing_reported}
 use Rattle.wire.specs.Values as wire
 use Rattle.wire.specs.declared.packet.Body.TheVariants as bodies
-use Rattle.trace_props.specs.declared.happening.Happening.{Happening}
-use Rattle.trace_props.specs.declared.happening.Happening.TheVariants.{Started, Blocked}
+use Rattle.state_transfer.specs.Meanings.{Meaning}
+use Rattle.trace_props.specs.declared.event.Event.{Event}
+use Rattle.trace_props.specs.declared.event.Event.TheVariants.{Started, Blocked}
 use Rattle.agreement.specs.Acts.{Cuts, Joins, Puts, Sends, Queues, Orders, Hears, Collects, Holds, Delivers, Promises, Begins, Records, Finishes, Enters, delivery}
 use Rattle.agreement.specs.Steps.{Step, Start, Does}
 use Rattle.agreement.specs.Stories.{Plays, one, two, three, view_of_three, message_a, message_b, held_first, told_nothing, told_first, flush_with, empty_cuts, for_newcomer, for_companion, joining, three_joined, installs, sends}
@@ -145,7 +146,7 @@ partition_and_merge state half =
     joining state (fourth_chapter state ++ parting_chapter ++ apart_chapter ++ merge_chapter half)
 
 -- the trace of the halves
-abbrev pub merge_happened : List ℕ → List ℕ → List Happening
+abbrev pub merge_happened : List ℕ → List ℕ → List Event
 merge_happened state half =
     three_joined state
     ++ Started four
@@ -181,7 +182,7 @@ merge_happened state half =
     ∷ []
 
 -- the state of the first half is that with which all begin and the message that was ordered there
-abbrev pub MergePlays : {S : Type 0} → S → (S → Address → List ℕ → S) → (S → List ℕ) → (List ℕ → Option S) → Type 0
-MergePlays opening apply encode decode =
-    let half = encode (apply opening one message_a) in
-    Plays opening apply encode decode (partition_and_merge (encode opening) half) (merge_happened (encode opening) half)
+abbrev pub MergePlays : {S : Type 0} → Meaning S → Type 0
+MergePlays meaning =
+    let half = meaning.encode (meaning.apply meaning.opening one message_a) in
+    Plays meaning (partition_and_merge (meaning.encode meaning.opening) half) (merge_happened (meaning.encode meaning.opening) half)

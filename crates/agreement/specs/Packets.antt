@@ -4,14 +4,15 @@ use Rattle.std.specs.Option.{ForSome, option_map, option_eq}
 use Rattle.address.specs.Ids.{Address, ViewId, same_address, same_view_id}
 use Rattle.view.specs.Members.{View, stands_in}
 use Rattle.view.specs.View.{view_refusal}
-use Rattle.packet_values.specs.declared.limits.TheConstants.{WINDOW}
+use Rattle.limits.specs.declared.TheConstants.{WINDOW}
 use Rattle.packet_values.specs.Values.{Entry, held_at}
 use Rattle.wire.specs.Values.{Report}
 use Rattle.wire.specs.Values as wire
 use Rattle.wire.specs.declared.packet.Body.{Body}
 use Rattle.wire.specs.declared.packet.Body.TheVariants as bodies
-use Rattle.trace_props.specs.declared.happening.Happening.{Happening}
-use Rattle.trace_props.specs.declared.happening.Install.{Install}
+use Rattle.state_transfer.specs.Meanings.{Meaning}
+use Rattle.trace_props.specs.declared.event.Event.{Event}
+use Rattle.trace_props.specs.declared.event.Install.{Install}
 use Rattle.trace_props.specs.Observed.{sent_in, entry_of}
 use Rattle.trace_props.specs.State.{entry_state}
 use Rattle.agreement.specs.Words.{list_of, order_of, members_of, open_count, IsClosed}
@@ -21,19 +22,19 @@ use Rattle.agreement.specs.Cores.{applied}
 -- ---- what a message and a count mean
 
 -- the entry at a number of a view's order, counted from 1
-abbrev pub IsOrdered : List Happening → ViewId → ℕ → Entry → Type 0
+abbrev pub IsOrdered : List Event → ViewId → ℕ → Entry → Type 0
 IsOrdered t v g e = (k : ℕ) → g ≡ k + 1 → slice_get (order_of v t) k ≡ Some e
 
 -- its sender sent it in the view, under its number
-abbrev pub IsSent : List Happening → ViewId → Entry → Type 0
+abbrev pub IsSent : List Event → ViewId → Entry → Type 0
 IsSent t v e = (k : ℕ) → e.number ≡ k + 1 → slice_get (sent_in e.sender v t) k ≡ Some (record { number = e.number; payload = e.payload })
 
 -- each member of the view was told so many before it was blocked there, give or take some
-abbrev pub AllHave : List Happening → ViewId → ℕ → ℕ → Type 0
+abbrev pub AllHave : List Event → ViewId → ℕ → ℕ → Type 0
 AllHave t v n less = (q : Address) → stands_in q (members_of v t) ≡ true → n ≤ open_count q v t + less
 
 -- all that is held stands in the view's order
-abbrev pub HoldsOrder : List Happening → ViewId → List (ℕ × Entry) → Type 0
+abbrev pub HoldsOrder : List Event → ViewId → List (ℕ × Entry) → Type 0
 HoldsOrder t v held = (g : ℕ) (e : Entry) → held_at g held ≡ Some e → IsOrdered t v g e
 
 -- all is held that lies past a number, up to another
@@ -51,7 +52,7 @@ pub record IsProposal (h : History) (p : Address) (w : View) : Type 0 where
 -- ---- a REPORT
 
 -- what a member says of the view from which it comes: it is a member of it and is blocked there for good
-pub record TellsOf (t : List Happening) (p : Address) (r : Report) (v : ViewId) : Type 0 where
+pub record TellsOf (t : List Event) (p : Address) (r : Report) (v : ViewId) : Type 0 where
   pub closed : IsClosed p v t
   pub entered : is_some (entry_of p v t) ≡ true
   pub member : stands_in p (members_of v t) ≡ true
@@ -69,7 +70,7 @@ pub record IsAnswer (h : History) (p : Address) (w : ViewId) (r : Report) : Type
 -- ---- an INSTALL
 
 -- its items follow the base in the order of the view from which the reporter comes, from at most what it had to at least that
-pub record IsCutOf (t : List Happening) (base : ℕ) (items : List Entry) (r : Report) (v : ViewId) : Type 0 where
+pub record IsCutOf (t : List Event) (base : ℕ) (items : List Entry) (r : Report) (v : ViewId) : Type 0 where
   pub low : base ≤ r.delivered
   pub high : r.delivered ≤ base + length items
   pub order : (j : ℕ) (e : Entry) → slice_get items j ≡ Some e → slice_get (order_of v t) (base + j) ≡ Some e
@@ -112,16 +113,16 @@ pub record IsInstruction (h : History) (p q : Address) (i : wire.Install) : Type
 -- ---- packets of the order
 
 -- the coordinator of the view, which is in it, says this
-pub record IsCoordinator (t : List Happening) (p : Address) (v : ViewId) : Type 0 where
+pub record IsCoordinator (t : List Event) (p : Address) (v : ViewId) : Type 0 where
   pub own : v.creator ≡ p
   pub entered : is_some (entry_of p v t) ≡ true
 
-pub record IsOrder (t : List Happening) (p : Address) (v : ViewId) (g : ℕ) (e : Entry) : Type 0 where
+pub record IsOrder (t : List Event) (p : Address) (v : ViewId) (g : ℕ) (e : Entry) : Type 0 where
   pub coordinator : IsCoordinator t p v
   pub order : IsOrdered t v g e
   pub near : AllHave t v g WINDOW
 
-pub record IsStatus (t : List Happening) (p : Address) (v : ViewId) (stable : ℕ) : Type 0 where
+pub record IsStatus (t : List Event) (p : Address) (v : ViewId) (stable : ℕ) : Type 0 where
   pub coordinator : IsCoordinator t p v
   pub all : AllHave t v stable 0
 
@@ -161,15 +162,14 @@ pub record IsEntry (h : History) (q : Address) (w : ViewId) (e : Install) : Type
 -- ---- states
 
 -- the state that all who were told a view's order up to somewhere have: that of its beginning, with these applied; None where nobody has begun it
-abbrev pub state_with : {S : Type 0} → S → (S → Address → List ℕ → S) → (List ℕ → Option S) → ViewId → List Entry → List Happening → Option S
-state_with opening apply decode v entries t = option_map (λ s. applied apply s entries) (entry_state opening apply decode v t)
+abbrev pub state_with : {S : Type 0} → Meaning S → ViewId → List Entry → List Event → Option S
+state_with meaning v entries t = option_map (λ s. applied meaning s entries) (entry_state meaning v t)
 
 -- an INSTALL gives the state with which its view begins to all who come from another view than its coordinator
-abbrev pub GivesState : {S : Type 0} → S → (S → Address → List ℕ → S) → (S → List ℕ) → (List ℕ → Option S) → History → Address → wire.Install → Type 0
-GivesState opening apply encode decode h q i = (e : Install) (r : Report) → entry_of i.view.id.creator i.view.id h.trace ≡ Some e → report_of q i.view.id h.pool ≡ Some r
-    → i.state ≡ (if option_eq same_view_id r.previous e.previous then None else option_map encode (entry_state opening apply decode i.view.id h.trace))
+abbrev pub GivesState : {S : Type 0} → Meaning S → History → Address → wire.Install → Type 0
+GivesState meaning h q i = (e : Install) (r : Report) → entry_of i.view.id.creator i.view.id h.trace ≡ Some e → report_of q i.view.id h.pool ≡ Some r
+    → i.state ≡ (if option_eq same_view_id r.previous e.previous then None else option_map meaning.encode (entry_state meaning i.view.id h.trace))
 
 -- a view begins with the state that its coordinator had at the end of the view from which it came
-abbrev pub BeginsWith : {S : Type 0} → S → (S → Address → List ℕ → S) → (List ℕ → Option S) → List Happening → ViewId → Install → Type 0
-BeginsWith opening apply decode t w e = (v : ViewId) → e.previous ≡ Some v
-    → state_with opening apply decode v (list_of w.creator v t) t ≡ entry_state opening apply decode w t
+abbrev pub BeginsWith : {S : Type 0} → Meaning S → List Event → ViewId → Install → Type 0
+BeginsWith meaning t w e = (v : ViewId) → e.previous ≡ Some v → state_with meaning v (list_of w.creator v t) t ≡ entry_state meaning w t

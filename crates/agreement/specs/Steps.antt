@@ -2,12 +2,13 @@
 use Rattle.std.specs.Prelude.{◌≡◌, ℕ, false, ◌&&◌, not, Option, None, Some, List, [], ◌∷◌, ◌++◌, slice_get, IsSome, if◌then◌else◌}
 use Rattle.std.specs.Option.{IsSomeAnd, option_and_then, option_map_or}
 use Rattle.address.specs.Ids.{Address, IsAddress, same_address}
-use Rattle.trace_props.specs.declared.happening.Happening.{Happening}
-use Rattle.trace_props.specs.declared.happening.Happening.TheVariants.{Started, Crashed}
+use Rattle.state_transfer.specs.Meanings.{Meaning}
+use Rattle.trace_props.specs.declared.event.Event.{Event}
+use Rattle.trace_props.specs.declared.event.Event.TheVariants.{Started, Crashed}
 use Rattle.trace_props.specs.Observed.{has_started}
 use Rattle.agreement.specs.Histories.{Posted, History}
 use Rattle.agreement.specs.Cores.{Core, idle}
-use Rattle.agreement.specs.Acts.{Act, Allowed, after, packets_of, happenings_of}
+use Rattle.agreement.specs.Acts.{Act, Allowed, after, packets_of, events_of}
 
 -- the members that run, by address, and what was
 pub record System (S : Type 0) : Type 0 where
@@ -38,34 +39,34 @@ pub data Step : Type 0 where
   Does : Address → Option ℕ → Act → Step
 
 -- an address starts once; all else is done while it runs
-abbrev pub MayStep : {S : Type 0} → (List ℕ → Option S) → System S → Step → Type 0
-MayStep decode s (Start p) = IsAddress p × (has_started p s.history.trace ≡ false)
-MayStep decode s (Crash p) = IsSome (s.running p)
-MayStep decode s (Does p which act) = IsSomeAnd (s.running p) (λ c. Allowed decode (came_of c s.history.pool which) c act)
+abbrev pub MayStep : {S : Type 0} → Meaning S → System S → Step → Type 0
+MayStep meaning s (Start p) = IsAddress p × (has_started p s.history.trace ≡ false)
+MayStep meaning s (Crash p) = IsSome (s.running p)
+MayStep meaning s (Does p which act) = IsSomeAnd (s.running p) (λ c. Allowed meaning (came_of c s.history.pool which) c act)
 
--- the history with packets and happenings more
-abbrev pub grown : History → List Posted → List Happening → History
-grown h packets happenings = record { pool = h.pool ++ packets; trace = h.trace ++ happenings }
+-- the history with packets and events more
+abbrev pub grown : History → List Posted → List Event → History
+grown h packets events = record { pool = h.pool ++ packets; trace = h.trace ++ events }
 
 -- the system after a member did an act
-abbrev pub acted : {S : Type 0} → (S → Address → List ℕ → S) → (S → List ℕ) → (List ℕ → Option S) → System S → Address → Act → Core S → System S
-acted apply encode decode s p act c = record {
-  running = put p (after apply encode decode c act) s.running;
-  history = grown s.history (packets_of apply encode c act) (happenings_of c act);
+abbrev pub acted : {S : Type 0} → Meaning S → System S → Address → Act → Core S → System S
+acted meaning s p act c = record {
+  running = put p (after meaning c act) s.running;
+  history = grown s.history (packets_of meaning c act) (events_of c act);
 }
 
 -- the system after a step
-abbrev pub stepped : {S : Type 0} → S → (S → Address → List ℕ → S) → (S → List ℕ) → (List ℕ → Option S) → System S → Step → System S
-stepped opening apply encode decode s (Start p) =
-    record { running = put p (Some (idle opening p)) s.running; history = grown s.history [] (Started p ∷ []) }
-stepped opening apply encode decode s (Crash p) = record { running = put p None s.running; history = grown s.history [] (Crashed p ∷ []) }
-stepped opening apply encode decode s (Does p which act) = option_map_or (acted apply encode decode s p act) (s.running p) s
+abbrev pub stepped : {S : Type 0} → Meaning S → System S → Step → System S
+stepped meaning s (Start p) =
+    record { running = put p (Some (idle meaning.opening p)) s.running; history = grown s.history [] (Started p ∷ []) }
+stepped meaning s (Crash p) = record { running = put p None s.running; history = grown s.history [] (Crashed p ∷ []) }
+stepped meaning s (Does p which act) = option_map_or (acted meaning s p act) (s.running p) s
 
 -- steps that are each allowed after those before
-abbrev pub MayRun : {S : Type 0} → S → (S → Address → List ℕ → S) → (S → List ℕ) → (List ℕ → Option S) → System S → List Step → Type 0
-MayRun opening apply encode decode s [] = Unit {0}
-MayRun opening apply encode decode s (x ∷ steps) = MayStep decode s x × MayRun opening apply encode decode (stepped opening apply encode decode s x) steps
+abbrev pub MayRun : {S : Type 0} → Meaning S → System S → List Step → Type 0
+MayRun meaning s [] = Unit {0}
+MayRun meaning s (x ∷ steps) = MayStep meaning s x × MayRun meaning (stepped meaning s x) steps
 
-abbrev pub after_steps : {S : Type 0} → S → (S → Address → List ℕ → S) → (S → List ℕ) → (List ℕ → Option S) → System S → List Step → System S
-after_steps opening apply encode decode s [] = s
-after_steps opening apply encode decode s (x ∷ steps) = after_steps opening apply encode decode (stepped opening apply encode decode s x) steps
+abbrev pub after_steps : {S : Type 0} → Meaning S → System S → List Step → System S
+after_steps meaning s [] = s
+after_steps meaning s (x ∷ steps) = after_steps meaning (stepped meaning s x) steps

@@ -6,16 +6,17 @@ use Rattle.packet_values.specs.Values.{Entry}
 use Rattle.wire.specs.Values.{Report, nothing_reported}
 use Rattle.wire.specs.Values as wire
 use Rattle.wire.specs.declared.packet.Body.TheVariants as bodies
+use Rattle.state_transfer.specs.Meanings.{Meaning}
 use Rattle.flush.specs.Flushes.{FlushModel}
-use Rattle.trace_props.specs.declared.happening.Happening.{Happening}
-use Rattle.trace_props.specs.declared.happening.Happening.TheVariants.{Started, Sent, Blocked, Installed}
+use Rattle.trace_props.specs.declared.event.Event.{Event}
+use Rattle.trace_props.specs.declared.event.Event.TheVariants.{Started, Sent, Blocked, Installed}
 use Rattle.agreement.specs.Acts.{Cuts, Creates, Joins, Puts, Promises, Begins, Records, Finishes, Enters, lone_view}
 use Rattle.agreement.specs.Steps.{Step, Start, Does, nothing_yet, MayRun, after_steps}
 
 -- a list of steps is allowed from the beginning on, and this trace comes of it
-abbrev pub Plays : {S : Type 0} → S → (S → Address → List ℕ → S) → (S → List ℕ) → (List ℕ → Option S) → List Step → List Happening → Type 0
-Plays opening apply encode decode story trace =
-    MayRun opening apply encode decode nothing_yet story × ((after_steps opening apply encode decode nothing_yet story).history.trace ≡ trace)
+abbrev pub Plays : {S : Type 0} → Meaning S → List Step → List Event → Type 0
+Plays meaning story trace =
+    MayRun meaning nothing_yet story × ((after_steps meaning nothing_yet story).history.trace ≡ trace)
 
 -- ---- who takes part
 
@@ -126,14 +127,14 @@ joining state more = first_chapter ++ second_chapter state ++ third_chapter stat
 -- ---- what happened
 
 -- a member goes into a view, with none of its messages handed back
-abbrev pub installs : Address → Option ViewId → View → List Address → Option (List ℕ) → Happening
+abbrev pub installs : Address → Option ViewId → View → List Address → Option (List ℕ) → Event
 installs p previous w together given = Installed (record { member = p; previous = previous; view = w; together = together; handed_back = []; given = given })
 
-abbrev pub sends : Address → View → ℕ → List ℕ → Happening
+abbrev pub sends : Address → View → ℕ → List ℕ → Event
 sends p v number payload = Sent (record { member = p; view = v.id; message = record { number = number; payload = payload } })
 
 -- three members come together
-abbrev pub three_joined : List ℕ → List Happening
+abbrev pub three_joined : List ℕ → List Event
 three_joined state =
     Started one
     ∷ installs one None (lone_view one) (one ∷ []) None

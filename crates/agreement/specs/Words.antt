@@ -3,9 +3,9 @@ use Rattle.std.specs.Prelude.{◌≡◌, ℕ, ◌+◌, ◌&&◌, List, [], map, 
 use Rattle.std.specs.Option.{option_map_or}
 use Rattle.address.specs.Ids.{Address, ViewId, same_address, same_view_id}
 use Rattle.packet_values.specs.Values.{Entry}
-use Rattle.trace_props.specs.declared.happening.Happening.{Happening}
-use Rattle.trace_props.specs.declared.happening.Happening.TheVariants.{Started, Sent, Delivered, Blocked, Installed, Left, Crashed}
-use Rattle.trace_props.specs.declared.happening.Message.{Message}
+use Rattle.trace_props.specs.declared.event.Event.{Event}
+use Rattle.trace_props.specs.declared.event.Event.TheVariants.{Started, Sent, Delivered, Blocked, Installed, Left, Crashed}
+use Rattle.trace_props.specs.declared.event.Message.{Message}
 use Rattle.trace_props.specs.Observed.{delivered_in, entry_of}
 
 -- ---- the order of a view
@@ -19,15 +19,15 @@ abbrev pub message_for : Entry → Message
 message_for e = record { sender = e.sender; number = e.number; payload = e.payload }
 
 -- the entries that a member was told in a view
-unfoldable pub list_of : Address → ViewId → List Happening → List Entry
+unfoldable pub list_of : Address → ViewId → List Event → List Entry
 list_of p v t = map entry_for (delivered_in p v t)
 
 -- the one order of a view: what its coordinator was told
-abbrev pub order_of : ViewId → List Happening → List Entry
+abbrev pub order_of : ViewId → List Event → List Entry
 order_of v t = list_of v.creator v t
 
 -- the members of a view, as its coordinator installed it; nobody before that
-abbrev pub members_of : ViewId → List Happening → List Address
+abbrev pub members_of : ViewId → List Event → List Address
 members_of v t = option_map_or (λ i. i.view.members) (entry_of v.creator v t) []
 
 -- ---- a member's tally in a view
@@ -62,7 +62,7 @@ counted Before n = n
 counted Open n = n + 1
 counted Past n = n
 
-abbrev pub tally_after : Address → ViewId → Tally → Happening → Tally
+abbrev pub tally_after : Address → ViewId → Tally → Event → Tally
 tally_after p v s (Started q) = s
 tally_after p v s (Sent m) = s
 tally_after p v s (Delivered d) = if same_address d.member p && same_view_id d.view v then record { phase = s.phase; count = counted s.phase s.count } else s
@@ -71,13 +71,13 @@ tally_after p v s (Installed i) = if same_address i.member p && same_view_id i.v
 tally_after p v s (Left q) = s
 tally_after p v s (Crashed q) = s
 
-unfoldable pub tally_of : Address → ViewId → List Happening → Tally
+unfoldable pub tally_of : Address → ViewId → List Event → Tally
 tally_of p v t = fold (tally_after p v) no_tally t
 
 -- how many messages a member was told in a view before it was blocked there
-abbrev pub open_count : Address → ViewId → List Happening → ℕ
+abbrev pub open_count : Address → ViewId → List Event → ℕ
 open_count p v t = (tally_of p v t).count
 
 -- a member was blocked in a view
-abbrev pub IsClosed : Address → ViewId → List Happening → Type 0
+abbrev pub IsClosed : Address → ViewId → List Event → Type 0
 IsClosed p v t = (tally_of p v t).phase ≡ Past

@@ -7,20 +7,20 @@ ghost use Rattle.agreement.specs.MergeStory.{MergePlays};
 use state_transfer::Receiver;
 
 /// The law of agreement: after any list of starts, crashes and acts, each allowed after those before it and on a packet that was put out before or on none,
-/// the invariant holds, and the trace keeps all eight rules at every place, within the happenings of one act too
+/// the invariant holds, and the trace keeps all eight rules at every place, within the events of one act too
 /// (docs/PROOF.md, "Agreement over acts"). For every receiver that keeps the laws. It does nothing.
 pub fn agreement<R: Receiver>()
-    ensures invariant { KeepsInvariant R.opening_state R.apply R.encode R.decode R.is_state }
-    ensures synchronous { IsAlwaysSynchronous R.opening_state R.apply R.encode R.decode }
+    ensures invariant { KeepsInvariant R.meaning }
+    ensures synchronous { IsAlwaysSynchronous R.meaning }
 {}
 
 /// The laws of acts one after another: one who did nothing acted, so did one who did one act that was allowed, and one who acted and then acted again.
 /// And whoever acted in one call, on a packet that was put out before or on none, has kept the invariant. It does nothing.
 pub fn acts_in_turn<R: Receiver>()
-    ensures nothing { NothingActed R.apply R.encode R.decode }
-    ensures one { OneActed R.apply R.encode R.decode }
-    ensures two { ThenActed R.apply R.encode R.decode }
-    ensures keep { ActsKeep R.opening_state R.apply R.encode R.decode R.is_state }
+    ensures nothing { NothingActed R.meaning }
+    ensures one { OneActed R.meaning }
+    ensures two { ThenActed R.meaning }
+    ensures keep { ActsKeep R.meaning }
 {}
 
 /// The law speaks of something: these three lists of steps are allowed from the beginning on, and these traces come of them. In each three members come
@@ -29,7 +29,7 @@ pub fn acts_in_turn<R: Receiver>()
 /// joins, the four fall into two halves, a message is ordered in each, and the halves merge: the second half is given the state of the first, and the
 /// fourth is told what it lacks of its own half. Each of the sixteen acts is done somewhere. For every receiver that keeps the laws. It does nothing.
 pub fn stories_play<R: Receiver>()
-    ensures crash { CrashPlays R.opening_state R.apply R.encode R.decode }
-    ensures leave { LeavePlays R.opening_state R.apply R.encode R.decode }
-    ensures merge { MergePlays R.opening_state R.apply R.encode R.decode }
+    ensures crash { CrashPlays R.meaning }
+    ensures leave { LeavePlays R.meaning }
+    ensures merge { MergePlays R.meaning }
 {}

@@ -3,9 +3,8 @@ use Rattle.std.specs.Prelude.{ℕ, ◌+◌, Bool, not, ◌||◌, Option, None, S
 use Rattle.std.specs.List.{list_any}
 use Rattle.std.specs.Cmp.Lexicographic.{pointwise}
 use Rattle.address.specs.Ids.{Address, same_address}
-use Rattle.address.specs.declared.TheConstants.{GREATEST_NUMBER}
+use Rattle.limits.specs.declared.TheConstants.{GREATEST_NUMBER, MEMBERS}
 use Rattle.view.specs.Members.{stands_in}
-use Rattle.view.specs.declared.TheConstants.{MEMBERS}
 use Rattle.candidates.specs.Notes.{NotesModel, is_later}
 
 -- one more, unless suspected or there already
@@ -26,7 +25,7 @@ all_candidates me members b =
     let list = unsuspected b.suspects (members ++ b.joiners ++ b.merging) in
     filter (is_current me list) list
 
--- who may be in the next view: the first 16 of them
+-- who may be in the next view: the first `MEMBERS` of them
 abbrev pub candidates : Address → List Address → NotesModel → List Address
 candidates me members b = take MEMBERS (all_candidates me members b)
 

@@ -20,7 +20,7 @@ is_known_here p members listed b = (is_known p members || is_known p listed) || 
 abbrev pub with_joiner : Address → NotesModel → NotesModel
 with_joiner p b = record b { joiners = b.joiners ++ p ∷ [] }
 
--- a joiner is noted, unless it is known or the candidates would be more than 16
+-- a joiner is noted, unless it is known or the candidates would be more than `MEMBERS`
 abbrev pub noting : Address → List Address → List Address → Address → NotesModel → NotesModel
 noting me members listed p b =
     if is_known_here p members listed b then b
@@ -41,7 +41,7 @@ new_of members list b = filter (is_new members b) list
 abbrev pub with_merging : List Address → NotesModel → NotesModel
 with_merging list b = record b { merging = b.merging ++ list }
 
--- the new ones of another view are noted and its counter is heard of, unless none is new or the candidates would be more than 16
+-- the new ones of another view are noted and its counter is heard of, unless none is new or the candidates would be more than `MEMBERS`
 abbrev pub noting_view : Address → List Address → View → NotesModel → NotesModel
 noting_view me members u b =
     let more = with_merging (new_of members u.members b) b in

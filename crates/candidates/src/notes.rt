@@ -1,4 +1,4 @@
-ghost use Rattle.std.specs.Prelude.{◌≡◌, ◌≤◌, ◌^◌, ◌++◌, [], fold, filter, length, IfOk, OnOk, OnErr, IfSome};
+ghost use Rattle.std.specs.Prelude.{◌≡◌, ◌≤◌, ◌++◌, [], fold, filter, length, IfOk, OnOk, OnErr, IfSome};
 ghost use Rattle.view.specs.Members.{stands_in};
 ghost use Rattle.suspicion.specs.Suspicion.{leads};
 ghost use Rattle.candidates.specs.Notes.{no_notes, settled, having_heard, suspecting, outdates, outdating};
@@ -6,11 +6,12 @@ ghost use Rattle.candidates.specs.Candidates.{unsuspected, all_candidates, candi
 ghost use Rattle.candidates.specs.Noting.{is_known_here, noting, is_new, new_of, noting_view};
 
 use crate::lists::{add_all, all_current, is_known, is_later, keep_others, stands_in};
-use address::{Address, GREATEST_NUMBER};
+use address::Address;
+use limits::{GREATEST_NUMBER, MEMBERS};
 use std::alloc::{AllocError, Global};
 use std::marker::Model;
 use suspicion::Suspects;
-use view::{Addresses, MEMBERS, View};
+use view::{Addresses, View};
 
 /// What a member notes beside its view: the addresses that it suspects, those that asked to be let in, those of other views that may come in,
 /// and the greatest counter of a proposal that it heard of, at first 0 (docs/PROTOCOL.md, "Candidates").
@@ -132,11 +133,11 @@ impl Notes {
             .find(|member| !self.suspects.has(member))
     }
 
-    /// The counter of the member's next proposal: one more than the greater of the promised counter and what it heard of. `None` where that would be above 2^62.
+    /// The counter of the member's next proposal: one more than the greater of the promised counter and what it heard of. `None` where that would be above `GREATEST_NUMBER`.
     /// Takes no memory.
     pub fn next_counter(&self, promised: u64) -> Option<u64>
         ensures value { result ≡ next_counter promised self.now }
-        ensures in_range { IfSome result (λ n. (1 ≤ n) × (n ≤ 2 ^ 62)) }
+        ensures in_range { IfSome result (λ n. (1 ≤ n) × (n ≤ GREATEST_NUMBER)) }
     {
         let greatest = promised.max(self.heard);
         if greatest < GREATEST_NUMBER {
@@ -170,7 +171,7 @@ impl Notes {
         Ok(left)
     }
 
-    /// Who may be in the member's next view, at most 16: the view's members by rank, then the joiners, then those of other views, in order of arrival.
+    /// Who may be in the member's next view, at most `MEMBERS`: the view's members by rank, then the joiners, then those of other views, in order of arrival.
     /// None who is suspected, none twice, and none but `me` of whose node a later incarnation is among them.
     pub fn candidates(
         &self,
@@ -185,7 +186,7 @@ impl Notes {
         Ok(Addresses::from_vec(left))
     }
 
-    /// How many could be in the member's next view, were there room: as many as the candidates would be without the bound of 16.
+    /// How many could be in the member's next view, were there room: as many as the candidates would be without the bound of `MEMBERS`.
     pub fn candidate_count(
         &self,
         alloc: Global,
@@ -217,7 +218,7 @@ impl Notes {
     }
 
     /// Notes an address that asks to be let in, last of the joiners. Changes nothing where it, or a later incarnation of its node, is in the view, in the list
-    /// of the member's own flush (`listed`, empty without one) or noted, nor where the candidates would be more than 16.
+    /// of the member's own flush (`listed`, empty without one) or noted, nor where the candidates would be more than `MEMBERS`.
     pub fn note_joiner(
         &mut self,
         alloc: Global,
@@ -261,7 +262,7 @@ impl Notes {
     }
 
     /// Notes those of another view who are neither in the member's own view nor suspected nor noted, in order, and hears of the other view's counter.
-    /// Changes nothing where there are none, nor where the candidates would be more than 16: so all of them are noted, or none.
+    /// Changes nothing where there are none, nor where the candidates would be more than `MEMBERS`: so all of them are noted, or none.
     pub fn note_view(
         &mut self,
         alloc: Global,

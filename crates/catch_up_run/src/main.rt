@@ -5,7 +5,7 @@ use address::{Address, Node};
 use chat_log::ChatLog;
 use std::alloc::{AllocError, Global};
 use std::process::ExitCode;
-use trace_props::{Bytes, Happening};
+use trace_props::{Bytes, Event};
 use world::World;
 use world_model::WorldEvent;
 
@@ -60,8 +60,8 @@ fn behind(alloc: Global) -> Result<World<ChatLog>, AllocError> {
 /// How many messages were delivered to the member of a node.
 fn delivered(world: &World<ChatLog>, number: u16) -> usize {
     let mut count: usize = 0;
-    for happening in world.trace().happenings() {
-        if let Happening::Delivered(delivery) = happening {
+    for event in world.trace().events() {
+        if let Event::Delivered(delivery) = event {
             if delivery.member.node() == node(number) {
                 count = count.wrapping_add(1);
             }
@@ -96,8 +96,8 @@ fn after_refusal(world: &mut World<ChatLog>) -> u8 {
                 WRONG
             }
         }
-        (true, false) | (false, true) => match world.trace().happenings().last() {
-            Some(Happening::Crashed(_)) => CRASHED,
+        (true, false) | (false, true) => match world.trace().events().last() {
+            Some(Event::Crashed(_)) => CRASHED,
             _ => WRONG,
         },
         (false, false) => WRONG,

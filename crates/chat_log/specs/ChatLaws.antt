@@ -5,7 +5,7 @@ use Rattle.std.proofs.lemmas.Bool.{eqb-true}
 use Rattle.std.proofs.lemmas.List.{append-nil, nil_from_length, length-append, length-drop}
 use Rattle.byteorder.specs.Endian.{big_bytes}
 use Rattle.address.specs.Ids.{Address, IsAddress}
-use Rattle.state_transfer.specs.declared.TheConstants.{PAYLOAD, STATE}
+use Rattle.limits.specs.declared.TheConstants.{PAYLOAD, STATE}
 use Rattle.chat_log.specs.declared.TheConstants.{LINES, LONGEST}
 use Rattle.chat_log.specs.declared.lines.Line.{Line}
 use Rattle.chat_log.specs.Chat.{IsLine, IsChat, chat_apply}

@@ -5,7 +5,7 @@ use Rattle.std.proofs.lemmas.Bool.{leb-true, le-leb}
 use Rattle.std.proofs.lemmas.List.{take_at, drop_at, take-append-drop, length-append, length-take}
 use Rattle.byteorder.specs.Endian.{big_bytes, big_number}
 use Rattle.address.specs.Ids.{Address, IsAddress}
-use Rattle.state_transfer.specs.declared.TheConstants.{PAYLOAD}
+use Rattle.limits.specs.declared.TheConstants.{PAYLOAD}
 use Rattle.chat_log.specs.declared.lines.Line.{Line}
 use Rattle.chat_log.specs.Chat.{IsLine}
 use Rattle.chat_log.specs.Reading.{Read, ◌>>=◌, are_bytes, bytes_at, number_at, list_at}

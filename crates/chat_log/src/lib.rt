@@ -11,13 +11,13 @@ mod writing;
 
 pub use chat::Chat;
 pub use law::one_encoding;
+use limits::PAYLOAD;
 pub use lines::Line;
 pub use log::ChatLog;
-use state_transfer::PAYLOAD;
 
 /// The most lines that a chat keeps.
 pub const LINES: usize = 24;
 
-/// The most bytes that a chat's state is encoded in, 12,481: the number of lines in one, and of each line the sender
+/// The most bytes that a chat's state is encoded in: the number of lines in one, and of each line the sender
 /// in six, the length of the payload in two, and the payload.
 pub const LONGEST: usize = 1 + LINES * (8 + PAYLOAD);

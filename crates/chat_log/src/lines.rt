@@ -5,7 +5,7 @@ use address::Address;
 use std::alloc::AllocError;
 use trace_props::Bytes;
 
-/// A line of the chat: who said it, and what, at most 512 bytes.
+/// A line of the chat: who said it, and what, at most `PAYLOAD` bytes.
 #[derive(Debug, Drop)]
 pub struct Line {
     /// Who said it.

@@ -1,14 +1,15 @@
 ghost use Rattle.std.specs.Prelude.{◌≡◌, ◌≤◌, ◌<◌, ◌++◌, true, false, length, IsOk, IfOk, OnOk, OnErr, MatchOption};
 ghost use Rattle.chat_log.specs.Chat.{IsChat, chat_apply};
 ghost use Rattle.chat_log.specs.Encoding.{chat_encode, chat_decode};
-ghost use Rattle.state_transfer.specs.declared.TheConstants.{STATE};
+ghost use Rattle.limits.specs.declared.TheConstants.{STATE};
 
 use crate::lines::push_line;
 use crate::reading::chat_of;
 use crate::writing::put_chat;
 use crate::{Chat, LINES, Line};
 use address::Address;
-use state_transfer::{PAYLOAD, Receiver};
+use limits::PAYLOAD;
+use state_transfer::Receiver;
 use std::alloc::{AllocError, Global};
 use std::marker::Model;
 use view::View;
@@ -43,20 +44,10 @@ impl ChatLog {
 }
 
 impl Receiver for ChatLog {
-    ghost use Rattle.std.specs.Prelude.{[]};
-    ghost use Rattle.chat_log.specs.Chat.{IsChat, chat_apply};
-    ghost use Rattle.chat_log.specs.Encoding.{chat_encode, chat_decode};
+    ghost use Rattle.chat_log.specs.Meanings.{chat_meaning};
     ghost use Rattle.chat_log.specs.ChatLaws.{nothing_is_chat, applied_is_chat, decoded_is_chat, encoded_is_decoded, encoded_short};
 
-    ghost opening_state = { [] };
-
-    ghost apply = { chat_apply };
-
-    ghost encode = { chat_encode };
-
-    ghost decode = { chat_decode };
-
-    ghost is_state = { IsChat };
+    ghost meaning = { chat_meaning };
 
     ghost opens = { nothing_is_chat };
 
@@ -75,7 +66,7 @@ impl Receiver for ChatLog {
         })
     }
 
-    /// Adds a message as the newest line, and drops the oldest above 24. A payload of more than 512 bytes, and memory
+    /// Adds a message as the newest line, and drops the oldest above `LINES`. A payload of more than `PAYLOAD` bytes, and memory
     /// that is refused, leave the lines as they are.
     fn receive(&mut self, from: Address, payload: &[u8]) -> Result<(), AllocError>
         ensures applies { OnOk result (length payload.now ≤ PAYLOAD → self.new ≡ chat_apply self.old from payload.now) }
@@ -96,7 +87,7 @@ impl Receiver for ChatLog {
 
     fn blocked(&mut self) {}
 
-    /// Appends the encoding, at most 12,481 bytes. Where memory is refused, the bytes are as they were.
+    /// Appends the encoding, at most `LONGEST` bytes. Where memory is refused, the bytes are as they were.
     #[tactic(auto, using(crate::specs::ChatLaws::encoded_short))]
     fn get_state(&self, state: &mut Vec<u8>) -> Result<(), AllocError>
         ensures ok { OnOk result (state.new.items ≡ state.old.items ++ chat_encode self.now) }

@@ -10,7 +10,7 @@ use crate::lines::push_line;
 use crate::{LINES, Line};
 use address::{Address, Node};
 use byteorder::{BigEndian, ByteOrder};
-use state_transfer::PAYLOAD;
+use limits::PAYLOAD;
 use std::alloc::{AllocError, Global};
 use std::marker::Model;
 

@@ -2,7 +2,7 @@
 use Rattle.std.specs.Prelude.{◌≡◌, ℕ, zero, suc, ◌+◌, List, [], ◌∷◌, length, max, Option, None, Some, slice_get}
 use Rattle.std.specs.Option.{option_or, option_map_or}
 use Rattle.packet_values.specs.Values.{Entry, held_at}
-use Rattle.packet_values.specs.declared.limits.TheConstants.{WINDOW}
+use Rattle.limits.specs.declared.TheConstants.{WINDOW}
 use Rattle.wire.specs.Values.{Report}
 
 -- the first that a function finds in a list

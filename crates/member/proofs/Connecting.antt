@@ -1,18 +1,18 @@
 -- By acts alone a member that is connected stays so.
-use Rattle.std.proofs.Common.{◌≡◌, ℕ, true, Option, Some, None, List, [], ◌∷◌, refl, sym, ap, ◌∙◌}
+use Rattle.std.proofs.Common.{◌≡◌, true, Option, Some, None, List, [], ◌∷◌, refl, sym, ap, ◌∙◌}
 use Rattle.std.proofs.lemmas.Option.{none-some, same_Some}
-use Rattle.address.specs.Ids.{Address}
-use Rattle.trace_props.specs.declared.happening.Happening.{Happening}
+use Rattle.state_transfer.specs.Meanings.{Meaning}
+use Rattle.trace_props.specs.declared.event.Event.{Event}
 use Rattle.agreement.specs.Histories.{Posted}
 use Rattle.agreement.specs.Cores.{Core}
 use Rattle.agreement.specs.Acts.{Act, Creates, Joins, Puts, Sends, Queues, Orders, Hears, Collects, Holds, Delivers, Promises, Begins, Records, Finishes, Enters, Leaves, after}
 use Rattle.agreement.specs.Chains.{Chain, Acted}
 
-module _ {S : Type 0} (apply : S → Address → List ℕ → S) (encode : S → List ℕ) (decode : List ℕ → Option S) where
+module _ {S : Type 0} (meaning : Meaning S) where
   so : (c d : Core S) (o : Core S) → ◌≡◌ {A = Option (Core S)} (Some o) (Some d) → o.connected ≡ true → d.connected ≡ true
   so c d o e on = sym (ap (λ (k : Core S). k.connected) (same_Some o d e)) ∙ on
 
-  act-connected : (c d : Core S) (a : Act) → after apply encode decode c a ≡ Some d → c.connected ≡ true → d.connected ≡ true
+  act-connected : (c d : Core S) (a : Act) → after meaning c a ≡ Some d → c.connected ≡ true → d.connected ≡ true
   act-connected c d Creates e on = so c d _ e refl
   act-connected c d Joins e on = so c d _ e refl
   act-connected c d (Puts q body) e on = so c d _ e on
@@ -30,19 +30,19 @@ module _ {S : Type 0} (apply : S → Address → List ℕ → S) (encode : S →
   act-connected c d (Enters i) e on = so c d _ e refl
   act-connected c d Leaves e on = absurd (none-some d e)
 
-  ended : (came : Option Posted) (d : Core S) (acts : List Act) → Chain apply encode decode came None acts (Some d) → ⊥
+  ended : (came : Option Posted) (d : Core S) (acts : List Act) → Chain meaning came None acts (Some d) → ⊥
   ended came d [] x = none-some d x
   ended came d (a ∷ acts) x = x
 
-  chain-connected : (came : Option Posted) (c d : Core S) (acts : List Act) → Chain apply encode decode came (Some c) acts (Some d) → c.connected ≡ true → d.connected ≡ true
+  chain-connected : (came : Option Posted) (c d : Core S) (acts : List Act) → Chain meaning came (Some c) acts (Some d) → c.connected ≡ true → d.connected ≡ true
   chain-connected came c d [] x on = so c d c x on
-  chain-connected came c d (a ∷ acts) x on = by (λ k y z. chain-connected came k d acts y z) (after apply encode decode c a) refl x.1
+  chain-connected came c d (a ∷ acts) x on = by (λ k y z. chain-connected came k d acts y z) (after meaning c a) refl x.1
     where
-      by : ((k : Core S) → Chain apply encode decode came (Some k) acts (Some d) → k.connected ≡ true → d.connected ≡ true) → (o : Option (Core S)) → after apply encode decode c a ≡ o
-          → Chain apply encode decode came o acts (Some d) → d.connected ≡ true
+      by : ((k : Core S) → Chain meaning came (Some k) acts (Some d) → k.connected ≡ true → d.connected ≡ true) → (o : Option (Core S)) → after meaning c a ≡ o
+          → Chain meaning came o acts (Some d) → d.connected ≡ true
       by rest None e y = absurd (ended came d acts y)
       by rest (Some k) e y = rest k y (act-connected c k a e on)
 
-  pub acted-connected : (came : Option Posted) (c d : Core S) (packets : List Posted) (happened : List Happening) → Acted apply encode decode came (Some c) packets happened (Some d) → c.connected ≡ true
+  pub acted-connected : (came : Option Posted) (c d : Core S) (packets : List Posted) (happened : List Event) → Acted meaning came (Some c) packets happened (Some d) → c.connected ≡ true
       → d.connected ≡ true
   acted-connected came c d packets happened x on = chain-connected came c d x.acts x.chain on

@@ -1,11 +1,10 @@
 -- Why a member refuses: never with 6 while it runs; and why it does not send.
-use Rattle.std.proofs.Common.{◌≡◌, ℕ, Bool, true, false, cond, not, Option, Some, None, List, length, nat_le, nat_lt, is_some, ◌^◌, refl, sym, ap, ◌∙◌}
+use Rattle.std.proofs.Common.{◌≡◌, ℕ, Bool, true, false, cond, not, Option, Some, None, List, length, nat_le, nat_lt, is_some, refl, sym, ap, ◌∙◌}
 use Rattle.std.specs.Option.{option_map, option_map_or}
-use Rattle.packet_values.specs.declared.limits.TheConstants.{PAYLOAD}
+use Rattle.limits.specs.declared.TheConstants.{PAYLOAD, OUTSTANDING, GREATEST_NUMBER}
 use Rattle.wire.specs.declared.error.WireError.{WireError}
 use Rattle.wire.specs.Packets.{wire_refusal}
 use Rattle.agreement.specs.Cores.{Core, is_frozen}
-use Rattle.sequencer.specs.declared.TheConstants.{OUTSTANDING}
 use Rattle.member.specs.declared.error.Error.{Error}
 use Rattle.member.specs.declared.error.Error.TheVariants.{NotConnected, Blocked, Busy, TooLong, AlreadyConnected, Closed, Memory, Exhausted, Wire}
 use Rattle.member.specs.declared.input.Input.{Input}
@@ -47,7 +46,7 @@ opens c (Send payload) =
     (either (nat_lt PAYLOAD (length payload.now)) (Some TooLong) _ refl
     (either (is_frozen c.view c.installed) (Some Blocked) _ refl
     (either (nat_le OUTSTANDING (length c.traffic.outstanding)) (Some Busy) _ refl
-    (either (nat_le (2 ^ 62) c.traffic.sent) (Some Exhausted) None refl refl))))
+    (either (nat_le GREATEST_NUMBER c.traffic.sent) (Some Exhausted) None refl refl))))
 opens c (Datagram bytes) = wired (wire_refusal bytes.now)
 opens c Tick = refl
 opens c (Suspect q) = refl
@@ -74,4 +73,4 @@ sends-by false false false false false = refl
 -- the same reasons in both words
 pub sends-as : {S : Type 0} (c : Core S) (payload : List ℕ) → option_map unsent (messages.send_refusal c payload) ≡ send_refusal c payload
 sends-as c payload =
-    sends-by (not (is_some c.view)) (nat_lt PAYLOAD (length payload)) (is_frozen c.view c.installed) (nat_le OUTSTANDING (length c.traffic.outstanding)) (nat_le (2 ^ 62) c.traffic.sent)
+    sends-by (not (is_some c.view)) (nat_lt PAYLOAD (length payload)) (is_frozen c.view c.installed) (nat_le OUTSTANDING (length c.traffic.outstanding)) (nat_le GREATEST_NUMBER c.traffic.sent)

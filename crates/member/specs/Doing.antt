@@ -3,6 +3,7 @@ use Rattle.std.specs.Prelude.{◌≡◌, ℕ, Bool, true, false, not, ◌&&◌, 
 use Rattle.std.specs.Option.{option_map_or}
 use Rattle.address.specs.Ids.{Address}
 use Rattle.wire.specs.Packets.{wire_refusal}
+use Rattle.state_transfer.specs.Meanings.{Meaning}
 use Rattle.agreement.specs.Histories.{Posted}
 use Rattle.output.specs.declared.output.Output.{Output}
 use Rattle.output.specs.Outputs.{Grows, Puts}
@@ -25,30 +26,29 @@ Ticks group me l out later =
     (Grows group out later (asks_again me l) [])
 
 -- each input by its rule; came: the packet that was handed to it
-abbrev pub DoesBy : {S : Type 0} → (S → Address → List ℕ → S) → (S → List ℕ) → (List ℕ → Option S) → List ℕ → Address → Option Posted → Input → Life S → Life S → Output → Output → Type 0
-DoesBy apply encode decode group me came Create old new out later = Creates group me old new out later
-DoesBy apply encode decode group me came (Join contact) old new out later = Asks group me contact old new out later
-DoesBy apply encode decode group me came (Send payload) old new out later = Sends apply group me payload.now old new out later
-DoesBy apply encode decode group me came (Datagram bytes) old new out later =
-    MatchOption came (StaysAs old new out later) (λ m. Hears apply encode decode group me m.source m.body old new out later)
-DoesBy apply encode decode group me came Tick old new out later = (new ≡ old) × Ticks group me old out later
-DoesBy apply encode decode group me came (Suspect q) old new out later = OnSuspect apply encode group me q old new out later
-DoesBy apply encode decode group me came (MergeHint q) old new out later = TellsView group me q old new out later
-DoesBy apply encode decode group me came Leave old new out later = ⊥
+abbrev pub DoesBy : {S : Type 0} → Meaning S → List ℕ → Address → Option Posted → Input → Life S → Life S → Output → Output → Type 0
+DoesBy meaning group me came Create old new out later = Creates group me old new out later
+DoesBy meaning group me came (Join contact) old new out later = Asks group me contact old new out later
+DoesBy meaning group me came (Send payload) old new out later = Sends meaning group me payload.now old new out later
+DoesBy meaning group me came (Datagram bytes) old new out later =
+    MatchOption came (StaysAs old new out later) (λ m. Hears meaning group me m.source m.body old new out later)
+DoesBy meaning group me came Tick old new out later = (new ≡ old) × Ticks group me old out later
+DoesBy meaning group me came (Suspect q) old new out later = OnSuspect meaning group me q old new out later
+DoesBy meaning group me came (MergeHint q) old new out later = TellsView group me q old new out later
+DoesBy meaning group me came Leave old new out later = ⊥
 
 -- from one that runs to one that runs; where it leaves, it ends
-abbrev pub DoesAt : {S : Type 0} → (S → Address → List ℕ → S) → (S → List ℕ) → (List ℕ → Option S) → List ℕ → Address → Option Posted → Input → Option (Life S) → Option (Life S) → Output → Output
-    → Type 0
-DoesAt apply encode decode group me came input (Some old) (Some new) out later = DoesBy apply encode decode group me came input old new out later
-DoesAt apply encode decode group me came input (Some old) None out later = Leaves group me old out later
-DoesAt apply encode decode group me came input None new out later = ⊥
+abbrev pub DoesAt : {S : Type 0} → Meaning S → List ℕ → Address → Option Posted → Input → Option (Life S) → Option (Life S) → Output → Output → Type 0
+DoesAt meaning group me came input (Some old) (Some new) out later = DoesBy meaning group me came input old new out later
+DoesAt meaning group me came input (Some old) None out later = Leaves group me old out later
+DoesAt meaning group me came input None new out later = ⊥
 
 -- it did so, and nothing else was put out or happened
-pub record Does {S : Type 0} (apply : S → Address → List ℕ → S) (encode : S → List ℕ) (decode : List ℕ → Option S) (old : MemberModel S) (input : Input) (out : Output) (new : MemberModel S) :
+pub record Does {S : Type 0} (meaning : Meaning S) (old : MemberModel S) (input : Input) (out : Output) (new : MemberModel S) :
     Type 0 where
   pub start : Output
   pub nothing : Puts [] [] start
-  pub does : DoesAt apply encode decode old.group old.address (came_at old input) input old.life new.life start out
+  pub does : DoesAt meaning old.group old.address (came_at old input) input old.life new.life start out
 
 -- ---- ignored
 

@@ -2,12 +2,12 @@
 use Rattle.std.specs.Prelude.{◌≡◌, ℕ, ◌+◌, ◌<◌, ◌≤◌, Bool, true, false, map, length, [], ◌∷◌, List, Result, Ok, Err, Option, None, Some, MatchBool, IfOk, ◌⊎◌, drop}
 use Rattle.std.specs.Option.{IsSomeAnd}
 use Rattle.std.specs.List.{list_all, Contains, AllByRecursion}
-use Rattle.address.specs.Ids.{Address, same_address}
-use Rattle.address.specs.declared.TheConstants.{GREATEST_NUMBER}
-use Rattle.packet_values.specs.declared.limits.TheConstants.{WINDOW}
+use Rattle.address.specs.Ids.{same_address}
+use Rattle.limits.specs.declared.TheConstants.{GREATEST_NUMBER, WINDOW, STEP_EVENTS}
 use Rattle.wire.specs.Packets.{IsPacket}
-use Rattle.trace_props.specs.declared.happening.Happening.{Happening}
-use Rattle.trace_props.specs.declared.happening.Happening.TheVariants.{Sent, Delivered, Installed, Left}
+use Rattle.state_transfer.specs.Meanings.{Meaning}
+use Rattle.trace_props.specs.declared.event.Event.{Event}
+use Rattle.trace_props.specs.declared.event.Event.TheVariants.{Sent, Delivered, Installed, Left}
 use Rattle.trace_props.specs.Recorded.{IsRecordable}
 use Rattle.agreement.specs.Histories.{Posted}
 use Rattle.agreement.specs.Cores.{Core}
@@ -16,7 +16,6 @@ use Rattle.output.specs.declared.output.Output.{Output}
 use Rattle.output.specs.Outputs.{Puts, packet_in, spelled}
 pub use Rattle.output.specs.Calm.{is_quiet}
 use Rattle.member_hearing.specs.Running.{IsAlive}
-use Rattle.member.specs.declared.TheConstants.{HAPPENINGS}
 use Rattle.member.specs.declared.error.Error.{Error}
 use Rattle.member.specs.declared.error.Error.TheVariants.{Memory, Closed}
 use Rattle.member.specs.declared.input.Input.{Input}
@@ -28,10 +27,9 @@ use Rattle.member.specs.Doing.{Does, is_ignored}
 -- ---- acted
 
 -- it went on by nothing but acts: what they put out is what the bytes spell, as packets that are read back, and what happened is what they let happen
-pub record HasActed {S : Type 0} (apply : S → Address → List ℕ → S) (encode : S → List ℕ) (decode : List ℕ → Option S) (old : MemberModel S) (input : Input) (out : Output)
-    (new : MemberModel S) : Type 0 where
+pub record HasActed {S : Type 0} (meaning : Meaning S) (old : MemberModel S) (input : Input) (out : Output) (new : MemberModel S) : Type 0 where
   pub posted : List Posted
-  pub acted : Acted apply encode decode (came_at old input) (core_of old) posted out.happenings.items (core_of new)
+  pub acted : Acted meaning (came_at old input) (core_of old) posted out.events.items (core_of new)
   pub spelled : out.packets.items ≡ map (spelled old.group) posted
   pub sound : AllByRecursion (λ m. IsPacket (packet_in old.group m)) posted
 
@@ -48,14 +46,14 @@ abbrev pub EndsWithout : {S : Type 0} → MemberModel S → Input → MemberMode
 EndsWithout old input new result = result ≡ Err Memory → (core_of new ≡ None) × (is_ignored old input ≡ false)
 
 -- 6 after its end, and before it where it cannot read a state that it would take
-pub record IsClosed {S : Type 0} (decode : List ℕ → Option S) (old : MemberModel S) (input : Input) (result : Result Output Error) : Type 0 where
+pub record IsClosed {S : Type 0} (meaning : Meaning S) (old : MemberModel S) (input : Input) (result : Result Output Error) : Type 0 where
   pub ended : core_of old ≡ None → result ≡ Err Closed
-  pub only : result ≡ Err Closed → (core_of old ≡ None) ⊎ (is_unreadable decode old input ≡ true)
+  pub only : result ≡ Err Closed → (core_of old ≡ None) ⊎ (is_unreadable meaning old input ≡ true)
 
 -- ---- reply
 
 -- its message gets the next number, its Sent comes first, and no other Sent with it
-pub record SendsNext {S : Type 0} (c : Core S) (payload : List ℕ) (happened : List Happening) : Type 0 where
+pub record SendsNext {S : Type 0} (c : Core S) (payload : List ℕ) (happened : List Event) : Type 0 where
   pub first : IsSomeAnd c.view (λ v.
       happened ≡ Sent (record { member = c.me; view = v.id; message = record { number = c.traffic.sent + 1; payload = payload } }) ∷ drop 1 happened)
   pub quiet : list_all is_quiet (drop 1 happened) ≡ true
@@ -69,7 +67,7 @@ abbrev pub IsConnected : {S : Type 0} → Option (Core S) → Type 0
 IsConnected end = IsSomeAnd end (λ d. d.connected ≡ true)
 
 -- what happens by an input that is not refused, and whether it runs on, and is connected then
-abbrev pub Replies : {S : Type 0} → Core S → Input → List Happening → Option (Core S) → Type 0
+abbrev pub Replies : {S : Type 0} → Core S → Input → List Event → Option (Core S) → Type 0
 Replies c Create happened end = (happened ≡ Installed (lone_install c.me) ∷ []) × IsConnected end
 Replies c (Join contact) happened end = (happened ≡ []) × IsConnected end
 Replies c (Send payload) happened end = SendsNext c payload.now happened × StaysSo c end
@@ -82,7 +80,7 @@ Replies c Leave happened end = (happened ≡ Left c.me ∷ []) × (end ≡ None)
 -- ---- prompt
 
 -- a message that the coordinator sends is delivered to it in the same step, while fewer are past the stable ones than the window has places, and a number is left
-abbrev pub IsPrompt : {S : Type 0} → Core S → Input → List Happening → Type 0
+abbrev pub IsPrompt : {S : Type 0} → Core S → Input → List Event → Type 0
 IsPrompt c Create happened = Unit {0}
 IsPrompt c (Join contact) happened = Unit {0}
 IsPrompt c (Send payload) happened = IsSomeAnd c.view (λ v. same_address c.me v.id.creator ≡ true → c.traffic.delivered < c.traffic.stable + WINDOW → c.traffic.delivered < GREATEST_NUMBER
@@ -105,17 +103,16 @@ Ignores old input result new = is_ignored old input ≡ true → IsNothing resul
 
 -- ---- all of it
 
-pub record Handled {S : Type 0} (apply : S → Address → List ℕ → S) (encode : S → List ℕ) (decode : List ℕ → Option S) (old : MemberModel S) (input : Input)
-    (result : Result Output Error) (new : MemberModel S) : Type 0 where
-  pub acted : IfOk result (λ out. HasActed apply encode decode old input out new)
-  pub refused : RefusesAs (refusal_of old input) (is_unreadable decode old input) old result new
+pub record Handled {S : Type 0} (meaning : Meaning S) (old : MemberModel S) (input : Input) (result : Result Output Error) (new : MemberModel S) : Type 0 where
+  pub acted : IfOk result (λ out. HasActed meaning old input out new)
+  pub refused : RefusesAs (refusal_of old input) (is_unreadable meaning old input) old result new
   pub memory : EndsWithout old input new result
-  pub closed : IsClosed decode old input result
-  pub reply : IfOk result (λ out. IsSomeAnd (core_of old) (λ c. Replies c input out.happenings.items (core_of new)))
-  pub prompt : IfOk result (λ out. IsSomeAnd (core_of old) (λ c. IsPrompt c input out.happenings.items))
-  pub does : IfOk result (λ out. Does apply encode decode old input out new)
-  pub few : IfOk result (λ out. length out.happenings.items ≤ HAPPENINGS)
-  pub short : IfOk result (λ out. IsRecordable out.happenings.items)
+  pub closed : IsClosed meaning old input result
+  pub reply : IfOk result (λ out. IsSomeAnd (core_of old) (λ c. Replies c input out.events.items (core_of new)))
+  pub prompt : IfOk result (λ out. IsSomeAnd (core_of old) (λ c. IsPrompt c input out.events.items))
+  pub does : IfOk result (λ out. Does meaning old input out new)
+  pub few : IfOk result (λ out. length out.events.items ≤ STEP_EVENTS)
+  pub short : IfOk result (λ out. IsRecordable out.events.items)
   pub ignored : Ignores old input result new
   -- what holds of a member between its calls
   pub alive : IsAlive new.group new.address new.life

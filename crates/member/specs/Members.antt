@@ -1,16 +1,16 @@
 -- A member as contracts see it: who it is, what it decides by while it runs, and why it refuses an input.
-use Rattle.std.specs.Prelude.{ℕ, ◌^◌, Bool, true, false, not, is_some, List, length, Result, Ok, Err, Option, None, Some, nat_lt, nat_le, if◌then◌else◌}
+use Rattle.std.specs.Prelude.{ℕ, Bool, true, false, not, is_some, List, length, Result, Ok, Err, Option, None, Some, nat_lt, nat_le, if◌then◌else◌}
 use Rattle.std.specs.Option.{option_map, option_map_or, option_and_then}
 use Rattle.address.specs.Ids.{Address}
-use Rattle.packet_values.specs.declared.limits.TheConstants.{PAYLOAD}
+use Rattle.limits.specs.declared.TheConstants.{PAYLOAD, OUTSTANDING, GREATEST_NUMBER}
 use Rattle.wire.specs.declared.error.WireError.{WireError}
 use Rattle.wire.specs.declared.packet.Packet.{Packet}
 use Rattle.wire.specs.Values as wire
 use Rattle.wire.specs.Packets.{packet_of, wire_refusal}
+use Rattle.state_transfer.specs.Meanings.{Meaning}
 use Rattle.agreement.specs.Histories.{Posted}
 use Rattle.agreement.specs.Cores.{Core, is_frozen}
 use Rattle.agreement.specs.Steps.{handed}
-use Rattle.sequencer.specs.declared.TheConstants.{OUTSTANDING}
 pub use Rattle.member_acts.specs.Decisions.{promise_of, is_fitting, is_entry, is_readable}
 use Rattle.output.specs.Names.{same_name}
 use Rattle.membership.specs.declared.life.Life.{Life}
@@ -70,8 +70,8 @@ abbrev pub entry_at : {S : Type 0} → MemberModel S → Input → Option wire.I
 entry_at m input = option_and_then (λ c. option_and_then (entry_of c) (came_at m input)) (core_of m)
 
 -- whether it is handed an INSTALL that it would enter, whose state the receiver cannot read
-abbrev pub is_unreadable : {S : Type 0} → (List ℕ → Option S) → MemberModel S → Input → Bool
-is_unreadable decode m input = option_map_or (λ i. not (is_readable decode i.state)) (entry_at m input) false
+abbrev pub is_unreadable : {S : Type 0} → Meaning S → MemberModel S → Input → Bool
+is_unreadable meaning m input = option_map_or (λ i. not (is_readable meaning i.state)) (entry_at m input) false
 
 -- ---- refusals
 
@@ -82,7 +82,7 @@ send_refusal c payload =
     else if nat_lt PAYLOAD (length payload) then Some TooLong
     else if is_frozen c.view c.installed then Some Blocked
     else if nat_le OUTSTANDING (length c.traffic.outstanding) then Some Busy
-    else if nat_le (2 ^ 62) c.traffic.sent then Some Exhausted
+    else if nat_le GREATEST_NUMBER c.traffic.sent then Some Exhausted
     else None
 
 -- why a running member refuses an input, but for want of memory

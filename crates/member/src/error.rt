@@ -15,9 +15,9 @@ pub enum Error {
     NotConnected,
     /// 2: at a Send, it is blocked: it has promised a view that it has not installed.
     Blocked,
-    /// 3: at a Send, eight of its messages in its view were not delivered to it yet.
+    /// 3: at a Send, `OUTSTANDING` of its messages in its view were not delivered to it yet.
     Busy,
-    /// 4: at a Send, the payload has more than 512 bytes.
+    /// 4: at a Send, the payload has more than `PAYLOAD` bytes.
     TooLong,
     /// 5: at a Create or a Join, it has a view; at a Create, it has asked to be let into one.
     AlreadyConnected,

@@ -22,7 +22,7 @@ pub(crate) fn create_group<R: Receiver>(
 ) -> Result<Output, Error>
     requires alive { IsAlive who.now.group who.now.address life.old }
     ensures alive { IsAlive who.now.group who.now.address life.new }
-    ensures handled { Handled R.apply R.encode R.decode (record { address = who.now.address; group = who.now.group; life = life.old }) input.Create result (record { address = who.now.address; group = who.now.group; life = life.new }) }
+    ensures handled { Handled R.meaning (record { address = who.now.address; group = who.now.group; life = life.old }) input.Create result (record { address = who.now.address; group = who.now.group; life = life.new }) }
 {
     let Some(running) = life else {
         return Err(Error::Closed);
@@ -48,7 +48,7 @@ pub(crate) fn join_group<R: Receiver>(
 ) -> Result<Output, Error>
     requires alive { IsAlive who.now.group who.now.address life.old }
     ensures alive { IsAlive who.now.group who.now.address life.new }
-    ensures handled { Handled R.apply R.encode R.decode (record { address = who.now.address; group = who.now.group; life = life.old }) (input.Join contact) result (record { address = who.now.address; group = who.now.group; life = life.new }) }
+    ensures handled { Handled R.meaning (record { address = who.now.address; group = who.now.group; life = life.old }) (input.Join contact) result (record { address = who.now.address; group = who.now.group; life = life.new }) }
 {
     let Some(running) = life else {
         return Err(Error::Closed);
@@ -74,7 +74,7 @@ pub(crate) fn send_message<R: Receiver>(
 ) -> Result<Output, Error>
     requires alive { IsAlive who.now.group who.now.address life.old }
     ensures alive { IsAlive who.now.group who.now.address life.new }
-    ensures handled { Handled R.apply R.encode R.decode (record { address = who.now.address; group = who.now.group; life = life.old }) (input.Send payload.entry) result (record { address = who.now.address; group = who.now.group; life = life.new }) }
+    ensures handled { Handled R.meaning (record { address = who.now.address; group = who.now.group; life = life.old }) (input.Send payload.entry) result (record { address = who.now.address; group = who.now.group; life = life.new }) }
 {
     let Some(running) = life else {
         return Err(Error::Closed);
@@ -100,7 +100,7 @@ pub(crate) fn take_datagram<R: Receiver>(
 ) -> Result<Output, Error>
     requires alive { IsAlive who.now.group who.now.address life.old }
     ensures alive { IsAlive who.now.group who.now.address life.new }
-    ensures handled { Handled R.apply R.encode R.decode (record { address = who.now.address; group = who.now.group; life = life.old }) (input.Datagram bytes.entry) result (record { address = who.now.address; group = who.now.group; life = life.new }) }
+    ensures handled { Handled R.meaning (record { address = who.now.address; group = who.now.group; life = life.old }) (input.Datagram bytes.entry) result (record { address = who.now.address; group = who.now.group; life = life.new }) }
 {
     let Some(running) = life else {
         return Err(Error::Closed);
@@ -124,7 +124,7 @@ pub(crate) fn take_datagram<R: Receiver>(
 pub(crate) fn tick<R: Receiver>(life: &mut Option<Life<R>>, who: &Identity) -> Result<Output, Error>
     requires alive { IsAlive who.now.group who.now.address life.old }
     ensures alive { IsAlive who.now.group who.now.address life.new }
-    ensures handled { Handled R.apply R.encode R.decode (record { address = who.now.address; group = who.now.group; life = life.old }) input.Tick result (record { address = who.now.address; group = who.now.group; life = life.new }) }
+    ensures handled { Handled R.meaning (record { address = who.now.address; group = who.now.group; life = life.old }) input.Tick result (record { address = who.now.address; group = who.now.group; life = life.new }) }
 {
     let Some(running) = life else {
         return Err(Error::Closed);
@@ -147,7 +147,7 @@ pub(crate) fn suspect<R: Receiver>(
 ) -> Result<Output, Error>
     requires alive { IsAlive who.now.group who.now.address life.old }
     ensures alive { IsAlive who.now.group who.now.address life.new }
-    ensures handled { Handled R.apply R.encode R.decode (record { address = who.now.address; group = who.now.group; life = life.old }) (input.Suspect address) result (record { address = who.now.address; group = who.now.group; life = life.new }) }
+    ensures handled { Handled R.meaning (record { address = who.now.address; group = who.now.group; life = life.old }) (input.Suspect address) result (record { address = who.now.address; group = who.now.group; life = life.new }) }
 {
     let Some(running) = life else {
         return Err(Error::Closed);
@@ -170,7 +170,7 @@ pub(crate) fn merge_hint<R: Receiver>(
 ) -> Result<Output, Error>
     requires alive { IsAlive who.now.group who.now.address life.old }
     ensures alive { IsAlive who.now.group who.now.address life.new }
-    ensures handled { Handled R.apply R.encode R.decode (record { address = who.now.address; group = who.now.group; life = life.old }) (input.MergeHint address) result (record { address = who.now.address; group = who.now.group; life = life.new }) }
+    ensures handled { Handled R.meaning (record { address = who.now.address; group = who.now.group; life = life.old }) (input.MergeHint address) result (record { address = who.now.address; group = who.now.group; life = life.new }) }
 {
     let Some(running) = life else {
         return Err(Error::Closed);
@@ -192,7 +192,7 @@ pub(crate) fn leave_group<R: Receiver>(
 ) -> Result<Output, Error>
     requires alive { IsAlive who.now.group who.now.address life.old }
     ensures alive { IsAlive who.now.group who.now.address life.new }
-    ensures handled { Handled R.apply R.encode R.decode (record { address = who.now.address; group = who.now.group; life = life.old }) input.Leave result (record { address = who.now.address; group = who.now.group; life = life.new }) }
+    ensures handled { Handled R.meaning (record { address = who.now.address; group = who.now.group; life = life.old }) input.Leave result (record { address = who.now.address; group = who.now.group; life = life.new }) }
 {
     let Some(running) = life.take() else {
         return Err(Error::Closed);

@@ -1,7 +1,8 @@
 //! A running member is handed a packet, and time passes for it.
 
-ghost use Rattle.std.specs.Prelude.{◌≡◌, Option, Some, Ok, Err, OnOk, MatchOption, is_some, true, false};
+ghost use Rattle.std.specs.Prelude.{◌≡◌, ◌+◌, Option, Some, Ok, Err, OnOk, MatchOption, is_some, true, false};
 ghost use Rattle.std.specs.Option.{option_map_or};
+ghost use Rattle.limits.specs.declared.TheConstants.{WINDOW};
 ghost use Rattle.agreement.specs.Histories.{Posted};
 ghost use Rattle.output.specs.Calm.{IsCalm};
 ghost use Rattle.membership.specs.declared.stop.Stop.TheVariants as stop;
@@ -38,11 +39,11 @@ pub(crate) fn take_packet<R: Receiver>(
 ) -> Result<(), Stop>
     requires running { IsRunning who.now.group who.now.address life.old }
     ensures running { OnOk result (IsRunning who.now.group who.now.address life.new) }
-    ensures does { OnOk result (MatchOption (came_in (record { address = who.now.address; group = who.now.group; life = Some life.old }) (Ok packet.now)) (StaysAs life.old life.new out.old out.new) (λ m. Hears R.apply R.encode R.decode who.now.group who.now.address m.source m.body life.old life.new out.old out.new)) }
-    ensures did { OnOk result (Did R.apply R.encode R.decode (came_in (record { address = who.now.address; group = who.now.group; life = Some life.old }) (Ok packet.now)) who.now.group who.now.address life.old life.new out.old out.new) }
+    ensures does { OnOk result (MatchOption (came_in (record { address = who.now.address; group = who.now.group; life = Some life.old }) (Ok packet.now)) (StaysAs life.old life.new out.old out.new) (λ m. Hears R.meaning who.now.group who.now.address m.source m.body life.old life.new out.old out.new)) }
+    ensures did { OnOk result (Did R.meaning (came_in (record { address = who.now.address; group = who.now.group; life = Some life.old }) (Ok packet.now)) who.now.group who.now.address life.old life.new out.old out.new) }
     ensures connected { OnOk result (is_connected life.new ≡ is_connected life.old) }
-    ensures calm { OnOk result (IsCalm 35 out.old out.new) }
-    ensures unreadable { result ≡ Err stop.Unreadable → option_map_or (is_unreadable_by R.decode (core_of who.now.address life.old)) (came_in (record { address = who.now.address; group = who.now.group; life = Some life.old }) (Ok packet.now)) false ≡ true }
+    ensures calm { OnOk result (IsCalm (WINDOW + 3) out.old out.new) }
+    ensures unreadable { result ≡ Err stop.Unreadable → option_map_or (is_unreadable_by R.meaning (core_of who.now.address life.old)) (came_in (record { address = who.now.address; group = who.now.group; life = Some life.old }) (Ok packet.now)) false ≡ true }
     ensures ignored { ignores_packet who.now.address (came_in (record { address = who.now.address; group = who.now.group; life = Some life.old }) (Ok packet.now)) life.old ≡ true → (result ≡ Ok tt) × StaysAs life.old life.new out.old out.new }
 {
     if is_handed(life, who, packet) {
@@ -59,7 +60,7 @@ pub(crate) fn pass_time<R: Receiver>(
 ) -> Result<(), AllocError>
     requires running { IsRunning who.now.group who.now.address life.now }
     ensures does { OnOk result (Ticks who.now.group who.now.address life.now out.old out.new) }
-    ensures did { OnOk result ((came : Option Posted) → Did R.apply R.encode R.decode came who.now.group who.now.address life.now life.now out.old out.new) }
+    ensures did { OnOk result ((came : Option Posted) → Did R.meaning came who.now.group who.now.address life.now life.now out.old out.new) }
     ensures calm { OnOk result (IsCalm 0 out.old out.new) }
     ensures ignored { is_connected life.now ≡ false → (result ≡ Ok tt) × (out.new ≡ out.old) }
 {

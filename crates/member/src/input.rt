@@ -11,8 +11,8 @@ pub enum Input<'a> {
     /// takes the place of the one before. Refused with 5 in a view.
     Join(Address),
     /// Sends a message of these bytes in its view: the coordinator orders it, another member forwards it to the coordinator (docs/PROTOCOL.md, "Sending").
-    /// Refused, in this order, with 1 without a view, 4 for more than 512 bytes, 2 while it is blocked, 3 where 8 messages are outstanding, and 8 where
-    /// 2^62 were sent in this view.
+    /// Refused, in this order, with 1 without a view, 4 for more than `PAYLOAD` bytes, 2 while it is blocked, 3 where `OUTSTANDING` messages are outstanding, and 8 where
+    /// `GREATEST_NUMBER` were sent in this view.
     Send(&'a [u8]),
     /// The bytes of a datagram that came (docs/WIRE.md). It does what the rule of the packet's kind says. Refused with 20 to 26 where they spell no packet.
     /// Ignored where the member is idle, where the packet is for another group or another address or names the member itself as its source, and where

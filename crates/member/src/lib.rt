@@ -13,6 +13,3 @@ mod watching;
 pub use error::Error;
 pub use input::Input;
 pub use member::Member;
-
-/// The most events of one step of a member.
-pub const HAPPENINGS: usize = 40;

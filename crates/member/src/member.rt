@@ -3,7 +3,6 @@ ghost use Rattle.std.specs.Option.{IsSomeAnd, option_copied, option_and_then, op
 ghost use Rattle.trace_props.specs.Recorded.{IsRecordable};
 ghost use Rattle.agreement.specs.Cores.{idle, is_frozen};
 ghost use Rattle.member_hearing.specs.Running.{IsAlive};
-ghost use Rattle.member.specs.declared.TheConstants.{HAPPENINGS};
 ghost use Rattle.member.specs.Members.{core_of, refusal_of, is_unreadable};
 ghost use Rattle.member.specs.Doing.{Does};
 ghost use Rattle.member.specs.Handling.{HasActed, RefusesAs, EndsWithout, IsClosed, Replies, IsPrompt, Ignores};
@@ -15,6 +14,7 @@ use crate::handling::{
 use crate::watching::watched_in;
 use crate::{Error, Input};
 use address::Address;
+use limits::STEP_EVENTS;
 use membership::Life;
 use output::{Identity, KeptName, Output};
 use packet_values::GroupName;
@@ -118,22 +118,22 @@ impl<R: Receiver> Member<R> {
     /// member has then ended, and what the step would have put out is dropped.
     pub fn handle(&mut self, input: Input<'_>) -> Result<Output, Error>
         // It goes on by nothing but acts,
-        ensures acted { IfOk result (λ out. HasActed R.apply R.encode R.decode self.old input.entry out self.new) }
+        ensures acted { IfOk result (λ out. HasActed R.meaning self.old input.entry out self.new) }
         // and refuses exactly where it must, unchanged;
-        ensures refused { RefusesAs (refusal_of self.old input.entry) (is_unreadable R.decode self.old input.entry) self.old result self.new }
+        ensures refused { RefusesAs (refusal_of self.old input.entry) (is_unreadable R.meaning self.old input.entry) self.old result self.new }
         // want of memory ends it,
         ensures memory { EndsWithout self.old input.entry self.new result }
         // and after its end it is closed, or where it cannot read a state that it would take.
-        ensures closed { IsClosed R.decode self.old input.entry result }
+        ensures closed { IsClosed R.meaning self.old input.entry result }
         // What happens by each input, and whether the member is connected then;
-        ensures reply { IfOk result (λ out. IsSomeAnd (core_of self.old) (λ c. Replies c input.entry out.happenings.items (core_of self.new))) }
+        ensures reply { IfOk result (λ out. IsSomeAnd (core_of self.old) (λ c. Replies c input.entry out.events.items (core_of self.new))) }
         // a coordinator is told its message at once, while the window has room;
-        ensures prompt { IfOk result (λ out. IsSomeAnd (core_of self.old) (λ c. IsPrompt c input.entry out.happenings.items)) }
+        ensures prompt { IfOk result (λ out. IsSomeAnd (core_of self.old) (λ c. IsPrompt c input.entry out.events.items)) }
         // what it must do by each input and each kind of packet: what is put out, what happens, and what it keeps and notes then;
-        ensures does { IfOk result (λ out. Does R.apply R.encode R.decode self.old input.entry out self.new) }
+        ensures does { IfOk result (λ out. Does R.meaning self.old input.entry out self.new) }
         // how much happens at most, and that a trace takes it;
-        ensures few { IfOk result (λ out. length out.happenings.items ≤ HAPPENINGS) }
-        ensures short { IfOk result (λ out. IsRecordable out.happenings.items) }
+        ensures few { IfOk result (λ out. length out.events.items ≤ STEP_EVENTS) }
+        ensures short { IfOk result (λ out. IsRecordable out.events.items) }
         // what it ignores leaves it as it was;
         ensures ignored { Ignores self.old input.entry result self.new }
         // and what holds of it between its calls holds: it is the coordinator of its view or another member of it, and its messages are in order.

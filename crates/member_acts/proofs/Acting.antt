@@ -12,6 +12,7 @@ use Rattle.packet_values.specs.Values.{Entry}
 use Rattle.wire.specs.Values.{Report}
 use Rattle.wire.specs.Values as wire
 use Rattle.wire.specs.declared.packet.Body.TheVariants as bodies
+use Rattle.state_transfer.specs.Meanings.{Meaning}
 use Rattle.flush.specs.Flushes.{FlushModel, report_from, has_reported, is_awaited}
 use Rattle.flush.specs.declared.progress.Progress.TheVariants.{Waiting, Complete}
 use Rattle.flush.proofs.CutItems.{cut-is}
@@ -68,54 +69,54 @@ fits-by None delivered i e =
     record { base = zero-is i.base counts.0; items = none-left i.items counts.1; state = parts.1 }
 fits-by (Some v) delivered i e = le-is i.base delivered e
 
-readable-by : {S : Type 0} (decode : List ℕ → Option S) (given : Option (List ℕ)) → is_readable decode given ≡ true → ForSome given (λ bytes. IsSome (decode bytes))
-readable-by decode None e bytes none = absurd (none-some bytes none)
-readable-by decode (Some given) e bytes same = subst (λ (l : List ℕ). IsSome (decode l)) (same_Some given bytes same) e
+readable-by : {S : Type 0} (meaning : Meaning S) (given : Option (List ℕ)) → is_readable meaning given ≡ true → ForSome given (λ bytes. IsSome (meaning.decode bytes))
+readable-by meaning None e bytes none = absurd (none-some bytes none)
+readable-by meaning (Some given) e bytes same = subst (λ (l : List ℕ). IsSome (meaning.decode l)) (same_Some given bytes same) e
 
-module _ {S : Type 0} (apply : S → Address → List ℕ → S) (encode : S → List ℕ) (decode : List ℕ → Option S) where
-  pub promises-acted : PromisesActed apply encode decode
+module _ {S : Type 0} (meaning : Meaning S) where
+  pub promises-acted : PromisesActed meaning
   promises-acted came c w asked on accepted =
       let parts = accepted-parts (stands_in c.me w.members) (option_map_or (λ v. answer_past (view_id_cmp w.id v.id) v c.installed) c.promise Accept) accepted in
-      one-acted apply encode decode came c (Promises w) (record { asked = asked; listed = parts.0; connected = on; above = offer-means c.promise c.installed w parts.1 })
+      one-acted meaning came c (Promises w) (record { asked = asked; listed = parts.0; connected = on; above = offer-means c.promise c.installed w parts.1 })
 
-  pub begins-acted : BeginsActed apply encode decode
+  pub begins-acted : BeginsActed meaning
   begins-acted came c b list w inside next sound =
       let x = next-means c b list w next in
-      one-acted apply encode decode came c (Begins w) (record { inside = inside; own = x.own; above = x.above; view = sound })
+      one-acted meaning came c (Begins w) (record { inside = inside; own = x.own; above = x.above; view = sound })
 
-  pub proposes-acted : ProposesActed apply encode decode
+  pub proposes-acted : ProposesActed meaning
   proposes-acted came c b v w inside leader free next =
       let sound = proposal-is-view c b v w leader free next in
       let x = next-means c b _ w next in
-      (sound, one-acted apply encode decode came c (Begins w) (record { inside = ap is_some inside; own = x.own; above = x.above; view = sound }))
+      (sound, one-acted meaning came c (Begins w) (record { inside = ap is_some inside; own = x.own; above = x.above; view = sound }))
 
-  pub due-acted : DueActed apply encode decode
+  pub due-acted : DueActed meaning
   due-acted came c b w due free = let x = due-means c b w due in proposes-acted came c b x.before w x.inside x.leader free x.next
 
-  pub records-acted : RecordsActed apply encode decode
+  pub records-acted : RecordsActed meaning
   records-acted came c f q r told flush awaited =
       let parts = and_parts (stands_in q f.members) (not (has_reported q f.reports)) awaited in
-      subst (λ (g : FlushModel). Acted apply encode decode came (Some c) [] [] (Some (record c { flush = Some g }))) (sym (cond-true (is_awaited q f) (record f { reports = f.reports ++ (q, r) ∷ [] }) f awaited))
-      (one-acted apply encode decode came c (Records f q r) (record { flush = flush; told = told; listed = parts.0; new = none-of (report_from q f.reports) parts.1 }))
+      subst (λ (g : FlushModel). Acted meaning came (Some c) [] [] (Some (record c { flush = Some g }))) (sym (cond-true (is_awaited q f) (record f { reports = f.reports ++ (q, r) ∷ [] }) f awaited))
+      (one-acted meaning came c (Records f q r) (record { flush = flush; told = told; listed = parts.0; new = none-of (report_from q f.reports) parts.1 }))
 
-  pub finishes-acted : FinishesActed apply encode decode
+  pub finishes-acted : FinishesActed meaning
   finishes-acted came c v f inside flush is complete =
-      one-acted apply encode decode came c (Finishes v f (cuts_of f)) (record {
+      one-acted meaning came c (Finishes v f (cuts_of f)) (record {
         view = inside;
         flush = flush;
         all = λ q stands. all-reported f q (complete-means (list_all (λ m. has_reported m f.reports) f.members) complete) stands;
         cut = λ q r u there from. cut-is f is (Some u);
       })
 
-  pub enters-acted : EntersActed apply encode decode
+  pub enters-acted : EntersActed meaning
   enters-acted came c q i asked enters reads =
       let parts = and_parts (same_address q i.view.id.creator && may_install i.view (promise_of c)) (is_fitting c.view c.traffic.delivered i) enters in
       let tests = and_parts (same_address q i.view.id.creator) (may_install i.view (promise_of c)) parts.0 in
       let promised = only-the-promised i.view (promise_of c) tests.1 in
-      one-acted apply encode decode came c (Enters i) (record {
+      one-acted meaning came c (Enters i) (record {
         asked = asked ∙ ap (λ p. Some (packet p (bodies.Install i) c.me)) (same_address-true q i.view.id.creator tests.0);
         promised = promised.0;
         waiting = promised.1;
         fits = fits-by c.view c.traffic.delivered i parts.1;
-        readable = readable-by decode i.state reads;
+        readable = readable-by meaning i.state reads;
       })

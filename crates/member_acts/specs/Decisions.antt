@@ -3,6 +3,7 @@ use Rattle.std.specs.Prelude.{ℕ, Bool, true, false, ◌&&◌, nat_eq, nat_le, 
 use Rattle.std.specs.Option.{option_map, option_map_or, option_and_then}
 use Rattle.address.specs.Ids.{Address, same_address}
 use Rattle.view.specs.Members.{View}
+use Rattle.state_transfer.specs.Meanings.{Meaning}
 use Rattle.suspicion.specs.Suspicion.{leads}
 use Rattle.candidates.specs.Notes.{NotesModel}
 use Rattle.candidates.specs.Candidates.{candidates, next_counter, is_changed, is_broken, is_abandoned}
@@ -64,8 +65,8 @@ cuts_of f = record { base = λ u. cut_base (group (Some u) f.reports); items = �
 -- ---- an INSTALL
 
 -- whether there is no state, or one that can be read
-abbrev pub is_readable : {S : Type 0} → (List ℕ → Option S) → Option (List ℕ) → Bool
-is_readable decode given = option_map_or (λ bytes. is_some (decode bytes)) given true
+abbrev pub is_readable : {S : Type 0} → Meaning S → Option (List ℕ) → Bool
+is_readable meaning given = option_map_or (λ bytes. is_some (meaning.decode bytes)) given true
 
 -- who comes from a view is told what follows a number that it has reached; who comes from none is told no messages and given a state
 abbrev pub is_fitting : Option View → ℕ → wire.Install → Bool

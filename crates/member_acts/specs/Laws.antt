@@ -1,8 +1,9 @@
 -- The rules of a change of view as acts.
-use Rattle.std.specs.Prelude.{◌≡◌, ℕ, true, false, Option, None, Some, List, [], ◌∷◌, map, IsSome}
+use Rattle.std.specs.Prelude.{◌≡◌, true, false, Option, None, Some, List, [], ◌∷◌, map, IsSome}
 use Rattle.address.specs.Ids.{Address}
 use Rattle.view.specs.Members.{View, stands_in}
 use Rattle.view.specs.View.{view_refusal}
+use Rattle.state_transfer.specs.Meanings.{Meaning}
 use Rattle.suspicion.specs.Suspicion.{leads}
 use Rattle.candidates.specs.Notes.{NotesModel}
 use Rattle.wire.specs.Values.{Report}
@@ -18,48 +19,48 @@ use Rattle.agreement.specs.Chains.{Acted}
 use Rattle.member_acts.specs.Decisions.{promise_of, next_proposal, proposal_after, due_proposal, cuts_of, is_readable, is_entry}
 
 -- a FLUSH whose offer is accepted is promised, and reported for
-abbrev pub PromisesActed : {S : Type 0} → (S → Address → List ℕ → S) → (S → List ℕ) → (List ℕ → Option S) → Type 0
-PromisesActed {S} apply encode decode = (came : Option Posted) (c : Core S) (w : View) → came ≡ Some (packet w.id.creator (bodies.Flush w) c.me) → c.connected ≡ true
+abbrev pub PromisesActed : {S : Type 0} → Meaning S → Type 0
+PromisesActed {S} meaning = (came : Option Posted) (c : Core S) (w : View) → came ≡ Some (packet w.id.creator (bodies.Flush w) c.me) → c.connected ≡ true
     → is_accept (offered w (promise_of c)) ≡ true
-    → Acted apply encode decode came (Some c) (packet c.me (bodies.Report w.id (report_with c.view c.traffic)) w.id.creator ∷ []) (blocking c) (Some (promised w None c))
+    → Acted meaning came (Some c) (packet c.me (bodies.Report w.id (report_with c.view c.traffic)) w.id.creator ∷ []) (blocking c) (Some (promised w None c))
 
 -- it begins a flush: the proposal is promised with the own report, and announced to the others of its list
-abbrev pub BeginsAt : {S : Type 0} → (S → Address → List ℕ → S) → (S → List ℕ) → (List ℕ → Option S) → Option Posted → Core S → View → Type 0
-BeginsAt apply encode decode came c w =
-    Acted apply encode decode came (Some c) (map (packet c.me (bodies.Flush w)) (others_of c.me w.members)) (blocking c) (Some (promised w (Some (begun w c)) c))
+abbrev pub BeginsAt : {S : Type 0} → Meaning S → Option Posted → Core S → View → Type 0
+BeginsAt meaning came c w =
+    Acted meaning came (Some c) (map (packet c.me (bodies.Flush w)) (others_of c.me w.members)) (blocking c) (Some (promised w (Some (begun w c)) c))
 
 -- in a view, the next proposal begins where its list is a view's
-abbrev pub BeginsActed : {S : Type 0} → (S → Address → List ℕ → S) → (S → List ℕ) → (List ℕ → Option S) → Type 0
-BeginsActed {S} apply encode decode = (came : Option Posted) (c : Core S) (b : NotesModel) (list : List Address) (w : View) → IsSome c.view → next_proposal c b list ≡ Some w
-    → view_refusal w.id w.members ≡ None → BeginsAt apply encode decode came c w
+abbrev pub BeginsActed : {S : Type 0} → Meaning S → Type 0
+BeginsActed {S} meaning = (came : Option Posted) (c : Core S) (b : NotesModel) (list : List Address) (w : View) → IsSome c.view → next_proposal c b list ≡ Some w
+    → view_refusal w.id w.members ≡ None → BeginsAt meaning came c w
 
 -- whoever leads its view, and does not suspect itself, begins with its candidates
-abbrev pub ProposesActed : {S : Type 0} → (S → Address → List ℕ → S) → (S → List ℕ) → (List ℕ → Option S) → Type 0
-ProposesActed {S} apply encode decode = (came : Option Posted) (c : Core S) (b : NotesModel) (v w : View) → c.view ≡ Some v → leads b.suspects v.members c.me ≡ true
-    → stands_in c.me b.suspects ≡ false → proposal_after c b v ≡ Some w → (view_refusal w.id w.members ≡ None) × BeginsAt apply encode decode came c w
+abbrev pub ProposesActed : {S : Type 0} → Meaning S → Type 0
+ProposesActed {S} meaning = (came : Option Posted) (c : Core S) (b : NotesModel) (v w : View) → c.view ≡ Some v → leads b.suspects v.members c.me ≡ true
+    → stands_in c.me b.suspects ≡ false → proposal_after c b v ≡ Some w → (view_refusal w.id w.members ≡ None) × BeginsAt meaning came c w
 
 -- a proposal that is due begins
-abbrev pub DueActed : {S : Type 0} → (S → Address → List ℕ → S) → (S → List ℕ) → (List ℕ → Option S) → Type 0
-DueActed {S} apply encode decode = (came : Option Posted) (c : Core S) (b : NotesModel) (w : View) → due_proposal c b ≡ Some w → stands_in c.me b.suspects ≡ false
-    → (view_refusal w.id w.members ≡ None) × BeginsAt apply encode decode came c w
+abbrev pub DueActed : {S : Type 0} → Meaning S → Type 0
+DueActed {S} meaning = (came : Option Posted) (c : Core S) (b : NotesModel) (w : View) → due_proposal c b ≡ Some w → stands_in c.me b.suspects ≡ false
+    → (view_refusal w.id w.members ≡ None) × BeginsAt meaning came c w
 
 -- an awaited report is recorded
-abbrev pub RecordsActed : {S : Type 0} → (S → Address → List ℕ → S) → (S → List ℕ) → (List ℕ → Option S) → Type 0
-RecordsActed {S} apply encode decode = (came : Option Posted) (c : Core S) (f : FlushModel) (q : Address) (r : Report) → came ≡ Some (packet q (bodies.Report f.proposal r) c.me)
+abbrev pub RecordsActed : {S : Type 0} → Meaning S → Type 0
+RecordsActed {S} meaning = (came : Option Posted) (c : Core S) (f : FlushModel) (q : Address) (r : Report) → came ≡ Some (packet q (bodies.Report f.proposal r) c.me)
     → c.flush ≡ Some f → is_awaited q f ≡ true
-    → Acted apply encode decode came (Some c) [] [] (Some (record c { flush = Some (reported q r f) }))
+    → Acted meaning came (Some c) [] [] (Some (record c { flush = Some (reported q r f) }))
 
 -- a flush to which all of its list have reported is finished, at its cuts
-abbrev pub FinishesActed : {S : Type 0} → (S → Address → List ℕ → S) → (S → List ℕ) → (List ℕ → Option S) → Type 0
-FinishesActed {S} apply encode decode = (came : Option Posted) (c : Core S) (v : View) (f : FlushModel) → c.view ≡ Some v → c.flush ≡ Some f → IsFlush f → progress_of f ≡ Complete
-    → let given = instructions apply encode c v f (cuts_of f) in
+abbrev pub FinishesActed : {S : Type 0} → Meaning S → Type 0
+FinishesActed {S} meaning = (came : Option Posted) (c : Core S) (v : View) (f : FlushModel) → c.view ≡ Some v → c.flush ≡ Some f → IsFlush f → progress_of f ≡ Complete
+    → let given = instructions meaning c v f (cuts_of f) in
     let told = undelivered c.traffic.delivered ((cuts_of f).base v.id) ((cuts_of f).items v.id) in
-    Acted apply encode decode came (Some c) (map (λ p. packet c.me (bodies.Install p.1) p.0) given) (entering c told (proposed f) (together_of c.me f) None)
-    (Some (gone_into (proposed f) (state_after_cut apply c v (cuts_of f)) given c))
+    Acted meaning came (Some c) (map (λ p. packet c.me (bodies.Install p.1) p.0) given) (entering c told (proposed f) (together_of c.me f) None)
+    (Some (gone_into (proposed f) (state_after_cut meaning c v (cuts_of f)) given c))
 
 -- an INSTALL by which it would enter, whose state can be read, is entered
-abbrev pub EntersActed : {S : Type 0} → (S → Address → List ℕ → S) → (S → List ℕ) → (List ℕ → Option S) → Type 0
-EntersActed {S} apply encode decode = (came : Option Posted) (c : Core S) (q : Address) (i : wire.Install) → came ≡ Some (packet q (bodies.Install i) c.me)
-    → is_entry c q i ≡ true → is_readable decode i.state ≡ true
+abbrev pub EntersActed : {S : Type 0} → Meaning S → Type 0
+EntersActed {S} meaning = (came : Option Posted) (c : Core S) (q : Address) (i : wire.Install) → came ≡ Some (packet q (bodies.Install i) c.me)
+    → is_entry c q i ≡ true → is_readable meaning i.state ≡ true
     → let told = told_at c i.base i.items in
-    Acted apply encode decode came (Some c) [] (entering c told i.view i.together i.state) (Some (gone_into i.view (state_into apply decode c told i.state) [] c))
+    Acted meaning came (Some c) [] (entering c told i.view i.together i.state) (Some (gone_into i.view (state_into meaning c told i.state) [] c))

@@ -13,11 +13,11 @@ use state_transfer::Receiver;
 /// of its list have reported is finished at its cuts; an INSTALL that fits, is of the promised view and can be read is entered.
 /// For every receiver that keeps the laws. It does nothing.
 pub fn changes_of_view<R: Receiver>()
-    ensures promises { PromisesActed R.apply R.encode R.decode }
-    ensures begins { BeginsActed R.apply R.encode R.decode }
-    ensures proposes { ProposesActed R.apply R.encode R.decode }
-    ensures due { DueActed R.apply R.encode R.decode }
-    ensures records { RecordsActed R.apply R.encode R.decode }
-    ensures finishes { FinishesActed R.apply R.encode R.decode }
-    ensures enters { EntersActed R.apply R.encode R.decode }
+    ensures promises { PromisesActed R.meaning }
+    ensures begins { BeginsActed R.meaning }
+    ensures proposes { ProposesActed R.meaning }
+    ensures due { DueActed R.meaning }
+    ensures records { RecordsActed R.meaning }
+    ensures finishes { FinishesActed R.meaning }
+    ensures enters { EntersActed R.meaning }
 {}

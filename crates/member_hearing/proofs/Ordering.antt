@@ -4,11 +4,9 @@ use Rattle.std.specs.Prelude.{if◌then◌else◌}
 use Rattle.std.proofs.lemmas.Bool.{and_parts}
 use Rattle.std.proofs.lemmas.Bool.Decides.{nat_tests}
 use Rattle.std.proofs.lemmas.Option.{same_Some}
-use Rattle.address.specs.declared.TheConstants.{GREATEST_NUMBER}
+use Rattle.limits.specs.declared.TheConstants.{GREATEST_NUMBER, MEMBERS, WINDOW}
 use Rattle.address.specs.Ids.{Address, same_address}
-use Rattle.view.specs.declared.TheConstants.{MEMBERS}
 use Rattle.view.specs.Members.{View, stands_in}
-use Rattle.packet_values.specs.declared.limits.TheConstants.{WINDOW}
 use Rattle.wire.specs.Values as wire
 use Rattle.wire.specs.Lists.{is_install, is_in_order}
 use Rattle.traffic.specs.declared.traffic.Traffic.TheVariants as kinds

@@ -5,6 +5,7 @@ use Rattle.address.specs.Ids.{Address}
 use Rattle.wire.specs.Values as wire
 use Rattle.wire.specs.declared.packet.Body.{Body}
 use Rattle.wire.specs.declared.packet.Body.TheVariants as bodies
+use Rattle.state_transfer.specs.Meanings.{Meaning}
 use Rattle.agreement.specs.Histories.{Posted}
 use Rattle.agreement.specs.Cores.{Core}
 use Rattle.member_acts.specs.Decisions.{is_entry, is_readable}
@@ -18,20 +19,20 @@ use Rattle.member_views.specs.Views.{OnJoin, OnRedirect, OnSuspect, OnFlush, OnB
 use Rattle.member_views.specs.Ignoring.{is_misdirected, is_flush_ignored, is_report_ignored, is_merge_ignored}
 
 -- each kind of packet by its rule; q is who put it out
-abbrev pub Hears : {S : Type 0} → (S → Address → List ℕ → S) → (S → List ℕ) → (List ℕ → Option S) → List ℕ → Address → Address → Body → Life S → Life S → Output → Output → Type 0
-Hears apply encode decode group me q bodies.Join old new out later = OnJoin apply encode group me q old new out later
-Hears apply encode decode group me q (bodies.Redirect coordinator) old new out later = OnRedirect group me coordinator old new out later
-Hears apply encode decode group me q bodies.Leave old new out later = OnSuspect apply encode group me q old new out later
-Hears apply encode decode group me q (bodies.Forward view number payload) old new out later = OnForward apply group me q view number payload old new out later
-Hears apply encode decode group me q (bodies.Order view place entry) old new out later = OnOrder apply group me q view place entry old new out later
-Hears apply encode decode group me q (bodies.Nak view missing) old new out later = OnNak group me q view missing old new out later
-Hears apply encode decode group me q (bodies.Ack view delivered) old new out later = OnAck apply group me q view delivered old new out later
-Hears apply encode decode group me q (bodies.Status view progress) old new out later = OnStatus group me q view progress old new out later
-Hears apply encode decode group me q (bodies.Flush proposal) old new out later = OnFlush group me q proposal old new out later
-Hears apply encode decode group me q (bodies.Behind proposal counter) old new out later = OnBehind apply encode group me proposal counter old new out later
-Hears apply encode decode group me q (bodies.Report proposal report) old new out later = OnReport apply encode group me q proposal report old new out later
-Hears apply encode decode group me q (bodies.Install install) old new out later = TakesInstall apply decode group me q install old new out later
-Hears apply encode decode group me q (bodies.Merge view) old new out later = OnMerge apply encode group me q view old new out later
+abbrev pub Hears : {S : Type 0} → Meaning S → List ℕ → Address → Address → Body → Life S → Life S → Output → Output → Type 0
+Hears meaning group me q bodies.Join old new out later = OnJoin meaning group me q old new out later
+Hears meaning group me q (bodies.Redirect coordinator) old new out later = OnRedirect group me coordinator old new out later
+Hears meaning group me q bodies.Leave old new out later = OnSuspect meaning group me q old new out later
+Hears meaning group me q (bodies.Forward view number payload) old new out later = OnForward meaning group me q view number payload old new out later
+Hears meaning group me q (bodies.Order view place entry) old new out later = OnOrder meaning group me q view place entry old new out later
+Hears meaning group me q (bodies.Nak view missing) old new out later = OnNak group me q view missing old new out later
+Hears meaning group me q (bodies.Ack view delivered) old new out later = OnAck meaning group me q view delivered old new out later
+Hears meaning group me q (bodies.Status view progress) old new out later = OnStatus group me q view progress old new out later
+Hears meaning group me q (bodies.Flush proposal) old new out later = OnFlush group me q proposal old new out later
+Hears meaning group me q (bodies.Behind proposal counter) old new out later = OnBehind meaning group me proposal counter old new out later
+Hears meaning group me q (bodies.Report proposal report) old new out later = OnReport meaning group me q proposal report old new out later
+Hears meaning group me q (bodies.Install install) old new out later = TakesInstall meaning group me q install old new out later
+Hears meaning group me q (bodies.Merge view) old new out later = OnMerge meaning group me q view old new out later
 
 -- whether the rule of its kind ignores a packet
 abbrev pub ignores : {S : Type 0} → Address → Address → Body → Life S → Bool
@@ -56,5 +57,5 @@ abbrev pub entry_of : {S : Type 0} → Core S → Posted → Option wire.Install
 entry_of c m = option_and_then (λ i. if is_entry c m.source i then Some i else None) (install_said m.body)
 
 -- whether it would enter by a packet, and the receiver cannot read its state
-abbrev pub is_unreadable_by : {S : Type 0} → (List ℕ → Option S) → Core S → Posted → Bool
-is_unreadable_by decode c m = option_map_or (λ i. not (is_readable decode i.state)) (entry_of c m) false
+abbrev pub is_unreadable_by : {S : Type 0} → Meaning S → Core S → Posted → Bool
+is_unreadable_by meaning c m = option_map_or (λ i. not (is_readable meaning i.state)) (entry_of c m) false

@@ -1,4 +1,5 @@
-ghost use Rattle.std.specs.Prelude.{◌≡◌, Some, Ok, Err, OnOk, true, false};
+ghost use Rattle.std.specs.Prelude.{◌≡◌, ◌+◌, Some, Ok, Err, OnOk, true, false};
+ghost use Rattle.limits.specs.declared.TheConstants.{WINDOW};
 ghost use Rattle.address.specs.Ids.{same_address};
 ghost use Rattle.agreement.specs.Acts.{packet};
 ghost use Rattle.output.specs.Calm.{IsCalm};
@@ -32,10 +33,10 @@ pub fn hear<R: Receiver>(
     requires other { same_address source who.now.address ≡ false }
     ensures life { OnOk result (IsLife who.now.group who.now.address life.new) }
     ensures ordered { OnOk result (IsOrdered who.now.address life.new) }
-    ensures does { OnOk result (Hears R.apply R.encode R.decode who.now.group who.now.address source body.now life.old life.new out.old out.new) }
-    ensures did { OnOk result (Did R.apply R.encode R.decode (Some (packet source body.now who.now.address)) who.now.group who.now.address life.old life.new out.old out.new) }
-    ensures calm { OnOk result (IsCalm 35 out.old out.new) }
-    ensures unreadable { result ≡ Err stop.Unreadable → is_unreadable_by R.decode (core_of who.now.address life.old) (packet source body.now who.now.address) ≡ true }
+    ensures does { OnOk result (Hears R.meaning who.now.group who.now.address source body.now life.old life.new out.old out.new) }
+    ensures did { OnOk result (Did R.meaning (Some (packet source body.now who.now.address)) who.now.group who.now.address life.old life.new out.old out.new) }
+    ensures calm { OnOk result (IsCalm (WINDOW + 3) out.old out.new) }
+    ensures unreadable { result ≡ Err stop.Unreadable → is_unreadable_by R.meaning (core_of who.now.address life.old) (packet source body.now who.now.address) ≡ true }
     ensures ignored { ignores who.now.address source body.now life.old ≡ true → (result ≡ Ok tt) × StaysAs life.old life.new out.old out.new }
 {
     match body {

@@ -3,9 +3,11 @@ use Rattle.std.proofs.Common.{◌≡◌, ℕ, ◌+◌, Bool, true, false, List, 
 use Rattle.std.proofs.lemmas.List.{append-nil, length-append}
 use Rattle.std.specs.Prelude.{MatchBool, nat_lt}
 use Rattle.std.specs.List.{list_all}
+use Rattle.limits.specs.declared.TheConstants.{WINDOW}
 use Rattle.address.specs.Ids.{Address, ViewId}
 use Rattle.packet_values.specs.Values.{Entry}
-use Rattle.trace_props.specs.declared.happening.Happening.{Happening}
+use Rattle.state_transfer.specs.Meanings.{Meaning}
+use Rattle.trace_props.specs.declared.event.Event.{Event}
 use Rattle.agreement.specs.Acts.{delivery}
 use Rattle.output.specs.declared.output.Output.{Output}
 use Rattle.output.specs.Outputs.{Grows}
@@ -20,55 +22,55 @@ pub deliveries-quiet : (p : Address) (v : ViewId) (entries : List Entry) → lis
 deliveries-quiet p v [] = refl
 deliveries-quiet p v (e ∷ entries) = deliveries-quiet p v entries
 
-few-calm : (out later : Output) (hs : List Happening) → later.happenings.items ≡ out.happenings.items ++ hs → list_all is_quiet hs ≡ true → IsFew out later → IsCalm 32 out later
+few-calm : (out later : Output) (hs : List Event) → later.events.items ≡ out.events.items ++ hs → list_all is_quiet hs ≡ true → IsFew out later → IsCalm WINDOW out later
 few-calm out later hs grows quiet few =
-    let l : length later.happenings.items ≡ length out.happenings.items + length hs = ap length grows ∙ length-append out.happenings.items hs in
+    let l : length later.events.items ≡ length out.events.items + length hs = ap length grows ∙ length-append out.events.items hs in
     record { more = hs; grows = grows; few = omega (arith, l, few); quiet = quiet }
 
 -- ---- at the coordinator
 
-module _ {S : Type 0} (apply : S → Address → List ℕ → S) where
-  pub ordering-calm : (p : Address) (group : List ℕ) (m : Coordinator) (s : S) (out : Output) (n : Coordinator) (t : S) (later : Output) → Ordering apply p group m s out n t later → IsFew out later
-      → IsCalm 32 out later
-  ordering-calm p group m s out n t later x few = few-calm out later (map (delivery p m.view.id) x.entries) x.grows.happenings (deliveries-quiet p m.view.id x.entries) few
+module _ {S : Type 0} (meaning : Meaning S) where
+  pub ordering-calm : (p : Address) (group : List ℕ) (m : Coordinator) (s : S) (out : Output) (n : Coordinator) (t : S) (later : Output) → Ordering meaning p group m s out n t later → IsFew out later
+      → IsCalm WINDOW out later
+  ordering-calm p group m s out n t later x few = few-calm out later (map (delivery p m.view.id) x.entries) x.grows.events (deliveries-quiet p m.view.id x.entries) few
 
   acks-by : (b : Bool) (p : Address) (group : List ℕ) (a m : Coordinator) (s : S) (out : Output) (n : Coordinator) (t : S) (later : Output) (Rest : Type 0)
-      → MatchBool b ((n ≡ m) × (t ≡ s) × (later ≡ out)) (Ordering apply p group a s out n t later × Rest) → IsFew out later → IsCalm 32 out later
-  acks-by true p group a m s out n t later Rest x few = subst (λ (o : Output). IsCalm 32 out o) (sym x.2) (calm-nothing 32 out)
+      → MatchBool b ((n ≡ m) × (t ≡ s) × (later ≡ out)) (Ordering meaning p group a s out n t later × Rest) → IsFew out later → IsCalm WINDOW out later
+  acks-by true p group a m s out n t later Rest x few = subst (λ (o : Output). IsCalm WINDOW out o) (sym x.2) (calm-nothing WINDOW out)
   acks-by false p group a m s out n t later Rest x few = ordering-calm p group a s out n t later x.0 few
 
   pub acks-calm : (p : Address) (group : List ℕ) (q : Address) (count : ℕ) (m : Coordinator) (s : S) (out : Output) (n : Coordinator) (t : S) (later : Output)
-      → AcksOrdering apply p group q count m s out n t later → IsFew out later → IsCalm 32 out later
+      → AcksOrdering meaning p group q count m s out n t later → IsFew out later → IsCalm WINDOW out later
   acks-calm p group q count m s out n t later x few = acks-by (nat_lt m.window.delivered count) p group _ m s out n t later _ x few
 
 -- ---- at another member
 
-silent-asks : (p : Address) (group : List ℕ) (g : ℕ) (m : Other) (out later : Output) → AsksUpTo p group g m out later → later.happenings.items ≡ out.happenings.items
-silent-asks p group g m out later (inl x) = x.grows.happenings ∙ append-nil out.happenings.items
-silent-asks p group g m out later (inr x) = ap (λ (o : Output). o.happenings.items) x.1
+silent-asks : (p : Address) (group : List ℕ) (g : ℕ) (m : Other) (out later : Output) → AsksUpTo p group g m out later → later.events.items ≡ out.events.items
+silent-asks p group g m out later (inl x) = x.grows.events ∙ append-nil out.events.items
+silent-asks p group g m out later (inr x) = ap (λ (o : Output). o.events.items) x.1
 
 silent-by : (b c : Bool) (p : Address) (group : List ℕ) (g : ℕ) (m : Other) (out later : Output)
-    → MatchBool b (Grows group out later (ack_of p m ∷ []) []) (MatchBool c (AsksUpTo p group g m out later) (later ≡ out)) → later.happenings.items ≡ out.happenings.items
-silent-by true c p group g m out later x = x.happenings ∙ append-nil out.happenings.items
+    → MatchBool b (Grows group out later (ack_of p m ∷ []) []) (MatchBool c (AsksUpTo p group g m out later) (later ≡ out)) → later.events.items ≡ out.events.items
+silent-by true c p group g m out later x = x.events ∙ append-nil out.events.items
 silent-by false true p group g m out later x = silent-asks p group g m out later x
-silent-by false false p group g m out later x = ap (λ (o : Output). o.happenings.items) x
+silent-by false false p group g m out later x = ap (λ (o : Output). o.events.items) x
 
 silent-answer : (p : Address) (group : List ℕ) (before : ℕ) (new : Bool) (g : ℕ) (m : Other) (out later : Output) → AnswersOrder p group before new g m out later
-    → later.happenings.items ≡ out.happenings.items
+    → later.events.items ≡ out.events.items
 silent-answer p group before new g m out later x = silent-by (nat_lt before m.window.delivered) new p group g m out later x
 
-module _ {S : Type 0} (apply : S → Address → List ℕ → S) where
-  near-calm : (p : Address) (group : List ℕ) (g : ℕ) (e : Entry) (m : Other) (s : S) (out : Output) (n : Other) (t : S) (later : Output) → TakesNear apply p group g e m s out n t later → IsFew out later
-      → IsCalm 32 out later
+module _ {S : Type 0} (meaning : Meaning S) where
+  near-calm : (p : Address) (group : List ℕ) (g : ℕ) (e : Entry) (m : Other) (s : S) (out : Output) (n : Other) (t : S) (later : Output) → TakesNear meaning p group g e m s out n t later → IsFew out later
+      → IsCalm WINDOW out later
   near-calm p group g e m s out n t later x few =
-      few-calm out later (map (delivery p m.view.id) x.tells.entries) (silent-answer p group m.window.delivered _ g n x.between later x.answers ∙ x.tells.grows.happenings)
+      few-calm out later (map (delivery p m.view.id) x.tells.entries) (silent-answer p group m.window.delivered _ g n x.between later x.answers ∙ x.tells.grows.events)
       (deliveries-quiet p m.view.id x.tells.entries) few
 
   takes-by : (b : Bool) (p : Address) (group : List ℕ) (g : ℕ) (e : Entry) (m : Other) (s : S) (out : Output) (n : Other) (t : S) (later : Output)
-      → MatchBool b ((n ≡ m) × (t ≡ s) × (later ≡ out)) (TakesNear apply p group g e m s out n t later) → IsFew out later → IsCalm 32 out later
-  takes-by true p group g e m s out n t later x few = subst (λ (o : Output). IsCalm 32 out o) (sym x.2) (calm-nothing 32 out)
+      → MatchBool b ((n ≡ m) × (t ≡ s) × (later ≡ out)) (TakesNear meaning p group g e m s out n t later) → IsFew out later → IsCalm WINDOW out later
+  takes-by true p group g e m s out n t later x few = subst (λ (o : Output). IsCalm WINDOW out o) (sym x.2) (calm-nothing WINDOW out)
   takes-by false p group g e m s out n t later x few = near-calm p group g e m s out n t later x few
 
-  pub takes-calm : (p : Address) (group : List ℕ) (g : ℕ) (e : Entry) (m : Other) (s : S) (out : Output) (n : Other) (t : S) (later : Output) → TakesOrder apply p group g e m s out n t later → IsFew out later
-      → IsCalm 32 out later
+  pub takes-calm : (p : Address) (group : List ℕ) (g : ℕ) (e : Entry) (m : Other) (s : S) (out : Output) (n : Other) (t : S) (later : Output) → TakesOrder meaning p group g e m s out n t later → IsFew out later
+      → IsCalm WINDOW out later
   takes-calm p group g e m s out n t later x few = takes-by _ p group g e m s out n t later x few

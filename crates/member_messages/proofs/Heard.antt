@@ -4,6 +4,7 @@ use Rattle.std.proofs.lemmas.Bool.{and_parts}
 use Rattle.std.specs.Option.{option_map_or}
 use Rattle.address.specs.Ids.{Address, ViewId, same_address}
 use Rattle.view.specs.Members.{stands_in}
+use Rattle.state_transfer.specs.Meanings.{Meaning}
 use Rattle.trace_props.proofs.Observing.{same_address-true, same_view_id-true}
 use Rattle.agreement.specs.Histories.{Posted}
 use Rattle.output.specs.declared.output.Output.{Output}
@@ -46,26 +47,26 @@ pub heard-life : {S : Type 0} (source : Address) (id : ViewId) (group : List ℕ
     → IsLife group me (going_on l u s)
 heard-life source id group me l t u s i h there same = life-kept group me l t u s i h.promised there same
 
-module _ {S : Type 0} (apply : S → Address → List ℕ → S) (encode : S → List ℕ) (decode : List ℕ → Option S) where
+module _ {S : Type 0} (meaning : Meaning S) where
   -- on a packet that names the view
   pub heard-did : (came : ViewId → Option Posted) (source : Address) (id : ViewId) (group : List ℕ) (me : Address) (l : Life S) (t u : Traffic) (s : S) (out later : Output) → IsLife group me l
-      → Heard source id l t → l.traffic ≡ Some t → view_of u ≡ view_of t → Goes apply encode decode (came (view_of t).id) me group (view_of t) (traffic_of t) l.receiver out (traffic_of u) s later
-      → Did apply encode decode (came id) group me l (going_on l u s) out later
+      → Heard source id l t → l.traffic ≡ Some t → view_of u ≡ view_of t → Goes meaning (came (view_of t).id) me group (view_of t) (traffic_of t) l.receiver out (traffic_of u) s later
+      → Did meaning (came id) group me l (going_on l u s) out later
   heard-did came source id group me l t u s out later i h there same x =
-      subst (λ (v : ViewId). Did apply encode decode (came v) group me l (going_on l u s) out later) h.same
-      (goes-did apply encode decode (came (view_of t).id) group me l t u s out later i h.promised there same x)
+      subst (λ (v : ViewId). Did meaning (came v) group me l (going_on l u s) out later) h.same
+      (goes-did meaning (came (view_of t).id) group me l t u s out later i h.promised there same x)
 
   -- nothing of it but what it puts out
   pub heard-same : (came : ViewId → Option Posted) (source : Address) (id : ViewId) (group : List ℕ) (me : Address) (l : Life S) (t : Traffic) (out later : Output) → IsLife group me l
-      → Heard source id l t → l.traffic ≡ Some t → Goes apply encode decode (came (view_of t).id) me group (view_of t) (traffic_of t) l.receiver out (traffic_of t) l.receiver later
-      → Did apply encode decode (came id) group me l l out later
+      → Heard source id l t → l.traffic ≡ Some t → Goes meaning (came (view_of t).id) me group (view_of t) (traffic_of t) l.receiver out (traffic_of t) l.receiver later
+      → Did meaning (came id) group me l l out later
   heard-same came source id group me l t out later i h there x =
-      subst (λ (v : ViewId). Did apply encode decode (came v) group me l l out later) h.same (goes-same apply encode decode (came (view_of t).id) group me l t out later i h.promised there x)
+      subst (λ (v : ViewId). Did meaning (came v) group me l l out later) h.same (goes-same meaning (came (view_of t).id) group me l t out later i h.promised there x)
 
   -- another member, on a packet of the coordinator that names the view
   pub other-did : (came : Address → ViewId → Option Posted) (source : Address) (id : ViewId) (group : List ℕ) (me : Address) (l : Life S) (m n : Other) (s : S) (out later : Output) → IsLife group me l
-      → Heard source id l (kinds.Other m) → l.traffic ≡ Some (kinds.Other m) → m.view.id.creator ≡ source → OtherGoes apply encode decode (came m.view.id.creator m.view.id) me group m l.receiver out n s later
-      → Did apply encode decode (came source id) group me l (going_on l (kinds.Other n) s) out later
+      → Heard source id l (kinds.Other m) → l.traffic ≡ Some (kinds.Other m) → m.view.id.creator ≡ source → OtherGoes meaning (came m.view.id.creator m.view.id) me group m l.receiver out n s later
+      → Did meaning (came source id) group me l (going_on l (kinds.Other n) s) out later
   other-did came source id group me l m n s out later i h there from x =
       heard-did (λ v. came source v) source id group me l (kinds.Other m) (kinds.Other n) s out later i h there x.1
-      (subst (λ (q : Address). Goes apply encode decode (came q m.view.id) me group m.view (other_traffic m) l.receiver out (other_traffic n) s later) from x.0)
+      (subst (λ (q : Address). Goes meaning (came q m.view.id) me group m.view (other_traffic m) l.receiver out (other_traffic n) s later) from x.0)

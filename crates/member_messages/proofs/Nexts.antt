@@ -1,9 +1,11 @@
 -- After an ORDER and a STATUS another member does not hold the number that comes next.
 use Rattle.std.proofs.Common.{◌≡◌, ℕ, ◌+◌, ◌-◌, Bool, true, false, ◌||◌, cond, min, Option, None, List, refl, sym, ◌∙◌, subst}
 use Rattle.std.specs.Prelude.{MatchBool, nat_lt, if◌then◌else◌}
+use Rattle.limits.specs.declared.TheConstants.{WINDOW}
 use Rattle.address.specs.Ids.{Address, same_address}
 use Rattle.view.specs.Members.{View}
 use Rattle.packet_values.specs.Values.{Entry, Progress, held_at}
+use Rattle.state_transfer.specs.Meanings.{Meaning}
 use Rattle.nak_stream.specs.Windows.{WindowModel, collected, held_above}
 use Rattle.nak_stream.proofs.Windows.{held_at-above}
 use Rattle.output.specs.declared.output.Output.{Output}
@@ -31,15 +33,15 @@ other-orderly me m n orderly same none = (subst (λ (v : View). same_address me 
 
 -- ---- an ORDER
 
-module _ {S : Type 0} (apply : S → Address → List ℕ → S) (me : Address) (group : List ℕ) where
+module _ {S : Type 0} (meaning : Meaning S) (me : Address) (group : List ℕ) where
   order-by : (b : Bool) (g : ℕ) (e : Entry) (m : Other) (s : S) (out : Output) (n : Other) (t : S) (later : Output)
-      → MatchBool b ((n ≡ m) × (t ≡ s) × (later ≡ out)) (TakesNear apply me group g e m s out n t later) → HasNoneNext m.window → HasNoneNext n.window
+      → MatchBool b ((n ≡ m) × (t ≡ s) × (later ≡ out)) (TakesNear meaning me group g e m s out n t later) → HasNoneNext m.window → HasNoneNext n.window
   order-by true g e m s out n t later x none = subst (λ (o : Other). HasNoneNext o.window) (sym x.0) none
   order-by false g e m s out n t later x none = x.ready
 
-  pub order-orderly : (g : ℕ) (e : Entry) (m : Other) (s : S) (out : Output) (n : Other) (t : S) (later : Output) → TakesOrder apply me group g e m s out n t later → n.view ≡ m.view
+  pub order-orderly : (g : ℕ) (e : Entry) (m : Other) (s : S) (out : Output) (n : Other) (t : S) (later : Output) → TakesOrder meaning me group g e m s out n t later → n.view ≡ m.view
       → IsOrderly me (kinds.Other m) → IsOrderly me (kinds.Other n)
-  order-orderly g e m s out n t later x same orderly = other-orderly me m n orderly same (order-by (nat_lt m.window.delivered (g - 32)) g e m s out n t later x orderly.1)
+  order-orderly g e m s out n t later x same orderly = other-orderly me m n orderly same (order-by (nat_lt m.window.delivered (g - WINDOW)) g e m s out n t later x orderly.1)
 
 -- ---- a STATUS
 
@@ -51,4 +53,4 @@ status-by false me group a m out n later x orderly =
 
 pub status-orderly : (me : Address) (group : List ℕ) (a : Progress) (m : Other) (out : Output) (n : Other) (later : Output) → TakesStatus me group a m out n later
     → IsOrderly me (kinds.Other m) → IsOrderly me (kinds.Other n)
-status-orderly me group a m out n later x orderly = status-by (nat_lt m.window.delivered a.stable || nat_lt m.window.delivered (a.highest - 32)) me group a m out n later x orderly
+status-orderly me group a m out n later x orderly = status-by (nat_lt m.window.delivered a.stable || nat_lt m.window.delivered (a.highest - WINDOW)) me group a m out n later x orderly

@@ -6,6 +6,7 @@ use Rattle.std.proofs.lemmas.Bool.{false≢true}
 use Rattle.std.proofs.lemmas.Option.{none-some, same_Some}
 use Rattle.address.specs.Ids.{Address}
 use Rattle.view.specs.Members.{View, stands_in}
+use Rattle.state_transfer.specs.Meanings.{Meaning}
 use Rattle.flush.specs.Flushes.{FlushModel}
 use Rattle.agreement.specs.Histories.{Posted}
 use Rattle.agreement.specs.Cores.{Core}
@@ -70,26 +71,26 @@ life-kept group me l t u s i promised there same =
       };
     }
 
-module _ {S : Type 0} (apply : S → Address → List ℕ → S) (encode : S → List ℕ) (decode : List ℕ → Option S) where
-  pub nothing-did : (came : Option Posted) (group : List ℕ) (me : Address) (l : Life S) (out : Output) → Did apply encode decode came group me l l out out
-  nothing-did came group me l out = record { posted = _; happened = _; grows = grows-nothing group out; acted = nothing-acted apply encode decode came (Some (core_of me l)) }
+module _ {S : Type 0} (meaning : Meaning S) where
+  pub nothing-did : (came : Option Posted) (group : List ℕ) (me : Address) (l : Life S) (out : Output) → Did meaning came group me l l out out
+  nothing-did came group me l out = record { posted = _; happened = _; grows = grows-nothing group out; acted = nothing-acted meaning came (Some (core_of me l)) }
 
   pub goes-did : (came : Option Posted) (group : List ℕ) (me : Address) (l : Life S) (t u : Traffic) (s : S) (out later : Output) → IsLife group me l → l.promise.is_installed ≡ true → l.traffic ≡ Some t
-      → view_of u ≡ view_of t → Goes apply encode decode came me group (view_of t) (traffic_of t) l.receiver out (traffic_of u) s later → Did apply encode decode came group me l (going_on l u s) out later
+      → view_of u ≡ view_of t → Goes meaning came me group (view_of t) (traffic_of t) l.receiver out (traffic_of u) s later → Did meaning came group me l (going_on l u s) out later
   goes-did came group me l t u s out later i promised there same x = record {
     posted = x.posted;
     happened = x.happened;
     grows = x.grows;
     acted =
-        subst (λ (c : Core S). Acted apply encode decode came (Some c) x.posted x.happened (Some (core_of me (going_on l u s)))) (sym (core-open group me l t i promised there))
-        (subst (λ (c : Core S). Acted apply encode decode came (Some (open_core me (view_of t) (kept_in l.kept.items) (traffic_of t) l.receiver)) x.posted x.happened (Some c))
+        subst (λ (c : Core S). Acted meaning came (Some c) x.posted x.happened (Some (core_of me (going_on l u s)))) (sym (core-open group me l t i promised there))
+        (subst (λ (c : Core S). Acted meaning came (Some (open_core me (view_of t) (kept_in l.kept.items) (traffic_of t) l.receiver)) x.posted x.happened (Some c))
         (ap (λ (v : View). open_core me v (kept_in l.kept.items) (traffic_of u) s) (sym same) ∙ sym (core-open group me (going_on l u s) u (life-kept group me l t u s i promised there same) promised refl))
         (x.acted (kept_in l.kept.items)));
   }
 
   -- nothing of it but what it puts out
   pub goes-same : (came : Option Posted) (group : List ℕ) (me : Address) (l : Life S) (t : Traffic) (out later : Output) → IsLife group me l → l.promise.is_installed ≡ true → l.traffic ≡ Some t
-      → Goes apply encode decode came me group (view_of t) (traffic_of t) l.receiver out (traffic_of t) l.receiver later → Did apply encode decode came group me l l out later
+      → Goes meaning came me group (view_of t) (traffic_of t) l.receiver out (traffic_of t) l.receiver later → Did meaning came group me l l out later
   goes-same came group me l t out later i promised there x =
-      subst (λ (o : Option Traffic). Did apply encode decode came group me l (record l { traffic = o }) out later) (sym there)
+      subst (λ (o : Option Traffic). Did meaning came group me l (record l { traffic = o }) out later) (sym there)
       (goes-did came group me l t t l.receiver out later i promised there refl x)

@@ -1,6 +1,7 @@
 -- Which packets of messages a member hears.
 use Rattle.std.specs.Prelude.{ℕ, ◌-◌, Bool, true, false, not, ◌&&◌, Option, None, Some, nat_lt}
 use Rattle.std.specs.Option.{option_map_or}
+use Rattle.limits.specs.declared.TheConstants.{WINDOW}
 use Rattle.address.specs.Ids.{Address, ViewId, same_address, same_view_id}
 use Rattle.view.specs.Members.{View, stands_in}
 use Rattle.packet_values.specs.Values.{Progress}
@@ -44,13 +45,13 @@ takes_nak source id l = takes_forward source id l
 abbrev pub takes_ack : {S : Type 0} → Address → ViewId → ℕ → Life S → Bool
 takes_ack source id count l = hears source id l && is_coordinator_that (λ m. not (nat_lt m.window.delivered count)) l.traffic
 
--- an ORDER: heard by another member from the coordinator, at most 32 past what was delivered there
+-- an ORDER: heard by another member from the coordinator, at most `WINDOW` past what was delivered there
 abbrev pub takes_order : {S : Type 0} → Address → ViewId → ℕ → Life S → Bool
-takes_order source id place l = hears source id l && is_other_that (λ m. same_address m.view.id.creator source && not (nat_lt m.window.delivered (place - 32))) l.traffic
+takes_order source id place l = hears source id l && is_other_that (λ m. same_address m.view.id.creator source && not (nat_lt m.window.delivered (place - WINDOW))) l.traffic
 
--- a STATUS: heard by another member from the coordinator, with a stable count of no more than was delivered there and a highest number at most 32 past it
+-- a STATUS: heard by another member from the coordinator, with a stable count of no more than was delivered there and a highest number at most `WINDOW` past it
 abbrev pub is_near : Progress → Other → Bool
-is_near a m = not (nat_lt m.window.delivered a.stable) && not (nat_lt m.window.delivered (a.highest - 32))
+is_near a m = not (nat_lt m.window.delivered a.stable) && not (nat_lt m.window.delivered (a.highest - WINDOW))
 
 abbrev pub takes_status : {S : Type 0} → Address → ViewId → Progress → Life S → Bool
 takes_status source id a l = hears source id l && is_other_that (λ m. same_address m.view.id.creator source && is_near a m) l.traffic

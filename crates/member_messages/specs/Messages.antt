@@ -1,12 +1,13 @@
 -- What a member does with the messages of its view.
-use Rattle.std.specs.Prelude.{◌≡◌, ℕ, ◌+◌, ◌-◌, ◌≤◌, ◌^◌, true, Bool, List, [], ◌∷◌, ◌++◌, map, length, Option, None, Some, nat_lt, ◌&&◌, MatchBool}
+use Rattle.std.specs.Prelude.{◌≡◌, ℕ, ◌+◌, ◌-◌, ◌≤◌, true, Bool, List, [], ◌∷◌, ◌++◌, map, length, Option, None, Some, nat_lt, ◌&&◌, MatchBool}
 use Rattle.std.specs.List.{list_all}
 use Rattle.address.specs.Ids.{Address, ViewId}
-use Rattle.packet_values.specs.declared.limits.TheConstants.{WINDOW}
+use Rattle.limits.specs.declared.TheConstants.{WINDOW, GREATEST_NUMBER}
 use Rattle.packet_values.specs.Values.{Entry, Missing, Progress}
 use Rattle.wire.specs.declared.packet.Body.TheVariants as bodies
-use Rattle.trace_props.specs.declared.happening.Happening.{Happening}
-use Rattle.trace_props.specs.declared.happening.Happening.TheVariants.{Sent}
+use Rattle.state_transfer.specs.Meanings.{Meaning}
+use Rattle.trace_props.specs.declared.event.Event.{Event}
+use Rattle.trace_props.specs.declared.event.Event.TheVariants.{Sent}
 use Rattle.agreement.specs.Acts.{packet, others_of, delivery}
 use Rattle.output.specs.declared.output.Output.{Output}
 use Rattle.output.specs.Outputs.{Grows}
@@ -47,17 +48,17 @@ AtOther Does old new = IsSameBeside old new × ByKind (λ m. ⊥) (λ m. ByKind 
 -- ---- packets of messages: ignored, or taken
 
 -- a FORWARD: its message waits, and all is ordered that may be
-abbrev pub OnForward : {S : Type 0} → (S → Address → List ℕ → S) → List ℕ → Address → Address → ViewId → ℕ → List ℕ → Life S → Life S → Output → Output → Type 0
-OnForward apply group me source id number payload old new out later =
+abbrev pub OnForward : {S : Type 0} → Meaning S → List ℕ → Address → Address → ViewId → ℕ → List ℕ → Life S → Life S → Output → Output → Type 0
+OnForward meaning group me source id number payload old new out later =
     MatchBool (takes_forward source id old)
-    (AtCoordinator (λ m n. Ordering apply me group (queued source number payload m) old.receiver out n new.receiver later) old new)
+    (AtCoordinator (λ m n. Ordering meaning me group (queued source number payload m) old.receiver out n new.receiver later) old new)
     (StaysAs old new out later)
 
 -- an ACK: it is noted, and all is ordered that may be
-abbrev pub OnAck : {S : Type 0} → (S → Address → List ℕ → S) → List ℕ → Address → Address → ViewId → ℕ → Life S → Life S → Output → Output → Type 0
-OnAck apply group me source id count old new out later =
+abbrev pub OnAck : {S : Type 0} → Meaning S → List ℕ → Address → Address → ViewId → ℕ → Life S → Life S → Output → Output → Type 0
+OnAck meaning group me source id count old new out later =
     MatchBool (takes_ack source id count old)
-    (AtCoordinator (λ m n. AcksOrdering apply me group source count m old.receiver out n new.receiver later) old new)
+    (AtCoordinator (λ m n. AcksOrdering meaning me group source count m old.receiver out n new.receiver later) old new)
     (StaysAs old new out later)
 
 -- a NAK: the ORDERs that it asks for go to its source
@@ -68,10 +69,10 @@ OnNak group me source id missing old new out later =
     (StaysAs old new out later)
 
 -- an ORDER: held, delivered in turn, and answered
-abbrev pub OnOrder : {S : Type 0} → (S → Address → List ℕ → S) → List ℕ → Address → Address → ViewId → ℕ → Entry → Life S → Life S → Output → Output → Type 0
-OnOrder apply group me source id place entry old new out later =
+abbrev pub OnOrder : {S : Type 0} → Meaning S → List ℕ → Address → Address → ViewId → ℕ → Entry → Life S → Life S → Output → Output → Type 0
+OnOrder meaning group me source id place entry old new out later =
     MatchBool (takes_order source id place old)
-    (AtOther (λ m n. TakesOrder apply me group place entry m old.receiver out n new.receiver later) old new)
+    (AtOther (λ m n. TakesOrder meaning me group place entry m old.receiver out n new.receiver later) old new)
     (StaysAs old new out later)
 
 -- a STATUS: what is stable is let go of, and what is missing asked for
@@ -84,18 +85,18 @@ OnStatus group me source id progress old new out later =
 -- ---- a message of its own
 
 -- the coordinator orders it where it may; another member puts out its FORWARD
-abbrev pub Sends : {S : Type 0} → (S → Address → List ℕ → S) → List ℕ → Address → List ℕ → Life S → Life S → Output → Output → Type 0
-Sends apply group me payload old new out later =
+abbrev pub Sends : {S : Type 0} → Meaning S → List ℕ → Address → List ℕ → Life S → Life S → Output → Output → Type 0
+Sends meaning group me payload old new out later =
     IsSameBeside old new × ByKind
-    (λ m. ByKind (λ n. SendsOrdering apply me group payload m old.receiver out n new.receiver later) (λ n. ⊥) ⊥ new.traffic)
+    (λ m. ByKind (λ n. SendsOrdering meaning me group payload m old.receiver out n new.receiver later) (λ n. ⊥) ⊥ new.traffic)
     (λ m. ByKind (λ n. ⊥) (λ n. (n ≡ other_pushing payload m) × (new.receiver ≡ old.receiver) × SendsForward me group payload m out later) ⊥ new.traffic)
     ⊥ old.traffic
 
 -- the first event is that it is sent, under the next number; what else happens no input asks for
 pub record SendsNext (me : Address) (v : ViewId) (sent : ℕ) (payload : List ℕ) (out later : Output) : Type 0 where
-  pub more : List Happening
-  pub grows : later.happenings.items ≡ out.happenings.items ++ Sent (sending me v (sent + 1) payload) ∷ more
-  pub few : length more ≤ 32
+  pub more : List Event
+  pub grows : later.events.items ≡ out.events.items ++ Sent (sending me v (sent + 1) payload) ∷ more
+  pub few : length more ≤ WINDOW
   pub quiet : list_all is_quiet more ≡ true
 
 abbrev pub SendsFirst : {S : Type 0} → Address → List ℕ → Life S → Output → Output → Type 0
@@ -104,14 +105,14 @@ SendsFirst me payload old out later =
 
 -- whether one more message may be ordered at the coordinator of the view
 abbrev pub has_room : Option Traffic → Bool
-has_room traffic = is_coordinator_that (λ m. nat_lt m.window.delivered (m.window.stable + WINDOW) && nat_lt m.window.delivered (2 ^ 62)) traffic
+has_room traffic = is_coordinator_that (λ m. nat_lt m.window.delivered (m.window.stable + WINDOW) && nat_lt m.window.delivered GREATEST_NUMBER) traffic
 
 -- right after it is sent it is delivered to the member itself
 pub record DeliversNext (me : Address) (v : ViewId) (sent : ℕ) (payload : List ℕ) (out later : Output) : Type 0 where
-  pub more : List Happening
-  pub grows : later.happenings.items
-      ≡ out.happenings.items ++ Sent (sending me v (sent + 1) payload) ∷ delivery me v (record { sender = me; number = sent + 1; payload = payload }) ∷ more
-  pub few : length more ≤ 31
+  pub more : List Event
+  pub grows : later.events.items
+      ≡ out.events.items ++ Sent (sending me v (sent + 1) payload) ∷ delivery me v (record { sender = me; number = sent + 1; payload = payload }) ∷ more
+  pub few : length more ≤ WINDOW - 1
   pub quiet : list_all is_quiet more ≡ true
 
 abbrev pub DeliversAtOnce : {S : Type 0} → Address → List ℕ → Life S → Output → Output → Type 0

@@ -1,8 +1,7 @@
 -- Why a message of the member's own is refused.
-use Rattle.std.specs.Prelude.{ℕ, ◌^◌, not, is_some, List, length, Option, None, Some, nat_lt, nat_le, if◌then◌else◌}
-use Rattle.packet_values.specs.declared.limits.TheConstants.{PAYLOAD}
+use Rattle.std.specs.Prelude.{ℕ, not, is_some, List, length, Option, None, Some, nat_lt, nat_le, if◌then◌else◌}
+use Rattle.limits.specs.declared.TheConstants.{PAYLOAD, OUTSTANDING, GREATEST_NUMBER}
 use Rattle.agreement.specs.Cores.{Core, is_frozen}
-use Rattle.sequencer.specs.declared.TheConstants.{OUTSTANDING}
 use Rattle.member_messages.specs.declared.refusal.SendRefusal.{SendRefusal}
 use Rattle.member_messages.specs.declared.refusal.SendRefusal.TheVariants.{NotConnected, TooLong, Blocked, Busy, Exhausted}
 
@@ -13,5 +12,5 @@ send_refusal c payload =
     else if nat_lt PAYLOAD (length payload) then Some TooLong
     else if is_frozen c.view c.installed then Some Blocked
     else if nat_le OUTSTANDING (length c.traffic.outstanding) then Some Busy
-    else if nat_le (2 ^ 62) c.traffic.sent then Some Exhausted
+    else if nat_le GREATEST_NUMBER c.traffic.sent then Some Exhausted
     else None

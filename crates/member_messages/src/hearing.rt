@@ -4,8 +4,8 @@ ghost use Rattle.std.specs.Prelude.{◌≡◌};
 ghost use Rattle.member_messages.specs.Hears.{hears, takes_forward, takes_ack, takes_order, takes_status, is_near};
 
 use address::{Address, ViewId};
+use limits::WINDOW;
 use membership::Life;
-use nak_stream::REACH;
 use packet_values::{Number, Progress};
 use state_transfer::Receiver;
 use traffic::{Other, Traffic};
@@ -48,7 +48,7 @@ pub fn takes_ack<R: Receiver>(life: &Life<R>, source: &Address, view: ViewId, co
     }
 }
 
-/// Whether an ORDER is taken: heard by another member from the coordinator, at most 32 past what was delivered there.
+/// Whether an ORDER is taken: heard by another member from the coordinator, at most `WINDOW` past what was delivered there.
 pub fn takes_order<R: Receiver>(
     life: &Life<R>,
     source: &Address,
@@ -63,21 +63,21 @@ pub fn takes_order<R: Receiver>(
         Some(Traffic::Other(other)) => {
             hears(life, source, view)
                 && other.view.first() == *source
-                && place.get().saturating_sub(REACH) <= other.window.delivered()
+                && place.get().saturating_sub(WINDOW) <= other.window.delivered()
         }
     }
 }
 
-// Whether a STATUS is of no more than was delivered here, and reaches at most 32 past it.
+// Whether a STATUS is of no more than was delivered here, and reaches at most `WINDOW` past it.
 fn is_near(other: &Other, progress: Progress) -> bool
     ensures { result ≡ is_near progress other.now }
 {
     let delivered = other.window.delivered();
     progress.stable().get() <= delivered
-        && progress.highest().get().saturating_sub(REACH) <= delivered
+        && progress.highest().get().saturating_sub(WINDOW) <= delivered
 }
 
-/// Whether a STATUS is taken: heard by another member from the coordinator, of no more than was delivered there, and at most 32 past it.
+/// Whether a STATUS is taken: heard by another member from the coordinator, of no more than was delivered there, and at most `WINDOW` past it.
 pub fn takes_status<R: Receiver>(
     life: &Life<R>,
     source: &Address,

@@ -1,6 +1,7 @@
 //! The packets of messages that the coordinator of a view takes.
 
 ghost use Rattle.std.specs.Prelude.{◌≡◌, Option, Some, false, Ok, OnOk};
+ghost use Rattle.limits.specs.declared.TheConstants.{WINDOW};
 ghost use Rattle.address.specs.Ids.{same_address};
 ghost use Rattle.wire.specs.declared.packet.Body.TheVariants as bodies;
 ghost use Rattle.agreement.specs.Acts.{packet};
@@ -20,7 +21,7 @@ use state_transfer::Receiver;
 use std::alloc::AllocError;
 use traffic::Traffic;
 
-/// A FORWARD: where it is taken, its message waits where it is new and at most 8 past its source's ordered ones, and all is ordered that may be. Any
+/// A FORWARD: where it is taken, its message waits where it is new and at most `OUTSTANDING` past its source's ordered ones, and all is ordered that may be. Any
 /// other is ignored, and takes no memory. After an error for want of memory nothing is said of the member.
 pub fn on_forward<R: Receiver>(
     life: &mut Life<R>,
@@ -36,9 +37,9 @@ pub fn on_forward<R: Receiver>(
     requires other { same_address source.now who.now.address ≡ false }
     ensures life { OnOk result (IsLife who.now.group who.now.address life.new) }
     ensures ordered { OnOk result (IsOrdered who.now.address life.new) }
-    ensures does { OnOk result (OnForward R.apply who.now.group who.now.address source.now view number payload.now life.old life.new out.old out.new) }
-    ensures did { OnOk result (Did R.apply R.encode R.decode (Some (packet source.now (bodies.Forward view number payload.now) who.now.address)) who.now.group who.now.address life.old life.new out.old out.new) }
-    ensures calm { OnOk result (IsCalm 32 out.old out.new) }
+    ensures does { OnOk result (OnForward R.meaning who.now.group who.now.address source.now view number payload.now life.old life.new out.old out.new) }
+    ensures did { OnOk result (Did R.meaning (Some (packet source.now (bodies.Forward view number payload.now) who.now.address)) who.now.group who.now.address life.old life.new out.old out.new) }
+    ensures calm { OnOk result (IsCalm WINDOW out.old out.new) }
     ensures ignored { takes_forward source.now view life.old ≡ false → (result ≡ Ok tt) × StaysAs life.old life.new out.old out.new }
 {
     if !takes_forward(life, source, view) {
@@ -69,9 +70,9 @@ pub fn on_ack<R: Receiver>(
     requires other { same_address source.now who.now.address ≡ false }
     ensures life { OnOk result (IsLife who.now.group who.now.address life.new) }
     ensures ordered { OnOk result (IsOrdered who.now.address life.new) }
-    ensures does { OnOk result (OnAck R.apply who.now.group who.now.address source.now view delivered life.old life.new out.old out.new) }
-    ensures did { OnOk result (Did R.apply R.encode R.decode (Some (packet source.now (bodies.Ack view delivered) who.now.address)) who.now.group who.now.address life.old life.new out.old out.new) }
-    ensures calm { OnOk result (IsCalm 32 out.old out.new) }
+    ensures does { OnOk result (OnAck R.meaning who.now.group who.now.address source.now view delivered life.old life.new out.old out.new) }
+    ensures did { OnOk result (Did R.meaning (Some (packet source.now (bodies.Ack view delivered) who.now.address)) who.now.group who.now.address life.old life.new out.old out.new) }
+    ensures calm { OnOk result (IsCalm WINDOW out.old out.new) }
     ensures ignored { takes_ack source.now view delivered life.old ≡ false → (result ≡ Ok tt) × StaysAs life.old life.new out.old out.new }
 {
     let count = delivered.get();
@@ -104,8 +105,8 @@ pub fn on_nak<R: Receiver>(
     ensures life { OnOk result (IsLife who.now.group who.now.address life.new) }
     ensures ordered { OnOk result (IsOrdered who.now.address life.new) }
     ensures does { OnOk result (OnNak who.now.group who.now.address source.now view missing life.old life.new out.old out.new) }
-    ensures did { OnOk result (Did R.apply R.encode R.decode (Some (packet source.now (bodies.Nak view missing) who.now.address)) who.now.group who.now.address life.old life.new out.old out.new) }
-    ensures calm { OnOk result (IsCalm 32 out.old out.new) }
+    ensures did { OnOk result (Did R.meaning (Some (packet source.now (bodies.Nak view missing) who.now.address)) who.now.group who.now.address life.old life.new out.old out.new) }
+    ensures calm { OnOk result (IsCalm WINDOW out.old out.new) }
     ensures ignored { takes_nak source.now view life.old ≡ false → (result ≡ Ok tt) × StaysAs life.old life.new out.old out.new }
 {
     if !takes_forward(life, source, view) {

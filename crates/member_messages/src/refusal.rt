@@ -6,10 +6,9 @@ ghost use Rattle.membership.specs.Lives.{core_of};
 ghost use Rattle.traffic.specs.Traffics.{traffic_of};
 ghost use Rattle.member_messages.specs.Refusals.{send_refusal};
 
-use address::GREATEST_NUMBER;
+use limits::{GREATEST_NUMBER, OUTSTANDING, PAYLOAD};
 use membership::Life;
-use packet_values::PAYLOAD;
-use sequencer::{Forwards, OUTSTANDING};
+use sequencer::Forwards;
 use state_transfer::Receiver;
 use traffic::Traffic;
 
@@ -18,11 +17,11 @@ use traffic::Traffic;
 pub enum SendRefusal {
     /// It has no view.
     NotConnected,
-    /// The payload has more than 512 bytes.
+    /// The payload has more than `PAYLOAD` bytes.
     TooLong,
     /// It is blocked until its next view.
     Blocked,
-    /// Eight of its messages are outstanding.
+    /// `OUTSTANDING` of its messages are outstanding.
     Busy,
     /// The numbers of its messages in this view are used up.
     Exhausted,
@@ -39,7 +38,7 @@ fn forwards(traffic: &Traffic) -> &Forwards
     }
 }
 
-/// Why a payload is not sent, if it is not: the first that applies of having no view, a payload that is too long, being blocked, eight messages that are
+/// Why a payload is not sent, if it is not: the first that applies of having no view, a payload that is too long, being blocked, `OUTSTANDING` messages that are
 /// outstanding, and numbers that are used up.
 pub fn send_refusal<R: Receiver>(life: &Life<R>, payload: &[u8]) -> Option<SendRefusal>
     ensures { (me : Address) → result ≡ send_refusal (core_of me life.now) payload.now }

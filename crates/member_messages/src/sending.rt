@@ -28,8 +28,8 @@ pub fn send<R: Receiver>(
     requires free { send_refusal (core_of who.now.address life.old) payload.now ≡ None }
     ensures life { OnOk result (IsLife who.now.group who.now.address life.new) }
     ensures ordered { OnOk result (IsOrdered who.now.address life.new) }
-    ensures does { OnOk result (Sends R.apply who.now.group who.now.address payload.now life.old life.new out.old out.new) }
-    ensures did { OnOk result ((came : Option Posted) → Did R.apply R.encode R.decode came who.now.group who.now.address life.old life.new out.old out.new) }
+    ensures does { OnOk result (Sends R.meaning who.now.group who.now.address payload.now life.old life.new out.old out.new) }
+    ensures did { OnOk result ((came : Option Posted) → Did R.meaning came who.now.group who.now.address life.old life.new out.old out.new) }
     ensures calm { OnOk result (SendsFirst who.now.address payload.now life.old out.old out.new) }
     ensures prompt { OnOk result (has_room life.old.traffic ≡ true → DeliversAtOnce who.now.address payload.now life.old out.old out.new) }
 {

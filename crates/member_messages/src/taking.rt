@@ -1,6 +1,7 @@
 //! The packets of messages that another member than the coordinator takes.
 
 ghost use Rattle.std.specs.Prelude.{◌≡◌, Option, Some, false, Ok, OnOk};
+ghost use Rattle.limits.specs.declared.TheConstants.{WINDOW};
 ghost use Rattle.address.specs.Ids.{same_address};
 ghost use Rattle.wire.specs.declared.packet.Body.TheVariants as bodies;
 ghost use Rattle.agreement.specs.Acts.{packet};
@@ -20,7 +21,7 @@ use state_transfer::Receiver;
 use std::alloc::AllocError;
 use traffic::Traffic;
 
-/// An ORDER: where it is taken, what lies 32 below it is stable, it is held where it is new, what is held in turn is delivered, and it is answered by an
+/// An ORDER: where it is taken, what lies `WINDOW` below it is stable, it is held where it is new, what is held in turn is delivered, and it is answered by an
 /// ACK or a NAK, or not at all. Any other is ignored, and takes no memory. After an error for want of memory nothing is said of the member.
 pub fn on_order<R: Receiver>(
     life: &mut Life<R>,
@@ -36,9 +37,9 @@ pub fn on_order<R: Receiver>(
     requires other { same_address source.now who.now.address ≡ false }
     ensures life { OnOk result (IsLife who.now.group who.now.address life.new) }
     ensures ordered { OnOk result (IsOrdered who.now.address life.new) }
-    ensures does { OnOk result (OnOrder R.apply who.now.group who.now.address source.now view place entry.now life.old life.new out.old out.new) }
-    ensures did { OnOk result (Did R.apply R.encode R.decode (Some (packet source.now (bodies.Order view place entry.now) who.now.address)) who.now.group who.now.address life.old life.new out.old out.new) }
-    ensures calm { OnOk result (IsCalm 32 out.old out.new) }
+    ensures does { OnOk result (OnOrder R.meaning who.now.group who.now.address source.now view place entry.now life.old life.new out.old out.new) }
+    ensures did { OnOk result (Did R.meaning (Some (packet source.now (bodies.Order view place entry.now) who.now.address)) who.now.group who.now.address life.old life.new out.old out.new) }
+    ensures calm { OnOk result (IsCalm WINDOW out.old out.new) }
     ensures ignored { takes_order source.now view place life.old ≡ false → (result ≡ Ok tt) × StaysAs life.old life.new out.old out.new }
 {
     if !takes_order(life, source, view, place) {
@@ -70,8 +71,8 @@ pub fn on_status<R: Receiver>(
     ensures life { OnOk result (IsLife who.now.group who.now.address life.new) }
     ensures ordered { OnOk result (IsOrdered who.now.address life.new) }
     ensures does { OnOk result (OnStatus who.now.group who.now.address source.now view progress life.old life.new out.old out.new) }
-    ensures did { OnOk result (Did R.apply R.encode R.decode (Some (packet source.now (bodies.Status view progress) who.now.address)) who.now.group who.now.address life.old life.new out.old out.new) }
-    ensures calm { OnOk result (IsCalm 32 out.old out.new) }
+    ensures did { OnOk result (Did R.meaning (Some (packet source.now (bodies.Status view progress) who.now.address)) who.now.group who.now.address life.old life.new out.old out.new) }
+    ensures calm { OnOk result (IsCalm WINDOW out.old out.new) }
     ensures ignored { takes_status source.now view progress life.old ≡ false → (result ≡ Ok tt) × StaysAs life.old life.new out.old out.new }
 {
     if !takes_status(life, source, view, progress) {

@@ -25,7 +25,7 @@ pub fn tick_in_view<R: Receiver>(
     requires ordered { IsOrdered who.now.address life.now }
     requires installed { life.now.promise.is_installed ≡ true }
     ensures does { OnOk result (TicksInView who.now.group who.now.address life.now out.old out.new) }
-    ensures did { OnOk result ((came : Option Posted) → Did R.apply R.encode R.decode came who.now.group who.now.address life.now life.now out.old out.new) }
+    ensures did { OnOk result ((came : Option Posted) → Did R.meaning came who.now.group who.now.address life.now life.now out.old out.new) }
     ensures calm { OnOk result (IsCalm 0 out.old out.new) }
 {
     let Some(traffic) = &life.traffic else {

@@ -11,8 +11,9 @@ use Rattle.view.specs.Members.{View, stands_in}
 use Rattle.wire.specs.Values as wire
 use Rattle.wire.specs.declared.packet.Body.{Body}
 use Rattle.wire.specs.declared.packet.Body.TheVariants as bodies
+use Rattle.state_transfer.specs.Meanings.{Meaning}
 use Rattle.flush.specs.Flushes.{FlushModel, has_reported}
-use Rattle.trace_props.specs.declared.happening.Happening.TheVariants.{Installed, Left}
+use Rattle.trace_props.specs.declared.event.Event.TheVariants.{Installed, Left}
 use Rattle.trace_props.proofs.Observing.{same_address-true, same_address-refl}
 use Rattle.agreement.specs.Histories.{Posted}
 use Rattle.agreement.specs.Cores.{Core}
@@ -75,23 +76,23 @@ none-kept : {X : Type 0} (view : Option View) (at : X → View) (given : List X)
 none-kept view at [] e all = refl
 none-kept view at (p ∷ given) e all = absurd (none-some (at p) (sym e ∙ all.0))
 
-module _ {S : Type 0} (apply : S → Address → List ℕ → S) (encode : S → List ℕ) (decode : List ℕ → Option S) (group : List ℕ) (me : Address) where
+module _ {S : Type 0} (meaning : Meaning S) (group : List ℕ) (me : Address) where
   abbrev pub DidThis : Option Posted → Life S → Life S → Output → Output → Type 0
-  DidThis came old new out later = Did apply encode decode came group me old new out later
+  DidThis came old new out later = Did meaning came group me old new out later
 
   abbrev PutsOut : Option Posted → Life S → List Posted → Type 0
-  PutsOut came l ps = Acted apply encode decode came (Some (core_of me l)) ps [] (Some (core_of me l))
+  PutsOut came l ps = Acted meaning came (Some (core_of me l)) ps [] (Some (core_of me l))
 
   -- ---- it only puts out
 
   put-acted : (came : Option Posted) (l : Life S) (q : Address) (body : Body) → Describes (core_of me l) q body → PutsOut came l (packet me body q ∷ [])
-  put-acted came l q body says = one-acted apply encode decode came (core_of me l) (Puts q body) says
+  put-acted came l q body says = one-acted meaning came (core_of me l) (Puts q body) says
 
   -- one packet to each of a list
   puts-all-acted : (came : Option Posted) (l : Life S) (body : Body) (list : List Address) → AllByRecursion (λ q. Describes (core_of me l) q body) list → PutsOut came l (map (packet me body) list)
-  puts-all-acted came l body [] says = nothing-acted apply encode decode came (Some (core_of me l))
+  puts-all-acted came l body [] says = nothing-acted meaning came (Some (core_of me l))
   puts-all-acted came l body (q ∷ list) says =
-      then-acted apply encode decode came (Some (core_of me l)) (Some (core_of me l)) (Some (core_of me l)) (packet me body q ∷ []) (map (packet me body) list) [] []
+      then-acted meaning came (Some (core_of me l)) (Some (core_of me l)) (Some (core_of me l)) (packet me body q ∷ []) (map (packet me body) list) [] []
       (put-acted came l q body says.0) (puts-all-acted came l body list says.1)
 
   puts-did : (came : Option Posted) (old new : Life S) (ps : List Posted) (out later : Output) → new ≡ old → Grows group out later ps [] → PutsOut came old ps → DidThis came old new out later
@@ -99,7 +100,7 @@ module _ {S : Type 0} (apply : S → Address → List ℕ → S) (encode : S →
       subst (λ (z : Life S). DidThis came old z out later) (sym is) (record { posted = ps; happened = []; grows = grows; acted = acted })
 
   stays : (came : Option Posted) (old new : Life S) (out later : Output) → StaysAs old new out later → DidThis came old new out later
-  stays came old new out later x = stays-did apply encode decode came group me old new out later x.0 x.1
+  stays came old new out later x = stays-did meaning came group me old new out later x.0 x.1
 
   -- ---- it makes a group
 
@@ -128,8 +129,8 @@ module _ {S : Type 0} (apply : S → Address → List ℕ → S) (encode : S →
         posted = [];
         happened = _;
         grows = z.grows;
-        acted = subst (λ (k : Core S). Acted apply encode decode came (Some c) [] (Installed (lone_install me) ∷ []) (Some k)) (sym core)
-            (one-acted apply encode decode came c MakesFirst (record { unconnected = off; unpromised = none; outside = refl }));
+        acted = subst (λ (k : Core S). Acted meaning came (Some c) [] (Installed (lone_install me) ∷ []) (Some k)) (sym core)
+            (one-acted meaning came c MakesFirst (record { unconnected = off; unpromised = none; outside = refl }));
       }
 
   pub create-did : (came : Option Posted) (old new : Life S) (out later : Output) → IsLife group me old → is_connected old ≡ false → Creates group me old new out later → DidThis came old new out later
@@ -153,9 +154,9 @@ module _ {S : Type 0} (apply : S → Address → List ℕ → S) (encode : S →
         posted = _;
         happened = [];
         grows = z.grows;
-        acted = subst (λ (k : Core S). Acted apply encode decode came (Some c) (packet me bodies.Join contact ∷ []) [] (Some k)) (sym core)
-            (then-acted apply encode decode came (Some c) (Some d) (Some d) [] (packet me bodies.Join contact ∷ []) [] []
-            (one-acted apply encode decode came c Joins refl) (one-acted apply encode decode came d (Puts contact bodies.Join) tt));
+        acted = subst (λ (k : Core S). Acted meaning came (Some c) (packet me bodies.Join contact ∷ []) [] (Some k)) (sym core)
+            (then-acted meaning came (Some c) (Some d) (Some d) [] (packet me bodies.Join contact ∷ []) [] []
+            (one-acted meaning came c Joins refl) (one-acted meaning came d (Puts contact bodies.Join) tt));
       }
 
   pub ask-did : (came : Option Posted) (contact : Address) (old new : Life S) (out later : Output) → IsLife group me old → old.traffic ≡ None → Asks group me contact old new out later
@@ -167,14 +168,14 @@ module _ {S : Type 0} (apply : S → Address → List ℕ → S) (encode : S →
   -- ---- it tells of its view, and whom to ask
 
   redirect-acted : (came : Option Posted) (o : Option Address) (q : Address) (l : Life S) → PutsOut came l (option_map_or (λ p. packet me (bodies.Redirect p) q ∷ []) o [])
-  redirect-acted came None q l = nothing-acted apply encode decode came (Some (core_of me l))
+  redirect-acted came None q l = nothing-acted meaning came (Some (core_of me l))
   redirect-acted came (Some p) q l = put-acted came l q (bodies.Redirect p) tt
 
   redirects : (came : Option Posted) (q : Address) (old new : Life S) (out later : Output) → Redirects group me q old new out later → DidThis came old new out later
   redirects came q old new out later x = puts-did came old new _ out later x.life x.grows (redirect-acted came (first_in old) q old)
 
   merge-acted : (came : Option Posted) (o : Option View) (q : Address) (l : Life S) → PutsOut came l (option_map_or (λ v. packet me (bodies.Merge v) q ∷ []) o [])
-  merge-acted came None q l = nothing-acted apply encode decode came (Some (core_of me l))
+  merge-acted came None q l = nothing-acted meaning came (Some (core_of me l))
   merge-acted came (Some v) q l = put-acted came l q (bodies.Merge v) tt
 
   pub hint-did : (came : Option Posted) (p : Address) (old new : Life S) (out later : Output) → IsLife group me old → TellsView group me p old new out later → DidThis came old new out later
@@ -184,21 +185,21 @@ module _ {S : Type 0} (apply : S → Address → List ℕ → S) (encode : S →
 
   -- it notes, and what is due then is begun
   noted-regroups : (came : Option Posted) (old noted new : Life S) (out later : Output) → noted ≡ record old { notes = noted.notes } → IsLife group me noted
-      → Regroups apply encode group me noted new out later → DidThis came old new out later
+      → Regroups meaning group me noted new out later → DidThis came old new out later
   noted-regroups came old noted new out later is kept x =
-      did-then apply encode decode came group me old noted new out out later (noted-did apply encode decode came group me old noted noted.notes out is)
-      (changes.regroups-did apply encode decode group me came noted new out later kept x)
+      did-then meaning came group me old noted new out out later (noted-did meaning came group me old noted noted.notes out is)
+      (changes.regroups-did meaning group me came noted new out later kept x)
 
-  admits : (came : Option Posted) (q : Address) (l new : Life S) (out later : Output) → IsLife group me l → Admits apply encode group me q l new out later → DidThis came l new out later
+  admits : (came : Option Posted) (q : Address) (l new : Life S) (out later : Output) → IsLife group me l → Admits meaning group me q l new out later → DidThis came l new out later
   admits came q l new out later kept x =
-      match-bool (leads_now me l) (Regroups apply encode group me (joined me q l) new out later) (Redirects group me q l new out later) x
+      match-bool (leads_now me l) (Regroups meaning group me (joined me q l) new out later) (Redirects group me q l new out later) x
       (λ leads r. noted-regroups came l (joined me q l) new out later refl (joined-life group me q l (joined me q l) kept refl) r)
       (λ other r. redirects came q l new out later r)
 
-  pub join-did : (came : Option Posted) (q : Address) (old new : Life S) (out later : Output) → IsLife group me old → OnJoin apply encode group me q old new out later → DidThis came old new out later
+  pub join-did : (came : Option Posted) (q : Address) (old new : Life S) (out later : Output) → IsLife group me old → OnJoin meaning group me q old new out later → DidThis came old new out later
   join-did came q old new out later kept x =
-      match-bool (is_some old.traffic) (Admits apply encode group me q (outdated me q old) new out later) (StaysAs old new out later) x
-      (λ in-view a. did-then apply encode decode came group me old (outdated me q old) new out out later (noted-did apply encode decode came group me old (outdated me q old) (outdated me q old).notes out refl)
+      match-bool (is_some old.traffic) (Admits meaning group me q (outdated me q old) new out later) (StaysAs old new out later) x
+      (λ in-view a. did-then meaning came group me old (outdated me q old) new out out later (noted-did meaning came group me old (outdated me q old) (outdated me q old).notes out refl)
       (admits came q (outdated me q old) new out later (outdated-life group me q old (outdated me q old) kept refl) a))
       (λ none s. stays came old new out later s)
 
@@ -214,30 +215,30 @@ module _ {S : Type 0} (apply : S → Address → List ℕ → S) (encode : S →
       match-bool (same_address c me) (StaysAs old new out later) (MatchBool (is_some old.traffic) (TellsView group me c old new out later) (Asks group me c old new out later)) x
       (λ own s. stays came old new out later s) (λ other y. redirected came c old new out later kept y)
 
-  meets : (came : Option Posted) (q : Address) (u : View) (old new : Life S) (out later : Output) → IsLife group me old → Meets apply encode group me q u old new out later → DidThis came old new out later
+  meets : (came : Option Posted) (q : Address) (u : View) (old new : Life S) (out later : Output) → IsLife group me old → Meets meaning group me q u old new out later → DidThis came old new out later
   meets came q u old new out later kept x =
-      match-bool (is_less q me) (TellsView group me q old new out later) (Regroups apply encode group me (merged me u old) new out later) x
+      match-bool (is_less q me) (TellsView group me q old new out later) (Regroups meaning group me (merged me u old) new out later) x
       (λ less t. hint-did came q old new out later kept t)
       (λ greater r. noted-regroups came old (merged me u old) new out later refl (merged-life group me u old (merged me u old) kept refl) r)
 
   found : (came : Option Posted) (q : Address) (u : View) (old new : Life S) (out later : Output) → IsLife group me old
-      → MatchBool (leads_now me old) (Meets apply encode group me q u old new out later) (Redirects group me q old new out later) → DidThis came old new out later
+      → MatchBool (leads_now me old) (Meets meaning group me q u old new out later) (Redirects group me q old new out later) → DidThis came old new out later
   found came q u old new out later kept x =
-      match-bool (leads_now me old) (Meets apply encode group me q u old new out later) (Redirects group me q old new out later) x
+      match-bool (leads_now me old) (Meets meaning group me q u old new out later) (Redirects group me q old new out later) x
       (λ leads m. meets came q u old new out later kept m) (λ other r. redirects came q old new out later r)
 
-  pub merge-did : (came : Option Posted) (q : Address) (u : View) (old new : Life S) (out later : Output) → IsLife group me old → OnMerge apply encode group me q u old new out later → DidThis came old new out later
+  pub merge-did : (came : Option Posted) (q : Address) (u : View) (old new : Life S) (out later : Output) → IsLife group me old → OnMerge meaning group me q u old new out later → DidThis came old new out later
   merge-did came q u old new out later kept x =
-      match-bool (is_some old.traffic && not (has_member q old)) (MatchBool (leads_now me old) (Meets apply encode group me q u old new out later) (Redirects group me q old new out later)) (StaysAs old new out later) x
+      match-bool (is_some old.traffic && not (has_member q old)) (MatchBool (leads_now me old) (Meets meaning group me q u old new out later) (Redirects group me q old new out later)) (StaysAs old new out later) x
       (λ strange y. found came q u old new out later kept y) (λ known s. stays came old new out later s)
 
   -- ---- suspicions, and LEAVE
 
-  pub suspect-did : (came : Option Posted) (p : Address) (old new : Life S) (out later : Output) → IsLife group me old → OnSuspect apply encode group me p old new out later → DidThis came old new out later
+  pub suspect-did : (came : Option Posted) (p : Address) (old new : Life S) (out later : Output) → IsLife group me old → OnSuspect meaning group me p old new out later → DidThis came old new out later
   suspect-did came p old new out later kept x =
-      match-bool (is_suspectable me p old) (TakesSuspicion apply encode group me p old new out later) (StaysAs old new out later) x
+      match-bool (is_suspectable me p old) (TakesSuspicion meaning group me p old new out later) (StaysAs old new out later) x
       (λ may t. let other = (and_parts (is_some old.traffic) (not (same_address p me)) (and_parts (is_some old.traffic && not (same_address p me)) (has_member p old || has_promised p old) may).0).1 in
-      changes.takes-suspicion-did apply encode decode group me came old new p out later kept t (not-true (same_address p me) other))
+      changes.takes-suspicion-did meaning group me came old new p out later kept t (not-true (same_address p me) other))
       (λ none s. stays came old new out later s)
 
   -- ---- FLUSH, BEHIND, REPORT
@@ -246,20 +247,20 @@ module _ {S : Type 0} (apply : S → Address → List ℕ → S) (encode : S →
       → OnFlush group me q w old new out later → DidThis came old new out later
   flush-did came q w old new out later kept on asked x =
       match-bool (same_address w.id.creator q) (TakesFlush group me w old new out later) (StaysAs old new out later) x
-      (λ own t. changes.takes-flush-did apply encode decode group me came old new w out later kept t
+      (λ own t. changes.takes-flush-did meaning group me came old new w out later kept t
       (asked ∙ ap (λ (p : Address). Some (packet p (bodies.Flush w) me)) (sym (same_address-true w.id.creator q own))) on)
       (λ other s. stays came old new out later s)
 
-  pub behind-did : (came : Option Posted) (w : ViewId) (counter : ℕ) (old new : Life S) (out later : Output) → IsLife group me old → OnBehind apply encode group me w counter old new out later
+  pub behind-did : (came : Option Posted) (w : ViewId) (counter : ℕ) (old new : Life S) (out later : Output) → IsLife group me old → OnBehind meaning group me w counter old new out later
       → DidThis came old new out later
   behind-did came w counter old new out later kept x =
-      match-bool (is_proposing w old) (TakesBehind apply encode group me counter old new out later) (StaysAs old new out later) x
-      (λ own t. changes.takes-behind-did apply encode decode group me came old new counter out later kept t)
+      match-bool (is_proposing w old) (TakesBehind meaning group me counter old new out later) (StaysAs old new out later) x
+      (λ own t. changes.takes-behind-did meaning group me came old new counter out later kept t)
       (λ other s. stays came old new out later s)
 
   says-again : (came : Option Posted) (q : Address) (old new : Life S) (out later : Output) → IsLife group me old → SaysAgain q old new out later → DidThis came old new out later
   says-again came q old new out later kept x =
-      subst (λ (z : Life S). DidThis came old z out later) (sym x.life) (changes.installs-again-did apply encode decode group me came q old out later kept x.again)
+      subst (λ (z : Life S). DidThis came old z out later) (sym x.life) (changes.installs-again-did meaning group me came q old out later kept x.again)
 
   unexpected : (came : Option Posted) (q : Address) (w : ViewId) (old new : Life S) (out later : Output) → IsLife group me old
       → MatchBool (is_in w old) (SaysAgain q old new out later) (StaysAs old new out later) → DidThis came old new out later
@@ -268,10 +269,10 @@ module _ {S : Type 0} (apply : S → Address → List ℕ → S) (encode : S →
       (λ here a. says-again came q old new out later kept a) (λ other s. stays came old new out later s)
 
   pub report-did : (came : Option Posted) (q : Address) (w : ViewId) (r : wire.Report) (old new : Life S) (out later : Output) → IsLife group me old → came ≡ Some (packet q (bodies.Report w r) me)
-      → OnReport apply encode group me q w r old new out later → DidThis came old new out later
+      → OnReport meaning group me q w r old new out later → DidThis came old new out later
   report-did came q w r old new out later kept told x =
-      match-bool (expects q w old) (TakesReport apply encode group me q w r old new out later) (MatchBool (is_in w old) (SaysAgain q old new out later) (StaysAs old new out later)) x
-      (λ awaited t. changes.takes-report-did apply encode decode group me came old new q w r out later kept t told)
+      match-bool (expects q w old) (TakesReport meaning group me q w r old new out later) (MatchBool (is_in w old) (SaysAgain q old new out later) (StaysAs old new out later)) x
+      (λ awaited t. changes.takes-report-did meaning group me came old new q w r out later kept t told)
       (λ other y. unexpected came q w old new out later kept y)
 
   -- ---- time passes
@@ -279,7 +280,7 @@ module _ {S : Type 0} (apply : S → Address → List ℕ → S) (encode : S →
   -- its report for what another proposed
   reports-acted : (came : Option Posted) (proposal : Option View) (l : Life S) → IsLife group me l → l.promise.proposal ≡ proposal → l.flush ≡ None → (IsSome proposal → l.promise.is_installed ≡ false)
       → PutsOut came l (option_map_or (λ w. packet me (bodies.Report w.id (report_in l)) w.id.creator ∷ []) proposal [])
-  reports-acted came None l kept is none waits = nothing-acted apply encode decode came (Some (core_of me l))
+  reports-acted came None l kept is none waits = nothing-acted meaning came (Some (core_of me l))
   reports-acted came (Some w) l kept is none waits =
       put-acted came l w.id.creator (bodies.Report w.id (report_in l)) (w, is, waits refl, refl, kept.waiting (waits refl) none w is, refl, refl)
 
@@ -289,9 +290,9 @@ module _ {S : Type 0} (apply : S → Address → List ℕ → S) (encode : S →
   waiting-by false l kept none some e = refl
 
   asks-acted : (came : Option Posted) (contact : Option Address) (l : Life S) (ps : List Posted) → PutsOut came l ps → PutsOut came l (option_map_or (λ c. packet me bodies.Join c ∷ ps) contact [])
-  asks-acted came None l ps acted = nothing-acted apply encode decode came (Some (core_of me l))
+  asks-acted came None l ps acted = nothing-acted meaning came (Some (core_of me l))
   asks-acted came (Some c) l ps acted =
-      then-acted apply encode decode came (Some (core_of me l)) (Some (core_of me l)) (Some (core_of me l)) (packet me bodies.Join c ∷ []) ps [] [] (put-acted came l c bodies.Join tt) acted
+      then-acted meaning came (Some (core_of me l)) (Some (core_of me l)) (Some (core_of me l)) (packet me bodies.Join c ∷ []) ps [] [] (put-acted came l c bodies.Join tt) acted
 
   pub ask-again-did : (came : Option Posted) (old : Life S) (out later : Output) → IsLife group me old → old.traffic ≡ None → Grows group out later (asks_again me old) [] → DidThis came old old out later
   ask-again-did came old out later kept none grows =
@@ -316,18 +317,18 @@ module _ {S : Type 0} (apply : S → Address → List ℕ → S) (encode : S →
 
   -- ---- it leaves
 
-  leaves-acted : (came : Option Posted) (l : Life S) → Acted apply encode decode came (Some (core_of me l)) [] (Left me ∷ []) None
-  leaves-acted came l = one-acted apply encode decode came (core_of me l) Goes tt
+  leaves-acted : (came : Option Posted) (l : Life S) → Acted meaning came (Some (core_of me l)) [] (Left me ∷ []) None
+  leaves-acted came l = one-acted meaning came (core_of me l) Goes tt
 
   leaving-acted : (came : Option Posted) (view : Option View) (l : Life S)
-      → Acted apply encode decode came (Some (core_of me l)) (option_map_or (λ v. map (packet me bodies.Leave) (others_of me v.members)) view []) (Left me ∷ []) None
+      → Acted meaning came (Some (core_of me l)) (option_map_or (λ v. map (packet me bodies.Leave) (others_of me v.members)) view []) (Left me ∷ []) None
   leaving-acted came None l = leaves-acted came l
   leaving-acted came (Some v) l =
       let list = others_of me v.members in
       let ps = map (packet me bodies.Leave) list in
-      subst (λ (qs : List Posted). Acted apply encode decode came (Some (core_of me l)) qs (Left me ∷ []) None) (append-nil ps)
-      (then-acted apply encode decode came (Some (core_of me l)) (Some (core_of me l)) None ps [] [] (Left me ∷ [])
+      subst (λ (qs : List Posted). Acted meaning came (Some (core_of me l)) qs (Left me ∷ []) None) (append-nil ps)
+      (then-acted meaning came (Some (core_of me l)) (Some (core_of me l)) None ps [] [] (Left me ∷ [])
       (puts-all-acted came l bodies.Leave list (all-each (λ q. Describes (core_of me l) q bodies.Leave) list (λ q. tt))) (leaves-acted came l))
 
-  pub leave-acted : (came : Option Posted) (old : Life S) (out later : Output) → Leaves group me old out later → HasLeft apply encode decode came group me old out later
+  pub leave-acted : (came : Option Posted) (old : Life S) (out later : Output) → Leaves group me old out later → HasLeft meaning came group me old out later
   leave-acted came old out later x = record { posted = _; grows = x.grows; acted = leaving-acted came (view_in old.traffic) old }

@@ -1,7 +1,8 @@
 -- What a member does when it leaves.
 use Rattle.std.specs.Prelude.{ℕ, List, [], ◌∷◌, Option, Some, None}
 use Rattle.address.specs.Ids.{Address}
-use Rattle.trace_props.specs.declared.happening.Happening.TheVariants.{Left}
+use Rattle.state_transfer.specs.Meanings.{Meaning}
+use Rattle.trace_props.specs.declared.event.Event.TheVariants.{Left}
 use Rattle.agreement.specs.Histories.{Posted}
 use Rattle.agreement.specs.Chains.{Acted}
 use Rattle.output.specs.declared.output.Output.{Output}
@@ -10,8 +11,7 @@ use Rattle.membership.specs.declared.life.Life.{Life}
 use Rattle.membership.specs.Lives.{core_of}
 
 -- on a packet that came, or on none, it left by acts alone, and what they put out is what grew
-pub record HasLeft {S : Type 0} (apply : S → Address → List ℕ → S) (encode : S → List ℕ) (decode : List ℕ → Option S) (came : Option Posted) (group : List ℕ) (me : Address)
-    (old : Life S) (out later : Output) : Type 0 where
+pub record HasLeft {S : Type 0} (meaning : Meaning S) (came : Option Posted) (group : List ℕ) (me : Address) (old : Life S) (out later : Output) : Type 0 where
   pub posted : List Posted
   pub grows : Grows group out later posted (Left me ∷ [])
-  pub acted : Acted apply encode decode came (Some (core_of me old)) posted (Left me ∷ []) None
+  pub acted : Acted meaning came (Some (core_of me old)) posted (Left me ∷ []) None

@@ -1,7 +1,7 @@
 -- The first view of a member.
 use Rattle.std.specs.Prelude.{None, [], ◌∷◌}
 use Rattle.address.specs.Ids.{Address}
-use Rattle.trace_props.specs.declared.happening.Install.{Install}
+use Rattle.trace_props.specs.declared.event.Install.{Install}
 use Rattle.agreement.specs.Acts.{lone_view}
 
 -- the install of a member's first view

@@ -3,12 +3,13 @@ use Rattle.std.specs.Prelude.{◌≡◌, ℕ, Bool, true, false, not, ◌&&◌, 
 use Rattle.std.specs.Option.{option_map_or, option_and_then}
 use Rattle.address.specs.Ids.{Address, ViewId, same_address, same_view_id}
 use Rattle.view.specs.Members.{View, stands_in}
+use Rattle.state_transfer.specs.Meanings.{Meaning}
 use Rattle.candidates.specs.Notes.{outdating}
 use Rattle.candidates.specs.Candidates.{first_unsuspected}
 use Rattle.candidates.specs.Noting.{noting, noting_view}
 use Rattle.wire.specs.Values as wire
 use Rattle.wire.specs.declared.packet.Body.TheVariants as bodies
-use Rattle.trace_props.specs.declared.happening.Happening.TheVariants.{Installed, Left}
+use Rattle.trace_props.specs.declared.event.Event.TheVariants.{Installed, Left}
 use Rattle.flush.specs.Flushes.{FlushModel, has_reported}
 use Rattle.agreement.specs.Histories.{Posted}
 use Rattle.agreement.specs.Acts.{packet, others_of, lone_view, proposed}
@@ -73,13 +74,13 @@ pub record Redirects {S : Type 0} (group : List ℕ) (me q : Address) (old new :
   pub grows : Grows group out later (option_map_or (λ p. packet me (bodies.Redirect p) q ∷ []) (first_in old) []) []
 
 -- where it leads, who asks is noted, and what is due is begun; else it redirects
-abbrev pub Admits : {S : Type 0} → (S → Address → List ℕ → S) → (S → List ℕ) → List ℕ → Address → Address → Life S → Life S → Output → Output → Type 0
-Admits apply encode group me q l new out later =
-    MatchBool (leads_now me l) (Regroups apply encode group me (joined me q l) new out later) (Redirects group me q l new out later)
+abbrev pub Admits : {S : Type 0} → Meaning S → List ℕ → Address → Address → Life S → Life S → Output → Output → Type 0
+Admits meaning group me q l new out later =
+    MatchBool (leads_now me l) (Regroups meaning group me (joined me q l) new out later) (Redirects group me q l new out later)
 
-abbrev pub OnJoin : {S : Type 0} → (S → Address → List ℕ → S) → (S → List ℕ) → List ℕ → Address → Address → Life S → Life S → Output → Output → Type 0
-OnJoin apply encode group me q old new out later =
-    MatchBool (is_some old.traffic) (Admits apply encode group me q (outdated me q old) new out later) (StaysAs old new out later)
+abbrev pub OnJoin : {S : Type 0} → Meaning S → List ℕ → Address → Address → Life S → Life S → Output → Output → Type 0
+OnJoin meaning group me q old new out later =
+    MatchBool (is_some old.traffic) (Admits meaning group me q (outdated me q old) new out later) (StaysAs old new out later)
 
 -- ---- a hint of another view, and REDIRECT
 
@@ -109,15 +110,15 @@ abbrev pub merged : {S : Type 0} → Address → View → Life S → Life S
 merged me u l = record l { notes = option_map_or (λ v. noting_view me v.members u l.notes) (view_in l.traffic) l.notes }
 
 -- where it leads: a lesser address is told of its view; those of a greater one's view are noted, and what is due is begun
-abbrev pub Meets : {S : Type 0} → (S → Address → List ℕ → S) → (S → List ℕ) → List ℕ → Address → Address → View → Life S → Life S → Output → Output → Type 0
-Meets apply encode group me q u old new out later =
-    MatchBool (is_less q me) (TellsView group me q old new out later) (Regroups apply encode group me (merged me u old) new out later)
+abbrev pub Meets : {S : Type 0} → Meaning S → List ℕ → Address → Address → View → Life S → Life S → Output → Output → Type 0
+Meets meaning group me q u old new out later =
+    MatchBool (is_less q me) (TellsView group me q old new out later) (Regroups meaning group me (merged me u old) new out later)
 
 -- of one who is in no view or in this one it is ignored
-abbrev pub OnMerge : {S : Type 0} → (S → Address → List ℕ → S) → (S → List ℕ) → List ℕ → Address → Address → View → Life S → Life S → Output → Output → Type 0
-OnMerge apply encode group me q u old new out later =
+abbrev pub OnMerge : {S : Type 0} → Meaning S → List ℕ → Address → Address → View → Life S → Life S → Output → Output → Type 0
+OnMerge meaning group me q u old new out later =
     MatchBool (is_some old.traffic && not (has_member q old))
-    (MatchBool (leads_now me old) (Meets apply encode group me q u old new out later) (Redirects group me q old new out later))
+    (MatchBool (leads_now me old) (Meets meaning group me q u old new out later) (Redirects group me q old new out later))
     (StaysAs old new out later)
 
 -- ---- suspicions, and LEAVE
@@ -130,9 +131,9 @@ has_promised p l = option_map_or (λ w. stands_in p w.members) l.promise.proposa
 abbrev pub is_suspectable : {S : Type 0} → Address → Address → Life S → Bool
 is_suspectable me p l = is_some l.traffic && not (same_address p me) && (has_member p l || has_promised p l)
 
-abbrev pub OnSuspect : {S : Type 0} → (S → Address → List ℕ → S) → (S → List ℕ) → List ℕ → Address → Address → Life S → Life S → Output → Output → Type 0
-OnSuspect apply encode group me p old new out later =
-    MatchBool (is_suspectable me p old) (TakesSuspicion apply encode group me p old new out later) (StaysAs old new out later)
+abbrev pub OnSuspect : {S : Type 0} → Meaning S → List ℕ → Address → Address → Life S → Life S → Output → Output → Type 0
+OnSuspect meaning group me p old new out later =
+    MatchBool (is_suspectable me p old) (TakesSuspicion meaning group me p old new out later) (StaysAs old new out later)
 
 -- ---- FLUSH, BEHIND, REPORT
 
@@ -144,9 +145,9 @@ OnFlush group me q w old new out later = MatchBool (same_address w.id.creator q)
 abbrev pub is_proposing : {S : Type 0} → ViewId → Life S → Bool
 is_proposing w l = option_map_or (λ f. same_view_id f.proposal w) l.flush false
 
-abbrev pub OnBehind : {S : Type 0} → (S → Address → List ℕ → S) → (S → List ℕ) → List ℕ → Address → ViewId → ℕ → Life S → Life S → Output → Output → Type 0
-OnBehind apply encode group me w counter old new out later =
-    MatchBool (is_proposing w old) (TakesBehind apply encode group me counter old new out later) (StaysAs old new out later)
+abbrev pub OnBehind : {S : Type 0} → Meaning S → List ℕ → Address → ViewId → ℕ → Life S → Life S → Output → Output → Type 0
+OnBehind meaning group me w counter old new out later =
+    MatchBool (is_proposing w old) (TakesBehind meaning group me counter old new out later) (StaysAs old new out later)
 
 -- whether it awaits a report of this address for its own proposal
 abbrev pub expects : {S : Type 0} → Address → ViewId → Life S → Bool
@@ -157,9 +158,9 @@ pub record SaysAgain {S : Type 0} (q : Address) (old new : Life S) (out later : 
   pub again : InstallsAgain q old out later
 
 -- a report that is awaited is taken; for one that asks for the current view its INSTALL is put out again, where it was kept
-abbrev pub OnReport : {S : Type 0} → (S → Address → List ℕ → S) → (S → List ℕ) → List ℕ → Address → Address → ViewId → wire.Report → Life S → Life S → Output → Output → Type 0
-OnReport apply encode group me q w r old new out later =
-    MatchBool (expects q w old) (TakesReport apply encode group me q w r old new out later)
+abbrev pub OnReport : {S : Type 0} → Meaning S → List ℕ → Address → Address → ViewId → wire.Report → Life S → Life S → Output → Output → Type 0
+OnReport meaning group me q w r old new out later =
+    MatchBool (expects q w old) (TakesReport meaning group me q w r old new out later)
     (MatchBool (is_in w old) (SaysAgain q old new out later) (StaysAs old new out later))
 
 -- ---- time passes: what may be lost is put out again

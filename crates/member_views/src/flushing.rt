@@ -58,7 +58,7 @@ pub fn on_behind<R: Receiver>(
 ) -> Result<(), AllocError>
     requires life { IsLife who.now.group who.now.address life.old }
     ensures life { OnOk result (IsLife who.now.group who.now.address life.new) }
-    ensures does { OnOk result (OnBehind R.apply R.encode who.now.group who.now.address proposal counter life.old life.new out.old out.new) }
+    ensures does { OnOk result (OnBehind R.meaning who.now.group who.now.address proposal counter life.old life.new out.old out.new) }
     ensures ignored { is_proposing proposal life.old ≡ false → (result ≡ Ok tt) × StaysAs life.old life.new out.old out.new }
 {
     if is_proposing(life, proposal) {
@@ -90,7 +90,7 @@ pub fn on_report<R: Receiver>(
 ) -> Result<(), AllocError>
     requires life { IsLife who.now.group who.now.address life.old }
     ensures life { OnOk result (IsLife who.now.group who.now.address life.new) }
-    ensures does { OnOk result (OnReport R.apply R.encode who.now.group who.now.address source proposal report.now life.old life.new out.old out.new) }
+    ensures does { OnOk result (OnReport R.meaning who.now.group who.now.address source proposal report.now life.old life.new out.old out.new) }
     ensures ignored { is_report_ignored source proposal life.old ≡ true → (result ≡ Ok tt) × StaysAs life.old life.new out.old out.new }
 {
     if life.expects(&source, proposal) {

@@ -17,7 +17,7 @@ use membership::Life;
 use output::{Identity, Output};
 use state_transfer::Receiver;
 use std::alloc::AllocError;
-use trace_props::{HandedBack, Happening, Install};
+use trace_props::{Event, HandedBack, Install};
 use traffic::Traffic;
 use view::{Addresses, View};
 use wire::{Body, Roster};
@@ -52,7 +52,7 @@ pub fn create<R: Receiver>(
 {
     let view = View::alone(who.alloc, ViewId::first_of(who.address))?;
     let install = lone_install(who)?;
-    who.record(Happening::Installed(install), out)?;
+    who.record(Event::Installed(install), out)?;
     let roster = Roster::new(view.id(), view.members().as_slice()).unwrap();
     let _ = life.promise.offer(&roster);
     let _ = life.promise.install(&roster);
@@ -183,7 +183,7 @@ fn admit<R: Receiver>(
     requires life { IsLife who.now.group who.now.address life.old }
     requires other { same_address source who.now.address ≡ false }
     ensures life { OnOk result (IsLife who.now.group who.now.address life.new) }
-    ensures does { OnOk result (Admits R.apply R.encode who.now.group who.now.address source life.old life.new out.old out.new) }
+    ensures does { OnOk result (Admits R.meaning who.now.group who.now.address source life.old life.new out.old out.new) }
 {
     if leads_now(life, who) {
         note_joiner(life, who, source)?;
@@ -205,7 +205,7 @@ pub fn on_join<R: Receiver>(
     requires life { IsLife who.now.group who.now.address life.old }
     requires other { same_address source who.now.address ≡ false }
     ensures life { OnOk result (IsLife who.now.group who.now.address life.new) }
-    ensures does { OnOk result (OnJoin R.apply R.encode who.now.group who.now.address source life.old life.new out.old out.new) }
+    ensures does { OnOk result (OnJoin R.meaning who.now.group who.now.address source life.old life.new out.old out.new) }
     ensures ignored { is_some life.old.traffic ≡ false → (result ≡ Ok tt) × StaysAs life.old life.new out.old out.new }
 {
     if life.traffic.is_none() {

@@ -15,7 +15,7 @@ use membership::Life;
 use output::{Identity, Output};
 use state_transfer::Receiver;
 use std::alloc::AllocError;
-use trace_props::Happening;
+use trace_props::Event;
 use traffic::Traffic;
 use wire::Body;
 
@@ -42,7 +42,7 @@ pub fn leave<R: Receiver>(
     if let Some(traffic) = &life.traffic {
         say_to(who, traffic, out)?;
     }
-    who.record(Happening::Left(who.address), out)?;
+    who.record(Event::Left(who.address), out)?;
     Ok(())
 }
 
@@ -76,7 +76,7 @@ pub fn on_suspect<R: Receiver>(
 ) -> Result<(), AllocError>
     requires life { IsLife who.now.group who.now.address life.old }
     ensures life { OnOk result (IsLife who.now.group who.now.address life.new) }
-    ensures does { OnOk result (OnSuspect R.apply R.encode who.now.group who.now.address address life.old life.new out.old out.new) }
+    ensures does { OnOk result (OnSuspect R.meaning who.now.group who.now.address address life.old life.new out.old out.new) }
     ensures ignored { is_suspectable who.now.address address life.old ≡ false → (result ≡ Ok tt) × StaysAs life.old life.new out.old out.new }
 {
     if is_suspectable(life, who, &address) {

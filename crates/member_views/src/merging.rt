@@ -132,7 +132,7 @@ fn meet<R: Receiver>(
 ) -> Result<(), AllocError>
     requires life { IsLife who.now.group who.now.address life.old }
     ensures life { OnOk result (IsLife who.now.group who.now.address life.new) }
-    ensures does { OnOk result (Meets R.apply R.encode who.now.group who.now.address source other.now life.old life.new out.old out.new) }
+    ensures does { OnOk result (Meets R.meaning who.now.group who.now.address source other.now life.old life.new out.old out.new) }
     ensures ignored { is_less source who.now.address ≡ true → is_hint_ignored who.now.address source life.old ≡ true → (result ≡ Ok tt) × StaysAs life.old life.new out.old out.new }
 {
     if is_less(&source, &who.address) {
@@ -156,7 +156,7 @@ pub fn on_merge<R: Receiver>(
 ) -> Result<(), AllocError>
     requires life { IsLife who.now.group who.now.address life.old }
     ensures life { OnOk result (IsLife who.now.group who.now.address life.new) }
-    ensures does { OnOk result (OnMerge R.apply R.encode who.now.group who.now.address source other.now life.old life.new out.old out.new) }
+    ensures does { OnOk result (OnMerge R.meaning who.now.group who.now.address source other.now life.old life.new out.old out.new) }
     ensures ignored { is_merge_ignored who.now.address source life.old ≡ true → (result ≡ Ok tt) × StaysAs life.old life.new out.old out.new }
 {
     if life.traffic.is_none() || has_member(life, &source) {

@@ -7,6 +7,7 @@ use Rattle.std.proofs.lemmas.Bool.{and_parts, cond-false}
 use Rattle.std.proofs.lemmas.List.{append-nil}
 use Rattle.address.specs.Ids.{Address, ViewId, same_address, same_view_id}
 use Rattle.view.specs.Members.{View}
+use Rattle.state_transfer.specs.Meanings.{Meaning}
 use Rattle.candidates.specs.Notes.{having_heard, suspecting}
 use Rattle.wire.specs.Values as wire
 use Rattle.wire.specs.Values.{Report, nothing_reported}
@@ -73,9 +74,9 @@ match-bool : {P : Type 0} (b : Bool) (A B : Type 0) → MatchBool b A B → (b �
 match-bool true A B m holds fails = holds refl m
 match-bool false A B m holds fails = fails refl m
 
-module _ {S : Type 0} (apply : S → Address → List ℕ → S) (encode : S → List ℕ) (decode : List ℕ → Option S) (group : List ℕ) (me : Address) where
+module _ {S : Type 0} (meaning : Meaning S) (group : List ℕ) (me : Address) where
   abbrev pub DidThis : Option Posted → Life S → Life S → Output → Output → Type 0
-  DidThis came old new out later = Did apply encode decode came group me old new out later
+  DidThis came old new out later = Did meaning came group me old new out later
 
   -- ---- a FLUSH
 
@@ -84,10 +85,10 @@ module _ {S : Type 0} (apply : S → Address → List ℕ → S) (encode : S →
 
   pub promised-acted : (came : Option Posted) (l new : Life S) (w : View) → IsLife group me l → is_connected l ≡ true → came ≡ Some (packet w.id.creator (bodies.Flush w) me)
       → is_accept (offered w l.promise) ≡ true → new ≡ record l { promise = promising w l.promise; flush = None }
-      → Acted apply encode decode came (Some (core_of me l)) (packet me (bodies.Report w.id (report_in l)) w.id.creator ∷ []) (blocked_by me l) (Some (core_of me new))
+      → Acted meaning came (Some (core_of me l)) (packet me (bodies.Report w.id (report_in l)) w.id.creator ∷ []) (blocked_by me l) (Some (core_of me new))
   promised-acted came l new w kept on asked accepts is =
-      subst (λ (z : Life S). Acted apply encode decode came (Some (core_of me l)) (packet me (bodies.Report w.id (report_in l)) w.id.creator ∷ []) (blocked_by me l) (Some (core_of me z))) (sym is)
-      (promises-acted apply encode decode came (core_of me l) w asked on (subst (λ (p : PromiseModel). is_accept (offered w p) ≡ true) (ours l kept) accepts))
+      subst (λ (z : Life S). Acted meaning came (Some (core_of me l)) (packet me (bodies.Report w.id (report_in l)) w.id.creator ∷ []) (blocked_by me l) (Some (core_of me z))) (sym is)
+      (promises-acted meaning came (core_of me l) w asked on (subst (λ (p : PromiseModel). is_accept (offered w p) ≡ true) (ours l kept) accepts))
 
   takes-by-did : (a : OfferAnswer) (came : Option Posted) (old new : Life S) (w : View) (out later : Output) → IsLife group me old → is_connected old ≡ true
       → came ≡ Some (packet w.id.creator (bodies.Flush w) me) → offered w old.promise ≡ a → TakesBy a group me w old new out later → DidThis came old new out later
@@ -95,8 +96,8 @@ module _ {S : Type 0} (apply : S → Address → List ℕ → S) (encode : S →
       record { posted = _; happened = _; grows = x.grows; acted = promised-acted came old new w kept on asked (ap is_accept e) x.life }
   takes-by-did (Behind n) came old new w out later kept on asked e x =
       subst (λ (z : Life S). DidThis came old z out later) (sym x.0)
-      (record { posted = _; happened = _; grows = x.1; acted = one-acted apply encode decode came (core_of me old) (Puts w.id.creator (bodies.Behind w.id n)) tt })
-  takes-by-did Ignore came old new w out later kept on asked e x = stays-did apply encode decode came group me old new out later x.0 x.1
+      (record { posted = _; happened = _; grows = x.1; acted = one-acted meaning came (core_of me old) (Puts w.id.creator (bodies.Behind w.id n)) tt })
+  takes-by-did Ignore came old new w out later kept on asked e x = stays-did meaning came group me old new out later x.0 x.1
 
   pub takes-flush-did : (came : Option Posted) (old new : Life S) (w : View) (out later : Output) → IsLife group me old → TakesFlush group me w old new out later
       → came ≡ Some (packet w.id.creator (bodies.Flush w) me) → is_connected old ≡ true → DidThis came old new out later
@@ -109,20 +110,20 @@ module _ {S : Type 0} (apply : S → Address → List ℕ → S) (encode : S →
     posted = _;
     happened = _;
     grows = b.grows;
-    acted = subst (λ (z : Life S). Acted apply encode decode came (Some (core_of me old)) (map (packet me (bodies.Flush w)) (others_of me w.members)) (blocked_by me old) (Some (core_of me z)))
-        (sym b.life) (proposes-acted apply encode decode came (core_of me old) old.notes p.before w p.inside p.leads kept.unsuspected p.next).1;
+    acted = subst (λ (z : Life S). Acted meaning came (Some (core_of me old)) (map (packet me (bodies.Flush w)) (others_of me w.members)) (blocked_by me old) (Some (core_of me z)))
+        (sym b.life) (proposes-acted meaning came (core_of me old) old.notes p.before w p.inside p.leads kept.unsuspected p.next).1;
   }
 
   pub proposes-did : (came : Option Posted) (old new : Life S) (out later : Output) → IsLife group me old → ProposesIf group me old new out later → DidThis came old new out later
   proposes-did came old new out later kept x =
       match-option (due_proposal (core_of me old) old.notes) (StaysAs old new out later) (λ w. Begins group me w old new out later) x
-      (λ s. stays-did apply encode decode came group me old new out later s.0 s.1)
+      (λ s. stays-did meaning came group me old new out later s.0 s.1)
       (λ w e b. begins-did came old new w out later kept (due-is-proposal group me old w kept e) b)
 
   pub begins-anew-did : (came : Option Posted) (old new : Life S) (out later : Output) → IsLife group me old → BeginsAnew group me old new out later → DidThis came old new out later
   begins-anew-did came old new out later kept x =
       match-option (anew_proposal me old) (StaysAs old new out later) (λ w. Begins group me w old new out later) x
-      (λ s. stays-did apply encode decode came group me old new out later s.0 s.1)
+      (λ s. stays-did meaning came group me old new out later s.0 s.1)
       (λ w e b. begins-did came old new w out later kept (anew-is-proposal group me old w kept e) b)
 
   pub proposes-life : (old new : Life S) (out later : Output) → IsLife group me old → ProposesIf group me old new out later → IsLife group me new
@@ -141,15 +142,15 @@ module _ {S : Type 0} (apply : S → Address → List ℕ → S) (encode : S →
 
   -- a member whose flush and view are these
   finished-at : (came : Option Posted) (f : FlushModel) (t : Traffic) (old new : Life S) (out later : Output) → IsLife group me old → old.flush ≡ Some f → is_complete f ≡ true
-      → Finishes apply encode group me f t old new out later → DidThis came (record old { flush = Some f; traffic = Some t }) new out later
+      → Finishes meaning group me f t old new out later → DidThis came (record old { flush = Some f; traffic = Some t }) new out later
   finished-at came f t old new out later kept flush complete z =
       let x = kept.flushing f flush in
       let c = core_of me (record old { flush = Some f; traffic = Some t }) in
       let w = proposed f in
-      let s = finished_state apply f t old.receiver in
-      let given = instructions apply encode c (view_of t) f (cuts_of f) in
-      let told : map (telling me) given ≡ finish_packets me f t (encode s) = told-are me f (view_of t).id (encode s) (others_of me f.members) in
-      let a = finishes-acted apply encode decode came c (view_of t) f refl refl z.flush (complete-is f complete) in
+      let s = finished_state meaning f t old.receiver in
+      let given = instructions meaning c (view_of t) f (cuts_of f) in
+      let told : map (telling me) given ≡ finish_packets me f t (meaning.encode s) = told-are me f (view_of t).id (meaning.encode s) (others_of me f.members) in
+      let a = finishes-acted meaning came c (view_of t) f refl refl z.flush (complete-is f complete) in
       let sound = subst (λ l. AllByRecursion (λ m. IsPacket (packet_in group m)) l) (sym told) z.grows.sound in
       let same : kept_in new.kept.items ≡ given = ap kept_in (z.kept ∙ ap (map (spelled group)) (sym told)) ∙ kept-are group me given sound in
       let promise : after_install w old.promise ≡ installed_as me w = own-installed me w old.promise kept.own x.promise x.waiting in
@@ -162,43 +163,43 @@ module _ {S : Type 0} (apply : S → Address → List ℕ → S) (encode : S →
         posted = _;
         happened = _;
         grows = z.grows;
-        acted = subst (λ ps. Acted apply encode decode came (Some c) ps (finish_events me f t) (Some (core_of me new))) told
-            (subst (λ (k : Core S). Acted apply encode decode came (Some c) (map (telling me) given) (finish_events me f t) (Some k)) (sym core) a);
+        acted = subst (λ ps. Acted meaning came (Some c) ps (finish_events me f t) (Some (core_of me new))) told
+            (subst (λ (k : Core S). Acted meaning came (Some c) (map (telling me) given) (finish_events me f t) (Some k)) (sym core) a);
       }
 
   finished-did : (came : Option Posted) (f : FlushModel) (t : Traffic) (old new : Life S) (out later : Output) → IsLife group me old → old.flush ≡ Some f → old.traffic ≡ Some t → is_complete f ≡ true
-      → Finishes apply encode group me f t old new out later → DidThis came old new out later
+      → Finishes meaning group me f t old new out later → DidThis came old new out later
   finished-did came f t old new out later kept flush inside complete z =
       let same : old ≡ record old { flush = Some f; traffic = Some t } = λ j. record old { flush = flush j; traffic = inside j } in
       subst (λ (l : Life S). DidThis came l new out later) (sym same) (finished-at came f t old new out later kept flush complete z)
 
   -- whether it finishes or not
-  finishes-either : {P : Type 0} (old new : Life S) (out later : Output) → FinishesIf apply encode group me old new out later → (StaysAs old new out later → P)
-      → ((f : FlushModel) (t : Traffic) → old.flush ≡ Some f → old.traffic ≡ Some t → is_complete f ≡ true → Finishes apply encode group me f t old new out later → P) → P
+  finishes-either : {P : Type 0} (old new : Life S) (out later : Output) → FinishesIf meaning group me old new out later → (StaysAs old new out later → P)
+      → ((f : FlushModel) (t : Traffic) → old.flush ≡ Some f → old.traffic ≡ Some t → is_complete f ≡ true → Finishes meaning group me f t old new out later → P) → P
   finishes-either old new out later x stays finishes =
-      match-option old.flush (StaysAs old new out later) (λ f. MatchBool (is_complete f) (MatchOption old.traffic ⊥ (λ t. Finishes apply encode group me f t old new out later)) (StaysAs old new out later)) x stays
-      (λ f flush y. match-bool (is_complete f) (MatchOption old.traffic ⊥ (λ t. Finishes apply encode group me f t old new out later)) (StaysAs old new out later) y
-      (λ complete z. match-option old.traffic ⊥ (λ t. Finishes apply encode group me f t old new out later) z (λ none. absurd none) (λ t inside done. finishes f t flush inside complete done))
+      match-option old.flush (StaysAs old new out later) (λ f. MatchBool (is_complete f) (MatchOption old.traffic ⊥ (λ t. Finishes meaning group me f t old new out later)) (StaysAs old new out later)) x stays
+      (λ f flush y. match-bool (is_complete f) (MatchOption old.traffic ⊥ (λ t. Finishes meaning group me f t old new out later)) (StaysAs old new out later) y
+      (λ complete z. match-option old.traffic ⊥ (λ t. Finishes meaning group me f t old new out later) z (λ none. absurd none) (λ t inside done. finishes f t flush inside complete done))
       (λ waits s. stays s))
 
-  pub finishes-did : (came : Option Posted) (old new : Life S) (out later : Output) → IsLife group me old → FinishesIf apply encode group me old new out later → DidThis came old new out later
+  pub finishes-did : (came : Option Posted) (old new : Life S) (out later : Output) → IsLife group me old → FinishesIf meaning group me old new out later → DidThis came old new out later
   finishes-did came old new out later kept x =
-      finishes-either old new out later x (λ s. stays-did apply encode decode came group me old new out later s.0 s.1)
+      finishes-either old new out later x (λ s. stays-did meaning came group me old new out later s.0 s.1)
       (λ f t flush inside complete z. finished-did came f t old new out later kept flush inside complete z)
 
-  pub finishes-life : (old new : Life S) (out later : Output) → IsLife group me old → FinishesIf apply encode group me old new out later → IsLife group me new
+  pub finishes-life : (old new : Life S) (out later : Output) → IsLife group me old → FinishesIf meaning group me old new out later → IsLife group me new
   finishes-life old new out later kept x =
       finishes-either old new out later x (λ s. subst (λ (z : Life S). IsLife group me z) (sym s.0) kept)
-      (λ f t flush inside complete z. finished-life group me apply encode f t old old new out later kept flush refl z)
+      (λ f t flush inside complete z. finished-life group me meaning f t old old new out later kept flush refl z)
 
-  pub goes-on-did : (came : Option Posted) (old new : Life S) (out later : Output) → IsLife group me old → GoesOn apply encode group me old new out later → DidThis came old new out later
+  pub goes-on-did : (came : Option Posted) (old new : Life S) (out later : Output) → IsLife group me old → GoesOn meaning group me old new out later → DidThis came old new out later
   goes-on-did came old new out later kept x =
-      did-then apply encode decode came group me old x.mid new out x.between later (finishes-did came old x.mid out x.between kept x.finishes)
+      did-then meaning came group me old x.mid new out x.between later (finishes-did came old x.mid out x.between kept x.finishes)
       (proposes-did came x.mid new x.between later (finishes-life old x.mid out x.between kept x.finishes) x.proposes)
 
-  pub regroups-did : (came : Option Posted) (old new : Life S) (out later : Output) → IsLife group me old → Regroups apply encode group me old new out later → DidThis came old new out later
+  pub regroups-did : (came : Option Posted) (old new : Life S) (out later : Output) → IsLife group me old → Regroups meaning group me old new out later → DidThis came old new out later
   regroups-did came old new out later kept x =
-      did-then apply encode decode came group me old x.mid new out x.between later (proposes-did came old x.mid out x.between kept x.proposes)
+      did-then meaning came group me old x.mid new out x.between later (proposes-did came old x.mid out x.between kept x.proposes)
       (goes-on-did came x.mid new x.between later (proposes-life old x.mid out x.between kept x.proposes) x.goes_on)
 
   -- ---- a REPORT
@@ -209,11 +210,11 @@ module _ {S : Type 0} (apply : S → Address → List ℕ → S) (encode : S →
     posted = [];
     happened = [];
     grows = grows-nothing group out;
-    acted = records-acted apply encode decode (Some (packet q (bodies.Report f.proposal r) me)) (core_of me l) f q r refl same e;
+    acted = records-acted meaning (Some (packet q (bodies.Report f.proposal r) me)) (core_of me l) f q r refl same e;
   }
   awaited-by false l f q r out e same =
       let is : Some (reported q r f) ≡ l.flush = ap Some (cond-false (is_awaited q f) (record f { reports = f.reports ++ (q, r) ∷ [] }) f e) ∙ sym same in
-      subst (λ (o : Option FlushModel). DidThis (Some (packet q (bodies.Report f.proposal r) me)) l (record l { flush = o }) out out) (sym is) (nothing-did apply encode decode _ group me l out)
+      subst (λ (o : Option FlushModel). DidThis (Some (packet q (bodies.Report f.proposal r) me)) l (record l { flush = o }) out out) (sym is) (nothing-did meaning _ group me l out)
 
   own-by : (b : Bool) (l : Life S) (f : FlushModel) (q : Address) (w : ViewId) (r : Report) (out : Output) → same_view_id f.proposal w ≡ b → l.flush ≡ Some f
       → DidThis (Some (packet q (bodies.Report w r) me)) l (record l { flush = Some (if b then reported q r f else f) }) out out
@@ -221,82 +222,82 @@ module _ {S : Type 0} (apply : S → Address → List ℕ → S) (encode : S →
       subst (λ (u : ViewId). DidThis (Some (packet q (bodies.Report u r) me)) l (record l { flush = Some (reported q r f) }) out out) (same_view_id-true f.proposal w e)
       (awaited-by (is_awaited q f) l f q r out refl same)
   own-by false l f q w r out e same =
-      subst (λ (o : Option FlushModel). DidThis (Some (packet q (bodies.Report w r) me)) l (record l { flush = o }) out out) same (nothing-did apply encode decode _ group me l out)
+      subst (λ (o : Option FlushModel). DidThis (Some (packet q (bodies.Report w r) me)) l (record l { flush = o }) out out) same (nothing-did meaning _ group me l out)
 
   flush-by : (flush : Option FlushModel) (l : Life S) (q : Address) (w : ViewId) (r : Report) (out : Output) → l.flush ≡ flush
       → DidThis (Some (packet q (bodies.Report w r) me)) l (record l { flush = option_map (recording q w r) flush }) out out
   flush-by None l q w r out e =
-      subst (λ (o : Option FlushModel). DidThis (Some (packet q (bodies.Report w r) me)) l (record l { flush = o }) out out) e (nothing-did apply encode decode _ group me l out)
+      subst (λ (o : Option FlushModel). DidThis (Some (packet q (bodies.Report w r) me)) l (record l { flush = o }) out out) e (nothing-did meaning _ group me l out)
   flush-by (Some f) l q w r out e = own-by (same_view_id f.proposal w) l f q w r out refl e
 
-  pub takes-report-did : (came : Option Posted) (old new : Life S) (q : Address) (w : ViewId) (r : Report) (out later : Output) → IsLife group me old → TakesReport apply encode group me q w r old new out later
+  pub takes-report-did : (came : Option Posted) (old new : Life S) (q : Address) (w : ViewId) (r : Report) (out later : Output) → IsLife group me old → TakesReport meaning group me q w r old new out later
       → came ≡ Some (packet q (bodies.Report w r) me) → DidThis came old new out later
   takes-report-did came old new q w r out later kept x told =
       let mid = record old { flush = option_map (recording q w r) old.flush } in
-      did-then apply encode decode came group me old mid new out out later
+      did-then meaning came group me old mid new out out later
       (subst (λ (m : Option Posted). DidThis m old mid out out) (sym told) (flush-by old.flush old q w r out refl))
       (goes-on-did came mid new out later (recorded-life group me old mid q w r kept refl) x)
 
   -- ---- an INSTALL again
 
   again-by : (came : Option Posted) (q : Address) (l : Life S) (given : List (Address × wire.Install)) (o : Option Outgoing) (out later : Output) → kept_in l.kept.items ≡ given
-      → later.packets.items ≡ out.packets.items ++ option_to_list o → later.happenings.items ≡ out.happenings.items
+      → later.packets.items ≡ out.packets.items ++ option_to_list o → later.events.items ≡ out.events.items
       → (o ≡ None) ⊎ IsAgain group me q (view_in l.traffic) given o → DidThis came l l out later
-  again-by came q l given o out later kept packets happenings (inl none) = record {
+  again-by came q l given o out later kept packets events (inl none) = record {
     posted = [];
     happened = [];
-    grows = record { packets = packets ∙ ap (λ x. out.packets.items ++ option_to_list x) none; sound = tt; happenings = happenings ∙ sym (append-nil out.happenings.items); short = tt };
-    acted = nothing-acted apply encode decode came (Some (core_of me l));
+    grows = record { packets = packets ∙ ap (λ x. out.packets.items ++ option_to_list x) none; sound = tt; events = events ∙ sym (append-nil out.events.items); short = tt };
+    acted = nothing-acted meaning came (Some (core_of me l));
   }
-  again-by came q l given o out later kept packets happenings (inr a) = record {
+  again-by came q l given o out later kept packets events (inr a) = record {
     posted = telling me (a.to, a.install) ∷ [];
     happened = [];
     grows = record {
       packets = packets ∙ ap (λ x. out.packets.items ++ option_to_list x) a.is;
       sound = (a.sound, tt);
-      happenings = happenings ∙ sym (append-nil out.happenings.items);
+      events = events ∙ sym (append-nil out.events.items);
       short = tt;
     };
-    acted = one-acted apply encode decode came (core_of me l) (Puts a.to (bodies.Install a.install)) (a.current, ap (λ (p : Address). kept_for p (kept_in l.kept.items)) a.same ∙ ap (kept_for q) kept ∙ a.first);
+    acted = one-acted meaning came (core_of me l) (Puts a.to (bodies.Install a.install)) (a.current, ap (λ (p : Address). kept_for p (kept_in l.kept.items)) a.same ∙ ap (kept_for q) kept ∙ a.first);
   }
 
   pub installs-again-did : (came : Option Posted) (q : Address) (l : Life S) (out later : Output) → IsLife group me l → InstallsAgain q l out later → DidThis came l l out later
   installs-again-did came q l out later kept x =
       let k = kept.kept in
       again-by came q l k.given (find (is_kept_for q) (map (spelled group) (map (telling me) k.given))) out later (ap kept_in k.spelled ∙ kept-are group me k.given k.sound)
-      (x.packets ∙ ap (λ items. out.packets.items ++ option_to_list (find (is_kept_for q) items)) k.spelled) x.happenings (again-in group me q (view_in l.traffic) k.given k.sound k.current)
+      (x.packets ∙ ap (λ items. out.packets.items ++ option_to_list (find (is_kept_for q) items)) k.spelled) x.events (again-in group me q (view_in l.traffic) k.given k.sound k.current)
 
   -- ---- a BEHIND, and a suspicion
 
-  pub takes-behind-did : (came : Option Posted) (old new : Life S) (counter : ℕ) (out later : Output) → IsLife group me old → TakesBehind apply encode group me counter old new out later
+  pub takes-behind-did : (came : Option Posted) (old new : Life S) (counter : ℕ) (out later : Output) → IsLife group me old → TakesBehind meaning group me counter old new out later
       → DidThis came old new out later
   takes-behind-did came old new counter out later kept x =
       let heard = record old { notes = having_heard counter old.notes } in
       let life = heard-life group me old heard counter kept refl in
-      did-then apply encode decode came group me old heard new out out later (noted-did apply encode decode came group me old heard (having_heard counter old.notes) out refl)
-      (did-then apply encode decode came group me heard x.mid new out x.between later (begins-anew-did came heard x.mid out x.between life x.begins)
+      did-then meaning came group me old heard new out out later (noted-did meaning came group me old heard (having_heard counter old.notes) out refl)
+      (did-then meaning came group me heard x.mid new out x.between later (begins-anew-did came heard x.mid out x.between life x.begins)
       (goes-on-did came x.mid new x.between later (begins-anew-life heard x.mid out x.between life x.begins) x.goes_on))
 
-  pub takes-suspicion-did : (came : Option Posted) (old new : Life S) (p : Address) (out later : Output) → IsLife group me old → TakesSuspicion apply encode group me p old new out later
+  pub takes-suspicion-did : (came : Option Posted) (old new : Life S) (p : Address) (out later : Output) → IsLife group me old → TakesSuspicion meaning group me p old new out later
       → same_address p me ≡ false → DidThis came old new out later
   takes-suspicion-did came old new p out later kept x other =
       let noted = record old { notes = suspecting p old.notes } in
-      did-then apply encode decode came group me old noted new out out later (noted-did apply encode decode came group me old noted (suspecting p old.notes) out refl)
+      did-then meaning came group me old noted new out out later (noted-did meaning came group me old noted (suspecting p old.notes) out refl)
       (regroups-did came noted new out later (suspected-life group me old noted p kept other refl) x)
 
   -- ---- an INSTALL
 
   entered-by : (traffic : Option Traffic) (came : Option Posted) (old : Life S) (i : wire.Install) → let c = core_of me (record old { traffic = traffic }) in let told = told_at c i.base i.items in
-      Acted apply encode decode came (Some c) [] (entering c told i.view i.together i.state) (Some (gone_into i.view (state_into apply decode c told i.state) [] c))
-      → Acted apply encode decode came (Some c) [] (enter_events me traffic i) (Some (gone_into i.view (state_by apply decode traffic i old.receiver) [] c))
+      Acted meaning came (Some c) [] (entering c told i.view i.together i.state) (Some (gone_into i.view (state_into meaning c told i.state) [] c))
+      → Acted meaning came (Some c) [] (enter_events me traffic i) (Some (gone_into i.view (state_by meaning traffic i old.receiver) [] c))
   entered-by None came old i a = a
   entered-by (Some t) came old i a = a
 
-  entered-did : (came : Option Posted) (old new : Life S) (q : Address) (i : wire.Install) (out later : Output) → IsLife group me old → is_entry (core_of me old) q i ≡ true → is_readable decode i.state ≡ true
-      → came ≡ Some (packet q (bodies.Install i) me) → Enters apply decode group me old.traffic i old new out later → DidThis came old new out later
+  entered-did : (came : Option Posted) (old new : Life S) (q : Address) (i : wire.Install) (out later : Output) → IsLife group me old → is_entry (core_of me old) q i ≡ true → is_readable meaning i.state ≡ true
+      → came ≡ Some (packet q (bodies.Install i) me) → Enters meaning group me old.traffic i old new out later → DidThis came old new out later
   entered-did came old new q i out later kept enters reads told z =
       let c = core_of me old in
-      let s = state_by apply decode old.traffic i old.receiver in
+      let s = state_by meaning old.traffic i old.receiver in
       let parts = and_parts (same_address q i.view.id.creator && may_install i.view old.promise) (is_fitting (view_in old.traffic) (traffic_in old.traffic).delivered i) enters in
       let promise : after_install i.view old.promise ≡ installed_as me i.view =
       other-installed me i.view old.promise kept.own (and_parts (same_address q i.view.id.creator) (may_install i.view old.promise) parts.0).1 in
@@ -310,13 +311,13 @@ module _ {S : Type 0} (apply : S → Address → List ℕ → S) (encode : S →
         posted = [];
         happened = _;
         grows = z.grows;
-        acted = subst (λ (k : Core S). Acted apply encode decode came (Some c) [] (enter_events me old.traffic i) (Some k)) (sym core)
-            (entered-by old.traffic came old i (enters-acted apply encode decode came c q i told enters reads));
+        acted = subst (λ (k : Core S). Acted meaning came (Some c) [] (enter_events me old.traffic i) (Some k)) (sym core)
+            (entered-by old.traffic came old i (enters-acted meaning came c q i told enters reads));
       }
 
-  pub takes-install-did : (came : Option Posted) (old new : Life S) (q : Address) (i : wire.Install) (out later : Output) → IsLife group me old → TakesInstall apply decode group me q i old new out later
+  pub takes-install-did : (came : Option Posted) (old new : Life S) (q : Address) (i : wire.Install) (out later : Output) → IsLife group me old → TakesInstall meaning group me q i old new out later
       → came ≡ Some (packet q (bodies.Install i) me) → DidThis came old new out later
   takes-install-did came old new q i out later kept x told =
-      match-bool (is_entry (core_of me old) q i) ((is_readable decode i.state ≡ true) × Enters apply decode group me old.traffic i old new out later) (StaysAs old new out later) x
+      match-bool (is_entry (core_of me old) q i) ((is_readable meaning i.state ≡ true) × Enters meaning group me old.traffic i old new out later) (StaysAs old new out later) x
       (λ enters z. entered-did came old new q i out later kept enters z.0 told z.1)
-      (λ ignored s. stays-did apply encode decode came group me old new out later s.0 s.1)
+      (λ ignored s. stays-did meaning came group me old new out later s.0 s.1)

@@ -8,6 +8,7 @@ use Rattle.std.proofs.lemmas.Bool.{and_parts, cond-true}
 use Rattle.std.proofs.lemmas.Option.{none-some, same_Some}
 use Rattle.address.specs.Ids.{Address, ViewId, view_id_cmp, same_address, same_view_id}
 use Rattle.view.specs.Members.{View, stands_in}
+use Rattle.state_transfer.specs.Meanings.{Meaning}
 use Rattle.candidates.specs.Notes.{NotesModel}
 use Rattle.wire.specs.Values as wire
 use Rattle.wire.specs.Packets.{IsPacket}
@@ -217,11 +218,11 @@ module _ {S : Type 0} (group : List ℕ) (me : Address) where
       }
 
   -- it goes into its own proposal
-  pub finished-life : (apply : S → Address → List ℕ → S) (encode : S → List ℕ) (f : FlushModel) (t : Traffic) (l old new : Life S) (out later : Output) → IsLife group me l → l.flush ≡ Some f
-      → old.promise ≡ l.promise → Finishes apply encode group me f t old new out later → IsLife group me new
-  finished-life apply encode f t l old new out later kept flush same z =
+  pub finished-life : (meaning : Meaning S) (f : FlushModel) (t : Traffic) (l old new : Life S) (out later : Output) → IsLife group me l → l.flush ≡ Some f
+      → old.promise ≡ l.promise → Finishes meaning group me f t old new out later → IsLife group me new
+  finished-life meaning f t l old new out later kept flush same z =
       let x = kept.flushing f flush in
-      let state = encode (finished_state apply f t old.receiver) in
+      let state = meaning.encode (finished_state meaning f t old.receiver) in
       let told = given-told me f (view_of t).id state (others_of me f.members) in
       let traffic : new.traffic ≡ Some (fresh_in me (proposed f)) = ap (λ (n : Life S). n.traffic) z.life in
       let promise : after_install (proposed f) old.promise ≡ installed_as me (proposed f) =
@@ -236,9 +237,9 @@ module _ {S : Type 0} (group : List ℕ) (me : Address) where
       })
 
   -- it enters the view of another
-  pub entered-life : (apply : S → Address → List ℕ → S) (decode : List ℕ → Option S) (q : Address) (i : wire.Install) (traffic : Option Traffic) (l old new : Life S) (out later : Output)
-      → IsLife group me l → is_entry (core_of me l) q i ≡ true → old.promise ≡ l.promise → Enters apply decode group me traffic i old new out later → IsLife group me new
-  entered-life apply decode q i traffic l old new out later kept enters same z =
+  pub entered-life : (meaning : Meaning S) (q : Address) (i : wire.Install) (traffic : Option Traffic) (l old new : Life S) (out later : Output)
+      → IsLife group me l → is_entry (core_of me l) q i ≡ true → old.promise ≡ l.promise → Enters meaning group me traffic i old new out later → IsLife group me new
+  entered-life meaning q i traffic l old new out later kept enters same z =
       let parts = and_parts (same_address q i.view.id.creator && may_install i.view l.promise) (is_fitting (view_in l.traffic) (traffic_in l.traffic).delivered i) enters in
       let may : may_install i.view l.promise ≡ true = (and_parts (same_address q i.view.id.creator) (may_install i.view l.promise) parts.0).1 in
       let promise : after_install i.view old.promise ≡ installed_as me i.view = ap (after_install i.view) same ∙ other-installed me i.view l.promise kept.own may in

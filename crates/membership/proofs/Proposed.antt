@@ -9,7 +9,7 @@ use Rattle.address.specs.Ids.{Address, ViewId, view_id_cmp}
 use Rattle.view.specs.Members.{View, stands_in, is_distinct}
 use Rattle.view.specs.View.{view_refusal, begins_with}
 use Rattle.view.specs.declared.ViewError.TheVariants.{Empty, TooMany, Repeated, NotFirst}
-use Rattle.view.specs.declared.TheConstants.{MEMBERS}
+use Rattle.limits.specs.declared.TheConstants.{MEMBERS}
 use Rattle.flush.specs.Flushes.{FlushModel}
 use Rattle.view_install.specs.Promises.{PromiseModel, offered, is_accept, answer_past}
 use Rattle.view_install.specs.declared.promise.OfferAnswer.TheVariants.{Accept, Ignore}

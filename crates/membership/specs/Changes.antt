@@ -3,6 +3,7 @@ use Rattle.std.specs.Prelude.{◌≡◌, ℕ, Bool, true, false, ◌++◌, List,
 use Rattle.std.specs.Option.{option_map, option_to_list}
 use Rattle.address.specs.Ids.{Address, ViewId}
 use Rattle.view.specs.Members.{View}
+use Rattle.state_transfer.specs.Meanings.{Meaning}
 use Rattle.candidates.specs.Notes.{no_notes, settled, suspecting, having_heard}
 use Rattle.wire.specs.Values as wire
 use Rattle.wire.specs.declared.packet.Body.TheVariants as bodies
@@ -68,7 +69,7 @@ BeginsAnew group me old new out later = MatchOption (anew_proposal me old) (Stay
 
 -- it goes into its own proposal: it is delivered what it lacks of its view's cut, and says to each other of the list how to go into the view, with its
 -- state for those who come from another view; what it said is kept
-pub record Finishes {S : Type 0} (apply : S → Address → List ℕ → S) (encode : S → List ℕ) (group : List ℕ) (me : Address) (f : FlushModel) (t : Traffic) (old new : Life S)
+pub record Finishes {S : Type 0} (meaning : Meaning S) (group : List ℕ) (me : Address) (f : FlushModel) (t : Traffic) (old new : Life S)
     (out later : Output) : Type 0 where
   pub flush : IsFlush f
   pub life : new ≡ record old {
@@ -76,58 +77,58 @@ pub record Finishes {S : Type 0} (apply : S → Address → List ℕ → S) (enc
     promise = after_install (proposed f) old.promise;
     flush = None;
     kept = new.kept;
-    receiver = finished_state apply f t old.receiver;
+    receiver = finished_state meaning f t old.receiver;
     notes = settled f.members old.notes;
   }
-  pub kept : new.kept.items ≡ map (spelled group) (finish_packets me f t (encode (finished_state apply f t old.receiver)))
-  pub grows : Grows group out later (finish_packets me f t (encode (finished_state apply f t old.receiver))) (finish_events me f t)
+  pub kept : new.kept.items ≡ map (spelled group) (finish_packets me f t (meaning.encode (finished_state meaning f t old.receiver)))
+  pub grows : Grows group out later (finish_packets me f t (meaning.encode (finished_state meaning f t old.receiver))) (finish_events me f t)
 
 -- where all have reported it goes into its own proposal
-abbrev pub FinishesIf : {S : Type 0} → (S → Address → List ℕ → S) → (S → List ℕ) → List ℕ → Address → Life S → Life S → Output → Output → Type 0
-FinishesIf apply encode group me old new out later =
+abbrev pub FinishesIf : {S : Type 0} → Meaning S → List ℕ → Address → Life S → Life S → Output → Output → Type 0
+FinishesIf meaning group me old new out later =
     MatchOption old.flush (StaysAs old new out later)
-    (λ f. MatchBool (is_complete f) (MatchOption old.traffic ⊥ (λ t. Finishes apply encode group me f t old new out later)) (StaysAs old new out later))
+    (λ f. MatchBool (is_complete f) (MatchOption old.traffic ⊥ (λ t. Finishes meaning group me f t old new out later)) (StaysAs old new out later))
 
 -- it finishes where all have reported, and proposes what is due then
-pub record GoesOn {S : Type 0} (apply : S → Address → List ℕ → S) (encode : S → List ℕ) (group : List ℕ) (me : Address) (old new : Life S) (out later : Output) : Type 0 where
+pub record GoesOn {S : Type 0} (meaning : Meaning S) (group : List ℕ) (me : Address) (old new : Life S) (out later : Output) : Type 0 where
   pub mid : Life S
   pub between : Output
-  pub finishes : FinishesIf apply encode group me old mid out between
+  pub finishes : FinishesIf meaning group me old mid out between
   pub proposes : ProposesIf group me mid new between later
 
 -- it proposes what is due; alone in the list it finishes, and proposes what is due then
-pub record Regroups {S : Type 0} (apply : S → Address → List ℕ → S) (encode : S → List ℕ) (group : List ℕ) (me : Address) (old new : Life S) (out later : Output) : Type 0 where
+pub record Regroups {S : Type 0} (meaning : Meaning S) (group : List ℕ) (me : Address) (old new : Life S) (out later : Output) : Type 0 where
   pub mid : Life S
   pub between : Output
   pub proposes : ProposesIf group me old mid out between
-  pub goes_on : GoesOn apply encode group me mid new between later
+  pub goes_on : GoesOn meaning group me mid new between later
 
 -- ---- a REPORT
 
 -- its flush has the report, and it goes on
-abbrev pub TakesReport : {S : Type 0} → (S → Address → List ℕ → S) → (S → List ℕ) → List ℕ → Address → Address → ViewId → wire.Report → Life S → Life S → Output → Output → Type 0
-TakesReport apply encode group me q w r old new out later =
-    GoesOn apply encode group me (record old { flush = option_map (recording q w r) old.flush }) new out later
+abbrev pub TakesReport : {S : Type 0} → Meaning S → List ℕ → Address → Address → ViewId → wire.Report → Life S → Life S → Output → Output → Type 0
+TakesReport meaning group me q w r old new out later =
+    GoesOn meaning group me (record old { flush = option_map (recording q w r) old.flush }) new out later
 
 -- it puts out again the INSTALL that it kept for a member of its view, if it kept one
 pub record InstallsAgain {S : Type 0} (q : Address) (l : Life S) (out later : Output) : Type 0 where
   pub packets : later.packets.items ≡ out.packets.items ++ option_to_list (find (is_kept_for q) l.kept.items)
-  pub happenings : later.happenings.items ≡ out.happenings.items
+  pub events : later.events.items ≡ out.events.items
 
 -- ---- a BEHIND
 
 -- it has heard of the counter, begins anew, and goes on
-pub record TakesBehind {S : Type 0} (apply : S → Address → List ℕ → S) (encode : S → List ℕ) (group : List ℕ) (me : Address) (counter : ℕ) (old new : Life S) (out later : Output) : Type 0 where
+pub record TakesBehind {S : Type 0} (meaning : Meaning S) (group : List ℕ) (me : Address) (counter : ℕ) (old new : Life S) (out later : Output) : Type 0 where
   pub mid : Life S
   pub between : Output
   pub begins : BeginsAnew group me (record old { notes = having_heard counter old.notes }) mid out between
-  pub goes_on : GoesOn apply encode group me mid new between later
+  pub goes_on : GoesOn meaning group me mid new between later
 
 -- ---- a suspicion
 
 -- the address is suspected, and what is due then is begun
-abbrev pub TakesSuspicion : {S : Type 0} → (S → Address → List ℕ → S) → (S → List ℕ) → List ℕ → Address → Address → Life S → Life S → Output → Output → Type 0
-TakesSuspicion apply encode group me p old new out later = Regroups apply encode group me (record old { notes = suspecting p old.notes }) new out later
+abbrev pub TakesSuspicion : {S : Type 0} → Meaning S → List ℕ → Address → Address → Life S → Life S → Output → Output → Type 0
+TakesSuspicion meaning group me p old new out later = Regroups meaning group me (record old { notes = suspecting p old.notes }) new out later
 
 -- ---- an INSTALL
 
@@ -144,20 +145,20 @@ pub record Arrives {S : Type 0} (group : List ℕ) (me : Address) (traffic : Opt
   pub grows : Grows group out later [] (arriving me traffic i own ∷ [])
 
 -- it is delivered what it lacks of its view, takes the state that is given, is told the view, and begins there anew
-pub record Enters {S : Type 0} (apply : S → Address → List ℕ → S) (decode : List ℕ → Option S) (group : List ℕ) (me : Address) (traffic : Option Traffic) (i : wire.Install)
+pub record Enters {S : Type 0} (meaning : Meaning S) (group : List ℕ) (me : Address) (traffic : Option Traffic) (i : wire.Install)
     (old new : Life S) (out later : Output) : Type 0 where
   pub life : new ≡ record old {
     traffic = Some (fresh_in me i.view);
     promise = after_install i.view old.promise;
     flush = None;
     kept = new.kept;
-    receiver = state_by apply decode traffic i old.receiver;
+    receiver = state_by meaning traffic i old.receiver;
     notes = no_notes;
   }
   pub kept : new.kept.items ≡ []
   pub grows : Grows group out later [] (enter_events me traffic i)
 
 -- it enters exactly where it would, by a state that can be read
-abbrev pub TakesInstall : {S : Type 0} → (S → Address → List ℕ → S) → (List ℕ → Option S) → List ℕ → Address → Address → wire.Install → Life S → Life S → Output → Output → Type 0
-TakesInstall apply decode group me q i old new out later =
-    MatchBool (is_entry (core_of me old) q i) ((is_readable decode i.state ≡ true) × Enters apply decode group me old.traffic i old new out later) (StaysAs old new out later)
+abbrev pub TakesInstall : {S : Type 0} → Meaning S → List ℕ → Address → Address → wire.Install → Life S → Life S → Output → Output → Type 0
+TakesInstall meaning group me q i old new out later =
+    MatchBool (is_entry (core_of me old) q i) ((is_readable meaning i.state ≡ true) × Enters meaning group me old.traffic i old new out later) (StaysAs old new out later)

@@ -1,7 +1,8 @@
 -- What a member does in one call: acts, and what comes of them is put out.
 use Rattle.std.specs.Prelude.{ℕ, List, Option, Some}
 use Rattle.address.specs.Ids.{Address}
-use Rattle.trace_props.specs.declared.happening.Happening.{Happening}
+use Rattle.state_transfer.specs.Meanings.{Meaning}
+use Rattle.trace_props.specs.declared.event.Event.{Event}
 use Rattle.agreement.specs.Histories.{Posted}
 use Rattle.agreement.specs.Chains.{Acted}
 use Rattle.output.specs.declared.output.Output.{Output}
@@ -10,9 +11,8 @@ use Rattle.membership.specs.declared.life.Life.{Life}
 use Rattle.membership.specs.Lives.{core_of}
 
 -- on a packet that came, or on none, it went on by acts alone, and what they put out and let happen is what grew
-pub record Did {S : Type 0} (apply : S → Address → List ℕ → S) (encode : S → List ℕ) (decode : List ℕ → Option S) (came : Option Posted) (group : List ℕ) (me : Address)
-    (old new : Life S) (out later : Output) : Type 0 where
+pub record Did {S : Type 0} (meaning : Meaning S) (came : Option Posted) (group : List ℕ) (me : Address) (old new : Life S) (out later : Output) : Type 0 where
   pub posted : List Posted
-  pub happened : List Happening
+  pub happened : List Event
   pub grows : Grows group out later posted happened
-  pub acted : Acted apply encode decode came (Some (core_of me old)) posted happened (Some (core_of me new))
+  pub acted : Acted meaning came (Some (core_of me old)) posted happened (Some (core_of me new))

@@ -8,11 +8,12 @@ use Rattle.wire.specs.Values as wire
 use Rattle.wire.specs.declared.packet.Body.TheVariants as bodies
 use Rattle.wire.specs.Lists.{is_install}
 use Rattle.wire.specs.Fields.{IsEntry, entry_bytes}
+use Rattle.state_transfer.specs.Meanings.{Meaning}
 use Rattle.flush.specs.Flushes.{FlushModel, together_of, previous_of}
 use Rattle.trace_props.specs.Observed.{own}
-use Rattle.trace_props.specs.declared.happening.Happening.{Happening}
-use Rattle.trace_props.specs.declared.happening.Happening.TheVariants.{Installed}
-use Rattle.trace_props.specs.declared.happening.Numbered.{Numbered}
+use Rattle.trace_props.specs.declared.event.Event.{Event}
+use Rattle.trace_props.specs.declared.event.Event.TheVariants.{Installed}
+use Rattle.trace_props.specs.declared.event.Numbered.{Numbered}
 use Rattle.agreement.specs.Histories.{Posted}
 use Rattle.agreement.specs.Cores.{applied, id_of}
 use Rattle.agreement.specs.Words.{message_for}
@@ -61,7 +62,7 @@ abbrev pub own_of : Address → List Entry → ℕ
 own_of me entries = length (own me (map message_for entries))
 
 -- its creator is told the view that it proposed
-abbrev pub going : Address → FlushModel → Traffic → ℕ → Happening
+abbrev pub going : Address → FlushModel → Traffic → ℕ → Event
 going me f t n = Installed (record {
   member = me;
   previous = Some (view_of t).id;
@@ -72,15 +73,15 @@ going me f t n = Installed (record {
 })
 
 -- the state with which the view begins
-abbrev pub finished_state : {S : Type 0} → (S → Address → List ℕ → S) → FlushModel → Traffic → S → S
-finished_state apply f t s = applied apply s (told_by f t)
+abbrev pub finished_state : {S : Type 0} → Meaning S → FlushModel → Traffic → S → S
+finished_state meaning f t s = applied meaning s (told_by f t)
 
 -- what its creator puts out
 abbrev pub finish_packets : Address → FlushModel → Traffic → List ℕ → List Posted
 finish_packets me f t state = map (instructing me f (view_of t).id state) (others_of me f.members)
 
 -- what happens to its creator
-abbrev pub finish_events : Address → FlushModel → Traffic → List Happening
+abbrev pub finish_events : Address → FlushModel → Traffic → List Event
 finish_events me f t = map (delivery me (view_of t).id) (told_by f t) ++ going me f t (own_of me (told_by f t)) ∷ []
 
 -- ---- an INSTALL is entered
@@ -94,11 +95,11 @@ abbrev pub left_in : Option Traffic → ℕ → List Numbered
 left_in traffic n = option_map_or (λ t. drop n (traffic_of t).outstanding) traffic []
 
 -- the state with which it goes on
-abbrev pub state_by : {S : Type 0} → (S → Address → List ℕ → S) → (List ℕ → Option S) → Option Traffic → wire.Install → S → S
-state_by apply decode traffic i s = unwrap_or (option_and_then decode i.state) (applied apply s (lacking traffic i))
+abbrev pub state_by : {S : Type 0} → Meaning S → Option Traffic → wire.Install → S → S
+state_by meaning traffic i s = unwrap_or (option_and_then meaning.decode i.state) (applied meaning s (lacking traffic i))
 
 -- it is told the view
-abbrev pub arriving : Address → Option Traffic → wire.Install → ℕ → Happening
+abbrev pub arriving : Address → Option Traffic → wire.Install → ℕ → Event
 arriving me traffic i n = Installed (record {
   member = me;
   previous = id_of (view_in traffic);
@@ -109,5 +110,5 @@ arriving me traffic i n = Installed (record {
 })
 
 -- what happens to it
-abbrev pub enter_events : Address → Option Traffic → wire.Install → List Happening
+abbrev pub enter_events : Address → Option Traffic → wire.Install → List Event
 enter_events me traffic i = deliveries me (view_in traffic) (lacking traffic i) ++ arriving me traffic i (own_of me (lacking traffic i)) ∷ []

@@ -13,8 +13,8 @@ use Rattle.wire.specs.declared.packet.Packet.{Packet}
 use Rattle.wire.specs.declared.packet.Body.{Body}
 use Rattle.wire.specs.declared.packet.Body.TheVariants as bodies
 use Rattle.wire.specs.Packets.{IsPacket, packet_of}
-use Rattle.trace_props.specs.declared.happening.Happening.{Happening}
-use Rattle.trace_props.specs.declared.happening.Happening.TheVariants.{Blocked}
+use Rattle.trace_props.specs.declared.event.Event.{Event}
+use Rattle.trace_props.specs.declared.event.Event.TheVariants.{Blocked}
 use Rattle.flush.specs.Flushes.{FlushModel, reported, has_reported, is_awaited}
 use Rattle.agreement.specs.Histories.{Posted}
 use Rattle.agreement.specs.Cores as cores
@@ -83,7 +83,7 @@ abbrev pub report_in : {S : Type 0} → Life S → wire.Report
 report_in l = report_with (view_in l.traffic) (traffic_in l.traffic)
 
 -- where it is open it is blocked from now on
-abbrev pub blocked_by : {S : Type 0} → Address → Life S → List Happening
+abbrev pub blocked_by : {S : Type 0} → Address → Life S → List Event
 blocked_by me l = if is_open (view_in l.traffic) l.promise.is_installed then Blocked me ∷ [] else []
 
 -- a flush that begins, with this report of the member's own

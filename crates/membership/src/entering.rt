@@ -20,7 +20,7 @@ use output::{Identity, Output};
 use packet_values::{Entry, State};
 use state_transfer::Receiver;
 use std::alloc::{AllocError, Global};
-use trace_props::{Bytes, HandedBack, Happening, Install as Installed};
+use trace_props::{Bytes, Event, HandedBack, Install as Installed};
 use traffic::Traffic;
 use view::{Addresses, View};
 use wire::{Install, Items, Roster};
@@ -51,9 +51,9 @@ pub(crate) fn is_fitting(traffic: &Option<Traffic>, install: &Install<'_>) -> bo
 
 // Takes a given state, if there is one.
 fn take_state<R: Receiver>(receiver: &mut R, given: &Option<State<'_>>) -> Result<(), Stop>
-    ensures state { OnOk result (receiver.new ≡ unwrap_or (option_and_then R.decode given.now) receiver.old) }
-    ensures readable { OnOk result (is_readable R.decode given.now ≡ true) }
-    ensures unreadable { result ≡ Err stop.Unreadable → is_readable R.decode given.now ≡ false }
+    ensures state { OnOk result (receiver.new ≡ unwrap_or (option_and_then R.meaning.decode given.now) receiver.old) }
+    ensures readable { OnOk result (is_readable R.meaning given.now ≡ true) }
+    ensures unreadable { result ≡ Err stop.Unreadable → is_readable R.meaning given.now ≡ false }
 {
     match given {
         None => Ok(()),
@@ -75,7 +75,7 @@ fn deliver_lacking<R: Receiver>(
     receiver: &mut R,
     out: &mut Output,
 ) -> Result<usize, AllocError>
-    ensures state { OnOk result (receiver.new ≡ applied R.apply receiver.old (lacking (Some traffic.now) install.now)) }
+    ensures state { OnOk result (receiver.new ≡ applied R.meaning receiver.old (lacking (Some traffic.now) install.now)) }
     ensures out { OnOk result (Grows who.now.group out.old out.new [] (deliveries who.now.address (Some (view_of traffic.now)) (lacking (Some traffic.now) install.now))) }
     ensures own { IfOk result (λ n. n ≡ own_of who.now.address (lacking (Some traffic.now) install.now)) }
 {
@@ -97,7 +97,7 @@ fn deliver_last<R: Receiver>(
     receiver: &mut R,
     out: &mut Output,
 ) -> Result<usize, AllocError>
-    ensures state { OnOk result (receiver.new ≡ applied R.apply receiver.old (lacking traffic.now install.now)) }
+    ensures state { OnOk result (receiver.new ≡ applied R.meaning receiver.old (lacking traffic.now install.now)) }
     ensures out { OnOk result (Grows who.now.group out.old out.new [] (deliveries who.now.address (view_in traffic.now) (lacking traffic.now install.now))) }
     ensures own { IfOk result (λ n. n ≡ own_of who.now.address (lacking traffic.now install.now)) }
 {
@@ -169,7 +169,7 @@ fn tell_view(
     let handed_back = left_of(who.alloc, traffic, own)?;
     let given = state_copied(who.alloc, install.state())?;
     who.record(
-        Happening::Installed(Installed {
+        Event::Installed(Installed {
             member: who.address,
             previous,
             view,
@@ -190,9 +190,9 @@ impl<R: Receiver> Life<R> {
         install: &Install<'_>,
         out: &mut Output,
     ) -> Result<(), Stop>
-        ensures enters { OnOk result (Enters R.apply R.decode who.now.group who.now.address traffic install.now self.old self.new out.old out.new) }
-        ensures readable { OnOk result (is_readable R.decode install.now.state ≡ true) }
-        ensures unreadable { result ≡ Err stop.Unreadable → is_readable R.decode install.now.state ≡ false }
+        ensures enters { OnOk result (Enters R.meaning who.now.group who.now.address traffic install.now self.old self.new out.old out.new) }
+        ensures readable { OnOk result (is_readable R.meaning install.now.state ≡ true) }
+        ensures unreadable { result ≡ Err stop.Unreadable → is_readable R.meaning install.now.state ≡ false }
     {
         let own = deliver_last(who, &traffic, install, &mut self.receiver, out)?;
         take_state(&mut self.receiver, install.state())?;

@@ -2,7 +2,7 @@
 
 ghost use Rattle.std.specs.Prelude.{◌≡◌, ◌≤◌, ◌++◌, drop, [], ◌∷◌, OnOk, IfOk, Some, None, length, map, true};
 ghost use Rattle.std.specs.List.{flat_map, AllByRecursion};
-ghost use Rattle.packet_values.specs.declared.limits.TheConstants.{STATE};
+ghost use Rattle.limits.specs.declared.TheConstants.{STATE};
 ghost use Rattle.view.specs.View.{view_refusal};
 ghost use Rattle.wire.specs.Fields.{entry_bytes, IsEntry};
 ghost use Rattle.flush.specs.Flushes.{together_of, previous_of};
@@ -20,7 +20,7 @@ use output::{Identity, Output};
 use packet_values::{Count, Entry, State};
 use state_transfer::Receiver;
 use std::alloc::{AllocError, Global};
-use trace_props::{Bytes, Delivery, Happening, Install as Installed, Message};
+use trace_props::{Bytes, Delivery, Event, Install as Installed, Message};
 use traffic::Traffic;
 use view::{Addresses, View};
 use wire::{Body, Install, Items, Members, Roster};
@@ -79,7 +79,7 @@ fn deliver<R: Receiver>(
     receiver: &mut R,
     out: &mut Output,
 ) -> Result<(), AllocError>
-    ensures state { OnOk result (receiver.new ≡ R.apply receiver.old entry.now.sender entry.now.payload) }
+    ensures state { OnOk result (receiver.new ≡ R.meaning.apply receiver.old entry.now.sender entry.now.payload) }
     ensures out { OnOk result (Grows who.now.group out.old out.new [] (delivery who.now.address view entry.now ∷ [])) }
 {
     receiver.receive(entry.sender, entry.payload.as_slice())?;
@@ -90,7 +90,7 @@ fn deliver<R: Receiver>(
         payload,
     };
     who.record(
-        Happening::Delivered(Delivery {
+        Event::Delivered(Delivery {
             member: who.address,
             view,
             message,
@@ -107,7 +107,7 @@ pub(crate) fn deliver_all<R: Receiver>(
     receiver: &mut R,
     out: &mut Output,
 ) -> Result<(), AllocError>
-    ensures state { OnOk result (receiver.new ≡ applied R.apply receiver.old entries.now) }
+    ensures state { OnOk result (receiver.new ≡ applied R.meaning receiver.old entries.now) }
     ensures out { OnOk result (Grows who.now.group out.old out.new [] (map (delivery who.now.address view) entries.now)) }
 {
     match entries.split_first() {
@@ -224,7 +224,7 @@ fn deliver_cut<R: Receiver>(
     receiver: &mut R,
     out: &mut Output,
 ) -> Result<usize, AllocError>
-    ensures state { OnOk result (receiver.new ≡ applied R.apply receiver.old (told_by flush.now traffic.now)) }
+    ensures state { OnOk result (receiver.new ≡ applied R.meaning receiver.old (told_by flush.now traffic.now)) }
     ensures out { OnOk result (Grows who.now.group out.old out.new [] (map (delivery who.now.address (view_of traffic.now).id) (told_by flush.now traffic.now))) }
     ensures own { IfOk result (λ n. n ≡ own_of who.now.address (told_by flush.now traffic.now)) }
 {
@@ -253,7 +253,7 @@ fn tell_view(
     let together = flush.together(who.alloc, &who.address)?;
     let handed_back = traffic.handed_back(own)?;
     who.record(
-        Happening::Installed(Installed {
+        Event::Installed(Installed {
             member: who.address,
             previous: Some(previous),
             view,
@@ -274,9 +274,9 @@ pub(crate) fn finish<R: Receiver>(
     out: &mut Output,
 ) -> Result<(), AllocError>
     requires list { view_refusal flush.now.proposal flush.now.members ≡ None }
-    requires sound { AllByRecursion (IsSayable flush.now (view_of traffic).id (R.encode (finished_state R.apply flush.now traffic receiver.old))) (others_of who.now.address flush.now.members) }
-    ensures state { OnOk result (receiver.new ≡ finished_state R.apply flush.now traffic receiver.old) }
-    ensures out { OnOk result (Grows who.now.group out.old out.new (finish_packets who.now.address flush.now traffic (R.encode (finished_state R.apply flush.now traffic receiver.old))) (finish_events who.now.address flush.now traffic)) }
+    requires sound { AllByRecursion (IsSayable flush.now (view_of traffic).id (R.meaning.encode (finished_state R.meaning flush.now traffic receiver.old))) (others_of who.now.address flush.now.members) }
+    ensures state { OnOk result (receiver.new ≡ finished_state R.meaning flush.now traffic receiver.old) }
+    ensures out { OnOk result (Grows who.now.group out.old out.new (finish_packets who.now.address flush.now traffic (R.meaning.encode (finished_state R.meaning flush.now traffic receiver.old))) (finish_events who.now.address flush.now traffic)) }
 {
     let view = traffic.view().id();
     let own = deliver_cut(who, flush, &traffic, receiver, out)?;

@@ -87,8 +87,8 @@ impl<R: Receiver> Life<R> {
         out: &mut Output,
     ) -> Result<(), AllocError>
         requires list { view_refusal flush.now.proposal flush.now.members ≡ None }
-        requires sound { AllByRecursion (IsSayable flush.now (view_of traffic).id (R.encode (finished_state R.apply flush.now traffic self.old.receiver))) (others_of who.now.address flush.now.members) }
-        ensures { OnOk result (Finishes R.apply R.encode who.now.group who.now.address flush.now traffic self.old self.new out.old out.new) }
+        requires sound { AllByRecursion (IsSayable flush.now (view_of traffic).id (R.meaning.encode (finished_state R.meaning flush.now traffic self.old.receiver))) (others_of who.now.address flush.now.members) }
+        ensures { OnOk result (Finishes R.meaning who.now.group who.now.address flush.now traffic self.old self.new out.old out.new) }
     {
         flush.kept();
         let view = view_of(who.alloc, flush)?;

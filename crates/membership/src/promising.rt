@@ -17,7 +17,7 @@ use address::ViewId;
 use output::{Identity, Output};
 use state_transfer::Receiver;
 use std::alloc::{AllocError, Global};
-use trace_props::Happening;
+use trace_props::Event;
 use traffic::Traffic;
 use wire::{Body, Held, Report, Roster};
 
@@ -65,7 +65,7 @@ impl<R: Receiver> Life<R> {
     {
         if self.is_open() {
             self.receiver.blocked();
-            who.record(Happening::Blocked(who.address), out)?;
+            who.record(Event::Blocked(who.address), out)?;
         }
         Ok(())
     }

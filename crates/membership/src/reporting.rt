@@ -91,7 +91,7 @@ impl<R: Receiver> Life<R> {
         requires life { IsLife who.now.group who.now.address (record self.old { flush = Some flush; traffic = Some traffic }) }
         requires complete { is_complete flush ≡ true }
         ensures life { OnOk result (IsLife who.now.group who.now.address self.new) }
-        ensures finishes { OnOk result (Finishes R.apply R.encode who.now.group who.now.address flush traffic self.old self.new out.old out.new) }
+        ensures finishes { OnOk result (Finishes R.meaning who.now.group who.now.address flush traffic self.old self.new out.old out.new) }
     {
         flush.kept();
         self.settle(who, &flush, traffic, out)?;
@@ -102,7 +102,7 @@ impl<R: Receiver> Life<R> {
     pub(crate) fn finish(&mut self, who: &Identity, out: &mut Output) -> Result<(), AllocError>
         requires life { IsLife who.now.group who.now.address self.old }
         ensures life { OnOk result (IsLife who.now.group who.now.address self.new) }
-        ensures finishes { OnOk result (FinishesIf R.apply R.encode who.now.group who.now.address self.old self.new out.old out.new) }
+        ensures finishes { OnOk result (FinishesIf R.meaning who.now.group who.now.address self.old self.new out.old out.new) }
     {
         if !self.is_complete() {
             return Ok(());
@@ -117,7 +117,7 @@ impl<R: Receiver> Life<R> {
     pub(crate) fn go_on(&mut self, who: &Identity, out: &mut Output) -> Result<(), AllocError>
         requires life { IsLife who.now.group who.now.address self.old }
         ensures life { OnOk result (IsLife who.now.group who.now.address self.new) }
-        ensures goes_on { OnOk result (GoesOn R.apply R.encode who.now.group who.now.address self.old self.new out.old out.new) }
+        ensures goes_on { OnOk result (GoesOn R.meaning who.now.group who.now.address self.old self.new out.old out.new) }
     {
         self.finish(who, out)?;
         self.propose(who, out)?;
@@ -136,7 +136,7 @@ impl<R: Receiver> Life<R> {
     ) -> Result<(), AllocError>
         requires life { IsLife who.now.group who.now.address self.old }
         ensures life { OnOk result (IsLife who.now.group who.now.address self.new) }
-        ensures takes { OnOk result (TakesReport R.apply R.encode who.now.group who.now.address source proposal report.now self.old self.new out.old out.new) }
+        ensures takes { OnOk result (TakesReport R.meaning who.now.group who.now.address source proposal report.now self.old self.new out.old out.new) }
     {
         self.record(source, proposal, report)?;
         self.go_on(who, out)?;
@@ -148,7 +148,7 @@ impl<R: Receiver> Life<R> {
     pub fn regroup(&mut self, who: &Identity, out: &mut Output) -> Result<(), AllocError>
         requires life { IsLife who.now.group who.now.address self.old }
         ensures life { OnOk result (IsLife who.now.group who.now.address self.new) }
-        ensures regroups { OnOk result (Regroups R.apply R.encode who.now.group who.now.address self.old self.new out.old out.new) }
+        ensures regroups { OnOk result (Regroups R.meaning who.now.group who.now.address self.old self.new out.old out.new) }
     {
         self.propose(who, out)?;
         self.go_on(who, out)?;

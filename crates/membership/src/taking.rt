@@ -74,7 +74,7 @@ impl<R: Receiver> Life<R> {
     ) -> Result<(), AllocError>
         requires life { IsLife who.now.group who.now.address self.old }
         ensures life { OnOk result (IsLife who.now.group who.now.address self.new) }
-        ensures takes { OnOk result (TakesBehind R.apply R.encode who.now.group who.now.address counter self.old self.new out.old out.new) }
+        ensures takes { OnOk result (TakesBehind R.meaning who.now.group who.now.address counter self.old self.new out.old out.new) }
     {
         self.notes.hear(counter.get());
         self.begin_anew(who, out)?;
@@ -92,7 +92,7 @@ impl<R: Receiver> Life<R> {
         requires life { IsLife who.now.group who.now.address self.old }
         requires other { same_address address who.now.address ≡ false }
         ensures life { OnOk result (IsLife who.now.group who.now.address self.new) }
-        ensures takes { OnOk result (TakesSuspicion R.apply R.encode who.now.group who.now.address address self.old self.new out.old out.new) }
+        ensures takes { OnOk result (TakesSuspicion R.meaning who.now.group who.now.address address self.old self.new out.old out.new) }
     {
         self.notes.suspect(address)?;
         self.regroup(who, out)?;
@@ -118,8 +118,8 @@ impl<R: Receiver> Life<R> {
     ) -> Result<(), Stop>
         requires life { IsLife who.now.group who.now.address self.old }
         ensures life { OnOk result (IsLife who.now.group who.now.address self.new) }
-        ensures takes { OnOk result (TakesInstall R.apply R.decode who.now.group who.now.address source install.now self.old self.new out.old out.new) }
-        ensures unreadable { result ≡ Err stop.Unreadable → (is_entry (core_of who.now.address self.old) source install.now ≡ true) × (is_readable R.decode install.now.state ≡ false) }
+        ensures takes { OnOk result (TakesInstall R.meaning who.now.group who.now.address source install.now self.old self.new out.old out.new) }
+        ensures unreadable { result ≡ Err stop.Unreadable → (is_entry (core_of who.now.address self.old) source install.now ≡ true) × (is_readable R.meaning install.now.state ≡ false) }
         ensures ignored { is_entry (core_of who.now.address self.old) source install.now ≡ false → (result ≡ Ok tt) × StaysAs self.old self.new out.old out.new }
     {
         if !self.would_enter(&who.address, &source, install) {

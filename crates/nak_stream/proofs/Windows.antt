@@ -1,11 +1,12 @@
 -- What holds of each window goes on to hold as entries come, are delivered and are let go.
-use Rattle.std.proofs.Common.{◌≡◌, ℕ, ◌+◌, ◌<◌, ◌≤◌, ◌^◌, Bool, true, false, List, [], ◌∷◌, Some, None, refl, sym, ap, ◌∙◌, subst, arith, cond}
+use Rattle.std.proofs.Common.{◌≡◌, ℕ, ◌+◌, ◌<◌, ◌≤◌, Bool, true, false, List, [], ◌∷◌, Some, None, refl, sym, ap, ◌∙◌, subst, arith, cond}
 use Rattle.std.specs.Prelude.{IsSome, is_some, nat_lt, nat_eq}
 use Rattle.std.specs.Ordering.{nat_cmp, is_eq}
 use Rattle.std.specs.Map.{keys_of, lookup}
 use Rattle.std.specs.List.Sorted.{IsStrictlySortedBy}
 use Rattle.std.proofs.lemmas.Bool.Decides.{nat_tests}
 use Rattle.std.proofs.lemmas.Map.Entries.{lookup-filter-keys}
+use Rattle.limits.specs.declared.TheConstants.{WINDOW, GREATEST_NUMBER}
 use Rattle.packet_values.specs.Values.{Entry, held_at}
 use Rattle.nak_stream.specs.Windows.{WindowModel, held_above, held_with, offers, IsWindow}
 
@@ -52,16 +53,16 @@ still-there true g k e held more q at h = ap is_some (at ∙ ap (λ t. cond t (S
 still-there false g k e held more q at h = ap is_some (at ∙ ap (λ t. cond t (Some e) (held_at k held)) q) ∙ h
 
 -- a new number is held
-pub taken-kept : (w : WindowModel) (g : ℕ) (e : Entry) (more : List (ℕ × Entry)) → IsWindow w → w.delivered < g → g ≤ w.stable + 32 → g ≤ 2 ^ 62
+pub taken-kept : (w : WindowModel) (g : ℕ) (e : Entry) (more : List (ℕ × Entry)) → IsWindow w → w.delivered < g → g ≤ w.stable + WINDOW → g ≤ GREATEST_NUMBER
     → ((k : ℕ) → held_at k more ≡ cond (nat_eq g k) (Some e) (held_at k w.held)) → IsStrictlySortedBy nat_cmp (keys_of more)
     → IsWindow (record w { held = more })
 taken-kept w g e more i past reach small at rising =
     let low : w.stable + 1 ≤ g = omega (arith, i.counts) in record {
       counts = i.counts;
       last = i.last;
-      above = λ k h. omega (arith, (of-one-more (nat_eq g k) g k (w.stable + 1) (w.stable + 32) e w.held more refl (at k) low reach (λ x. (omega (arith, i.above k x), i.within k x)) h).0);
-      within = λ k h. (of-one-more (nat_eq g k) g k (w.stable + 1) (w.stable + 32) e w.held more refl (at k) low reach (λ x. (omega (arith, i.above k x), i.within k x)) h).1;
-      small = λ k h. (of-one-more (nat_eq g k) g k (w.stable + 1) (2 ^ 62) e w.held more refl (at k) low small (λ x. (omega (arith, i.above k x), i.small k x)) h).1;
+      above = λ k h. omega (arith, (of-one-more (nat_eq g k) g k (w.stable + 1) (w.stable + WINDOW) e w.held more refl (at k) low reach (λ x. (omega (arith, i.above k x), i.within k x)) h).0);
+      within = λ k h. (of-one-more (nat_eq g k) g k (w.stable + 1) (w.stable + WINDOW) e w.held more refl (at k) low reach (λ x. (omega (arith, i.above k x), i.within k x)) h).1;
+      small = λ k h. (of-one-more (nat_eq g k) g k (w.stable + 1) GREATEST_NUMBER e w.held more refl (at k) low small (λ x. (omega (arith, i.above k x), i.small k x)) h).1;
       there = λ k a b. still-there (nat_eq g k) g k e w.held more refl (at k) (i.there k a b);
       rising = rising;
     }
@@ -91,8 +92,8 @@ above-kept w t i low high rising = record {
 -- what an entry that is taken meets
 pub record Offered (g : ℕ) (w : WindowModel) : Type 0 where
   pub past : w.delivered < g
-  pub reach : g ≤ w.stable + 32
-  pub small : g ≤ 2 ^ 62
+  pub reach : g ≤ w.stable + WINDOW
+  pub small : g ≤ GREATEST_NUMBER
 
 pub offered : (g : ℕ) (w : WindowModel) → offers g w ≡ true → Offered g w
 offered g w h = record { past = grind (arith, nat_tests); reach = grind (arith, nat_tests); small = grind (arith, nat_tests) }

@@ -1,11 +1,11 @@
 -- The receive window: what it is, what is offered to it and what is let go.
-use Rattle.std.specs.Prelude.{◌≡◌, ℕ, ◌+◌, ◌<◌, ◌≤◌, ◌^◌, Bool, not, ◌&&◌, List, [], None, IsSome, is_some, filter, nat_lt, nat_le, min, if◌then◌else◌}
+use Rattle.std.specs.Prelude.{◌≡◌, ℕ, ◌+◌, ◌<◌, ◌≤◌, Bool, not, ◌&&◌, List, [], None, IsSome, is_some, filter, nat_lt, nat_le, min, if◌then◌else◌}
 use Rattle.std.specs.Ordering.{nat_cmp}
 use Rattle.std.specs.Map.{keys_of}
 use Rattle.std.specs.BTreeMap.{insert_entry}
 use Rattle.std.specs.List.Sorted.{IsStrictlySortedBy}
 use Rattle.packet_values.specs.Values.{Entry, held_at}
-use Rattle.nak_stream.specs.declared.TheConstants.{REACH}
+use Rattle.limits.specs.declared.TheConstants.{WINDOW, GREATEST_NUMBER}
 
 -- a window: a stable count, a delivered count, and what is held, as pairs of number and entry with rising numbers
 pub record WindowModel : Type 0 where
@@ -24,10 +24,10 @@ held_above t held = filter (λ p. nat_lt t p.0) held
 -- what holds of each window
 pub record IsWindow (w : WindowModel) : Type 0 where
   pub counts : w.stable ≤ w.delivered
-  pub last : w.delivered ≤ 2 ^ 62
+  pub last : w.delivered ≤ GREATEST_NUMBER
   pub above : (g : ℕ) → IsSome (held_at g w.held) → w.stable < g
-  pub within : (g : ℕ) → IsSome (held_at g w.held) → g ≤ w.stable + REACH
-  pub small : (g : ℕ) → IsSome (held_at g w.held) → g ≤ 2 ^ 62
+  pub within : (g : ℕ) → IsSome (held_at g w.held) → g ≤ w.stable + WINDOW
+  pub small : (g : ℕ) → IsSome (held_at g w.held) → g ≤ GREATEST_NUMBER
   pub there : (g : ℕ) → w.stable < g → g ≤ w.delivered → IsSome (held_at g w.held)
   pub rising : IsStrictlySortedBy nat_cmp (keys_of w.held)
 
@@ -37,7 +37,7 @@ empty_window = record { stable = 0; delivered = 0; held = [] }
 
 -- whether an entry with this number is taken: it is above what was delivered, within reach, and new
 abbrev pub offers : ℕ → WindowModel → Bool
-offers g w = nat_lt w.delivered g && nat_le g (w.stable + REACH) && nat_le g (2 ^ 62) && not (is_some (held_at g w.held))
+offers g w = nat_lt w.delivered g && nat_le g (w.stable + WINDOW) && nat_le g GREATEST_NUMBER && not (is_some (held_at g w.held))
 
 -- the window after an entry was offered
 abbrev pub taken : ℕ → Entry → WindowModel → WindowModel

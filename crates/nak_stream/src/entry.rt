@@ -6,8 +6,8 @@ use packet_values::{Entry as LentEntry, Number};
 use std::alloc::{AllocError, Global};
 use std::marker::Model;
 
-/// A message as the view's one order has it, kept: its sender, its number among that sender's messages of the view, from 1 to 2^62, and its
-/// payload of at most 512 bytes. Contracts see it as they see a lent one.
+/// A message as the view's one order has it, kept: its sender, its number among that sender's messages of the view, from 1 to `GREATEST_NUMBER`, and its
+/// payload of at most `PAYLOAD` bytes. Contracts see it as they see a lent one.
 #[derive(Debug, Drop)]
 pub struct Entry {
     /// Who sent it.

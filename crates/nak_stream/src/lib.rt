@@ -11,6 +11,3 @@ pub use entry::Entry;
 pub use law::{beginnings_agree, windows_agree};
 pub use payload::KeptPayload;
 pub use window::Window;
-
-/// How many numbers past the stable count a window takes: 32.
-pub const REACH: u64 = 32;

@@ -4,7 +4,7 @@ use packet_values::Payload;
 use std::alloc::{AllocError, Global};
 use std::marker::Model;
 
-/// A message's payload that is kept: at most 512 bytes.
+/// A message's payload that is kept: at most `PAYLOAD` bytes.
 #[derive(Debug, Drop)]
 pub struct KeptPayload {
     bytes: Vec<u8>,
@@ -12,7 +12,7 @@ pub struct KeptPayload {
 
 impl Model for KeptPayload {
     ghost use Rattle.std.specs.Prelude.{List, ℕ, length, ◌≤◌};
-    ghost use Rattle.packet_values.specs.declared.limits.TheConstants.{PAYLOAD};
+    ghost use Rattle.limits.specs.declared.TheConstants.{PAYLOAD};
 
     ghost Value = { List ℕ };
 

@@ -6,17 +6,17 @@ ghost use Rattle.std.specs.List.Sorted.{IsStrictlySortedBy};
 ghost use Rattle.packet_values.specs.Values.{held_at};
 ghost use Rattle.nak_stream.specs.Windows.{WindowModel, empty_window, held_above, offers, taken, delivering, collected, IsWindow, IsMissing, IsLeastGap, IsGreatestGap};
 
-use crate::{Entry, REACH};
-use address::GREATEST_NUMBER;
+use crate::Entry;
+use limits::{GREATEST_NUMBER, WINDOW};
 use packet_values::Entry as LentEntry;
 use std::alloc::{AllocError, Global};
 use std::collections::BTreeMap;
 use std::marker::Model;
 
 /// A window of a view: how many messages are known to be stable, how many were delivered here, and the entries
-/// that are held, each at its number in the view's one order. Numbers run from 1 to 2^62.
+/// that are held, each at its number in the view's one order. Numbers run from 1 to `GREATEST_NUMBER`.
 ///
-/// The stable count is at most the delivered one. All that is held lies above the stable count and at most 32 above
+/// The stable count is at most the delivered one. All that is held lies above the stable count and at most `WINDOW` above
 /// it, and each number from the stable count to the delivered one is held (docs/PROTOCOL.md, "Window").
 #[derive(Debug, Drop)]
 pub struct Window {
@@ -49,14 +49,14 @@ impl Window {
         })
     }
 
-    /// How many messages are known to be stable, 0 to 2^62: nothing is held up to there.
+    /// How many messages are known to be stable, 0 to `GREATEST_NUMBER`: nothing is held up to there.
     pub fn stable(&self) -> u64
         ensures { result ≡ self.now.stable }
     {
         self.stable
     }
 
-    /// How many messages were delivered here, 0 to 2^62.
+    /// How many messages were delivered here, 0 to `GREATEST_NUMBER`.
     pub fn delivered(&self) -> u64
         ensures { result ≡ self.now.delivered }
     {
@@ -85,7 +85,7 @@ impl Window {
     }
 
     /// Offers a lent entry at the number `g`. It is taken, and true is answered, exactly where `g` is above the delivered count, at most
-    /// 32 above the stable count and at most 2^62, and nothing is held there. The entry is copied.
+    /// `WINDOW` above the stable count and at most `GREATEST_NUMBER`, and nothing is held there. The entry is copied.
     /// An error for want of memory comes only where it was to be taken; it leaves the window as it was.
     pub fn accept(&mut self, g: u64, entry: &LentEntry<'_>) -> Result<bool, AllocError>
         ensures answer { IfOk result (λ answer. answer ≡ offers g self.old) }
@@ -105,7 +105,7 @@ impl Window {
         ensures { result ≡ offers g self.now }
     {
         self.delivered < g
-            && g - self.stable <= REACH
+            && g - self.stable <= WINDOW
             && g <= GREATEST_NUMBER
             && !holds(&self.held, g)
     }

@@ -4,17 +4,17 @@ use Rattle.std.specs.List.{AllByRecursion}
 use Rattle.address.specs.Ids.{Address, same_address}
 use Rattle.wire.specs.declared.packet.Packet.{Packet}
 use Rattle.wire.specs.Packets.{IsPacket, spelling}
-use Rattle.trace_props.specs.declared.happening.Happening.{Happening}
+use Rattle.trace_props.specs.declared.event.Event.{Event}
 use Rattle.trace_props.specs.Recorded.{IsShort}
 use Rattle.agreement.specs.Histories.{Posted}
 use Rattle.output.specs.declared.output.Outgoing.{Outgoing}
 use Rattle.output.specs.declared.output.Output.{Output}
 use Rattle.output.specs.Names.{same_name}
 
--- these packets and these happenings, and no others
-pub record Puts (posted : List Outgoing) (happened : List Happening) (out : Output) : Type 0 where
+-- these packets and these events, and no others
+pub record Puts (posted : List Outgoing) (happened : List Event) (out : Output) : Type 0 where
   pub packets : out.packets.items ≡ posted
-  pub happenings : out.happenings.items ≡ happened
+  pub events : out.events.items ≡ happened
 
 -- a packet of a group
 abbrev pub packet_in : List ℕ → Posted → Packet
@@ -24,11 +24,11 @@ packet_in group m = record { group = group; source = m.source; destination = m.d
 abbrev pub spelled : List ℕ → Posted → Outgoing
 spelled group m = record { destination = m.destination; bytes = spelling (packet_in group m) }
 
--- these packets more, each of which is read back, and these happenings more, each of which a trace takes
-pub record Grows (group : List ℕ) (old new : Output) (posted : List Posted) (happened : List Happening) : Type 0 where
+-- these packets more, each of which is read back, and these events more, each of which a trace takes
+pub record Grows (group : List ℕ) (old new : Output) (posted : List Posted) (happened : List Event) : Type 0 where
   pub packets : new.packets.items ≡ old.packets.items ++ map (spelled group) posted
   pub sound : AllByRecursion (λ m. IsPacket (packet_in group m)) posted
-  pub happenings : new.happenings.items ≡ old.happenings.items ++ happened
+  pub events : new.events.items ≡ old.events.items ++ happened
   pub short : AllByRecursion IsShort happened
 
 -- a packet of its group, to its address, from another

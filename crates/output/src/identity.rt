@@ -7,7 +7,7 @@ ghost use Rattle.output.specs.Outputs.{Grows, packet_in, spelled, is_for};
 use crate::{KeptName, Outgoing, Output};
 use address::Address;
 use std::alloc::{AllocError, Global};
-use trace_props::{Bytes, Happening};
+use trace_props::{Bytes, Event};
 use wire::{Body, Packet};
 use wire_writer::encode;
 
@@ -52,12 +52,12 @@ impl Identity {
         Ok(())
     }
 
-    /// Something happens to the member, behind what happened before; a payload that it carries has at most 512 bytes. After an error for want of memory nothing is said of the output.
-    pub fn record(&self, happening: Happening, out: &mut Output) -> Result<(), AllocError>
-        requires short { IsShort happening }
-        ensures { OnOk result (Grows self.now.group out.old out.new [] (happening ∷ [])) }
+    /// Something happens to the member, behind what happened before; a payload that it carries has at most `PAYLOAD` bytes. After an error for want of memory nothing is said of the output.
+    pub fn record(&self, event: Event, out: &mut Output) -> Result<(), AllocError>
+        requires short { IsShort event }
+        ensures { OnOk result (Grows self.now.group out.old out.new [] (event ∷ [])) }
     {
-        out.happenings.push(happening)?;
+        out.events.push(event)?;
         let _ = &self.group;
         Ok(())
     }

@@ -1,10 +1,11 @@
 ghost use Rattle.std.specs.Prelude.{◌≡◌};
 ghost use Rattle.output.specs.Names.{same_name};
 
-use packet_values::{GROUP_NAME, GroupName};
+use limits::GROUP_NAME;
+use packet_values::GroupName;
 use std::marker::Model;
 
-/// The name of a group, kept: 1 to 32 bytes.
+/// The name of a group, kept: 1 to `GROUP_NAME` bytes.
 #[derive(Debug, Drop)]
 pub struct KeptName {
     bytes: [u8; GROUP_NAME],
@@ -13,13 +14,14 @@ pub struct KeptName {
 
 impl Model for KeptName {
     ghost use Rattle.std.specs.Prelude.{List, ℕ, take, ◌≡◌, ◌≤◌, true};
+    ghost use Rattle.limits.specs.declared.TheConstants.{GROUP_NAME};
     ghost use Rattle.packet_values.specs.Names.{is_group_name};
 
     ghost Value = { List ℕ };
 
     ghost view = { λ n. take n.len n.bytes };
 
-    ghost invariant = { λ n. (n.len ≤ 32) × (is_group_name (take n.len n.bytes) ≡ true) };
+    ghost invariant = { λ n. (n.len ≤ GROUP_NAME) × (is_group_name (take n.len n.bytes) ≡ true) };
 }
 
 impl KeptName {

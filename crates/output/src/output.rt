@@ -3,9 +3,9 @@ ghost use Rattle.output.specs.Outputs.{Puts};
 
 use address::Address;
 use std::alloc::Global;
-use trace_props::{Bytes, Happening};
+use trace_props::{Bytes, Event};
 
-/// A packet to be put out: to whom, and its bytes, at most 40,000 of them (docs/WIRE.md).
+/// A packet to be put out: to whom, and its bytes, at most `DATAGRAM` of them (docs/WIRE.md).
 #[derive(Debug, Drop)]
 pub struct Outgoing {
     pub destination: Address,
@@ -16,7 +16,7 @@ pub struct Outgoing {
 #[derive(Debug, Drop)]
 pub struct Output {
     pub packets: Vec<Outgoing>,
-    pub happenings: Vec<Happening>,
+    pub events: Vec<Event>,
 }
 
 impl Output {
@@ -26,7 +26,7 @@ impl Output {
     {
         Output {
             packets: Vec::new(alloc),
-            happenings: Vec::new(alloc),
+            events: Vec::new(alloc),
         }
     }
 }

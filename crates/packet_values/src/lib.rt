@@ -3,11 +3,9 @@
 #![tactic(auto)]
 
 mod entry;
-mod limits;
 mod numbers;
 mod text;
 
 pub use entry::Entry;
-pub use limits::{GROUP_NAME, PAYLOAD, STATE, WINDOW};
 pub use numbers::{Count, Missing, Number, Progress};
 pub use text::{GroupName, Payload, State};

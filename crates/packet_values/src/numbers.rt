@@ -1,11 +1,10 @@
 ghost use Rattle.std.specs.Prelude.{◌≡◌, ◌≤◌, ◌+◌};
 ghost use Rattle.std.specs.Option.{SomeIff};
 
-use crate::WINDOW;
-use address::GREATEST_NUMBER;
+use limits::{GREATEST_NUMBER, WINDOW};
 use std::marker::Model;
 
-/// A number from 1 to 2^62: of a message, of a place in a view's order, or a view's counter.
+/// A number from 1 to `GREATEST_NUMBER`: of a message, of a place in a view's order, or a view's counter.
 #[derive(Clone, Copy, Debug)]
 pub struct Number {
     value: u64,
@@ -13,7 +12,7 @@ pub struct Number {
 
 impl Model for Number {
     ghost use Rattle.std.specs.Prelude.{ℕ, ◌≤◌};
-    ghost use Rattle.address.specs.declared.TheConstants.{GREATEST_NUMBER};
+    ghost use Rattle.limits.specs.declared.TheConstants.{GREATEST_NUMBER};
 
     ghost Value = { ℕ };
 
@@ -25,7 +24,7 @@ impl Model for Number {
 }
 
 impl Number {
-    /// The number of a value from 1 to 2^62; `None` for another.
+    /// The number of a value from 1 to `GREATEST_NUMBER`; `None` for another.
     pub fn new(value: u64) -> Option<Number>
         ensures { SomeIff result ((1 ≤ value) × (value ≤ GREATEST_NUMBER)) value }
     {
@@ -35,7 +34,7 @@ impl Number {
         Some(Number { value })
     }
 
-    /// Its value, 1 to 2^62.
+    /// Its value, 1 to `GREATEST_NUMBER`.
     pub fn get(self) -> u64
         ensures value { result ≡ self }
         ensures in_range { (1 ≤ result) × (result ≤ GREATEST_NUMBER) }
@@ -44,7 +43,7 @@ impl Number {
     }
 }
 
-/// A count of messages, 0 to 2^62.
+/// A count of messages, 0 to `GREATEST_NUMBER`.
 #[derive(Clone, Copy, PartialEq, Eq, PartialOrd, Ord)]
 pub struct Count {
     count: u64,
@@ -52,7 +51,7 @@ pub struct Count {
 
 impl Model for Count {
     ghost use Rattle.std.specs.Prelude.{ℕ, ◌≤◌};
-    ghost use Rattle.address.specs.declared.TheConstants.{GREATEST_NUMBER};
+    ghost use Rattle.limits.specs.declared.TheConstants.{GREATEST_NUMBER};
 
     ghost Value = { ℕ };
 
@@ -71,7 +70,7 @@ impl Count {
         Count { count: 0 }
     }
 
-    /// The count of a value up to 2^62; `None` for another.
+    /// The count of a value up to `GREATEST_NUMBER`; `None` for another.
     pub fn new(value: u64) -> Option<Count>
         ensures { SomeIff result (value ≤ GREATEST_NUMBER) value }
     {
@@ -81,7 +80,7 @@ impl Count {
         Some(Count { count: value })
     }
 
-    /// Its value, up to 2^62.
+    /// Its value, up to `GREATEST_NUMBER`.
     pub fn get(self) -> u64
         ensures value { result ≡ self }
         ensures in_range { result ≤ GREATEST_NUMBER }
@@ -147,7 +146,7 @@ pub struct Progress {
 
 impl Model for Progress {
     ghost use Rattle.std.specs.Prelude.{◌≤◌, ◌+◌};
-    ghost use Rattle.packet_values.specs.declared.limits.TheConstants.{WINDOW};
+    ghost use Rattle.limits.specs.declared.TheConstants.{WINDOW};
     ghost use Rattle.packet_values.specs.Values.{Progress};
 
     ghost Value = { Progress };
@@ -164,7 +163,7 @@ impl Progress {
     pub fn new(highest: Count, stable: Count) -> Option<Progress>
         ensures { SomeIff result ((stable ≤ highest) × (highest ≤ stable + WINDOW)) (record { highest = highest; stable = stable }) }
     {
-        if stable.get() > highest.get() || highest.get() > stable.get() + WINDOW as u64 {
+        if stable.get() > highest.get() || highest.get() > stable.get() + WINDOW {
             return None;
         }
         Some(Progress { highest, stable })

@@ -3,10 +3,10 @@ ghost use Rattle.std.specs.List.{list_all};
 ghost use Rattle.std.specs.Option.{SomeIff};
 ghost use Rattle.packet_values.specs.Names.{is_name_byte, is_group_name};
 
-use crate::{GROUP_NAME, PAYLOAD, STATE};
+use limits::{GROUP_NAME, PAYLOAD, STATE};
 use std::marker::Model;
 
-/// A group's name in lent bytes: 1 to 32 letters, digits, `-` and `_` of ASCII.
+/// A group's name in lent bytes: 1 to `GROUP_NAME` letters, digits, `-` and `_` of ASCII.
 #[derive(Drop)]
 pub struct GroupName<'a> {
     name: &'a [u8],
@@ -61,7 +61,7 @@ impl<'a> GroupName<'a> {
     }
 }
 
-/// A message's payload in lent bytes, at most 512 of them.
+/// A message's payload in lent bytes, at most `PAYLOAD` of them.
 #[derive(Drop)]
 pub struct Payload<'a> {
     payload: &'a [u8],
@@ -69,7 +69,7 @@ pub struct Payload<'a> {
 
 impl<'a> Model for Payload<'a> {
     ghost use Rattle.std.specs.Prelude.{List, ℕ, length, ◌≤◌};
-    ghost use Rattle.packet_values.specs.declared.limits.TheConstants.{PAYLOAD};
+    ghost use Rattle.limits.specs.declared.TheConstants.{PAYLOAD};
 
     ghost Value = { List ℕ };
 
@@ -79,7 +79,7 @@ impl<'a> Model for Payload<'a> {
 }
 
 impl<'a> Payload<'a> {
-    /// The payload of these bytes; `None` for more than 512.
+    /// The payload of these bytes; `None` for more than `PAYLOAD`.
     pub fn new(bytes: &'a [u8]) -> Option<Payload<'a>>
         ensures { SomeIff result (length bytes.now ≤ PAYLOAD) bytes.now }
     {
@@ -98,7 +98,7 @@ impl<'a> Payload<'a> {
     }
 }
 
-/// A state in lent bytes, at most 16,384 of them.
+/// A state in lent bytes, at most `STATE` of them.
 #[derive(Drop)]
 pub struct State<'a> {
     state: &'a [u8],
@@ -106,7 +106,7 @@ pub struct State<'a> {
 
 impl<'a> Model for State<'a> {
     ghost use Rattle.std.specs.Prelude.{List, ℕ, length, ◌≤◌};
-    ghost use Rattle.packet_values.specs.declared.limits.TheConstants.{STATE};
+    ghost use Rattle.limits.specs.declared.TheConstants.{STATE};
 
     ghost Value = { List ℕ };
 
@@ -116,7 +116,7 @@ impl<'a> Model for State<'a> {
 }
 
 impl<'a> State<'a> {
-    /// The state of these bytes; `None` for more than 16,384.
+    /// The state of these bytes; `None` for more than `STATE`.
     pub fn new(bytes: &'a [u8]) -> Option<State<'a>>
         ensures { SomeIff result (length bytes.now ≤ STATE) bytes.now }
     {

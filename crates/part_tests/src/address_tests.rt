@@ -1,5 +1,6 @@
 use crate::fixtures::{address, first_of};
-use address::{Address, Exhausted, GREATEST_NUMBER, Node, ViewId, next_after};
+use address::{Address, Exhausted, Node, ViewId, next_after};
+use limits::GREATEST_NUMBER;
 use std::alloc::Global;
 
 #[test]

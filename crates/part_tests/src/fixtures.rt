@@ -1,4 +1,5 @@
-ghost use Rattle.std.specs.Prelude.{◌≤◌, ◌^◌};
+ghost use Rattle.std.specs.Prelude.{◌≤◌};
+ghost use Rattle.limits.specs.declared.TheConstants.{GREATEST_NUMBER};
 
 use address::{Address, Node, ViewId};
 use std::alloc::Global;
@@ -36,7 +37,7 @@ pub fn view_of(alloc: Global, nodes: &[u16]) -> Option<View> {
 /// The view id with a counter, made by 1.1.
 pub fn view_id(counter: u64) -> ViewId
     requires low { 1 ≤ counter }
-    requires high { counter ≤ 2 ^ 62 }
+    requires high { counter ≤ GREATEST_NUMBER }
 {
     ViewId::new(counter, first_of(1)).unwrap()
 }

@@ -1,6 +1,6 @@
 use crate::fixtures::first_of;
 use std::alloc::{AllocError, Global};
-use trace_props::{Bytes, HandedBack, Happening, Numbered, Trace};
+use trace_props::{Bytes, Event, HandedBack, Numbered, Trace};
 
 // What each rule refuses and what it lets pass is tested as text, by the files `check-*.txt` of the crate `worked`.
 
@@ -8,14 +8,14 @@ use trace_props::{Bytes, HandedBack, Happening, Numbered, Trace};
 fn started(alloc: Global) -> Result<Trace, AllocError> {
     let mut trace = Trace::new(alloc);
     trace.reserve(1)?;
-    trace.record(Happening::Started(first_of(1)));
+    trace.record(Event::Started(first_of(1)));
     Ok(trace)
 }
 
 /// Whether what happened is that start.
-fn is_started(happenings: &[Happening]) -> bool {
-    match happenings {
-        [Happening::Started(member)] => *member == first_of(1),
+fn is_started(events: &[Event]) -> bool {
+    match events {
+        [Event::Started(member)] => *member == first_of(1),
         _ => false,
     }
 }
@@ -23,7 +23,7 @@ fn is_started(happenings: &[Happening]) -> bool {
 #[test]
 fn a_trace_tells_what_was_recorded(rt: HostRuntime) {
     let trace = started(rt.alloc()).ok().expect(&rt, "a trace");
-    assert!(rt; is_started(trace.happenings()));
+    assert!(rt; is_started(trace.events()));
 }
 
 /// One message handed back, whose payload is a copy.

@@ -3,7 +3,7 @@
 use address::{Address, Node};
 use chat_log::ChatLog;
 use std::alloc::Global;
-use trace_props::{Bytes, Happening};
+use trace_props::{Bytes, Event};
 use wire::decode;
 use world::World;
 use world_model::WorldEvent;
@@ -43,8 +43,8 @@ fn behind(alloc: Global, payloads: &[&[u8]]) -> Option<World<ChatLog>> {
 /// How many messages were delivered to 2.1.
 fn told_to_second(world: &World<ChatLog>) -> usize {
     let mut count: usize = 0;
-    for happening in world.trace().happenings() {
-        if let Happening::Delivered(delivery) = happening {
+    for event in world.trace().events() {
+        if let Event::Delivered(delivery) = event {
             if delivery.member.node() == node(2) {
                 count = count.wrapping_add(1);
             }
@@ -108,12 +108,12 @@ fn a_catch_up_puts_out_a_status_a_nak_and_the_answers(rt: HostRuntime) {
 fn a_second_catch_up_puts_out_a_status_alone(rt: HostRuntime) {
     let mut world = behind(rt.alloc(), &[b"a", b"b"]).expect(&rt, "the events are done");
     let _ = world.catch_up(node(2));
-    let happened = world.trace().happenings().len();
+    let happened = world.trace().events().len();
     assert!(rt; world.catch_up(node(2)) == Ok(true), "it is played again");
     assert!(rt; world.packets().len() == 13, "one packet more");
     assert!(rt; kind(&world, 13) == STATUS, "13 is the STATUS");
     assert!(rt;
-        world.trace().happenings().len() == happened,
+        world.trace().events().len() == happened,
         "nothing happened"
     );
 }

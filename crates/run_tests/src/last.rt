@@ -30,15 +30,13 @@ impl Model for Last {
 }
 
 impl Receiver for Last {
-    ghost opening_state = { 0 };
-
-    ghost apply = { λ s from payload. slice_index_or payload 0 s };
-
-    ghost encode = { λ s. s ∷ [] };
-
-    ghost decode = { λ bytes. if nat_eq (length bytes) 1 then Some (slice_index bytes 0) else None };
-
-    ghost is_state = { λ s. Unit {0} };
+    ghost meaning = { record {
+      opening = 0;
+      apply = λ s from payload. slice_index_or payload 0 s;
+      encode = λ s. s ∷ [];
+      decode = λ bytes. if nat_eq (length bytes) 1 then Some (slice_index bytes 0) else None;
+      is_state = λ s. Unit {0};
+    } };
 
     ghost opens = { tt };
 

@@ -12,11 +12,10 @@ use Rattle.script_reader.specs.declared.fault.Fault.{Fault}
 use Rattle.script_reader.specs.declared.fault.Fault.TheVariants.{UnknownWord, BadNumber, MissingField, LineTooLong}
 use Rattle.script_reader.specs.declared.fault.Unread.{Unread}
 use Rattle.script_reader.specs.declared.fault.Unread.TheVariants as unread
-use Rattle.script_reader.specs.declared.TheConstants.{SCRIPT_LINE}
+use Rattle.limits.specs.declared.TheConstants.{SCRIPT_LINE, GREATEST_NUMBER}
 use Rattle.script_reader.specs.Lines.{lines_of, field_of, behind_field}
 use Rattle.script_reader.specs.Numbers.{number_in}
 use Rattle.address.specs.Ids.{Address}
-use Rattle.address.specs.declared.TheConstants.{GREATEST_NUMBER}
 use Rattle.script_reader.specs.AddressText.{address_of_text}
 
 abbrev pub fault_number : Fault → ℕ
@@ -42,7 +41,7 @@ abbrev pub address_field : Option (List ℕ) → Result (Address × Option (List
 address_field None = Err MissingField
 address_field (Some text) = and_rest (address_of_text (field_of text)) (behind_field text)
 
--- the next field as a packet's number, 1 to 2^62
+-- the next field as a packet's number, 1 to `GREATEST_NUMBER`
 abbrev pub packet_field : Option (List ℕ) → Result (ℕ × Option (List ℕ)) Fault
 packet_field None = Err MissingField
 packet_field (Some text) = and_rest (number_in 1 GREATEST_NUMBER (field_of text)) (behind_field text)

@@ -12,7 +12,7 @@ pub enum Fault {
     BadNumber,
     /// 42: a field is missing.
     MissingField,
-    /// 43: the line has more bytes than it may: 4,096 in a script, 65,536 in a trace.
+    /// 43: the line has more bytes than it may: `SCRIPT_LINE` in a script, `TRACE_LINE` in a trace.
     LineTooLong,
 }
 

@@ -1,4 +1,4 @@
-ghost use Rattle.std.specs.Prelude.{◌≡◌, ◌<◌, ◌≤◌, ◌^◌, ◌∷◌, IfSome, SomeIff, None, Some, length, nat_eq, nat_le, position, MatchResult, if◌then◌else◌};
+ghost use Rattle.std.specs.Prelude.{◌≡◌, ◌<◌, ◌≤◌, ◌∷◌, IfSome, SomeIff, None, Some, length, nat_eq, nat_le, position, MatchResult, if◌then◌else◌};
 ghost use Rattle.std.specs.List.{list_all, position_or_len};
 ghost use Rattle.std.specs.Char.{is_ascii_digit};
 ghost use Rattle.std.specs.Option.{option_copied};
@@ -8,7 +8,8 @@ ghost use Rattle.script_reader.specs.AddressText.{address_of_text};
 ghost use Rattle.script_reader.specs.Script.{node_field, packet_field, address_field};
 
 use crate::Fault;
-use address::{Address, GREATEST_NUMBER, Node};
+use address::{Address, Node};
+use limits::GREATEST_NUMBER;
 
 /// The index of the first byte of a text that is `byte`.
 fn index_of(byte: u8, text: &[u8]) -> Option<usize>

@@ -9,6 +9,3 @@ mod script;
 pub use fault::{Fault, Unread};
 pub use field::{address_field, address_in, first_field, first_line, number_in, split_at_first};
 pub use script::{Script, read_script};
-
-/// The most bytes that a line of a script may have, without its line feed.
-pub const SCRIPT_LINE: usize = 4096;

@@ -5,9 +5,10 @@ ghost use Rattle.script_reader.specs.declared.line.Unheard.TheVariants as unhear
 ghost use Rattle.script_reader.specs.declared.fault.Fault.TheVariants.{MissingField};
 ghost use Rattle.script_reader.specs.Script.{node_field, packet_field, address_field, only, node_and_address, of_other, sent, word_of, event_of, told, is_skipped, reading_of, IsUnheard};
 
+use crate::Fault;
 use crate::field::{address_field, first_field, node_field, packet_field};
-use crate::{Fault, SCRIPT_LINE};
 use address::{Address, Node};
+use limits::SCRIPT_LINE;
 use std::alloc::Global;
 use trace_props::Bytes;
 use world_model::WorldEvent;

@@ -78,12 +78,12 @@ impl Script {
 
 /// Reads a script, in one pass. It is exactly what its lines say: `start N`, `create N`, `join N ADDR`, `send N TEXT`,
 /// `deliver K`, `tick N`, `leave N` and `crash N` are events, N a node from 1 to 65535, ADDR an address such as `3.1`, K a packet's
-/// number from 1 to 2^62, and lines that are empty or begin with `#` say nothing. A line ends with a line feed, which the last may
+/// number from 1 to `GREATEST_NUMBER`, and lines that are empty or begin with `#` say nothing. A line ends with a line feed, which the last may
 /// lack.
 ///
 /// # Errors
 ///
-/// `Unread::Fault` has the first line that is none of these and what is wrong with it: it has more than 4,096 bytes (43),
+/// `Unread::Fault` has the first line that is none of these and what is wrong with it: it has more than `SCRIPT_LINE` bytes (43),
 /// begins with no known word (40), lacks a field (42), or has a field that is no such number or one field too many (41).
 /// `Unread::Memory` where memory was refused.
 #[tactic(auto, using(crate::proofs::Reading::script_is_going_on))]

@@ -1,8 +1,7 @@
 -- A member's own messages that were sent in a view and not delivered there.
-use Rattle.std.specs.Prelude.{◌≡◌, ℕ, ◌+◌, ◌-◌, ◌≤◌, ◌^◌, List, [], ◌∷◌, ◌++◌, Option, Some, None, length, drop, nat_eq, slice_get, if◌then◌else◌}
-use Rattle.state_transfer.specs.declared.TheConstants.{PAYLOAD}
-use Rattle.trace_props.specs.declared.happening.Numbered.{Numbered}
-use Rattle.sequencer.specs.declared.TheConstants.{OUTSTANDING}
+use Rattle.std.specs.Prelude.{◌≡◌, ℕ, ◌+◌, ◌-◌, ◌≤◌, List, [], ◌∷◌, ◌++◌, Option, Some, None, length, drop, nat_eq, slice_get, if◌then◌else◌}
+use Rattle.limits.specs.declared.TheConstants.{PAYLOAD, OUTSTANDING, GREATEST_NUMBER}
+use Rattle.trace_props.specs.declared.event.Numbered.{Numbered}
 use Rattle.sequencer.specs.declared.forwards.PushRefusal.{PushRefusal}
 use Rattle.sequencer.specs.declared.forwards.PushRefusal.TheVariants.{Busy, Exhausted, Memory}
 
@@ -11,14 +10,14 @@ pub record ForwardsModel : Type 0 where
   pub sent : ℕ
   pub rest : List Numbered
 
--- the outstanding ones are the last that were sent, at most 8 of them
+-- the outstanding ones are the last that were sent, at most `OUTSTANDING` of them
 pub record IsForwards (w : ForwardsModel) : Type 0 where
   pub some : length w.rest ≤ w.sent
   pub few : length w.rest ≤ OUTSTANDING
-  pub last : w.sent ≤ 2 ^ 62
+  pub last : w.sent ≤ GREATEST_NUMBER
   pub numbered : (k : ℕ) (f : Numbered) → slice_get w.rest k ≡ Some f → f.number + length w.rest ≡ w.sent + k + 1
 
--- each payload has at most 512 bytes
+-- each payload has at most `PAYLOAD` bytes
 abbrev pub AreShort : List Numbered → Type 0
 AreShort messages = (k : ℕ) (m : Numbered) → slice_get messages k ≡ Some m → length m.payload ≤ PAYLOAD
 
@@ -39,7 +38,7 @@ one_told w = record { sent = w.sent; rest = drop 1 w.rest }
 
 -- why one more message is refused, but for want of memory: the first of these that applies
 abbrev pub push_refusal : ForwardsModel → Option PushRefusal
-push_refusal w = if nat_eq (length w.rest) OUTSTANDING then Some Busy else if nat_eq w.sent (2 ^ 62) then Some Exhausted else None
+push_refusal w = if nat_eq (length w.rest) OUTSTANDING then Some Busy else if nat_eq w.sent GREATEST_NUMBER then Some Exhausted else None
 
 abbrev pub push_number : PushRefusal → ℕ
 push_number Busy = 3

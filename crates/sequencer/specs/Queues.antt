@@ -1,12 +1,11 @@
 -- The queues of a view's senders, and the order that comes of them.
-use Rattle.std.specs.Prelude.{ℕ, ◌+◌, ◌-◌, ◌^◌, Bool, false, not, ◌&&◌, List, [], ◌∷◌, ◌++◌, Option, None, nat_eq, nat_lt, nat_le, is_some, if◌then◌else◌}
+use Rattle.std.specs.Prelude.{ℕ, ◌+◌, ◌-◌, Bool, false, not, ◌&&◌, List, [], ◌∷◌, ◌++◌, Option, None, nat_eq, nat_lt, nat_le, is_some, if◌then◌else◌}
 use Rattle.std.specs.List.{list_any, find}
 use Rattle.std.specs.Option.{option_map, option_map_or}
 use Rattle.address.specs.Ids.{Address, same_address}
 use Rattle.packet_values.specs.Values.{Entry}
-use Rattle.nak_stream.specs.declared.TheConstants.{REACH}
-use Rattle.trace_props.specs.declared.happening.Numbered.{Numbered}
-use Rattle.sequencer.specs.declared.TheConstants.{OUTSTANDING}
+use Rattle.limits.specs.declared.TheConstants.{WINDOW, OUTSTANDING, GREATEST_NUMBER}
+use Rattle.trace_props.specs.declared.event.Numbered.{Numbered}
 
 -- a list in which the first element that passes a test is changed
 abbrev pub change_first : {X : Type 0} → (X → Bool) → (X → X) → List X → List X
@@ -27,7 +26,7 @@ pub record Queue : Type 0 where
 abbrev pub idle : Address → Queue
 idle p = record { sender = p; ordered = 0; waiting = [] }
 
--- whether a message with this number is taken: it was not ordered, is at most 8 past what was, and does not wait already
+-- whether a message with this number is taken: it was not ordered, is at most `OUTSTANDING` past what was, and does not wait already
 abbrev pub takes : ℕ → Queue → Bool
 takes n q = nat_lt q.ordered n && nat_le n (q.ordered + OUTSTANDING) && not (list_any (λ f. nat_eq n f.number) q.waiting)
 
@@ -71,7 +70,7 @@ forwarded p n x w = record { ordered = w.ordered; queues = change_first (is_from
 
 -- whether one more message may be ordered, where this many are stable
 abbrev pub may_order : ℕ → OrdererModel → Bool
-may_order stable w = nat_lt (w.ordered - stable) REACH && nat_lt w.ordered (2 ^ 62)
+may_order stable w = nat_lt (w.ordered - stable) WINDOW && nat_lt w.ordered GREATEST_NUMBER
 
 -- the message that comes next in the order: that of the lowest rank whose next message waits
 abbrev pub first_next : List Queue → Option Entry

@@ -2,7 +2,7 @@ use nak_stream::KeptPayload;
 use packet_values::Number;
 use std::marker::Model;
 
-/// A message on its way into the order: its number among its sender's messages of the view, from 1 to 2^62, and its payload of at most 512
+/// A message on its way into the order: its number among its sender's messages of the view, from 1 to `GREATEST_NUMBER`, and its payload of at most `PAYLOAD`
 /// bytes.
 #[derive(Debug, Drop)]
 pub struct Forward {
@@ -13,7 +13,7 @@ pub struct Forward {
 }
 
 impl Model for Forward {
-    ghost use Rattle.trace_props.specs.declared.happening.Numbered.{Numbered};
+    ghost use Rattle.trace_props.specs.declared.event.Numbered.{Numbered};
 
     ghost Value = { Numbered };
 

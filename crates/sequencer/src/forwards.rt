@@ -1,9 +1,9 @@
 ghost use Rattle.std.specs.Prelude.{◌≡◌, ◌+◌, ◌≤◌, ◌++◌, None, drop, length, IfOk, OnOk, MatchResult, MatchOption};
-ghost use Rattle.state_transfer.specs.declared.TheConstants.{PAYLOAD};
+ghost use Rattle.limits.specs.declared.TheConstants.{PAYLOAD};
 ghost use Rattle.sequencer.specs.Forwards.{ForwardsModel, no_forwards, pushed, delivered_to, one_told, push_refusal, push_number, IsForwards, AreShort};
 
-use crate::{Forward, OUTSTANDING};
-use address::GREATEST_NUMBER;
+use crate::Forward;
+use limits::{GREATEST_NUMBER, OUTSTANDING};
 use nak_stream::KeptPayload;
 use packet_values::Number;
 use std::alloc::{AllocError, Global};
@@ -13,7 +13,7 @@ use trace_props::{Bytes, HandedBack, Numbered};
 /// Why a message is not taken among the outstanding ones.
 #[derive(Clone, Copy, Debug, PartialEq, Eq)]
 pub enum PushRefusal {
-    /// 3: eight messages are outstanding.
+    /// 3: `OUTSTANDING` messages are outstanding.
     Busy,
     /// 8: the numbers of the view are used up.
     Exhausted,
@@ -34,7 +34,7 @@ impl PushRefusal {
     }
 }
 
-/// A member's own messages of a view that were sent and not delivered here, at most 8 of them, by their numbers. Numbers run from 1 to 2^62.
+/// A member's own messages of a view that were sent and not delivered here, at most `OUTSTANDING` of them, by their numbers. Numbers run from 1 to `GREATEST_NUMBER`.
 #[derive(Debug, Drop)]
 pub struct Forwards {
     sent: u64,
@@ -62,8 +62,8 @@ impl Forwards {
         }
     }
 
-    /// Takes a message under the next number, which is answered. Refused, with the payload given back and all as it was, with 3 exactly where 8
-    /// messages are outstanding, else with 8 exactly where 2^62 were sent, else with 7 where memory was refused.
+    /// Takes a message under the next number, which is answered. Refused, with the payload given back and all as it was, with 3 exactly where `OUTSTANDING`
+    /// messages are outstanding, else with 8 exactly where `GREATEST_NUMBER` were sent, else with 7 where memory was refused.
     pub fn push(&mut self, payload: KeptPayload) -> Result<Number, (KeptPayload, PushRefusal)>
         ensures number { MatchResult result (λ number. number ≡ self.old.sent + 1) (λ refused. refused.0 ≡ payload) }
         ensures after { MatchResult result (λ _. self.new ≡ pushed payload self.old) (λ _. self.new ≡ self.old) }
@@ -117,7 +117,7 @@ impl Forwards {
         Ok(HandedBack::from_vec(items))
     }
 
-    /// How many were sent, 0 to 2^62.
+    /// How many were sent, 0 to `GREATEST_NUMBER`.
     pub fn sent(&self) -> u64
         ensures { result ≡ self.now.sent }
     {

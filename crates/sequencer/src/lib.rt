@@ -10,6 +10,3 @@ mod queue;
 pub use forward::Forward;
 pub use forwards::{Forwards, PushRefusal};
 pub use orderer::Orderer;
-
-/// The most messages of one sender that may wait at a time: 8.
-pub const OUTSTANDING: u64 = 8;

@@ -1,17 +1,18 @@
-ghost use Rattle.std.specs.Prelude.{◌≡◌, ◌+◌, ◌≤◌, ◌^◌, false, map, position, IfOk, OnOk, OnErr, IsTrue, MatchOption};
+ghost use Rattle.std.specs.Prelude.{◌≡◌, ◌+◌, ◌≤◌, false, map, position, IfOk, OnOk, OnErr, IsTrue, MatchOption};
 ghost use Rattle.std.specs.List.{find};
 ghost use Rattle.std.specs.Option.{option_map, option_map_or};
 ghost use Rattle.sequencer.specs.Queues.{OrdererModel, idle, has_next, is_from, is_taken, forwarded, first_next, change_first, served, takes, offered, may_order, next_ordered, ordering};
 
 use crate::queue::Queue;
-use address::{Address, GREATEST_NUMBER};
-use nak_stream::{Entry, REACH};
+use address::Address;
+use limits::{GREATEST_NUMBER, WINDOW};
+use nak_stream::Entry;
 use packet_values::{Number, Payload};
 use std::alloc::{AllocError, Global};
 use std::marker::Model;
 use view::View;
 
-/// The orderer of a view, which its coordinator keeps: how many messages it ordered, 0 to 2^62, and for each member how many
+/// The orderer of a view, which its coordinator keeps: how many messages it ordered, 0 to `GREATEST_NUMBER`, and for each member how many
 /// of its messages were ordered and which wait (docs/PROTOCOL.md, "Order").
 #[derive(Debug, Drop)]
 pub struct Orderer {
@@ -21,14 +22,15 @@ pub struct Orderer {
 }
 
 impl Model for Orderer {
-    ghost use Rattle.std.specs.Prelude.{◌≤◌, ◌^◌};
+    ghost use Rattle.std.specs.Prelude.{◌≤◌};
+    ghost use Rattle.limits.specs.declared.TheConstants.{GREATEST_NUMBER};
     ghost use Rattle.sequencer.specs.Queues.{OrdererModel};
 
     ghost Value = { OrdererModel };
 
     ghost view = { λ o. record { ordered = o.ordered; queues = o.queues.items } };
 
-    ghost invariant = { λ o. o.ordered ≤ 2 ^ 62 };
+    ghost invariant = { λ o. o.ordered ≤ GREATEST_NUMBER };
 }
 
 impl Orderer {
@@ -43,16 +45,16 @@ impl Orderer {
         })
     }
 
-    /// How many messages were ordered, 0 to 2^62.
+    /// How many messages were ordered, 0 to `GREATEST_NUMBER`.
     pub fn ordered(&self) -> u64
         ensures ordered { result ≡ self.now.ordered }
-        ensures last { result ≤ 2 ^ 62 }
+        ensures last { result ≤ GREATEST_NUMBER }
     {
         self.ordered
     }
 
     /// Offers a sender's message. It is taken, and true is answered, exactly where the sender is a member of the view and the number is not ordered yet, does
-    /// not wait already, and is at most 8 past the sender's ordered ones. The payload is copied. An error for want of memory comes only where it was
+    /// not wait already, and is at most `OUTSTANDING` past the sender's ordered ones. The payload is copied. An error for want of memory comes only where it was
     /// to be taken; it leaves all as it was.
     pub fn forward(
         &mut self,
@@ -68,7 +70,7 @@ impl Orderer {
         offer_to(&mut self.queues, self.alloc, sender, number, payload)
     }
 
-    /// Orders one message, where fewer than 32 lie past the `stable` ones and fewer than 2^62 were ordered: that of the member of
+    /// Orders one message, where fewer than `WINDOW` lie past the `stable` ones and fewer than `GREATEST_NUMBER` were ordered: that of the member of
     /// lowest rank whose next number waits. Answers its number in the order, from 1, and the message. Takes no memory.
     pub fn ready(&mut self, stable: u64) -> Option<(Number, Entry)>
         ensures answer { result ≡ option_map (λ e. (self.old.ordered + 1, e)) (next_ordered stable self.old) }
@@ -88,7 +90,7 @@ impl Orderer {
     fn may_order(&self, stable: u64) -> bool
         ensures { result ≡ may_order stable self.now }
     {
-        self.ordered.saturating_sub(stable) < REACH && self.ordered < GREATEST_NUMBER
+        self.ordered.saturating_sub(stable) < WINDOW && self.ordered < GREATEST_NUMBER
     }
 }
 

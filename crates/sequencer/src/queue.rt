@@ -2,8 +2,9 @@ ghost use Rattle.std.specs.Prelude.{◌≡◌, ◌+◌, nat_eq, position, IfOk, 
 ghost use Rattle.std.specs.List.{list_any};
 ghost use Rattle.sequencer.specs.Queues.{idle, takes, offered, follows, has_next, next_of, served};
 
-use crate::{Forward, OUTSTANDING};
+use crate::Forward;
 use address::Address;
+use limits::OUTSTANDING;
 use nak_stream::{Entry, KeptPayload};
 use packet_values::{Number, Payload};
 use std::alloc::{AllocError, Global};
@@ -56,7 +57,7 @@ impl Queue {
         self.ordered < number && number - self.ordered <= OUTSTANDING && !self.waits(number)
     }
 
-    /// Takes a copy of the message, where it is new and at most 8 past what was ordered.
+    /// Takes a copy of the message, where it is new and at most `OUTSTANDING` past what was ordered.
     pub fn offer(
         &mut self,
         alloc: Global,

@@ -1,11 +1,11 @@
 use crate::fixtures::address;
 use address::ViewId;
 use std::alloc::{AllocError, Global};
-use trace_props::{Bytes, Delivery, HandedBack, Happening, Install, Message, Numbered, Sending};
+use trace_props::{Bytes, Delivery, Event, HandedBack, Install, Message, Numbered, Sending};
 use view::{Addresses, View};
-use vsync_text::append_happening;
+use vsync_text::append_event;
 
-// Happenings made by hand, so that no error of a reader stands against one of the writer.
+// Events made by hand, so that no error of a reader stands against one of the writer.
 
 /// The addresses 2.1 and 3.4294967295.
 fn both(alloc: Global) -> Option<Addresses> {
@@ -20,11 +20,11 @@ fn nine_back(alloc: Global, payload: Bytes) -> Option<HandedBack> {
 }
 
 /// The install of 4@2.1 behind 3@1.1, with a field of each kind.
-fn install(alloc: Global) -> Option<Happening> {
+fn install(alloc: Global) -> Option<Event> {
     let view = View::new(ViewId::new(4, address(2, 1))?, both(alloc)?).ok()?;
     let together = both(alloc)?;
     let handed_back = nine_back(alloc, Bytes::from_slice(alloc, b"\x00\xaf").ok()?)?;
-    Some(Happening::Installed(Install {
+    Some(Event::Installed(Install {
         member: address(3, 4_294_967_295),
         previous: ViewId::new(3, address(1, 1)),
         view,
@@ -35,9 +35,9 @@ fn install(alloc: Global) -> Option<Happening> {
 }
 
 /// The sending of an empty message 9 by 2.1, in its first view.
-fn sending(alloc: Global) -> Option<Happening> {
+fn sending(alloc: Global) -> Option<Event> {
     let payload = Bytes::from_slice(alloc, b"").ok()?;
-    Some(Happening::Sent(Sending {
+    Some(Event::Sent(Sending {
         member: address(2, 1),
         view: ViewId::first_of(address(2, 1)),
         message: Numbered { number: 9, payload },
@@ -45,9 +45,9 @@ fn sending(alloc: Global) -> Option<Happening> {
 }
 
 /// The delivery of 9 of 2.1 to 1.10, in the first view of 2.1.
-fn delivery(alloc: Global) -> Option<Happening> {
+fn delivery(alloc: Global) -> Option<Event> {
     let payload = Bytes::from_slice(alloc, b"hi").ok()?;
-    Some(Happening::Delivered(Delivery {
+    Some(Event::Delivered(Delivery {
         member: address(1, 10),
         view: ViewId::first_of(address(2, 1)),
         message: Message {
@@ -58,12 +58,12 @@ fn delivery(alloc: Global) -> Option<Happening> {
     }))
 }
 
-/// Whether a happening is there, and is appended as this line.
-fn is_appended(alloc: Global, happening: Option<Happening>, want: &str) -> bool {
+/// Whether an event is there, and is appended as this line.
+fn is_appended(alloc: Global, event: Option<Event>, want: &str) -> bool {
     let mut out = Vec::new(alloc);
-    match happening {
-        Some(happening) => {
-            append_happening(&mut out, &happening).is_ok() && out.as_slice() == want.as_bytes()
+    match event {
+        Some(event) => {
+            append_event(&mut out, &event).is_ok() && out.as_slice() == want.as_bytes()
         }
         None => false,
     }
@@ -93,6 +93,6 @@ fn a_delivery_is_printed_with_its_payload(rt: HostRuntime) {
 
 #[test]
 fn a_block_is_printed(rt: HostRuntime) {
-    let blocked = Some(Happening::Blocked(address(9, 1)));
+    let blocked = Some(Event::Blocked(address(9, 1)));
     assert!(rt; is_appended(rt.alloc(), blocked, "blocked 9.1\n"));
 }

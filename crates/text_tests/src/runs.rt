@@ -23,13 +23,13 @@ fn refused(refusal: Refusal, place: usize) -> Reply {
     }
 }
 
-/// Whether the happenings of a text, with these replies, are written as that text, in which refusals stand as well.
+/// Whether the events of a text, with these replies, are written as that text, in which refusals stand as well.
 fn is_written(alloc: Global, lines: &[u64], replies: &[Reply], text: &str) -> bool {
     let Ok(trace) = read_trace(alloc, text.as_bytes()) else {
         return false;
     };
     let mut out = Vec::new(alloc);
-    write_run(alloc, &mut out, lines, replies, trace.happenings()) == Printed::All
+    write_run(alloc, &mut out, lines, replies, trace.events()) == Printed::All
         && out.as_slice() == text.as_bytes()
 }
 
@@ -42,7 +42,7 @@ fn runs_are_written(rt: HostRuntime) {
     assert!(rt; is_written(rt.alloc(), &[1, 2, 3], &[done(1), done(2), sent], FIRST_RUN));
 }
 
-// The refusals of a run stand between its happenings, but not that for want of memory.
+// The refusals of a run stand between its events, but not that for want of memory.
 #[test]
 fn refusals_stand_at_their_places(rt: HostRuntime) {
     let replies = [
@@ -89,7 +89,7 @@ fn a_writer_that_fails_has_taken_a_beginning_of_the_run(rt: HostRuntime) {
                 taken: Vec::new(alloc),
                 most: 15,
             };
-            let printed = write_run(alloc, &mut writer, &[1], &[done(4)], trace.happenings());
+            let printed = write_run(alloc, &mut writer, &[1], &[done(4)], trace.events());
             assert!(rt; printed == Printed::Failed, "the failure is told");
             assert!(rt;
                 writer.taken.as_slice() == b"started 1.1\nins".as_slice(),

@@ -1,12 +1,13 @@
 use crate::fixtures::{address, with_copies};
 use chat_log::ChatLog;
+use limits::TRACE_LINE;
 use script_reader::Unread;
 use std::alloc::Global;
 use std::process::Abort;
 use trace_checker::check;
-use trace_props::{Happening, Install, Rule, Verdict};
-use trace_reader::{TRACE_LINE, read_trace, reads_what_is_written};
-use vsync_text::append_happening;
+use trace_props::{Event, Install, Rule, Verdict};
+use trace_reader::{read_trace, reads_what_is_written};
+use vsync_text::append_event;
 
 /// Whether a text is read, and printed again as this.
 fn says(alloc: Global, text: &[u8], want: &[u8]) -> bool {
@@ -14,8 +15,8 @@ fn says(alloc: Global, text: &[u8], want: &[u8]) -> bool {
         return false;
     };
     let mut printed = Vec::new(alloc);
-    for happening in trace.happenings() {
-        if append_happening(&mut printed, happening).is_err() {
+    for event in trace.events() {
+        if append_event(&mut printed, event).is_err() {
             return false;
         }
     }
@@ -136,8 +137,8 @@ fn notes_have_no_limit(rt: HostRuntime) {
 fn an_install_has_its_fields(rt: HostRuntime) {
     let text = b"installed 2.1 6@2.1 7@3.1 3.1,2.1 2.1 4:6869 =0aff\n";
     match read_trace(rt.alloc(), text) {
-        Ok(trace) => match trace.happenings() {
-            [Happening::Installed(install)] => are_fields_told(&rt, install),
+        Ok(trace) => match trace.events() {
+            [Event::Installed(install)] => are_fields_told(&rt, install),
             _ => assert!(rt; false, "one install is read"),
         },
         Err(_) => assert!(rt; false, "the line is read"),
@@ -168,8 +169,8 @@ fn are_fields_told(rt: &impl Abort, install: &Install) {
 #[test]
 fn a_delivery_has_its_fields(rt: HostRuntime) {
     match read_trace(rt.alloc(), b"delivered 1.1 7@3.1 2.9 12 6869") {
-        Ok(trace) => match trace.happenings() {
-            [Happening::Delivered(delivery)] => {
+        Ok(trace) => match trace.events() {
+            [Event::Delivered(delivery)] => {
                 assert!(rt; delivery.member == address(1, 1), "the member");
                 assert!(rt;
                     delivery.view.creator() == address(3, 1),
@@ -188,10 +189,10 @@ fn a_delivery_has_its_fields(rt: HostRuntime) {
     }
 }
 
-/// Whether two happenings are read, or memory was refused.
+/// Whether two events are read, or memory was refused.
 fn are_two_or_refused(alloc: Global, text: &[u8]) -> bool {
     match read_trace(alloc, text) {
-        Ok(trace) => trace.happenings().len() == 2,
+        Ok(trace) => trace.events().len() == 2,
         Err(unread) => matches!(&unread, Unread::Memory),
     }
 }

@@ -1,18 +1,18 @@
--- The tests decide the conditions on the next happening: the rules on members that go from view to view.
+-- The tests decide the conditions on the next event: the rules on members that go from view to view.
 use Rattle.std.proofs.Common.{◌≡◌, ◌↔◌, ℕ, ◌+◌, ◌-◌, ◌<◌, ◌≤◌, suc, Bool, true, false, ◌&&◌, ◌||◌, not, List, [], ◌∷◌, length, drop, Option, Some, None, slice_get, nat_eq, sym, refl, ap, ◌∙◌, subst, below_more, length-drop, arith}
 use Rattle.std.specs.Bool.{Decides}
 use Rattle.std.specs.List.{list_all}
 use Rattle.std.specs.Str.{bytes_eq}
 use Rattle.std.proofs.lemmas.Slice.Eq.{bytes_eq-Decides}
-use Rattle.trace_props.specs.declared.happening.Numbered.{Numbered}
+use Rattle.trace_props.specs.declared.event.Numbered.{Numbered}
 use Rattle.std.specs.Option.{ForSome}
 use Rattle.std.proofs.lemmas.Bool.{and_from, and_parts, or_left, or_right, true≢false, not-true}
 use Rattle.std.proofs.lemmas.Option.{none-some, same_Some}
 use Rattle.address.specs.Ids.{Address, ViewId, same_address}
 use Rattle.view.specs.Members.{stands_in}
-use Rattle.trace_props.specs.declared.happening.Happening.{Happening}
-use Rattle.trace_props.specs.declared.happening.Happening.TheVariants.{Installed}
-use Rattle.trace_props.specs.declared.happening.Install.{Install}
+use Rattle.trace_props.specs.declared.event.Event.{Event}
+use Rattle.trace_props.specs.declared.event.Event.TheVariants.{Installed}
+use Rattle.trace_props.specs.declared.event.Install.{Install}
 use Rattle.trace_props.specs.Observed.{delivered_in, entry_of, first_install}
 use Rattle.trace_props.specs.Rules.{LiesWithin}
 use Rattle.trace_props.specs.Agreeing.{first_from, MayMeet, KnowEachOther, MayKnow}
@@ -31,19 +31,19 @@ one-decides b x P d = ((λ e y s. subst P (same_Some x y s) (d.0 e)), (λ f. d.1
 
 -- SAME NEXT VIEW
 
-level-decides : (o : Option Install) (v : ViewId) (p : Address) (t : List Happening) → Decides (is_level o v p t) (ForSome o (λ f. length (delivered_in f.member v t) ≡ length (delivered_in p v t)))
+level-decides : (o : Option Install) (v : ViewId) (p : Address) (t : List Event) → Decides (is_level o v p t) (ForSome o (λ f. length (delivered_in f.member v t) ≡ length (delivered_in p v t)))
 level-decides None v p t = none-decides (λ f. length (delivered_in f.member v t) ≡ length (delivered_in p v t))
 level-decides (Some f) v p t = one-decides (nat_eq (length (delivered_in f.member v t)) (length (delivered_in p v t))) f (λ g. length (delivered_in g.member v t) ≡ length (delivered_in p v t))
     (nat_eq-decides (length (delivered_in f.member v t)) (length (delivered_in p v t)))
 
-meets-by : (o : Option ViewId) (i : Install) (t : List Happening)
+meets-by : (o : Option ViewId) (i : Install) (t : List Event)
     → Decides (meets o i t) (ForSome o (λ v. ForSome (first_from v i.view.id t) (λ f. length (delivered_in f.member v t) ≡ length (delivered_in i.member v t))))
 meets-by None i t = none-decides (λ v. ForSome (first_from v i.view.id t) (λ f. length (delivered_in f.member v t) ≡ length (delivered_in i.member v t)))
 meets-by (Some v) i t = one-decides (is_level (first_from v i.view.id t) v i.member t) v (λ u. ForSome (first_from u i.view.id t) (λ f. length (delivered_in f.member u t) ≡ length (delivered_in i.member u t)))
     (level-decides (first_from v i.view.id t) v i.member t)
 
 -- the test decides whether an install may meet
-pub meets-decides : (t : List Happening) (i : Install) → Decides (meets i.previous i t) (MayMeet t (Installed i))
+pub meets-decides : (t : List Event) (i : Install) → Decides (meets i.previous i t) (MayMeet t (Installed i))
 meets-decides t i = meets-by i.previous i t
 
 -- TOGETHER
@@ -76,7 +76,7 @@ inside_first-decides : (o : Option Install) (ps : List Address) → Decides (ins
 inside_first-decides None ps = none-decides (λ f. LiesWithin ps f.view.members)
 inside_first-decides (Some f) ps = one-decides (lies_within ps f.view.members) f (λ g. LiesWithin ps g.view.members) (within-decides ps f.view.members)
 
-inside_previous-decides : (o : Option ViewId) (ps : List Address) (t : List Happening) → Decides (inside_previous o ps t) (ForSome o (λ v. ForSome (first_install v t) (λ f. LiesWithin ps f.view.members)))
+inside_previous-decides : (o : Option ViewId) (ps : List Address) (t : List Event) → Decides (inside_previous o ps t) (ForSome o (λ v. ForSome (first_install v t) (λ f. LiesWithin ps f.view.members)))
 inside_previous-decides None ps t = none-decides (λ v. ForSome (first_install v t) (λ f. LiesWithin ps f.view.members))
 inside_previous-decides (Some v) ps t = one-decides (inside_first (first_install v t) ps) v (λ u. ForSome (first_install u t) (λ f. LiesWithin ps f.view.members)) (inside_first-decides (first_install v t) ps)
 
@@ -107,7 +107,7 @@ know-decides (Some f) i =
     (λ r. (r.knows, r.known)))
 
 -- the test decides whether an install may know
-pub knows-decides : (t : List Happening) (i : Install) → Decides (knows_all t i) (MayKnow t (Installed i))
+pub knows-decides : (t : List Event) (i : Install) → Decides (knows_all t i) (MayKnow t (Installed i))
 knows-decides t i =
     same-decides (knows_all t i)
     (and-decides (lies_within i.together i.view.members && inside_previous i.previous i.together t && stands_in i.member i.together) (list_all (λ q. know_each_other (entry_of q i.view.id t) i) i.view.members)

@@ -1,4 +1,4 @@
--- The tests decide the conditions on the next happening: the rules that speak of one view at a time.
+-- The tests decide the conditions on the next event: the rules that speak of one view at a time.
 use Rattle.std.proofs.Common.{◌≡◌, ℕ, ◌+◌, Bool, true, false, ◌&&◌, ◌||◌, not, List, length, Option, Some, None, is_some, slice_get, nat_eq, is_lt, sym, refl, ap, ◌∙◌, subst, eq-eqb, eqb-true}
 use Rattle.std.specs.Bool.{Decides}
 use Rattle.std.specs.Option.{ForSome}
@@ -11,13 +11,13 @@ use Rattle.std.proofs.lemmas.Option.{none-some, same_Some}
 use Rattle.std.proofs.lemmas.Slice.Eq.{slice_eq-Decides, bytes_eq-Decides}
 use Rattle.address.specs.Ids.{Address, ViewId, same_address, view_id_cmp}
 use Rattle.view.specs.Members.{stands_in}
-use Rattle.trace_props.specs.declared.happening.Happening.{Happening}
-use Rattle.trace_props.specs.declared.happening.Happening.TheVariants.{Started, Sent, Delivered, Blocked, Installed, Left, Crashed}
-use Rattle.trace_props.specs.declared.happening.Numbered.{Numbered}
-use Rattle.trace_props.specs.declared.happening.Message.{Message}
-use Rattle.trace_props.specs.declared.happening.Install.{Install}
-use Rattle.trace_props.specs.declared.happening.Delivery.{Delivery}
-use Rattle.trace_props.specs.declared.happening.Sending.{Sending}
+use Rattle.trace_props.specs.declared.event.Event.{Event}
+use Rattle.trace_props.specs.declared.event.Event.TheVariants.{Started, Sent, Delivered, Blocked, Installed, Left, Crashed}
+use Rattle.trace_props.specs.declared.event.Numbered.{Numbered}
+use Rattle.trace_props.specs.declared.event.Message.{Message}
+use Rattle.trace_props.specs.declared.event.Install.{Install}
+use Rattle.trace_props.specs.declared.event.Delivery.{Delivery}
+use Rattle.trace_props.specs.declared.event.Sending.{Sending}
 use Rattle.trace_props.specs.Observed.{member_of, has_started, has_ended, current_view, is_blocked, delivered_in, sent_in, own, numbered, first_install}
 use Rattle.trace_props.specs.Rules.{IsRunning, MayStand, IsBelow}
 use Rattle.trace_props.specs.Following.{MayRise, MayCarry, MayOrder}
@@ -59,7 +59,7 @@ same_address-decides a b = ((λ e. same_address-true a b e), (λ e. same_address
 
 -- WELL PLACED
 
-runs-decides : (p : Address) (t : List Happening) → Decides (runs (standing_of p t)) (IsRunning p t)
+runs-decides : (p : Address) (t : List Event) → Decides (runs (standing_of p t)) (IsRunning p t)
 runs-decides p t = same-decides (has_started p t && not (has_ended p t)) (and-decides (has_started p t) (not (has_ended p t)) (true-decides (has_started p t)) (not-decides (has_ended p t)))
     (λ x. record { started = x.0; going = x.1 }) (λ r. (r.started, r.going))
 
@@ -67,8 +67,8 @@ runs-decides p t = same-decides (has_started p t && not (has_ended p t)) (and-de
 pub and3-decides : {P Q R : Type 0} (a b c : Bool) → Decides a P → Decides b Q → Decides c R → Decides (a && b && c) (P × Q × R)
 and3-decides a b c p q r = same-decides (a && b && c) (and-decides (a && b) c (and-decides a b p q) r) (λ x. (x.0.0, x.0.1, x.1)) (λ x. ((x.0, x.1), x.2))
 
--- the test decides whether a happening may stand
-pub stands-decides : (t : List Happening) (h : Happening) → Decides (stands (standing_of (member_of h) t) h) (MayStand t h)
+-- the test decides whether an event may stand
+pub stands-decides : (t : List Event) (h : Event) → Decides (stands (standing_of (member_of h) t) h) (MayStand t h)
 stands-decides t (Started p) = not-decides (has_started p t)
 stands-decides t (Sent s) =
     and3-decides (runs (standing_of s.member t)) (is_view s.view (current_view s.member t)) (not (is_blocked s.member t)) (runs-decides s.member t) (is_view-decides s.view (current_view s.member t)) (not-decides (is_blocked s.member t))
@@ -101,7 +101,7 @@ members-decides (Some g) ms = same-decides (pointwise same_address g.view.member
     (λ b f s. subst (λ (x : Install). x.view.members ≡ ms) (same_Some g f s) b) (λ f. f g refl)
 
 -- the test decides whether an install may rise
-pub rises-decides : (t : List Happening) (i : Install) → Decides (rises (current_view i.member t) (first_install i.view.id t) i) (MayRise t (Installed i))
+pub rises-decides : (t : List Event) (i : Install) → Decides (rises (current_view i.member t) (first_install i.view.id t) i) (MayRise t (Installed i))
 rises-decides t i =
     same-decides (rises (current_view i.member t) (first_install i.view.id t) i)
     (and-decides (stands_in i.member i.view.members && same_previous i.previous (current_view i.member t) && is_below i.previous i.view.id) (has_members (first_install i.view.id t) i.view.members)
@@ -126,11 +126,11 @@ numbered-decides (Some n) m =
     (λ e. let same = same_Some n (numbered m) e in (ap (λ y. y.number) same, ap (λ y. y.payload) same))
 
 -- the test decides whether a message may be sent
-pub send-decides : (t : List Happening) (s : Sending) → Decides (nat_eq s.message.number (length (sent_in s.member s.view t) + 1)) (MayCarry t (Sent s))
+pub send-decides : (t : List Event) (s : Sending) → Decides (nat_eq s.message.number (length (sent_in s.member s.view t) + 1)) (MayCarry t (Sent s))
 send-decides t s = nat_eq-decides s.message.number (length (sent_in s.member s.view t) + 1)
 
 -- the test decides whether a message may be told
-pub tell-decides : (t : List Happening) (d : Delivery)
+pub tell-decides : (t : List Event) (d : Delivery)
     → Decides
     (nat_eq d.message.number (length (own d.message.sender (delivered_in d.member d.view t)) + 1)
     && is_numbered (slice_get (sent_in d.message.sender d.view t) (length (own d.message.sender (delivered_in d.member d.view t)))) d.message)
@@ -162,14 +162,14 @@ else-decides true b p = ((λ e f. absurd (true≢false f)), (λ x. refl))
 else-decides false b p = ((λ e f. p.0 e), (λ x. p.1 (x refl)))
 
 -- the test decides whether a message keeps the order
-pub order-decides : (t : List Happening) (d : Delivery)
+pub order-decides : (t : List Event) (d : Delivery)
     → Decides (same_address d.member d.view.creator || is_message (slice_get (delivered_in d.view.creator d.view t) (length (delivered_in d.member d.view t))) d.message) (MayOrder t (Delivered d))
 order-decides t d =
     else-decides (same_address d.member d.view.creator) (is_message (slice_get (delivered_in d.view.creator d.view t) (length (delivered_in d.member d.view t))) d.message)
     (message-decides (slice_get (delivered_in d.view.creator d.view t) (length (delivered_in d.member d.view t))) d.message)
 
 -- where the member is not the first one, the test asks what that one was told
-pub order-else : (t : List Happening) (d : Delivery) (a b : Address) (e r : Bool) → a ≡ d.view.creator → b ≡ d.view.creator → e ≡ same_address d.member a → e ≡ false
+pub order-else : (t : List Event) (d : Delivery) (a b : Address) (e r : Bool) → a ≡ d.view.creator → b ≡ d.view.creator → e ≡ same_address d.member a → e ≡ false
     → r ≡ is_message (slice_get (delivered_in b d.view t) (length (delivered_in d.member d.view t))) d.message
     → r ≡ (same_address d.member d.view.creator || is_message (slice_get (delivered_in d.view.creator d.view t) (length (delivered_in d.member d.view t))) d.message)
 order-else t d a b e r first too test apart is =

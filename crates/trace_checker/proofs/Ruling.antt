@@ -1,12 +1,12 @@
--- The tests decide the conditions on each happening, whatever it tells.
+-- The tests decide the conditions on each event, whatever it tells.
 use Rattle.std.proofs.Common.{◌≡◌, Bool, true, List, Some, None, sym, refl, subst}
 use Rattle.std.specs.Bool.{Decides}
 use Rattle.std.proofs.lemmas.Option.{none-some}
-use Rattle.trace_props.specs.declared.happening.Happening.{Happening}
-use Rattle.trace_props.specs.declared.happening.Happening.TheVariants.{Started, Sent, Delivered, Blocked, Installed, Left, Crashed}
-use Rattle.trace_props.specs.declared.happening.Install.{Install}
-use Rattle.trace_props.specs.declared.happening.Delivery.{Delivery}
-use Rattle.trace_props.specs.declared.happening.Sending.{Sending}
+use Rattle.trace_props.specs.declared.event.Event.{Event}
+use Rattle.trace_props.specs.declared.event.Event.TheVariants.{Started, Sent, Delivered, Blocked, Installed, Left, Crashed}
+use Rattle.trace_props.specs.declared.event.Install.{Install}
+use Rattle.trace_props.specs.declared.event.Delivery.{Delivery}
+use Rattle.trace_props.specs.declared.event.Sending.{Sending}
 use Rattle.trace_props.specs.Observed.{install_of}
 use Rattle.trace_checker.specs.Known.{sending_of, delivery_of}
 use Rattle.trace_props.specs.Following.{MayRise, MayCarry, MayOrder}
@@ -14,12 +14,12 @@ use Rattle.trace_props.specs.Agreeing.{MayMeet, MayKnow, MayHandBack}
 use Rattle.trace_props.proofs.Telling.{install_of-some}
 use Rattle.trace_checker.proofs.Noting.{sending-is, delivery-is}
 
--- what asks nothing of a happening holds of it
+-- what asks nothing of an event holds of it
 asks-nothing : {P : Type 0} → P → Decides true P
 asks-nothing p = ((λ e. p), (λ x. refl))
 
 -- what installs nothing may rise
-pub rise-none : (t : List Happening) (h : Happening) → None ≡ install_of h → Decides true (MayRise t h)
+pub rise-none : (t : List Event) (h : Event) → None ≡ install_of h → Decides true (MayRise t h)
 rise-none t (Started q) e = asks-nothing tt
 rise-none t (Sent x) e = asks-nothing tt
 rise-none t (Delivered d) e = asks-nothing tt
@@ -29,7 +29,7 @@ rise-none t (Left q) e = asks-nothing tt
 rise-none t (Crashed q) e = asks-nothing tt
 
 -- what sends nothing and tells nothing may carry
-pub carry-none : (t : List Happening) (h : Happening) → None ≡ sending_of h → None ≡ delivery_of h → Decides true (MayCarry t h)
+pub carry-none : (t : List Event) (h : Event) → None ≡ sending_of h → None ≡ delivery_of h → Decides true (MayCarry t h)
 carry-none t (Started q) e0 e1 = asks-nothing tt
 carry-none t (Sent x) e0 e1 = absurd (none-some x e0)
 carry-none t (Delivered d) e0 e1 = absurd (none-some d e1)
@@ -39,7 +39,7 @@ carry-none t (Left q) e0 e1 = asks-nothing tt
 carry-none t (Crashed q) e0 e1 = asks-nothing tt
 
 -- what tells nothing may keep the order
-pub order-none : (t : List Happening) (h : Happening) → None ≡ delivery_of h → Decides true (MayOrder t h)
+pub order-none : (t : List Event) (h : Event) → None ≡ delivery_of h → Decides true (MayOrder t h)
 order-none t (Started q) e = asks-nothing tt
 order-none t (Sent x) e = asks-nothing tt
 order-none t (Delivered d) e = absurd (none-some d e)
@@ -49,7 +49,7 @@ order-none t (Left q) e = asks-nothing tt
 order-none t (Crashed q) e = asks-nothing tt
 
 -- what installs nothing may meet
-pub meet-none : (t : List Happening) (h : Happening) → None ≡ install_of h → Decides true (MayMeet t h)
+pub meet-none : (t : List Event) (h : Event) → None ≡ install_of h → Decides true (MayMeet t h)
 meet-none t (Started q) e = asks-nothing tt
 meet-none t (Sent x) e = asks-nothing tt
 meet-none t (Delivered d) e = asks-nothing tt
@@ -59,7 +59,7 @@ meet-none t (Left q) e = asks-nothing tt
 meet-none t (Crashed q) e = asks-nothing tt
 
 -- what installs nothing may know
-pub know-none : (t : List Happening) (h : Happening) → None ≡ install_of h → Decides true (MayKnow t h)
+pub know-none : (t : List Event) (h : Event) → None ≡ install_of h → Decides true (MayKnow t h)
 know-none t (Started q) e = asks-nothing tt
 know-none t (Sent x) e = asks-nothing tt
 know-none t (Delivered d) e = asks-nothing tt
@@ -69,7 +69,7 @@ know-none t (Left q) e = asks-nothing tt
 know-none t (Crashed q) e = asks-nothing tt
 
 -- what installs nothing may hand back
-pub hand-none : (t : List Happening) (h : Happening) → None ≡ install_of h → Decides true (MayHandBack t h)
+pub hand-none : (t : List Event) (h : Event) → None ≡ install_of h → Decides true (MayHandBack t h)
 hand-none t (Started q) e = asks-nothing tt
 hand-none t (Sent x) e = asks-nothing tt
 hand-none t (Delivered d) e = asks-nothing tt
@@ -78,12 +78,12 @@ hand-none t (Installed i) e = absurd (none-some i e)
 hand-none t (Left q) e = asks-nothing tt
 hand-none t (Crashed q) e = asks-nothing tt
 
--- a test of what a happening sends, tells or installs is a test of the happening
-pub of-sent : (P : Happening → Type 0) (h : Happening) (s : Sending) (b c : Bool) → Some s ≡ sending_of h → b ≡ c → Decides c (P (Sent s)) → Decides b (P h)
-of-sent P h s b c e same d = subst (λ (x : Bool). Decides x (P h)) (sym same) (subst (λ (x : Happening). Decides c (P x)) (sym (sending-is h s (sym e))) d)
+-- a test of what an event sends, tells or installs is a test of the event
+pub of-sent : (P : Event → Type 0) (h : Event) (s : Sending) (b c : Bool) → Some s ≡ sending_of h → b ≡ c → Decides c (P (Sent s)) → Decides b (P h)
+of-sent P h s b c e same d = subst (λ (x : Bool). Decides x (P h)) (sym same) (subst (λ (x : Event). Decides c (P x)) (sym (sending-is h s (sym e))) d)
 
-pub of-told : (P : Happening → Type 0) (h : Happening) (d : Delivery) (b c : Bool) → Some d ≡ delivery_of h → b ≡ c → Decides c (P (Delivered d)) → Decides b (P h)
-of-told P h d b c e same x = subst (λ (y : Bool). Decides y (P h)) (sym same) (subst (λ (y : Happening). Decides c (P y)) (sym (delivery-is h d (sym e))) x)
+pub of-told : (P : Event → Type 0) (h : Event) (d : Delivery) (b c : Bool) → Some d ≡ delivery_of h → b ≡ c → Decides c (P (Delivered d)) → Decides b (P h)
+of-told P h d b c e same x = subst (λ (y : Bool). Decides y (P h)) (sym same) (subst (λ (y : Event). Decides c (P y)) (sym (delivery-is h d (sym e))) x)
 
-pub of-installed : (P : Happening → Type 0) (h : Happening) (i : Install) (b c : Bool) → Some i ≡ install_of h → b ≡ c → Decides c (P (Installed i)) → Decides b (P h)
-of-installed P h i b c e same d = subst (λ (x : Bool). Decides x (P h)) (sym same) (subst (λ (x : Happening). Decides c (P x)) (sym (install_of-some h i (sym e))) d)
+pub of-installed : (P : Event → Type 0) (h : Event) (i : Install) (b c : Bool) → Some i ≡ install_of h → b ≡ c → Decides c (P (Installed i)) → Decides b (P h)
+of-installed P h i b c e same d = subst (λ (x : Bool). Decides x (P h)) (sym same) (subst (λ (x : Event). Decides c (P x)) (sym (install_of-some h i (sym e))) d)

@@ -1,4 +1,4 @@
--- The conditions on the next happening as tests, over what is known of the past.
+-- The conditions on the next event as tests, over what is known of the past.
 use Rattle.std.specs.Prelude.{Bool, true, false, ◌&&◌, not, Option, None, Some, List, length, nat_eq, is_some}
 use Rattle.std.specs.List.{list_all}
 use Rattle.std.specs.Ordering.{is_lt}
@@ -6,11 +6,11 @@ use Rattle.std.specs.Str.{bytes_eq}
 use Rattle.std.specs.Cmp.Lexicographic.{pointwise}
 use Rattle.address.specs.Ids.{Address, ViewId, same_address, same_view_id, view_id_cmp}
 use Rattle.view.specs.Members.{stands_in}
-use Rattle.trace_props.specs.declared.happening.Happening.{Happening}
-use Rattle.trace_props.specs.declared.happening.Happening.TheVariants.{Started, Sent, Delivered, Blocked, Installed, Left, Crashed}
-use Rattle.trace_props.specs.declared.happening.Numbered.{Numbered}
-use Rattle.trace_props.specs.declared.happening.Message.{Message}
-use Rattle.trace_props.specs.declared.happening.Install.{Install}
+use Rattle.trace_props.specs.declared.event.Event.{Event}
+use Rattle.trace_props.specs.declared.event.Event.TheVariants.{Started, Sent, Delivered, Blocked, Installed, Left, Crashed}
+use Rattle.trace_props.specs.declared.event.Numbered.{Numbered}
+use Rattle.trace_props.specs.declared.event.Message.{Message}
+use Rattle.trace_props.specs.declared.event.Install.{Install}
 use Rattle.trace_checker.specs.declared.known.standing.Standing.{Standing}
 use Rattle.trace_props.specs.Observed.{delivered_in, entry_of, first_install}
 use Rattle.trace_props.specs.Agreeing.{is_view, first_from}
@@ -20,8 +20,8 @@ use Rattle.trace_props.specs.Agreeing.{is_view, first_from}
 abbrev pub runs : Standing → Bool
 runs s = s.started && not s.ended
 
--- whether a happening may stand where its member stands so
-abbrev pub stands : Standing → Happening → Bool
+-- whether an event may stand where its member stands so
+abbrev pub stands : Standing → Event → Bool
 stands s (Started p) = not s.started
 stands s (Sent m) = runs s && is_view m.view s.view && not s.blocked
 stands s (Delivered d) = runs s && is_view d.view s.view
@@ -64,11 +64,11 @@ is_message (Some n) m = same_address n.sender m.sender && nat_eq n.number m.numb
 -- SAME NEXT VIEW
 
 -- as many messages as the first who went from the same view to the same next, if there is one
-abbrev pub is_level : Option Install → ViewId → Address → List Happening → Bool
+abbrev pub is_level : Option Install → ViewId → Address → List Event → Bool
 is_level None v p t = true
 is_level (Some f) v p t = nat_eq (length (delivered_in f.member v t)) (length (delivered_in p v t))
 
-abbrev pub meets : Option ViewId → Install → List Happening → Bool
+abbrev pub meets : Option ViewId → Install → List Event → Bool
 meets None i t = true
 meets (Some v) i t = is_level (first_from v i.view.id t) v i.member t
 
@@ -81,7 +81,7 @@ abbrev pub inside_first : Option Install → List Address → Bool
 inside_first None together = true
 inside_first (Some f) together = lies_within together f.view.members
 
-abbrev pub inside_previous : Option ViewId → List Address → List Happening → Bool
+abbrev pub inside_previous : Option ViewId → List Address → List Event → Bool
 inside_previous None together t = true
 inside_previous (Some v) together t = inside_first (first_install v t) together
 
@@ -94,7 +94,7 @@ abbrev pub know_each_other : Option Install → Install → Bool
 know_each_other None i = true
 know_each_other (Some f) i = alike (stands_in f.member i.together) (same_previous f.previous i.previous) && alike (stands_in i.member f.together) (same_previous i.previous f.previous)
 
-abbrev pub knows_all : List Happening → Install → Bool
+abbrev pub knows_all : List Event → Install → Bool
 knows_all t i =
     lies_within i.together i.view.members && inside_previous i.previous i.together t && stands_in i.member i.together
     && list_all (λ q. know_each_other (entry_of q i.view.id t) i) i.view.members

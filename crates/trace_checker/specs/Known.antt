@@ -5,13 +5,13 @@ use Rattle.std.specs.Borrow.{Bor}
 use Rattle.std.specs.declared.cmp.Ordering.{Ordering}
 use Rattle.std.specs.Ordering.{ordering_then}
 use Rattle.address.specs.Ids.{Address, ViewId, address_cmp, view_id_cmp, same_address, same_view_id}
-use Rattle.trace_props.specs.declared.happening.Happening.{Happening}
-use Rattle.trace_props.specs.declared.happening.Happening.TheVariants.{Started, Sent, Delivered, Blocked, Installed, Left, Crashed}
-use Rattle.trace_props.specs.declared.happening.Numbered.{Numbered}
-use Rattle.trace_props.specs.declared.happening.Message.{Message}
-use Rattle.trace_props.specs.declared.happening.Install.{Install}
-use Rattle.trace_props.specs.declared.happening.Sending.{Sending}
-use Rattle.trace_props.specs.declared.happening.Delivery.{Delivery}
+use Rattle.trace_props.specs.declared.event.Event.{Event}
+use Rattle.trace_props.specs.declared.event.Event.TheVariants.{Started, Sent, Delivered, Blocked, Installed, Left, Crashed}
+use Rattle.trace_props.specs.declared.event.Numbered.{Numbered}
+use Rattle.trace_props.specs.declared.event.Message.{Message}
+use Rattle.trace_props.specs.declared.event.Install.{Install}
+use Rattle.trace_props.specs.declared.event.Sending.{Sending}
+use Rattle.trace_props.specs.declared.event.Delivery.{Delivery}
 use Rattle.trace_checker.specs.declared.known.seat.Seat.{Seat}
 use Rattle.trace_checker.specs.declared.known.seat.Pair.{Pair}
 use Rattle.trace_checker.specs.declared.known.seat.Way.{Way}
@@ -56,11 +56,11 @@ stood None = fresh
 stood (Some s) = s
 
 -- how the trace says that a member stands
-abbrev pub standing_of : Address → List Happening → Standing
+abbrev pub standing_of : Address → List Event → Standing
 standing_of p t = record { started = has_started p t; ended = has_ended p t; blocked = is_blocked p t; view = current_view p t }
 
 -- how a member stands after what happens to it next
-abbrev pub standing_after : Standing → Happening → Standing
+abbrev pub standing_after : Standing → Event → Standing
 standing_after s (Started p) = record { started = true; ended = s.ended; blocked = s.blocked; view = s.view }
 standing_after s (Sent m) = s
 standing_after s (Delivered d) = s
@@ -69,35 +69,35 @@ standing_after s (Installed i) = record { started = s.started; ended = s.ended; 
 standing_after s (Left p) = record { started = s.started; ended = true; blocked = s.blocked; view = s.view }
 standing_after s (Crashed p) = record { started = s.started; ended = true; blocked = s.blocked; view = s.view }
 
-abbrev pub KnowsStandings : (Address → Option Standing) → List Happening → Type 0
+abbrev pub KnowsStandings : (Address → Option Standing) → List Event → Type 0
 KnowsStandings m t = (p : Address) → stood (m p) ≡ standing_of p t
 
 -- LISTS
 
-abbrev pub KnowsSent : {Z : Type 0} → (Seat → Option (Vec (Bor Numbered) Z)) → List Happening → Type 0
+abbrev pub KnowsSent : {Z : Type 0} → (Seat → Option (Vec (Bor Numbered) Z)) → List Event → Type 0
 KnowsSent m t = (s : Seat) → listed (m s) ≡ sent_in s.member s.view t
 
-abbrev pub KnowsTold : {Z : Type 0} → (Seat → Option (Vec (Bor Message) Z)) → List Happening → Type 0
+abbrev pub KnowsTold : {Z : Type 0} → (Seat → Option (Vec (Bor Message) Z)) → List Event → Type 0
 KnowsTold m t = (s : Seat) → listed (m s) ≡ delivered_in s.member s.view t
 
 -- the number of a sender's last message that a member was told in a view, 0 before the first, is how many these are
-abbrev pub KnowsLast : (Pair → Option ℕ) → List Happening → Type 0
+abbrev pub KnowsLast : (Pair → Option ℕ) → List Event → Type 0
 KnowsLast m t = (s : Pair) → unwrap_or (m s) 0 ≡ length (own s.sender (delivered_in s.seat.member s.seat.view t))
 
 -- REGISTERS
 
-abbrev pub KnowsEntries : (Seat → Option (Bor Install)) → List Happening → Type 0
+abbrev pub KnowsEntries : (Seat → Option (Bor Install)) → List Event → Type 0
 KnowsEntries m t = (s : Seat) → option_copied (m s) ≡ entry_of s.member s.view t
 
-abbrev pub KnowsFirsts : (ViewId → Option (Bor Install)) → List Happening → Type 0
+abbrev pub KnowsFirsts : (ViewId → Option (Bor Install)) → List Event → Type 0
 KnowsFirsts m t = (v : ViewId) → option_copied (m v) ≡ first_install v t
 
-abbrev pub KnowsWays : (Way → Option (Bor Install)) → List Happening → Type 0
+abbrev pub KnowsWays : (Way → Option (Bor Install)) → List Event → Type 0
 KnowsWays m t = (w : Way) → option_copied (m w) ≡ first_from w.from w.to t
 
--- WHAT A HAPPENING TELLS
+-- WHAT A EVENT TELLS
 
-abbrev pub sending_of : Happening → Option Sending
+abbrev pub sending_of : Event → Option Sending
 sending_of (Started p) = None
 sending_of (Sent s) = Some s
 sending_of (Delivered d) = None
@@ -106,7 +106,7 @@ sending_of (Installed i) = None
 sending_of (Left p) = None
 sending_of (Crashed p) = None
 
-abbrev pub delivery_of : Happening → Option Delivery
+abbrev pub delivery_of : Event → Option Delivery
 delivery_of (Started p) = None
 delivery_of (Sent s) = None
 delivery_of (Delivered d) = Some d
@@ -119,7 +119,7 @@ delivery_of (Crashed p) = None
 
 -- all that is kept says what the trace says
 pub record KnowsPast {Y Z : Type 0} (standings : Address → Option Standing) (sent : Seat → Option (Vec (Bor Numbered) Y)) (told : Seat → Option (Vec (Bor Message) Z)) (last : Pair → Option ℕ)
-    (entries : Seat → Option (Bor Install)) (firsts : ViewId → Option (Bor Install)) (ways : Way → Option (Bor Install)) (t : List Happening) : Type 0 where
+    (entries : Seat → Option (Bor Install)) (firsts : ViewId → Option (Bor Install)) (ways : Way → Option (Bor Install)) (t : List Event) : Type 0 where
   pub standings_known : KnowsStandings standings t
   pub sent_known : KnowsSent sent t
   pub told_known : KnowsTold told t

@@ -11,28 +11,28 @@ use crate::judge::broken_rule;
 use crate::known::{Past, States};
 use state_transfer::Receiver;
 use std::alloc::{AllocError, Global};
-use trace_props::{Happening, Rule, Trace, Verdict};
+use trace_props::{Event, Rule, Trace, Verdict};
 
-// The first rule that the happening breaks after the past; without one the past and the states go on.
+// The first rule that the event breaks after the past; without one the past and the states go on.
 fn judge<'a, R: Receiver>(
     alloc: Global,
     past: &mut Past<'a>,
     states: &mut States<R>,
-    happening: &'a Happening,
+    event: &'a Event,
 ) -> Result<Option<Rule>, AllocError>
-    requires short { IsShort happening.now }
-    requires known { KnowsStates R.opening_state R.apply R.decode R.encode R.is_state (get address_cmp states.old.states) (get view_id_cmp states.old.entering) past.old }
-    ensures past { IfOk result (λ broken. broken ≡ None → past.new ≡ past.old ++ happening.now ∷ []) }
+    requires short { IsShort event.now }
+    requires known { KnowsStates R.meaning (get address_cmp states.old.states) (get view_id_cmp states.old.entering) past.old }
+    ensures past { IfOk result (λ broken. broken ≡ None → past.new ≡ past.old ++ event.now ∷ []) }
     ensures judged { IfOk result (λ broken. MatchOption broken
-        (GoesOn R.opening_state R.apply R.decode past.old happening.now
-        × KnowsStates R.opening_state R.apply R.decode R.encode R.is_state (get address_cmp states.new.states) (get view_id_cmp states.new.entering) (past.old ++ happening.now ∷ []))
-        (λ rule. BreaksNext R.opening_state R.apply R.decode rule past.old happening.now)) }
+        (GoesOn R.meaning past.old event.now
+        × KnowsStates R.meaning (get address_cmp states.new.states) (get view_id_cmp states.new.entering) (past.old ++ event.now ∷ []))
+        (λ rule. BreaksNext R.meaning rule past.old event.now)) }
 {
-    match broken_rule(past, happening) {
+    match broken_rule(past, event) {
         Some(rule) => Ok(Some(rule)),
         None => {
-            if states.advance(alloc, happening)? {
-                past.note(alloc, happening)?;
+            if states.advance(alloc, event)? {
+                past.note(alloc, event)?;
                 Ok(None)
             } else {
                 Ok(Some(Rule::StateOfEntry))
@@ -41,20 +41,20 @@ fn judge<'a, R: Receiver>(
     }
 }
 
-// The verdict on happenings whose payloads are short.
+// The verdict on events whose payloads are short.
 fn check_all<'a, R: Receiver>(
     alloc: Global,
     past: &mut Past<'a>,
     states: &mut States<R>,
-    happenings: &'a [Happening],
+    events: &'a [Event],
 ) -> Result<Verdict, AllocError>
-    requires short { IsRecordable happenings.now }
+    requires short { IsRecordable events.now }
     requires none { past.old ≡ [] }
-    requires known { KnowsStates R.opening_state R.apply R.decode R.encode R.is_state (get address_cmp states.old.states) (get view_id_cmp states.old.entering) [] }
-    ensures { IfOk result (λ v. IsVerdict R.opening_state R.apply R.decode happenings.now v) }
+    requires known { KnowsStates R.meaning (get address_cmp states.old.states) (get view_id_cmp states.old.entering) [] }
+    ensures { IfOk result (λ v. IsVerdict R.meaning events.now v) }
 {
-    for (index, happening) in happenings.iter().enumerate() {
-        match judge(alloc, past, states, happening)? {
+    for (index, event) in events.iter().enumerate() {
+        match judge(alloc, past, states, event)? {
             Some(rule) => {
                 let place = index as u64 + 1;
                 return Ok(Verdict::Breaks { rule, place });
@@ -66,13 +66,13 @@ fn check_all<'a, R: Receiver>(
 }
 
 /// Whether a trace is virtually synchronous for the receiver, or else which rule breaks first and where.
-/// Reads the trace once; what a happening costs grows by no more than the look-up in a map.
+/// Reads the trace once; what an event costs grows by no more than the look-up in a map.
 pub fn check<R: Receiver>(alloc: Global, trace: &Trace) -> Result<Verdict, AllocError>
-    ensures verdict { IfOk result (λ v. IsVerdict R.opening_state R.apply R.decode trace.now.happenings v) }
-    ensures exact { IfOk result (λ v. (v ≡ Holds) ↔ IsVirtuallySynchronous R.opening_state R.apply R.decode trace.now.happenings) }
+    ensures verdict { IfOk result (λ v. IsVerdict R.meaning trace.now.events v) }
+    ensures exact { IfOk result (λ v. (v ≡ Holds) ↔ IsVirtuallySynchronous R.meaning trace.now.events) }
 {
     let mut past = Past::new(alloc);
     let mut states: States<R> = States::new(alloc);
-    let verdict = check_all(alloc, &mut past, &mut states, trace.happenings())?;
+    let verdict = check_all(alloc, &mut past, &mut states, trace.events())?;
     Ok(verdict)
 }

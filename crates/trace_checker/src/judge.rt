@@ -1,4 +1,4 @@
-//! The rules on the next happening, as tests against what is known of the past.
+//! The rules on the next event, as tests against what is known of the past.
 mod agree;
 mod messages;
 mod placed;

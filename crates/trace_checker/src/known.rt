@@ -1,4 +1,4 @@
-//! What a checker keeps of the happenings so far.
+//! What a checker keeps of the events so far.
 mod lists;
 mod notes;
 mod past;

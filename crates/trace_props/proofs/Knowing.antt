@@ -1,15 +1,15 @@
--- Together: it goes one happening further exactly when who enters knows all that have installed its view.
+-- Together: it goes one event further exactly when who enters knows all that have installed its view.
 use Rattle.std.proofs.Common.{◌≡◌, ◌↔◌, ℕ, true, List, [], ◌∷◌, ◌++◌, length, take, Some, None, slice_get, sym, refl, ap, ◌∙◌, subst}
 use Rattle.std.proofs.lemmas.Bool.{and_parts}
 use Rattle.address.specs.Ids.{Address, same_address, same_view_id}
 use Rattle.view.specs.Members.{stands_in}
-use Rattle.trace_props.specs.declared.happening.Happening.{Happening}
-use Rattle.trace_props.specs.declared.happening.Happening.TheVariants.{Started, Sent, Delivered, Blocked, Installed, Left, Crashed}
-use Rattle.trace_props.specs.declared.happening.Install.{Install}
+use Rattle.trace_props.specs.declared.event.Event.{Event}
+use Rattle.trace_props.specs.declared.event.Event.TheVariants.{Started, Sent, Delivered, Blocked, Installed, Left, Crashed}
+use Rattle.trace_props.specs.declared.event.Install.{Install}
 use Rattle.trace_props.specs.Observed.{install_of, entry_of}
 use Rattle.trace_props.specs.Rules.{EntersAbove, RisesAt, HasRisingViews, LiesWithin, KnowsTogether}
 use Rattle.trace_props.specs.Agreeing.{KnowEachOther, KnowsAll, MayKnow}
-use Rattle.trace_props.proofs.Places.{EachHappening-last, slice_get-last}
+use Rattle.trace_props.proofs.Places.{EachEvent-last, slice_get-last}
 use Rattle.trace_props.proofs.Observing.{same_view_id-true, same_view_id-from}
 use Rattle.trace_props.proofs.Telling.{enters, is_of, register-stands, register-written}
 use Rattle.trace_props.proofs.Installs.{EachInstall, EachInstall-still, EachInstall-push, EachTwoInstalls-still, EachTwoInstalls-push, EachTwoInstalls-left, EachTwoInstalls-right, EachTwoInstalls-last}
@@ -28,8 +28,8 @@ InsideBefore e f = e.previous ≡ Some f.view.id → LiesWithin e.together f.vie
 abbrev Knows : Install → Install → Type 0
 Knows e f = e.view.id ≡ f.view.id → (stands_in f.member e.together ≡ true) ↔ (f.previous ≡ e.previous)
 
--- a happening that is no install changes nothing
-knows-still : (t : List Happening) (h : Happening) → install_of h ≡ None → KnowsTogether t → KnowsTogether (t ++ h ∷ [])
+-- an event that is no install changes nothing
+knows-still : (t : List Event) (h : Event) → install_of h ≡ None → KnowsTogether t → KnowsTogether (t ++ h ∷ [])
 knows-still t h none r = record {
   within_view = EachInstall-still Inside Inside t h (λ e x. x) none r.within_view;
   within_previous = EachTwoInstalls-still InsideBefore InsideBefore t h (λ e f x. x) none r.within_previous;
@@ -37,7 +37,7 @@ knows-still t h none r = record {
 }
 
 -- those who came from the view that is installed now had its members
-inside-left : (t : List Happening) (i : Install) → HasRisingViews (t ++ Installed i ∷ []) → KnowsTogether t → EachInstall (λ e. InsideBefore e i) t
+inside-left : (t : List Event) (i : Install) → HasRisingViews (t ++ Installed i ∷ []) → KnowsTogether t → EachInstall (λ e. InsideBefore e i) t
 inside-left t i views r k e s came =
     let there = came-stands t (views-before t (Installed i) views) k e s i.view.id came in
     let f : Install = there.install in
@@ -46,7 +46,7 @@ inside-left t i views r k e s came =
     (r.within_previous k there.at.place e f s there.at.stands (came ∙ ap Some (sym same)))
 
 -- the view from which it comes had the members of its first install
-inside-right : (t : List Happening) (i : Install) → HasRisingViews (t ++ Installed i ∷ []) → KnowsAll t i → EachInstall (λ f. InsideBefore i f) t
+inside-right : (t : List Event) (i : Install) → HasRisingViews (t ++ Installed i ∷ []) → KnowsAll t i → EachInstall (λ f. InsideBefore i f) t
 inside-right t i views m k f s came =
     let first = register-written (is_of f.view.id) t k f s (same_view_id-from f.view.id f.view.id refl) in
     let at = register-stands (is_of f.view.id) t first.0 first.1 in
@@ -54,7 +54,7 @@ inside-right t i views m k f s came =
     (m.before f.view.id came first.0 first.1)
 
 -- each who has installed the view is known
-knows-each : (t : List Happening) (i : Install) → HasRisingViews (t ++ Installed i ∷ []) → KnowsAll t i → (k : ℕ) (e : Install) → slice_get t k ≡ Some (Installed e) → e.view.id ≡ i.view.id → KnowEachOther i e
+knows-each : (t : List Event) (i : Install) → HasRisingViews (t ++ Installed i ∷ []) → KnowsAll t i → (k : ℕ) (e : Install) → slice_get t k ≡ Some (Installed e) → e.view.id ≡ i.view.id → KnowEachOther i e
 knows-each t i views m k e s same =
     let before : HasRisingViews t = views-before t (Installed i) views in
     let above : EntersAbove (take k t) e = before.rises k (Installed e) s in
@@ -62,9 +62,9 @@ knows-each t i views m k e s same =
     (ap (stands_in e.member) (sym (EachTwoInstalls-left SameMembers t i views.agrees k e s same)) ∙ above.inside)
     e (ap (λ v. entry_of e.member v t) (sym same) ∙ entered t before k e s)
 
-knows-install : (t : List Happening) (i : Install) → HasRisingViews (t ++ Installed i ∷ []) → KnowsTogether t → KnowsAll t i → KnowsTogether (t ++ Installed i ∷ [])
+knows-install : (t : List Event) (i : Install) → HasRisingViews (t ++ Installed i ∷ []) → KnowsTogether t → KnowsAll t i → KnowsTogether (t ++ Installed i ∷ [])
 knows-install t i views r m =
-    let above : EntersAbove t i = EachHappening-last RisesAt t (Installed i) views.rises in
+    let above : EntersAbove t i = EachEvent-last RisesAt t (Installed i) views.rises in
     record {
       within_view = EachInstall-push Inside Inside t i (λ e x. x) r.within_view m.inside;
       within_previous = EachTwoInstalls-push InsideBefore InsideBefore t i (λ e f x. x) r.within_previous (inside-left t i views r) (inside-right t i views m)
@@ -75,8 +75,8 @@ knows-install t i views r m =
           (λ same. ((λ x. refl), (λ x. m.itself)));
     }
 
--- together goes one happening further
-pub knows-push : (t : List Happening) (h : Happening) → HasRisingViews (t ++ h ∷ []) → KnowsTogether t → MayKnow t h → KnowsTogether (t ++ h ∷ [])
+-- together goes one event further
+pub knows-push : (t : List Event) (h : Event) → HasRisingViews (t ++ h ∷ []) → KnowsTogether t → MayKnow t h → KnowsTogether (t ++ h ∷ [])
 knows-push t (Started q) views r m = knows-still t (Started q) refl r
 knows-push t (Sent x) views r m = knows-still t (Sent x) refl r
 knows-push t (Delivered d) views r m = knows-still t (Delivered d) refl r
@@ -86,7 +86,7 @@ knows-push t (Left q) views r m = knows-still t (Left q) refl r
 knows-push t (Crashed q) views r m = knows-still t (Crashed q) refl r
 
 -- who enters under the rule knows all
-knows-all : (t : List Happening) (i : Install) → KnowsTogether (t ++ Installed i ∷ []) → KnowsAll t i
+knows-all : (t : List Event) (i : Install) → KnowsTogether (t ++ Installed i ∷ []) → KnowsAll t i
 knows-all t i r = record {
   inside = r.within_view (length t) i (slice_get-last t (Installed i));
   before = λ v came f e.
@@ -103,7 +103,7 @@ knows-all t i r = record {
 }
 
 -- what happens under the rule may know
-pub knows-needed : (t : List Happening) (h : Happening) → KnowsTogether (t ++ h ∷ []) → MayKnow t h
+pub knows-needed : (t : List Event) (h : Event) → KnowsTogether (t ++ h ∷ []) → MayKnow t h
 knows-needed t (Started q) r = tt
 knows-needed t (Sent x) r = tt
 knows-needed t (Delivered d) r = tt

@@ -1,12 +1,12 @@
--- Same next view, same list: it goes one happening further exactly when who enters was told as many messages as the first who went from the same view to the same next.
+-- Same next view, same list: it goes one event further exactly when who enters was told as many messages as the first who went from the same view to the same next.
 use Rattle.std.proofs.Common.{◌≡◌, ℕ, Bool, true, false, List, [], ◌∷◌, ◌++◌, length, take, Option, Some, None, slice_get, sym, refl, ap, ◌∙◌}
 use Rattle.std.proofs.lemmas.Bool.{and_from, and_parts, true≢false}
 use Rattle.std.proofs.lemmas.Option.{none-some, same_Some}
 use Rattle.address.specs.Ids.{Address, ViewId, same_view_id}
-use Rattle.trace_props.specs.declared.happening.Happening.{Happening}
-use Rattle.trace_props.specs.declared.happening.Happening.TheVariants.{Started, Sent, Delivered, Blocked, Installed, Left, Crashed}
-use Rattle.trace_props.specs.declared.happening.Install.{Install}
-use Rattle.trace_props.specs.declared.happening.Delivery.{Delivery}
+use Rattle.trace_props.specs.declared.event.Event.{Event}
+use Rattle.trace_props.specs.declared.event.Event.TheVariants.{Started, Sent, Delivered, Blocked, Installed, Left, Crashed}
+use Rattle.trace_props.specs.declared.event.Install.{Install}
+use Rattle.trace_props.specs.declared.event.Delivery.{Delivery}
 use Rattle.trace_props.specs.Observed.{delivered_in, current_view, install_of}
 use Rattle.trace_props.specs.Rules.{MayStand, HasRisingViews, HasOneOrder, HasSameNext}
 use Rattle.trace_props.specs.Agreeing.{is_view, goes, MayMeet}
@@ -16,11 +16,11 @@ use Rattle.trace_props.proofs.Installs.{EachInstall, EachTwoInstalls-still, Each
 use Rattle.trace_props.proofs.Standing.{gone}
 
 -- two that went from one view to the same next were told the same there
-abbrev pub SameList : List Happening → Install → Install → Type 0
+abbrev pub SameList : List Event → Install → Install → Type 0
 SameList t e f = e.view.id ≡ f.view.id → (v : ViewId) → e.previous ≡ Some v → f.previous ≡ Some v → delivered_in e.member v t ≡ delivered_in f.member v t
 
 -- lists under one order that are equally long are equal
-pub same-length : (t : List Happening) (p q : Address) (v : ViewId) → HasOneOrder t → length (delivered_in p v t) ≡ length (delivered_in q v t) → delivered_in p v t ≡ delivered_in q v t
+pub same-length : (t : List Event) (p q : Address) (v : ViewId) → HasOneOrder t → length (delivered_in p v t) ≡ length (delivered_in q v t) → delivered_in p v t ≡ delivered_in q v t
 same-length t p q v order e = order p v ∙ ap (λ n. take n (delivered_in v.creator v t)) e ∙ sym (order q v)
 
 -- an install from a view is from that view by the test
@@ -34,8 +34,8 @@ is_view-true v (Some u) e = ap Some (same_view_id-true u v e)
 
 -- WHERE LISTS STAY
 
--- a happening that leaves the lists of those that have gone keeps the rule
-meets-kept : (t : List Happening) (h : Happening) → install_of h ≡ None
+-- an event that leaves the lists of those that have gone keeps the rule
+meets-kept : (t : List Event) (h : Event) → install_of h ≡ None
     → ((k : ℕ) (e : Install) (v : ViewId) → slice_get t k ≡ Some (Installed e) → e.previous ≡ Some v → delivered_in e.member v (t ++ h ∷ []) ≡ delivered_in e.member v t)
     → HasSameNext t → HasSameNext (t ++ h ∷ [])
 meets-kept t h none same r =
@@ -43,7 +43,7 @@ meets-kept t h none same r =
     (λ j k e f a b next v left right. same j e v a left ∙ r j k e f a b next v left right ∙ sym (same k f v b right))
 
 -- who has gone from a view is told nothing more there
-gone-told : (t : List Happening) (d : Delivery) (b : Bool) (k : ℕ) (e : Install) (v : ViewId) → told_to e.member v d ≡ b → HasRisingViews t → MayStand t (Delivered d)
+gone-told : (t : List Event) (d : Delivery) (b : Bool) (k : ℕ) (e : Install) (v : ViewId) → told_to e.member v d ≡ b → HasRisingViews t → MayStand t (Delivered d)
     → slice_get t k ≡ Some (Installed e) → e.previous ≡ Some v → delivered_in e.member v (t ++ Delivered d ∷ []) ≡ delivered_in e.member v t
 gone-told t d false k e v test views stands s came = delivered_in-miss e.member v t d test
 gone-told t d true k e v test views stands s came =
@@ -53,7 +53,7 @@ gone-told t d true k e v test views stands s came =
 -- WHO ENTERS
 
 -- each who went from the same view to the same next before was told the same
-meets-old : (t : List Happening) (i : Install) → HasOneOrder t → HasSameNext t → MayMeet t (Installed i) → EachInstall (λ e. SameList t e i) t
+meets-old : (t : List Event) (i : Install) → HasOneOrder t → HasSameNext t → MayMeet t (Installed i) → EachInstall (λ e. SameList t e i) t
 meets-old t i order r m k e s next v left right =
     let first = register-written (goes v i.view.id) t k e s (and_from (same_view_id e.view.id i.view.id) (is_view v e.previous) (same_view_id-from e.view.id i.view.id next) (is_view-from v e.previous left)) in
     let at = register-stands (goes v i.view.id) t first.0 first.1 in
@@ -62,24 +62,24 @@ meets-old t i order r m k e s next v left right =
     ∙ same-length t first.0.member i.member v order (m v right first.0 first.1)
 
 -- an install changes no list
-list-stays : (t : List Happening) (i e f : Install) → SameList t e f → SameList (t ++ Installed i ∷ []) e f
+list-stays : (t : List Event) (i e f : Install) → SameList t e f → SameList (t ++ Installed i ∷ []) e f
 list-stays t i e f x next v left right =
     delivered_in-still e.member v t (Installed i) refl ∙ x next v left right ∙ sym (delivered_in-still f.member v t (Installed i) refl)
 
 -- nor undoes what one more install leaves
-list-stayed : (t : List Happening) (i e f : Install) → SameList (t ++ Installed i ∷ []) e f → SameList t e f
+list-stayed : (t : List Event) (i e f : Install) → SameList (t ++ Installed i ∷ []) e f → SameList t e f
 list-stayed t i e f x next v left right =
     sym (delivered_in-still e.member v t (Installed i) refl) ∙ x next v left right ∙ delivered_in-still f.member v t (Installed i) refl
 
-meets-install : (t : List Happening) (i : Install) → HasOneOrder t → HasSameNext t → MayMeet t (Installed i) → HasSameNext (t ++ Installed i ∷ [])
+meets-install : (t : List Event) (i : Install) → HasOneOrder t → HasSameNext t → MayMeet t (Installed i) → HasSameNext (t ++ Installed i ∷ [])
 meets-install t i order r m =
     EachTwoInstalls-push (SameList t) (SameList (t ++ Installed i ∷ [])) t i (list-stays t i) r
     (λ k e s. list-stays t i e i (meets-old t i order r m k e s))
     (λ k e s. list-stays t i i e (λ next v left right. sym (meets-old t i order r m k e s (sym next) v right left)))
     (λ next v left right. refl)
 
--- same next view, same list goes one happening further
-pub meets-push : (t : List Happening) (h : Happening) → HasRisingViews t → HasOneOrder t → MayStand t h → HasSameNext t → MayMeet t h → HasSameNext (t ++ h ∷ [])
+-- same next view, same list goes one event further
+pub meets-push : (t : List Event) (h : Event) → HasRisingViews t → HasOneOrder t → MayStand t h → HasSameNext t → MayMeet t h → HasSameNext (t ++ h ∷ [])
 meets-push t (Started q) views order stands r m = meets-kept t (Started q) refl (λ k e v s came. delivered_in-still e.member v t (Started q) refl) r
 meets-push t (Sent x) views order stands r m = meets-kept t (Sent x) refl (λ k e v s came. delivered_in-still e.member v t (Sent x) refl) r
 meets-push t (Delivered d) views order stands r m = meets-kept t (Delivered d) refl (λ k e v s came. gone-told t d (told_to e.member v d) k e v refl views stands s came) r
@@ -89,7 +89,7 @@ meets-push t (Left q) views order stands r m = meets-kept t (Left q) refl (λ k 
 meets-push t (Crashed q) views order stands r m = meets-kept t (Crashed q) refl (λ k e v s came. delivered_in-still e.member v t (Crashed q) refl) r
 
 -- what happens under the rule may meet
-pub meets-needed : (t : List Happening) (h : Happening) → HasSameNext (t ++ h ∷ []) → MayMeet t h
+pub meets-needed : (t : List Event) (h : Event) → HasSameNext (t ++ h ∷ []) → MayMeet t h
 meets-needed t (Started q) r = tt
 meets-needed t (Sent x) r = tt
 meets-needed t (Delivered d) r = tt

@@ -1,55 +1,55 @@
--- What follows a trace under the first four rules is what may follow: each rule one happening further gives its condition.
+-- What follows a trace under the first four rules is what may follow: each rule one event further gives its condition.
 use Rattle.std.proofs.Common.{◌≡◌, ◌↔◌, ℕ, ◌+◌, false, List, [], ◌∷◌, ◌++◌, length, Some, slice_get, sym, refl, ap, ◌∙◌, subst}
 use Rattle.std.proofs.lemmas.Bool.{and_left}
 use Rattle.std.specs.Option.{ForSome}
 use Rattle.address.specs.Ids.{same_address, same_view_id}
-use Rattle.trace_props.specs.declared.happening.Happening.{Happening}
-use Rattle.trace_props.specs.declared.happening.Happening.TheVariants.{Started, Sent, Delivered, Blocked, Installed, Left, Crashed}
-use Rattle.trace_props.specs.declared.happening.Numbered.{Numbered}
-use Rattle.trace_props.specs.declared.happening.Message.{Message}
-use Rattle.trace_props.specs.declared.happening.Install.{Install}
-use Rattle.trace_props.specs.declared.happening.Delivery.{Delivery}
-use Rattle.trace_props.specs.declared.happening.Sending.{Sending}
+use Rattle.trace_props.specs.declared.event.Event.{Event}
+use Rattle.trace_props.specs.declared.event.Event.TheVariants.{Started, Sent, Delivered, Blocked, Installed, Left, Crashed}
+use Rattle.trace_props.specs.declared.event.Numbered.{Numbered}
+use Rattle.trace_props.specs.declared.event.Message.{Message}
+use Rattle.trace_props.specs.declared.event.Install.{Install}
+use Rattle.trace_props.specs.declared.event.Delivery.{Delivery}
+use Rattle.trace_props.specs.declared.event.Sending.{Sending}
 use Rattle.trace_props.specs.Places.{EachPlace, IsBeginningOf}
 use Rattle.trace_props.specs.Observed.{delivered_in, sent_in, numbered, own, first_install}
 use Rattle.trace_props.specs.Rules.{MayStand, IsWellPlaced, RisesAt, HasRisingViews, HasSoundMessages, HasOneOrder}
 use Rattle.trace_props.specs.Synchrony.{IsWellOrdered}
 use Rattle.trace_props.specs.Following.{MayRise, MayCarry, MayOrder, MayFollow}
-use Rattle.trace_props.proofs.Places.{EachHappening-last, EachPlace-before, EachPlace-whole, IsBeginningOf-last, slice_get-last}
+use Rattle.trace_props.proofs.Places.{EachEvent-last, EachPlace-before, EachPlace-whole, IsBeginningOf-last, slice_get-last}
 use Rattle.trace_props.proofs.Observing.{same_view_id-true}
 use Rattle.trace_props.proofs.Telling.{told_to-at, delivered_in-hit, delivered_in-miss, said_by-at, sent_in-still, sent_in-hit, own-hit, is_of, register-stands}
 use Rattle.trace_props.proofs.Observing.{same_address-refl}
 use Rattle.trace_props.proofs.Installs.{EachTwoInstalls-right}
 use Rattle.trace_props.proofs.Following.{SameMembers, well_ordered-push}
 
--- a happening that is well placed may stand there
-pub placed-needed : (t : List Happening) (h : Happening) → IsWellPlaced (t ++ h ∷ []) → MayStand t h
-placed-needed t h r = EachHappening-last MayStand t h r
+-- an event that is well placed may stand there
+pub placed-needed : (t : List Event) (h : Event) → IsWellPlaced (t ++ h ∷ []) → MayStand t h
+placed-needed t h r = EachEvent-last MayStand t h r
 
 -- an install under rising views has the members of the first install of its view
-members-needed : (t : List Happening) (i : Install) → HasRisingViews (t ++ Installed i ∷ []) → ForSome (first_install i.view.id t) (λ f. f.view.members ≡ i.view.members)
+members-needed : (t : List Event) (i : Install) → HasRisingViews (t ++ Installed i ∷ []) → ForSome (first_install i.view.id t) (λ f. f.view.members ≡ i.view.members)
 members-needed t i r f e =
     let at = register-stands (is_of i.view.id) t f e in
     sym (EachTwoInstalls-right SameMembers t i r.agrees at.place f at.stands (sym (same_view_id-true f.view.id i.view.id at.passes)))
 
 -- what happens under rising views may rise
-pub views-needed : (t : List Happening) (h : Happening) → HasRisingViews (t ++ h ∷ []) → MayRise t h
+pub views-needed : (t : List Event) (h : Event) → HasRisingViews (t ++ h ∷ []) → MayRise t h
 views-needed t (Started p) r = tt
 views-needed t (Sent s) r = tt
 views-needed t (Delivered d) r = tt
 views-needed t (Blocked p) r = tt
-views-needed t (Installed i) r = (EachHappening-last RisesAt t (Installed i) r.rises, members-needed t i r)
+views-needed t (Installed i) r = (EachEvent-last RisesAt t (Installed i) r.rises, members-needed t i r)
 views-needed t (Left p) r = tt
 views-needed t (Crashed p) r = tt
 
 -- a message that is sent under sound messages has the next number
-sent-needed : (t : List Happening) (s : Sending) → HasSoundMessages (t ++ Sent s ∷ []) → s.message.number ≡ length (sent_in s.member s.view t) + 1
+sent-needed : (t : List Event) (s : Sending) → HasSoundMessages (t ++ Sent s ∷ []) → s.message.number ≡ length (sent_in s.member s.view t) + 1
 sent-needed t s r =
     r.numbers s.member s.view (length (sent_in s.member s.view t)) s.message
     (ap (λ ms. slice_get ms (length (sent_in s.member s.view t))) (sent_in-hit s.member s.view t s (said_by-at s)) ∙ slice_get-last (sent_in s.member s.view t) s.message)
 
 -- a message that is told under sound messages is its sender's next
-told-needed : (t : List Happening) (d : Delivery) → HasSoundMessages (t ++ Delivered d ∷ [])
+told-needed : (t : List Event) (d : Delivery) → HasSoundMessages (t ++ Delivered d ∷ [])
     → slice_get (sent_in d.message.sender d.view t) (length (own d.message.sender (delivered_in d.member d.view t))) ≡ Some (numbered d.message)
 told-needed t d r =
     IsBeginningOf-last (own d.message.sender (delivered_in d.member d.view t)) (sent_in d.message.sender d.view t) (numbered d.message)
@@ -59,7 +59,7 @@ told-needed t d r =
     (r.in_turn d.member d.message.sender d.view)))
 
 -- what happens under sound messages may carry its message
-pub messages-needed : (t : List Happening) (h : Happening) → HasSoundMessages (t ++ h ∷ []) → MayCarry t h
+pub messages-needed : (t : List Event) (h : Event) → HasSoundMessages (t ++ h ∷ []) → MayCarry t h
 messages-needed t (Started p) r = tt
 messages-needed t (Sent s) r = sent-needed t s r
 messages-needed t (Delivered d) r =
@@ -72,7 +72,7 @@ messages-needed t (Left p) r = tt
 messages-needed t (Crashed p) r = tt
 
 -- who is told a message under one order, and is not the coordinator, is told the next of what that one was told
-told-in-order : (t : List Happening) (d : Delivery) → HasOneOrder (t ++ Delivered d ∷ []) → same_address d.member d.view.creator ≡ false
+told-in-order : (t : List Event) (d : Delivery) → HasOneOrder (t ++ Delivered d ∷ []) → same_address d.member d.view.creator ≡ false
     → slice_get (delivered_in d.view.creator d.view t) (length (delivered_in d.member d.view t)) ≡ Some d.message
 told-in-order t d r e =
     IsBeginningOf-last (delivered_in d.member d.view t) (delivered_in d.view.creator d.view t) d.message
@@ -82,7 +82,7 @@ told-in-order t d r e =
     (delivered_in-hit d.member d.view t d (told_to-at d)) (r d.member d.view)))
 
 -- what happens under one order may follow it
-pub order-needed : (t : List Happening) (h : Happening) → HasOneOrder (t ++ h ∷ []) → MayOrder t h
+pub order-needed : (t : List Event) (h : Event) → HasOneOrder (t ++ h ∷ []) → MayOrder t h
 order-needed t (Started p) r = tt
 order-needed t (Sent s) r = tt
 order-needed t (Delivered d) r = told-in-order t d r
@@ -92,7 +92,7 @@ order-needed t (Left p) r = tt
 order-needed t (Crashed p) r = tt
 
 -- what happens under the four rules may follow
-pub well_ordered-needed : (t : List Happening) (h : Happening) → IsWellOrdered (t ++ h ∷ []) → MayFollow t h
+pub well_ordered-needed : (t : List Event) (h : Event) → IsWellOrdered (t ++ h ∷ []) → MayFollow t h
 well_ordered-needed t h r = record {
   placed = placed-needed t h r.placed;
   views = views-needed t h r.views;
@@ -100,8 +100,8 @@ well_ordered-needed t h r = record {
   order = order-needed t h r.order;
 }
 
--- the four rules hold at every place one happening further exactly where they held at every place and it may follow
-pub well_ordered-exactly : (t : List Happening) (h : Happening) → EachPlace IsWellOrdered (t ++ h ∷ []) ↔ (EachPlace IsWellOrdered t × MayFollow t h)
+-- the four rules hold at every place one event further exactly where they held at every place and it may follow
+pub well_ordered-exactly : (t : List Event) (h : Event) → EachPlace IsWellOrdered (t ++ h ∷ []) ↔ (EachPlace IsWellOrdered t × MayFollow t h)
 well_ordered-exactly t h = (
   (λ r. (EachPlace-before IsWellOrdered t h r, well_ordered-needed t h (EachPlace-whole IsWellOrdered (t ++ h ∷ []) r))),
   (λ r. well_ordered-push t h r.0 r.1),

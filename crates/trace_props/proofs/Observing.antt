@@ -1,4 +1,4 @@
--- What one more happening changes of what a trace says of a member.
+-- What one more event changes of what a trace says of a member.
 use Rattle.std.proofs.Common.{◌≡◌, ℕ, Bool, true, false, ◌&&◌, ◌||◌, List, [], ◌∷◌, ◌++◌, Option, Some, None, filter_map, nat_eq, sym, refl, ap, ◌∙◌, subst}
 use Rattle.std.specs.List.{list_any, cons_option}
 use Rattle.std.proofs.lemmas.Bool.{and_parts, and_from, and_left, and_right, or_right, or_left, eqb-true, eq-eqb, cond-true, cond-false}
@@ -7,9 +7,9 @@ use Rattle.std.proofs.lemmas.List.Sums.{fold-append}
 use Rattle.std.proofs.lemmas.List.Folds.{list_any-append}
 use Rattle.std.proofs.lemmas.List.Elements.{filter_map-append}
 use Rattle.address.specs.Ids.{Address, ViewId, same_address, same_view_id}
-use Rattle.trace_props.specs.declared.happening.Happening.{Happening}
-use Rattle.trace_props.specs.declared.happening.Happening.TheVariants.{Started, Sent, Delivered, Blocked, Installed, Left, Crashed}
-use Rattle.trace_props.specs.declared.happening.Install.{Install}
+use Rattle.trace_props.specs.declared.event.Event.{Event}
+use Rattle.trace_props.specs.declared.event.Event.TheVariants.{Started, Sent, Delivered, Blocked, Installed, Left, Crashed}
+use Rattle.trace_props.specs.declared.event.Install.{Install}
 use Rattle.trace_props.specs.Observed.{member_of, is_start, is_end, has_started, has_ended, view_after, current_view, block_after, is_blocked}
 
 -- ADDRESSES AND VIEW IDS
@@ -93,46 +93,46 @@ list_any-stays p xs ys e = list_any-append p xs ys ∙ or_left (list_any p xs) (
 
 -- A MEMBER'S LIFE
 
--- the member of another happening has not started by it
-pub has_started-still : (p : Address) (t : List Happening) (h : Happening) → is_start h ≡ false → has_started p (t ++ h ∷ []) ≡ has_started p t
+-- the member of another event has not started by it
+pub has_started-still : (p : Address) (t : List Event) (h : Event) → is_start h ≡ false → has_started p (t ++ h ∷ []) ≡ has_started p t
 has_started-still p t h e = list_any-still (λ x. same_address (member_of x) p && is_start x) t h (and_right (same_address (member_of h) p) (is_start h) e)
 
 -- what happens to another does not start this one
-pub has_started-other : (p : Address) (t : List Happening) (h : Happening) → same_address (member_of h) p ≡ false → has_started p (t ++ h ∷ []) ≡ has_started p t
+pub has_started-other : (p : Address) (t : List Event) (h : Event) → same_address (member_of h) p ≡ false → has_started p (t ++ h ∷ []) ≡ has_started p t
 has_started-other p t h e = list_any-still (λ x. same_address (member_of x) p && is_start x) t h (and_left (same_address (member_of h) p) (is_start h) e)
 
 -- a start starts its member
-pub has_started-now : (p : Address) (t : List Happening) → has_started p (t ++ Started p ∷ []) ≡ true
+pub has_started-now : (p : Address) (t : List Event) → has_started p (t ++ Started p ∷ []) ≡ true
 has_started-now p t = list_any-now (λ x. same_address (member_of x) p && is_start x) t (Started p) (and_from (same_address p p) true (same_address-refl p) refl)
 
 -- who has started has started
-pub has_started-stays : (p : Address) (t u : List Happening) → has_started p t ≡ true → has_started p (t ++ u) ≡ true
+pub has_started-stays : (p : Address) (t u : List Event) → has_started p t ≡ true → has_started p (t ++ u) ≡ true
 has_started-stays p t u e = list_any-stays (λ x. same_address (member_of x) p && is_start x) t u e
 
 -- only an end ends
-pub has_ended-still : (p : Address) (t : List Happening) (h : Happening) → is_end h ≡ false → has_ended p (t ++ h ∷ []) ≡ has_ended p t
+pub has_ended-still : (p : Address) (t : List Event) (h : Event) → is_end h ≡ false → has_ended p (t ++ h ∷ []) ≡ has_ended p t
 has_ended-still p t h e = list_any-still (λ x. same_address (member_of x) p && is_end x) t h (and_right (same_address (member_of h) p) (is_end h) e)
 
 -- what happens to another does not end this one
-pub has_ended-other : (p : Address) (t : List Happening) (h : Happening) → same_address (member_of h) p ≡ false → has_ended p (t ++ h ∷ []) ≡ has_ended p t
+pub has_ended-other : (p : Address) (t : List Event) (h : Event) → same_address (member_of h) p ≡ false → has_ended p (t ++ h ∷ []) ≡ has_ended p t
 has_ended-other p t h e = list_any-still (λ x. same_address (member_of x) p && is_end x) t h (and_left (same_address (member_of h) p) (is_end h) e)
 
 -- an end ends its member
-pub has_ended-now : (t : List Happening) (h : Happening) → is_end h ≡ true → has_ended (member_of h) (t ++ h ∷ []) ≡ true
+pub has_ended-now : (t : List Event) (h : Event) → is_end h ≡ true → has_ended (member_of h) (t ++ h ∷ []) ≡ true
 has_ended-now t h e = list_any-now (λ x. same_address (member_of x) (member_of h) && is_end x) t h (and_from (same_address (member_of h) (member_of h)) (is_end h) (same_address-refl (member_of h)) e)
 
 -- who has ended has ended
-pub has_ended-stays : (p : Address) (t u : List Happening) → has_ended p t ≡ true → has_ended p (t ++ u) ≡ true
+pub has_ended-stays : (p : Address) (t u : List Event) → has_ended p t ≡ true → has_ended p (t ++ u) ≡ true
 has_ended-stays p t u e = list_any-stays (λ x. same_address (member_of x) p && is_end x) t u e
 
 -- A MEMBER'S VIEW
 
--- the newest happening changes the current view of before
-pub current_view-push : (p : Address) (t : List Happening) (h : Happening) → current_view p (t ++ h ∷ []) ≡ view_after p (current_view p t) h
+-- the newest event changes the current view of before
+pub current_view-push : (p : Address) (t : List Event) (h : Event) → current_view p (t ++ h ∷ []) ≡ view_after p (current_view p t) h
 current_view-push p t h = fold-append (view_after p) None t (h ∷ [])
 
 -- what happens to another changes no view of this one
-view_after-other : (p : Address) (v : Option ViewId) (h : Happening) → same_address (member_of h) p ≡ false → view_after p v h ≡ v
+view_after-other : (p : Address) (v : Option ViewId) (h : Event) → same_address (member_of h) p ≡ false → view_after p v h ≡ v
 view_after-other p v (Started q) e = refl
 view_after-other p v (Sent s) e = refl
 view_after-other p v (Delivered d) e = refl
@@ -142,19 +142,19 @@ view_after-other p v (Left q) e = refl
 view_after-other p v (Crashed q) e = refl
 
 -- so its current view stays
-pub current_view-other : (p : Address) (t : List Happening) (h : Happening) → same_address (member_of h) p ≡ false → current_view p (t ++ h ∷ []) ≡ current_view p t
+pub current_view-other : (p : Address) (t : List Event) (h : Event) → same_address (member_of h) p ≡ false → current_view p (t ++ h ∷ []) ≡ current_view p t
 current_view-other p t h e = current_view-push p t h ∙ view_after-other p (current_view p t) h e
 
 -- an install makes its view the current one
-pub current_view-now : (t : List Happening) (i : Install) → current_view i.member (t ++ Installed i ∷ []) ≡ Some i.view.id
+pub current_view-now : (t : List Event) (i : Install) → current_view i.member (t ++ Installed i ∷ []) ≡ Some i.view.id
 current_view-now t i = current_view-push i.member t (Installed i) ∙ cond-true (same_address i.member i.member) (Some i.view.id) (current_view i.member t) (same_address-refl i.member)
 
--- the newest happening blocks, or opens, or neither
-pub is_blocked-push : (p : Address) (t : List Happening) (h : Happening) → is_blocked p (t ++ h ∷ []) ≡ block_after p (is_blocked p t) h
+-- the newest event blocks, or opens, or neither
+pub is_blocked-push : (p : Address) (t : List Event) (h : Event) → is_blocked p (t ++ h ∷ []) ≡ block_after p (is_blocked p t) h
 is_blocked-push p t h = fold-append (block_after p) false t (h ∷ [])
 
 -- what happens to another does not block this one, or open it
-block_after-other : (p : Address) (b : Bool) (h : Happening) → same_address (member_of h) p ≡ false → block_after p b h ≡ b
+block_after-other : (p : Address) (b : Bool) (h : Event) → same_address (member_of h) p ≡ false → block_after p b h ≡ b
 block_after-other p b (Started q) e = refl
 block_after-other p b (Sent s) e = refl
 block_after-other p b (Delivered d) e = refl
@@ -164,13 +164,13 @@ block_after-other p b (Left q) e = refl
 block_after-other p b (Crashed q) e = refl
 
 -- so it stays blocked or open
-pub is_blocked-other : (p : Address) (t : List Happening) (h : Happening) → same_address (member_of h) p ≡ false → is_blocked p (t ++ h ∷ []) ≡ is_blocked p t
+pub is_blocked-other : (p : Address) (t : List Event) (h : Event) → same_address (member_of h) p ≡ false → is_blocked p (t ++ h ∷ []) ≡ is_blocked p t
 is_blocked-other p t h e = is_blocked-push p t h ∙ block_after-other p (is_blocked p t) h e
 
 -- a block blocks its member
-pub is_blocked-now : (p : Address) (t : List Happening) → is_blocked p (t ++ Blocked p ∷ []) ≡ true
+pub is_blocked-now : (p : Address) (t : List Event) → is_blocked p (t ++ Blocked p ∷ []) ≡ true
 is_blocked-now p t = is_blocked-push p t (Blocked p) ∙ cond-true (same_address p p) true (is_blocked p t) (same_address-refl p)
 
 -- an install opens its member
-pub is_blocked-open : (t : List Happening) (i : Install) → is_blocked i.member (t ++ Installed i ∷ []) ≡ false
+pub is_blocked-open : (t : List Event) (i : Install) → is_blocked i.member (t ++ Installed i ∷ []) ≡ false
 is_blocked-open t i = is_blocked-push i.member t (Installed i) ∙ cond-true (same_address i.member i.member) false (is_blocked i.member t) (same_address-refl i.member)

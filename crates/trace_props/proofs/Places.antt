@@ -4,7 +4,7 @@ use Rattle.std.specs.List.{slice_get}
 use Rattle.std.proofs.lemmas.Bool.{cases_lt}
 use Rattle.std.proofs.lemmas.List.{take-append-le, take_at, take_all, length_push, length-take}
 use Rattle.std.proofs.lemmas.Option.{slice_get_within, same_Some, none-some}
-use Rattle.trace_props.specs.Places.{EachHappening, EachPlace, IsBeginningOf}
+use Rattle.trace_props.specs.Places.{EachEvent, EachPlace, IsBeginningOf}
 
 -- what a list with one more element has at a place: what it had, or the new element at its end
 pub slice_get-push : {H : Type 0} → (t : List H) (h : H) (k : ℕ) (x : H) → slice_get (t ++ h ∷ []) k ≡ Some x → (slice_get t k ≡ Some x) ⊎ ((k ≡ length t) × (h ≡ x))
@@ -28,27 +28,27 @@ slice_get-last (y ∷ t) h = slice_get-last t h
 slice_get-nil : {H : Type 0} → (k : ℕ) (x : H) → slice_get [] k ≡ Some x → ⊥
 slice_get-nil k x e = none-some x e
 
--- of an empty list each rule on happenings holds
-pub EachHappening-nil : {H : Type 0} (Rule : List H → H → Type 0) → EachHappening Rule []
-EachHappening-nil Rule k h e = absurd (slice_get-nil k h e)
+-- of an empty list each rule on events holds
+pub EachEvent-nil : {H : Type 0} (Rule : List H → H → Type 0) → EachEvent Rule []
+EachEvent-nil Rule k h e = absurd (slice_get-nil k h e)
 
--- a rule on each happening goes one happening further where the new one keeps it
-pub EachHappening-push : {H : Type 0} (Rule : List H → H → Type 0) (t : List H) (h : H) → EachHappening Rule t → Rule t h → EachHappening Rule (t ++ h ∷ [])
-EachHappening-push {H} Rule t h each new k x e =
+-- a rule on each event goes one event further where the new one keeps it
+pub EachEvent-push : {H : Type 0} (Rule : List H → H → Type 0) (t : List H) (h : H) → EachEvent Rule t → Rule t h → EachEvent Rule (t ++ h ∷ [])
+EachEvent-push {H} Rule t h each new k x e =
     ⊎_elim
     (λ (a : slice_get t k ≡ Some x). let within : k < length t = slice_get_within t k x a in subst (λ (s : List H). Rule s x) (sym (take-append-le k t (h ∷ []) (omega arith))) (each k x a))
     (λ (b : (k ≡ length t) × (h ≡ x)). subst (λ (s : List H). Rule s x) (sym (take_at t (h ∷ []) k (sym b.0))) (subst (λ (y : H). Rule t y) b.1 new))
     (slice_get-push t h k x e)
 
 -- it held of all but the last
-pub EachHappening-before : {H : Type 0} (Rule : List H → H → Type 0) (t : List H) (h : H) → EachHappening Rule (t ++ h ∷ []) → EachHappening Rule t
-EachHappening-before {H} Rule t h each k x e =
+pub EachEvent-before : {H : Type 0} (Rule : List H → H → Type 0) (t : List H) (h : H) → EachEvent Rule (t ++ h ∷ []) → EachEvent Rule t
+EachEvent-before {H} Rule t h each k x e =
     let within : k < length t = slice_get_within t k x e in
     subst (λ (s : List H). Rule s x) (take-append-le k t (h ∷ []) (omega arith)) (each k x (slice_get-before t (h ∷ []) k x e))
 
 -- and it holds of the last
-pub EachHappening-last : {H : Type 0} (Rule : List H → H → Type 0) (t : List H) (h : H) → EachHappening Rule (t ++ h ∷ []) → Rule t h
-EachHappening-last {H} Rule t h each = subst (λ (s : List H). Rule s h) (take_at t (h ∷ []) (length t) refl) (each (length t) h (slice_get-last t h))
+pub EachEvent-last : {H : Type 0} (Rule : List H → H → Type 0) (t : List H) (h : H) → EachEvent Rule (t ++ h ∷ []) → Rule t h
+EachEvent-last {H} Rule t h each = subst (λ (s : List H). Rule s h) (take_at t (h ∷ []) (length t) refl) (each (length t) h (slice_get-last t h))
 
 -- a beginning of an empty list is empty
 take-nil : {H : Type 0} → (k : ℕ) → take {A = H} k [] ≡ []
@@ -59,7 +59,7 @@ take-nil (suc k) = refl
 pub EachPlace-nil : {H : Type 0} (Rule : List H → Type 0) → Rule [] → EachPlace Rule []
 EachPlace-nil {H} Rule nothing k = subst Rule (sym (take-nil k)) nothing
 
--- a rule on each beginning goes one happening further where the whole keeps it
+-- a rule on each beginning goes one event further where the whole keeps it
 pub EachPlace-push : {H : Type 0} (Rule : List H → Type 0) (t : List H) (h : H) → EachPlace Rule t → Rule (t ++ h ∷ []) → EachPlace Rule (t ++ h ∷ [])
 EachPlace-push {H} Rule t h each new k =
     ⊎_elim

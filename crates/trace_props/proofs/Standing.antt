@@ -7,12 +7,12 @@ use Rattle.std.proofs.lemmas.Bool.Decides.{nat_tests}
 use Rattle.std.proofs.lemmas.List.{append-nil, append_assoc}
 use Rattle.std.proofs.lemmas.Option.{none-some, same_Some}
 use Rattle.address.specs.Ids.{Address, ViewId, same_address, same_view_id}
-use Rattle.trace_props.specs.declared.happening.Happening.{Happening}
-use Rattle.trace_props.specs.declared.happening.Happening.TheVariants.{Started, Sent, Delivered, Blocked, Installed, Left, Crashed}
-use Rattle.trace_props.specs.declared.happening.Install.{Install}
+use Rattle.trace_props.specs.declared.event.Event.{Event}
+use Rattle.trace_props.specs.declared.event.Event.TheVariants.{Started, Sent, Delivered, Blocked, Installed, Left, Crashed}
+use Rattle.trace_props.specs.declared.event.Install.{Install}
 use Rattle.trace_props.specs.Observed.{current_view, view_after, install_of, entry_of}
 use Rattle.trace_props.specs.Rules.{IsBelow, RisesAt, EntersAbove, HasRisingViews}
-use Rattle.trace_props.proofs.Places.{slice_get-before, slice_get-last, slice_get-take, EachHappening-before, EachHappening-last}
+use Rattle.trace_props.proofs.Places.{slice_get-before, slice_get-last, slice_get-take, EachEvent-before, EachEvent-last}
 use Rattle.trace_props.proofs.Observing.{same_address-true, same_address-refl, same_view_id-true, same_view_id-refl, current_view-push, current_view-now, current_view-other}
 use Rattle.trace_props.proofs.Telling.{enters, StandsIn, register-stands, register-stays, register-push}
 use Rattle.trace_props.proofs.Installs.{EachInstall, EachInstall-still, EachInstall-push, EachTwoInstalls-before}
@@ -54,30 +54,30 @@ IsBelow-up_to u v w b (inr c) = IsBelow-trans u v w b c
 -- RISING VIEWS BEFORE
 
 -- what rises rose before
-pub views-before : (t : List Happening) (h : Happening) → HasRisingViews (t ++ h ∷ []) → HasRisingViews t
+pub views-before : (t : List Event) (h : Event) → HasRisingViews (t ++ h ∷ []) → HasRisingViews t
 views-before t h r = record {
-  rises = EachHappening-before RisesAt t h r.rises;
+  rises = EachEvent-before RisesAt t h r.rises;
   agrees = EachTwoInstalls-before SameMembers SameMembers t (h ∷ []) (λ e f x. x) r.agrees;
 }
 
 -- THE CURRENT VIEW WAS INSTALLED
 
 -- a member's install of a view stands in the trace
-pub record HasEntered (p : Address) (v : ViewId) (t : List Happening) : Type 0 where
+pub record HasEntered (p : Address) (v : ViewId) (t : List Event) : Type 0 where
   pub install : Install
   pub at : StandsIn (enters p v) t install
 
-entered-later : (p : Address) (v : ViewId) (t u : List Happening) → HasEntered p v t → HasEntered p v (t ++ u)
+entered-later : (p : Address) (v : ViewId) (t u : List Event) → HasEntered p v t → HasEntered p v (t ++ u)
 entered-later p v t u e = record { install = e.install; at = record { place = e.at.place; stands = slice_get-before t u e.at.place (Installed e.install) e.at.stands; passes = e.at.passes } }
 
-ViewStands : Address → List Happening → Type 0
+ViewStands : Address → List Event → Type 0
 ViewStands p t = (v : ViewId) → current_view p t ≡ Some v → HasEntered p v t
 
-view-stands-still : (p : Address) (t : List Happening) (h : Happening) → view_after p (current_view p t) h ≡ current_view p t → ViewStands p t → ViewStands p (t ++ h ∷ [])
+view-stands-still : (p : Address) (t : List Event) (h : Event) → view_after p (current_view p t) h ≡ current_view p t → ViewStands p t → ViewStands p (t ++ h ∷ [])
 unfolding ViewStands
 view-stands-still p t h e r v s = entered-later p v t (h ∷ []) (r v (sym e ∙ sym (current_view-push p t h) ∙ s))
 
-view-stands-install : (p : Address) (t : List Happening) (i : Install) (b : Bool) → same_address i.member p ≡ b → ViewStands p t → ViewStands p (t ++ Installed i ∷ [])
+view-stands-install : (p : Address) (t : List Event) (i : Install) (b : Bool) → same_address i.member p ≡ b → ViewStands p t → ViewStands p (t ++ Installed i ∷ [])
 unfolding ViewStands
 view-stands-install p t i false e r v s =
     entered-later p v t (Installed i ∷ []) (r v (sym (cond-false (same_address i.member p) (Some i.view.id) (current_view p t) e) ∙ sym (current_view-push p t (Installed i)) ∙ s))
@@ -92,7 +92,7 @@ view-stands-install p t i true e r v s =
       };
     }
 
-view-stands-push : (p : Address) (t : List Happening) (h : Happening) → ViewStands p t → ViewStands p (t ++ h ∷ [])
+view-stands-push : (p : Address) (t : List Event) (h : Event) → ViewStands p t → ViewStands p (t ++ h ∷ [])
 view-stands-push p t (Started q) r = view-stands-still p t (Started q) refl r
 view-stands-push p t (Sent s) r = view-stands-still p t (Sent s) refl r
 view-stands-push p t (Delivered d) r = view-stands-still p t (Delivered d) refl r
@@ -102,19 +102,19 @@ view-stands-push p t (Left q) r = view-stands-still p t (Left q) refl r
 view-stands-push p t (Crashed q) r = view-stands-still p t (Crashed q) refl r
 
 -- the current view of a member is one that it installed
-pub view-stands : (p : Address) (t : List Happening) (v : ViewId) → current_view p t ≡ Some v → HasEntered p v t
+pub view-stands : (p : Address) (t : List Event) (v : ViewId) → current_view p t ≡ Some v → HasEntered p v t
 unfolding ViewStands
 view-stands p t = by_pushes (ViewStands p) (λ v e. absurd (none-some v e)) (λ u h r. view-stands-push p u h r) t
 
 -- the view from which a member came is one that it installed
-pub came-stands : (t : List Happening) → HasRisingViews t → (k : ℕ) (e : Install) → slice_get t k ≡ Some (Installed e) → (v : ViewId) → e.previous ≡ Some v → HasEntered e.member v t
+pub came-stands : (t : List Event) → HasRisingViews t → (k : ℕ) (e : Install) → slice_get t k ≡ Some (Installed e) → (v : ViewId) → e.previous ≡ Some v → HasEntered e.member v t
 came-stands t r k e s v came =
     let above : EntersAbove (take k t) e = r.rises k (Installed e) s in
     let there = view-stands e.member (take k t) v (sym above.previous ∙ came) in
     record { install = there.install; at = record { place = there.at.place; stands = slice_get-take k t there.at.place (Installed there.install) there.at.stands; passes = there.at.passes } }
 
 -- and is below the one to which it went
-pub came-below : (t : List Happening) → HasRisingViews t → (k : ℕ) (e : Install) → slice_get t k ≡ Some (Installed e) → (v : ViewId) → e.previous ≡ Some v → IsBelow v e.view.id
+pub came-below : (t : List Event) → HasRisingViews t → (k : ℕ) (e : Install) → slice_get t k ≡ Some (Installed e) → (v : ViewId) → e.previous ≡ Some v → IsBelow v e.view.id
 came-below t r k e s v came =
     let above : EntersAbove (take k t) e = r.rises k (Installed e) s in
     above.rises v came
@@ -122,22 +122,22 @@ came-below t r k e s v came =
 -- NONE GOES BACK
 
 -- a member's current view is at least the view of each of its installs
-pub record IsPassed (t : List Happening) (e : Install) : Type 0 where
+pub record IsPassed (t : List Event) (e : Install) : Type 0 where
   pub now : ViewId
   pub is : current_view e.member t ≡ Some now
   pub up_to : IsUpTo e.view.id now
 
-Passes : List Happening → Type 0
+Passes : List Event → Type 0
 Passes t = HasRisingViews t → EachInstall (IsPassed t) t
 
-passes-still : (t : List Happening) (h : Happening) → ((p : Address) → view_after p (current_view p t) h ≡ current_view p t) → install_of h ≡ None → Passes t → Passes (t ++ h ∷ [])
+passes-still : (t : List Event) (h : Event) → ((p : Address) → view_after p (current_view p t) h ≡ current_view p t) → install_of h ≡ None → Passes t → Passes (t ++ h ∷ [])
 unfolding Passes
 passes-still t h same none r views =
     EachInstall-still (IsPassed t) (IsPassed (t ++ h ∷ [])) t h
     (λ e x. record { now = x.now; is = current_view-push e.member t h ∙ same e.member ∙ x.is; up_to = x.up_to })
     none (r (views-before t h views))
 
-passed-on : (t : List Happening) (i e : Install) (b : Bool) → same_address i.member e.member ≡ b → EntersAbove t i → IsPassed t e → IsPassed (t ++ Installed i ∷ []) e
+passed-on : (t : List Event) (i e : Install) (b : Bool) → same_address i.member e.member ≡ b → EntersAbove t i → IsPassed t e → IsPassed (t ++ Installed i ∷ []) e
 passed-on t i e false s above x = record { now = x.now; is = current_view-other e.member t (Installed i) s ∙ x.is; up_to = x.up_to }
 passed-on t i e true s above x =
     let same : i.member ≡ e.member = same_address-true i.member e.member s in
@@ -147,7 +147,7 @@ passed-on t i e true s above x =
       up_to = inr (IsUpTo-below e.view.id x.now i.view.id x.up_to (above.rises x.now (above.previous ∙ ap (λ p. current_view p t) same ∙ x.is)));
     }
 
-passes-push : (t : List Happening) (h : Happening) → Passes t → Passes (t ++ h ∷ [])
+passes-push : (t : List Event) (h : Event) → Passes t → Passes (t ++ h ∷ [])
 unfolding Passes
 passes-push t (Started q) r = passes-still t (Started q) (λ p. refl) refl r
 passes-push t (Sent s) r = passes-still t (Sent s) (λ p. refl) refl r
@@ -155,19 +155,19 @@ passes-push t (Delivered d) r = passes-still t (Delivered d) (λ p. refl) refl r
 passes-push t (Blocked q) r = passes-still t (Blocked q) (λ p. refl) refl r
 passes-push t (Installed i) r = λ views.
     EachInstall-push (IsPassed t) (IsPassed (t ++ Installed i ∷ [])) t i
-    (λ e x. passed-on t i e (same_address i.member e.member) refl (EachHappening-last RisesAt t (Installed i) views.rises) x)
+    (λ e x. passed-on t i e (same_address i.member e.member) refl (EachEvent-last RisesAt t (Installed i) views.rises) x)
     (r (views-before t (Installed i) views))
     (record { now = i.view.id; is = current_view-now t i; up_to = inl refl })
 passes-push t (Left q) r = passes-still t (Left q) (λ p. refl) refl r
 passes-push t (Crashed q) r = passes-still t (Crashed q) (λ p. refl) refl r
 
 -- under rising views no member goes back
-pub passed : (t : List Happening) → HasRisingViews t → EachInstall (IsPassed t) t
+pub passed : (t : List Event) → HasRisingViews t → EachInstall (IsPassed t) t
 unfolding Passes
 passed t = by_pushes Passes (λ views k e s. absurd (none-some (Installed e) s)) passes-push t
 
 -- who has gone from a view has another one
-pub gone : (t : List Happening) → HasRisingViews t → (k : ℕ) (e : Install) → slice_get t k ≡ Some (Installed e) → (v : ViewId) → e.previous ≡ Some v → current_view e.member t ≡ Some v → ⊥
+pub gone : (t : List Event) → HasRisingViews t → (k : ℕ) (e : Install) → slice_get t k ≡ Some (Installed e) → (v : ViewId) → e.previous ≡ Some v → current_view e.member t ≡ Some v → ⊥
 gone t r k e s v came there =
     let x = passed t r k e s in
     IsBelow-irreflexive v (subst (λ (w : ViewId). IsBelow v w) (same_Some x.now v (sym x.is ∙ there)) (IsBelow-up_to v e.view.id x.now (came-below t r k e s v came) x.up_to))
@@ -175,7 +175,7 @@ gone t r k e s v came there =
 -- ONE INSTALL OF A VIEW
 
 -- a member that may install a view has not installed it
-pub not-entered : (t : List Happening) (i : Install) → HasRisingViews t → EntersAbove t i → (f : Install) → entry_of i.member i.view.id t ≡ Some f → ⊥
+pub not-entered : (t : List Event) (i : Install) → HasRisingViews t → EntersAbove t i → (f : Install) → entry_of i.member i.view.id t ≡ Some f → ⊥
 not-entered t i r above f e =
     let at = register-stands (enters i.member i.view.id) t f e in
     let parts = and_parts (same_address f.member i.member) (same_view_id f.view.id i.view.id) at.passes in
@@ -184,25 +184,25 @@ not-entered t i r above f e =
     IsBelow-irreflexive i.view.id
     (IsUpTo-below i.view.id x.now i.view.id (subst (λ (w : ViewId). IsUpTo w x.now) (same_view_id-true f.view.id i.view.id parts.1) x.up_to) (above.rises x.now (above.previous ∙ here)))
 
-abbrev IsEntry : List Happening → Install → Type 0
+abbrev IsEntry : List Event → Install → Type 0
 IsEntry t e = entry_of e.member e.view.id t ≡ Some e
 
-Enters : List Happening → Type 0
+Enters : List Event → Type 0
 Enters t = HasRisingViews t → EachInstall (IsEntry t) t
 
-enters-still : (t : List Happening) (h : Happening) → install_of h ≡ None → Enters t → Enters (t ++ h ∷ [])
+enters-still : (t : List Event) (h : Event) → install_of h ≡ None → Enters t → Enters (t ++ h ∷ [])
 unfolding Enters
 enters-still t h none r views =
     EachInstall-still (IsEntry t) (IsEntry (t ++ h ∷ [])) t h (λ e x. register-stays (enters e.member e.view.id) t (h ∷ []) e x) none (r (views-before t h views))
 
 -- the register of a first install is written by it
-entry-new : (t : List Happening) (i : Install) (o : Option Install) → entry_of i.member i.view.id t ≡ o → HasRisingViews t → EntersAbove t i → IsEntry (t ++ Installed i ∷ []) i
+entry-new : (t : List Event) (i : Install) (o : Option Install) → entry_of i.member i.view.id t ≡ o → HasRisingViews t → EntersAbove t i → IsEntry (t ++ Installed i ∷ []) i
 entry-new t i None e r above =
     register-push (enters i.member i.view.id) t i ∙ ap (λ o. option_or o (cond (enters i.member i.view.id i) (Some i) None)) e
     ∙ cond-true (enters i.member i.view.id i) (Some i) None (and_from (same_address i.member i.member) (same_view_id i.view.id i.view.id) (same_address-refl i.member) (same_view_id-refl i.view.id))
 entry-new t i (Some f) e r above = absurd (not-entered t i r above f e)
 
-enters-push : (t : List Happening) (h : Happening) → Enters t → Enters (t ++ h ∷ [])
+enters-push : (t : List Event) (h : Event) → Enters t → Enters (t ++ h ∷ [])
 unfolding Enters
 enters-push t (Started q) r = enters-still t (Started q) refl r
 enters-push t (Sent s) r = enters-still t (Sent s) refl r
@@ -211,11 +211,11 @@ enters-push t (Blocked q) r = enters-still t (Blocked q) refl r
 enters-push t (Installed i) r = λ views.
     EachInstall-push (IsEntry t) (IsEntry (t ++ Installed i ∷ [])) t i (λ e x. register-stays (enters e.member e.view.id) t (Installed i ∷ []) e x)
     (r (views-before t (Installed i) views))
-    (entry-new t i (entry_of i.member i.view.id t) refl (views-before t (Installed i) views) (EachHappening-last RisesAt t (Installed i) views.rises))
+    (entry-new t i (entry_of i.member i.view.id t) refl (views-before t (Installed i) views) (EachEvent-last RisesAt t (Installed i) views.rises))
 enters-push t (Left q) r = enters-still t (Left q) refl r
 enters-push t (Crashed q) r = enters-still t (Crashed q) refl r
 
 -- under rising views each install is its member's one of its view
-pub entered : (t : List Happening) → HasRisingViews t → EachInstall (IsEntry t) t
+pub entered : (t : List Event) → HasRisingViews t → EachInstall (IsEntry t) t
 unfolding Enters
 entered t = by_pushes Enters (λ views k e s. absurd (none-some (Installed e) s)) enters-push t

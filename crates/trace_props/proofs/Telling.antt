@@ -1,4 +1,4 @@
--- What one more happening changes of the messages that a member was told or sent, and of the installs.
+-- What one more event changes of the messages that a member was told or sent, and of the installs.
 use Rattle.std.proofs.Common.{◌≡◌, ℕ, suc, zero, Bool, true, false, ◌&&◌, cond, List, [], ◌∷◌, ◌++◌, Option, Some, None, filter_map, find, sym, refl, ap, ◌∙◌, subst, slice_get}
 use Rattle.std.specs.Option.{option_or}
 use Rattle.std.specs.List.{cons_option}
@@ -7,12 +7,12 @@ use Rattle.std.proofs.lemmas.Bool.{and_parts, and_from, and_left, cond-true, con
 use Rattle.std.proofs.lemmas.List.Folds.{find-append}
 use Rattle.std.proofs.lemmas.Option.{none-some, same_Some}
 use Rattle.address.specs.Ids.{Address, ViewId, same_address, same_view_id}
-use Rattle.trace_props.specs.declared.happening.Happening.{Happening}
-use Rattle.trace_props.specs.declared.happening.Happening.TheVariants.{Started, Sent, Delivered, Blocked, Installed, Left, Crashed}
-use Rattle.trace_props.specs.declared.happening.Message.{Message}
-use Rattle.trace_props.specs.declared.happening.Install.{Install}
-use Rattle.trace_props.specs.declared.happening.Delivery.{Delivery}
-use Rattle.trace_props.specs.declared.happening.Sending.{Sending}
+use Rattle.trace_props.specs.declared.event.Event.{Event}
+use Rattle.trace_props.specs.declared.event.Event.TheVariants.{Started, Sent, Delivered, Blocked, Installed, Left, Crashed}
+use Rattle.trace_props.specs.declared.event.Message.{Message}
+use Rattle.trace_props.specs.declared.event.Install.{Install}
+use Rattle.trace_props.specs.declared.event.Delivery.{Delivery}
+use Rattle.trace_props.specs.declared.event.Sending.{Sending}
 use Rattle.trace_props.specs.Observed.{member_of, told, delivered_in, said, sent_in, numbered, own_by, own, install_of, installs_in}
 use Rattle.trace_props.proofs.Observing.{same_address-true, same_address-refl, same_view_id-true, same_view_id-refl, filter_map-still, filter_map-more}
 
@@ -23,15 +23,15 @@ abbrev pub told_to : Address → ViewId → Delivery → Bool
 told_to p v d = same_address d.member p && same_view_id d.view v
 
 -- what tells it nothing leaves its list
-pub delivered_in-still : (p : Address) (v : ViewId) (t : List Happening) (h : Happening) → told p v h ≡ None → delivered_in p v (t ++ h ∷ []) ≡ delivered_in p v t
+pub delivered_in-still : (p : Address) (v : ViewId) (t : List Event) (h : Event) → told p v h ≡ None → delivered_in p v (t ++ h ∷ []) ≡ delivered_in p v t
 delivered_in-still p v t h e = filter_map-still (told p v) t h e
 
 -- what another is told, or what is told in another view, leaves its list
-pub delivered_in-miss : (p : Address) (v : ViewId) (t : List Happening) (d : Delivery) → told_to p v d ≡ false → delivered_in p v (t ++ Delivered d ∷ []) ≡ delivered_in p v t
+pub delivered_in-miss : (p : Address) (v : ViewId) (t : List Event) (d : Delivery) → told_to p v d ≡ false → delivered_in p v (t ++ Delivered d ∷ []) ≡ delivered_in p v t
 delivered_in-miss p v t d e = delivered_in-still p v t (Delivered d) (cond-false (told_to p v d) (Some d.message) None e)
 
 -- what it is told in the view stands at the end
-pub delivered_in-hit : (p : Address) (v : ViewId) (t : List Happening) (d : Delivery) → told_to p v d ≡ true → delivered_in p v (t ++ Delivered d ∷ []) ≡ delivered_in p v t ++ d.message ∷ []
+pub delivered_in-hit : (p : Address) (v : ViewId) (t : List Event) (d : Delivery) → told_to p v d ≡ true → delivered_in p v (t ++ Delivered d ∷ []) ≡ delivered_in p v t ++ d.message ∷ []
 delivered_in-hit p v t d e = filter_map-more (told p v) t (Delivered d) d.message (cond-true (told_to p v d) (Some d.message) None e)
 
 -- a message is told to its member in its view
@@ -45,7 +45,7 @@ told_to-true p v d e =
     (same_address-true d.member p parts.0, same_view_id-true d.view v parts.1)
 
 -- what happens to another tells this one nothing
-told-other : (p : Address) (v : ViewId) (h : Happening) → same_address (member_of h) p ≡ false → told p v h ≡ None
+told-other : (p : Address) (v : ViewId) (h : Event) → same_address (member_of h) p ≡ false → told p v h ≡ None
 told-other p v (Started q) e = refl
 told-other p v (Sent s) e = refl
 told-other p v (Delivered d) e = cond-false (told_to p v d) (Some d.message) None (and_left (same_address d.member p) (same_view_id d.view v) e)
@@ -55,7 +55,7 @@ told-other p v (Left q) e = refl
 told-other p v (Crashed q) e = refl
 
 -- so its lists stay
-pub delivered_in-other : (p : Address) (v : ViewId) (t : List Happening) (h : Happening) → same_address (member_of h) p ≡ false → delivered_in p v (t ++ h ∷ []) ≡ delivered_in p v t
+pub delivered_in-other : (p : Address) (v : ViewId) (t : List Event) (h : Event) → same_address (member_of h) p ≡ false → delivered_in p v (t ++ h ∷ []) ≡ delivered_in p v t
 delivered_in-other p v t h e = delivered_in-still p v t h (told-other p v h e)
 
 -- WHAT A MEMBER SENT
@@ -65,15 +65,15 @@ abbrev pub said_by : Address → ViewId → Sending → Bool
 said_by p v s = same_address s.member p && same_view_id s.view v
 
 -- what sends nothing of it leaves its list
-pub sent_in-still : (p : Address) (v : ViewId) (t : List Happening) (h : Happening) → said p v h ≡ None → sent_in p v (t ++ h ∷ []) ≡ sent_in p v t
+pub sent_in-still : (p : Address) (v : ViewId) (t : List Event) (h : Event) → said p v h ≡ None → sent_in p v (t ++ h ∷ []) ≡ sent_in p v t
 sent_in-still p v t h e = filter_map-still (said p v) t h e
 
 -- what another sends, or what is sent in another view, leaves its list
-pub sent_in-miss : (p : Address) (v : ViewId) (t : List Happening) (s : Sending) → said_by p v s ≡ false → sent_in p v (t ++ Sent s ∷ []) ≡ sent_in p v t
+pub sent_in-miss : (p : Address) (v : ViewId) (t : List Event) (s : Sending) → said_by p v s ≡ false → sent_in p v (t ++ Sent s ∷ []) ≡ sent_in p v t
 sent_in-miss p v t s e = sent_in-still p v t (Sent s) (cond-false (said_by p v s) (Some s.message) None e)
 
 -- what it sends in the view stands at the end
-pub sent_in-hit : (p : Address) (v : ViewId) (t : List Happening) (s : Sending) → said_by p v s ≡ true → sent_in p v (t ++ Sent s ∷ []) ≡ sent_in p v t ++ s.message ∷ []
+pub sent_in-hit : (p : Address) (v : ViewId) (t : List Event) (s : Sending) → said_by p v s ≡ true → sent_in p v (t ++ Sent s ∷ []) ≡ sent_in p v t ++ s.message ∷ []
 sent_in-hit p v t s e = filter_map-more (said p v) t (Sent s) s.message (cond-true (said_by p v s) (Some s.message) None e)
 
 -- a message is sent by its member in its view
@@ -87,7 +87,7 @@ said_by-true p v s e =
     (same_address-true s.member p parts.0, same_view_id-true s.view v parts.1)
 
 -- what happens to another sends nothing of this one
-said-other : (p : Address) (v : ViewId) (h : Happening) → same_address (member_of h) p ≡ false → said p v h ≡ None
+said-other : (p : Address) (v : ViewId) (h : Event) → same_address (member_of h) p ≡ false → said p v h ≡ None
 said-other p v (Started q) e = refl
 said-other p v (Sent s) e = cond-false (said_by p v s) (Some s.message) None (and_left (same_address s.member p) (same_view_id s.view v) e)
 said-other p v (Delivered d) e = refl
@@ -97,7 +97,7 @@ said-other p v (Left q) e = refl
 said-other p v (Crashed q) e = refl
 
 -- so its lists stay
-pub sent_in-other : (p : Address) (v : ViewId) (t : List Happening) (h : Happening) → same_address (member_of h) p ≡ false → sent_in p v (t ++ h ∷ []) ≡ sent_in p v t
+pub sent_in-other : (p : Address) (v : ViewId) (t : List Event) (h : Event) → same_address (member_of h) p ≡ false → sent_in p v (t ++ h ∷ []) ≡ sent_in p v t
 sent_in-other p v t h e = sent_in-still p v t h (said-other p v h e)
 
 -- OWN MESSAGES
@@ -130,11 +130,11 @@ own-at (x ∷ messages) (suc k) m e = own-behind x messages m (same_address x.se
 -- INSTALLS
 
 -- only an install adds to the installs
-pub installs_in-still : (t : List Happening) (h : Happening) → install_of h ≡ None → installs_in (t ++ h ∷ []) ≡ installs_in t
+pub installs_in-still : (t : List Event) (h : Event) → install_of h ≡ None → installs_in (t ++ h ∷ []) ≡ installs_in t
 installs_in-still t h e = filter_map-still install_of t h e
 
 -- an install stands at the end of them
-pub installs_in-push : (t : List Happening) (i : Install) → installs_in (t ++ Installed i ∷ []) ≡ installs_in t ++ i ∷ []
+pub installs_in-push : (t : List Event) (i : Install) → installs_in (t ++ Installed i ∷ []) ≡ installs_in t ++ i ∷ []
 installs_in-push t i = filter_map-more install_of t (Installed i) i refl
 
 -- whether an install is a member's, of a view
@@ -189,7 +189,7 @@ find-found {X} {Y} p f (a ∷ t) zero x y s g e =
 find-found p f (a ∷ t) (suc k) x y s g e = found-skip p (f a) (filter_map f t) (find-found p f t k x y s g e)
 
 -- who gives an install is that install
-pub install_of-some : (h : Happening) (i : Install) → install_of h ≡ Some i → h ≡ Installed i
+pub install_of-some : (h : Event) (i : Install) → install_of h ≡ Some i → h ≡ Installed i
 install_of-some (Started q) i e = absurd (none-some i e)
 install_of-some (Sent s) i e = absurd (none-some i e)
 install_of-some (Delivered d) i e = absurd (none-some i e)
@@ -199,30 +199,30 @@ install_of-some (Left q) i e = absurd (none-some i e)
 install_of-some (Crashed q) i e = absurd (none-some i e)
 
 -- where an install stands that passes a test
-pub record StandsIn (test : Install → Bool) (t : List Happening) (i : Install) : Type 0 where
+pub record StandsIn (test : Install → Bool) (t : List Event) (i : Install) : Type 0 where
   pub place : ℕ
   pub stands : slice_get t place ≡ Some (Installed i)
   pub passes : test i ≡ true
 
 -- a register that is written was written by an install that stands in the trace
-pub register-stands : (test : Install → Bool) (t : List Happening) (i : Install) → find test (installs_in t) ≡ Some i → StandsIn test t i
+pub register-stands : (test : Install → Bool) (t : List Event) (i : Install) → find test (installs_in t) ≡ Some i → StandsIn test t i
 register-stands test t i e =
     let at = find-stands test install_of t i e in
     record { place = at.place; stands = at.stands ∙ ap Some (install_of-some at.it i at.gives); passes = at.passes }
 
 -- where such an install stands, the register is written
-pub register-written : (test : Install → Bool) (t : List Happening) (k : ℕ) (i : Install) → slice_get t k ≡ Some (Installed i) → test i ≡ true → (f : Install) × (find test (installs_in t) ≡ Some f)
+pub register-written : (test : Install → Bool) (t : List Event) (k : ℕ) (i : Install) → slice_get t k ≡ Some (Installed i) → test i ≡ true → (f : Install) × (find test (installs_in t) ≡ Some f)
 register-written test t k i s e = find-found test install_of t k (Installed i) i s refl e
 
 -- what is written stays
-pub register-stays : (test : Install → Bool) (t u : List Happening) (i : Install) → find test (installs_in t) ≡ Some i → find test (installs_in (t ++ u)) ≡ Some i
+pub register-stays : (test : Install → Bool) (t u : List Event) (i : Install) → find test (installs_in t) ≡ Some i → find test (installs_in (t ++ u)) ≡ Some i
 register-stays test t u i e =
     ap (find test) (filter_map-append install_of t u) ∙ find-append test (installs_in t) (installs_in u) ∙ ap (λ o. option_or o (find test (installs_in u))) e
 
 -- only an install writes
-pub register-still : (test : Install → Bool) (t : List Happening) (h : Happening) → install_of h ≡ None → find test (installs_in (t ++ h ∷ [])) ≡ find test (installs_in t)
+pub register-still : (test : Install → Bool) (t : List Event) (h : Event) → install_of h ≡ None → find test (installs_in (t ++ h ∷ [])) ≡ find test (installs_in t)
 register-still test t h e = ap (find test) (installs_in-still t h e)
 
 -- an install writes where it passes and nothing is written
-pub register-push : (test : Install → Bool) (t : List Happening) (i : Install) → find test (installs_in (t ++ Installed i ∷ [])) ≡ option_or (find test (installs_in t)) (cond (test i) (Some i) None)
+pub register-push : (test : Install → Bool) (t : List Event) (i : Install) → find test (installs_in (t ++ Installed i ∷ [])) ≡ option_or (find test (installs_in t)) (cond (test i) (Some i) None)
 register-push test t i = ap (find test) (installs_in-push t i) ∙ find-append test (installs_in t) (i ∷ [])

@@ -1,12 +1,13 @@
 -- What may follow a trace under the rules on members that go from view to view: same next view, together, handed back,
--- state of entry. Each condition speaks of the newest happening and of registers and lists of the trace before it.
-use Rattle.std.specs.Prelude.{◌≡◌, ◌↔◌, ℕ, Bool, true, false, ◌&&◌, Option, None, Some, List, [], ◌∷◌, ◌++◌, length, drop, find, IsSome, MatchOption}
+-- state of entry. Each condition speaks of the newest event and of registers and lists of the trace before it.
+use Rattle.std.specs.Prelude.{◌≡◌, ◌↔◌, Bool, true, false, ◌&&◌, Option, None, Some, List, [], ◌∷◌, ◌++◌, length, drop, find, IsSome, MatchOption}
 use Rattle.std.specs.Option.{ForSome}
 use Rattle.address.specs.Ids.{Address, ViewId, same_address, same_view_id}
 use Rattle.view.specs.Members.{stands_in}
-use Rattle.trace_props.specs.declared.happening.Happening.{Happening}
-use Rattle.trace_props.specs.declared.happening.Happening.TheVariants.{Started, Sent, Delivered, Blocked, Installed, Left, Crashed}
-use Rattle.trace_props.specs.declared.happening.Install.{Install}
+use Rattle.state_transfer.specs.Meanings.{Meaning}
+use Rattle.trace_props.specs.declared.event.Event.{Event}
+use Rattle.trace_props.specs.declared.event.Event.TheVariants.{Started, Sent, Delivered, Blocked, Installed, Left, Crashed}
+use Rattle.trace_props.specs.declared.event.Install.{Install}
 use Rattle.trace_props.specs.Observed.{delivered_in, sent_in, own, installs_in, entry_of, first_install}
 use Rattle.trace_props.specs.Rules.{LiesWithin}
 use Rattle.trace_props.specs.State.{state_of, entry_state}
@@ -22,11 +23,11 @@ abbrev pub goes : ViewId → ViewId → Install → Bool
 goes v w i = same_view_id i.view.id w && is_view v i.previous
 
 -- the first install that goes from a view to another, by whomever
-abbrev pub first_from : ViewId → ViewId → List Happening → Option Install
+abbrev pub first_from : ViewId → ViewId → List Event → Option Install
 first_from v w t = find (goes v w) (installs_in t)
 
 -- as many messages as the first who went from the same view to the same next
-abbrev pub MayMeet : List Happening → Happening → Type 0
+abbrev pub MayMeet : List Event → Event → Type 0
 MayMeet past (Started p) = Unit {0}
 MayMeet past (Sent s) = Unit {0}
 MayMeet past (Delivered d) = Unit {0}
@@ -44,13 +45,13 @@ pub record KnowEachOther (i f : Install) : Type 0 where
   pub known : (stands_in i.member f.together ≡ true) ↔ (i.previous ≡ f.previous)
 
 -- the set lies within both views, has the member itself, and agrees with those of all that have installed the view
-pub record KnowsAll (past : List Happening) (i : Install) : Type 0 where
+pub record KnowsAll (past : List Event) (i : Install) : Type 0 where
   pub inside : LiesWithin i.together i.view.members
   pub before : ForSome i.previous (λ v. ForSome (first_install v past) (λ f. LiesWithin i.together f.view.members))
   pub itself : stands_in i.member i.together ≡ true
   pub others : (q : Address) → stands_in q i.view.members ≡ true → ForSome (entry_of q i.view.id past) (KnowEachOther i)
 
-abbrev pub MayKnow : List Happening → Happening → Type 0
+abbrev pub MayKnow : List Event → Event → Type 0
 MayKnow past (Started p) = Unit {0}
 MayKnow past (Sent s) = Unit {0}
 MayKnow past (Delivered d) = Unit {0}
@@ -62,7 +63,7 @@ MayKnow past (Crashed p) = Unit {0}
 -- HANDED BACK
 
 -- what the member sent past the count of its own messages that it was told
-abbrev pub MayHandBack : List Happening → Happening → Type 0
+abbrev pub MayHandBack : List Event → Event → Type 0
 MayHandBack past (Started p) = Unit {0}
 MayHandBack past (Sent s) = Unit {0}
 MayHandBack past (Delivered d) = Unit {0}
@@ -75,15 +76,15 @@ MayHandBack past (Crashed p) = Unit {0}
 -- STATE OF ENTRY
 
 -- a given state can be read; the coordinator enters first, all others with its state
-abbrev pub MayEnter : {S : Type 0} → S → (S → Address → List ℕ → S) → (List ℕ → Option S) → List Happening → Happening → Type 0
-MayEnter opening apply decode past (Started p) = Unit {0}
-MayEnter opening apply decode past (Sent m) = Unit {0}
-MayEnter opening apply decode past (Delivered d) = Unit {0}
-MayEnter opening apply decode past (Blocked p) = Unit {0}
-MayEnter opening apply decode past (Installed i) =
-    ForSome i.given (λ g. IsSome (decode g))
-    × MatchOption (entry_state opening apply decode i.view.id past)
+abbrev pub MayEnter : {S : Type 0} → Meaning S → List Event → Event → Type 0
+MayEnter meaning past (Started p) = Unit {0}
+MayEnter meaning past (Sent m) = Unit {0}
+MayEnter meaning past (Delivered d) = Unit {0}
+MayEnter meaning past (Blocked p) = Unit {0}
+MayEnter meaning past (Installed i) =
+    ForSome i.given (λ g. IsSome (meaning.decode g))
+    × MatchOption (entry_state meaning i.view.id past)
     (same_address i.member i.view.id.creator ≡ true)
-    (λ s. s ≡ state_of opening apply decode i.member (past ++ Installed i ∷ []))
-MayEnter opening apply decode past (Left p) = Unit {0}
-MayEnter opening apply decode past (Crashed p) = Unit {0}
+    (λ s. s ≡ state_of meaning i.member (past ++ Installed i ∷ []))
+MayEnter meaning past (Left p) = Unit {0}
+MayEnter meaning past (Crashed p) = Unit {0}

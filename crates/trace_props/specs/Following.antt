@@ -1,14 +1,14 @@
--- What may follow a trace, rule by rule: the condition on the next happening under which the rule still holds.
+-- What may follow a trace, rule by rule: the condition on the next event under which the rule still holds.
 use Rattle.std.specs.Prelude.{◌≡◌, ◌+◌, false, Some, List, length, slice_get}
 use Rattle.std.specs.Option.{ForSome}
 use Rattle.address.specs.Ids.{same_address}
-use Rattle.trace_props.specs.declared.happening.Happening.{Happening}
-use Rattle.trace_props.specs.declared.happening.Happening.TheVariants.{Started, Sent, Delivered, Blocked, Installed, Left, Crashed}
+use Rattle.trace_props.specs.declared.event.Event.{Event}
+use Rattle.trace_props.specs.declared.event.Event.TheVariants.{Started, Sent, Delivered, Blocked, Installed, Left, Crashed}
 use Rattle.trace_props.specs.Observed.{delivered_in, sent_in, own, numbered, first_install}
 use Rattle.trace_props.specs.Rules.{EntersAbove, MayStand}
 
 -- rising views: as the rule says of the install, and with the members of the first install of that id
-abbrev pub MayRise : List Happening → Happening → Type 0
+abbrev pub MayRise : List Event → Event → Type 0
 MayRise past (Started p) = Unit {0}
 MayRise past (Sent s) = Unit {0}
 MayRise past (Delivered d) = Unit {0}
@@ -18,7 +18,7 @@ MayRise past (Left p) = Unit {0}
 MayRise past (Crashed p) = Unit {0}
 
 -- sound messages: the sender's next number is sent, and its next message that was sent is told
-abbrev pub MayCarry : List Happening → Happening → Type 0
+abbrev pub MayCarry : List Event → Event → Type 0
 MayCarry past (Started p) = Unit {0}
 MayCarry past (Sent s) = s.message.number ≡ length (sent_in s.member s.view past) + 1
 MayCarry past (Delivered d) =
@@ -30,7 +30,7 @@ MayCarry past (Left p) = Unit {0}
 MayCarry past (Crashed p) = Unit {0}
 
 -- one order: the view's coordinator goes before, all others are told the next of what it was told
-abbrev pub MayOrder : List Happening → Happening → Type 0
+abbrev pub MayOrder : List Event → Event → Type 0
 MayOrder past (Started p) = Unit {0}
 MayOrder past (Sent s) = Unit {0}
 MayOrder past (Delivered d) =
@@ -41,7 +41,7 @@ MayOrder past (Left p) = Unit {0}
 MayOrder past (Crashed p) = Unit {0}
 
 -- all four
-pub record MayFollow (past : List Happening) (h : Happening) : Type 0 where
+pub record MayFollow (past : List Event) (h : Event) : Type 0 where
   pub placed : MayStand past h
   pub views : MayRise past h
   pub messages : MayCarry past h

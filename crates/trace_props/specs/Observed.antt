@@ -2,14 +2,14 @@
 use Rattle.std.specs.Prelude.{Bool, true, false, ◌&&◌, Option, None, Some, List, fold, IsTrue, if◌then◌else◌}
 use Rattle.std.specs.List.{list_any, filter_map, find}
 use Rattle.address.specs.Ids.{Address, ViewId, same_address, same_view_id}
-use Rattle.trace_props.specs.declared.happening.Happening.{Happening}
-use Rattle.trace_props.specs.declared.happening.Happening.TheVariants.{Started, Sent, Delivered, Blocked, Installed, Left, Crashed}
-use Rattle.trace_props.specs.declared.happening.Numbered.{Numbered}
-use Rattle.trace_props.specs.declared.happening.Message.{Message}
-use Rattle.trace_props.specs.declared.happening.Install.{Install}
+use Rattle.trace_props.specs.declared.event.Event.{Event}
+use Rattle.trace_props.specs.declared.event.Event.TheVariants.{Started, Sent, Delivered, Blocked, Installed, Left, Crashed}
+use Rattle.trace_props.specs.declared.event.Numbered.{Numbered}
+use Rattle.trace_props.specs.declared.event.Message.{Message}
+use Rattle.trace_props.specs.declared.event.Install.{Install}
 
--- to whom a happening happens
-abbrev pub member_of : Happening → Address
+-- to whom an event happens
+abbrev pub member_of : Event → Address
 member_of (Started p) = p
 member_of (Sent s) = s.member
 member_of (Delivered d) = d.member
@@ -18,7 +18,7 @@ member_of (Installed i) = i.member
 member_of (Left p) = p
 member_of (Crashed p) = p
 
-abbrev pub is_start : Happening → Bool
+abbrev pub is_start : Event → Bool
 is_start (Started p) = true
 is_start (Sent s) = false
 is_start (Delivered d) = false
@@ -27,7 +27,7 @@ is_start (Installed i) = false
 is_start (Left p) = false
 is_start (Crashed p) = false
 
-abbrev pub is_end : Happening → Bool
+abbrev pub is_end : Event → Bool
 is_end (Started p) = false
 is_end (Sent s) = false
 is_end (Delivered d) = false
@@ -36,17 +36,17 @@ is_end (Installed i) = false
 is_end (Left p) = true
 is_end (Crashed p) = true
 
-abbrev pub has_started : Address → List Happening → Bool
+abbrev pub has_started : Address → List Event → Bool
 has_started p t = list_any (λ h. same_address (member_of h) p && is_start h) t
 
 -- Left or Crashed of the member stands in the trace
-abbrev pub has_ended : Address → List Happening → Bool
+abbrev pub has_ended : Address → List Event → Bool
 has_ended p t = list_any (λ h. same_address (member_of h) p && is_end h) t
 
-abbrev pub HasEnded : Address → List Happening → Type 0
+abbrev pub HasEnded : Address → List Event → Type 0
 HasEnded p t = IsTrue (has_ended p t)
 
-abbrev pub view_after : Address → Option ViewId → Happening → Option ViewId
+abbrev pub view_after : Address → Option ViewId → Event → Option ViewId
 view_after p v (Started q) = v
 view_after p v (Sent s) = v
 view_after p v (Delivered d) = v
@@ -56,10 +56,10 @@ view_after p v (Left q) = v
 view_after p v (Crashed q) = v
 
 -- the current view of a member: that of its last install
-abbrev pub current_view : Address → List Happening → Option ViewId
+abbrev pub current_view : Address → List Event → Option ViewId
 current_view p t = fold (view_after p) None t
 
-abbrev pub block_after : Address → Bool → Happening → Bool
+abbrev pub block_after : Address → Bool → Event → Bool
 block_after p b (Started q) = b
 block_after p b (Sent s) = b
 block_after p b (Delivered d) = b
@@ -69,13 +69,13 @@ block_after p b (Left q) = b
 block_after p b (Crashed q) = b
 
 -- whether the member was blocked after its last install
-abbrev pub is_blocked : Address → List Happening → Bool
+abbrev pub is_blocked : Address → List Event → Bool
 is_blocked p t = fold (block_after p) false t
 
-abbrev pub IsBlocked : Address → List Happening → Type 0
+abbrev pub IsBlocked : Address → List Event → Type 0
 IsBlocked p t = IsTrue (is_blocked p t)
 
-abbrev pub told : Address → ViewId → Happening → Option Message
+abbrev pub told : Address → ViewId → Event → Option Message
 told p v (Started q) = None
 told p v (Sent s) = None
 told p v (Delivered d) = if same_address d.member p && same_view_id d.view v then Some d.message else None
@@ -85,10 +85,10 @@ told p v (Left q) = None
 told p v (Crashed q) = None
 
 -- the messages that a member was told in a view, in order
-abbrev pub delivered_in : Address → ViewId → List Happening → List Message
+abbrev pub delivered_in : Address → ViewId → List Event → List Message
 delivered_in p v t = filter_map (told p v) t
 
-abbrev pub said : Address → ViewId → Happening → Option Numbered
+abbrev pub said : Address → ViewId → Event → Option Numbered
 said p v (Started q) = None
 said p v (Sent s) = if same_address s.member p && same_view_id s.view v then Some s.message else None
 said p v (Delivered d) = None
@@ -98,7 +98,7 @@ said p v (Left q) = None
 said p v (Crashed q) = None
 
 -- the messages that a member sent in a view, in order
-abbrev pub sent_in : Address → ViewId → List Happening → List Numbered
+abbrev pub sent_in : Address → ViewId → List Event → List Numbered
 sent_in p v t = filter_map (said p v) t
 
 -- a message as its sender knows it
@@ -112,7 +112,7 @@ own_by q m = if same_address m.sender q then Some (numbered m) else None
 abbrev pub own : Address → List Message → List Numbered
 own q messages = filter_map (own_by q) messages
 
-abbrev pub install_of : Happening → Option Install
+abbrev pub install_of : Event → Option Install
 install_of (Started q) = None
 install_of (Sent s) = None
 install_of (Delivered d) = None
@@ -122,13 +122,13 @@ install_of (Left q) = None
 install_of (Crashed q) = None
 
 -- all installs, in order
-abbrev pub installs_in : List Happening → List Install
+abbrev pub installs_in : List Event → List Install
 installs_in t = filter_map install_of t
 
 -- a member's install of a view: the first one
-abbrev pub entry_of : Address → ViewId → List Happening → Option Install
+abbrev pub entry_of : Address → ViewId → List Event → Option Install
 entry_of p v t = find (λ i. same_address i.member p && same_view_id i.view.id v) (installs_in t)
 
 -- the first install of a view, by whomever
-abbrev pub first_install : ViewId → List Happening → Option Install
+abbrev pub first_install : ViewId → List Event → Option Install
 first_install v t = find (λ i. same_view_id i.view.id v) (installs_in t)

@@ -1,17 +1,17 @@
 -- A trace as contracts see it, and what every trace keeps.
 use Rattle.std.specs.Prelude.{◌≡◌, ℕ, ◌≤◌, List, length, slice_get, Some}
-use Rattle.state_transfer.specs.declared.TheConstants.{PAYLOAD}
-use Rattle.trace_props.specs.declared.happening.Happening.{Happening}
-use Rattle.trace_props.specs.declared.happening.Happening.TheVariants.{Started, Sent, Delivered, Blocked, Installed, Left, Crashed}
-use Rattle.trace_props.specs.declared.happening.Numbered.{Numbered}
+use Rattle.limits.specs.declared.TheConstants.{PAYLOAD}
+use Rattle.trace_props.specs.declared.event.Event.{Event}
+use Rattle.trace_props.specs.declared.event.Event.TheVariants.{Started, Sent, Delivered, Blocked, Installed, Left, Crashed}
+use Rattle.trace_props.specs.declared.event.Numbered.{Numbered}
 
 -- what happened, and the room that is reserved for more
 pub record Recorded : Type 0 where
-  pub happenings : List Happening
+  pub events : List Event
   pub room : ℕ
 
--- each payload that a happening carries has at most 512 bytes
-abbrev pub IsShort : Happening → Type 0
+-- each payload that an event carries has at most `PAYLOAD` bytes
+abbrev pub IsShort : Event → Type 0
 IsShort (Started p) = Unit {0}
 IsShort (Sent s) = length s.message.payload ≤ PAYLOAD
 IsShort (Delivered d) = length d.message.payload ≤ PAYLOAD
@@ -20,5 +20,5 @@ IsShort (Installed i) = (k : ℕ) (m : Numbered) → slice_get i.handed_back k �
 IsShort (Left p) = Unit {0}
 IsShort (Crashed p) = Unit {0}
 
-abbrev pub IsRecordable : List Happening → Type 0
-IsRecordable t = (k : ℕ) (h : Happening) → slice_get t k ≡ Some h → IsShort h
+abbrev pub IsRecordable : List Event → Type 0
+IsRecordable t = (k : ℕ) (h : Event) → slice_get t k ≡ Some h → IsShort h

@@ -1,25 +1,25 @@
 -- Virtual synchrony: the eight rules at every place of a trace.
-use Rattle.std.specs.Prelude.{ℕ, Option, List}
-use Rattle.address.specs.Ids.{Address}
-use Rattle.trace_props.specs.declared.happening.Happening.{Happening}
+use Rattle.std.specs.Prelude.{List}
+use Rattle.state_transfer.specs.Meanings.{Meaning}
+use Rattle.trace_props.specs.declared.event.Event.{Event}
 use Rattle.trace_props.specs.Places.{EachPlace}
 use Rattle.trace_props.specs.Rules.{IsWellPlaced, HasRisingViews, HasSoundMessages, HasOneOrder, HasSameNext, KnowsTogether, HandsBack}
 use Rattle.trace_props.specs.State.{EntersWithState}
 
 -- the rules that speak of one view at a time
-pub record IsWellOrdered (t : List Happening) : Type 0 where
+pub record IsWellOrdered (t : List Event) : Type 0 where
   pub placed : IsWellPlaced t
   pub views : HasRisingViews t
   pub messages : HasSoundMessages t
   pub order : HasOneOrder t
 
 -- all eight rules
-pub record KeepsRules {S : Type 0} (opening : S) (apply : S → Address → List ℕ → S) (decode : List ℕ → Option S) (t : List Happening) : Type 0 where
+pub record KeepsRules {S : Type 0} (meaning : Meaning S) (t : List Event) : Type 0 where
   pub ordered : IsWellOrdered t
   pub same_next : HasSameNext t
   pub together : KnowsTogether t
   pub handed_back : HandsBack t
-  pub state : EntersWithState opening apply decode t
+  pub state : EntersWithState meaning t
 
-abbrev pub IsVirtuallySynchronous : {S : Type 0} → S → (S → Address → List ℕ → S) → (List ℕ → Option S) → List Happening → Type 0
-IsVirtuallySynchronous opening apply decode t = EachPlace (KeepsRules opening apply decode) t
+abbrev pub IsVirtuallySynchronous : {S : Type 0} → Meaning S → List Event → Type 0
+IsVirtuallySynchronous meaning t = EachPlace (KeepsRules meaning) t

@@ -1,7 +1,7 @@
 -- What a verdict says of a trace: that all rules hold, or which breaks first and where.
-use Rattle.std.specs.Prelude.{ℕ, ◌<◌, ◌≤◌, List, [], ◌∷◌, Option, length, take}
-use Rattle.address.specs.Ids.{Address}
-use Rattle.trace_props.specs.declared.happening.Happening.{Happening}
+use Rattle.std.specs.Prelude.{ℕ, ◌<◌, ◌≤◌, List, [], ◌∷◌, length, take}
+use Rattle.state_transfer.specs.Meanings.{Meaning}
+use Rattle.trace_props.specs.declared.event.Event.{Event}
 use Rattle.trace_props.specs.declared.verdict.Rule.{Rule}
 use Rattle.trace_props.specs.declared.verdict.Rule.TheVariants.{WellPlaced, RisingViews, SoundMessages, OneOrder, SameNext, Together, HandedBack, StateOfEntry}
 use Rattle.trace_props.specs.declared.verdict.Verdict.{Verdict}
@@ -13,15 +13,15 @@ use Rattle.trace_props.specs.Following.{MayRise, MayCarry, MayOrder}
 use Rattle.trace_props.specs.Agreeing.{MayMeet, MayKnow, MayHandBack, MayEnter}
 
 -- that a rule holds of a trace
-abbrev pub KeepsRule : {S : Type 0} → S → (S → Address → List ℕ → S) → (List ℕ → Option S) → Rule → List Happening → Type 0
-KeepsRule opening apply decode WellPlaced t = IsWellPlaced t
-KeepsRule opening apply decode RisingViews t = HasRisingViews t
-KeepsRule opening apply decode SoundMessages t = HasSoundMessages t
-KeepsRule opening apply decode OneOrder t = HasOneOrder t
-KeepsRule opening apply decode SameNext t = HasSameNext t
-KeepsRule opening apply decode Together t = KnowsTogether t
-KeepsRule opening apply decode HandedBack t = HandsBack t
-KeepsRule opening apply decode StateOfEntry t = EntersWithState opening apply decode t
+abbrev pub KeepsRule : {S : Type 0} → Meaning S → Rule → List Event → Type 0
+KeepsRule meaning WellPlaced t = IsWellPlaced t
+KeepsRule meaning RisingViews t = HasRisingViews t
+KeepsRule meaning SoundMessages t = HasSoundMessages t
+KeepsRule meaning OneOrder t = HasOneOrder t
+KeepsRule meaning SameNext t = HasSameNext t
+KeepsRule meaning Together t = KnowsTogether t
+KeepsRule meaning HandedBack t = HandsBack t
+KeepsRule meaning StateOfEntry t = EntersWithState meaning t
 
 -- the rules before a rule, the nearest first
 abbrev pub rules_before : Rule → List Rule
@@ -34,23 +34,23 @@ rules_before Together = SameNext ∷ OneOrder ∷ SoundMessages ∷ RisingViews 
 rules_before HandedBack = Together ∷ SameNext ∷ OneOrder ∷ SoundMessages ∷ RisingViews ∷ WellPlaced ∷ []
 rules_before StateOfEntry = HandedBack ∷ Together ∷ SameNext ∷ OneOrder ∷ SoundMessages ∷ RisingViews ∷ WellPlaced ∷ []
 
-abbrev pub KeepsEach : {S : Type 0} → S → (S → Address → List ℕ → S) → (List ℕ → Option S) → List Rule → List Happening → Type 0
-KeepsEach opening apply decode [] t = Unit {0}
-KeepsEach opening apply decode (r ∷ rs) t = KeepsRule opening apply decode r t × KeepsEach opening apply decode rs t
+abbrev pub KeepsEach : {S : Type 0} → Meaning S → List Rule → List Event → Type 0
+KeepsEach meaning [] t = Unit {0}
+KeepsEach meaning (r ∷ rs) t = KeepsRule meaning r t × KeepsEach meaning rs t
 
 -- all rules hold of each shorter beginning; of this one the rule does not, but all before it do
-pub record BreaksFirst {S : Type 0} (opening : S) (apply : S → Address → List ℕ → S) (decode : List ℕ → Option S) (t : List Happening) (rule : Rule) (place : ℕ) : Type 0 where
+pub record BreaksFirst {S : Type 0} (meaning : Meaning S) (t : List Event) (rule : Rule) (place : ℕ) : Type 0 where
   pub within : place ≤ length t
-  pub shorter : (k : ℕ) → k < place → KeepsRules opening apply decode (take k t)
-  pub lesser : KeepsEach opening apply decode (rules_before rule) (take place t)
-  pub broken : KeepsRule opening apply decode rule (take place t) → ⊥
+  pub shorter : (k : ℕ) → k < place → KeepsRules meaning (take k t)
+  pub lesser : KeepsEach meaning (rules_before rule) (take place t)
+  pub broken : KeepsRule meaning rule (take place t) → ⊥
 
-abbrev pub IsVerdict : {S : Type 0} → S → (S → Address → List ℕ → S) → (List ℕ → Option S) → List Happening → Verdict → Type 0
-IsVerdict opening apply decode t Holds = IsVirtuallySynchronous opening apply decode t
-IsVerdict opening apply decode t (Breaks rule place) = BreaksFirst opening apply decode t rule place
+abbrev pub IsVerdict : {S : Type 0} → Meaning S → List Event → Verdict → Type 0
+IsVerdict meaning t Holds = IsVirtuallySynchronous meaning t
+IsVerdict meaning t (Breaks rule place) = BreaksFirst meaning t rule place
 
--- the condition on the next happening under which a rule still holds, but for the rule on states
-abbrev pub May : Rule → List Happening → Happening → Type 0
+-- the condition on the next event under which a rule still holds, but for the rule on states
+abbrev pub May : Rule → List Event → Event → Type 0
 May WellPlaced t h = MayStand t h
 May RisingViews t h = MayRise t h
 May SoundMessages t h = MayCarry t h
@@ -60,27 +60,27 @@ May Together t h = MayKnow t h
 May HandedBack t h = MayHandBack t h
 May StateOfEntry t h = Unit {0}
 
-abbrev pub MayEach : List Rule → List Happening → Happening → Type 0
+abbrev pub MayEach : List Rule → List Event → Event → Type 0
 MayEach [] t h = Unit {0}
 MayEach (r ∷ rs) t h = May r t h × MayEach rs t h
 
 -- the condition for each rule
-abbrev pub MayRule : {S : Type 0} → S → (S → Address → List ℕ → S) → (List ℕ → Option S) → Rule → List Happening → Happening → Type 0
-MayRule opening apply decode WellPlaced t h = MayStand t h
-MayRule opening apply decode RisingViews t h = MayRise t h
-MayRule opening apply decode SoundMessages t h = MayCarry t h
-MayRule opening apply decode OneOrder t h = MayOrder t h
-MayRule opening apply decode SameNext t h = MayMeet t h
-MayRule opening apply decode Together t h = MayKnow t h
-MayRule opening apply decode HandedBack t h = MayHandBack t h
-MayRule opening apply decode StateOfEntry t h = MayEnter opening apply decode t h
+abbrev pub MayRule : {S : Type 0} → Meaning S → Rule → List Event → Event → Type 0
+MayRule meaning WellPlaced t h = MayStand t h
+MayRule meaning RisingViews t h = MayRise t h
+MayRule meaning SoundMessages t h = MayCarry t h
+MayRule meaning OneOrder t h = MayOrder t h
+MayRule meaning SameNext t h = MayMeet t h
+MayRule meaning Together t h = MayKnow t h
+MayRule meaning HandedBack t h = MayHandBack t h
+MayRule meaning StateOfEntry t h = MayEnter meaning t h
 
 -- the rule's condition fails, and those of all rules before it do not
-pub record BreaksNext {S : Type 0} (opening : S) (apply : S → Address → List ℕ → S) (decode : List ℕ → Option S) (rule : Rule) (t : List Happening) (h : Happening) : Type 0 where
+pub record BreaksNext {S : Type 0} (meaning : Meaning S) (rule : Rule) (t : List Event) (h : Event) : Type 0 where
   pub lesser : MayEach (rules_before rule) t h
-  pub broken : MayRule opening apply decode rule t h → ⊥
+  pub broken : MayRule meaning rule t h → ⊥
 
 -- all conditions
-pub record GoesOn {S : Type 0} (opening : S) (apply : S → Address → List ℕ → S) (decode : List ℕ → Option S) (t : List Happening) (h : Happening) : Type 0 where
+pub record GoesOn {S : Type 0} (meaning : Meaning S) (t : List Event) (h : Event) : Type 0 where
   pub seven : MayEach (rules_before StateOfEntry) t h
-  pub enters : MayEnter opening apply decode t h
+  pub enters : MayEnter meaning t h

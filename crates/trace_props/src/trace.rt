@@ -1,15 +1,15 @@
 ghost use Rattle.std.specs.Prelude.{◌≡◌, ◌+◌, ◌<◌, ◌≤◌, ◌++◌, ◌∷◌, [], OnOk};
 ghost use Rattle.trace_props.specs.Recorded.{IsShort, IsRecordable};
 
-use crate::Happening;
+use crate::Event;
 use std::alloc::{AllocError, Global};
 use std::marker::Model;
 
-/// A list of happenings in the order of time, whose payloads have at most 512 bytes each. Contracts see it as
-/// the happenings and the room that is reserved for more.
+/// A list of events in the order of time, whose payloads have at most `PAYLOAD` bytes each. Contracts see it as
+/// the events and the room that is reserved for more.
 #[derive(Debug, Drop)]
 pub struct Trace {
-    happenings: Vec<Happening>,
+    events: Vec<Event>,
 }
 
 impl Model for Trace {
@@ -18,44 +18,44 @@ impl Model for Trace {
 
     ghost Value = { Recorded };
 
-    ghost view = { λ t. record { happenings = t.happenings.items; room = vec_capacity t.happenings - vec_len t.happenings } };
+    ghost view = { λ t. record { events = t.events.items; room = vec_capacity t.events - vec_len t.events } };
 
-    ghost invariant = { λ t. IsRecordable t.happenings.items };
+    ghost invariant = { λ t. IsRecordable t.events.items };
 }
 
 impl Trace {
     /// The trace at the beginning: nothing happened. Takes no memory.
     pub fn new(alloc: Global) -> Trace
-        ensures { result.happenings ≡ [] }
+        ensures { result.events ≡ [] }
     {
         Trace {
-            happenings: Vec::new(alloc),
+            events: Vec::new(alloc),
         }
     }
 
-    /// Makes room for more happenings; on refusal the trace is as before.
+    /// Makes room for more events; on refusal the trace is as before.
     pub fn reserve(&mut self, more: usize) -> Result<(), AllocError>
-        ensures happenings { self.new.happenings ≡ self.old.happenings }
+        ensures events { self.new.events ≡ self.old.events }
         ensures room { OnOk result (more ≤ self.new.room) }
     {
-        self.happenings.reserve(more)
+        self.events.reserve(more)
     }
 
     /// Adds what happened next, in room that was reserved.
-    pub fn record(&mut self, happening: Happening)
-        requires short { IsShort happening }
+    pub fn record(&mut self, event: Event)
+        requires short { IsShort event }
         requires room { 1 ≤ self.old.room }
-        ensures happenings { self.new.happenings ≡ self.old.happenings ++ happening ∷ [] }
+        ensures events { self.new.events ≡ self.old.events ++ event ∷ [] }
         ensures room { self.new.room + 1 ≡ self.old.room }
     {
-        self.happenings.push_reserved(happening);
+        self.events.push_reserved(event);
     }
 
     /// What happened, in order.
-    pub fn happenings(&self) -> &[Happening]
-        ensures value { result.now ≡ self.now.happenings }
+    pub fn events(&self) -> &[Event]
+        ensures value { result.now ≡ self.now.events }
         ensures short { IsRecordable result.now }
     {
-        self.happenings.as_slice()
+        self.events.as_slice()
     }
 }

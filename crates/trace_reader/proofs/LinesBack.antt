@@ -1,23 +1,23 @@
--- The line of a happening is read back.
+-- The line of an event is read back.
 use Rattle.std.proofs.Common.{◌≡◌, ℕ, true, false, List, [], ◌∷◌, ◌++◌, Option, Some, None, Ok, length, nat_lt, refl, sym, ◌∙◌, ap, arith, append_assoc, append-nil, length-append}
 use Rattle.std.proofs.lemmas.Bool.{le-ltb}
 use Rattle.std.specs.Fmt.{decimal}
 use Rattle.address.specs.Ids.{Address, IsAddress, text_of_address, text_of_view_id}
-use Rattle.trace_props.specs.declared.happening.Happening.{Happening}
-use Rattle.trace_props.specs.declared.happening.Happening.TheVariants as happening
-use Rattle.trace_props.specs.declared.happening.Sending.{Sending}
-use Rattle.trace_props.specs.declared.happening.Delivery.{Delivery}
-use Rattle.trace_props.specs.declared.happening.Install.{Install}
+use Rattle.trace_props.specs.declared.event.Event.{Event}
+use Rattle.trace_props.specs.declared.event.Event.TheVariants as event
+use Rattle.trace_props.specs.declared.event.Sending.{Sending}
+use Rattle.trace_props.specs.declared.event.Delivery.{Delivery}
+use Rattle.trace_props.specs.declared.event.Install.{Install}
 use Rattle.script_reader.specs.Lines.{field_of, behind_field, behind}
 use Rattle.script_reader.specs.Script.{is_skipped}
 use Rattle.script_reader.specs.AddressText.{address_of_text}
-use Rattle.vsync_text.specs.TraceText.{text_of_payload, text_of_previous, text_of_addresses, text_of_handed_back, text_of_given, happening_word, fields_of, field, sending_fields, delivery_fields, install_view, install_rest}
+use Rattle.vsync_text.specs.TraceText.{text_of_payload, text_of_previous, text_of_addresses, text_of_handed_back, text_of_given, event_word, fields_of, field, sending_fields, delivery_fields, install_view, install_rest}
 use Rattle.trace_reader.specs.declared.line.Word.{Word}
 use Rattle.trace_reader.specs.declared.line.Word.TheVariants.{Started, Sent, Delivered, Blocked, Installed, Left, Crashed}
-use Rattle.trace_reader.specs.declared.TheConstants.{TRACE_LINE}
+use Rattle.limits.specs.declared.TheConstants.{TRACE_LINE}
 use Rattle.trace_reader.specs.Spelling.{number_of_text, view_id_of_text, previous_of_text, payload_of_text, view_of_text, together_of_text, handed_back_of_text, given_of_text}
 use Rattle.trace_reader.specs.Fields.{field_at, spelled_at, end_at, sending_at, delivery_at, view_at, install_at, last}
-use Rattle.trace_reader.specs.Traces.{word_of, happening_of, told, reading_of}
+use Rattle.trace_reader.specs.Traces.{word_of, event_of, told, reading_of}
 use Rattle.trace_reader.specs.Spellable.{IsSendable, IsTellable, IsInstallable, IsInFormat, IsSpellable}
 use Rattle.trace_reader.proofs.Cutting.{Without, is_cut, without_below, before_cut, behind_cut}
 use Rattle.trace_reader.proofs.Spelled.{Spells, number_spells, address_spells, view_id_spells, previous_spells, payload_spells, given_spells, view_spells, together_spells, handed_back_spells}
@@ -105,60 +105,60 @@ last_back x = refl
 
 -- LINES
 
--- the line of a happening, without its line feed
-abbrev pub body_of : Happening → List ℕ
-body_of h = happening_word h ++ fields_of h
+-- the line of an event, without its line feed
+abbrev pub body_of : Event → List ℕ
+body_of h = event_word h ++ fields_of h
 
-word_back : (h : Happening) → Word
-word_back (happening.Started p) = Started
-word_back (happening.Sent s) = Sent
-word_back (happening.Delivered d) = Delivered
-word_back (happening.Blocked p) = Blocked
-word_back (happening.Installed i) = Installed
-word_back (happening.Left p) = Left
-word_back (happening.Crashed p) = Crashed
+word_back : (h : Event) → Word
+word_back (event.Started p) = Started
+word_back (event.Sent s) = Sent
+word_back (event.Delivered d) = Delivered
+word_back (event.Blocked p) = Blocked
+word_back (event.Installed i) = Installed
+word_back (event.Left p) = Left
+word_back (event.Crashed p) = Crashed
 
-happening_back : (h : Happening) → IsInFormat h → happening_of (word_back h) (behind (fields_of h)) ≡ Ok h
-unfolding happening_of word_back
-happening_back (happening.Started p) h = rw (address_last p h, last_back p) refl
-happening_back (happening.Sent s) h = rw (sending_back s h, last_back s) refl
-happening_back (happening.Delivered d) h = rw (delivery_back d h, last_back d) refl
-happening_back (happening.Blocked p) h = rw (address_last p h, last_back p) refl
-happening_back (happening.Installed i) h = rw (install_back i h, last_back i) refl
-happening_back (happening.Left p) h = rw (address_last p h, last_back p) refl
-happening_back (happening.Crashed p) h = rw (address_last p h, last_back p) refl
+event_back : (h : Event) → IsInFormat h → event_of (word_back h) (behind (fields_of h)) ≡ Ok h
+unfolding event_of word_back
+event_back (event.Started p) h = rw (address_last p h, last_back p) refl
+event_back (event.Sent s) h = rw (sending_back s h, last_back s) refl
+event_back (event.Delivered d) h = rw (delivery_back d h, last_back d) refl
+event_back (event.Blocked p) h = rw (address_last p h, last_back p) refl
+event_back (event.Installed i) h = rw (install_back i h, last_back i) refl
+event_back (event.Left p) h = rw (address_last p h, last_back p) refl
+event_back (event.Crashed p) h = rw (address_last p h, last_back p) refl
 
-word_is : (h : Happening) → word_of (field_of (body_of h)) ≡ Some (word_back h)
+word_is : (h : Event) → word_of (field_of (body_of h)) ≡ Some (word_back h)
 unfolding word_back
-word_is (happening.Started p) = refl
-word_is (happening.Sent s) = refl
-word_is (happening.Delivered d) = refl
-word_is (happening.Blocked p) = refl
-word_is (happening.Installed i) = refl
-word_is (happening.Left p) = refl
-word_is (happening.Crashed p) = refl
+word_is (event.Started p) = refl
+word_is (event.Sent s) = refl
+word_is (event.Delivered d) = refl
+word_is (event.Blocked p) = refl
+word_is (event.Installed i) = refl
+word_is (event.Left p) = refl
+word_is (event.Crashed p) = refl
 
-fields_are : (h : Happening) → behind_field (body_of h) ≡ behind (fields_of h)
-fields_are (happening.Started p) = refl
-fields_are (happening.Sent s) = refl
-fields_are (happening.Delivered d) = refl
-fields_are (happening.Blocked p) = refl
-fields_are (happening.Installed i) = refl
-fields_are (happening.Left p) = refl
-fields_are (happening.Crashed p) = refl
+fields_are : (h : Event) → behind_field (body_of h) ≡ behind (fields_of h)
+fields_are (event.Started p) = refl
+fields_are (event.Sent s) = refl
+fields_are (event.Delivered d) = refl
+fields_are (event.Blocked p) = refl
+fields_are (event.Installed i) = refl
+fields_are (event.Left p) = refl
+fields_are (event.Crashed p) = refl
 
-is_read : (h : Happening) → is_skipped (body_of h) ≡ false
-is_read (happening.Started p) = refl
-is_read (happening.Sent s) = refl
-is_read (happening.Delivered d) = refl
-is_read (happening.Blocked p) = refl
-is_read (happening.Installed i) = refl
-is_read (happening.Left p) = refl
-is_read (happening.Crashed p) = refl
+is_read : (h : Event) → is_skipped (body_of h) ≡ false
+is_read (event.Started p) = refl
+is_read (event.Sent s) = refl
+is_read (event.Delivered d) = refl
+is_read (event.Blocked p) = refl
+is_read (event.Installed i) = refl
+is_read (event.Left p) = refl
+is_read (event.Crashed p) = refl
 
--- the line of a happening is read back
-pub body_back : (h : Happening) → IsSpellable h → reading_of (body_of h) ≡ Ok (Some h)
+-- the line of an event is read back
+pub body_back : (h : Event) → IsSpellable h → reading_of (body_of h) ≡ Ok (Some h)
 unfolding reading_of told
 body_back h s =
     let short : nat_lt TRACE_LINE (length (body_of h)) ≡ false = le-ltb TRACE_LINE (length (body_of h)) (omega (arith, s.line, length-append (body_of h) (10 ∷ []))) in
-    rw (is_read h, short, word_is h, fields_are h, happening_back h s.fields) refl
+    rw (is_read h, short, word_is h, fields_are h, event_back h s.fields) refl

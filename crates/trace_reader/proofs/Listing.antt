@@ -2,8 +2,8 @@
 use Rattle.std.proofs.Common.{◌≡◌, ℕ, ◌+◌, ◌<◌, Bool, true, false, List, [], ◌∷◌, ◌++◌, Option, None, Some, length, nat_eq, take, drop, not, cond, refl, sym, ◌∙◌, ap, subst, append_assoc, append-nil, zero, suc, arith, ◌≤◌}
 use Rattle.std.specs.List.{onto_first, position_or_len}
 use Rattle.std.specs.Prelude.{IfSome}
-use Rattle.state_transfer.specs.declared.TheConstants.{PAYLOAD}
-use Rattle.trace_props.specs.declared.happening.Numbered.{Numbered}
+use Rattle.limits.specs.declared.TheConstants.{PAYLOAD}
+use Rattle.trace_props.specs.declared.event.Numbered.{Numbered}
 use Rattle.script_reader.specs.Lines.{before_byte, behind_byte, behind}
 use Rattle.trace_reader.specs.Spelling.{AreShort}
 use Rattle.trace_reader.specs.Forms.{in_front, bytes_of_hex, hex_byte, hex_value, parts_of, parts_left, left_len, each_of}

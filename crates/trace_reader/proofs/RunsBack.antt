@@ -7,7 +7,7 @@ use Rattle.std.proofs.lemmas.List.Elements.{recursion_from_All}
 use Rattle.std.specs.Prelude.{All}
 use Rattle.std.specs.List.{AllByRecursion, list_any}
 use Rattle.std.specs.Fmt.{decimal}
-use Rattle.trace_props.specs.declared.happening.Happening.{Happening}
+use Rattle.trace_props.specs.declared.event.Event.{Event}
 use Rattle.world_model.specs.declared.Answer.{Answer}
 use Rattle.world_model.specs.declared.Answer.TheVariants.{Done, Sent, Refused}
 use Rattle.world_model.specs.declared.Refusal.{Refusal}
@@ -18,7 +18,7 @@ use Rattle.world_model.specs.Histories.{History}
 use Rattle.world_model.specs.Faithful.{IsFaithful}
 use Rattle.world_model.specs.Faithful.IsFaithful.{Nothing as Began, Next}
 use Rattle.vsync_text.specs.TraceText.{line_of, field}
-use Rattle.vsync_text.specs.Runs.{refusal_line, refused_lines, answer_lines, stretch, event_lines, lines_from, text_of_run, lines_of_run}
+use Rattle.vsync_text.specs.Runs.{refusal_line, refused_lines, answer_lines, stretch, reply_lines, lines_from, text_of_run, lines_of_run}
 use Rattle.trace_reader.specs.Traces.{trace_of}
 use Rattle.trace_reader.specs.Spellable.{IsSpellable, IsNote, Tell}
 use Rattle.trace_reader.specs.Spellable.Tell.{Nothing, Note, Line}
@@ -71,40 +71,40 @@ refusal_is_note line number = record {
   one_line = no_feed (refusal_text line number) (without_below 32 10 (refusal_text line number) (omega arith) (refusal_from line number));
 }
 
-refused_tells : (line : ℕ) (r : Refusal) (lines : List (List ℕ)) (t : List Happening) → Tell lines t → Tell (refused_lines line r ++ lines) t
+refused_tells : (line : ℕ) (r : Refusal) (lines : List (List ℕ)) (t : List Event) → Tell lines t → Tell (refused_lines line r ++ lines) t
 refused_tells line r lines t tell =
     elim (nat_eq (number_of r) (number_of Memory)) as (λ b. Tell ((if b then [] else refusal_line line (number_of r) ∷ []) ++ lines) t)
     [ true ↦ tell | false ↦ Note (refusal_text line (number_of r)) lines t (refusal_is_note line (number_of r)) tell ]
 
-answer_tells : (line : ℕ) (a : Answer) (lines : List (List ℕ)) (t : List Happening) → Tell lines t → Tell (answer_lines line a ++ lines) t
+answer_tells : (line : ℕ) (a : Answer) (lines : List (List ℕ)) (t : List Event) → Tell lines t → Tell (answer_lines line a ++ lines) t
 answer_tells line Done lines t tell = tell
 answer_tells line (Sent n) lines t tell = tell
 answer_tells line (Refused r) lines t tell = refused_tells line r lines t tell
 
 -- RUNS
 
-happenings_tell : (s : List Happening) (lines : List (List ℕ)) (t : List Happening) → AllByRecursion IsSpellable s → Tell lines t → Tell (map line_of s ++ lines) (s ++ t)
-happenings_tell [] lines t a tell = tell
-happenings_tell (h ∷ s) lines t a tell = Line h (map line_of s ++ lines) (s ++ t) a.0 (happenings_tell s lines t a.1 tell)
+events_tell : (s : List Event) (lines : List (List ℕ)) (t : List Event) → AllByRecursion IsSpellable s → Tell lines t → Tell (map line_of s ++ lines) (s ++ t)
+events_tell [] lines t a tell = tell
+events_tell (h ∷ s) lines t a tell = Line h (map line_of s ++ lines) (s ++ t) a.0 (events_tell s lines t a.1 tell)
 
-all_drop : (n : ℕ) (t : List Happening) → AllByRecursion IsSpellable t → AllByRecursion IsSpellable (drop n t)
+all_drop : (n : ℕ) (t : List Event) → AllByRecursion IsSpellable t → AllByRecursion IsSpellable (drop n t)
 all_drop zero t a = a
 all_drop (suc n) [] a = tt
 all_drop (suc n) (h ∷ t) a = all_drop n t a.1
 
-all_take : (n : ℕ) (t : List Happening) → AllByRecursion IsSpellable t → AllByRecursion IsSpellable (take n t)
+all_take : (n : ℕ) (t : List Event) → AllByRecursion IsSpellable t → AllByRecursion IsSpellable (take n t)
 all_take zero t a = tt
 all_take (suc n) [] a = tt
 all_take (suc n) (h ∷ t) a = (a.0, all_take n t a.1)
 
-stretch_then : (from to : ℕ) (t : List Happening) → from ≤ to → stretch from to t ++ drop to t ≡ drop from t
+stretch_then : (from to : ℕ) (t : List Event) → from ≤ to → stretch from to t ++ drop to t ≡ drop from t
 stretch_then from to t le =
     let far : from + (to - from) ≡ to = omega arith in
     ap (λ r. stretch from to t ++ r) (sym (drop-drop (to - from) from t ∙ ap (λ n. drop n t) far)) ∙ take-append-drop (to - from) (drop from t)
 
-lines_tell : (from : ℕ) (lines : List ℕ) (replies : List Reply) (t : List Happening) → length lines ≡ length replies → Rises from replies (length t) → AllByRecursion IsSpellable t
+lines_tell : (from : ℕ) (lines : List ℕ) (replies : List Reply) (t : List Event) → length lines ≡ length replies → Rises from replies (length t) → AllByRecursion IsSpellable t
     → Tell (lines_from from lines replies t) (drop from t)
-lines_tell from [] [] t e r a = let P : List Happening → Type 0 = λ s. Tell [] s in subst P (sym (drop-length t) ∙ ap (λ n. drop n t) (sym r)) Nothing
+lines_tell from [] [] t e r a = let P : List Event → Type 0 = λ s. Tell [] s in subst P (sym (drop-length t) ∙ ap (λ n. drop n t) (sym r)) Nothing
 lines_tell from [] (reply ∷ replies) t e r a = absurd (omega arith)
 lines_tell from (line ∷ lines) [] t e r a = absurd (omega arith)
 lines_tell from (line ∷ lines) (reply ∷ replies) t e r a =
@@ -112,8 +112,8 @@ lines_tell from (line ∷ lines) (reply ∷ replies) t e r a =
     let rest = lines_from reply.place lines replies t in
     let next : Tell rest (drop reply.place t) = lines_tell reply.place lines replies t (omega arith) r.1 a in
     let answered : Tell (answer_lines line reply.answer ++ rest) (drop reply.place t) = answer_tells line reply.answer rest (drop reply.place t) next in
-    let whole : Tell (map line_of s ++ (answer_lines line reply.answer ++ rest)) (s ++ drop reply.place t) = happenings_tell s _ _ (all_take (reply.place - from) (drop from t) (all_drop from t a)) answered in
-    let P : List Happening → Type 0 = λ u. Tell (event_lines from line reply t ++ rest) u in
+    let whole : Tell (map line_of s ++ (answer_lines line reply.answer ++ rest)) (s ++ drop reply.place t) = events_tell s _ _ (all_take (reply.place - from) (drop from t) (all_drop from t a)) answered in
+    let P : List Event → Type 0 = λ u. Tell (reply_lines from line reply t ++ rest) u in
     let Q : List (List ℕ) → Type 0 = λ ls. Tell ls (s ++ drop reply.place t) in
     subst P (stretch_then from reply.place t r.0) (subst Q (sym (append_assoc (map line_of s) (answer_lines line reply.answer) rest)) whole)
 

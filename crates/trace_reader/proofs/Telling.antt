@@ -4,11 +4,11 @@ use Rattle.std.proofs.lemmas.Bool.{and_parts, or_parts, leb-true}
 use Rattle.std.specs.List.{list_all, list_any, concat}
 use Rattle.std.specs.Fmt.{decimal}
 use Rattle.address.specs.Ids.{text_of_address, text_of_view_id}
-use Rattle.trace_props.specs.declared.happening.Happening.{Happening}
-use Rattle.trace_props.specs.declared.happening.Happening.TheVariants.{Started, Sent, Delivered, Blocked, Installed, Left, Crashed}
+use Rattle.trace_props.specs.declared.event.Event.{Event}
+use Rattle.trace_props.specs.declared.event.Event.TheVariants.{Started, Sent, Delivered, Blocked, Installed, Left, Crashed}
 use Rattle.script_reader.specs.Lines.{lines_of}
 use Rattle.script_reader.specs.Script.{is_skipped}
-use Rattle.vsync_text.specs.TraceText.{text_of_payload, text_of_previous, text_of_addresses, text_of_handed_back, text_of_given, happening_word, fields_of, field, install_view, install_rest}
+use Rattle.vsync_text.specs.TraceText.{text_of_payload, text_of_previous, text_of_addresses, text_of_handed_back, text_of_given, event_word, fields_of, field, install_view, install_rest}
 use Rattle.trace_reader.specs.Traces.{trace_of, reading_of, after_line}
 use Rattle.trace_reader.specs.Spellable.{IsInFormat, IsNote, Tell}
 use Rattle.trace_reader.specs.Spellable.Tell.{Nothing, Note, Line}
@@ -31,7 +31,7 @@ three_from a b c fa fb fc = both (field a ++ field b) (field c) (both (field a) 
 four_from : (a b c d : List ℕ) → From 44 a → From 44 b → From 44 c → From 44 d → From 32 (field a ++ field b ++ field c ++ field d)
 four_from a b c d fa fb fc fd = both (field a ++ field b ++ field c) (field d) (three_from a b c fa fb fc) (field_from d fd)
 
-fields_from : (h : Happening) → IsInFormat h → From 32 (fields_of h)
+fields_from : (h : Event) → IsInFormat h → From 32 (fields_of h)
 fields_from (Started p) h = field_from (text_of_address p) (address_spells p h).from
 fields_from (Sent s) h =
     four_from (text_of_address s.member) (text_of_view_id s.view) (decimal s.message.number) (text_of_payload s.message.payload)
@@ -57,7 +57,7 @@ from_test low (b ∷ bs) h =
     let p : (nat_le low b ≡ true) × (list_all (λ c. nat_le low c) bs ≡ true) = and_parts _ _ h in
     (leb-true low b p.0, from_test low bs p.1)
 
-word_from : (h : Happening) → From 32 (happening_word h)
+word_from : (h : Event) → From 32 (event_word h)
 word_from (Started p) = from_test 32 (codes "started") refl
 word_from (Sent s) = from_test 32 (codes "sent") refl
 word_from (Delivered d) = from_test 32 (codes "delivered") refl
@@ -66,8 +66,8 @@ word_from (Installed i) = from_test 32 (codes "installed") refl
 word_from (Left p) = from_test 32 (codes "left") refl
 word_from (Crashed p) = from_test 32 (codes "crashed") refl
 
-body_is_one_line : (h : Happening) → IsInFormat h → Without 10 (body_of h)
-body_is_one_line h r = without_below 32 10 (body_of h) (omega arith) (both (happening_word h) (fields_of h) (word_from h) (fields_from h r))
+body_is_one_line : (h : Event) → IsInFormat h → Without 10 (body_of h)
+body_is_one_line h r = without_below 32 10 (body_of h) (omega arith) (both (event_word h) (fields_of h) (word_from h) (fields_from h r))
 
 -- NOTES
 
@@ -88,12 +88,12 @@ note_says_nothing note h = rw (note_is_skipped note h.begins) refl
 -- TEXTS
 
 -- the first line of what is left is read on
-one_line : (u : List Happening) (k : ℕ) (body : List ℕ) (lines : List (List ℕ)) → Without 10 body
+one_line : (u : List Event) (k : ℕ) (body : List ℕ) (lines : List (List ℕ)) → Without 10 body
     → going_on u k (lines_of (concat ((body ++ 10 ∷ []) ∷ lines))) ≡ then_on (λ v. going_on v (k + 1) (lines_of (concat lines))) (after_line u k (reading_of body))
 one_line u k body lines w =
     ap (λ text. going_on u k (lines_of text)) (append_assoc body (10 ∷ []) (concat lines)) ∙ ap (going_on u k) (line_cut body (concat lines) w)
 
-told_on : (lines : List (List ℕ)) (t : List Happening) → Tell lines t → (u : List Happening) (k : ℕ) → going_on u k (lines_of (concat lines)) ≡ Ok (u ++ t)
+told_on : (lines : List (List ℕ)) (t : List Event) → Tell lines t → (u : List Event) (k : ℕ) → going_on u k (lines_of (concat lines)) ≡ Ok (u ++ t)
 told_on _ _ Nothing u k = ap Ok (sym (append-nil u))
 told_on _ _ (Note note lines t n rest) u k =
     one_line u k note lines (without_test 10 note n.one_line)
@@ -106,5 +106,5 @@ told_on _ _ (Line h lines t s rest) u k =
     ∙ ap Ok (append_assoc u (h ∷ []) t)
 
 -- lines that tell what happened are read back as that
-pub trace_back : (lines : List (List ℕ)) (t : List Happening) → Tell lines t → trace_of (concat lines) ≡ Ok t
+pub trace_back : (lines : List (List ℕ)) (t : List Event) → Tell lines t → trace_of (concat lines) ≡ Ok t
 trace_back lines t tell = trace_is_going_on (concat lines) ∙ told_on lines t tell [] 1

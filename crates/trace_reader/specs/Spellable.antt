@@ -1,22 +1,20 @@
--- Which happenings the text of a trace can spell, and what texts tell, line by line.
+-- Which events the text of a trace can spell, and what texts tell, line by line.
 use Rattle.std.specs.Prelude.{◌≡◌, ℕ, ◌+◌, ◌<◌, ◌≤◌, true, false, List, [], ◌∷◌, ◌++◌, None, Some, length, slice_get, nat_eq, All}
 use Rattle.std.specs.List.{list_any}
 use Rattle.std.specs.Option.{ForSome}
 use Rattle.address.specs.Ids.{ViewId, IsAddress}
-use Rattle.address.specs.declared.TheConstants.{GREATEST_NUMBER}
+use Rattle.limits.specs.declared.TheConstants.{GREATEST_NUMBER, PAYLOAD, TRACE_LINE}
 use Rattle.view.specs.Members.{is_distinct}
 use Rattle.view.specs.View.{view_refusal}
-use Rattle.state_transfer.specs.declared.TheConstants.{PAYLOAD}
-use Rattle.trace_props.specs.declared.happening.Happening.{Happening}
-use Rattle.trace_props.specs.declared.happening.Happening.TheVariants.{Started, Sent, Delivered, Blocked, Installed, Left, Crashed}
-use Rattle.trace_props.specs.declared.happening.Sending.{Sending}
-use Rattle.trace_props.specs.declared.happening.Delivery.{Delivery}
-use Rattle.trace_props.specs.declared.happening.Install.{Install}
-use Rattle.trace_props.specs.declared.happening.Numbered.{Numbered}
+use Rattle.trace_props.specs.declared.event.Event.{Event}
+use Rattle.trace_props.specs.declared.event.Event.TheVariants.{Started, Sent, Delivered, Blocked, Installed, Left, Crashed}
+use Rattle.trace_props.specs.declared.event.Sending.{Sending}
+use Rattle.trace_props.specs.declared.event.Delivery.{Delivery}
+use Rattle.trace_props.specs.declared.event.Install.{Install}
+use Rattle.trace_props.specs.declared.event.Numbered.{Numbered}
 use Rattle.vsync_text.specs.TraceText.{line_of}
-use Rattle.trace_reader.specs.declared.TheConstants.{TRACE_LINE}
 
--- a counter, or the number of a message in its view: 1 to 2^62
+-- a counter, or the number of a message in its view: 1 to `GREATEST_NUMBER`
 abbrev pub IsNumber : ℕ → Type 0
 IsNumber n = (1 ≤ n) × (n ≤ GREATEST_NUMBER)
 
@@ -27,7 +25,7 @@ pub record IsViewId (v : ViewId) : Type 0 where
 abbrev pub AreBytes : List ℕ → Type 0
 AreBytes bytes = All (λ b. b < 256) bytes
 
--- at most 512 bytes
+-- at most `PAYLOAD` bytes
 pub record IsPayload (x : List ℕ) : Type 0 where
   pub bytes : AreBytes x
   pub short : length x ≤ PAYLOAD
@@ -62,8 +60,8 @@ pub record IsInstallable (i : Install) : Type 0 where
   pub handed_back : All IsMessage i.handed_back
   pub given : ForSome i.given AreBytes
 
--- the fields of a happening are in the ranges of the format
-abbrev pub IsInFormat : Happening → Type 0
+-- the fields of an event are in the ranges of the format
+abbrev pub IsInFormat : Event → Type 0
 IsInFormat (Started p) = IsAddress p
 IsInFormat (Sent s) = IsSendable s
 IsInFormat (Delivered d) = IsTellable d
@@ -72,8 +70,8 @@ IsInFormat (Installed i) = IsInstallable i
 IsInFormat (Left p) = IsAddress p
 IsInFormat (Crashed p) = IsAddress p
 
--- a happening that the text of a trace can spell: its fields are in range, and its line is not too long
-pub record IsSpellable (h : Happening) : Type 0 where
+-- an event that the text of a trace can spell: its fields are in range, and its line is not too long
+pub record IsSpellable (h : Event) : Type 0 where
   pub fields : IsInFormat h
   pub line : length (line_of h) ≤ TRACE_LINE + 1
 
@@ -82,8 +80,8 @@ pub record IsNote (text : List ℕ) : Type 0 where
   pub begins : slice_get text 0 ≡ Some 35
   pub one_line : list_any (λ b. nat_eq b 10) text ≡ false
 
--- lines, each with its line feed, tell what happened: each is the line of the next happening, or a note
-pub data Tell : List (List ℕ) → List Happening → Type 0 where
+-- lines, each with its line feed, tell what happened: each is the line of the next event, or a note
+pub data Tell : List (List ℕ) → List Event → Type 0 where
   Nothing : Tell [] []
-  Note : (note : List ℕ) (lines : List (List ℕ)) (t : List Happening) → IsNote note → Tell lines t → Tell ((note ++ 10 ∷ []) ∷ lines) t
-  Line : (h : Happening) (lines : List (List ℕ)) (t : List Happening) → IsSpellable h → Tell lines t → Tell (line_of h ∷ lines) (h ∷ t)
+  Note : (note : List ℕ) (lines : List (List ℕ)) (t : List Event) → IsNote note → Tell lines t → Tell ((note ++ 10 ∷ []) ∷ lines) t
+  Line : (h : Event) (lines : List (List ℕ)) (t : List Event) → IsSpellable h → Tell lines t → Tell (line_of h ∷ lines) (h ∷ t)

@@ -2,19 +2,18 @@
 use Rattle.std.specs.Prelude.{◌≡◌, ℕ, ◌≤◌, slice_get, List, [], ◌∷◌, Option, None, Some, length, nat_eq, nat_le, if◌then◌else◌}
 use Rattle.std.specs.Str.{bytes_eq}
 use Rattle.address.specs.Ids.{Address, ViewId}
-use Rattle.address.specs.declared.TheConstants.{GREATEST_NUMBER}
+use Rattle.limits.specs.declared.TheConstants.{GREATEST_NUMBER, PAYLOAD}
 use Rattle.view.specs.Members.{View, is_distinct}
 use Rattle.view.specs.View.{view_refusal}
 use Rattle.view.specs.declared.ViewError.{ViewError}
-use Rattle.state_transfer.specs.declared.TheConstants.{PAYLOAD}
-use Rattle.trace_props.specs.declared.happening.Numbered.{Numbered}
+use Rattle.trace_props.specs.declared.event.Numbered.{Numbered}
 use Rattle.script_reader.specs.Lines.{before_byte, behind_byte}
 use Rattle.script_reader.specs.Numbers.{number_in}
 use Rattle.script_reader.specs.AddressText.{address_of_text}
 use Rattle.vsync_text.specs.TraceText.{dash}
 use Rattle.trace_reader.specs.Forms.{◌>>=◌, bytes_of_hex, parts_of, each_of}
 
--- the number of a message in its view, 1 to 2^62
+-- the number of a message in its view, 1 to `GREATEST_NUMBER`
 abbrev pub number_of_text : List ℕ → Option ℕ
 number_of_text text = number_in 1 GREATEST_NUMBER text
 
@@ -84,7 +83,7 @@ messages_of_text text = each_of message_of_text (parts_of text)
 unfoldable pub handed_back_of_text : List ℕ → Option (List Numbered)
 handed_back_of_text text = if bytes_eq text dash then Some [] else messages_of_text text
 
--- each payload has at most 512 bytes
+-- each payload has at most `PAYLOAD` bytes
 abbrev pub AreShort : List Numbered → Type 0
 AreShort messages = (k : ℕ) (m : Numbered) → slice_get messages k ≡ Some m → length m.payload ≤ PAYLOAD
 

@@ -2,7 +2,7 @@
 
 ghost use Rattle.std.specs.Prelude.{◌≡◌, ◌≤◌, length, Some, IfOk};
 ghost use Rattle.std.specs.Option.{option_copied};
-ghost use Rattle.state_transfer.specs.declared.TheConstants.{PAYLOAD};
+ghost use Rattle.limits.specs.declared.TheConstants.{PAYLOAD};
 ghost use Rattle.script_reader.specs.AddressText.{address_of_text};
 ghost use Rattle.trace_reader.specs.Spelling.{number_of_text, view_id_of_text, previous_of_text, payload_of_text, view_of_text, together_of_text, handed_back_of_text, given_of_text, AreShort};
 ghost use Rattle.trace_reader.specs.Fields.{Gives, field_at, spelled_at, end_at};

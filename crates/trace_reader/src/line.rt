@@ -1,21 +1,21 @@
-//! A line of a trace as a happening.
+//! A line of a trace as an event.
 
 ghost use Rattle.std.specs.Prelude.{◌≡◌, ◌≤◌, length, None, Some, Ok, IfOk, IfSome};
 ghost use Rattle.std.specs.Option.{option_copied};
-ghost use Rattle.state_transfer.specs.declared.TheConstants.{PAYLOAD};
+ghost use Rattle.limits.specs.declared.TheConstants.{PAYLOAD};
 ghost use Rattle.trace_props.specs.Recorded.{IsShort};
 ghost use Rattle.script_reader.specs.Script.{is_skipped};
 ghost use Rattle.script_reader.specs.AddressText.{address_of_text};
 ghost use Rattle.trace_reader.specs.Spelling.{AreShort};
 ghost use Rattle.trace_reader.specs.Fields.{Gives, spelled_at, sending_at, delivery_at, view_at, install_at, last};
-ghost use Rattle.trace_reader.specs.Traces.{word_of, happening_of, told, reading_of};
+ghost use Rattle.trace_reader.specs.Traces.{word_of, event_of, told, reading_of};
 
-use crate::TRACE_LINE;
 use crate::fields::{Fields, Unheard};
 use address::Address;
+use limits::TRACE_LINE;
 use script_reader::{Fault, first_field};
 use std::alloc::Global;
-use trace_props::{Delivery, Happening, Install, Message, Numbered, Sending};
+use trace_props::{Delivery, Event, Install, Message, Numbered, Sending};
 use view::View;
 
 /// A word with which a line of a trace begins.
@@ -162,20 +162,20 @@ fn lone_install(alloc: Global, mut fields: Fields<'_>) -> Result<Install, Unhear
     Ok(install)
 }
 
-/// The happening of a word and of what is left behind it.
-#[tactic(auto, unfolding(crate::specs::Traces::happening_of))]
-fn happening_of(alloc: Global, word: Word, fields: Fields<'_>) -> Result<Happening, Unheard>
-    ensures gives { Gives (λ x. x) result (happening_of word fields.entry) }
+/// The event of a word and of what is left behind it.
+#[tactic(auto, unfolding(crate::specs::Traces::event_of))]
+fn event_of(alloc: Global, word: Word, fields: Fields<'_>) -> Result<Event, Unheard>
+    ensures gives { Gives (λ x. x) result (event_of word fields.entry) }
     ensures short { IfOk result IsShort }
 {
     match word {
-        Word::Started => Ok(Happening::Started(lone_address(fields)?)),
-        Word::Sent => Ok(Happening::Sent(lone_sending(alloc, fields)?)),
-        Word::Delivered => Ok(Happening::Delivered(lone_delivery(alloc, fields)?)),
-        Word::Blocked => Ok(Happening::Blocked(lone_address(fields)?)),
-        Word::Installed => Ok(Happening::Installed(lone_install(alloc, fields)?)),
-        Word::Left => Ok(Happening::Left(lone_address(fields)?)),
-        Word::Crashed => Ok(Happening::Crashed(lone_address(fields)?)),
+        Word::Started => Ok(Event::Started(lone_address(fields)?)),
+        Word::Sent => Ok(Event::Sent(lone_sending(alloc, fields)?)),
+        Word::Delivered => Ok(Event::Delivered(lone_delivery(alloc, fields)?)),
+        Word::Blocked => Ok(Event::Blocked(lone_address(fields)?)),
+        Word::Installed => Ok(Event::Installed(lone_install(alloc, fields)?)),
+        Word::Left => Ok(Event::Left(lone_address(fields)?)),
+        Word::Crashed => Ok(Event::Crashed(lone_address(fields)?)),
     }
 }
 
@@ -189,9 +189,9 @@ fn is_skipped(line: &[u8]) -> bool
     }
 }
 
-/// The happening of a line that is not skipped.
+/// The event of a line that is not skipped.
 #[tactic(auto, unfolding(crate::specs::Traces::told))]
-fn told(alloc: Global, line: &[u8]) -> Result<Happening, Unheard>
+fn told(alloc: Global, line: &[u8]) -> Result<Event, Unheard>
     ensures gives { Gives (λ x. x) result (told line.now) }
     ensures short { IfOk result IsShort }
 {
@@ -201,13 +201,13 @@ fn told(alloc: Global, line: &[u8]) -> Result<Happening, Unheard>
     let (name, rest) = first_field(line);
     match word_of(name) {
         None => Err(Unheard::Fault(Fault::UnknownWord)),
-        Some(word) => happening_of(alloc, word, Fields::new(rest)),
+        Some(word) => event_of(alloc, word, Fields::new(rest)),
     }
 }
 
-/// What a line says: nothing, or a happening.
+/// What a line says: nothing, or an event.
 #[tactic(auto, unfolding(crate::specs::Traces::reading_of))]
-pub(crate) fn read_line(alloc: Global, line: &[u8]) -> Result<Option<Happening>, Unheard>
+pub(crate) fn read_line(alloc: Global, line: &[u8]) -> Result<Option<Event>, Unheard>
     ensures gives { Gives (λ x. x) result (reading_of line.now) }
     ensures short { IfOk result (λ read. IfSome read IsShort) }
 {

@@ -1,4 +1,4 @@
-//! The text of a trace as its happenings.
+//! The text of a trace as its events.
 
 ghost use Rattle.std.specs.Prelude.{◌≡◌, ◌++◌, ◌∷◌, [], Ok, OnOk, MatchResult};
 ghost use Rattle.trace_props.specs.Recorded.{IsShort};
@@ -9,21 +9,21 @@ use crate::fields::Unheard;
 use crate::line::read_line;
 use script_reader::{Unread, first_line};
 use std::alloc::{AllocError, Global};
-use trace_props::{Happening, Trace};
+use trace_props::{Event, Trace};
 
 /// Adds what happened next.
-fn add(trace: &mut Trace, happening: Happening) -> Result<(), AllocError>
-    requires { IsShort happening }
-    ensures { OnOk result (trace.new.happenings ≡ trace.old.happenings ++ happening ∷ []) }
+fn add(trace: &mut Trace, event: Event) -> Result<(), AllocError>
+    requires { IsShort event }
+    ensures { OnOk result (trace.new.events ≡ trace.old.events ++ event ∷ []) }
 {
     trace.reserve(1)?;
-    trace.record(happening);
+    trace.record(event);
     Ok(())
 }
 
 /// Goes on with one line.
 fn read_on(alloc: Global, trace: &mut Trace, number: u64, line: &[u8]) -> Result<(), Unread>
-    ensures { HasRead trace.old.happenings number (reading_of line.now) result trace.new.happenings }
+    ensures { HasRead trace.old.events number (reading_of line.now) result trace.new.events }
 {
     match read_line(alloc, line) {
         Err(Unheard::Fault(fault)) => Err(Unread::Fault {
@@ -32,26 +32,26 @@ fn read_on(alloc: Global, trace: &mut Trace, number: u64, line: &[u8]) -> Result
         }),
         Err(Unheard::Memory) => Err(Unread::Memory),
         Ok(None) => Ok(()),
-        Ok(Some(happening)) => match add(trace, happening) {
+        Ok(Some(event)) => match add(trace, event) {
             Err(_) => Err(Unread::Memory),
             Ok(()) => Ok(()),
         },
     }
 }
 
-/// Reads the text of a trace, in one pass. It is exactly what its lines say: each is one happening, in order, and lines that are
+/// Reads the text of a trace, in one pass. It is exactly what its lines say: each is one event, in order, and lines that are
 /// empty or begin with `#` say nothing, however long they are. A line ends with a line feed, which the last may lack
 /// (docs/FORMATS.md, "Trace text").
 ///
 /// # Errors
 ///
-/// `Unread::Fault` has the first line that is no happening, counted from 1, skipped lines among them, and what is wrong with it:
-/// it has more than 65,536 bytes (43), or begins with no known word (40); else the first of its fields from the left that is
+/// `Unread::Fault` has the first line that is no event, counted from 1, skipped lines among them, and what is wrong with it:
+/// it has more than `TRACE_LINE` bytes (43), or begins with no known word (40); else the first of its fields from the left that is
 /// missing (42), or not of its form or range (41); or it has a field too many (41). `Unread::Memory` where memory was refused.
 /// Either way nothing of the trace is left.
 #[tactic(auto, using(crate::proofs::Reading::trace_is_going_on))]
 pub fn read_trace(alloc: Global, text: &[u8]) -> Result<Trace, Unread>
-    ensures { MatchResult result (λ trace. trace_of text.now ≡ Ok trace.happenings) (IsUnread (trace_of text.now)) }
+    ensures { MatchResult result (λ trace. trace_of text.now ≡ Ok trace.events) (IsUnread (trace_of text.now)) }
 {
     let mut trace = Trace::new(alloc);
     let mut rest = text;

@@ -1,11 +1,12 @@
 -- What the coordinator of a view does is acts.
-use Rattle.std.proofs.Common.{◌≡◌, ℕ, ◌+◌, ◌<◌, ◌≤◌, ◌^◌, Bool, true, false, cond, not, max, min, Option, Some, None, List, [], ◌∷◌, map, drop, length, refl, sym, ap, ◌∙◌, subst, arith, is_some}
+use Rattle.std.proofs.Common.{◌≡◌, ℕ, ◌+◌, ◌<◌, ◌≤◌, Bool, true, false, cond, not, max, min, Option, Some, None, List, [], ◌∷◌, map, drop, length, refl, sym, ap, ◌∙◌, subst, arith, is_some}
 use Rattle.std.specs.Prelude.{if◌then◌else◌, nat_lt, nat_eq, MatchBool}
 use Rattle.std.specs.List.{Contains, cons_option}
 use Rattle.std.proofs.lemmas.Bool.Decides.{nat_tests}
 use Rattle.std.proofs.lemmas.Bool.{cond-true, cond-false}
 use Rattle.std.proofs.lemmas.Option.{none-some}
 use Rattle.std.proofs.Math.Nat.{max-eq_right}
+use Rattle.limits.specs.declared.TheConstants.{MEMBERS, WINDOW, GREATEST_NUMBER}
 use mathlib.Core.Path.{fun_ext}
 use Rattle.address.specs.Ids.{Address, same_address}
 use Rattle.view.specs.Members.{View, stands_in, is_distinct}
@@ -15,8 +16,9 @@ use Rattle.packet_values.specs.Values.{Entry, held_at}
 use Rattle.wire.specs.Values as wire
 use Rattle.wire.specs.declared.packet.Body.{Body}
 use Rattle.wire.specs.declared.packet.Body.TheVariants as bodies
-use Rattle.trace_props.specs.declared.happening.Happening.{Happening}
-use Rattle.trace_props.specs.declared.happening.Numbered.{Numbered}
+use Rattle.state_transfer.specs.Meanings.{Meaning}
+use Rattle.trace_props.specs.declared.event.Event.{Event}
+use Rattle.trace_props.specs.declared.event.Numbered.{Numbered}
 use Rattle.nak_stream.specs.Windows.{WindowModel, IsWindow, held_with, held_above, taken, delivering}
 use Rattle.nak_stream.proofs.Windows.{held_at-with, held_at-above}
 use Rattle.sequencer.specs.Forwards.{ForwardsModel, one_told}
@@ -46,7 +48,7 @@ distinct-by false false true d e = refl
 distinct-by false false false d e = absurd (none-some Repeated (sym e))
 
 pub distinct-in : (v : View) → view_refusal v.id v.members ≡ None → is_distinct v.members ≡ true
-distinct-in v e = distinct-by (nat_eq (length v.members) 0) (nat_lt 16 (length v.members)) (is_distinct v.members) (begins_with v.id.creator v.members) e
+distinct-in v e = distinct-by (nat_eq (length v.members) 0) (nat_lt MEMBERS (length v.members)) (is_distinct v.members) (begins_with v.id.creator v.members) e
 
 -- ---- one act
 
@@ -68,8 +70,8 @@ told-by false n f = refl
 
 -- why the next message may be ordered
 pub record Due (m : Coordinator) (e : Entry) : Type 0 where
-  pub room : m.window.delivered < m.window.stable + 32
-  pub small : m.window.delivered < 2 ^ 62
+  pub room : m.window.delivered < m.window.stable + WINDOW
+  pub small : m.window.delivered < GREATEST_NUMBER
   pub next : first_next m.orderer.queues ≡ Some e
   pub due : next_ordered m.window.stable m.orderer ≡ Some e
 
@@ -82,15 +84,15 @@ due-by false m e t same low h due = absurd (none-some e h)
 pub due-fact : (m : Coordinator) (e : Entry) → m.orderer.ordered ≡ m.window.delivered → m.window.stable ≤ m.window.delivered → next_ordered m.window.stable m.orderer ≡ Some e → Due m e
 due-fact m e same low h = due-by (may_order m.window.stable m.orderer) m e refl same low h h
 
-module _ {S : Type 0} (apply : S → Address → List ℕ → S) (encode : S → List ℕ) (decode : List ℕ → Option S) where
-  abbrev pub GoesOn : Option Posted → Address → View → List (Address × wire.Install) → Traffic → S → List Posted → List Happening → Traffic → S → Type 0
-  GoesOn came p v kept t s posted happened u z = Acted apply encode decode came (Some (open_core p v kept t s)) posted happened (Some (open_core p v kept u z))
+module _ {S : Type 0} (meaning : Meaning S) where
+  abbrev pub GoesOn : Option Posted → Address → View → List (Address × wire.Install) → Traffic → S → List Posted → List Event → Traffic → S → Type 0
+  GoesOn came p v kept t s posted happened u z = Acted meaning came (Some (open_core p v kept t s)) posted happened (Some (open_core p v kept u z))
 
   -- ---- Orders
 
   pub orders-acts : (came : Option Posted) (p : Address) (kept : List (Address × wire.Install)) (m : Coordinator) (s : S) (e : Entry) → IsCoordinator p m → IsWindow m.window
       → is_distinct m.view.members ≡ true → Due m e
-      → GoesOn came p m.view kept (coordinator_traffic m) s [] (delivery p m.view.id e ∷ []) (coordinator_traffic (after_one p (m.orderer.ordered + 1, e) m)) (apply s e.sender e.payload)
+      → GoesOn came p m.view kept (coordinator_traffic m) s [] (delivery p m.view.id e ∷ []) (coordinator_traffic (after_one p (m.orderer.ordered + 1, e) m)) (meaning.apply s e.sender e.payload)
   orders-acts came p kept m s e i w distinct d =
       let queues = m.orderer.queues in
       let later = change_first has_next served queues in
@@ -120,10 +122,10 @@ module _ {S : Type 0} (apply : S → Address → List ℕ → S) (encode : S →
             fewer = x.fewer.each;
             more = holds-more g e m.window.held free;
           },
-          ap (λ (w : WindowModel). Some (open_core p m.view kept (traffic_at w left acks (one_more e.sender (ordered_of queues)) (waiting_of later)) (apply s e.sender e.payload))) window
-              ∙ ap (λ (f : ForwardsModel). Some (open_core p m.view kept (traffic_at (delivering (taken (m.orderer.ordered + 1) e m.window)) f acks (one_more e.sender (ordered_of queues)) (waiting_of later)) (apply s e.sender e.payload))) forwards
-              ∙ ap (λ (c : Address → ℕ). Some (open_core p m.view kept (traffic_at (delivering (taken (m.orderer.ordered + 1) e m.window)) (told_to p e m.forwards) acks c (waiting_of later)) (apply s e.sender e.payload))) counts
-              ∙ ap (λ (o : OrdererModel). Some (open_core p m.view kept (traffic_at (delivering (taken (m.orderer.ordered + 1) e m.window)) (told_to p e m.forwards) acks (ordered_of o.queues) (waiting_of o.queues)) (apply s e.sender e.payload))) orderer,
+          ap (λ (w : WindowModel). Some (open_core p m.view kept (traffic_at w left acks (one_more e.sender (ordered_of queues)) (waiting_of later)) (meaning.apply s e.sender e.payload))) window
+              ∙ ap (λ (f : ForwardsModel). Some (open_core p m.view kept (traffic_at (delivering (taken (m.orderer.ordered + 1) e m.window)) f acks (one_more e.sender (ordered_of queues)) (waiting_of later)) (meaning.apply s e.sender e.payload))) forwards
+              ∙ ap (λ (c : Address → ℕ). Some (open_core p m.view kept (traffic_at (delivering (taken (m.orderer.ordered + 1) e m.window)) (told_to p e m.forwards) acks c (waiting_of later)) (meaning.apply s e.sender e.payload))) counts
+              ∙ ap (λ (o : OrdererModel). Some (open_core p m.view kept (traffic_at (delivering (taken (m.orderer.ordered + 1) e m.window)) (told_to p e m.forwards) acks (ordered_of o.queues) (waiting_of o.queues)) (meaning.apply s e.sender e.payload))) orderer,
         );
         puts = refl;
         happens = refl;
@@ -222,8 +224,8 @@ module _ {S : Type 0} (apply : S → Address → List ℕ → S) (encode : S →
   -- ---- Puts to each of a list
 
   pub puts-acts : (came : Option Posted) (c : Core S) (b : Body) (list : List Address) → ((q : Address) → Describes c q b)
-      → Acted apply encode decode came (Some c) (map (packet c.me b) list) [] (Some c)
-  puts-acts came c b [] says = nothing-acted apply encode decode came (Some c)
+      → Acted meaning came (Some c) (map (packet c.me b) list) [] (Some c)
+  puts-acts came c b [] says = nothing-acted meaning came (Some c)
   puts-acts came c b (q ∷ list) says =
       let rest = puts-acts came c b list says in
       record { acts = Puts q b ∷ rest.acts; chain = (says q, rest.chain); puts = ap (λ l. packet c.me b q ∷ l) rest.puts; happens = rest.happens }

@@ -6,11 +6,13 @@ use Rattle.std.proofs.lemmas.Bool.Decides.{nat_tests}
 use Rattle.std.proofs.lemmas.Bool.{cond-true, cond-false}
 use Rattle.std.proofs.lemmas.List.Elements.{Contains-push}
 use Rattle.std.proofs.Math.Nat.{max-eq_right}
+use Rattle.limits.specs.declared.TheConstants.{WINDOW, PAYLOAD}
 use Rattle.address.specs.Ids.{Address}
 use Rattle.packet_values.specs.Values.{Entry, Progress, held_at}
 use Rattle.wire.specs.Values as wire
 use Rattle.wire.specs.declared.packet.Body.TheVariants as bodies
-use Rattle.trace_props.specs.declared.happening.Numbered.{Numbered}
+use Rattle.state_transfer.specs.Meanings.{Meaning}
+use Rattle.trace_props.specs.declared.event.Numbered.{Numbered}
 use Rattle.nak_stream.specs.Windows.{WindowModel, held_above}
 use Rattle.agreement.specs.Histories.{Posted}
 use Rattle.agreement.specs.Acts.{Sends, Collects, Puts, Told, HoldsAbove, packet, others_of}
@@ -32,11 +34,11 @@ use Rattle.output.proofs.Growing.{grows-nothing}
 use Rattle.traffic.proofs.Going.{other-nothing, other-then}
 use Rattle.traffic.proofs.Telling.{asks-goes}
 
-module _ {S : Type 0} (apply : S → Address → List ℕ → S) (encode : S → List ℕ) (decode : List ℕ → Option S) where
+module _ {S : Type 0} (meaning : Meaning S) where
   -- ---- another member
 
   told-by : (b : Bool) (p : Address) (kept : List (Address × wire.Install)) (m : Other) (s : S) (a : Progress) → nat_lt m.window.stable (min a.stable m.window.delivered) ≡ b
-      → Acted apply encode decode (status_packet p m.view a) (Some (open_core p m.view kept (other_traffic m) s)) [] [] (Some (open_core p m.view kept (other_traffic (collected_to a.stable m)) s))
+      → Acted meaning (status_packet p m.view a) (Some (open_core p m.view kept (other_traffic m) s)) [] [] (Some (open_core p m.view kept (other_traffic (collected_to a.stable m)) s))
   told-by true p kept m s a more =
       let t = min a.stable m.window.delivered in
       let over : m.window.stable < t = grind (arith, nat_tests) in
@@ -69,26 +71,26 @@ module _ {S : Type 0} (apply : S → Address → List ℕ → S) (encode : S →
 
   status-by : (b : Bool) (p : Address) (group : List ℕ) (a : Progress) (m : Other) (s : S) (out : Output) (new : Other) (more : Output)
       → MatchBool b ((new ≡ m) × (more ≡ out)) ((new ≡ collected_to a.stable m) × AsksUpTo p group a.highest new out more)
-      → OtherGoes apply encode decode (status_packet p m.view a) p group m s out new s more
+      → OtherGoes meaning (status_packet p m.view a) p group m s out new s more
   status-by true p group a m s out new more x =
-      subst (λ (n : Other). OtherGoes apply encode decode (status_packet p m.view a) p group m s out n s more) (sym x.0)
-      (subst (λ (o : Output). OtherGoes apply encode decode (status_packet p m.view a) p group m s out m s o) (sym x.1) (other-nothing apply encode decode _ p group m s out))
+      subst (λ (n : Other). OtherGoes meaning (status_packet p m.view a) p group m s out n s more) (sym x.0)
+      (subst (λ (o : Output). OtherGoes meaning (status_packet p m.view a) p group m s out m s o) (sym x.1) (other-nothing meaning _ p group m s out))
   status-by false p group a m s out new more x =
       let next = collected_to a.stable m in
-      subst (λ (n : Other). OtherGoes apply encode decode (status_packet p m.view a) p group m s out n s more) (sym x.0)
-      (other-then apply encode decode (status_packet p m.view a) p group m next next s s s out out more
+      subst (λ (n : Other). OtherGoes meaning (status_packet p m.view a) p group m s out n s more) (sym x.0)
+      (other-then meaning (status_packet p m.view a) p group m next next s s s out out more
       (record { posted = []; happened = []; acted = λ kept. told-by _ p kept m s a refl; grows = grows-nothing group out }, refl)
-      (asks-goes apply encode decode (status_packet p m.view a) p group a.highest next s out more (subst (λ (n : Other). AsksUpTo p group a.highest n out more) x.0 x.1)))
+      (asks-goes meaning (status_packet p m.view a) p group a.highest next s out more (subst (λ (n : Other). AsksUpTo p group a.highest n out more) x.0 x.1)))
 
   pub status-goes : (p : Address) (group : List ℕ) (a : Progress) (m : Other) (s : S) (out : Output) (new : Other) (more : Output) → TakesStatus p group a m out new more
-      → OtherGoes apply encode decode (status_packet p m.view a) p group m s out new s more
-  status-goes p group a m s out new more x = status-by (nat_lt m.window.delivered a.stable || nat_lt m.window.delivered (a.highest - 32)) p group a m s out new more x
+      → OtherGoes meaning (status_packet p m.view a) p group m s out new s more
+  status-goes p group a m s out new more x = status-by (nat_lt m.window.delivered a.stable || nat_lt m.window.delivered (a.highest - WINDOW)) p group a m s out new more x
 
-  pub send-goes : (came : Option Posted) (p : Address) (group : List ℕ) (x : List ℕ) (m : Other) (s : S) (out : Output) (new : Other) (more : Output) → length x ≤ 512 → new ≡ other_pushing x m
-      → SendsForward p group x m out more → OtherGoes apply encode decode came p group m s out new s more
+  pub send-goes : (came : Option Posted) (p : Address) (group : List ℕ) (x : List ℕ) (m : Other) (s : S) (out : Output) (new : Other) (more : Output) → length x ≤ PAYLOAD → new ≡ other_pushing x m
+      → SendsForward p group x m out more → OtherGoes meaning came p group m s out new s more
   send-goes came p group x m s out new more short now sends =
       let f : Numbered = record { number = m.forwards.sent + 1; payload = x } in
-      subst (λ (n : Other). OtherGoes apply encode decode came p group m s out n s more) (sym now) (
+      subst (λ (n : Other). OtherGoes meaning came p group m s out n s more) (sym now) (
         record {
           posted = forward_of p m.view f ∷ [];
           happened = _;
@@ -104,7 +106,7 @@ module _ {S : Type 0} (apply : S → Address → List ℕ → S) (encode : S →
       )
 
   puts-forwards : (came : Option Posted) (p : Address) (kept : List (Address × wire.Install)) (m : Other) (s : S) (fs : List Numbered) → In fs m.forwards.rest
-      → Acted apply encode decode came (Some (open_core p m.view kept (other_traffic m) s)) (map (forward_of p m.view) fs ++ ack_of p m ∷ []) [] (Some (open_core p m.view kept (other_traffic m) s))
+      → Acted meaning came (Some (open_core p m.view kept (other_traffic m) s)) (map (forward_of p m.view) fs ++ ack_of p m ∷ []) [] (Some (open_core p m.view kept (other_traffic m) s))
   puts-forwards came p kept m s [] i = record { acts = Puts m.view.id.creator (bodies.Ack m.view.id m.window.delivered) ∷ []; chain = ((refl, omega arith), refl); puts = refl; happens = refl }
   puts-forwards came p kept m s (f ∷ fs) i =
       let rest = puts-forwards came p kept m s fs (record { each = λ k x at. i.each (suc k) x at }) in
@@ -116,19 +118,19 @@ module _ {S : Type 0} (apply : S → Address → List ℕ → S) (encode : S →
       }
 
   pub tick-goes : (came : Option Posted) (p : Address) (group : List ℕ) (m : Other) (s : S) (out more : Output) → Grows group out more (map (forward_of p m.view) m.forwards.rest ++ ack_of p m ∷ []) []
-      → OtherGoes apply encode decode came p group m s out m s more
+      → OtherGoes meaning came p group m s out m s more
   tick-goes came p group m s out more grows =
       (record { posted = _; happened = []; acted = λ kept. puts-forwards came p kept m s m.forwards.rest (in-itself m.forwards.rest); grows = grows }, refl)
 
   -- ---- the coordinator
 
   pub status-tick-goes : (came : Option Posted) (p : Address) (group : List ℕ) (m : Coordinator) (s : S) (out more : Output) → IsCoordinator p m
-      → Grows group out more (map (packet p (bodies.Status m.view.id (progress_of m.window))) (others_of p m.view.members)) [] → CoordinatorGoes apply encode decode came p group m s out m s more
+      → Grows group out more (map (packet p (bodies.Status m.view.id (progress_of m.window))) (others_of p m.view.members)) [] → CoordinatorGoes meaning came p group m s out m s more
   status-tick-goes came p group m s out more i grows = record {
     goes = record {
       posted = map (packet p (bodies.Status m.view.id (progress_of m.window))) (others_of p m.view.members);
       happened = [];
-      acted = λ kept. puts-acts apply encode decode came (open_core p m.view kept (coordinator_traffic m) s) (bodies.Status m.view.id (progress_of m.window)) (others_of p m.view.members)
+      acted = λ kept. puts-acts meaning came (open_core p m.view kept (coordinator_traffic m) s) (bodies.Status m.view.id (progress_of m.window)) (others_of p m.view.members)
           (λ q. (refl, i.coordinator, omega arith, omega arith));
       grows = grows;
     };
@@ -137,13 +139,13 @@ module _ {S : Type 0} (apply : S → Address → List ℕ → S) (encode : S →
   }
 
   puts-held : (came : Option Posted) (p q : Address) (kept : List (Address × wire.Install)) (m : Coordinator) (s : S) (k n : ℕ) → IsCoordinator p m
-      → Acted apply encode decode came (Some (open_core p m.view kept (coordinator_traffic m) s)) (orders_held p m.view q m.window.held k n) [] (Some (open_core p m.view kept (coordinator_traffic m) s))
-  puts-held came p q kept m s k zero i = nothing-acted apply encode decode came (Some (open_core p m.view kept (coordinator_traffic m) s))
+      → Acted meaning came (Some (open_core p m.view kept (coordinator_traffic m) s)) (orders_held p m.view q m.window.held k n) [] (Some (open_core p m.view kept (coordinator_traffic m) s))
+  puts-held came p q kept m s k zero i = nothing-acted meaning came (Some (open_core p m.view kept (coordinator_traffic m) s))
   puts-held came p q kept m s k (suc n) i = by (held_at k m.window.held) refl (puts-held came p q kept m s (k + 1) n i)
     where
       by : (o : Option Entry) → held_at k m.window.held ≡ o
-          → Acted apply encode decode came (Some (open_core p m.view kept (coordinator_traffic m) s)) (orders_held p m.view q m.window.held (k + 1) n) [] (Some (open_core p m.view kept (coordinator_traffic m) s))
-          → Acted apply encode decode came (Some (open_core p m.view kept (coordinator_traffic m) s))
+          → Acted meaning came (Some (open_core p m.view kept (coordinator_traffic m) s)) (orders_held p m.view q m.window.held (k + 1) n) [] (Some (open_core p m.view kept (coordinator_traffic m) s))
+          → Acted meaning came (Some (open_core p m.view kept (coordinator_traffic m) s))
           (option_map_or (λ e. packet p (bodies.Order m.view.id k e) q ∷ []) o [] ++ orders_held p m.view q m.window.held (k + 1) n) [] (Some (open_core p m.view kept (coordinator_traffic m) s))
       by None there rest = rest
       by (Some e) there rest = record {
@@ -154,7 +156,7 @@ module _ {S : Type 0} (apply : S → Address → List ℕ → S) (encode : S →
       }
 
   pub nak-goes : (came : Option Posted) (p q : Address) (group : List ℕ) (k n : ℕ) (m : Coordinator) (s : S) (out more : Output) → IsCoordinator p m → Grows group out more (orders_held p m.view q m.window.held k n) []
-      → CoordinatorGoes apply encode decode came p group m s out m s more
+      → CoordinatorGoes meaning came p group m s out m s more
   nak-goes came p q group k n m s out more i grows = record {
     goes = record {
       posted = orders_held p m.view q m.window.held k n;

@@ -1,15 +1,17 @@
 -- Few messages are ordered in one step: what another member did not acknowledge stays within the window's reach; alone, only its own that are outstanding wait.
-use Rattle.std.proofs.Common.{◌≡◌, ℕ, ◌+◌, ◌<◌, ◌≤◌, Bool, ◌||◌, ◌&&◌, true, false, cond, not, max, min, Option, Some, None, List, [], ◌∷◌, map, length, refl, sym, ap, ◌∙◌, subst, arith, length-append}
+use Rattle.std.proofs.Common.{◌≡◌, ℕ, ◌+◌, ◌<◌, ◌≤◌, Bool, ◌||◌, ◌&&◌, true, false, cond, not, max, min, Some, None, List, [], ◌∷◌, map, length, refl, sym, ap, ◌∙◌, subst, arith, length-append}
 use Rattle.std.specs.Prelude.{if◌then◌else◌, nat_lt, nat_eq}
 use Rattle.std.specs.List.{find}
 use Rattle.std.proofs.lemmas.Bool.Decides.{nat_tests}
 use Rattle.std.proofs.lemmas.Option.{none-some, same_Some}
 use Rattle.std.proofs.lemmas.List.{append-nil, length-map}
+use Rattle.limits.specs.declared.TheConstants.{WINDOW, MEMBERS}
 use Rattle.address.specs.Ids.{Address, same_address}
 use Rattle.view.specs.Members.{View, stands_in, is_distinct}
 use Rattle.view.specs.View.{view_refusal, begins_with}
 use Rattle.view.specs.declared.ViewError.TheVariants.{Empty, TooMany, Repeated, NotFirst}
 use Rattle.packet_values.specs.Values.{Entry}
+use Rattle.state_transfer.specs.Meanings.{Meaning}
 use Rattle.trace_props.proofs.Observing.{same_address-refl, same_address-true}
 use Rattle.nak_stream.specs.Windows.{WindowModel, IsWindow, held_with, held_above, taken, delivering}
 use Rattle.sequencer.specs.Forwards.{IsForwards}
@@ -69,7 +71,7 @@ pub record Turned (p : Address) (m n : Coordinator) : Type 0 where
   pub least : m.window.stable ≤ stable_count n.acks → stable_count n.acks ≤ m.window.delivered + 1 → n.window.stable ≡ stable_count n.acks
   pub shorter : length (waiting_of n.orderer.queues) < length (waiting_of m.orderer.queues)
 
-module _ {S : Type 0} (apply : S → Address → List ℕ → S) (encode : S → List ℕ) (decode : List ℕ → Option S) where
+module _ {S : Type 0} (meaning : Meaning S) where
   pub turned-fact : (p : Address) (m : Coordinator) (e : Entry) → IsCoordinator p m → m.window.stable ≤ m.window.delivered → view_refusal m.view.id m.view.members ≡ None
       → next_ordered m.window.stable m.orderer ≡ Some e → Turned p m (turned p e m)
   turned-fact p m e i low sound due =
@@ -84,7 +86,7 @@ module _ {S : Type 0} (apply : S → Address → List ℕ → S) (encode : S →
       let c = collected-by (nat_lt next.window.stable (min t next.window.delivered)) t next.window in
       let under : m.window.stable ≤ g = omega arith in
       record {
-        coordinator = heard-coordinator apply encode decode p next p next.window.delivered (one-coordinator apply encode decode p m e i distinct d);
+        coordinator = heard-coordinator meaning p next p next.window.delivered (one-coordinator meaning p m e i distinct d);
         low = c.low (subst (λ (w : WindowModel). w.stable ≤ w.delivered) (sym window) under);
         delivered = c.delivered ∙ told;
         bound = λ b x y. c.bound b (subst (λ (w : WindowModel). w.stable ≤ b) (sym window) x) y;
@@ -119,7 +121,7 @@ module _ {S : Type 0} (apply : S → Address → List ℕ → S) (encode : S →
 
   -- another member is in the view
   record Near (p q : Address) (old : Coordinator) (entries : List Entry) (n : Coordinator) : Type 0 where
-    pub few : length entries ≤ 32
+    pub few : length entries ≤ WINDOW
     pub stable : n.window.stable ≤ old.window.delivered
     pub heard : count_of q n.acks ≡ count_of q old.acks
 
@@ -173,7 +175,7 @@ module _ {S : Type 0} (apply : S → Address → List ℕ → S) (encode : S →
 
   few-by : (p : Address) (members : List Address) (old n : Coordinator) (entries : List Entry) → old.view.members ≡ members → TurnsTo p old entries n → IsCoordinator p old → IsSettled p old
       → IsWindow old.window → IsForwards old.forwards → view_refusal old.view.id old.view.members ≡ None → begins_with old.view.id.creator members ≡ true → is_distinct members ≡ true
-      → length entries ≤ 32
+      → length entries ≤ WINDOW
   few-by p [] old n entries is x i s w f sound begins distinct = cc
   few-by p (a ∷ []) old n entries is x i s w f sound begins distinct =
       let y = turning p old n entries x i w.counts sound in
@@ -192,13 +194,13 @@ module _ {S : Type 0} (apply : S → Address → List ℕ → S) (encode : S →
       by false true d h = refl
       by false false d h = cc
 
-  pub few : (p : Address) (group : List ℕ) (old : Coordinator) (s : S) (out : Output) (n : Coordinator) (t : S) (more : Output) → Ordering apply p group old s out n t more → IsCoordinator p old → IsSettled p old
+  pub few : (p : Address) (group : List ℕ) (old : Coordinator) (s : S) (out : Output) (n : Coordinator) (t : S) (more : Output) → Ordering meaning p group old s out n t more → IsCoordinator p old → IsSettled p old
       → IsWindow old.window → IsForwards old.forwards → view_refusal old.view.id old.view.members ≡ None → IsFew out more
   few p group old s out n t more x i z w f sound =
       let k = few-by p old.view.members old n x.entries refl x.turns i z w f sound
-      (first-by (nat_eq (length old.view.members) 0) (nat_lt 16 (length old.view.members)) (is_distinct old.view.members) (begins_with old.view.id.creator old.view.members) sound)
+      (first-by (nat_eq (length old.view.members) 0) (nat_lt MEMBERS (length old.view.members)) (is_distinct old.view.members) (begins_with old.view.id.creator old.view.members) sound)
       (distinct-in old.view sound) in
-      let grown : length more.happenings.items ≡ length out.happenings.items + length x.entries =
-      ap length x.grows.happenings ∙ length-append out.happenings.items (map (delivery p old.view.id) x.entries)
-      ∙ ap (λ j. length out.happenings.items + j) (length-map x.entries (delivery p old.view.id)) in
+      let grown : length more.events.items ≡ length out.events.items + length x.entries =
+      ap length x.grows.events ∙ length-append out.events.items (map (delivery p old.view.id) x.entries)
+      ∙ ap (λ j. length out.events.items + j) (length-map x.entries (delivery p old.view.id)) in
       omega (arith, k, grown)

@@ -1,5 +1,5 @@
 -- What a window holds can be reported: its numbers rise, are near its counts, and none is left out up to the delivered count.
-use Rattle.std.proofs.Common.{◌≡◌, ℕ, ◌+◌, ◌<◌, ◌≤◌, ◌^◌, Bool, true, false, cond, Some, List, [], ◌∷◌, ◌++◌, length, refl, sym, ap, ◌∙◌, arith, nat_eq, is_some, subst}
+use Rattle.std.proofs.Common.{◌≡◌, ℕ, ◌+◌, ◌<◌, ◌≤◌, Bool, true, false, cond, Some, List, [], ◌∷◌, ◌++◌, length, refl, sym, ap, ◌∙◌, arith, nat_eq, is_some, subst}
 use Rattle.std.specs.Prelude.{IsSome, nat_le, nat_lt, ◌&&◌, min, if◌then◌else◌}
 use Rattle.std.specs.Ordering.{nat_cmp}
 use Rattle.std.specs.declared.cmp.Ordering.TheVariants.{Less}
@@ -7,6 +7,7 @@ use Rattle.std.specs.Map.{keys_of}
 use Rattle.std.specs.List.{AllByRecursion, flat_map}
 use Rattle.std.specs.List.Sorted.{IsStrictlySortedBy}
 use Rattle.std.proofs.lemmas.Bool.Decides.{nat_tests}
+use Rattle.limits.specs.declared.TheConstants.{WINDOW, GREATEST_NUMBER}
 use Rattle.address.specs.Ids.{ViewId}
 use Rattle.packet_values.specs.Values.{Entry, held_at}
 use Rattle.view.specs.Members.{View}
@@ -40,7 +41,7 @@ past-key k (h ∷ held) all g found = past-by (nat_eq g h.0) k g h held refl (le
 -- a list of which all lies past the last number, as a window has it
 record Rises (s d last : ℕ) (held : List (ℕ × Entry)) : Type 0 where
   above : (g : ℕ) → IsSome (held_at g held) → last < g
-  within : (g : ℕ) → IsSome (held_at g held) → (g ≤ s + 32) × (g ≤ 2 ^ 62)
+  within : (g : ℕ) → IsSome (held_at g held) → (g ≤ s + WINDOW) × (g ≤ GREATEST_NUMBER)
   there : (g : ℕ) → last < g → g ≤ d → IsSome (held_at g held)
   rising : IsStrictlySortedBy nat_cmp (keys_of held)
 
@@ -74,10 +75,10 @@ next-is false s d last h held r low q =
     let over : h.0 < last + 1 = (rest-rises s d last h held r).above (last + 1) found in
     absurd (omega arith)
 
-highest-by : (s d last x : ℕ) → (last < d → x ≡ last + 1) → last < x → x ≤ s + 32 → x ≤ 2 ^ 62 → (nat_le (last + 1) x && nat_le x (highest_next s d last)) ≡ true
+highest-by : (s d last x : ℕ) → (last < d → x ≡ last + 1) → last < x → x ≤ s + WINDOW → x ≤ GREATEST_NUMBER → (nat_le (last + 1) x && nat_le x (highest_next s d last)) ≡ true
 highest-by s d last x next past near small = by (nat_lt last d) refl
   where
-    by : (b : Bool) → nat_lt last d ≡ b → (nat_le (last + 1) x && nat_le x (if b then last + 1 else min (s + 32) (2 ^ 62))) ≡ true
+    by : (b : Bool) → nat_lt last d ≡ b → (nat_le (last + 1) x && nat_le x (if b then last + 1 else min (s + WINDOW) GREATEST_NUMBER)) ≡ true
     by true q = let n : x ≡ last + 1 = next (grind (arith, nat_tests)) in grind (arith, nat_tests)
     by false q = grind (arith, nat_tests)
 
@@ -88,12 +89,12 @@ rises-held s d last (h ∷ held) r =
     ap (λ b. b && are_held s d h.0 held) (highest-by s d last h.0 (λ low. next-is (nat_eq (last + 1) h.0) s d last h held r low refl) (r.above h.0 (at-head h held)) w.0 w.1)
     ∙ rises-held s d h.0 held (rest-rises s d last h held r)
 
-few-held : (s d last : ℕ) (held : List (ℕ × Entry)) → Rises s d last held → last ≤ s + 32 → last + length held ≤ s + 32
+few-held : (s d last : ℕ) (held : List (ℕ × Entry)) → Rises s d last held → last ≤ s + WINDOW → last + length held ≤ s + WINDOW
 few-held s d last [] r low = omega arith
 few-held s d last (h ∷ held) r low =
     let w = r.within h.0 (at-head h held) in
     let past : last < h.0 = r.above h.0 (at-head h held) in
-    let rest : h.0 + length held ≤ s + 32 = few-held s d h.0 held (rest-rises s d last h held r) w.0 in
+    let rest : h.0 + length held ≤ s + WINDOW = few-held s d h.0 held (rest-rises s d last h held r) w.0 in
     omega arith
 
 none-above : (b : Bool) (d last : ℕ) → nat_lt last d ≡ b → (last < d → ⊥) → d ≤ last
@@ -112,19 +113,19 @@ covers s d last (h ∷ held) r = covers-by (nat_lt last d) s d last h held r ref
 window-rises : (w : WindowModel) → IsWindow w → Rises w.stable w.delivered w.stable w.held
 window-rises w i = record { above = i.above; within = λ g found. (i.within g found, i.small g found); there = i.there; rising = i.rising }
 
-delivered-near : (b : Bool) (w : WindowModel) → IsWindow w → nat_lt w.stable w.delivered ≡ b → w.delivered ≤ w.stable + 32
+delivered-near : (b : Bool) (w : WindowModel) → IsWindow w → nat_lt w.stable w.delivered ≡ b → w.delivered ≤ w.stable + WINDOW
 delivered-near true w i q = i.within w.delivered (i.there w.delivered (grind (arith, nat_tests)) (omega arith))
 delivered-near false w i q = let n : w.delivered ≤ w.stable = grind (arith, nat_tests) in omega arith
 
-filled-by : (s d n : ℕ) (c : Bool) → s ≤ d → d ≤ s + 32 → d ≤ 2 ^ 62 → n ≤ 32 → d ≤ s + n → c ≡ true
-    → (nat_le s d && nat_le d (min (s + 32) (2 ^ 62)) && nat_le n 32 && nat_le d (s + n) && c) ≡ true
+filled-by : (s d n : ℕ) (c : Bool) → s ≤ d → d ≤ s + WINDOW → d ≤ GREATEST_NUMBER → n ≤ WINDOW → d ≤ s + n → c ≡ true
+    → (nat_le s d && nat_le d (min (s + WINDOW) GREATEST_NUMBER) && nat_le n WINDOW && nat_le d (s + n) && c) ≡ true
 filled-by s d n c a b e f g h = grind (arith, nat_tests)
 
 -- what a window counts and holds is a report of a view
 pub window-reported : (id : ViewId) (w : WindowModel) → IsWindow w → is_filled (record { previous = Some id; stable = w.stable; delivered = w.delivered; held = w.held }) ≡ true
 window-reported id w i =
     let r = window-rises w i in
-    let few : w.stable + length w.held ≤ w.stable + 32 = few-held w.stable w.delivered w.stable w.held r (omega arith) in
+    let few : w.stable + length w.held ≤ w.stable + WINDOW = few-held w.stable w.delivered w.stable w.held r (omega arith) in
     filled-by w.stable w.delivered (length w.held) (are_held w.stable w.delivered w.stable w.held) i.counts (delivered-near (nat_lt w.stable w.delivered) w i refl) i.last (omega arith)
     (covers w.stable w.delivered w.stable w.held r) (rises-held w.stable w.delivered w.stable w.held r)
 
@@ -134,7 +135,7 @@ all-numbers s d last (h ∷ held) r =
     let past : last < h.0 = r.above h.0 (at-head h held) in
     ((omega arith, (r.within h.0 (at-head h held)).1), all-numbers s d h.0 held (rest-rises s d last h held r))
 
--- what a window holds is held at numbers from 1 to 2^62
+-- what a window holds is held at numbers from 1 to `GREATEST_NUMBER`
 pub window-numbers : (w : WindowModel) → IsWindow w → AllByRecursion (λ h. IsNumber h.0) w.held
 window-numbers w i = all-numbers w.stable w.delivered w.stable w.held (window-rises w i)
 

@@ -4,6 +4,7 @@ use Rattle.std.specs.Prelude.{IsSome, nat_le}
 use Rattle.std.specs.Option.{option_map_or}
 use Rattle.std.proofs.lemmas.Bool.Decides.{nat_tests}
 use Rattle.std.proofs.lemmas.List.{append-nil}
+use Rattle.limits.specs.declared.TheConstants.{WINDOW}
 use Rattle.address.specs.Ids.{Address}
 use Rattle.view.specs.Members.{View}
 use Rattle.packet_values.specs.Values.{Entry, held_at}
@@ -38,10 +39,10 @@ none-by (Some e) h = absurd (h refl)
 none-below : (w : WindowModel) (k : ℕ) → IsWindow w → k ≤ w.stable → held_at k w.held ≡ None
 none-below w k i low = none-by (held_at k w.held) (λ x. let a = i.above k x in omega (arith, a, low))
 
-none-past : (w : WindowModel) (k : ℕ) → IsWindow w → w.stable + 32 < k → held_at k w.held ≡ None
+none-past : (w : WindowModel) (k : ℕ) → IsWindow w → w.stable + WINDOW < k → held_at k w.held ≡ None
 none-past w k i high = none-by (held_at k w.held) (λ x. let a = i.within k x in omega (arith, a, high))
 
-clamped : (b : Bool) (p : Address) (v : View) (q : Address) (w : WindowModel) (first last low high g : ℕ) → IsWindow w → nat_le low (high + 1) ≡ b → first ≤ last → low ≡ max first (w.stable + 1) → high ≡ min last (w.stable + 32)
+clamped : (b : Bool) (p : Address) (v : View) (q : Address) (w : WindowModel) (first last low high g : ℕ) → IsWindow w → nat_le low (high + 1) ≡ b → first ≤ last → low ≡ max first (w.stable + 1) → high ≡ min last (w.stable + WINDOW)
     → low ≤ g → high < g → g ≤ max low (high + 1) → orders_held p v q w.held low (g - low) ≡ orders_held p v q w.held first (last + 1 - first)
 clamped true p v q w first last low high g i t order a b under over top =
     let order_in : low ≤ high + 1 = grind (arith, nat_tests) in
@@ -67,7 +68,7 @@ pub nak-next : (p : Address) (v : View) (q : Address) (held : List (ℕ × Entry
 nak-next p v q held group low g out more most under x y =
     subst (λ (l : List Posted). Grows group out most l []) (sym (split-held p v q held low (g - low) 1 g (g + 1 - low) (omega (arith, under)) (omega (arith, under)))) (grows-then group out more most _ _ [] [] x y)
 
-pub nak-all : (p : Address) (v : View) (q : Address) (w : WindowModel) (group : List ℕ) (first last low high g : ℕ) (out more : Output) → IsWindow w → first ≤ last → low ≡ max first (w.stable + 1) → high ≡ min last (w.stable + 32)
+pub nak-all : (p : Address) (v : View) (q : Address) (w : WindowModel) (group : List ℕ) (first last low high g : ℕ) (out more : Output) → IsWindow w → first ≤ last → low ≡ max first (w.stable + 1) → high ≡ min last (w.stable + WINDOW)
     → low ≤ g → high < g → g ≤ max low (high + 1) → Grows group out more (orders_held p v q w.held low (g - low)) [] → Grows group out more (orders_held p v q w.held first (last + 1 - first)) []
 nak-all p v q w group first last low high g out more i order a b under over top x =
     subst (λ (l : List Posted). Grows group out more l []) (clamped (nat_le low (high + 1)) p v q w first last low high g i refl order a b under over top) x

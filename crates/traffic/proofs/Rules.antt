@@ -1,16 +1,18 @@
 -- What holds of the coordinator between its steps, after a FORWARD, an ACK and a message of its own; and its own message is delivered at once.
-use Rattle.std.proofs.Common.{◌≡◌, ℕ, ◌+◌, ◌-◌, ◌<◌, ◌≤◌, ◌^◌, Bool, ◌||◌, ◌&&◌, true, false, cond, not, min, Option, Some, None, List, [], ◌∷◌, ◌++◌, map, length, refl, sym, ap, ◌∙◌, subst, arith, length-append, append_assoc, suc}
+use Rattle.std.proofs.Common.{◌≡◌, ℕ, ◌+◌, ◌-◌, ◌<◌, ◌≤◌, Bool, ◌||◌, ◌&&◌, true, false, cond, not, min, Option, Some, None, List, [], ◌∷◌, ◌++◌, map, length, refl, sym, ap, ◌∙◌, subst, arith, length-append, append_assoc, suc}
 use Rattle.std.specs.Prelude.{if◌then◌else◌, nat_lt, nat_eq, nat_le, slice_get}
 use Rattle.std.specs.List.{find, list_any}
 use Rattle.std.specs.Option.{option_map}
 use Rattle.std.proofs.lemmas.Bool.Decides.{nat_tests}
 use Rattle.std.proofs.lemmas.Bool.{cond-true, cond-false}
 use Rattle.std.proofs.lemmas.Option.{none-some, same_Some}
+use Rattle.limits.specs.declared.TheConstants.{OUTSTANDING, GREATEST_NUMBER, WINDOW}
 use Rattle.address.specs.Ids.{Address, same_address}
 use Rattle.view.specs.Members.{stands_in}
 use Rattle.packet_values.specs.Values.{Entry}
-use Rattle.trace_props.specs.declared.happening.Numbered.{Numbered}
-use Rattle.trace_props.specs.declared.happening.Happening.{Happening}
+use Rattle.state_transfer.specs.Meanings.{Meaning}
+use Rattle.trace_props.specs.declared.event.Numbered.{Numbered}
+use Rattle.trace_props.specs.declared.event.Event.{Event}
 use Rattle.trace_props.proofs.Observing.{same_address-refl, same_address-true}
 use Rattle.sequencer.specs.Forwards.{ForwardsModel, IsForwards, pushed, push_refusal}
 use Rattle.sequencer.specs.declared.forwards.PushRefusal.TheVariants.{Busy, Exhausted}
@@ -24,7 +26,7 @@ use Rattle.output.specs.Outputs.{Grows}
 use Rattle.traffic.specs.Coordinators.{IsCoordinator, queued, acknowledged, pushing}
 use Rattle.traffic.specs.Goings.{sending}
 use Rattle.traffic.specs.Turns.{turned, TurnsTo, Starts, Turns, Ordering, AcksOrdering, IsSettled, own_queue, own_entry, SendsOrdering, TellsAtOnce}
-use Rattle.trace_props.specs.declared.happening.Happening.TheVariants.{Sent}
+use Rattle.trace_props.specs.declared.event.Event.TheVariants.{Sent}
 use Rattle.traffic.proofs.Counting.{noted-other}
 use Rattle.traffic.proofs.Few.{collected-by, collected-least, stable-le-noted}
 
@@ -106,13 +108,13 @@ busy-by false b e = refl
 own-pushed : (p : Address) (x : List ℕ) (f : ForwardsModel) → IsForwards f → push_refusal f ≡ None → offered (f.sent + 1) x (own_queue p f) ≡ own_queue p (pushed x f)
 own-pushed p x f i free =
     let len = length f.rest in
-    let busy : nat_eq len 8 ≡ false = busy-by (nat_eq len 8) (nat_eq f.sent (2 ^ 62)) free in
-    let room : len < 8 = grind (arith, nat_tests, i.few) in
+    let busy : nat_eq len OUTSTANDING ≡ false = busy-by (nat_eq len OUTSTANDING) (nat_eq f.sent GREATEST_NUMBER) free in
+    let room : len < OUTSTANDING = grind (arith, nat_tests, i.few) in
     let a : nat_lt (f.sent - len) (f.sent + 1) ≡ true = (let k : f.sent - len < f.sent + 1 = omega arith in grind (arith, nat_tests)) in
-    let b : nat_le (f.sent + 1) (f.sent - len + 8) ≡ true = (let k : f.sent + 1 ≤ f.sent - len + 8 = omega (arith, room, i.some) in grind (arith, nat_tests)) in
+    let b : nat_le (f.sent + 1) (f.sent - len + OUTSTANDING) ≡ true = (let k : f.sent + 1 ≤ f.sent - len + OUTSTANDING = omega (arith, room, i.some) in grind (arith, nat_tests)) in
     let c : list_any (λ g. nat_eq (f.sent + 1) g.number) f.rest ≡ false = none-waits f.sent len 0 f.rest (λ k g at. i.numbered k g at ∙ (let e : f.sent + k + 1 ≡ f.sent + (0 + k) + 1 = omega arith in e)) (omega arith) in
     let t : takes (f.sent + 1) (own_queue p f) ≡ true =
-    ap (λ (z : Bool). z && nat_le (f.sent + 1) (f.sent - len + 8) && not (list_any (λ g. nat_eq (f.sent + 1) g.number) f.rest)) a
+    ap (λ (z : Bool). z && nat_le (f.sent + 1) (f.sent - len + OUTSTANDING) && not (list_any (λ g. nat_eq (f.sent + 1) g.number) f.rest)) a
     ∙ ap (λ (z : Bool). z && not (list_any (λ g. nat_eq (f.sent + 1) g.number) f.rest)) b ∙ ap not c in
     let more = f.rest ++ record { number = f.sent + 1; payload = x } ∷ [] in
     let count : f.sent - len ≡ f.sent + 1 - length more = (let k : length more ≡ len + 1 = length-append f.rest (record { number = f.sent + 1; payload = x } ∷ []) in omega (arith, k)) in
@@ -210,41 +212,41 @@ front p e a n es (Turns m k fs f x due) start = front-step e f a k (turned p f k
 
 tells-by : (es : List Entry) (p : Address) (x : List ℕ) (m a n : Coordinator) (out more : Output) → FrontIs (own_entry p m x) a n es → next_ordered a.window.stable a.orderer ≡ Some (own_entry p m x)
     → next_ordered n.window.stable n.orderer ≡ None
-    → more.happenings.items ≡ out.happenings.items ++ Sent (sending p m.view.id (m.forwards.sent + 1) x) ∷ map (delivery p m.view.id) es → TellsAtOnce p x m out more
+    → more.events.items ≡ out.events.items ++ Sent (sending p m.view.id (m.forwards.sent + 1) x) ∷ map (delivery p m.view.id) es → TellsAtOnce p x m out more
 tells-by [] p x m a n out more front start done happens =
     absurd (none-some (own_entry p m x) (sym done ∙ ap (λ (z : Coordinator). next_ordered z.window.stable z.orderer) front ∙ start))
 tells-by (e ∷ es) p x m a n out more front start done happens = record {
   rest = es;
-  happens = happens ∙ ap (λ (f : Entry). out.happenings.items ++ Sent (sending p m.view.id (m.forwards.sent + 1) x) ∷ map (delivery p m.view.id) (f ∷ es)) front;
+  happens = happens ∙ ap (λ (f : Entry). out.events.items ++ Sent (sending p m.view.id (m.forwards.sent + 1) x) ∷ map (delivery p m.view.id) (f ∷ es)) front;
 }
 
-module _ {S : Type 0} (apply : S → Address → List ℕ → S) where
+module _ {S : Type 0} (meaning : Meaning S) where
   pub sends-orders : (p : Address) (group : List ℕ) (x : List ℕ) (n : ℕ) (m a b : Coordinator) (s : S) (out between : Output) (new : Coordinator) (t : S) (more : Output) → n ≡ m.forwards.sent + 1 → a ≡ pushing x m → b ≡ queued p n x a
-      → Grows group out between [] (Sent (sending p m.view.id (m.forwards.sent + 1) x) ∷ []) → Ordering apply p group b s between new t more → SendsOrdering apply p group x m s out new t more
+      → Grows group out between [] (Sent (sending p m.view.id (m.forwards.sent + 1) x) ∷ []) → Ordering meaning p group b s between new t more → SendsOrdering meaning p group x m s out new t more
   sends-orders p group x n m a b s out between new t more number now end sent orders = record {
     between = between;
     sent = sent;
-    orders = subst (λ (z : Coordinator). Ordering apply p group z s between new t more) (end ∙ ap (λ (z : Coordinator). queued p n x z) now ∙ ap (λ (z : ℕ). queued p z x (pushing x m)) number) orders;
+    orders = subst (λ (z : Coordinator). Ordering meaning p group z s between new t more) (end ∙ ap (λ (z : Coordinator). queued p n x z) now ∙ ap (λ (z : ℕ). queued p z x (pushing x m)) number) orders;
   }
 
   pub tells-at-once : (p : Address) (group : List ℕ) (x : List ℕ) (m : Coordinator) (s : S) (out : Output) (new : Coordinator) (t : S) (more : Output) → IsForwards m.forwards → push_refusal m.forwards ≡ None → IsSettled p m
-      → next_ordered m.window.stable m.orderer ≡ None → SendsOrdering apply p group x m s out new t more → next_ordered new.window.stable new.orderer ≡ None
+      → next_ordered m.window.stable m.orderer ≡ None → SendsOrdering meaning p group x m s out new t more → next_ordered new.window.stable new.orderer ≡ None
       → may_order m.window.stable m.orderer ≡ true → TellsAtOnce p x m out more
   tells-at-once p group x m s out new t more f free z rested sends done may =
       let start = own-next p x m f free z rested may in
       let o = sends.orders in
       tells-by o.entries p x m (queued p (m.forwards.sent + 1) x (pushing x m)) new out more
       (front p (own_entry p m x) (queued p (m.forwards.sent + 1) x (pushing x m)) new o.entries o.turns start) start done
-      (o.grows.happenings ∙ ap (λ l. l ++ map (delivery p m.view.id) o.entries) sends.sent.happenings
-      ∙ append_assoc out.happenings.items (Sent (sending p m.view.id (m.forwards.sent + 1) x) ∷ []) (map (delivery p m.view.id) o.entries))
+      (o.grows.events ∙ ap (λ l. l ++ map (delivery p m.view.id) o.entries) sends.sent.events
+      ∙ append_assoc out.events.items (Sent (sending p m.view.id (m.forwards.sent + 1) x) ∷ []) (map (delivery p m.view.id) o.entries))
 
-pub few-more : (v : Happening) (out between more : List Happening) → between ≡ out ++ v ∷ [] → length more ≤ length between + 32 → length more ≤ length out + 33
+pub few-more : (v : Event) (out between more : List Event) → between ≡ out ++ v ∷ [] → length more ≤ length between + WINDOW → length more ≤ length out + (WINDOW + 1)
 few-more v out between more sent few = let k : length between ≡ length out + 1 = ap length sent ∙ length-append out (v ∷ []) in omega (arith, k, few)
 
-module _ {S : Type 0} (apply : S → Address → List ℕ → S) where
-  pub ack-ignored : (p : Address) (group : List ℕ) (q : Address) (n : ℕ) (m : Coordinator) (s : S) (out : Output) (told : ℕ) → told < n → told ≡ m.window.delivered → AcksOrdering apply p group q n m s out m s out
+module _ {S : Type 0} (meaning : Meaning S) where
+  pub ack-ignored : (p : Address) (group : List ℕ) (q : Address) (n : ℕ) (m : Coordinator) (s : S) (out : Output) (told : ℕ) → told < n → told ≡ m.window.delivered → AcksOrdering meaning p group q n m s out m s out
   ack-ignored p group q n m s out told over is = let t : nat_lt m.window.delivered n ≡ true = grind (arith, nat_tests) in rw t (refl, refl, refl)
 
   pub ack-heard : (p : Address) (group : List ℕ) (q : Address) (n : ℕ) (m a : Coordinator) (s : S) (out : Output) (new : Coordinator) (t : S) (more : Output) (told : ℕ) → n ≤ told → told ≡ m.window.delivered → a ≡ acknowledged q n m
-      → Ordering apply p group a s out new t more → next_ordered new.window.stable new.orderer ≡ None → AcksOrdering apply p group q n m s out new t more
-  ack-heard p group q n m a s out new t more told under is heard orders done = let f : nat_lt m.window.delivered n ≡ false = grind (arith, nat_tests) in rw f (subst (λ (z : Coordinator). Ordering apply p group z s out new t more) heard orders, done)
+      → Ordering meaning p group a s out new t more → next_ordered new.window.stable new.orderer ≡ None → AcksOrdering meaning p group q n m s out new t more
+  ack-heard p group q n m a s out new t more told under is heard orders done = let f : nat_lt m.window.delivered n ≡ false = grind (arith, nat_tests) in rw f (subst (λ (z : Coordinator). Ordering meaning p group z s out new t more) heard orders, done)

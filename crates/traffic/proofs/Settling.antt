@@ -10,7 +10,8 @@ use Rattle.address.specs.Ids.{Address, same_address}
 use Rattle.view.specs.Members.{stands_in, is_distinct}
 use Rattle.view.specs.View.{view_refusal}
 use Rattle.packet_values.specs.Values.{Entry}
-use Rattle.trace_props.specs.declared.happening.Numbered.{Numbered}
+use Rattle.state_transfer.specs.Meanings.{Meaning}
+use Rattle.trace_props.specs.declared.event.Numbered.{Numbered}
 use Rattle.trace_props.proofs.Observing.{same_address-refl, same_address-true}
 use Rattle.sequencer.specs.Forwards.{ForwardsModel, IsForwards, one_told}
 use Rattle.sequencer.specs.Queues.{Queue, OrdererModel, change_first, without_first, follows, has_next, next_of, entry_with, served, first_next, next_ordered, is_from}
@@ -91,11 +92,11 @@ served-own p f (q ∷ queues) e i d own next =
     let r = rest-distinct (stands_in q.sender (senders_of queues)) (is_distinct (senders_of queues)) d in
     served-own-by (has_next q) (same_address p q.sender) p f q queues e i refl refl r.0 r.1 next own (served-own p f queues e i r.1)
 
-module _ {S : Type 0} (apply : S → Address → List ℕ → S) (encode : S → List ℕ) (decode : List ℕ → Option S) where
+module _ {S : Type 0} (meaning : Meaning S) where
   pub settled-turned : (p : Address) (m : Coordinator) (e : Entry) → IsCoordinator p m → IsSettled p m → IsForwards m.forwards → m.window.stable ≤ m.window.delivered → view_refusal m.view.id m.view.members ≡ None
       → next_ordered m.window.stable m.orderer ≡ Some e → IsSettled p (turned p e m)
   settled-turned p m e i s f low sound due =
-      let z = turned-fact apply encode decode p m e i low sound due in
+      let z = turned-fact meaning p m e i low sound due in
       let g = m.window.delivered + 1 in
       let d = due-fact m e i.ordered low due in
       let there : stands_in p (members_of m.acks) ≡ true = ap (stands_in p) i.heard ∙ itself-in p m.view sound i.coordinator in
@@ -112,10 +113,10 @@ module _ {S : Type 0} (apply : S → Address → List ℕ → S) (encode : S →
 
   settled-by : (o : Option Entry) (p : Address) (group : List ℕ) (b : Bool) (m : Coordinator) (s : S) (out : Output) (new : Coordinator) (t : S) (more : Output) → IsCoordinator p m → IsSettled p m → IsForwards m.forwards
       → m.window.stable ≤ m.window.delivered → view_refusal m.view.id m.view.members ≡ None → next_ordered m.window.stable m.orderer ≡ o
-      → MatchOption o ((b ≡ false) × (new ≡ m) × (t ≡ s) × (more ≡ out)) (λ e. (b ≡ true) × TurnsOne apply p group e m s out new t more) → IsSettled p new
+      → MatchOption o ((b ≡ false) × (new ≡ m) × (t ≡ s) × (more ≡ out)) (λ e. (b ≡ true) × TurnsOne meaning p group e m s out new t more) → IsSettled p new
   settled-by None p group b m s out new t more i z f low sound due x = subst (λ (n : Coordinator). IsSettled p n) (sym x.1) z
   settled-by (Some e) p group b m s out new t more i z f low sound due x = subst (λ (n : Coordinator). IsSettled p n) (sym x.1.now) (settled-turned p m e i z f low sound due)
 
   pub settled-next : (p : Address) (group : List ℕ) (b : Bool) (m : Coordinator) (s : S) (out : Output) (new : Coordinator) (t : S) (more : Output) → IsCoordinator p m → IsSettled p m → IsForwards m.forwards
-      → m.window.stable ≤ m.window.delivered → view_refusal m.view.id m.view.members ≡ None → TurnsNext apply p group b m s out new t more → IsSettled p new
+      → m.window.stable ≤ m.window.delivered → view_refusal m.view.id m.view.members ≡ None → TurnsNext meaning p group b m s out new t more → IsSettled p new
   settled-next p group b m s out new t more i z f low sound x = settled-by (next_ordered m.window.stable m.orderer) p group b m s out new t more i z f low sound refl x

@@ -4,10 +4,12 @@ use Rattle.std.specs.Prelude.{MatchOption, MatchBool, nat_lt}
 use Rattle.std.proofs.lemmas.Bool.Decides.{nat_tests}
 use Rattle.std.proofs.lemmas.List.{append-nil, map-append, length-map}
 use Rattle.std.proofs.lemmas.List.Sums.{fold-append}
+use Rattle.limits.specs.declared.TheConstants.{WINDOW}
 use Rattle.address.specs.Ids.{Address}
 use Rattle.view.specs.Members.{View}
 use Rattle.packet_values.specs.Values.{Entry, held_at}
 use Rattle.wire.specs.declared.packet.Body.TheVariants as bodies
+use Rattle.state_transfer.specs.Meanings.{Meaning}
 use Rattle.nak_stream.specs.Windows.{IsWindow, offers}
 use Rattle.agreement.specs.Histories.{Posted}
 use Rattle.agreement.specs.Acts.{delivery}
@@ -27,13 +29,13 @@ pub record Told (p : Address) (old : Other) (entries : List Entry) (n : Other) :
   pub held : n.window.held ≡ old.window.held
   pub stable : n.window.stable ≡ old.window.stable
   pub delivered : n.window.delivered ≡ old.window.delivered + length entries
-  pub few : length entries ≤ 32
+  pub few : length entries ≤ WINDOW
 
 pub told-fact : (p : Address) (old n : Other) (entries : List Entry) → TellsTo p old entries n → IsWindow old.window → Told p old entries n
 told-fact p old n entries (Starts m) w = record { view = refl; held = refl; stable = refl; delivered = omega arith; few = omega arith }
 told-fact p old n entries (Tells m k es e x there) w =
     let y = told-fact p old k es x w in
-    let near : k.window.delivered + 1 ≤ old.window.stable + 32 =
+    let near : k.window.delivered + 1 ≤ old.window.stable + WINDOW =
     w.within (k.window.delivered + 1) (ap is_some (ap (held_at (k.window.delivered + 1)) (sym y.held) ∙ there)) in
     record {
       view = y.view;
@@ -43,85 +45,85 @@ told-fact p old n entries (Tells m k es e x there) w =
       few = simp length-append (omega (arith, near, y.delivered, w.counts));
     }
 
-module _ {S : Type 0} (apply : S → Address → List ℕ → S) where
-  pub telling-nothing : (p : Address) (group : List ℕ) (m : Other) (s : S) (out : Output) → Telling apply p group m s out m s out
+module _ {S : Type 0} (meaning : Meaning S) where
+  pub telling-nothing : (p : Address) (group : List ℕ) (m : Other) (s : S) (out : Output) → Telling meaning p group m s out m s out
   telling-nothing p group m s out = record { entries = []; tells = Starts m; state = refl; grows = grows-nothing group out; view = refl }
 
-  next-by : (o : Option Entry) (p : Address) (group : List ℕ) (told : Bool) (a b c : Other) (s t u : S) (out more most : Output) → Telling apply p group a s out b t more
-      → held_at (b.window.delivered + 1) b.window.held ≡ o → MatchOption o ((told ≡ false) × (c ≡ b) × (u ≡ t) × (most ≡ more)) (λ e. (told ≡ true) × TellsOne apply p group e b t more c u most)
-      → Telling apply p group a s out c u most
+  next-by : (o : Option Entry) (p : Address) (group : List ℕ) (told : Bool) (a b c : Other) (s t u : S) (out more most : Output) → Telling meaning p group a s out b t more
+      → held_at (b.window.delivered + 1) b.window.held ≡ o → MatchOption o ((told ≡ false) × (c ≡ b) × (u ≡ t) × (most ≡ more)) (λ e. (told ≡ true) × TellsOne meaning p group e b t more c u most)
+      → Telling meaning p group a s out c u most
   next-by None p group told a b c s t u out more most x there y =
-      subst (λ (n : Other). Telling apply p group a s out n u most) (sym y.1) (subst (λ (z : S). Telling apply p group a s out b z most) (sym y.2)
-      (subst (λ (o : Output). Telling apply p group a s out b t o) (sym y.3) x))
+      subst (λ (n : Other). Telling meaning p group a s out n u most) (sym y.1) (subst (λ (z : S). Telling meaning p group a s out b z most) (sym y.2)
+      (subst (λ (o : Output). Telling meaning p group a s out b t o) (sym y.3) x))
   next-by (Some e) p group told a b c s t u out more most x there y =
       let z = y.1 in
       record {
         entries = x.entries ++ e ∷ [];
         tells = subst (λ (n : Other). TellsTo p a (x.entries ++ e ∷ []) n) (sym z.now) (Tells a b x.entries e x.tells there);
-        state = z.state ∙ ap (λ (r : S). apply r e.sender e.payload) x.state ∙ sym (fold-append (λ r f. apply r f.sender f.payload) s x.entries (e ∷ []));
+        state = z.state ∙ ap (λ (r : S). meaning.apply r e.sender e.payload) x.state ∙ sym (fold-append (λ r f. meaning.apply r f.sender f.payload) s x.entries (e ∷ []));
         grows = subst (λ l. Grows group out most [] l) (sym (map-append (delivery p a.view.id) x.entries (e ∷ [])))
             (grows-then group out more most [] [] _ _ x.grows (subst (λ (v : View). Grows group more most [] (delivery p v.id e ∷ [])) x.view z.grows));
         view = ap (λ (n : Other). n.view) z.now ∙ x.view;
       }
 
-  pub telling-then : (p : Address) (group : List ℕ) (told : Bool) (a b c : Other) (s t u : S) (out more most : Output) → Telling apply p group a s out b t more
-      → MatchOption (held_at (b.window.delivered + 1) b.window.held) ((told ≡ false) × (c ≡ b) × (u ≡ t) × (most ≡ more)) (λ e. (told ≡ true) × TellsOne apply p group e b t more c u most)
-      → Telling apply p group a s out c u most
+  pub telling-then : (p : Address) (group : List ℕ) (told : Bool) (a b c : Other) (s t u : S) (out more most : Output) → Telling meaning p group a s out b t more
+      → MatchOption (held_at (b.window.delivered + 1) b.window.held) ((told ≡ false) × (c ≡ b) × (u ≡ t) × (most ≡ more)) (λ e. (told ≡ true) × TellsOne meaning p group e b t more c u most)
+      → Telling meaning p group a s out c u most
   telling-then p group told a b c s t u out more most x y = next-by (held_at (b.window.delivered + 1) b.window.held) p group told a b c s t u out more most x refl y
 
-  pub telling-few : (p : Address) (group : List ℕ) (m : Other) (s : S) (out : Output) (n : Other) (t : S) (more : Output) → IsWindow m.window → Telling apply p group m s out n t more → IsFew out more
+  pub telling-few : (p : Address) (group : List ℕ) (m : Other) (s : S) (out : Output) (n : Other) (t : S) (more : Output) → IsWindow m.window → Telling meaning p group m s out n t more → IsFew out more
   telling-few p group m s out n t more w x =
       let k = (told-fact p m n x.entries x.tells w).few in
-      let grown : length more.happenings.items ≡ length out.happenings.items + length x.entries =
-      ap length x.grows.happenings ∙ length-append out.happenings.items (map (delivery p m.view.id) x.entries)
-      ∙ ap (λ j. length out.happenings.items + j) (length-map x.entries (delivery p m.view.id)) in
+      let grown : length more.events.items ≡ length out.events.items + length x.entries =
+      ap length x.grows.events ∙ length-append out.events.items (map (delivery p m.view.id) x.entries)
+      ∙ ap (λ j. length out.events.items + j) (length-map x.entries (delivery p m.view.id)) in
       omega (arith, k, grown)
 
   -- ---- an ORDER
 
-  pub order-ignored : (p : Address) (group : List ℕ) (g : ℕ) (e : Entry) (m : Other) (s : S) (out : Output) (before : ℕ) → before < g - 32 → before ≡ m.window.delivered → TakesOrder apply p group g e m s out m s out
-  order-ignored p group g e m s out before far is = let t : nat_lt m.window.delivered (g - 32) ≡ true = grind (arith, nat_tests) in rw t (refl, refl, refl)
+  pub order-ignored : (p : Address) (group : List ℕ) (g : ℕ) (e : Entry) (m : Other) (s : S) (out : Output) (before : ℕ) → before < g - WINDOW → before ≡ m.window.delivered → TakesOrder meaning p group g e m s out m s out
+  order-ignored p group g e m s out before far is = let t : nat_lt m.window.delivered (g - WINDOW) ≡ true = grind (arith, nat_tests) in rw t (refl, refl, refl)
 
-  pub order-taken : (p : Address) (group : List ℕ) (g : ℕ) (e : Entry) (m a b : Other) (s : S) (out : Output) (n : Other) (t : S) (between more : Output) (before : ℕ) (new : Bool) → g - 32 ≤ before → before ≡ m.window.delivered
-      → a ≡ collected_to (g - 32) m → new ≡ offers g a.window → b ≡ held_too g e a → Telling apply p group b s out n t between → held_at (n.window.delivered + 1) n.window.held ≡ None
-      → AnswersOrder p group before new g n between more → TakesOrder apply p group g e m s out n t more
+  pub order-taken : (p : Address) (group : List ℕ) (g : ℕ) (e : Entry) (m a b : Other) (s : S) (out : Output) (n : Other) (t : S) (between more : Output) (before : ℕ) (new : Bool) → g - WINDOW ≤ before → before ≡ m.window.delivered
+      → a ≡ collected_to (g - WINDOW) m → new ≡ offers g a.window → b ≡ held_too g e a → Telling meaning p group b s out n t between → held_at (n.window.delivered + 1) n.window.held ≡ None
+      → AnswersOrder p group before new g n between more → TakesOrder meaning p group g e m s out n t more
   order-taken p group g e m a b s out n t between more before new near is now fresh after tells ready answers =
-      let f : nat_lt m.window.delivered (g - 32) ≡ false = grind (arith, nat_tests) in
-      let taken : TakesNear apply p group g e m s out n t more = record {
+      let f : nat_lt m.window.delivered (g - WINDOW) ≡ false = grind (arith, nat_tests) in
+      let taken : TakesNear meaning p group g e m s out n t more = record {
         between = between;
-        tells = subst (λ (z : Other). Telling apply p group z s out n t between) (after ∙ ap (held_too g e) now) tells;
+        tells = subst (λ (z : Other). Telling meaning p group z s out n t between) (after ∙ ap (held_too g e) now) tells;
         ready = ready;
         answers = subst (λ (z : Bool). AnswersOrder p group m.window.delivered z g n between more) (fresh ∙ ap (λ (z : Other). offers g z.window) now)
             (subst (λ (z : ℕ). AnswersOrder p group z new g n between more) is answers);
       } in
       rw f taken
 
-module _ {S : Type 0} (apply : S → Address → List ℕ → S) (encode : S → List ℕ) (decode : List ℕ → Option S) where
+module _ {S : Type 0} (meaning : Meaning S) where
   pub asks-goes : (came : Option Posted) (p : Address) (group : List ℕ) (g : ℕ) (m : Other) (s : S) (out more : Output) → AsksUpTo p group g m out more
-      → OtherGoes apply encode decode came p group m s out m s more
-  asks-goes came p group g m s out more (inl x) = puts-goes apply encode decode came p group m s out more m.view.id.creator (bodies.Nak m.view.id x.missing) (λ kept. tt) x.grows
-  asks-goes came p group g m s out more (inr x) = subst (λ (o : Output). OtherGoes apply encode decode came p group m s out m s o) (sym x.1) (other-nothing apply encode decode came p group m s out)
+      → OtherGoes meaning came p group m s out m s more
+  asks-goes came p group g m s out more (inl x) = puts-goes meaning came p group m s out more m.view.id.creator (bodies.Nak m.view.id x.missing) (λ kept. tt) x.grows
+  asks-goes came p group g m s out more (inr x) = subst (λ (o : Output). OtherGoes meaning came p group m s out m s o) (sym x.1) (other-nothing meaning came p group m s out)
 
   answers-by : (b c : Bool) (came : Option Posted) (p : Address) (group : List ℕ) (g : ℕ) (m : Other) (s : S) (out more : Output)
-      → MatchBool b (Grows group out more (ack_of p m ∷ []) []) (MatchBool c (AsksUpTo p group g m out more) (more ≡ out)) → OtherGoes apply encode decode came p group m s out m s more
-  answers-by true c came p group g m s out more x = puts-goes apply encode decode came p group m s out more m.view.id.creator (bodies.Ack m.view.id m.window.delivered) (λ kept. (refl, omega arith)) x
+      → MatchBool b (Grows group out more (ack_of p m ∷ []) []) (MatchBool c (AsksUpTo p group g m out more) (more ≡ out)) → OtherGoes meaning came p group m s out m s more
+  answers-by true c came p group g m s out more x = puts-goes meaning came p group m s out more m.view.id.creator (bodies.Ack m.view.id m.window.delivered) (λ kept. (refl, omega arith)) x
   answers-by false true came p group g m s out more x = asks-goes came p group g m s out more x
-  answers-by false false came p group g m s out more x = subst (λ (o : Output). OtherGoes apply encode decode came p group m s out m s o) (sym x) (other-nothing apply encode decode came p group m s out)
+  answers-by false false came p group g m s out more x = subst (λ (o : Output). OtherGoes meaning came p group m s out m s o) (sym x) (other-nothing meaning came p group m s out)
 
   pub answers-goes : (came : Option Posted) (p : Address) (group : List ℕ) (before : ℕ) (new : Bool) (g : ℕ) (a m : Other) (s t : S) (out more most : Output)
-      → OtherGoes apply encode decode came p group a s out m t more → AnswersOrder p group before new g m more most → OtherGoes apply encode decode came p group a s out m t most
+      → OtherGoes meaning came p group a s out m t more → AnswersOrder p group before new g m more most → OtherGoes meaning came p group a s out m t most
   answers-goes came p group before new g a m s t out more most x y =
-      other-then apply encode decode came p group a m m s t t out more most x (answers-by (nat_lt before m.window.delivered) new came p group g m t more most y)
+      other-then meaning came p group a m m s t t out more most x (answers-by (nat_lt before m.window.delivered) new came p group g m t more most y)
 
-asks-few : (p : Address) (group : List ℕ) (g : ℕ) (m : Other) (out more : Output) → AsksUpTo p group g m out more → length more.happenings.items ≡ length out.happenings.items
-asks-few p group g m out more (inl x) = ap length (x.grows.happenings ∙ append-nil out.happenings.items)
-asks-few p group g m out more (inr x) = ap (λ (o : Output). length o.happenings.items) x.1
+asks-few : (p : Address) (group : List ℕ) (g : ℕ) (m : Other) (out more : Output) → AsksUpTo p group g m out more → length more.events.items ≡ length out.events.items
+asks-few p group g m out more (inl x) = ap length (x.grows.events ∙ append-nil out.events.items)
+asks-few p group g m out more (inr x) = ap (λ (o : Output). length o.events.items) x.1
 
 pub answers-few : (b c : Bool) (p : Address) (group : List ℕ) (g : ℕ) (m : Other) (out more : Output)
-    → MatchBool b (Grows group out more (ack_of p m ∷ []) []) (MatchBool c (AsksUpTo p group g m out more) (more ≡ out)) → length more.happenings.items ≡ length out.happenings.items
-answers-few true c p group g m out more x = ap length (x.happenings ∙ append-nil out.happenings.items)
+    → MatchBool b (Grows group out more (ack_of p m ∷ []) []) (MatchBool c (AsksUpTo p group g m out more) (more ≡ out)) → length more.events.items ≡ length out.events.items
+answers-few true c p group g m out more x = ap length (x.events ∙ append-nil out.events.items)
 answers-few false true p group g m out more x = asks-few p group g m out more x
-answers-few false false p group g m out more x = ap (λ (o : Output). length o.happenings.items) x
+answers-few false false p group g m out more x = ap (λ (o : Output). length o.events.items) x
 
 pub order-few : (p : Address) (group : List ℕ) (before : ℕ) (new : Bool) (g : ℕ) (m : Other) (out more most : Output) → IsFew out more → AnswersOrder p group before new g m more most → IsFew out most
 order-few p group before new g m out more most x y = let k = answers-few (nat_lt before m.window.delivered) new p group g m more most y in omega (arith, x, k)

@@ -10,6 +10,7 @@ use Rattle.address.specs.Ids.{Address}
 use Rattle.view.specs.Members.{View}
 use Rattle.packet_values.specs.Values.{Entry}
 use Rattle.wire.specs.declared.packet.Body.TheVariants as bodies
+use Rattle.state_transfer.specs.Meanings.{Meaning}
 use Rattle.sequencer.specs.Queues.{next_ordered, ordering, OrdererModel, change_first, has_next, served}
 use Rattle.agreement.specs.Histories.{Posted}
 use Rattle.agreement.specs.Acts.{packet, others_of, delivery}
@@ -41,24 +42,24 @@ next-none : (k : ℕ) (o : Option Entry) → ◌≡◌ {A = Option (ℕ × Entry
 next-none k None e = refl
 next-none k (Some x) e = absurd (none-some (k, x) e)
 
-module _ {S : Type 0} (apply : S → Address → List ℕ → S) where
+module _ {S : Type 0} (meaning : Meaning S) where
   pub turn-does : (p : Address) (group : List ℕ) (next : Option (ℕ × Entry)) (n : ℕ × Entry) (m : Coordinator) (s : S) (out : Output) (new : Coordinator) (t : S) (more most : Output)
-      (told : ℕ) (last : Coordinator) → MatchOption next ((new ≡ m) × (t ≡ s) × (more ≡ out)) (λ n. OrdersOne apply p group n m s out new t more)
+      (told : ℕ) (last : Coordinator) → MatchOption next ((new ≡ m) × (t ≡ s) × (more ≡ out)) (λ n. OrdersOne meaning p group n m s out new t more)
       → next ≡ option_map (λ e. (m.orderer.ordered + 1, e)) (next_ordered m.window.stable m.orderer) → next ≡ Some n
       → Grows group more most (map (packet p (bodies.Order new.view.id n.0 n.1)) (others_of p new.view.members)) [] → told ≡ new.window.delivered → last ≡ acknowledged p told new
-      → TurnsNext apply p group true m s out last t most
+      → TurnsNext meaning p group true m s out last t most
   turn-does p group next n m s out new t more most told last does is some puts same end =
       let k = m.orderer.ordered + 1 in
-      let x : OrdersOne apply p group n m s out new t more =
-      subst (λ (o : Option (ℕ × Entry)). MatchOption o ((new ≡ m) × (t ≡ s) × (more ≡ out)) (λ z. OrdersOne apply p group z m s out new t more)) some does in
+      let x : OrdersOne meaning p group n m s out new t more =
+      subst (λ (o : Option (ℕ × Entry)). MatchOption o ((new ≡ m) × (t ≡ s) × (more ≡ out)) (λ z. OrdersOne meaning p group z m s out new t more)) some does in
       let y = next-is k (next_ordered m.window.stable m.orderer) n (sym some ∙ is) in
-      let z : OrdersOne apply p group (k, n.1) m s out new t more = subst (λ (z : ℕ × Entry). OrdersOne apply p group z m s out new t more) y.0 x in
+      let z : OrdersOne meaning p group (k, n.1) m s out new t more = subst (λ (z : ℕ × Entry). OrdersOne meaning p group z m s out new t more) y.0 x in
       let e = n.1 in
       let next = after_one p (k, e) m in
       let announced : Grows group more most (order_of p m.view k e) [] =
       subst (λ (z : Coordinator). Grows group more most (order_of p z.view k e) []) z.now
       (subst (λ (z : ℕ × Entry). Grows group more most (map (packet p (bodies.Order new.view.id z.0 z.1)) (others_of p new.view.members)) []) y.0 puts) in
-      subst (λ (o : Option Entry). MatchOption o ((true ≡ false) × (last ≡ m) × (t ≡ s) × (most ≡ out)) (λ e. (true ≡ true) × TurnsOne apply p group e m s out last t most)) (sym y.1) (
+      subst (λ (o : Option Entry). MatchOption o ((true ≡ false) × (last ≡ m) × (t ≡ s) × (most ≡ out)) (λ e. (true ≡ true) × TurnsOne meaning p group e m s out last t most)) (sym y.1) (
         refl,
         record {
           now = end ∙ ap (λ (j : ℕ). acknowledged p j new) same ∙ ap (λ (z : Coordinator). acknowledged p z.window.delivered z) z.now;
@@ -68,15 +69,15 @@ module _ {S : Type 0} (apply : S → Address → List ℕ → S) where
       )
 
   pub rest-does : (p : Address) (group : List ℕ) (next : Option (ℕ × Entry)) (m : Coordinator) (s : S) (out : Output) (new : Coordinator) (t : S) (more : Output)
-      → MatchOption next ((new ≡ m) × (t ≡ s) × (more ≡ out)) (λ n. OrdersOne apply p group n m s out new t more)
+      → MatchOption next ((new ≡ m) × (t ≡ s) × (more ≡ out)) (λ n. OrdersOne meaning p group n m s out new t more)
       → next ≡ option_map (λ e. (m.orderer.ordered + 1, e)) (next_ordered m.window.stable m.orderer) → next ≡ None
-      → TurnsNext apply p group false m s out new t more
+      → TurnsNext meaning p group false m s out new t more
   rest-does p group next m s out new t more does is none =
-      let x = subst (λ (o : Option (ℕ × Entry)). MatchOption o ((new ≡ m) × (t ≡ s) × (more ≡ out)) (λ z. OrdersOne apply p group z m s out new t more)) none does in
-      subst (λ (o : Option Entry). MatchOption o ((false ≡ false) × (new ≡ m) × (t ≡ s) × (more ≡ out)) (λ e. (false ≡ true) × TurnsOne apply p group e m s out new t more))
+      let x = subst (λ (o : Option (ℕ × Entry)). MatchOption o ((new ≡ m) × (t ≡ s) × (more ≡ out)) (λ z. OrdersOne meaning p group z m s out new t more)) none does in
+      subst (λ (o : Option Entry). MatchOption o ((false ≡ false) × (new ≡ m) × (t ≡ s) × (more ≡ out)) (λ e. (false ≡ true) × TurnsOne meaning p group e m s out new t more))
       (sym (next-none (m.orderer.ordered + 1) (next_ordered m.window.stable m.orderer) (sym none ∙ is))) (refl, x.0, x.1, x.2)
 
-  pub ordering-nothing : (p : Address) (group : List ℕ) (m : Coordinator) (s : S) (out : Output) → Ordering apply p group m s out m s out
+  pub ordering-nothing : (p : Address) (group : List ℕ) (m : Coordinator) (s : S) (out : Output) → Ordering meaning p group m s out m s out
   ordering-nothing p group m s out = record {
     entries = [];
     turns = Starts m;
@@ -87,15 +88,15 @@ module _ {S : Type 0} (apply : S → Address → List ℕ → S) where
     heard = λ q other. refl;
   }
 
-  one-more : (p : Address) (group : List ℕ) (a b c : Coordinator) (s t u : S) (out more most : Output) (e : Entry) → Ordering apply p group a s out b t more
-      → next_ordered b.window.stable b.orderer ≡ Some e → TurnsOne apply p group e b t more c u most → Ordering apply p group a s out c u most
+  one-more : (p : Address) (group : List ℕ) (a b c : Coordinator) (s t u : S) (out more most : Output) (e : Entry) → Ordering meaning p group a s out b t more
+      → next_ordered b.window.stable b.orderer ≡ Some e → TurnsOne meaning p group e b t more c u most → Ordering meaning p group a s out c u most
   one-more p group a b c s t u out more most e x due y =
       let moved : c.orderer ≡ record { ordered = b.orderer.ordered + 1; queues = change_first has_next served b.orderer.queues } = ap (λ (n : Coordinator). n.orderer) y.now ∙ one-ordered p b e due in
       let place : b.orderer.ordered + 1 ≡ a.orderer.ordered + length x.entries + 1 = omega (arith, x.ordered) in
       record {
         entries = x.entries ++ e ∷ [];
         turns = subst (λ (n : Coordinator). TurnsTo p a (x.entries ++ e ∷ []) n) (sym y.now) (Turns a b x.entries e x.turns due);
-        state = y.state ∙ ap (λ (z : S). apply z e.sender e.payload) x.state ∙ sym (fold-append (λ z f. apply z f.sender f.payload) s x.entries (e ∷ []));
+        state = y.state ∙ ap (λ (z : S). meaning.apply z e.sender e.payload) x.state ∙ sym (fold-append (λ z f. meaning.apply z f.sender f.payload) s x.entries (e ∷ []));
         grows = subst (λ (l : List Posted). Grows group out most l (map (delivery p a.view.id) (x.entries ++ e ∷ []))) (sym (orders-one p a.view a.orderer.ordered x.entries e))
             (subst (λ l. Grows group out most (orders_of p a.view a.orderer.ordered x.entries ++ order_of p a.view (a.orderer.ordered + length x.entries + 1) e) l) (sym (map-append (delivery p a.view.id) x.entries (e ∷ [])))
             (grows-then group out more most _ _ _ _ x.grows
@@ -106,14 +107,14 @@ module _ {S : Type 0} (apply : S → Address → List ℕ → S) where
         heard = λ q other. ap (λ (n : Coordinator). count_of q n.acks) y.now ∙ noted-other q p _ b.acks other ∙ x.heard q other;
       }
 
-  next-by : (o : Option Entry) (p : Address) (group : List ℕ) (more_so : Bool) (a b c : Coordinator) (s t u : S) (out more most : Output) → Ordering apply p group a s out b t more
-      → next_ordered b.window.stable b.orderer ≡ o → MatchOption o ((more_so ≡ false) × (c ≡ b) × (u ≡ t) × (most ≡ more)) (λ e. (more_so ≡ true) × TurnsOne apply p group e b t more c u most)
-      → Ordering apply p group a s out c u most
+  next-by : (o : Option Entry) (p : Address) (group : List ℕ) (more_so : Bool) (a b c : Coordinator) (s t u : S) (out more most : Output) → Ordering meaning p group a s out b t more
+      → next_ordered b.window.stable b.orderer ≡ o → MatchOption o ((more_so ≡ false) × (c ≡ b) × (u ≡ t) × (most ≡ more)) (λ e. (more_so ≡ true) × TurnsOne meaning p group e b t more c u most)
+      → Ordering meaning p group a s out c u most
   next-by None p group more_so a b c s t u out more most x due y =
-      subst (λ (n : Coordinator). Ordering apply p group a s out n u most) (sym y.1) (subst (λ (z : S). Ordering apply p group a s out b z most) (sym y.2)
-      (subst (λ (o : Output). Ordering apply p group a s out b t o) (sym y.3) x))
+      subst (λ (n : Coordinator). Ordering meaning p group a s out n u most) (sym y.1) (subst (λ (z : S). Ordering meaning p group a s out b z most) (sym y.2)
+      (subst (λ (o : Output). Ordering meaning p group a s out b t o) (sym y.3) x))
   next-by (Some e) p group more_so a b c s t u out more most x due y = one-more p group a b c s t u out more most e x due y.1
 
-  pub ordering-then : (p : Address) (group : List ℕ) (more_so : Bool) (a b c : Coordinator) (s t u : S) (out more most : Output) → Ordering apply p group a s out b t more
-      → TurnsNext apply p group more_so b t more c u most → Ordering apply p group a s out c u most
+  pub ordering-then : (p : Address) (group : List ℕ) (more_so : Bool) (a b c : Coordinator) (s t u : S) (out more most : Output) → Ordering meaning p group a s out b t more
+      → TurnsNext meaning p group more_so b t more c u most → Ordering meaning p group a s out c u most
   ordering-then p group more_so a b c s t u out more most x y = next-by (next_ordered b.window.stable b.orderer) p group more_so a b c s t u out more most x refl y

@@ -1,8 +1,9 @@
 -- The window in the words of agreement.
-use Rattle.std.proofs.Common.{◌≡◌, ℕ, ◌+◌, ◌<◌, ◌≤◌, ◌^◌, Bool, ◌&&◌, true, false, cond, not, Option, Some, None, List, refl, ap, ◌∙◌, arith, is_some, nat_eq}
+use Rattle.std.proofs.Common.{◌≡◌, ℕ, ◌+◌, ◌<◌, ◌≤◌, Bool, ◌&&◌, true, false, cond, not, Option, Some, None, List, refl, ap, ◌∙◌, arith, is_some, nat_eq}
 use Rattle.std.specs.Prelude.{nat_lt, nat_le}
 use Rattle.std.proofs.lemmas.Bool.Decides.{nat_tests}
 use Rattle.std.proofs.lemmas.Bool.{cond-true}
+use Rattle.limits.specs.declared.TheConstants.{WINDOW, GREATEST_NUMBER}
 use Rattle.packet_values.specs.Values.{Entry, held_at}
 use Rattle.nak_stream.specs.Windows.{WindowModel, held_with, held_above, offers, taken, delivering}
 use Rattle.nak_stream.proofs.Windows.{held_at-with, held_at-above}
@@ -29,17 +30,17 @@ holds-above t held = record {
 
 -- ---- an entry comes at the number after the delivered ones, and is delivered
 
-offers-next : (w : WindowModel) → w.delivered < w.stable + 32 → w.delivered < 2 ^ 62 → held_at (w.delivered + 1) w.held ≡ None → offers (w.delivered + 1) w ≡ true
+offers-next : (w : WindowModel) → w.delivered < w.stable + WINDOW → w.delivered < GREATEST_NUMBER → held_at (w.delivered + 1) w.held ≡ None → offers (w.delivered + 1) w ≡ true
 offers-next w room small free =
     let a : nat_lt w.delivered (w.delivered + 1) ≡ true = grind (arith, nat_tests) in
-    let b : nat_le (w.delivered + 1) (w.stable + 32) ≡ true = grind (arith, nat_tests) in
-    let c : nat_le (w.delivered + 1) (2 ^ 62) ≡ true = grind (arith, nat_tests) in
-    ap (λ (x : Bool). x && nat_le (w.delivered + 1) (w.stable + 32) && nat_le (w.delivered + 1) (2 ^ 62) && not (is_some (held_at (w.delivered + 1) w.held))) a
-    ∙ ap (λ (x : Bool). x && nat_le (w.delivered + 1) (2 ^ 62) && not (is_some (held_at (w.delivered + 1) w.held))) b
+    let b : nat_le (w.delivered + 1) (w.stable + WINDOW) ≡ true = grind (arith, nat_tests) in
+    let c : nat_le (w.delivered + 1) GREATEST_NUMBER ≡ true = grind (arith, nat_tests) in
+    ap (λ (x : Bool). x && nat_le (w.delivered + 1) (w.stable + WINDOW) && nat_le (w.delivered + 1) GREATEST_NUMBER && not (is_some (held_at (w.delivered + 1) w.held))) a
+    ∙ ap (λ (x : Bool). x && nat_le (w.delivered + 1) GREATEST_NUMBER && not (is_some (held_at (w.delivered + 1) w.held))) b
     ∙ ap (λ (x : Bool). x && not (is_some (held_at (w.delivered + 1) w.held))) c
     ∙ ap (λ (o : Option Entry). not (is_some o)) free
 
-pub next-taken : (w : WindowModel) (e : Entry) → w.delivered < w.stable + 32 → w.delivered < 2 ^ 62 → held_at (w.delivered + 1) w.held ≡ None
+pub next-taken : (w : WindowModel) (e : Entry) → w.delivered < w.stable + WINDOW → w.delivered < GREATEST_NUMBER → held_at (w.delivered + 1) w.held ≡ None
     → delivering (taken (w.delivered + 1) e w) ≡ record { stable = w.stable; delivered = w.delivered + 1; held = held_with (w.delivered + 1) e w.held }
 next-taken w e room small free =
     let g = w.delivered + 1 in

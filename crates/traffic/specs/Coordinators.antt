@@ -2,6 +2,7 @@
 use Rattle.std.specs.Prelude.{◌≡◌, ℕ, ◌<◌, true, List, [], ◌∷◌, None}
 use Rattle.address.specs.Ids.{Address, same_address}
 use Rattle.packet_values.specs.Values.{Entry, held_at}
+use Rattle.state_transfer.specs.Meanings.{Meaning}
 use Rattle.nak_stream.specs.Windows.{taken, delivering, collected}
 use Rattle.sequencer.specs.Forwards.{pushed}
 use Rattle.sequencer.specs.Queues.{ordering, forwarded}
@@ -35,9 +36,9 @@ after_one p n m = record m {
   orderer = ordering m.window.stable m.orderer;
 }
 
-pub record OrdersOne {S : Type 0} (apply : S → Address → List ℕ → S) (p : Address) (group : List ℕ) (n : ℕ × Entry) (old : Coordinator) (s : S) (out : Output) (new : Coordinator) (t : S) (more : Output) : Type 0 where
+pub record OrdersOne {S : Type 0} (meaning : Meaning S) (p : Address) (group : List ℕ) (n : ℕ × Entry) (old : Coordinator) (s : S) (out : Output) (new : Coordinator) (t : S) (more : Output) : Type 0 where
   pub now : new ≡ after_one p n old
-  pub state : t ≡ apply s n.1.sender n.1.payload
+  pub state : t ≡ meaning.apply s n.1.sender n.1.payload
   pub grows : Grows group out more [] (delivery p old.view.id n.1 ∷ [])
 
 -- an acknowledgement was taken, and what is stable let go of

@@ -3,8 +3,9 @@ use Rattle.std.specs.Prelude.{◌≡◌, ℕ, true, List, Option, Some, None}
 use Rattle.address.specs.Ids.{Address, ViewId}
 use Rattle.view.specs.Members.{View}
 use Rattle.wire.specs.Values as wire
-use Rattle.trace_props.specs.declared.happening.Happening.{Happening}
-use Rattle.trace_props.specs.declared.happening.Sending.{Sending}
+use Rattle.state_transfer.specs.Meanings.{Meaning}
+use Rattle.trace_props.specs.declared.event.Event.{Event}
+use Rattle.trace_props.specs.declared.event.Sending.{Sending}
 use Rattle.agreement.specs.Histories.{Posted}
 use Rattle.agreement.specs.Chains.{Acted}
 use Rattle.agreement.specs.Cores.{Traffic, Core}
@@ -30,24 +31,24 @@ open_core p v kept t s = record {
 }
 
 -- on a packet that came, a member that is open in a view went on so, by acts alone; what it keeps of its installs does not matter
-pub record Goes {S : Type 0} (apply : S → Address → List ℕ → S) (encode : S → List ℕ) (decode : List ℕ → Option S) (came : Option Posted) (p : Address) (group : List ℕ) (v : View)
+pub record Goes {S : Type 0} (meaning : Meaning S) (came : Option Posted) (p : Address) (group : List ℕ) (v : View)
     (old : Traffic) (s : S) (out : Output) (new : Traffic) (t : S) (more : Output) : Type 0 where
   pub posted : List Posted
-  pub happened : List Happening
-  pub acted : (kept : List (Address × wire.Install)) → Acted apply encode decode came (Some (open_core p v kept old s)) posted happened (Some (open_core p v kept new t))
+  pub happened : List Event
+  pub acted : (kept : List (Address × wire.Install)) → Acted meaning came (Some (open_core p v kept old s)) posted happened (Some (open_core p v kept new t))
   pub grows : Grows group out more posted happened
 
 -- the coordinator went on so, in its view, and is still what a coordinator is
-pub record CoordinatorGoes {S : Type 0} (apply : S → Address → List ℕ → S) (encode : S → List ℕ) (decode : List ℕ → Option S) (came : Option Posted) (p : Address) (group : List ℕ)
+pub record CoordinatorGoes {S : Type 0} (meaning : Meaning S) (came : Option Posted) (p : Address) (group : List ℕ)
     (old : Coordinator) (s : S) (out : Output) (new : Coordinator) (t : S) (more : Output) : Type 0 where
-  pub goes : Goes apply encode decode came p group old.view (coordinator_traffic old) s out (coordinator_traffic new) t more
+  pub goes : Goes meaning came p group old.view (coordinator_traffic old) s out (coordinator_traffic new) t more
   pub view : new.view ≡ old.view
   pub coordinator : IsCoordinator p new
 
 -- another member went on so, in its view
-abbrev pub OtherGoes : {S : Type 0} → (S → Address → List ℕ → S) → (S → List ℕ) → (List ℕ → Option S) → Option Posted → Address → List ℕ → Other → S → Output → Other → S → Output → Type 0
-OtherGoes apply encode decode came p group old s out new t more =
-    Goes apply encode decode came p group old.view (other_traffic old) s out (other_traffic new) t more × (new.view ≡ old.view)
+abbrev pub OtherGoes : {S : Type 0} → Meaning S → Option Posted → Address → List ℕ → Other → S → Output → Other → S → Output → Type 0
+OtherGoes meaning came p group old s out new t more =
+    Goes meaning came p group old.view (other_traffic old) s out (other_traffic new) t more × (new.view ≡ old.view)
 
 -- a message that is sent, as it happens
 abbrev pub sending : Address → ViewId → ℕ → List ℕ → Sending

@@ -3,6 +3,7 @@ use Rattle.std.specs.Prelude.{◌≡◌, ℕ, ◌+◌, List, [], ◌∷◌, Opti
 use Rattle.address.specs.Ids.{Address}
 use Rattle.view.specs.Members.{View}
 use Rattle.packet_values.specs.Values.{Entry}
+use Rattle.state_transfer.specs.Meanings.{Meaning}
 use Rattle.nak_stream.specs.Windows.{taken, collected}
 use Rattle.agreement.specs.Histories.{Posted}
 use Rattle.agreement.specs.Acts.{delivery, packet}
@@ -13,9 +14,9 @@ use Rattle.output.specs.Outputs.{Grows}
 use Rattle.traffic.specs.Traffics.{told_to}
 
 -- it delivers the next message that it holds
-pub record TellsOne {S : Type 0} (apply : S → Address → List ℕ → S) (p : Address) (group : List ℕ) (e : Entry) (old : Other) (s : S) (out : Output) (new : Other) (t : S) (more : Output) : Type 0 where
+pub record TellsOne {S : Type 0} (meaning : Meaning S) (p : Address) (group : List ℕ) (e : Entry) (old : Other) (s : S) (out : Output) (new : Other) (t : S) (more : Output) : Type 0 where
   pub now : new ≡ record old { window = record (old.window) { delivered = old.window.delivered + 1 }; forwards = told_to p e old.forwards }
-  pub state : t ≡ apply s e.sender e.payload
+  pub state : t ≡ meaning.apply s e.sender e.payload
   pub grows : Grows group out more [] (delivery p old.view.id e ∷ [])
 
 abbrev pub collected_to : ℕ → Other → Other

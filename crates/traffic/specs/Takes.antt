@@ -1,18 +1,20 @@
 -- What another member of a view must do, and has done, on an ORDER.
 use Rattle.std.specs.Prelude.{◌≡◌, ℕ, ◌+◌, ◌-◌, ◌<◌, ◌≤◌, Bool, List, [], ◌∷◌, ◌++◌, map, Option, None, Some, IsSome, MatchBool, nat_lt, ◌⊎◌, ◌||◌, zero, suc}
 use Rattle.std.specs.Option.{option_map_or}
-use Rattle.trace_props.specs.declared.happening.Numbered.{Numbered}
+use Rattle.limits.specs.declared.TheConstants.{WINDOW}
+use Rattle.trace_props.specs.declared.event.Numbered.{Numbered}
 use Rattle.address.specs.Ids.{Address}
 use Rattle.view.specs.Members.{View}
 use Rattle.packet_values.specs.Values.{Entry, held_at, Missing, Progress}
 use Rattle.wire.specs.declared.packet.Body.TheVariants as bodies
+use Rattle.state_transfer.specs.Meanings.{Meaning}
 use Rattle.nak_stream.specs.Windows.{WindowModel, offers, collected, IsLeastGap, IsGreatestGap}
 use Rattle.agreement.specs.Histories.{Posted}
 use Rattle.agreement.specs.Cores.{applied}
 use Rattle.agreement.specs.Acts.{delivery, packet}
 use Rattle.traffic.specs.declared.other.Other.{Other}
 use Rattle.output.specs.declared.output.Output.{Output}
-use Rattle.trace_props.specs.declared.happening.Happening.TheVariants.{Sent}
+use Rattle.trace_props.specs.declared.event.Event.TheVariants.{Sent}
 use Rattle.sequencer.specs.Forwards.{pushed}
 use Rattle.traffic.specs.Traffics.{told_to}
 use Rattle.traffic.specs.Goings.{sending}
@@ -27,10 +29,10 @@ pub data TellsTo (p : Address) : Other → List Entry → Other → Type 0 where
   Starts : (m : Other) → TellsTo p m [] m
   Tells : (m n : Other) (entries : List Entry) (e : Entry) → TellsTo p m entries n → held_at (n.window.delivered + 1) n.window.held ≡ Some e → TellsTo p m (entries ++ e ∷ []) (told_next p e n)
 
-pub record Telling {S : Type 0} (apply : S → Address → List ℕ → S) (p : Address) (group : List ℕ) (old : Other) (s : S) (out : Output) (new : Other) (t : S) (more : Output) : Type 0 where
+pub record Telling {S : Type 0} (meaning : Meaning S) (p : Address) (group : List ℕ) (old : Other) (s : S) (out : Output) (new : Other) (t : S) (more : Output) : Type 0 where
   pub entries : List Entry
   pub tells : TellsTo p old entries new
-  pub state : t ≡ applied apply s entries
+  pub state : t ≡ applied meaning s entries
   pub grows : Grows group out more [] (map (delivery p old.view.id) entries)
   pub view : new.view ≡ old.view
 
@@ -56,16 +58,16 @@ abbrev pub AnswersOrder : Address → List ℕ → ℕ → Bool → ℕ → Othe
 AnswersOrder p group before new g m out more =
     MatchBool (nat_lt before m.window.delivered) (Grows group out more (ack_of p m ∷ []) []) (MatchBool new (AsksUpTo p group g m out more) (more ≡ out))
 
-pub record TakesNear {S : Type 0} (apply : S → Address → List ℕ → S) (p : Address) (group : List ℕ) (g : ℕ) (e : Entry) (old : Other) (s : S) (out : Output) (new : Other) (t : S) (more : Output) : Type 0 where
+pub record TakesNear {S : Type 0} (meaning : Meaning S) (p : Address) (group : List ℕ) (g : ℕ) (e : Entry) (old : Other) (s : S) (out : Output) (new : Other) (t : S) (more : Output) : Type 0 where
   pub between : Output
-  pub tells : Telling apply p group (held_too g e (collected_to (g - 32) old)) s out new t between
+  pub tells : Telling meaning p group (held_too g e (collected_to (g - WINDOW) old)) s out new t between
   pub ready : held_at (new.window.delivered + 1) new.window.held ≡ None
-  pub answers : AnswersOrder p group old.window.delivered (offers g (collected (g - 32) old.window)) g new between more
+  pub answers : AnswersOrder p group old.window.delivered (offers g (collected (g - WINDOW) old.window)) g new between more
 
 -- an ORDER too far ahead is ignored
-abbrev pub TakesOrder : {S : Type 0} → (S → Address → List ℕ → S) → Address → List ℕ → ℕ → Entry → Other → S → Output → Other → S → Output → Type 0
-TakesOrder apply p group g e old s out new t more =
-    MatchBool (nat_lt old.window.delivered (g - 32)) ((new ≡ old) × (t ≡ s) × (more ≡ out)) (TakesNear apply p group g e old s out new t more)
+abbrev pub TakesOrder : {S : Type 0} → Meaning S → Address → List ℕ → ℕ → Entry → Other → S → Output → Other → S → Output → Type 0
+TakesOrder meaning p group g e old s out new t more =
+    MatchBool (nat_lt old.window.delivered (g - WINDOW)) ((new ≡ old) × (t ≡ s) × (more ≡ out)) (TakesNear meaning p group g e old s out new t more)
 
 -- ---- a STATUS
 
@@ -75,7 +77,7 @@ status_packet p v a = Some (packet v.id.creator (bodies.Status v.id a) p)
 -- ignored where it does not fit; else what is stable is let go of, and what is missing asked for
 abbrev pub TakesStatus : Address → List ℕ → Progress → Other → Output → Other → Output → Type 0
 TakesStatus p group a old out new more =
-    MatchBool (nat_lt old.window.delivered a.stable || nat_lt old.window.delivered (a.highest - 32)) ((new ≡ old) × (more ≡ out))
+    MatchBool (nat_lt old.window.delivered a.stable || nat_lt old.window.delivered (a.highest - WINDOW)) ((new ≡ old) × (more ≡ out))
     ((new ≡ collected_to a.stable old) × AsksUpTo p group a.highest new out more)
 
 -- ---- its own messages

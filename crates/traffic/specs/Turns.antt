@@ -5,6 +5,8 @@ use Rattle.view.specs.Members.{View}
 use Rattle.packet_values.specs.Values.{Entry}
 use Rattle.wire.specs.declared.packet.Body.TheVariants as bodies
 use Rattle.std.specs.List.{find}
+use Rattle.limits.specs.declared.TheConstants.{WINDOW}
+use Rattle.state_transfer.specs.Meanings.{Meaning}
 use Rattle.stability.specs.Counts.{count_of, stable_count}
 use Rattle.sequencer.specs.Forwards.{ForwardsModel}
 use Rattle.sequencer.specs.Queues.{Queue, is_from, next_ordered}
@@ -13,7 +15,7 @@ use Rattle.agreement.specs.Cores.{applied}
 use Rattle.agreement.specs.Acts.{delivery, packet, others_of}
 use Rattle.traffic.specs.declared.coordinator.Coordinator.{Coordinator}
 use Rattle.output.specs.declared.output.Output.{Output}
-use Rattle.trace_props.specs.declared.happening.Happening.TheVariants.{Sent}
+use Rattle.trace_props.specs.declared.event.Event.TheVariants.{Sent}
 use Rattle.traffic.specs.Coordinators.{pushing, after_one, acknowledged, queued}
 use Rattle.traffic.specs.Goings.{sending}
 use Rattle.output.specs.Outputs.{Grows}
@@ -37,20 +39,20 @@ pub data TurnsTo (p : Address) : Coordinator → List Entry → Coordinator → 
   Turns : (m n : Coordinator) (entries : List Entry) (e : Entry) → TurnsTo p m entries n → next_ordered n.window.stable n.orderer ≡ Some e → TurnsTo p m (entries ++ e ∷ []) (turned p e n)
 
 -- one turn
-pub record TurnsOne {S : Type 0} (apply : S → Address → List ℕ → S) (p : Address) (group : List ℕ) (e : Entry) (old : Coordinator) (s : S) (out : Output) (new : Coordinator) (t : S) (more : Output) : Type 0 where
+pub record TurnsOne {S : Type 0} (meaning : Meaning S) (p : Address) (group : List ℕ) (e : Entry) (old : Coordinator) (s : S) (out : Output) (new : Coordinator) (t : S) (more : Output) : Type 0 where
   pub now : new ≡ turned p e old
-  pub state : t ≡ apply s e.sender e.payload
+  pub state : t ≡ meaning.apply s e.sender e.payload
   pub grows : Grows group out more (order_of p old.view (old.orderer.ordered + 1) e) (delivery p old.view.id e ∷ [])
 
-abbrev pub TurnsNext : {S : Type 0} → (S → Address → List ℕ → S) → Address → List ℕ → Bool → Coordinator → S → Output → Coordinator → S → Output → Type 0
-TurnsNext apply p group more old s out new t end =
-    MatchOption (next_ordered old.window.stable old.orderer) ((more ≡ false) × (new ≡ old) × (t ≡ s) × (end ≡ out)) (λ e. (more ≡ true) × TurnsOne apply p group e old s out new t end)
+abbrev pub TurnsNext : {S : Type 0} → Meaning S → Address → List ℕ → Bool → Coordinator → S → Output → Coordinator → S → Output → Type 0
+TurnsNext meaning p group more old s out new t end =
+    MatchOption (next_ordered old.window.stable old.orderer) ((more ≡ false) × (new ≡ old) × (t ≡ s) × (end ≡ out)) (λ e. (more ≡ true) × TurnsOne meaning p group e old s out new t end)
 
 -- several turns: exactly what is delivered, and put out
-pub record Ordering {S : Type 0} (apply : S → Address → List ℕ → S) (p : Address) (group : List ℕ) (old : Coordinator) (s : S) (out : Output) (new : Coordinator) (t : S) (more : Output) : Type 0 where
+pub record Ordering {S : Type 0} (meaning : Meaning S) (p : Address) (group : List ℕ) (old : Coordinator) (s : S) (out : Output) (new : Coordinator) (t : S) (more : Output) : Type 0 where
   pub entries : List Entry
   pub turns : TurnsTo p old entries new
-  pub state : t ≡ applied apply s entries
+  pub state : t ≡ applied meaning s entries
   pub grows : Grows group out more (orders_of p old.view old.orderer.ordered entries) (map (delivery p old.view.id) entries)
   pub view : new.view ≡ old.view
   pub ordered : new.orderer.ordered ≡ old.orderer.ordered + length entries
@@ -69,15 +71,15 @@ pub record IsSettled (p : Address) (m : Coordinator) : Type 0 where
   pub least : m.window.stable ≡ stable_count m.acks
   pub own : find (is_from p) m.orderer.queues ≡ Some (own_queue p m.forwards)
 
--- at most 32 happenings more
+-- at most `WINDOW` events more
 abbrev pub IsFew : Output → Output → Type 0
-IsFew old new = length new.happenings.items ≤ length old.happenings.items + 32
+IsFew old new = length new.events.items ≤ length old.events.items + WINDOW
 
 -- an acknowledgement above what was ordered is ignored; else it is heard, and all is ordered that may be
-abbrev pub AcksOrdering : {S : Type 0} → (S → Address → List ℕ → S) → Address → List ℕ → Address → ℕ → Coordinator → S → Output → Coordinator → S → Output → Type 0
-AcksOrdering apply p group q n old s out new t more =
+abbrev pub AcksOrdering : {S : Type 0} → Meaning S → Address → List ℕ → Address → ℕ → Coordinator → S → Output → Coordinator → S → Output → Type 0
+AcksOrdering meaning p group q n old s out new t more =
     MatchBool (nat_lt old.window.delivered n) ((new ≡ old) × (t ≡ s) × (more ≡ out))
-    (Ordering apply p group (acknowledged q n old) s out new t more × (next_ordered new.window.stable new.orderer ≡ None))
+    (Ordering meaning p group (acknowledged q n old) s out new t more × (next_ordered new.window.stable new.orderer ≡ None))
 
 -- ---- a message of its own
 
@@ -85,16 +87,16 @@ abbrev pub own_entry : Address → Coordinator → List ℕ → Entry
 own_entry p m x = record { sender = p; number = m.forwards.sent + 1; payload = x }
 
 -- it is sent, it waits, and all is ordered that may be
-pub record SendsOrdering {S : Type 0} (apply : S → Address → List ℕ → S) (p : Address) (group : List ℕ) (x : List ℕ) (old : Coordinator) (s : S) (out : Output) (new : Coordinator) (t : S) (more : Output) : Type 0 where
+pub record SendsOrdering {S : Type 0} (meaning : Meaning S) (p : Address) (group : List ℕ) (x : List ℕ) (old : Coordinator) (s : S) (out : Output) (new : Coordinator) (t : S) (more : Output) : Type 0 where
   pub between : Output
   pub sent : Grows group out between [] (Sent (sending p old.view.id (old.forwards.sent + 1) x) ∷ [])
-  pub orders : Ordering apply p group (queued p (old.forwards.sent + 1) x (pushing x old)) s between new t more
+  pub orders : Ordering meaning p group (queued p (old.forwards.sent + 1) x (pushing x old)) s between new t more
 
 -- it is delivered at once
 pub record TellsAtOnce (p : Address) (x : List ℕ) (old : Coordinator) (out more : Output) : Type 0 where
   pub rest : List Entry
-  pub happens : more.happenings.items ≡ out.happenings.items ++ Sent (sending p old.view.id (old.forwards.sent + 1) x) ∷ map (delivery p old.view.id) (own_entry p old x ∷ rest)
+  pub happens : more.events.items ≡ out.events.items ++ Sent (sending p old.view.id (old.forwards.sent + 1) x) ∷ map (delivery p old.view.id) (own_entry p old x ∷ rest)
 
--- one happening more than few
+-- one event more than few
 abbrev pub IsFewMore : Output → Output → Type 0
-IsFewMore old new = length new.happenings.items ≤ length old.happenings.items + 33
+IsFewMore old new = length new.events.items ≤ length old.events.items + (WINDOW + 1)

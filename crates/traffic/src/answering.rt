@@ -1,6 +1,6 @@
 //! The coordinator answers a NAK, and puts out on a tick how far its order has come.
 
-ghost use Rattle.std.specs.Prelude.{◌≡◌, ◌+◌, ◌-◌, ◌≤◌, ◌<◌, ◌^◌, [], map, OnOk};
+ghost use Rattle.std.specs.Prelude.{◌≡◌, ◌+◌, ◌-◌, ◌≤◌, ◌<◌, [], map, OnOk};
 ghost use Rattle.wire.specs.declared.packet.Body.TheVariants as bodies;
 ghost use Rattle.agreement.specs.Acts.{packet, others_of};
 ghost use Rattle.output.specs.Outputs.{Grows};
@@ -8,7 +8,7 @@ ghost use Rattle.traffic.specs.Takes.{orders_held, progress_of};
 
 use crate::Coordinator;
 use address::Address;
-use nak_stream::REACH;
+use limits::WINDOW;
 use output::{Identity, Output};
 use packet_values::{Count, Missing, Number, Progress};
 use std::alloc::AllocError;
@@ -51,7 +51,7 @@ impl Coordinator {
     {
         self.window.kept();
         let low = missing.first().get().max(self.window.stable() + 1);
-        let high = missing.last().get().min(self.window.stable() + REACH);
+        let high = missing.last().get().min(self.window.stable() + WINDOW);
         let mut g = low;
         while g <= high {
             self.resend(who, source, g, out)?;

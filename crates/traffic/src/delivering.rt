@@ -11,13 +11,13 @@ use output::{Identity, Output};
 use sequencer::Forwards;
 use state_transfer::Receiver;
 use std::alloc::AllocError;
-use trace_props::{Bytes, Delivery, Happening, Message};
+use trace_props::{Bytes, Delivery, Event, Message};
 
 // The event of a message that is delivered.
-fn delivery(who: &Identity, view: ViewId, entry: &Entry) -> Result<Happening, AllocError>
+fn delivery(who: &Identity, view: ViewId, entry: &Entry) -> Result<Event, AllocError>
     ensures { IfOk result (λ h. h ≡ delivery who.now.address view entry.now) }
 {
-    Ok(Happening::Delivered(Delivery {
+    Ok(Event::Delivered(Delivery {
         member: who.address,
         view,
         message: Message {
@@ -37,7 +37,7 @@ pub(crate) fn deliver<R: Receiver>(
     receiver: &mut R,
     out: &mut Output,
 ) -> Result<(), AllocError>
-    ensures state { OnOk result (receiver.new ≡ R.apply receiver.old entry.now.sender entry.now.payload) }
+    ensures state { OnOk result (receiver.new ≡ R.meaning.apply receiver.old entry.now.sender entry.now.payload) }
     ensures happens { OnOk result (Grows who.now.group out.old out.new [] (delivery who.now.address view entry.now ∷ [])) }
     ensures left { OnOk result (forwards.new ≡ told_to who.now.address entry.now forwards.old) }
 {

@@ -48,7 +48,7 @@ impl Coordinator {
         ensures next { IfOk result (λ next. next ≡ option_map (λ e. (self.old.orderer.ordered + 1, e)) (next_ordered self.old.window.stable self.old.orderer)) }
         ensures does { IfOk result (λ next. MatchOption next
             ((self.new ≡ self.old) × (receiver.new ≡ receiver.old) × (out.new ≡ out.old))
-            (λ n. OrdersOne R.apply who.now.address who.now.group n self.old receiver.old out.old self.new receiver.new out.new)) }
+            (λ n. OrdersOne R.meaning who.now.address who.now.group n self.old receiver.old out.old self.new receiver.new out.new)) }
     {
         let Some((place, entry)) = self.orderer.ready(self.window.stable()) else {
             return Ok(None);
@@ -105,8 +105,8 @@ impl Coordinator {
     ) -> Result<bool, AllocError>
         requires coordinator { IsCoordinator who.now.address self.old }
         requires settled { IsSettled who.now.address self.old }
-        ensures goes { OnOk result ((came : Option Posted) → CoordinatorGoes R.apply R.encode R.decode came who.now.address who.now.group self.old receiver.old out.old self.new receiver.new out.new) }
-        ensures does { IfOk result (λ more. TurnsNext R.apply who.now.address who.now.group more self.old receiver.old out.old self.new receiver.new out.new) }
+        ensures goes { OnOk result ((came : Option Posted) → CoordinatorGoes R.meaning came who.now.address who.now.group self.old receiver.old out.old self.new receiver.new out.new) }
+        ensures does { IfOk result (λ more. TurnsNext R.meaning who.now.address who.now.group more self.old receiver.old out.old self.new receiver.new out.new) }
         ensures settled { OnOk result (IsSettled who.now.address self.new) }
         ensures fewer { IfOk result (λ more. MatchBool more
             (length (waiting_of self.new.orderer.queues) < length (waiting_of self.old.orderer.queues))
@@ -137,9 +137,9 @@ impl Coordinator {
     ) -> Result<(), AllocError>
         requires coordinator { IsCoordinator who.now.address self.old }
         requires settled { IsSettled who.now.address self.old }
-        ensures goes { OnOk result ((came : Option Posted) → CoordinatorGoes R.apply R.encode R.decode came who.now.address who.now.group self.old receiver.old out.old self.new receiver.new out.new) }
+        ensures goes { OnOk result ((came : Option Posted) → CoordinatorGoes R.meaning came who.now.address who.now.group self.old receiver.old out.old self.new receiver.new out.new) }
         ensures done { OnOk result (next_ordered self.new.window.stable self.new.orderer ≡ None) }
-        ensures orders { OnOk result (Ordering R.apply who.now.address who.now.group self.old receiver.old out.old self.new receiver.new out.new) }
+        ensures orders { OnOk result (Ordering R.meaning who.now.address who.now.group self.old receiver.old out.old self.new receiver.new out.new) }
         ensures settled { OnOk result (IsSettled who.now.address self.new) }
         ensures few { OnOk result (IsFew out.old out.new) }
     {
@@ -153,7 +153,7 @@ impl Coordinator {
         }
     }
 
-    /// A member's FORWARD: its message waits where it is new and at most 8 past the sender's ordered ones, and all is ordered that may be. After an error
+    /// A member's FORWARD: its message waits where it is new and at most `OUTSTANDING` past the sender's ordered ones, and all is ordered that may be. After an error
     /// for want of memory nothing is said of the member.
     pub fn forward<R: Receiver>(
         &mut self,
@@ -167,9 +167,9 @@ impl Coordinator {
         requires coordinator { IsCoordinator who.now.address self.old }
         requires settled { IsSettled who.now.address self.old }
         requires other { same_address source.now who.now.address ≡ false }
-        ensures goes { OnOk result (CoordinatorGoes R.apply R.encode R.decode (Some (packet source.now (bodies.Forward self.old.view.id number payload.now) who.now.address)) who.now.address who.now.group self.old receiver.old out.old self.new receiver.new out.new) }
+        ensures goes { OnOk result (CoordinatorGoes R.meaning (Some (packet source.now (bodies.Forward self.old.view.id number payload.now) who.now.address)) who.now.address who.now.group self.old receiver.old out.old self.new receiver.new out.new) }
         ensures done { OnOk result (next_ordered self.new.window.stable self.new.orderer ≡ None) }
-        ensures orders { OnOk result (Ordering R.apply who.now.address who.now.group (queued source.now number payload.now self.old) receiver.old out.old self.new receiver.new out.new) }
+        ensures orders { OnOk result (Ordering R.meaning who.now.address who.now.group (queued source.now number payload.now self.old) receiver.old out.old self.new receiver.new out.new) }
         ensures settled { OnOk result (IsSettled who.now.address self.new) }
         ensures few { OnOk result (IsFew out.old out.new) }
     {
@@ -192,8 +192,8 @@ impl Coordinator {
         requires settled { IsSettled who.now.address self.old }
         requires other { same_address source.now who.now.address ≡ false }
         requires member { stands_in source.now self.old.view.members ≡ true }
-        ensures goes { OnOk result (CoordinatorGoes R.apply R.encode R.decode (Some (packet source.now (bodies.Ack self.old.view.id count) who.now.address)) who.now.address who.now.group self.old receiver.old out.old self.new receiver.new out.new) }
-        ensures orders { OnOk result (AcksOrdering R.apply who.now.address who.now.group source.now count self.old receiver.old out.old self.new receiver.new out.new) }
+        ensures goes { OnOk result (CoordinatorGoes R.meaning (Some (packet source.now (bodies.Ack self.old.view.id count) who.now.address)) who.now.address who.now.group self.old receiver.old out.old self.new receiver.new out.new) }
+        ensures orders { OnOk result (AcksOrdering R.meaning who.now.address who.now.group source.now count self.old receiver.old out.old self.new receiver.new out.new) }
         ensures settled { OnOk result (IsSettled who.now.address self.new) }
         ensures few { OnOk result (IsFew out.old out.new) }
     {

@@ -1,11 +1,11 @@
 //! A member sends a message of its own: what is the same for each, and the rule of the coordinator.
 
 ghost use Rattle.std.specs.Prelude.{◌≡◌, ◌+◌, ◌≤◌, length, Option, Some, None, true, [], ◌∷◌, OnOk, IfOk};
-ghost use Rattle.trace_props.specs.declared.happening.Happening.TheVariants.{Sent};
+ghost use Rattle.trace_props.specs.declared.event.Event.TheVariants.{Sent};
 ghost use Rattle.agreement.specs.Histories.{Posted};
 ghost use Rattle.sequencer.specs.Forwards.{pushed, push_refusal};
 ghost use Rattle.sequencer.specs.Queues.{next_ordered, may_order};
-ghost use Rattle.packet_values.specs.declared.limits.TheConstants.{PAYLOAD};
+ghost use Rattle.limits.specs.declared.TheConstants.{PAYLOAD};
 ghost use Rattle.output.specs.Outputs.{Grows};
 ghost use Rattle.traffic.specs.Coordinators.{IsCoordinator, pushing};
 ghost use Rattle.traffic.specs.Goings.{CoordinatorGoes, sending};
@@ -19,7 +19,7 @@ use packet_values::{Number, Payload};
 use sequencer::Forwards;
 use state_transfer::Receiver;
 use std::alloc::AllocError;
-use trace_props::{Bytes, Happening, Numbered, Sending};
+use trace_props::{Bytes, Event, Numbered, Sending};
 
 // The event of a message that is sent.
 fn sending(
@@ -27,10 +27,10 @@ fn sending(
     view: ViewId,
     number: Number,
     payload: &Payload<'_>,
-) -> Result<Happening, AllocError>
+) -> Result<Event, AllocError>
     ensures { IfOk result (λ h. h ≡ Sent (sending who.now.address view number payload.now)) }
 {
-    Ok(Happening::Sent(Sending {
+    Ok(Event::Sent(Sending {
         member: who.address,
         view,
         message: Numbered {
@@ -96,9 +96,9 @@ impl Coordinator {
         requires free { push_refusal self.old.forwards ≡ None }
         requires settled { IsSettled who.now.address self.old }
         requires rested { next_ordered self.old.window.stable self.old.orderer ≡ None }
-        ensures goes { OnOk result ((came : Option Posted) → CoordinatorGoes R.apply R.encode R.decode came who.now.address who.now.group self.old receiver.old out.old self.new receiver.new out.new) }
+        ensures goes { OnOk result ((came : Option Posted) → CoordinatorGoes R.meaning came who.now.address who.now.group self.old receiver.old out.old self.new receiver.new out.new) }
         ensures done { OnOk result (next_ordered self.new.window.stable self.new.orderer ≡ None) }
-        ensures orders { OnOk result (SendsOrdering R.apply who.now.address who.now.group payload.now self.old receiver.old out.old self.new receiver.new out.new) }
+        ensures orders { OnOk result (SendsOrdering R.meaning who.now.address who.now.group payload.now self.old receiver.old out.old self.new receiver.new out.new) }
         ensures prompt { OnOk result (may_order self.old.window.stable self.old.orderer ≡ true → TellsAtOnce who.now.address payload.now self.old out.old out.new) }
         ensures settled { OnOk result (IsSettled who.now.address self.new) }
         ensures few { OnOk result (IsFewMore out.old out.new) }

@@ -1,6 +1,6 @@
 //! The rules of a member of a view other than its coordinator: what it takes, what it asks for, and what it sends.
 
-ghost use Rattle.std.specs.Prelude.{◌≡◌, ◌+◌, ◌-◌, ◌<◌, ◌≤◌, ◌^◌, ◌||◌, nat_lt, map, length, Option, Some, None, true, false, [], ◌∷◌, ◌++◌, OnOk, IfOk, MatchBool, MatchOption};
+ghost use Rattle.std.specs.Prelude.{◌≡◌, ◌+◌, ◌-◌, ◌<◌, ◌≤◌, ◌||◌, nat_lt, map, length, Option, Some, None, true, false, [], ◌∷◌, ◌++◌, OnOk, IfOk, MatchBool, MatchOption};
 ghost use Rattle.wire.specs.declared.packet.Body.TheVariants as bodies;
 ghost use Rattle.agreement.specs.Histories.{Posted};
 ghost use Rattle.agreement.specs.Acts.{packet};
@@ -8,19 +8,18 @@ ghost use Rattle.address.specs.Ids.{same_address};
 ghost use Rattle.packet_values.specs.Values.{held_at};
 ghost use Rattle.nak_stream.specs.Windows.{offers, IsLeastGap, IsGreatestGap};
 ghost use Rattle.output.specs.Outputs.{Grows};
-ghost use Rattle.nak_stream.specs.declared.TheConstants.{REACH};
+ghost use Rattle.limits.specs.declared.TheConstants.{PAYLOAD, GREATEST_NUMBER};
 ghost use Rattle.traffic.specs.Goings.{OtherGoes, sending};
 ghost use Rattle.traffic.specs.Turns.{IsFew};
 ghost use Rattle.traffic.specs.Others.{order_packet, TellsOne, collected_to, held_too};
 ghost use Rattle.traffic.specs.Takes.{Telling, TakesStatus, forward_of, ack_of, other_pushing, SendsForward, IsComplete, AsksUpTo, AnswersOrder, TakesOrder};
-ghost use Rattle.trace_props.specs.declared.happening.Happening.TheVariants.{Sent};
+ghost use Rattle.trace_props.specs.declared.event.Event.TheVariants.{Sent};
 ghost use Rattle.sequencer.specs.Forwards.{push_refusal};
-ghost use Rattle.packet_values.specs.declared.limits.TheConstants.{PAYLOAD};
 
 use crate::Other;
 use crate::delivering::deliver;
 use crate::sending::say;
-use nak_stream::REACH;
+use limits::WINDOW;
 use output::{Identity, Output};
 use packet_values::{Count, Entry as LentEntry, Missing, Number, Payload, Progress};
 use sequencer::Forward;
@@ -38,7 +37,7 @@ impl Other {
     ) -> Result<bool, AllocError>
         ensures does { IfOk result (λ told. MatchOption (held_at (self.old.window.delivered + 1) self.old.window.held)
             ((told ≡ false) × (self.new ≡ self.old) × (receiver.new ≡ receiver.old) × (out.new ≡ out.old))
-            (λ e. (told ≡ true) × TellsOne R.apply who.now.address who.now.group e self.old receiver.old out.old self.new receiver.new out.new)) }
+            (λ e. (told ≡ true) × TellsOne R.meaning who.now.address who.now.group e self.old receiver.old out.old self.new receiver.new out.new)) }
     {
         match self.window.take_ready()? {
             None => Ok(false),
@@ -58,9 +57,9 @@ impl Other {
 
     // Lets go of what is stable because a number so far ahead was ordered.
     fn collect_below(&mut self, place: Number)
-        ensures { self.new ≡ collected_to (place - REACH) self.old }
+        ensures { self.new ≡ collected_to (place - WINDOW) self.old }
     {
-        self.window.collect(place.get().saturating_sub(REACH));
+        self.window.collect(place.get().saturating_sub(WINDOW));
     }
 
     // Holds an entry at its number, where that is new and within reach. Answers whether it is.
@@ -80,9 +79,9 @@ impl Other {
         out: &mut Output,
     ) -> Result<(), AllocError>
         requires other { same_address who.now.address self.old.view.id.creator ≡ false }
-        ensures goes { OnOk result ((came : Option Posted) → OtherGoes R.apply R.encode R.decode came who.now.address who.now.group self.old receiver.old out.old self.new receiver.new out.new) }
+        ensures goes { OnOk result ((came : Option Posted) → OtherGoes R.meaning came who.now.address who.now.group self.old receiver.old out.old self.new receiver.new out.new) }
         ensures done { OnOk result (held_at (self.new.window.delivered + 1) self.new.window.held ≡ None) }
-        ensures tells { OnOk result (Telling R.apply who.now.address who.now.group self.old receiver.old out.old self.new receiver.new out.new) }
+        ensures tells { OnOk result (Telling R.meaning who.now.address who.now.group self.old receiver.old out.old self.new receiver.new out.new) }
         ensures few { OnOk result (IsFew out.old out.new) }
     {
         self.window.kept();
@@ -108,7 +107,7 @@ impl Other {
 
     // The least and the greatest number that is missing, up to the highest.
     fn missing(&self, highest: u64) -> Option<Missing>
-        requires { highest ≤ 2 ^ 62 }
+        requires { highest ≤ GREATEST_NUMBER }
         ensures least { MatchOption result (IsComplete self.now.window highest) (λ m. IsLeastGap self.now.window highest m.first) }
         ensures greatest { MatchOption result (IsComplete self.now.window highest) (λ m. IsGreatestGap self.now.window highest m.last) }
     {
@@ -135,7 +134,7 @@ impl Other {
 
     // Puts out a NAK of what is missing up to the highest, where something is.
     fn ask_up_to(&self, who: &Identity, highest: u64, out: &mut Output) -> Result<(), AllocError>
-        requires { highest ≤ 2 ^ 62 }
+        requires { highest ≤ GREATEST_NUMBER }
         ensures { OnOk result (AsksUpTo who.now.address who.now.group highest self.now out.old out.new) }
     {
         match self.missing(highest) {
@@ -168,8 +167,8 @@ impl Other {
         Ok(())
     }
 
-    /// An ORDER of the coordinator: what lies 32 below it is stable, it is held where it is new, and what is held in turn is delivered. An ACK is put out
-    /// where messages were delivered, else a NAK where it was new. An ORDER more than 32 past what was delivered here is ignored. After an error for want of
+    /// An ORDER of the coordinator: what lies `WINDOW` below it is stable, it is held where it is new, and what is held in turn is delivered. An ACK is put out
+    /// where messages were delivered, else a NAK where it was new. An ORDER more than `WINDOW` past what was delivered here is ignored. After an error for want of
     /// memory nothing is said of the member.
     pub fn order<R: Receiver>(
         &mut self,
@@ -180,12 +179,12 @@ impl Other {
         out: &mut Output,
     ) -> Result<(), AllocError>
         requires other { same_address who.now.address self.old.view.id.creator ≡ false }
-        ensures goes { OnOk result (OtherGoes R.apply R.encode R.decode (order_packet who.now.address self.old.view place entry.now) who.now.address who.now.group self.old receiver.old out.old self.new receiver.new out.new) }
-        ensures takes { OnOk result (TakesOrder R.apply who.now.address who.now.group place entry.now self.old receiver.old out.old self.new receiver.new out.new) }
+        ensures goes { OnOk result (OtherGoes R.meaning (order_packet who.now.address self.old.view place entry.now) who.now.address who.now.group self.old receiver.old out.old self.new receiver.new out.new) }
+        ensures takes { OnOk result (TakesOrder R.meaning who.now.address who.now.group place entry.now self.old receiver.old out.old self.new receiver.new out.new) }
         ensures few { OnOk result (IsFew out.old out.new) }
     {
         let before = self.window.delivered();
-        if before < place.get().saturating_sub(REACH) {
+        if before < place.get().saturating_sub(WINDOW) {
             return Ok(());
         }
         self.collect_below(place);
@@ -196,7 +195,7 @@ impl Other {
     }
 
     /// A STATUS of the coordinator: what is stable is let go of, and a NAK is put out where something is missing. A stable count above what was delivered here,
-    /// or a highest number more than 32 past it, is ignored. After an error for want of memory nothing is said of the output.
+    /// or a highest number more than `WINDOW` past it, is ignored. After an error for want of memory nothing is said of the output.
     pub fn status(
         &mut self,
         who: &Identity,
@@ -208,7 +207,7 @@ impl Other {
         let delivered = self.window.delivered();
         let stable = progress.stable().get();
         let highest = progress.highest().get();
-        if delivered < stable || delivered < highest.saturating_sub(REACH) {
+        if delivered < stable || delivered < highest.saturating_sub(WINDOW) {
             return Ok(());
         }
         self.window.collect(stable);

@@ -1,6 +1,6 @@
 ghost use Rattle.std.specs.Prelude.{◌≡◌, ◌≤◌, ◌++◌, true, drop, length, Some, IfOk, OnOk};
 ghost use Rattle.std.specs.List.{flat_map, AllByRecursion};
-ghost use Rattle.packet_values.specs.declared.limits.TheConstants.{WINDOW};
+ghost use Rattle.limits.specs.declared.TheConstants.{WINDOW};
 ghost use Rattle.wire.specs.Fields.{IsNumber, IsPlaced, placed_bytes};
 ghost use Rattle.wire.specs.Lists.{is_report};
 ghost use Rattle.agreement.specs.Cores.{report_with};
@@ -120,7 +120,7 @@ impl Traffic {
         self.window().kept();
     }
 
-    /// How many entries are held, at most 32.
+    /// How many entries are held, at most `WINDOW`.
     pub fn held_count(&self) -> u8
         ensures { result ≡ length (traffic_of self.now).held }
     {

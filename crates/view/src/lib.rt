@@ -9,18 +9,16 @@ mod addresses;
 
 use address::{Address, ViewId};
 pub use addresses::Addresses;
+use limits::MEMBERS;
 use std::alloc::{AllocError, Global};
 use std::marker::Model;
-
-/// The most members that a view may have.
-pub const MEMBERS: usize = 16;
 
 /// Why a list of members is no view of its id.
 #[derive(Clone, Copy, Debug, PartialEq, Eq)]
 pub enum ViewError {
     /// 30: there is no member.
     Empty,
-    /// 31: there are more than 16 members.
+    /// 31: there are more than `MEMBERS` members.
     TooMany,
     /// 32: a member stands twice.
     Repeated,
@@ -42,7 +40,7 @@ impl ViewError {
     }
 }
 
-/// A view: its id and its members in order of rank, 1 to 16 of them, each once, the id's creator first
+/// A view: its id and its members in order of rank, 1 to `MEMBERS` of them, each once, the id's creator first
 /// (docs/PROTOCOL.md, "Views").
 #[derive(Debug, Drop)]
 pub struct View {
@@ -63,7 +61,7 @@ impl Model for View {
 }
 
 impl View {
-    /// The view of an id and its members. Refused, in this order, with 30 for no member, 31 for more than 16,
+    /// The view of an id and its members. Refused, in this order, with 30 for no member, 31 for more than `MEMBERS`,
     /// 32 for a member that stands twice, and 33 where the first is not the id's creator.
     pub fn new(id: ViewId, members: Addresses) -> Result<View, ViewError>
         ensures { MatchOption (view_refusal id members) (result ≡ Ok (record { id = id; members = members })) (λ e. result ≡ Err e) }

@@ -1,10 +1,9 @@
 -- What a command does, and how the program ends where there is none.
-use Rattle.std.specs.Prelude.{◌≡◌, ◌⊎◌, ℕ, List, [], Option}
+use Rattle.std.specs.Prelude.{◌≡◌, ◌⊎◌, ℕ, List, Option}
 use Rattle.clap.specs.Words.{IsAmong, Kinds}
 use Rattle.clap.specs.declared.error.kind.ErrorKind.{ErrorKind}
 use Rattle.clap.specs.declared.error.kind.ErrorKind.TheVariants.{DisplayHelp, DisplayVersion, OutOfMemory}
-use Rattle.chat_log.specs.Chat.{chat_apply}
-use Rattle.chat_log.specs.Encoding.{chat_encode, chat_decode}
+use Rattle.chat_log.specs.Meanings.{chat_meaning}
 use Rattle.vsync_runs.specs.Outcomes.{RunsScript}
 use Rattle.vsync_runs.specs.Chats.{RunsChat}
 use Rattle.vsync_runs.specs.Packets.{RunsPackets}
@@ -17,10 +16,10 @@ use Rattle.vsync_words.specs.declared.words.Invocation.TheVariants.{World, Chat,
 -- the command is done, from a reader with these bytes left to a writer: a script is run; or it is run and the chats, or the packets, are
 -- told; or a trace is checked. Its members keep a chat
 abbrev pub Does : Invocation → Option (List ℕ) → Option (List ℕ) → Option (List ℕ) → Status → Type 0
-Does (World path) left old new status = RunsScript [] chat_apply chat_encode chat_decode left old new status
-Does (Chat path) left old new status = RunsChat [] chat_apply chat_encode chat_decode (λ s. s) left old new status
-Does (Packets path) left old new status = RunsPackets [] chat_apply chat_encode chat_decode left old new status
-Does (Check path) left old new status = ChecksTrace [] chat_apply chat_decode left old new status
+Does (World path) left old new status = RunsScript chat_meaning left old new status
+Does (Chat path) left old new status = RunsChat chat_meaning (λ s. s) left old new status
+Does (Packets path) left old new status = RunsPackets chat_meaning left old new status
+Does (Check path) left old new status = ChecksTrace chat_meaning left old new status
 
 -- it ends with this status, or with 5 where the output failed
 abbrev pub EndsBy : Status → Status → Type 0

@@ -3,8 +3,8 @@ use Rattle.std.proofs.Common.{◌≡◌, ℕ, zero, suc, ◌+◌, ◌-◌, ◌�
 use Rattle.std.specs.List.{concat, filter_map, range_with_len}
 use Rattle.std.proofs.Math.Seq.{take-append_seam}
 use Rattle.std.proofs.lemmas.List.Elements.{filter_map-append}
-use Rattle.address.specs.Ids.{Address}
-use Rattle.trace_props.specs.declared.happening.Happening.{Happening}
+use Rattle.state_transfer.specs.Meanings.{Meaning}
+use Rattle.trace_props.specs.declared.event.Event.{Event}
 use Rattle.chat_log.specs.declared.lines.Line.{Line}
 use Rattle.vsync_runs.specs.Chats.{chat_at, chats_to, chats_of}
 
@@ -30,11 +30,11 @@ one f x = go (f x) refl
     go (Some y) e = rw e refl
 
 -- the chats of one node more
-pub told-next : {S : Type 0} (opening : S) (apply : S → Address → List ℕ → S) (decode : List ℕ → Option S) (lines_of : S → List Line) (t : List Happening) (n : ℕ) (old now new : List ℕ)
-    → now ≡ old ++ concat (chats_to opening apply decode lines_of t n) → new ≡ now ++ concat (option_to_list (chat_at opening apply decode lines_of t (n + 1)))
-    → new ≡ old ++ concat (chats_to opening apply decode lines_of t (n + 1))
-told-next opening apply decode lines_of t n old now new before more =
-    let f : ℕ → Option (List ℕ) = chat_at opening apply decode lines_of t in
+pub told-next : {S : Type 0} (meaning : Meaning S) (lines_of : S → List Line) (t : List Event) (n : ℕ) (old now new : List ℕ)
+    → now ≡ old ++ concat (chats_to meaning lines_of t n) → new ≡ now ++ concat (option_to_list (chat_at meaning lines_of t (n + 1)))
+    → new ≡ old ++ concat (chats_to meaning lines_of t (n + 1))
+told-next meaning lines_of t n old now new before more =
+    let f : ℕ → Option (List ℕ) = chat_at meaning lines_of t in
     let up : suc n ≡ n + 1 = omega arith in
     let next : 1 + n ≡ n + 1 = omega arith in
     let split : filter_map f (range_with_len 1 (n + 1)) ≡ filter_map f (range_with_len 1 n) ++ option_to_list (f (n + 1)) =
@@ -45,29 +45,29 @@ told-next opening apply decode lines_of t n old now new before more =
     ∙ ap (λ (x : List ℕ). old ++ x) (sym (concat-append (filter_map f (range_with_len 1 n)) (option_to_list (f (n + 1)))) ∙ ap concat (sym split))
 
 -- those of the first nodes are the first of all
-front : {S : Type 0} (opening : S) (apply : S → Address → List ℕ → S) (decode : List ℕ → Option S) (lines_of : S → List Line) (t : List Happening) (n m : ℕ)
-    → (count : ℕ) × (chats_to opening apply decode lines_of t n ≡ take count (chats_to opening apply decode lines_of t (n + m)))
-front opening apply decode lines_of t n m =
-    let f : ℕ → Option (List ℕ) = chat_at opening apply decode lines_of t in
+front : {S : Type 0} (meaning : Meaning S) (lines_of : S → List Line) (t : List Event) (n m : ℕ)
+    → (count : ℕ) × (chats_to meaning lines_of t n ≡ take count (chats_to meaning lines_of t (n + m)))
+front meaning lines_of t n m =
+    let f : ℕ → Option (List ℕ) = chat_at meaning lines_of t in
     let split : filter_map f (range_with_len 1 (n + m)) ≡ filter_map f (range_with_len 1 n) ++ filter_map f (range_with_len (1 + n) m) =
     ap (filter_map f) (range-split 1 n m) ∙ filter_map-append f (range_with_len 1 n) (range_with_len (1 + n) m) in
     let own : List (List ℕ) = filter_map f (range_with_len 1 n) in
     (length own, sym (take-append_seam own (filter_map f (range_with_len (1 + n) m))) ∙ ap (take (length own)) (sym split))
 
 -- memory was refused after the chats of a few nodes
-pub told-some : {S : Type 0} (opening : S) (apply : S → Address → List ℕ → S) (decode : List ℕ → Option S) (lines_of : S → List Line) (t : List Happening) (n : ℕ) (old new : List ℕ)
-    → n ≤ 65535 → new ≡ old ++ concat (chats_to opening apply decode lines_of t n)
-    → (count : ℕ) × (new ≡ old ++ concat (take count (chats_of opening apply decode lines_of t)))
+pub told-some : {S : Type 0} (meaning : Meaning S) (lines_of : S → List Line) (t : List Event) (n : ℕ) (old new : List ℕ)
+    → n ≤ 65535 → new ≡ old ++ concat (chats_to meaning lines_of t n)
+    → (count : ℕ) × (new ≡ old ++ concat (take count (chats_of meaning lines_of t)))
 unfolding chats_of
-told-some opening apply decode lines_of t n old new few is =
-    let (count, e) = front opening apply decode lines_of t n (65535 - n) in
-    (count, is ∙ ap (λ (x : List (List ℕ)). old ++ concat x) (e ∙ ap (λ (m : ℕ). take count (chats_to opening apply decode lines_of t m)) (let all : n + (65535 - n) ≡ 65535 = omega arith in all)))
+told-some meaning lines_of t n old new few is =
+    let (count, e) = front meaning lines_of t n (65535 - n) in
+    (count, is ∙ ap (λ (x : List (List ℕ)). old ++ concat x) (e ∙ ap (λ (m : ℕ). take count (chats_to meaning lines_of t m)) (let all : n + (65535 - n) ≡ 65535 = omega arith in all)))
 
 -- those of all nodes are told
-pub told-all : {S : Type 0} (opening : S) (apply : S → Address → List ℕ → S) (decode : List ℕ → Option S) (lines_of : S → List Line) (t : List Happening) (n : ℕ) (old new : List ℕ)
-    → n ≡ 65535 → new ≡ old ++ concat (chats_to opening apply decode lines_of t n) → new ≡ old ++ concat (chats_of opening apply decode lines_of t)
+pub told-all : {S : Type 0} (meaning : Meaning S) (lines_of : S → List Line) (t : List Event) (n : ℕ) (old new : List ℕ)
+    → n ≡ 65535 → new ≡ old ++ concat (chats_to meaning lines_of t n) → new ≡ old ++ concat (chats_of meaning lines_of t)
 unfolding chats_of
-told-all opening apply decode lines_of t n old new all is = is ∙ ap (λ (m : ℕ). old ++ concat (chats_to opening apply decode lines_of t m)) all
+told-all meaning lines_of t n old new all is = is ∙ ap (λ (m : ℕ). old ++ concat (chats_to meaning lines_of t m)) all
 
 -- what holds anyway holds of an error
 pub on-err : {A E : Type 0} (r : Result A E) (P : Type 0) → P → OnErr r P

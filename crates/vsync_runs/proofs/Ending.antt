@@ -8,7 +8,7 @@ use Rattle.std.specs.Io.KnownBytes.{Appends, Keeps}
 use Rattle.vsync_runs.specs.declared.status.Status.{Status}
 use Rattle.vsync_runs.specs.declared.status.Status.TheVariants.{Done, Memory, Outside}
 use Rattle.script_reader.specs.declared.script.Script.{Script}
-use Rattle.trace_props.specs.declared.happening.Happening.{Happening}
+use Rattle.trace_props.specs.declared.event.Event.{Event}
 use Rattle.world_model.specs.declared.Reply.{Reply}
 use Rattle.script_reader.specs.declared.fault.Fault.{Fault}
 use Rattle.script_reader.specs.Script.{script_of, fault_number}
@@ -154,10 +154,10 @@ left-of None = tt
 left-of (Some all) = refl
 
 -- the lines of a run by its replies and its trace
-pub told-as : (lines : List ℕ) (ran : Bool) (replies replies' : List Reply) (trace trace' : List Happening) (a b : Option (List ℕ)) (status : Status) → replies ≡ replies' → trace ≡ trace'
+pub told-as : (lines : List ℕ) (ran : Bool) (replies replies' : List Reply) (trace trace' : List Event) (a b : Option (List ℕ)) (status : Status) → replies ≡ replies' → trace ≡ trace'
     → Written (IsLinesText (lines_of_run lines replies trace) ran) a b status → Written (IsLinesText (lines_of_run lines replies' trace') ran) a b status
 told-as lines ran replies replies' trace trace' a b status r t w =
-    subst (λ (x : List Happening). Written (IsLinesText (lines_of_run lines replies' x) ran) a b status) t
+    subst (λ (x : List Event). Written (IsLinesText (lines_of_run lines replies' x) ran) a b status) t
     (subst (λ (y : List Reply). Written (IsLinesText (lines_of_run lines y trace) ran) a b status) r w)
 
 -- memory was refused before the script was read

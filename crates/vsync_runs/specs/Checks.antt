@@ -1,8 +1,8 @@
 -- What the check of a trace writes.
 use Rattle.std.specs.Prelude.{◌≡◌, ℕ, List, [], ◌∷◌, ◌++◌, Option, Ok, Err, codes}
 use Rattle.std.specs.Fmt.{decimal}
-use Rattle.address.specs.Ids.{Address}
-use Rattle.trace_props.specs.declared.happening.Happening.{Happening}
+use Rattle.state_transfer.specs.Meanings.{Meaning}
+use Rattle.trace_props.specs.declared.event.Event.{Event}
 use Rattle.trace_props.specs.declared.verdict.Rule.{Rule}
 use Rattle.trace_props.specs.declared.verdict.Rule.TheVariants.{WellPlaced, RisingViews, SoundMessages, OneOrder, SameNext, Together, HandedBack, StateOfEntry}
 use Rattle.trace_props.specs.declared.verdict.Verdict.{Verdict}
@@ -37,17 +37,17 @@ pub data IsVerdictText : Verdict → Status → List ℕ → Type 0 where
   Untold : (v : Verdict) → IsVerdictText v Memory memory_line
 
 -- the texts of what happened: of the verdict on it; or `# memory`, where memory is refused
-pub data IsJudgedText {S : Type 0} (opening : S) (apply : S → Address → List ℕ → S) (decode : List ℕ → Option S) (t : List Happening) : Status → List ℕ → Type 0 where
-  Judged : (v : Verdict) (status : Status) (text : List ℕ) → IsVerdict opening apply decode t v → IsVerdictText v status text → IsJudgedText opening apply decode t status text
-  Unjudged : IsJudgedText opening apply decode t Memory memory_line
+pub data IsJudgedText {S : Type 0} (meaning : Meaning S) (t : List Event) : Status → List ℕ → Type 0 where
+  Judged : (v : Verdict) (status : Status) (text : List ℕ) → IsVerdict meaning t v → IsVerdictText v status text → IsJudgedText meaning t status text
+  Unjudged : IsJudgedText meaning t Memory memory_line
 
 -- the texts of a trace's bytes: of what they say happened; of their first fault; or `# memory`, where memory is refused
-pub data IsCheckText {S : Type 0} (opening : S) (apply : S → Address → List ℕ → S) (decode : List ℕ → Option S) (bytes : List ℕ) : Status → List ℕ → Type 0 where
-  Checks : (t : List Happening) (status : Status) (text : List ℕ) → trace_of bytes ≡ Ok t → IsJudgedText opening apply decode t status text → IsCheckText opening apply decode bytes status text
+pub data IsCheckText {S : Type 0} (meaning : Meaning S) (bytes : List ℕ) : Status → List ℕ → Type 0 where
+  Checks : (t : List Event) (status : Status) (text : List ℕ) → trace_of bytes ≡ Ok t → IsJudgedText meaning t status text → IsCheckText meaning bytes status text
   Faulty : (line : ℕ) (fault : Fault) (status : Status) (text : List ℕ) → trace_of bytes ≡ Err (record { line = line; fault = fault })
-      → IsFaultText line (fault_number fault) status text → IsCheckText opening apply decode bytes status text
-  Unread : IsCheckText opening apply decode bytes Memory memory_line
+      → IsFaultText line (fault_number fault) status text → IsCheckText meaning bytes status text
+  Unread : IsCheckText meaning bytes Memory memory_line
 
 -- a trace is checked from a reader to a writer
-abbrev pub ChecksTrace : {S : Type 0} → S → (S → Address → List ℕ → S) → (List ℕ → Option S) → Option (List ℕ) → Option (List ℕ) → Option (List ℕ) → Status → Type 0
-ChecksTrace opening apply decode left old new status = IsAnswer (IsCheckText opening apply decode) left old new status
+abbrev pub ChecksTrace : {S : Type 0} → Meaning S → Option (List ℕ) → Option (List ℕ) → Option (List ℕ) → Status → Type 0
+ChecksTrace meaning left old new status = IsAnswer (IsCheckText meaning) left old new status

@@ -3,9 +3,9 @@ use Rattle.std.specs.Prelude.{◌≡◌, ℕ, List, [], ◌∷◌, ◌++◌, Opt
 use Rattle.std.specs.List.{concat}
 use Rattle.std.specs.Fmt.{decimal}
 use Rattle.std.specs.Io.KnownBytes.{Appends}
+use Rattle.state_transfer.specs.Meanings.{Meaning}
 use Rattle.trace_props.specs.Places.{EachPlace}
 use Rattle.trace_props.specs.Synchrony.{IsWellOrdered, IsVirtuallySynchronous}
-use Rattle.address.specs.Ids.{Address}
 use Rattle.world_model.specs.declared.WorldEvent.{WorldEvent}
 use Rattle.world_model.specs.Faithful.{IsFaithful}
 use Rattle.world_model.specs.Histories.{History}
@@ -40,11 +40,11 @@ pub data Ends (old new : Option (List ℕ)) (text : List ℕ) (status : Status) 
 
 -- a world came from nothing by exactly these events, each a world step: its history is faithful, and its trace is virtually synchronous,
 -- well ordered at every place
-pub record Ran {S : Type 0} (opening : S) (apply : S → Address → List ℕ → S) (encode : S → List ℕ) (decode : List ℕ → Option S) (events : List WorldEvent) (w : WorldModel S) : Type 0 where
-  pub ran : WorldRuns opening apply encode decode no_world events w
+pub record Ran {S : Type 0} (meaning : Meaning S) (events : List WorldEvent) (w : WorldModel S) : Type 0 where
+  pub ran : WorldRuns meaning no_world events w
   pub faithful : IsFaithful w.history
   pub ordered : EachPlace IsWellOrdered w.history.trace
-  pub synchronous : IsVirtuallySynchronous opening apply decode w.history.trace
+  pub synchronous : IsVirtuallySynchronous meaning w.history.trace
 
 -- the texts of some lines: all of them, where there is nothing more to say; or the first few and `# memory`
 pub data IsLinesText (lines : List (List ℕ)) (whole : Bool) : Status → List ℕ → Type 0 where
@@ -53,18 +53,17 @@ pub data IsLinesText (lines : List (List ℕ)) (whole : Bool) : Status → List 
 
 -- the texts of a script's run: all of it; or, where memory was refused outside a member's step, whole lines of a beginning
 -- and `# memory`
-pub data IsRunText {S : Type 0} (opening : S) (apply : S → Address → List ℕ → S) (encode : S → List ℕ) (decode : List ℕ → Option S) (script : Script) : Status → List ℕ → Type 0 where
-  All : (w : WorldModel S) → Ran opening apply encode decode script.events w → IsRunText opening apply encode decode script Done (text_of_run script.lines w.history.replies w.history.trace)
-  Part : (w : WorldModel S) (events lines : ℕ) → Ran opening apply encode decode (take events script.events) w
-      → IsRunText opening apply encode decode script Memory (concat (take lines (lines_of_run script.lines w.history.replies w.history.trace)) ++ memory_line)
+pub data IsRunText {S : Type 0} (meaning : Meaning S) (script : Script) : Status → List ℕ → Type 0 where
+  All : (w : WorldModel S) → Ran meaning script.events w → IsRunText meaning script Done (text_of_run script.lines w.history.replies w.history.trace)
+  Part : (w : WorldModel S) (events lines : ℕ) → Ran meaning (take events script.events) w
+      → IsRunText meaning script Memory (concat (take lines (lines_of_run script.lines w.history.replies w.history.trace)) ++ memory_line)
 
 -- the texts of what is told of a script's run at its end, lines of its history: all of them; the first few and `# memory`; or `# memory`
 -- alone, where the script was not run to its end for want of memory
-pub data IsEndText {S : Type 0} (opening : S) (apply : S → Address → List ℕ → S) (encode : S → List ℕ) (decode : List ℕ → Option S) (lines_of : History → List (List ℕ)) (script : Script) : Status → List ℕ → Type 0 where
-  All : (w : WorldModel S) → Ran opening apply encode decode script.events w → IsEndText opening apply encode decode lines_of script Done (concat (lines_of w.history))
-  Part : (w : WorldModel S) (count : ℕ) → Ran opening apply encode decode script.events w
-      → IsEndText opening apply encode decode lines_of script Memory (concat (take count (lines_of w.history)) ++ memory_line)
-  Stopped : IsEndText opening apply encode decode lines_of script Memory memory_line
+pub data IsEndText {S : Type 0} (meaning : Meaning S) (lines_of : History → List (List ℕ)) (script : Script) : Status → List ℕ → Type 0 where
+  All : (w : WorldModel S) → Ran meaning script.events w → IsEndText meaning lines_of script Done (concat (lines_of w.history))
+  Part : (w : WorldModel S) (count : ℕ) → Ran meaning script.events w → IsEndText meaning lines_of script Memory (concat (take count (lines_of w.history)) ++ memory_line)
+  Stopped : IsEndText meaning lines_of script Memory memory_line
 
 -- the texts of an input's first fault: its line; or `# memory`, where memory is refused
 pub data IsFaultText (line number : ℕ) : Status → List ℕ → Type 0 where
@@ -101,5 +100,5 @@ ReadsScript left old new (Ok script) = (bytes : List ℕ) × IfSome left (λ all
 ReadsScript left old new (Err status) = IsAnswer IsUnreadText left old new status
 
 -- a script is run from a reader to a writer
-abbrev pub RunsScript : {S : Type 0} → S → (S → Address → List ℕ → S) → (S → List ℕ) → (List ℕ → Option S) → Option (List ℕ) → Option (List ℕ) → Option (List ℕ) → Status → Type 0
-RunsScript opening apply encode decode left old new status = IsAnswer (IsScriptText (IsRunText opening apply encode decode)) left old new status
+abbrev pub RunsScript : {S : Type 0} → Meaning S → Option (List ℕ) → Option (List ℕ) → Option (List ℕ) → Status → Type 0
+RunsScript meaning left old new status = IsAnswer (IsScriptText (IsRunText meaning)) left old new status

@@ -1,15 +1,15 @@
 -- What a command writes that tells the packets of a script's run.
 use Rattle.std.specs.Prelude.{ℕ, List, Option}
-use Rattle.address.specs.Ids.{Address}
+use Rattle.state_transfer.specs.Meanings.{Meaning}
 use Rattle.packet_text.specs.PacketText.{packet_lines}
 use Rattle.script_reader.specs.declared.script.Script.{Script}
 use Rattle.vsync_runs.specs.declared.status.Status.{Status}
 use Rattle.vsync_runs.specs.Outcomes.{IsEndText, IsScriptText, IsAnswer}
 
 -- the texts of the packets that were put out in a script's run, in order
-abbrev pub IsPacketText : {S : Type 0} → S → (S → Address → List ℕ → S) → (S → List ℕ) → (List ℕ → Option S) → Script → Status → List ℕ → Type 0
-IsPacketText opening apply encode decode = IsEndText opening apply encode decode (λ h. packet_lines h.pool)
+abbrev pub IsPacketText : {S : Type 0} → Meaning S → Script → Status → List ℕ → Type 0
+IsPacketText meaning = IsEndText meaning (λ h. packet_lines h.pool)
 
 -- a script is run from a reader, and the packets are told to a writer
-abbrev pub RunsPackets : {S : Type 0} → S → (S → Address → List ℕ → S) → (S → List ℕ) → (List ℕ → Option S) → Option (List ℕ) → Option (List ℕ) → Option (List ℕ) → Status → Type 0
-RunsPackets opening apply encode decode left old new status = IsAnswer (IsScriptText (IsPacketText opening apply encode decode)) left old new status
+abbrev pub RunsPackets : {S : Type 0} → Meaning S → Option (List ℕ) → Option (List ℕ) → Option (List ℕ) → Status → Type 0
+RunsPackets meaning left old new status = IsAnswer (IsScriptText (IsPacketText meaning)) left old new status

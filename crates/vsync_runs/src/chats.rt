@@ -21,7 +21,7 @@ fn append_chat_at<C: Chat>(
     number: u16,
 ) -> Result<(), AllocError>
     requires { 1 ≤ number }
-    ensures ok { OnOk result (out.new.items ≡ out.old.items ++ concat (option_to_list (chat_at C.opening_state C.apply C.decode C.lines_of world.now.history.trace number))) }
+    ensures ok { OnOk result (out.new.items ≡ out.old.items ++ concat (option_to_list (chat_at C.meaning C.lines_of world.now.history.trace number))) }
     ensures err { OnErr result (out.new.items ≡ out.old.items) }
 {
     let Some(node) = Node::new(number) else {
@@ -38,8 +38,8 @@ fn append_chat_at<C: Chat>(
 
 /// Appends the chat lines of all members that run, by node; the first few of them where memory is refused.
 fn append_chats<C: Chat>(out: &mut Vec<u8>, world: &World<C>) -> Result<(), AllocError>
-    ensures ok { OnOk result (out.new.items ≡ out.old.items ++ concat (chats_of C.opening_state C.apply C.decode C.lines_of world.now.history.trace)) }
-    ensures err { OnErr result ((count : ℕ) × (out.new.items ≡ out.old.items ++ concat (take count (chats_of C.opening_state C.apply C.decode C.lines_of world.now.history.trace)))) }
+    ensures ok { OnOk result (out.new.items ≡ out.old.items ++ concat (chats_of C.meaning C.lines_of world.now.history.trace)) }
+    ensures err { OnErr result ((count : ℕ) × (out.new.items ≡ out.old.items ++ concat (take count (chats_of C.meaning C.lines_of world.now.history.trace)))) }
 {
     for before in 0..u16::MAX {
         append_chat_at(out, world, before + 1)?;
@@ -49,7 +49,7 @@ fn append_chats<C: Chat>(out: &mut Vec<u8>, world: &World<C>) -> Result<(), Allo
 
 /// Writes the chats of a world.
 fn tell_chats<C: Chat, W: Write>(alloc: Global, world: &World<C>, writer: &mut W) -> Status
-    ensures { Written (IsLinesText (chats_of C.opening_state C.apply C.decode C.lines_of world.now.history.trace) true) (W.contents writer.old) (W.contents writer.new) result }
+    ensures { Written (IsLinesText (chats_of C.meaning C.lines_of world.now.history.trace) true) (W.contents writer.old) (W.contents writer.new) result }
 {
     let mut text = Vec::new(alloc);
     let appended = append_chats(&mut text, world);
@@ -58,7 +58,7 @@ fn tell_chats<C: Chat, W: Write>(alloc: Global, world: &World<C>, writer: &mut W
 
 /// Runs a script's events in a world, and writes the chats of its members.
 fn play_chats<C: Chat, W: Write>(alloc: Global, script: &Script, writer: &mut W) -> Status
-    ensures { Written (IsChatText C.opening_state C.apply C.encode C.decode C.lines_of script.now) (W.contents writer.old) (W.contents writer.new) result }
+    ensures { Written (IsChatText C.meaning C.lines_of script.now) (W.contents writer.old) (W.contents writer.new) result }
 {
     let mut world = World::<C>::new(alloc);
     match world.run(script.events()) {
@@ -73,7 +73,7 @@ fn play_chats<C: Chat, W: Write>(alloc: Global, script: &Script, writer: &mut W)
 /// Where memory is refused outside a member's step, it writes the lines so far and `# memory`; none, if the script was not run
 /// to its end.
 pub fn run_chat<C: Chat, I: Read, W: Write>(alloc: Global, reader: &mut I, writer: &mut W) -> Status
-    ensures { RunsChat C.opening_state C.apply C.encode C.decode C.lines_of (I.remaining reader.old) (W.contents writer.old) (W.contents writer.new) result }
+    ensures { RunsChat C.meaning C.lines_of (I.remaining reader.old) (W.contents writer.old) (W.contents writer.new) result }
 {
     match script_from(alloc, reader, writer) {
         Ok(script) => play_chats::<C, W>(alloc, &script, writer),

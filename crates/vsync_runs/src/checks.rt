@@ -47,7 +47,7 @@ fn tell_verdict<W: Write>(alloc: Global, writer: &mut W, verdict: Verdict) -> St
 
 /// Checks a trace, and writes the verdict.
 fn judge<R: Receiver, W: Write>(alloc: Global, trace: &Trace, writer: &mut W) -> Status
-    ensures { Written (IsJudgedText R.opening_state R.apply R.decode trace.now.happenings) (W.contents writer.old) (W.contents writer.new) result }
+    ensures { Written (IsJudgedText R.meaning trace.now.events) (W.contents writer.old) (W.contents writer.new) result }
 {
     match check::<R>(alloc, trace) {
         Ok(verdict) => tell_verdict(alloc, writer, verdict),
@@ -63,7 +63,7 @@ pub fn run_check<R: Receiver, I: Read, W: Write>(
     reader: &mut I,
     writer: &mut W,
 ) -> Status
-    ensures { ChecksTrace R.opening_state R.apply R.decode (I.remaining reader.old) (W.contents writer.old) (W.contents writer.new) result }
+    ensures { ChecksTrace R.meaning (I.remaining reader.old) (W.contents writer.old) (W.contents writer.new) result }
 {
     let bytes = match read_all(alloc, reader) {
         Ok(bytes) => bytes,

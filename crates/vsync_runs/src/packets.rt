@@ -24,7 +24,7 @@ fn tell_packets<R: Receiver, W: Write>(alloc: Global, world: &World<R>, writer: 
 
 /// Runs a script's events in a world, and writes the packets that were put out.
 fn play_packets<R: Receiver, W: Write>(alloc: Global, script: &Script, writer: &mut W) -> Status
-    ensures { Written (IsPacketText R.opening_state R.apply R.encode R.decode script.now) (W.contents writer.old) (W.contents writer.new) result }
+    ensures { Written (IsPacketText R.meaning script.now) (W.contents writer.old) (W.contents writer.new) result }
 {
     let mut world = World::<R>::new(alloc);
     match world.run(script.events()) {
@@ -43,7 +43,7 @@ pub fn run_packets<R: Receiver, I: Read, W: Write>(
     reader: &mut I,
     writer: &mut W,
 ) -> Status
-    ensures { RunsPackets R.opening_state R.apply R.encode R.decode (I.remaining reader.old) (W.contents writer.old) (W.contents writer.new) result }
+    ensures { RunsPackets R.meaning (I.remaining reader.old) (W.contents writer.old) (W.contents writer.new) result }
 {
     match script_from(alloc, reader, writer) {
         Ok(script) => play_packets::<R, W>(alloc, &script, writer),

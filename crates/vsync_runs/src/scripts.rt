@@ -41,8 +41,8 @@ fn tell<R: Receiver, W: Write>(
 ) -> Status
     ensures { Written (IsLinesText (lines_of_run lines.now world.now.history.replies world.now.history.trace) ran) (W.contents writer.old) (W.contents writer.new) result }
 {
-    let happenings = world.trace().happenings();
-    match write_run(alloc, writer, lines, world.replies(), happenings) {
+    let events = world.trace().events();
+    match write_run(alloc, writer, lines, world.replies(), events) {
         Printed::Failed => Status::Outside,
         Printed::Memory => end_in_memory(writer),
         Printed::All => {
@@ -57,7 +57,7 @@ fn tell<R: Receiver, W: Write>(
 
 /// Runs a script's events in a world, and writes what happened.
 fn play<R: Receiver, W: Write>(alloc: Global, script: &Script, writer: &mut W) -> Status
-    ensures { Written (IsRunText R.opening_state R.apply R.encode R.decode script.now) (W.contents writer.old) (W.contents writer.new) result }
+    ensures { Written (IsRunText R.meaning script.now) (W.contents writer.old) (W.contents writer.new) result }
 {
     let mut world = World::<R>::new(alloc);
     let ran = world.run(script.events()).is_ok();
@@ -71,7 +71,7 @@ pub fn run_script<R: Receiver, I: Read, W: Write>(
     reader: &mut I,
     writer: &mut W,
 ) -> Status
-    ensures { RunsScript R.opening_state R.apply R.encode R.decode (I.remaining reader.old) (W.contents writer.old) (W.contents writer.new) result }
+    ensures { RunsScript R.meaning (I.remaining reader.old) (W.contents writer.old) (W.contents writer.new) result }
 {
     match script_from(alloc, reader, writer) {
         Ok(script) => play::<R, W>(alloc, &script, writer),

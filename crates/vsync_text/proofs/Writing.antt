@@ -5,11 +5,11 @@ use Rattle.std.specs.List.{concat}
 use Rattle.std.specs.Io.KnownBytes.{Appends}
 use Rattle.vsync_text.specs.declared.buffered.Unwritten.{Unwritten}
 use Rattle.vsync_text.specs.declared.buffered.Unwritten.TheVariants.{Memory, Failed}
-use Rattle.trace_props.specs.declared.happening.Happening.{Happening}
+use Rattle.trace_props.specs.declared.event.Event.{Event}
 use Rattle.world_model.specs.declared.Reply.{Reply}
 use Rattle.world_model.specs.declared.Refusal.{Refusal}
 use Rattle.world_model.specs.Refusals.{number_of}
-use Rattle.vsync_text.specs.Runs.{lines_from, event_lines, refusal_line, refused_lines}
+use Rattle.vsync_text.specs.Runs.{lines_from, reply_lines, refusal_line, refused_lines}
 use Rattle.vsync_text.specs.Writing.{Went, TookBeginning, TookLines, Writes}
 
 pub appends_nothing : (a : Option (List ℕ)) → Appends a a []
@@ -153,30 +153,30 @@ stops_one {H} f a b c h l m why x rest later all e g w =
 
 -- the lines of one event more
 pub stops_event : (a b c : Option (List ℕ)) (h l m : List ℕ) (why : Unwritten) (from line : ℕ) (reply : Reply)
-    (lines later_lines : List ℕ) (replies later : List Reply) (t : List Happening) (all : List (List ℕ))
+    (lines later_lines : List ℕ) (replies later : List Reply) (t : List Event) (all : List (List ℕ))
     → lines ≡ line ∷ later_lines → replies ≡ reply ∷ later → GoesOn a b h l (lines_from from lines replies t) all
-    → Writes b c l m (Err why) (event_lines from line reply t) → Writes a c h m (Err why) all
+    → Writes b c l m (Err why) (reply_lines from line reply t) → Writes a c h m (Err why) all
 stops_event a b c h l m why from line reply lines later_lines replies later t all e f g w =
     let P : List ℕ → Type 0 = λ k. GoesOn a b h l (lines_from from k replies t) all in
     let Q : List Reply → Type 0 = λ k. GoesOn a b h l (lines_from from (line ∷ later_lines) k t) all in
-    stops a b c h l m why (event_lines from line reply t) (lines_from reply.place later_lines later t) all (subst Q f (subst P e g)) w
+    stops a b c h l m why (reply_lines from line reply t) (lines_from reply.place later_lines later t) all (subst Q f (subst P e g)) w
 
 pub goes_event : (a b c : Option (List ℕ)) (h l m : List ℕ) (from line : ℕ) (reply : Reply)
-    (lines later_lines : List ℕ) (replies later : List Reply) (t : List Happening) (all : List (List ℕ))
+    (lines later_lines : List ℕ) (replies later : List Reply) (t : List Event) (all : List (List ℕ))
     → lines ≡ line ∷ later_lines → replies ≡ reply ∷ later → GoesOn a b h l (lines_from from lines replies t) all
-    → Went b c l m (concat (event_lines from line reply t)) → GoesOn a c h m (lines_from reply.place later_lines later t) all
+    → Went b c l m (concat (reply_lines from line reply t)) → GoesOn a c h m (lines_from reply.place later_lines later t) all
 goes_event a b c h l m from line reply lines later_lines replies later t all e f g w =
     let P : List ℕ → Type 0 = λ k. GoesOn a b h l (lines_from from k replies t) all in
     let Q : List Reply → Type 0 = λ k. GoesOn a b h l (lines_from from (line ∷ later_lines) k t) all in
-    goes a b c h l m (event_lines from line reply t) (lines_from reply.place later_lines later t) all (subst Q f (subst P e g)) w
+    goes a b c h l m (reply_lines from line reply t) (lines_from reply.place later_lines later t) all (subst Q f (subst P e g)) w
 
 -- no line or no reply is left
-pub ends_lines : (a b : Option (List ℕ)) (h l : List ℕ) (from : ℕ) (lines : List ℕ) (replies : List Reply) (t : List Happening) (all : List (List ℕ))
+pub ends_lines : (a b : Option (List ℕ)) (h l : List ℕ) (from : ℕ) (lines : List ℕ) (replies : List Reply) (t : List Event) (all : List (List ℕ))
     → length lines ≡ 0 → GoesOn a b h l (lines_from from lines replies t) all → Went a b h l (concat all)
 ends_lines a b h l from [] replies t all e g = ends a b h l all g
 ends_lines a b h l from (line ∷ lines) replies t all e g = absurd (omega (arith, e))
 
-pub ends_replies : (a b : Option (List ℕ)) (h l : List ℕ) (from : ℕ) (lines : List ℕ) (replies : List Reply) (t : List Happening) (all : List (List ℕ))
+pub ends_replies : (a b : Option (List ℕ)) (h l : List ℕ) (from : ℕ) (lines : List ℕ) (replies : List Reply) (t : List Event) (all : List (List ℕ))
     → length replies ≡ 0 → GoesOn a b h l (lines_from from lines replies t) all → Went a b h l (concat all)
 ends_replies a b h l from [] replies t all e g = ends a b h l all g
 ends_replies a b h l from (line ∷ lines) [] t all e g = ends a b h l all g

@@ -1,8 +1,8 @@
--- The text of a run: the lines of its happenings, with the refusals at their places.
+-- The text of a run: the lines of its events, with the refusals at their places.
 use Rattle.std.specs.Prelude.{ℕ, ◌-◌, ◌∷◌, [], ◌++◌, List, take, drop, map, codes, nat_eq, if◌then◌else◌}
 use Rattle.std.specs.List.{concat}
 use Rattle.std.specs.Fmt.{decimal}
-use Rattle.trace_props.specs.declared.happening.Happening.{Happening}
+use Rattle.trace_props.specs.declared.event.Event.{Event}
 use Rattle.world_model.specs.declared.Answer.{Answer}
 use Rattle.world_model.specs.declared.Answer.TheVariants.{Done, Sent, Refused}
 use Rattle.world_model.specs.declared.Refusal.{Refusal}
@@ -25,23 +25,23 @@ answer_lines line Done = []
 answer_lines line (Sent n) = []
 answer_lines line (Refused r) = refused_lines line r
 
--- the happenings from one place up to another
-abbrev pub stretch : ℕ → ℕ → List Happening → List Happening
+-- the events from one place up to another
+abbrev pub stretch : ℕ → ℕ → List Event → List Event
 stretch from to t = take (to - from) (drop from t)
 
 -- the lines of one event: what happened since the place before it, and its refusal
-abbrev pub event_lines : ℕ → ℕ → Reply → List Happening → List (List ℕ)
-event_lines from line reply t = map line_of (stretch from reply.place t) ++ answer_lines line reply.answer
+abbrev pub reply_lines : ℕ → ℕ → Reply → List Event → List (List ℕ)
+reply_lines from line reply t = map line_of (stretch from reply.place t) ++ answer_lines line reply.answer
 
 -- the lines from a place on
-abbrev pub lines_from : ℕ → List ℕ → List Reply → List Happening → List (List ℕ)
+abbrev pub lines_from : ℕ → List ℕ → List Reply → List Event → List (List ℕ)
 lines_from from [] replies t = []
 lines_from from (line ∷ lines) [] t = []
-lines_from from (line ∷ lines) (reply ∷ replies) t = event_lines from line reply t ++ lines_from reply.place lines replies t
+lines_from from (line ∷ lines) (reply ∷ replies) t = reply_lines from line reply t ++ lines_from reply.place lines replies t
 
 -- the lines of a run: of the events' line numbers, of the replies and of what happened
-abbrev pub lines_of_run : List ℕ → List Reply → List Happening → List (List ℕ)
+abbrev pub lines_of_run : List ℕ → List Reply → List Event → List (List ℕ)
 lines_of_run lines replies t = lines_from 0 lines replies t
 
-abbrev pub text_of_run : List ℕ → List Reply → List Happening → List ℕ
+abbrev pub text_of_run : List ℕ → List Reply → List Event → List ℕ
 text_of_run lines replies t = concat (lines_of_run lines replies t)

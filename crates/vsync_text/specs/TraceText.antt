@@ -1,14 +1,14 @@
--- The text of a trace: one line a happening.
+-- The text of a trace: one line an event.
 use Rattle.std.specs.Prelude.{◌≡◌, ℕ, ◌+◌, ◌/◌, ◌%◌, ◌∷◌, [], ◌++◌, List, Option, None, Some, length, take, codes, nat_lt, flat_map, if◌then◌else◌}
 use Rattle.std.specs.List.{join_by}
 use Rattle.std.specs.Fmt.{decimal}
 use Rattle.address.specs.Ids.{Address, ViewId, text_of_address, text_of_view_id}
-use Rattle.trace_props.specs.declared.happening.Happening.{Happening}
-use Rattle.trace_props.specs.declared.happening.Happening.TheVariants.{Started, Sent, Delivered, Blocked, Installed, Left, Crashed}
-use Rattle.trace_props.specs.declared.happening.Sending.{Sending}
-use Rattle.trace_props.specs.declared.happening.Delivery.{Delivery}
-use Rattle.trace_props.specs.declared.happening.Install.{Install}
-use Rattle.trace_props.specs.declared.happening.Numbered.{Numbered}
+use Rattle.trace_props.specs.declared.event.Event.{Event}
+use Rattle.trace_props.specs.declared.event.Event.TheVariants.{Started, Sent, Delivered, Blocked, Installed, Left, Crashed}
+use Rattle.trace_props.specs.declared.event.Sending.{Sending}
+use Rattle.trace_props.specs.declared.event.Delivery.{Delivery}
+use Rattle.trace_props.specs.declared.event.Install.{Install}
+use Rattle.trace_props.specs.declared.event.Numbered.{Numbered}
 
 abbrev pub hex_digit : ℕ → ℕ
 hex_digit n = if nat_lt n 10 then 48 + n else 87 + n
@@ -79,17 +79,17 @@ delivery_fields d =
     field (text_of_address d.member) ++ field (text_of_view_id d.view) ++ field (text_of_address d.message.sender)
     ++ field (decimal d.message.number) ++ field (text_of_payload d.message.payload)
 
--- the word with which the line of a happening begins
-abbrev pub happening_word : Happening → List ℕ
-happening_word (Started p) = codes "started"
-happening_word (Sent s) = codes "sent"
-happening_word (Delivered d) = codes "delivered"
-happening_word (Blocked p) = codes "blocked"
-happening_word (Installed i) = codes "installed"
-happening_word (Left p) = codes "left"
-happening_word (Crashed p) = codes "crashed"
+-- the word with which the line of an event begins
+abbrev pub event_word : Event → List ℕ
+event_word (Started p) = codes "started"
+event_word (Sent s) = codes "sent"
+event_word (Delivered d) = codes "delivered"
+event_word (Blocked p) = codes "blocked"
+event_word (Installed i) = codes "installed"
+event_word (Left p) = codes "left"
+event_word (Crashed p) = codes "crashed"
 
-abbrev pub fields_of : Happening → List ℕ
+abbrev pub fields_of : Event → List ℕ
 fields_of (Started p) = field (text_of_address p)
 fields_of (Sent s) = sending_fields s
 fields_of (Delivered d) = delivery_fields d
@@ -98,9 +98,9 @@ fields_of (Installed i) = install_view i ++ install_rest i
 fields_of (Left p) = field (text_of_address p)
 fields_of (Crashed p) = field (text_of_address p)
 
--- the line of a happening, with its line feed
-abbrev pub line_of : Happening → List ℕ
-line_of h = line_with (happening_word h) (fields_of h)
+-- the line of an event, with its line feed
+abbrev pub line_of : Event → List ℕ
+line_of h = line_with (event_word h) (fields_of h)
 
 -- a text goes on from another
 pub record GoesOnFrom (old new : List ℕ) : Type 0 where

@@ -6,10 +6,10 @@ ghost use Rattle.vsync_text.specs.TraceText.{line_of};
 ghost use Rattle.vsync_text.specs.Runs.{refusal_line};
 ghost use Rattle.vsync_text.specs.Writing.{Writes, Settles};
 
-use crate::trace_line::{append_happening, append_refusal};
+use crate::trace_line::{append_event, append_refusal};
 use std::io;
 use std::io::Write;
-use trace_props::Happening;
+use trace_props::Event;
 
 /// How many bytes the buffer holds before they are written.
 pub(crate) const PIECE: usize = 32_768;
@@ -78,17 +78,17 @@ fn give_up<W: Write>(writer: &mut W, buffer: &mut Vec<u8>) -> Unwritten
     }
 }
 
-/// Writes the line of a happening.
-pub(crate) fn write_happening<W: Write>(
+/// Writes the line of an event.
+pub(crate) fn write_event<W: Write>(
     writer: &mut W,
     buffer: &mut Vec<u8>,
-    happening: &Happening,
+    event: &Event,
 ) -> Result<(), Unwritten>
-    ensures { Writes (W.contents writer.old) (W.contents writer.new) buffer.old.items buffer.new.items result (line_of happening.now ∷ []) }
+    ensures { Writes (W.contents writer.old) (W.contents writer.new) buffer.old.items buffer.new.items result (line_of event.now ∷ []) }
 {
     match settle_piece(writer, buffer) {
         Err(why) => Err(why),
-        Ok(()) => match append_happening(buffer, happening) {
+        Ok(()) => match append_event(buffer, event) {
             Ok(()) => Ok(()),
             Err(_) => Err(give_up(writer, buffer)),
         },

@@ -1,12 +1,12 @@
 ghost use Rattle.std.specs.Prelude.{◌≡◌, [], take, drop, map};
 ghost use Rattle.vsync_text.specs.TraceText.{line_of};
-ghost use Rattle.vsync_text.specs.Runs.{stretch, refused_lines, answer_lines, event_lines, lines_from, lines_of_run};
+ghost use Rattle.vsync_text.specs.Runs.{stretch, refused_lines, answer_lines, reply_lines, lines_from, lines_of_run};
 ghost use Rattle.vsync_text.specs.Writing.{Writes, Prints};
 
-use crate::buffered::{PIECE, Unwritten, settle, write_happening, write_refusal};
+use crate::buffered::{PIECE, Unwritten, settle, write_event, write_refusal};
 use std::alloc::Global;
 use std::io::Write;
-use trace_props::Happening;
+use trace_props::Event;
 use world_model::{Answer, Refusal, Reply};
 
 /// How the writing of a run ended.
@@ -20,15 +20,15 @@ pub enum Printed {
     Failed,
 }
 
-/// The happenings from one place up to another, as far as there are any.
-fn stretch(from: usize, to: usize, happenings: &[Happening]) -> &[Happening]
-    ensures { result.now ≡ stretch from to happenings.now }
+/// The events from one place up to another, as far as there are any.
+fn stretch(from: usize, to: usize, events: &[Event]) -> &[Event]
+    ensures { result.now ≡ stretch from to events.now }
 {
-    if from >= to || happenings.len() <= from {
-        let (none, _) = happenings.split_at(0);
+    if from >= to || events.len() <= from {
+        let (none, _) = events.split_at(0);
         return none;
     }
-    let (_, rest) = happenings.split_at(from);
+    let (_, rest) = events.split_at(from);
     let count = to - from;
     if rest.len() <= count {
         return rest;
@@ -37,17 +37,17 @@ fn stretch(from: usize, to: usize, happenings: &[Happening]) -> &[Happening]
     these
 }
 
-/// Writes the lines of happenings.
-fn write_happenings<W: Write>(
+/// Writes the lines of events.
+fn write_events<W: Write>(
     writer: &mut W,
     buffer: &mut Vec<u8>,
-    happenings: &[Happening],
+    events: &[Event],
 ) -> Result<(), Unwritten>
-    ensures { Writes (W.contents writer.old) (W.contents writer.new) buffer.old.items buffer.new.items result (map line_of happenings.now) }
+    ensures { Writes (W.contents writer.old) (W.contents writer.new) buffer.old.items buffer.new.items result (map line_of events.now) }
 {
-    let mut rest = happenings;
-    while let Some((happening, later)) = rest.split_first() {
-        if let Err(why) = write_happening(writer, buffer, happening) {
+    let mut rest = events;
+    while let Some((event, later)) = rest.split_first() {
+        if let Err(why) = write_event(writer, buffer, event) {
             return Err(why);
         }
         rest = later;
@@ -87,33 +87,33 @@ fn write_answer<W: Write>(
     }
 }
 
-/// Writes the lines of one event.
+/// Writes what happened up to a reply, and its refusal.
 #[tactic(auto, using(crate::proofs::Writing::writes_then, crate::proofs::Writing::writes_stops))]
-fn write_event<W: Write>(
+fn write_reply<W: Write>(
     writer: &mut W,
     buffer: &mut Vec<u8>,
     from: usize,
     line: u64,
     reply: &Reply,
-    happenings: &[Happening],
+    events: &[Event],
 ) -> Result<(), Unwritten>
-    ensures { Writes (W.contents writer.old) (W.contents writer.new) buffer.old.items buffer.new.items result (event_lines from line reply.now happenings.now) }
+    ensures { Writes (W.contents writer.old) (W.contents writer.new) buffer.old.items buffer.new.items result (reply_lines from line reply.now events.now) }
 {
-    if let Err(why) = write_happenings(writer, buffer, stretch(from, reply.place, happenings)) {
+    if let Err(why) = write_events(writer, buffer, stretch(from, reply.place, events)) {
         return Err(why);
     }
     write_answer(writer, buffer, line, reply.answer)
 }
 
-/// Writes the lines of all events.
-fn write_events<W: Write>(
+/// Writes that of all replies.
+fn write_replies<W: Write>(
     writer: &mut W,
     buffer: &mut Vec<u8>,
     lines: &[u64],
     replies: &[Reply],
-    happenings: &[Happening],
+    events: &[Event],
 ) -> Result<(), Unwritten>
-    ensures { Writes (W.contents writer.old) (W.contents writer.new) buffer.old.items buffer.new.items result (lines_of_run lines.now replies.now happenings.now) }
+    ensures { Writes (W.contents writer.old) (W.contents writer.new) buffer.old.items buffer.new.items result (lines_of_run lines.now replies.now events.now) }
 {
     let mut from = 0;
     let mut lines = lines;
@@ -122,7 +122,7 @@ fn write_events<W: Write>(
         let Some((reply, later)) = replies.split_first() else {
             return Ok(());
         };
-        if let Err(why) = write_event(writer, buffer, from, *line, reply, happenings) {
+        if let Err(why) = write_reply(writer, buffer, from, *line, reply, events) {
             return Err(why);
         }
         from = reply.place;
@@ -139,12 +139,12 @@ fn write_through<W: Write>(
     buffer: &mut Vec<u8>,
     lines: &[u64],
     replies: &[Reply],
-    happenings: &[Happening],
+    events: &[Event],
 ) -> Printed
     requires empty { buffer.old.items ≡ [] }
-    ensures { Prints (W.contents writer.old) (W.contents writer.new) result (lines_of_run lines.now replies.now happenings.now) }
+    ensures { Prints (W.contents writer.old) (W.contents writer.new) result (lines_of_run lines.now replies.now events.now) }
 {
-    match write_events(writer, buffer, lines, replies, happenings) {
+    match write_replies(writer, buffer, lines, replies, events) {
         Err(Unwritten::Memory) => Printed::Memory,
         Err(Unwritten::Failed) => Printed::Failed,
         Ok(()) => match settle(writer, buffer) {
@@ -154,7 +154,7 @@ fn write_through<W: Write>(
     }
 }
 
-/// Writes the text of a run: for each reply in order, the lines of the happenings from the place of the reply before it up
+/// Writes the text of a run: for each reply in order, the lines of the events from the place of the reply before it up
 /// to its own, and then, where the event is refused for another reason than memory, `# refused LINE NUMBER` with the
 /// event's line number. `lines` are the line numbers of the events, in their order. The text goes out in pieces through one buffer.
 ///
@@ -166,12 +166,12 @@ pub fn write_run<W: Write>(
     writer: &mut W,
     lines: &[u64],
     replies: &[Reply],
-    happenings: &[Happening],
+    events: &[Event],
 ) -> Printed
-    ensures { Prints (W.contents writer.old) (W.contents writer.new) result (lines_of_run lines.now replies.now happenings.now) }
+    ensures { Prints (W.contents writer.old) (W.contents writer.new) result (lines_of_run lines.now replies.now events.now) }
 {
     let Ok(mut buffer) = Vec::with_capacity(alloc, 2 * PIECE) else {
         return Printed::Memory;
     };
-    write_through(writer, &mut buffer, lines, replies, happenings)
+    write_through(writer, &mut buffer, lines, replies, events)
 }

@@ -1,7 +1,7 @@
 ghost use Rattle.std.specs.Prelude.{◌≡◌, ◌++◌, OnOk, OnErr};
 ghost use Rattle.std.specs.Fmt.{decimal};
 ghost use Rattle.address.specs.Ids.{text_of_address, text_of_view_id};
-ghost use Rattle.vsync_text.specs.TraceText.{GoesOnFrom, field, text_of_payload, text_of_addresses, sending_fields, delivery_fields, install_view, install_rest, happening_word, fields_of, line_of};
+ghost use Rattle.vsync_text.specs.TraceText.{GoesOnFrom, field, text_of_payload, text_of_addresses, sending_fields, delivery_fields, install_view, install_rest, event_word, fields_of, line_of};
 ghost use Rattle.vsync_text.specs.Runs.{refusal_line};
 
 use crate::append::{
@@ -10,7 +10,7 @@ use crate::append::{
 };
 use address::{Address, ViewId};
 use std::alloc::AllocError;
-use trace_props::{Delivery, Happening, Install, Sending};
+use trace_props::{Delivery, Event, Install, Sending};
 use view::View;
 
 /// Appends a member and the view in which it is.
@@ -101,45 +101,45 @@ fn put_install_fields(out: &mut Vec<u8>, install: &Install) -> Result<(), AllocE
     put_install_rest(out, install)
 }
 
-/// Appends the fields of a happening, each behind a space.
-fn put_fields(out: &mut Vec<u8>, happening: &Happening) -> Result<(), AllocError>
-    ensures text { OnOk result (out.new.items ≡ out.old.items ++ fields_of happening.now) }
+/// Appends the fields of an event, each behind a space.
+fn put_fields(out: &mut Vec<u8>, event: &Event) -> Result<(), AllocError>
+    ensures text { OnOk result (out.new.items ≡ out.old.items ++ fields_of event.now) }
     ensures kept { GoesOnFrom out.old.items out.new.items }
 {
-    match happening {
-        Happening::Started(member) => put_address(out, b' ', member),
-        Happening::Sent(sending) => put_sending_fields(out, sending),
-        Happening::Delivered(delivery) => put_delivery_fields(out, delivery),
-        Happening::Blocked(member) => put_address(out, b' ', member),
-        Happening::Installed(install) => put_install_fields(out, install),
-        Happening::Left(member) => put_address(out, b' ', member),
-        Happening::Crashed(member) => put_address(out, b' ', member),
+    match event {
+        Event::Started(member) => put_address(out, b' ', member),
+        Event::Sent(sending) => put_sending_fields(out, sending),
+        Event::Delivered(delivery) => put_delivery_fields(out, delivery),
+        Event::Blocked(member) => put_address(out, b' ', member),
+        Event::Installed(install) => put_install_fields(out, install),
+        Event::Left(member) => put_address(out, b' ', member),
+        Event::Crashed(member) => put_address(out, b' ', member),
     }
 }
 
-/// The word with which the line of a happening begins.
-fn happening_word(happening: &Happening) -> &'static [u8]
-    ensures { result.now ≡ happening_word happening.now }
+/// The word with which the line of an event begins.
+fn event_word(event: &Event) -> &'static [u8]
+    ensures { result.now ≡ event_word event.now }
 {
-    match happening {
-        Happening::Started(_) => b"started",
-        Happening::Sent(_) => b"sent",
-        Happening::Delivered(_) => b"delivered",
-        Happening::Blocked(_) => b"blocked",
-        Happening::Installed(_) => b"installed",
-        Happening::Left(_) => b"left",
-        Happening::Crashed(_) => b"crashed",
+    match event {
+        Event::Started(_) => b"started",
+        Event::Sent(_) => b"sent",
+        Event::Delivered(_) => b"delivered",
+        Event::Blocked(_) => b"blocked",
+        Event::Installed(_) => b"installed",
+        Event::Left(_) => b"left",
+        Event::Crashed(_) => b"crashed",
     }
 }
 
-/// Appends the line of a happening or a part of it.
+/// Appends the line of an event or a part of it.
 #[tactic(auto, using(crate::proofs::Appending::goes_on))]
-fn put_happening(out: &mut Vec<u8>, happening: &Happening) -> Result<(), AllocError>
-    ensures text { OnOk result (out.new.items ≡ out.old.items ++ line_of happening.now) }
+fn put_event(out: &mut Vec<u8>, event: &Event) -> Result<(), AllocError>
+    ensures text { OnOk result (out.new.items ≡ out.old.items ++ line_of event.now) }
     ensures kept { GoesOnFrom out.old.items out.new.items }
 {
-    put(out, happening_word(happening))?;
-    put_fields(out, happening)?;
+    put(out, event_word(event))?;
+    put_fields(out, event)?;
     put(out, b"\n")
 }
 
@@ -164,17 +164,17 @@ fn put_refusal(out: &mut Vec<u8>, line: u64, number: u8) -> Result<(), AllocErro
     put(out, b"\n")
 }
 
-/// Appends the line of a happening with its line feed, as `sent 1.1 1@1.1 1 6869`.
+/// Appends the line of an event with its line feed, as `sent 1.1 1@1.1 1 6869`.
 ///
 /// # Errors
 ///
 /// Where memory is refused, the buffer is left as it was.
-pub fn append_happening(out: &mut Vec<u8>, happening: &Happening) -> Result<(), AllocError>
-    ensures text { OnOk result (out.new.items ≡ out.old.items ++ line_of happening.now) }
+pub fn append_event(out: &mut Vec<u8>, event: &Event) -> Result<(), AllocError>
+    ensures text { OnOk result (out.new.items ≡ out.old.items ++ line_of event.now) }
     ensures err { OnErr result (out.new.items ≡ out.old.items) }
 {
     let before = out.len();
-    let result = put_happening(out, happening);
+    let result = put_event(out, event);
     if result.is_err() {
         out.truncate(before);
     }

@@ -84,7 +84,7 @@ fn with_world<'a>(
     let command = PathCommand {
         name: "world",
         about: "Runs a script of members in a world, and prints the trace of what happened",
-        after_help: "The script has a line for each event: start N, create N, join N ADDR, send N TEXT, deliver K, tick N, leave N, crash N.\nIt prints a line for each happening, and `# refused LINE NUMBER` for each event that is refused.\n\nExample:\n  vsync world examples/hello.script",
+        after_help: "The script has a line for each event: start N, create N, join N ADDR, send N TEXT, deliver K, tick N, leave N, crash N.\nIt prints a line for each event, and `# refused LINE NUMBER` for each event that is refused.\n\nExample:\n  vsync world examples/hello.script",
         argument: "SCRIPT",
         argument_help: "The script's path, or - for the standard input",
     };
@@ -132,7 +132,7 @@ fn with_check<'a>(
     let command = PathCommand {
         name: "check",
         about: "Checks whether a trace is virtually synchronous",
-        after_help: "The trace has a line for each happening, as `vsync world` prints it; empty lines and lines that begin with # are skipped.\nIt prints `holds`, or `broken RULE PLACE`: the rule that breaks first, and the length of the shortest beginning that breaks one.\n\nExample:\n  vsync check examples/hello.trace",
+        after_help: "The trace has a line for each event, as `vsync world` prints it; empty lines and lines that begin with # are skipped.\nIt prints `holds`, or `broken RULE PLACE`: the rule that breaks first, and the length of the shortest beginning that breaks one.\n\nExample:\n  vsync check examples/hello.trace",
         argument: "TRACE",
         argument_help: "The trace's path, or - for the standard input",
     };

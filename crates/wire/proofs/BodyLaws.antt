@@ -2,8 +2,7 @@
 use Rattle.std.proofs.Common.{◌≡◌, ℕ, ◌+◌, ◌-◌, ◌≤◌, Bool, true, false, cond, eqb, List, ◌++◌, length, Result, Ok, refl, sym, ap, ◌∙◌, append_assoc, arith}
 use Rattle.std.proofs.lemmas.Bool.{eqb-true}
 use Rattle.std.proofs.lemmas.Bool.Decides.{nat_tests}
-use Rattle.address.specs.declared.TheConstants.{GREATEST_NUMBER}
-use Rattle.packet_values.specs.declared.limits.TheConstants.{WINDOW, PAYLOAD}
+use Rattle.limits.specs.declared.TheConstants.{GREATEST_NUMBER, WINDOW, PAYLOAD}
 use Rattle.wire.specs.declared.error.WireError.{WireError}
 use Rattle.wire.specs.declared.error.WireError.TheVariants.{Value}
 use Rattle.wire.specs.declared.packet.Body.{Body}

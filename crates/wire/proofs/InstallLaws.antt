@@ -8,10 +8,8 @@ use Rattle.std.proofs.lemmas.Bool.Decides.{nat_tests}
 use Rattle.std.proofs.lemmas.List.{nil_from_length}
 use Rattle.byteorder.specs.Endian.{big_bytes}
 use Rattle.address.specs.Ids.{Address, ViewId}
-use Rattle.address.specs.declared.TheConstants.{GREATEST_NUMBER}
+use Rattle.limits.specs.declared.TheConstants.{GREATEST_NUMBER, MEMBERS, WINDOW, STATE}
 use Rattle.view.specs.Members.{View}
-use Rattle.view.specs.declared.TheConstants.{MEMBERS}
-use Rattle.packet_values.specs.declared.limits.TheConstants.{WINDOW, STATE}
 use Rattle.wire.specs.declared.error.WireError.{WireError}
 use Rattle.wire.specs.declared.error.WireError.TheVariants.{Length, Value}
 use Rattle.packet_values.specs.Values.{Entry}

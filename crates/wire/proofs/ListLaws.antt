@@ -3,8 +3,7 @@ use Rattle.std.proofs.Common.{◌≡◌, ℕ, zero, suc, ◌+◌, ◌≤◌, Boo
 use Rattle.std.specs.Prelude.{min}
 use Rattle.std.specs.List.{flat_map, AllByRecursion}
 use Rattle.std.proofs.lemmas.Bool.{ltb-true, leb-true, le-leb}
-use Rattle.address.specs.declared.TheConstants.{GREATEST_NUMBER}
-use Rattle.packet_values.specs.declared.limits.TheConstants.{WINDOW}
+use Rattle.limits.specs.declared.TheConstants.{GREATEST_NUMBER, WINDOW}
 use Rattle.wire.specs.declared.error.WireError.TheVariants.{Value}
 use Rattle.packet_values.specs.Values.{Entry}
 use Rattle.wire.specs.Reading.{Read, ◌>>=◌, number_at, list_at}

@@ -5,8 +5,7 @@ use Rattle.std.specs.List.{list_all}
 use Rattle.std.proofs.lemmas.Bool.{leb-true, le-leb}
 use Rattle.byteorder.specs.Endian.{big_bytes}
 use Rattle.address.specs.Ids.{Address}
-use Rattle.packet_values.specs.declared.limits.TheConstants.{GROUP_NAME}
-use Rattle.wire.specs.declared.limits.TheConstants.{MAGIC, VERSION, KINDS}
+use Rattle.limits.specs.declared.TheConstants.{GROUP_NAME, MAGIC, VERSION, KINDS}
 use Rattle.wire.specs.declared.error.WireError.TheVariants.{NotOurs, Version, Kind, Length, Value}
 use Rattle.wire.specs.declared.packet.Body.{Body}
 use Rattle.wire.specs.declared.packet.Body.TheVariants as bodies

@@ -6,9 +6,7 @@ use Rattle.std.proofs.lemmas.List.{length-append}
 use Rattle.byteorder.specs.Endian.{big_bytes}
 use Rattle.address.specs.Ids.{Address, ViewId}
 use Rattle.view.specs.Members.{View}
-use Rattle.view.specs.declared.TheConstants.{MEMBERS}
-use Rattle.packet_values.specs.declared.limits.TheConstants.{PAYLOAD, WINDOW, STATE, GROUP_NAME}
-use Rattle.wire.specs.declared.limits.TheConstants.{DATAGRAM}
+use Rattle.limits.specs.declared.TheConstants.{MEMBERS, PAYLOAD, WINDOW, STATE, GROUP_NAME, DATAGRAM}
 use Rattle.wire.specs.declared.packet.Body.{Body}
 use Rattle.wire.specs.declared.packet.Body.TheVariants as bodies
 use Rattle.wire.specs.declared.packet.Packet.{Packet}

@@ -2,8 +2,7 @@
 use Rattle.std.specs.Prelude.{◌≤◌, ◌<◌, ◌^◌, ℕ, List, ◌++◌, length, take, drop, Ok, Err, nat_le, ◌&&◌, if◌then◌else◌}
 use Rattle.byteorder.specs.Endian.{big_bytes, big_number}
 use Rattle.address.specs.Ids.{Address, ViewId}
-use Rattle.address.specs.declared.TheConstants.{GREATEST_NUMBER}
-use Rattle.packet_values.specs.declared.limits.TheConstants.{PAYLOAD}
+use Rattle.limits.specs.declared.TheConstants.{GREATEST_NUMBER, PAYLOAD}
 use Rattle.wire.specs.declared.error.WireError.TheVariants.{Length, Value}
 use Rattle.packet_values.specs.Values.{Entry}
 use Rattle.wire.specs.Reading.{Read, ◌>>=◌, bytes_at, number_at}

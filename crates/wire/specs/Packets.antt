@@ -3,9 +3,7 @@ use Rattle.std.specs.Prelude.{◌≡◌, ◌≤◌, ◌+◌, ◌-◌, ℕ, true,
 use Rattle.std.specs.Option.{option_map_or}
 use Rattle.byteorder.specs.Endian.{big_bytes}
 use Rattle.packet_values.specs.Values.{Entry}
-use Rattle.address.specs.declared.TheConstants.{GREATEST_NUMBER}
-use Rattle.packet_values.specs.declared.limits.TheConstants.{PAYLOAD, WINDOW}
-use Rattle.wire.specs.declared.limits.TheConstants.{DATAGRAM, VERSION, MAGIC, KINDS}
+use Rattle.limits.specs.declared.TheConstants.{GREATEST_NUMBER, PAYLOAD, WINDOW, DATAGRAM, VERSION, MAGIC, KINDS}
 use Rattle.wire.specs.declared.error.WireError.{WireError}
 use Rattle.wire.specs.declared.error.WireError.TheVariants.{NotOurs, Version, Kind, Length, Value, Trailing}
 use Rattle.wire.specs.declared.packet.Body.{Body}

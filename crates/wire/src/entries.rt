@@ -10,8 +10,8 @@ use crate::error::WireError;
 use crate::fields::Reader;
 use crate::numbers::number_at;
 use crate::text::payload_at;
-use address::GREATEST_NUMBER;
-use packet_values::{Entry, Number, WINDOW};
+use limits::{GREATEST_NUMBER, WINDOW};
+use packet_values::{Entry, Number};
 use std::marker::Model;
 
 #[tactic(auto, unfolding(crate::specs::Fields::entry_at))]
@@ -217,7 +217,7 @@ pub(crate) fn highest_next(stable: u64, delivered: u64, last: u64) -> u64
     if last < delivered {
         last + 1
     } else {
-        (stable + WINDOW as u64).min(GREATEST_NUMBER)
+        (stable + WINDOW).min(GREATEST_NUMBER)
     }
 }
 

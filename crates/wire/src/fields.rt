@@ -5,8 +5,9 @@ ghost use Rattle.wire.specs.Reading.{Gives, bytes_at, number_at};
 ghost use Rattle.wire.specs.Fields.{address_at, view_id_at};
 
 use crate::error::WireError;
-use address::{Address, GREATEST_NUMBER, Node, ViewId};
+use address::{Address, Node, ViewId};
 use byteorder::{BigEndian, ByteOrder};
+use limits::GREATEST_NUMBER;
 use std::marker::Model;
 
 /// What is left of some bytes. Each call takes a field off the front, or answers why it fails.

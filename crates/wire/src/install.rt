@@ -9,10 +9,10 @@ use crate::fields::Reader;
 use crate::members::{Members, Roster, rest_after, together_at, view_at};
 use crate::numbers::count_at;
 use crate::text::state_at;
-use address::{Address, GREATEST_NUMBER};
-use packet_values::{Count, State, WINDOW};
+use address::Address;
+use limits::{GREATEST_NUMBER, MEMBERS, WINDOW};
+use packet_values::{Count, State};
 use std::marker::Model;
-use view::MEMBERS;
 
 /// A view to be installed: who of its members come from the same view, the messages of that one from the
 /// base on, in lent bytes, and the state, if one is given.
@@ -65,7 +65,7 @@ impl<'a> Install<'a> {
         let fits = 1 <= together.len()
             && together.len() <= MEMBERS
             && is_in_order(together.as_slice(), view.members().as_slice())
-            && items.len() <= WINDOW
+            && items.len() as u64 <= WINDOW
             && base.get() + items.len() as u64 <= GREATEST_NUMBER;
         if !fits {
             return None;

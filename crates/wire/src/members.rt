@@ -8,10 +8,10 @@ ghost use Rattle.wire.specs.Lists.{may_follow, members_at, view_at, rest_after, 
 use crate::error::WireError;
 use crate::fields::Reader;
 use address::{Address, ViewId};
+use limits::MEMBERS;
 use std::marker::Model;
-use view::MEMBERS;
 
-/// At most 16 addresses, which lie in the value itself. Contracts see them as a list.
+/// At most `MEMBERS` addresses, which lie in the value itself. Contracts see them as a list.
 #[derive(Drop)]
 pub struct Members {
     count: usize,
@@ -21,7 +21,7 @@ pub struct Members {
 impl Model for Members {
     ghost use Rattle.std.specs.Prelude.{List, take, ◌≤◌};
     ghost use Rattle.address.specs.Ids.{Address};
-    ghost use Rattle.view.specs.declared.TheConstants.{MEMBERS};
+    ghost use Rattle.limits.specs.declared.TheConstants.{MEMBERS};
 
     ghost Value = { List Address };
 
@@ -49,7 +49,7 @@ impl Members {
         self.count += 1;
     }
 
-    /// The list of these addresses; `None` for more than 16, and for none.
+    /// The list of these addresses; `None` for more than `MEMBERS`, and for none.
     pub fn from_slice(addresses: &[Address]) -> Option<Members>
         ensures { SomeIff result ((1 ≤ length addresses.now) × (length addresses.now ≤ MEMBERS)) addresses.now }
     {
@@ -129,7 +129,7 @@ fn may_follow(id: ViewId, before: &[Address], address: Address) -> bool
 }
 
 impl Roster {
-    /// The roster of a view's id and its members. `None` where they are no view: none or more than 16, one
+    /// The roster of a view's id and its members. `None` where they are no view: none or more than `MEMBERS`, one
     /// twice, or another first than the id's creator.
     pub fn new(id: ViewId, members: &[Address]) -> Option<Roster>
         ensures { SomeIff result (view_refusal id members.now ≡ None) (record { id = id; members = members.now }) }

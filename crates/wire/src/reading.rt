@@ -14,9 +14,8 @@ use crate::numbers::{count_at, number_at};
 use crate::packet::{Body, Packet};
 use crate::report::report_at;
 use crate::text::{group_at, payload_at};
-use crate::{DATAGRAM, KINDS, MAGIC, VERSION};
-use address::GREATEST_NUMBER;
-use packet_values::{Missing, Progress, WINDOW};
+use limits::{DATAGRAM, GREATEST_NUMBER, KINDS, MAGIC, VERSION, WINDOW};
+use packet_values::{Missing, Progress};
 
 #[tactic(auto, unfolding(crate::specs::Packets::redirect_at))]
 fn redirect_at<'a>(from: &mut Reader<'a>) -> Result<Body<'a>, WireError>
@@ -78,7 +77,7 @@ fn status_at<'a>(from: &mut Reader<'a>) -> Result<Body<'a>, WireError>
 {
     let view = from.view_id()?;
     let highest = count_at(0, GREATEST_NUMBER, from)?;
-    let least = highest.get().saturating_sub(WINDOW as u64);
+    let least = highest.get().saturating_sub(WINDOW);
     let stable = count_at(least, highest.get(), from)?;
     match Progress::new(highest, stable) {
         Some(progress) => Ok(Body::Status { view, progress }),

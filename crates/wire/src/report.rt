@@ -8,8 +8,9 @@ use crate::entries::{Held, held_at, highest_next};
 use crate::error::WireError;
 use crate::fields::Reader;
 use crate::numbers::count_at;
-use address::{GREATEST_NUMBER, ViewId};
-use packet_values::{Count, WINDOW};
+use address::ViewId;
+use limits::{GREATEST_NUMBER, WINDOW};
+use packet_values::Count;
 use std::marker::Model;
 
 /// What a member reports of the view that it comes from: its id, how far it has the view's order, and the
@@ -54,10 +55,10 @@ fn are_held(stable: Count, delivered: Count, held: &Held<'_>) -> bool
 fn is_filled(stable: Count, delivered: Count, held: &Held<'_>) -> bool
     ensures { result ≡ is_filled (record { previous = None; stable = stable; delivered = delivered; held = held.now }) }
 {
-    let highest = (stable.get() + WINDOW as u64).min(GREATEST_NUMBER);
+    let highest = (stable.get() + WINDOW).min(GREATEST_NUMBER);
     let near = stable.get() <= delivered.get() && delivered.get() <= highest;
     let enough = delivered.get() <= stable.get() + held.len() as u64;
-    near && held.len() <= WINDOW && enough && are_held(stable, delivered, held)
+    near && held.len() as u64 <= WINDOW && enough && are_held(stable, delivered, held)
 }
 
 impl<'a> Report<'a> {
@@ -145,7 +146,7 @@ fn filled_at<'a>(from: &mut Reader<'a>) -> Result<Report<'a>, WireError>
 {
     let previous = from.view_id()?;
     let stable = count_at(0, GREATEST_NUMBER, from)?;
-    let highest = (stable.get() + WINDOW as u64).min(GREATEST_NUMBER);
+    let highest = (stable.get() + WINDOW).min(GREATEST_NUMBER);
     let delivered = count_at(stable.get(), highest, from)?;
     let count = held_count_at(stable.get(), delivered.get(), from)?;
     let held = held_at(stable.get(), delivered.get(), count, from)?;

@@ -1,4 +1,5 @@
-ghost use Rattle.std.specs.Prelude.{◌≤◌, ◌^◌, length};
+ghost use Rattle.std.specs.Prelude.{◌≤◌, length};
+ghost use Rattle.limits.specs.declared.TheConstants.{GREATEST_NUMBER, PAYLOAD};
 
 use address::{Address, Node, ViewId};
 use packet_values::{Entry, Number, Payload};
@@ -96,7 +97,7 @@ pub fn second_view() -> ViewId {
 /// A number of a message.
 pub fn number(value: u64) -> Number
     requires low { 1 ≤ value }
-    requires high { value ≤ 2 ^ 62 }
+    requires high { value ≤ GREATEST_NUMBER }
 {
     Number::new(value).unwrap()
 }
@@ -104,8 +105,8 @@ pub fn number(value: u64) -> Number
 /// The entry of 1.1 at a number, with a payload.
 pub fn entry(value: u64, payload: &[u8]) -> Entry<'_>
     requires low { 1 ≤ value }
-    requires high { value ≤ 2 ^ 62 }
-    requires short { length payload.now ≤ 512 }
+    requires high { value ≤ GREATEST_NUMBER }
+    requires short { length payload.now ≤ PAYLOAD }
 {
     Entry {
         sender: address(1, 1),

@@ -7,15 +7,15 @@ ghost use Rattle.wire.specs.Fields.{IsAddress, IsViewId, IsNumber, IsEntry, IsPl
 ghost use Rattle.wire.specs.Lists.{IsView, IsReport, IsInstall, addresses_bytes, view_bytes, held_bytes, filled_bytes, report_bytes, state_bytes, given_bytes, install_bytes};
 ghost use Rattle.packet_values.specs.Names.{is_group_name};
 ghost use Rattle.wire.specs.Texts.{group_bytes};
-ghost use Rattle.view.specs.declared.TheConstants.{MEMBERS};
-ghost use Rattle.packet_values.specs.declared.limits.TheConstants.{PAYLOAD, STATE};
+ghost use Rattle.limits.specs.declared.TheConstants.{MEMBERS, PAYLOAD, STATE};
 ghost use Rattle.wire.specs.Packets.{IsBody, Spells, front_bytes, header_bytes, body_bytes, spelling, listed_bytes};
 
 use address::{Address, ViewId};
 use byteorder::{BigEndian, ByteOrder};
+use limits::{MAGIC, VERSION};
 use packet_values::{Entry, GroupName, Number, Payload, State};
 use std::alloc::AllocError;
-use wire::{Body, Held, Install, Items, MAGIC, Packet, Report, Roster, VERSION};
+use wire::{Body, Held, Install, Items, Packet, Report, Roster};
 
 fn put(text: &[u8], out: &mut Vec<u8>)
     requires { vec_len out.old + length text.now ≤ vec_capacity out.old }

@@ -1,10 +1,11 @@
 -- Every event keeps what a world keeps.
-use Rattle.std.proofs.Common.{◌≡◌, ℕ, List, ◌∷◌, [], Option, Some, None, subst, sym, refl, ◌∙◌}
+use Rattle.std.proofs.Common.{◌≡◌, ℕ, List, ◌∷◌, [], Some, None, subst, sym, refl, ◌∙◌}
 use Rattle.std.specs.Borrow.{Bor}
 use Rattle.std.proofs.lemmas.List.{append-nil}
 use Rattle.address.specs.Ids.{Address}
-use Rattle.trace_props.specs.declared.happening.Happening.{Happening}
-use Rattle.trace_props.specs.declared.happening.Happening.TheVariants.{Crashed}
+use Rattle.state_transfer.specs.Meanings.{Meaning}
+use Rattle.trace_props.specs.declared.event.Event.{Event}
+use Rattle.trace_props.specs.declared.event.Event.TheVariants.{Crashed}
 use Rattle.agreement.specs.Cores.{Core}
 use Rattle.agreement.proofs.Stepping
 use Rattle.member.specs.declared.input.Input.{Input}
@@ -31,22 +32,22 @@ use Rattle.world.proofs.Taking
 use Rattle.world.proofs.Tables
 use Rattle.world.proofs.Starting
 
-module _ {S : Type 0} (opening : S) (apply : S → Address → List ℕ → S) (encode : S → List ℕ) (decode : List ℕ → Option S) (is_state : S → Type 0)
-    (laws : Stepping.Laws opening apply encode decode is_state) (at new : ℕ → Seat S) (n : ℕ) (h : History) (w : Turning.World opening apply encode decode is_state at h)
+module _ {S : Type 0} (meaning : Meaning S)
+    (laws : Stepping.Laws meaning) (at new : ℕ → Seat S) (n : ℕ) (h : History) (w : Turning.World meaning at h)
     (others : OthersStand n at new) where
-  abbrev Turned : WorldEvent → Answer → List Happening → List (List ℕ) → Type 0
-  Turned e a t pool = Taking.Turned opening apply encode decode is_state new n h e a t pool
+  abbrev Turned : WorldEvent → Answer → List Event → List (List ℕ) → Type 0
+  Turned e a t pool = Taking.Turned meaning new n h e a t pool
 
   -- ---- where no member runs
 
-  refused : (e : WorldEvent) (r : Refusal) (old now : Seat S) (a : Answer) (t : List Happening) (pool : List (List ℕ)) → at n ≡ old → new n ≡ now → Answers h e (Refused r) []
+  refused : (e : WorldEvent) (r : Refusal) (old now : Seat S) (a : Answer) (t : List Event) (pool : List (List ℕ)) → at n ≡ old → new n ≡ now → Answers h e (Refused r) []
       → Stays r old h.trace a now t → pool ≡ h.pool → Turned e a t pool
   refused e r old now a t pool was is answers g same = subst (λ (b : Answer). Turned e b t pool) (sym g.answer) (record {
     ps = [];
     s = [];
     trace = g.trace ∙ sym (append-nil h.trace);
     puts = same ∙ sym (append-nil h.pool);
-    turn = Turning.turn-still opening apply encode decode is_state at new n h e (Refused r) w (same-at at new n others (is ∙ g.seat ∙ sym was)) answers (refused-prompt h.trace e r [])
+    turn = Turning.turn-still meaning at new n h e (Refused r) w (same-at at new n others (is ∙ g.seat ∙ sym was)) answers (refused-prompt h.trace e r [])
         (λ k. refused-connects k (is_connected k h) e r);
   })
 
@@ -56,17 +57,17 @@ module _ {S : Type 0} (opening : S) (apply : S → Address → List ℕ → S) (
   record Handed (e : WorldEvent) (i : Input) : Type 0 where
     never : last_of n h.trace ≡ None → Answers h e (Refused NotConnected) []
     over : (p : Address) → last_of n h.trace ≡ Some p → IsSeatOf {S = S} n (last_of n h.trace) (is_connected n h) h.trace (Ended p) → Answers h e (Refused Closed) []
-    table : (m : MemberModel S) (c : Core S) → Facts.Runs opening apply encode decode is_state h n m c → Taking.Tabled opening apply encode decode is_state h n m c e i
+    table : (m : MemberModel S) (c : Core S) → Facts.Runs meaning h n m c → Taking.Tabled meaning h n m c e i
 
-  handed-at : (e : WorldEvent) (i : Input) (old now : Seat S) (a : Answer) (t : List Happening) (pool : List (List ℕ)) → Handed e i → at n ≡ old → new n ≡ now
-      → IsSeatOf n (last_of n h.trace) (is_connected n h) h.trace old → Hands apply encode decode i old h.trace h.pool a now t pool → Turned e a t pool
+  handed-at : (e : WorldEvent) (i : Input) (old now : Seat S) (a : Answer) (t : List Event) (pool : List (List ℕ)) → Handed e i → at n ≡ old → new n ≡ now
+      → IsSeatOf n (last_of n h.trace) (is_connected n h) h.trace old → Hands meaning i old h.trace h.pool a now t pool → Turned e a t pool
   handed-at e i Vacant now a t pool x was is k g = refused e NotConnected Vacant now a t pool was is (x.never k) g.0 g.1
   handed-at e i (Ended p) now a t pool x was is k g = refused e Closed (Ended p) now a t pool was is (x.over p k.0 k) g.0 g.1
   handed-at e i (Running m) now a t pool x was is k g =
-      let y = Facts.running-here opening apply encode decode is_state at h n m w was in
-      Taking.hands-turn opening apply encode decode is_state laws at new n h e i m y.0 w was y.1 (x.table m y.0 y.1) others a now t pool is g
+      let y = Facts.running-here meaning at h n m w was in
+      Taking.hands-turn meaning laws at new n h e i m y.0 w was y.1 (x.table m y.0 y.1) others a now t pool is g
 
-  handed : (e : WorldEvent) (i : Input) (a : Answer) (t : List Happening) (pool : List (List ℕ)) → Handed e i → Hands apply encode decode i (at n) h.trace h.pool a (new n) t pool
+  handed : (e : WorldEvent) (i : Input) (a : Answer) (t : List Event) (pool : List (List ℕ)) → Handed e i → Hands meaning i (at n) h.trace h.pool a (new n) t pool
       → Turned e a t pool
   handed e i a t pool x g = handed-at e i (at n) (new n) a t pool x refl refl (w.seats n) g
 
@@ -80,66 +81,66 @@ module _ {S : Type 0} (opening : S) (apply : S → Address → List ℕ → S) (
   create-handed = record {
     never = at-none _;
     over = λ p e k. at-ended _ p k;
-    table = λ m c x. Tables.create-table opening apply encode decode is_state h n m c x;
+    table = λ m c x. Tables.create-table meaning h n m c x;
   }
 
   join-handed : (contact : Address) → Handed (Join n contact) (input.Join contact)
   join-handed contact = record {
     never = at-none _;
     over = λ p e k. at-ended _ p k;
-    table = λ m c x. Tables.join-table opening apply encode decode is_state h n m c x contact;
+    table = λ m c x. Tables.join-table meaning h n m c x contact;
   }
 
   send-handed : (b : Bor (List ℕ)) → Handed (Send n b.now) (input.Send b)
   send-handed b = record {
     never = at-none _;
     over = λ p e k. at-ended _ p k;
-    table = λ m c x. Tables.send-table opening apply encode decode is_state h n m c x b;
+    table = λ m c x. Tables.send-table meaning h n m c x b;
   }
 
   tick-handed : Handed (Tick n) input.Tick
   tick-handed = record {
     never = at-none _;
     over = λ p e k. at-ended _ p k;
-    table = λ m c x. Tables.tick-table opening apply encode decode is_state h n m c x;
+    table = λ m c x. Tables.tick-table meaning h n m c x;
   }
 
   suspect-handed : (q : Address) → Handed (Suspect n q) (input.Suspect q)
   suspect-handed q = record {
     never = at-none _;
     over = λ p e k. at-ended _ p k;
-    table = λ m c x. Tables.suspect-table opening apply encode decode is_state h n m c x q;
+    table = λ m c x. Tables.suspect-table meaning h n m c x q;
   }
 
   hint-handed : (q : Address) → Handed (MergeHint n q) (input.MergeHint q)
   hint-handed q = record {
     never = at-none _;
     over = λ p e k. at-ended _ p k;
-    table = λ m c x. Tables.hint-table opening apply encode decode is_state h n m c x q;
+    table = λ m c x. Tables.hint-table meaning h n m c x q;
   }
 
   leave-handed : Handed (Leave n) input.Leave
   leave-handed = record {
     never = at-none _;
     over = λ p e k. at-ended _ p k;
-    table = λ m c x. Tables.leave-table opening apply encode decode is_state h n m c x;
+    table = λ m c x. Tables.leave-table meaning h n m c x;
   }
 
   -- ---- a crash
 
-  crash-at : (old now : Seat S) (a : Answer) (t : List Happening) (pool : List (List ℕ)) → at n ≡ old → new n ≡ now
+  crash-at : (old now : Seat S) (a : Answer) (t : List Event) (pool : List (List ℕ)) → at n ≡ old → new n ≡ now
       → IsSeatOf n (last_of n h.trace) (is_connected n h) h.trace old → CrashGives old h.trace a now t → pool ≡ h.pool → Turned (Crash n) a t pool
   crash-at Vacant now a t pool was is k g same = refused (Crash n) NotConnected Vacant now a t pool was is (at-none _ k) g same
   crash-at (Ended p) now a t pool was is k g same = refused (Crash n) Closed (Ended p) now a t pool was is (at-ended _ p k) g same
   crash-at (Running m) now a t pool was is k g same =
-      let y = Facts.running-here opening apply encode decode is_state at h n m w was in
+      let y = Facts.running-here meaning at h n m w was in
       subst (λ (b : Answer). Turned (Crash n) b t pool) (sym g.0) (record {
         ps = [];
         s = Crashed m.address ∷ [];
         trace = g.2;
         puts = same ∙ sym (append-nil h.pool);
-        turn = Taking.crash-turn opening apply encode decode is_state laws at new n h (Crash n) m y.0 w was y.1 others (λ b k o. connects_after-other k (is_connected k h) (Crash n) b o) Done (is ∙ g.1)
-            (Facts.at-member opening apply encode decode is_state h n m y.0 y.1 Done (Crashed m.address ∷ []) (λ p. AnswersCrash p Done (Crashed m.address ∷ [])) (refl, refl)) tt;
+        turn = Taking.crash-turn meaning laws at new n h (Crash n) m y.0 w was y.1 others (λ b k o. connects_after-other k (is_connected k h) (Crash n) b o) Done (is ∙ g.1)
+            (Facts.at-member meaning h n m y.0 y.1 Done (Crashed m.address ∷ []) (λ p. AnswersCrash p Done (Crashed m.address ∷ [])) (refl, refl)) tt;
       })
 
   -- ---- any event of the node's member
@@ -151,18 +152,18 @@ module _ {S : Type 0} (opening : S) (apply : S → Address → List ℕ → S) (
       member-is j e = let same : target.Member j ≡ target.Member n = e in cc
 
   -- a payload is lent only to one that runs
-  sent-at : (payload : List ℕ) (a : Answer) (t : List Happening) (pool : List (List ℕ)) (old : Seat S) → at n ≡ old → IsSeatOf n (last_of n h.trace) (is_connected n h) h.trace old
-      → HandsLent apply encode decode input.Send payload old h.trace h.pool a (new n) t pool → Turned (Send n payload) a t pool
+  sent-at : (payload : List ℕ) (a : Answer) (t : List Event) (pool : List (List ℕ)) (old : Seat S) → at n ≡ old → IsSeatOf n (last_of n h.trace) (is_connected n h) h.trace old
+      → HandsLent meaning input.Send payload old h.trace h.pool a (new n) t pool → Turned (Send n payload) a t pool
   sent-at payload a t pool Vacant was k g = refused (Send n payload) NotConnected Vacant (new n) a t pool was refl (at-none _ k) g.0 g.1
   sent-at payload a t pool (Ended p) was k g = refused (Send n payload) Closed (Ended p) (new n) a t pool was refl (at-ended _ p k) g.0 g.1
   sent-at payload a t pool (Running m) was k g =
       subst (λ (y : List ℕ). Turned (Send n y) a t pool) g.1 (handed-at (Send n g.0.now) (input.Send g.0) (Running m) (new n) a t pool (send-handed g.0) was refl k g.2)
 
-  pub acts-turn : (e : WorldEvent) (a : Answer) (t : List Happening) (pool : List (List ℕ)) → target_of e ≡ target.Member n
-      → Acts opening apply encode decode e (at n) h.trace h.pool a (new n) t pool → Turned e a t pool
+  pub acts-turn : (e : WorldEvent) (a : Answer) (t : List Event) (pool : List (List ℕ)) → target_of e ≡ target.Member n
+      → Acts meaning e (at n) h.trace h.pool a (new n) t pool → Turned e a t pool
   acts-turn (Start k) a t pool here g =
-      to-node k (λ j. Acts opening apply encode decode (Start j) (at n) h.trace h.pool a (new n) t pool → Turned (Start j) a t pool) here
-      (λ y. subst (λ (l : List (List ℕ)). Turned (Start n) a t l) (sym y.1) (Starting.start-turns opening apply encode decode is_state laws at new n h w others a t y.0)) g
+      to-node k (λ j. Acts meaning (Start j) (at n) h.trace h.pool a (new n) t pool → Turned (Start j) a t pool) here
+      (λ y. subst (λ (l : List (List ℕ)). Turned (Start n) a t l) (sym y.1) (Starting.start-turns meaning laws at new n h w others a t y.0)) g
   acts-turn (Create k) a t pool here g = to-node k (λ j. Turned (Create j) a t pool) here (handed (Create n) input.Create a t pool create-handed g)
   acts-turn (Join k contact) a t pool here g = to-node k (λ j. Turned (Join j contact) a t pool) here (handed (Join n contact) (input.Join contact) a t pool (join-handed contact) g)
   acts-turn (Send k payload) a t pool here g =

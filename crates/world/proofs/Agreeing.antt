@@ -3,8 +3,9 @@ use Rattle.std.proofs.Common.{◌≡◌, ℕ, true, false, Bool, cond, Option, S
 use Rattle.std.specs.Prelude.{is_some}
 use Rattle.std.proofs.lemmas.List.{append-nil, append_assoc}
 use Rattle.address.specs.Ids.{Address, IsAddress, same_address}
-use Rattle.trace_props.specs.declared.happening.Happening.{Happening}
-use Rattle.trace_props.specs.declared.happening.Happening.TheVariants.{Started, Crashed}
+use Rattle.state_transfer.specs.Meanings.{Meaning}
+use Rattle.trace_props.specs.declared.event.Event.{Event}
+use Rattle.trace_props.specs.declared.event.Event.TheVariants.{Started, Crashed}
 use Rattle.trace_props.specs.Observed.{has_started}
 use Rattle.trace_props.proofs.Observing.{same_address-refl}
 use Rattle.agreement.specs.Histories.{Posted}
@@ -20,12 +21,11 @@ use Rattle.world.proofs.Seats.{OnlyHere, runs, runs-put}
 use Rattle.world.proofs.Posts.{EachSound, bytes_for, posts-more}
 use Rattle.world.proofs.Turning
 
-module _ {S : Type 0} (opening : S) (apply : S → Address → List ℕ → S) (encode : S → List ℕ) (decode : List ℕ → Option S) (is_state : S → Type 0)
-    (laws : Stepping.Laws opening apply encode decode is_state) where
+module _ {S : Type 0} (meaning : Meaning S) (laws : Stepping.Laws meaning) where
   abbrev Holding : System S → Type 0
-  Holding s = Turning.Holding opening apply encode decode is_state s
+  Holding s = Turning.Holding meaning s
 
-  abbrev system_at : (Address → Option (Core S)) → List Posted → List Happening → System S
+  abbrev system_at : (Address → Option (Core S)) → List Posted → List Event → System S
   system_at running pool t = record { running = running; history = record { pool = pool; trace = t } }
 
   -- what stands at a node before and after: nobody but this member of the node ran or runs there
@@ -55,36 +55,36 @@ module _ {S : Type 0} (opening : S) (apply : S → Address → List ℕ → S) (
     moved = runs-put at new p (core_here p now) only-old only-now (subst (λ (k : ℕ). OthersStand k at new) (sym x.node) x.others) goes
 
     -- the system after such a move
-    pub to-system : (pool : List (List ℕ)) (posts : List Posted) (t : List Happening) (end : Option (Core S)) → core_here p now ≡ end → posts_in pool ≡ posts
+    pub to-system : (pool : List (List ℕ)) (posts : List Posted) (t : List Event) (end : Option (Core S)) → core_here p now ≡ end → posts_in pool ≡ posts
         → Holding (system_at (put p end (runs at)) posts t) → Holding (system_of new pool t)
     to-system pool posts t end e same i =
         subst (λ (r : Address → Option (Core S)). Holding (system_at r (posts_in pool) t)) (sym (moved ∙ ap (λ (o : Option (Core S)). put p o (runs at)) e))
         (subst (λ (l : List Posted). Holding (system_at (put p end (runs at)) l t)) (sym same) i)
 
     -- ---- a member took an input: a packet of the pool came, or none
-    pub taken-agreed : (pool : List (List ℕ)) (t : List Happening) (c : Core S) (end : Option (Core S)) (which : Option ℕ) (came : Option Posted) (posted : List Posted) (s : List Happening)
+    pub taken-agreed : (pool : List (List ℕ)) (t : List Event) (c : Core S) (end : Option (Core S)) (which : Option ℕ) (came : Option Posted) (posted : List Posted) (s : List Event)
         → core_here p old ≡ Some c → core_here p now ≡ end → came ≡ came_of c (posts_in pool) which → (came ≡ None → which ≡ None) → EachSound posted
-        → Acted apply encode decode came (Some c) posted s end → Holding (system_of at pool t) → Holding (system_of new (pool ++ bytes_for posted) (t ++ s))
+        → Acted meaning came (Some c) posted s end → Holding (system_of at pool t) → Holding (system_of new (pool ++ bytes_for posted) (t ++ s))
     taken-agreed pool t c end which came posted s was is comes none sound acted i =
         to-system (pool ++ bytes_for posted) (posts_in pool ++ posted) (t ++ s) end is (posts-more pool posted sound)
-        (Stretching.acted-keeps opening apply encode decode is_state laws (system_of at pool t) p c end which came posted s i (ran ∙ was) comes none acted)
+        (Stretching.acted-keeps meaning laws (system_of at pool t) p c end which came posted s i (ran ∙ was) comes none acted)
 
     -- ---- a member crashed
-    pub crashed-agreed : (pool : List (List ℕ)) (t : List Happening) (c : Core S) → core_here p old ≡ Some c → core_here p now ≡ None → Holding (system_of at pool t)
+    pub crashed-agreed : (pool : List (List ℕ)) (t : List Event) (c : Core S) → core_here p old ≡ Some c → core_here p now ≡ None → Holding (system_of at pool t)
         → Holding (system_of new (pool ++ []) (t ++ Crashed p ∷ []))
     crashed-agreed pool t c was is i =
         to-system (pool ++ []) (posts_in pool ++ []) (t ++ Crashed p ∷ []) None is (ap posts_in (append-nil pool) ∙ sym (append-nil (posts_in pool)))
-        (Stepping.step-keeps opening apply encode decode is_state laws (system_of at pool t) (Crash p) i (ap is_some (ran ∙ was)))
+        (Stepping.step-keeps meaning laws (system_of at pool t) (Crash p) i (ap is_some (ran ∙ was)))
 
     -- ---- a member started
-    started-system : (pool : List (List ℕ)) (t : List Happening) → IsAddress p → has_started p t ≡ false → Holding (system_of at pool t)
-        → Holding (system_at (put p (Some (idle opening p)) (runs at)) (posts_in pool ++ []) (t ++ Started p ∷ []))
-    started-system pool t real new_one i = Stepping.step-keeps opening apply encode decode is_state laws (system_of at pool t) (Start p) i (real, new_one)
+    started-system : (pool : List (List ℕ)) (t : List Event) → IsAddress p → has_started p t ≡ false → Holding (system_of at pool t)
+        → Holding (system_at (put p (Some (idle meaning.opening p)) (runs at)) (posts_in pool ++ []) (t ++ Started p ∷ []))
+    started-system pool t real new_one i = Stepping.step-keeps meaning laws (system_of at pool t) (Start p) i (real, new_one)
 
-    pub started-agreed : (pool : List (List ℕ)) (t : List Happening) → IsAddress p → has_started p t ≡ false → core_here p now ≡ Some (idle opening p) → Holding (system_of at pool t)
+    pub started-agreed : (pool : List (List ℕ)) (t : List Event) → IsAddress p → has_started p t ≡ false → core_here p now ≡ Some (idle meaning.opening p) → Holding (system_of at pool t)
         → Holding (system_of new (pool ++ []) (t ++ Started p ∷ []))
     started-agreed pool t real new_one is i =
-        to-system (pool ++ []) (posts_in pool ++ []) (t ++ Started p ∷ []) (Some (idle opening p)) is (ap posts_in (append-nil pool) ∙ sym (append-nil (posts_in pool))) (started-system pool t real new_one i)
+        to-system (pool ++ []) (posts_in pool ++ []) (t ++ Started p ∷ []) (Some (idle meaning.opening p)) is (ap posts_in (append-nil pool) ∙ sym (append-nil (posts_in pool))) (started-system pool t real new_one i)
 
     put-again-by : {X : Type 0} (b : Bool) (u v z : X) → cond b u (cond b v z) ≡ cond b u z
     put-again-by true u v z = refl
@@ -97,14 +97,14 @@ module _ {S : Type 0} (opening : S) (apply : S → Address → List ℕ → S) (
     put-at u r = ap (λ (b : Bool). cond b u (r p)) (same_address-refl p)
 
     -- or it started and crashed
-    pub failed-agreed : (pool : List (List ℕ)) (t : List Happening) → IsAddress p → has_started p t ≡ false → core_here p now ≡ None → Holding (system_of at pool t)
+    pub failed-agreed : (pool : List (List ℕ)) (t : List Event) → IsAddress p → has_started p t ≡ false → core_here p now ≡ None → Holding (system_of at pool t)
         → Holding (system_of new (pool ++ []) (t ++ Started p ∷ Crashed p ∷ []))
     failed-agreed pool t real new_one is i =
-        let u = system_at (put p (Some (idle opening p)) (runs at)) (posts_in pool ++ []) (t ++ Started p ∷ []) in
-        let j : Holding (system_at (put p None (put p (Some (idle opening p)) (runs at))) ((posts_in pool ++ []) ++ []) ((t ++ Started p ∷ []) ++ Crashed p ∷ [])) =
-        Stepping.step-keeps opening apply encode decode is_state laws (system_at (put p (Some (idle opening p)) (runs at)) (posts_in pool ++ []) (t ++ Started p ∷ [])) (Crash p)
-        (started-system pool t real new_one i) (ap is_some (put-at (Some (idle opening p)) (runs at))) in
+        let u = system_at (put p (Some (idle meaning.opening p)) (runs at)) (posts_in pool ++ []) (t ++ Started p ∷ []) in
+        let j : Holding (system_at (put p None (put p (Some (idle meaning.opening p)) (runs at))) ((posts_in pool ++ []) ++ []) ((t ++ Started p ∷ []) ++ Crashed p ∷ [])) =
+        Stepping.step-keeps meaning laws (system_at (put p (Some (idle meaning.opening p)) (runs at)) (posts_in pool ++ []) (t ++ Started p ∷ [])) (Crash p)
+        (started-system pool t real new_one i) (ap is_some (put-at (Some (idle meaning.opening p)) (runs at))) in
         to-system (pool ++ []) ((posts_in pool ++ []) ++ []) (t ++ Started p ∷ Crashed p ∷ []) None is
         (ap posts_in (append-nil pool) ∙ sym (append-nil (posts_in pool)) ∙ sym (append-nil (posts_in pool ++ [])))
-        (subst (λ (r : Address → Option (Core S)). Holding (system_at r ((posts_in pool ++ []) ++ []) (t ++ Started p ∷ Crashed p ∷ []))) (put-again None (Some (idle opening p)) (runs at))
-        (subst (λ (v : List Happening). Holding (system_at (put p None (put p (Some (idle opening p)) (runs at))) ((posts_in pool ++ []) ++ []) v)) (append_assoc t (Started p ∷ []) (Crashed p ∷ [])) j))
+        (subst (λ (r : Address → Option (Core S)). Holding (system_at r ((posts_in pool ++ []) ++ []) (t ++ Started p ∷ Crashed p ∷ []))) (put-again None (Some (idle meaning.opening p)) (runs at))
+        (subst (λ (v : List Event). Holding (system_at (put p None (put p (Some (idle meaning.opening p)) (runs at))) ((posts_in pool ++ []) ++ []) v)) (append_assoc t (Started p ∷ []) (Crashed p ∷ [])) j))

@@ -5,9 +5,10 @@ use Rattle.std.proofs.lemmas.Bool.{cond-true, eq-eqb, and_from}
 use Rattle.std.proofs.lemmas.Option.{none-some, same_Some}
 use Rattle.address.specs.Ids.{Address}
 use Rattle.view.specs.Members.{View}
-use Rattle.trace_props.specs.declared.happening.Happening.{Happening}
-use Rattle.trace_props.specs.declared.happening.Happening.TheVariants.{Started, Delivered, Blocked, Installed, Left, Crashed}
-use Rattle.trace_props.specs.declared.happening.Happening.TheVariants as happening
+use Rattle.state_transfer.specs.Meanings.{Meaning}
+use Rattle.trace_props.specs.declared.event.Event.{Event}
+use Rattle.trace_props.specs.declared.event.Event.TheVariants.{Started, Delivered, Blocked, Installed, Left, Crashed}
+use Rattle.trace_props.specs.declared.event.Event.TheVariants as event
 use Rattle.agreement.specs.Cores.{Core}
 use Rattle.agreement.proofs.Registers.{passed-by}
 use Rattle.member.specs.declared.error.Error.{Error}
@@ -29,25 +30,25 @@ pub free-of : (b : Bool) (x : Error) (o : Option Error) → cond b (Some x) o �
 free-of true x o e = absurd (none-some x (sym e))
 free-of false x o e = (refl, e)
 
--- ---- quiet happenings
+-- ---- quiet events
 
-quiet-same : (x : Happening) → member.is_quiet x ≡ is_quiet x
+quiet-same : (x : Event) → member.is_quiet x ≡ is_quiet x
 quiet-same (Started p) = refl
-quiet-same (happening.Sent s) = refl
+quiet-same (event.Sent s) = refl
 quiet-same (Delivered d) = refl
 quiet-same (Blocked p) = refl
 quiet-same (Installed i) = refl
 quiet-same (Left p) = refl
 quiet-same (Crashed p) = refl
 
-pub quiet-all : (s : List Happening) → list_all member.is_quiet s ≡ true → list_all is_quiet s ≡ true
-quiet-all s e = subst (λ (f : Happening → Bool). list_all f s ≡ true) (λ i x. quiet-same x i) e
+pub quiet-all : (s : List Event) → list_all member.is_quiet s ≡ true → list_all is_quiet s ≡ true
+quiet-all s e = subst (λ (f : Event → Bool). list_all f s ≡ true) (λ i x. quiet-same x i) e
 
 -- they are answered Done
-pub quiet-done : (s : List Happening) → list_all member.is_quiet s ≡ true → answer_to s ≡ Done
+pub quiet-done : (s : List Event) → list_all member.is_quiet s ≡ true → answer_to s ≡ Done
 quiet-done [] e = refl
 quiet-done (Started p ∷ s) e = refl
-quiet-done (happening.Sent x ∷ s) e = absurd (let n : false ≡ true = e in cc)
+quiet-done (event.Sent x ∷ s) e = absurd (let n : false ≡ true = e in cc)
 quiet-done (Delivered d ∷ s) e = refl
 quiet-done (Blocked p ∷ s) e = refl
 quiet-done (Installed i ∷ s) e = refl
@@ -59,43 +60,42 @@ quiet-done (Crashed p ∷ s) e = refl
 pub done-here : {X : Type 0} (n : ℕ) (y z : X) → cond (nat_eq n n && true) y z ≡ y
 done-here n y z = cond-true (nat_eq n n && true) y z (and_from (nat_eq n n) true (eq-eqb n n refl) refl)
 
-module _ {S : Type 0} (opening : S) (apply : S → Address → List ℕ → S) (encode : S → List ℕ) (decode : List ℕ → Option S) (is_state : S → Type 0) (h : History) (n : ℕ) (m : MemberModel S)
-    (c : Core S) (x : Facts.Runs opening apply encode decode is_state h n m c) where
+module _ {S : Type 0} (meaning : Meaning S) (h : History) (n : ℕ) (m : MemberModel S) (c : Core S) (x : Facts.Runs meaning h n m c) where
   me-is : c.me ≡ m.address
   me-is = x.fact.seat.itself
 
   -- ---- a create
 
-  pub create-taken : (s : List Happening) → cond c.connected (Some error.AlreadyConnected) None ≡ None → s ≡ Installed (lone_install c.me) ∷ [] → AnswersCreate m.address h Done s
+  pub create-taken : (s : List Event) → cond c.connected (Some error.AlreadyConnected) None ≡ None → s ≡ Installed (lone_install c.me) ∷ [] → AnswersCreate m.address h Done s
   create-taken s free e =
-      let off = Facts.connected opening apply encode decode is_state h n m c x ∙ (free-of c.connected error.AlreadyConnected None free).0 in
+      let off = Facts.connected meaning h n m c x ∙ (free-of c.connected error.AlreadyConnected None free).0 in
       rw off (inl (refl, e ∙ ap (λ (p : Address). Installed (lone_install p) ∷ []) me-is))
 
   pub create-lost : cond c.connected (Some error.AlreadyConnected) None ≡ None → AnswersCreate m.address h (Refused Memory) (Crashed m.address ∷ [])
   create-lost free =
-      let off = Facts.connected opening apply encode decode is_state h n m c x ∙ (free-of c.connected error.AlreadyConnected None free).0 in
+      let off = Facts.connected meaning h n m c x ∙ (free-of c.connected error.AlreadyConnected None free).0 in
       rw off (inr (refl, refl))
 
   pub create-not : (e : Error) → cond c.connected (Some error.AlreadyConnected) None ≡ Some e → AnswersCreate m.address h (answer_for e) []
   create-not e refused =
       let p = passed-by c.connected error.AlreadyConnected e refused in
-      let on = Facts.connected opening apply encode decode is_state h n m c x ∙ p.0 in
+      let on = Facts.connected meaning h n m c x ∙ p.0 in
       rw on (ap answer_for (sym p.1), refl)
 
   -- ---- a join
 
   join-taken-at : (o : Option View) → c.view ≡ o → cond (is_some o) (Some error.AlreadyConnected) None ≡ None → AnswersJoin m.address h Done []
-  join-taken-at None e free = rw (Facts.view-is opening apply encode decode is_state h n m c x None e) (inl (refl, refl))
+  join-taken-at None e free = rw (Facts.view-is meaning h n m c x None e) (inl (refl, refl))
   join-taken-at (Some v) e free = absurd (none-some _ (sym free))
 
   join-lost-at : (o : Option View) → c.view ≡ o → cond (is_some o) (Some error.AlreadyConnected) None ≡ None → AnswersJoin m.address h (Refused Memory) (Crashed m.address ∷ [])
-  join-lost-at None e free = rw (Facts.view-is opening apply encode decode is_state h n m c x None e) (inr (refl, refl))
+  join-lost-at None e free = rw (Facts.view-is meaning h n m c x None e) (inr (refl, refl))
   join-lost-at (Some v) e free = absurd (none-some _ (sym free))
 
   join-not-at : (o : Option View) (err : Error) → c.view ≡ o → cond (is_some o) (Some error.AlreadyConnected) None ≡ Some err → AnswersJoin m.address h (answer_for err) []
   join-not-at None err e refused = absurd (none-some err refused)
   join-not-at (Some v) err e refused =
-      rw (Facts.view-is opening apply encode decode is_state h n m c x (Some v) e) (ap answer_for (sym (same_Some error.AlreadyConnected err refused)), refl)
+      rw (Facts.view-is meaning h n m c x (Some v) e) (ap answer_for (sym (same_Some error.AlreadyConnected err refused)), refl)
 
   pub join-taken : cond (is_some c.view) (Some error.AlreadyConnected) None ≡ None → AnswersJoin m.address h Done []
   join-taken free = join-taken-at c.view refl free
@@ -108,8 +108,8 @@ module _ {S : Type 0} (opening : S) (apply : S → Address → List ℕ → S) (
 
   -- ---- a tick, a packet, what is told of others, and a leave
 
-  pub quiet-taken : (s : List Happening) → EachOwn m.address s → list_all member.is_quiet s ≡ true → AnswersQuietly m.address Done s
+  pub quiet-taken : (s : List Event) → EachOwn m.address s → list_all member.is_quiet s ≡ true → AnswersQuietly m.address Done s
   quiet-taken s own quiet = inl (refl, own-quiet m.address s own (quiet-all s quiet))
 
-  pub leave-taken : (s : List Happening) → s ≡ Left c.me ∷ [] → AnswersLeave m.address Done s
+  pub leave-taken : (s : List Event) → s ≡ Left c.me ∷ [] → AnswersLeave m.address Done s
   leave-taken s e = inl (refl, e ∙ ap (λ (p : Address). Left p ∷ []) me-is)

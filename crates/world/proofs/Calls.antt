@@ -3,7 +3,7 @@ use Rattle.std.proofs.Common.{◌≡◌, ℕ, Bool, true, false, ◌&&◌, List,
 use Rattle.std.specs.List.{zip}
 use Rattle.std.proofs.lemmas.Bool.{cond-false, and_left, and_right}
 use Rattle.std.proofs.lemmas.List.Sums.{fold-append}
-use Rattle.trace_props.specs.declared.happening.Happening.{Happening}
+use Rattle.trace_props.specs.declared.event.Event.{Event}
 use Rattle.world_model.specs.declared.WorldEvent.{WorldEvent}
 use Rattle.world_model.specs.declared.WorldEvent.TheVariants.{Start, Create, Join, Send, Deliver, Tick, Suspect, MergeHint, Leave, Crash}
 use Rattle.world_model.specs.declared.Answer.{Answer}
@@ -21,7 +21,7 @@ zip-push (j ∷ ks) [] k x e = absurd (omega arith)
 zip-push (j ∷ ks) (y ∷ xs) k x e = ap (λ rows. (j, y) ∷ rows) (zip-push ks xs k x (omega arith))
 
 -- whether a node's member is connected, one event further
-pub is_connected-push : (n : ℕ) (h : History) (e : WorldEvent) (a : Answer) (ps : List (List ℕ)) (s : List Happening) → length h.events ≡ length h.replies
+pub is_connected-push : (n : ℕ) (h : History) (e : WorldEvent) (a : Answer) (ps : List (List ℕ)) (s : List Event) → length h.events ≡ length h.replies
     → is_connected n (after h e a ps s) ≡ connects_after n (is_connected n h) e a
 is_connected-push n h e a ps s same =
     let reply : Reply = record { answer = a; place = length (h.trace ++ s) } in
@@ -53,7 +53,7 @@ refused-connects n c (MergeHint m q) r = refl
 refused-connects n c (Leave m) r = refl
 refused-connects n c (Crash m) r = refl
 
-pub refused-prompt : (t : List Happening) (e : WorldEvent) (r : Refusal) (s : List Happening) → SendsPromptly t e (Refused r) s
+pub refused-prompt : (t : List Event) (e : WorldEvent) (r : Refusal) (s : List Event) → SendsPromptly t e (Refused r) s
 refused-prompt t (Start m) r s = tt
 refused-prompt t (Create m) r s = tt
 refused-prompt t (Join m x) r s = tt

@@ -1,9 +1,10 @@
 -- The world after one event, after none, and what its receivers are.
-use Rattle.std.proofs.Common.{◌≡◌, ℕ, List, ◌++◌, Option, Some, None, ◌⊎◌, inl, inr, subst, sym, refl, ap, ◌∙◌}
+use Rattle.std.proofs.Common.{◌≡◌, ℕ, List, ◌++◌, Some, None, ◌⊎◌, inl, inr, subst, sym, refl, ap, ◌∙◌}
 use Rattle.std.specs.Option.{option_map}
 use Rattle.std.proofs.lemmas.Option.{none-some}
 use Rattle.address.specs.Ids.{Address}
-use Rattle.trace_props.specs.declared.happening.Happening.{Happening}
+use Rattle.state_transfer.specs.Meanings.{Meaning}
+use Rattle.trace_props.specs.declared.event.Event.{Event}
 use Rattle.trace_props.specs.State.{state_of}
 use Rattle.agreement.specs.Cores.{Core}
 use Rattle.agreement.proofs.Stepping
@@ -30,9 +31,9 @@ use Rattle.world.proofs.Taking
 use Rattle.world.proofs.Acting
 use Rattle.world.proofs.Delivering
 
-module _ {S : Type 0} (opening : S) (apply : S → Address → List ℕ → S) (encode : S → List ℕ) (decode : List ℕ → Option S) (is_state : S → Type 0) where
+module _ {S : Type 0} (meaning : Meaning S) where
   abbrev World : (ℕ → Seat S) → History → Type 0
-  World at h = Turning.World opening apply encode decode is_state at h
+  World at h = Turning.World meaning at h
 
   -- ---- the beginning
 
@@ -40,7 +41,7 @@ module _ {S : Type 0} (opening : S) (apply : S → Address → List ℕ → S) (
   no-world = record {
     faithful = Nothing;
     paired = refl;
-    agreed = nothing-holds opening apply encode decode is_state;
+    agreed = nothing-holds meaning;
     spelled = λ k bytes at. absurd (none-some bytes at);
     starts = starts-none;
     seats = λ n. refl;
@@ -49,15 +50,15 @@ module _ {S : Type 0} (opening : S) (apply : S → Address → List ℕ → S) (
   -- ---- one event
 
   -- what an event comes to: a step of the world, and all that a world keeps
-  pub record Carried (at new : ℕ → Seat S) (h : History) (e : WorldEvent) (a : Answer) (t : List Happening) (pool : List (List ℕ)) : Type 0 where
+  pub record Carried (at new : ℕ → Seat S) (h : History) (e : WorldEvent) (a : Answer) (t : List Event) (pool : List (List ℕ)) : Type 0 where
     pub ps : List (List ℕ)
-    pub s : List Happening
+    pub s : List Event
     pub trace : t ≡ h.trace ++ s
     pub puts : pool ≡ h.pool ++ ps
     pub world : World new (then h e a pool t)
 
-  to-world : (at new : ℕ → Seat S) (n : ℕ) (h : History) (e : WorldEvent) (a : Answer) (t : List Happening) (pool : List (List ℕ)) → World at h → OthersStand n at new
-      → Taking.Turned opening apply encode decode is_state new n h e a t pool → Carried at new h e a t pool
+  to-world : (at new : ℕ → Seat S) (n : ℕ) (h : History) (e : WorldEvent) (a : Answer) (t : List Event) (pool : List (List ℕ)) → World at h → OthersStand n at new
+      → Taking.Turned meaning new n h e a t pool → Carried at new h e a t pool
   to-world at new n h e a t pool w others x = record {
     ps = x.ps;
     s = x.s;
@@ -65,8 +66,8 @@ module _ {S : Type 0} (opening : S) (apply : S → Address → List ℕ → S) (
     puts = x.puts;
     world =
         subst (λ (l : List (List ℕ)). World new (then h e a l t)) (sym x.puts)
-        (subst (λ (u : List Happening). World new (then h e a (h.pool ++ x.ps) u)) (sym x.trace)
-        (Turning.turned opening apply encode decode is_state at new n h e a x.ps x.s w x.turn others));
+        (subst (λ (u : List Event). World new (then h e a (h.pool ++ x.ps) u)) (sym x.trace)
+        (Turning.turned meaning at new n h e a x.ps x.s w x.turn others));
   }
 
   packet-is : (e : WorldEvent) (k : ℕ) → target_of e ≡ target.Packet k → e ≡ Deliver k
@@ -81,31 +82,31 @@ module _ {S : Type 0} (opening : S) (apply : S → Address → List ℕ → S) (
   packet-is (Leave m) k e = absurd (let bad : target.Member m ≡ target.Packet k = e in cc)
   packet-is (Crash m) k e = absurd (let bad : target.Member m ≡ target.Packet k = e in cc)
 
-  turned-by : Stepping.Laws opening apply encode decode is_state → (at new : ℕ → Seat S) (h : History) (e : WorldEvent) (a : Answer) (t : List Happening) (pool : List (List ℕ)) (b : Target)
-      → target_of e ≡ b → World at h → Carries opening apply encode decode b e at h.trace h.pool a new t pool → Carried at new h e a t pool
+  turned-by : Stepping.Laws meaning → (at new : ℕ → Seat S) (h : History) (e : WorldEvent) (a : Answer) (t : List Event) (pool : List (List ℕ)) (b : Target)
+      → target_of e ≡ b → World at h → Carries meaning b e at h.trace h.pool a new t pool → Carried at new h e a t pool
   turned-by laws at new h e a t pool (target.Member n) here w g =
-      to-world at new n h e a t pool w g.1 (Acting.acts-turn opening apply encode decode is_state laws at new n h w g.1 e a t pool here g.0)
+      to-world at new n h e a t pool w g.1 (Acting.acts-turn meaning laws at new n h w g.1 e a t pool here g.0)
   turned-by laws at new h e a t pool (target.Packet k) here w g =
-      let x = Delivering.delivered opening apply encode decode is_state at h w k laws new (packet_numbered k h.pool) a t pool refl g in
+      let x = Delivering.delivered meaning at h w k laws new (packet_numbered k h.pool) a t pool refl g in
       subst (λ (d : WorldEvent). Carried at new h d a t pool) (sym (packet-is e k here)) (to-world at new x.0 h (Deliver k) a t pool w x.1 x.2)
 
-  pub world-carries : Stepping.Laws opening apply encode decode is_state → (at new : ℕ → Seat S) (h : History) (e : WorldEvent) (a : Answer) (t : List Happening) (pool : List (List ℕ))
-      → World at h → Carries opening apply encode decode (target_of e) e at h.trace h.pool a new t pool → World new (then h e a pool t)
+  pub world-carries : Stepping.Laws meaning → (at new : ℕ → Seat S) (h : History) (e : WorldEvent) (a : Answer) (t : List Event) (pool : List (List ℕ))
+      → World at h → Carries meaning (target_of e) e at h.trace h.pool a new t pool → World new (then h e a pool t)
   world-carries laws at new h e a t pool w g = (turned-by laws at new h e a t pool (target_of e) refl w g).world
 
   -- ---- the member that runs at a node
 
   pub running-is : (at : ℕ → Seat S) (h : History) (n : ℕ) (m : MemberModel S) → World at h → at n ≡ Running m → Some m.address ≡ running n h.trace
   running-is at h n m w e =
-      let x = Facts.running-here opening apply encode decode is_state at h n m w e in
-      sym (Facts.is-running opening apply encode decode is_state h n m x.0 x.1)
+      let x = Facts.running-here meaning at h n m w e in
+      sym (Facts.is-running meaning h n m x.0 x.1)
 
   -- its receiver
   pub receiver-is : (at : ℕ → Seat S) (h : History) (n : ℕ) (m : MemberModel S) → World at h → at n ≡ Running m
-      → option_map (λ (c : Core S). c.state) (core_of m) ≡ option_map (λ p. state_of opening apply decode p h.trace) (running n h.trace)
+      → option_map (λ (c : Core S). c.state) (core_of m) ≡ option_map (λ p. state_of meaning p h.trace) (running n h.trace)
   receiver-is at h n m w e =
-      let x = Facts.running-here opening apply encode decode is_state at h n m w e in
-      rw (x.1.core, Facts.is-running opening apply encode decode is_state h n m x.0 x.1) (ap Some (sym x.1.fact.state.now))
+      let x = Facts.running-here meaning at h n m w e in
+      rw (x.1.core, Facts.is-running meaning h n m x.0 x.1) (ap Some (sym x.1.fact.state.now))
 
   -- where no member runs
   pub nobody-yet : (at : ℕ → Seat S) (h : History) (n : ℕ) → World at h → at n ≡ Vacant → None ≡ running n h.trace

@@ -1,5 +1,5 @@
 -- Whom a catch-up is about, and what comes of it: the two are level, or one has crashed, or both run.
-use Rattle.std.proofs.Common.{◌≡◌, ℕ, ◌+◌, Bool, true, false, cond, not, ◌&&◌, Option, Some, None, List, [], ◌∷◌, ◌++◌, length, is_some, inl, inr, ◌⊎◌, refl, sym, ap, ◌∙◌, subst}
+use Rattle.std.proofs.Common.{◌≡◌, ℕ, ◌+◌, Bool, true, false, cond, not, ◌&&◌, Option, Some, None, [], ◌∷◌, ◌++◌, length, is_some, inl, inr, ◌⊎◌, refl, sym, ap, ◌∙◌, subst}
 use Rattle.std.specs.Prelude.{MatchOption}
 use Rattle.std.specs.Option.{IsSomeAnd, option_map, option_map_or, option_and_then}
 use Rattle.std.proofs.lemmas.Bool.{and_parts}
@@ -7,8 +7,9 @@ use Rattle.std.proofs.lemmas.Option.{none-some, same_Some}
 use Rattle.address.specs.Ids.{Address, ViewId, same_address, same_view_id}
 use Rattle.view.specs.Members.{View}
 use Rattle.wire.specs.declared.packet.Body.TheVariants as bodies
-use Rattle.trace_props.specs.declared.happening.Happening.{Happening}
-use Rattle.trace_props.specs.declared.happening.Happening.TheVariants.{Crashed}
+use Rattle.state_transfer.specs.Meanings.{Meaning}
+use Rattle.trace_props.specs.declared.event.Event.{Event}
+use Rattle.trace_props.specs.declared.event.Event.TheVariants.{Crashed}
 use Rattle.trace_props.proofs.Observing.{same_address-refl, same_address-true, same_address-sym, same_view_id-true, same_view_id-refl}
 use Rattle.agreement.specs.Cores.{Core, is_frozen}
 use Rattle.agreement.specs.Acts.{packet}
@@ -122,20 +123,19 @@ module _ {S : Type 0} where
 
 -- ---- a catch-up
 
-module _ {S : Type 0} (opening : S) (apply : S → Address → List ℕ → S) (encode : S → List ℕ) (decode : List ℕ → Option S) (is_state : S → Type 0)
-    (laws : Stepping.Laws opening apply encode decode is_state) where
+module _ {S : Type 0} (meaning : Meaning S) (laws : Stepping.Laws meaning) where
   abbrev Keeps : WorldModel S → Type 0
-  Keeps w = IsWorld opening apply encode decode is_state w.seats w.history
+  Keeps w = IsWorld meaning w.seats w.history
 
   abbrev Couple : WorldModel S → Address → Address → Life S → Life S → Coordinator → Other → Type 0
-  Couple w c q lc lq kc kq = Leveling.Couple opening apply encode decode is_state laws w c q lc lq kc kq
+  Couple w c q lc lq kc kq = Leveling.Couple meaning laws w c q lc lq kc kq
 
   -- who runs at a node, as it runs
   seat-of : (w : WorldModel S) (n : ℕ) (m : MemberModel S) → Keeps w → w.seats n ≡ Running m → IsSeatOf n (last_of n w.history.trace) (is_connected n w.history) w.history.trace (Running m)
   seat-of w n m keeps seat = subst (IsSeatOf n (last_of n w.history.trace) (is_connected n w.history) w.history.trace) seat (keeps.seats n)
 
   runs-open : (w : WorldModel S) (n : ℕ) (p : Address) (m : MemberModel S) (v : View) → Keeps w → w.seats n ≡ Running m → m.address ≡ p → (o : IsOpen m v)
-      → Replying.RunsAs opening apply encode decode w p o.life o.traffic
+      → Replying.RunsAs meaning w p o.life o.traffic
   runs-open w n p m v keeps seat is o =
       let k = seat-of w n m keeps seat in
       let node : p.node ≡ n = ap (λ (q : Address). q.node) (sym is) ∙ k.1 in
@@ -161,11 +161,11 @@ module _ {S : Type 0} (opening : S) (apply : S → Address → List ℕ → S) (
     abbrev q : Address
     q = pair.member
 
-    joined : (lc lq : Life S) (kc : Coordinator) (kq : Other) → Replying.RunsAs opening apply encode decode w c lc (kinds.Coordinator kc)
-        → Replying.RunsAs opening apply encode decode w q lq (kinds.Other kq) → kc.view.id ≡ pair.view → kq.view.id ≡ pair.view → Found w pair
+    joined : (lc lq : Life S) (kc : Coordinator) (kq : Other) → Replying.RunsAs meaning w c lc (kinds.Coordinator kc)
+        → Replying.RunsAs meaning w q lq (kinds.Other kq) → kc.view.id ≡ pair.view → kq.view.id ≡ pair.view → Found w pair
     joined lc lq kc kq rc rq ic iq =
-        let one = Comparing.one-view opening apply encode decode is_state (system_of w.seats w.history.pool w.history.trace) keeps.agreed c q (core_at c lc) (core_at q lq) kc.view kq.view
-        (Leveling.runs-in opening apply encode decode is_state laws w c lc (kinds.Coordinator kc) rc) (Leveling.runs-in opening apply encode decode is_state laws w q lq (kinds.Other kq) rq)
+        let one = Comparing.one-view meaning (system_of w.seats w.history.pool w.history.trace) keeps.agreed c q (core_at c lc) (core_at q lq) kc.view kq.view
+        (Leveling.runs-in meaning laws w c lc (kinds.Coordinator kc) rc) (Leveling.runs-in meaning laws w q lq (kinds.Other kq) rq)
         (rw rc.traffic refl) (rw rq.traffic refl) (iq ∙ sym ic) in
         record {
           first = lc;
@@ -177,7 +177,7 @@ module _ {S : Type 0} (opening : S) (apply : S → Address → List ℕ → S) (
         }
 
     -- the coordinator of a view keeps what a coordinator does, and another member what another does
-    kinds-by : (lc lq : Life S) (tc tq : Traffic) → Replying.RunsAs opening apply encode decode w c lc tc → Replying.RunsAs opening apply encode decode w q lq tq → IsOrderly c tc → IsOrderly q tq
+    kinds-by : (lc lq : Life S) (tc tq : Traffic) → Replying.RunsAs meaning w c lc tc → Replying.RunsAs meaning w q lq tq → IsOrderly c tc → IsOrderly q tq
         → (view_of tc).id ≡ pair.view → (view_of tq).id ≡ pair.view → Found w pair
     kinds-by lc lq (kinds.Other k) tq rc rq oc oq ic iq =
         let bad : true ≡ false = sym (same_address-refl c) ∙ ap (λ (v : ViewId). same_address c v.creator) (sym ic) ∙ oc.0 in
@@ -202,35 +202,35 @@ module _ {S : Type 0} (opening : S) (apply : S → Address → List ℕ → S) (
 
   -- ---- level
 
-  keeps-on : (old new : WorldModel S) (e : _) → Plays opening apply encode decode old e new → Keeps old → Keeps new
-  keeps-on old new e x w = Keeping.step-keeps opening apply encode decode is_state laws old new e x.step w
+  keeps-on : (old new : WorldModel S) (e : _) → Plays meaning old e new → Keeps old → Keeps new
+  keeps-on old new e x w = Keeping.step-keeps meaning laws old new e x.step w
 
   -- after the tick
-  pub told-so : (old told : WorldModel S) (pair : Pair) (f : Found old pair) → Plays opening apply encode decode old (Tick pair.view.creator.node) told
-      → Leveling.Told opening apply encode decode is_state laws old told pair.view.creator pair.member f.first f.other f.leads f.follows
+  pub told-so : (old told : WorldModel S) (pair : Pair) (f : Found old pair) → Plays meaning old (Tick pair.view.creator.node) told
+      → Leveling.Told meaning laws old told pair.view.creator pair.member f.first f.other f.leads f.follows
   told-so old told pair f x =
-      let t = Leveling.sure opening apply encode decode is_state laws (lacks_memory x.step.answer) x.whole (Replying.ticked opening apply encode decode old told pair.view.creator f.first f.leads f.couple.first x.step) in
-      Leveling.told-by opening apply encode decode is_state laws old told pair.view.creator pair.member f.first f.other f.leads f.follows f.couple
+      let t = Leveling.sure meaning laws (lacks_memory x.step.answer) x.whole (Replying.ticked meaning old told pair.view.creator f.first f.leads f.couple.first x.step) in
+      Leveling.told-by meaning laws old told pair.view.creator pair.member f.first f.other f.leads f.follows f.couple
       (keeps-on old told (Tick pair.view.creator.node) x f.couple.keeps) t
 
   -- after the STATUS
-  pub asked-so : (old told asked : WorldModel S) (pair : Pair) (f : Found old pair) (t : Leveling.Told opening apply encode decode is_state laws old told pair.view.creator pair.member f.first f.other f.leads f.follows)
-      → Hands opening apply encode decode (first_for pair.member (length old.history.pool) told.history.pool) told asked
-      → Leveling.AskedSo opening apply encode decode is_state laws told asked pair.view.creator pair.member f.first f.leads
+  pub asked-so : (old told asked : WorldModel S) (pair : Pair) (f : Found old pair) (t : Leveling.Told meaning laws old told pair.view.creator pair.member f.first f.other f.leads f.follows)
+      → Hands meaning (first_for pair.member (length old.history.pool) told.history.pool) told asked
+      → Leveling.AskedSo meaning laws told asked pair.view.creator pair.member f.first f.leads
   asked-so old told asked pair f t hands =
-      let x : Plays opening apply encode decode told (Deliver t.number) asked =
-      subst (λ (o : Option ℕ). Hands opening apply encode decode o told asked) t.found hands in
+      let x : Plays meaning told (Deliver t.number) asked =
+      subst (λ (o : Option ℕ). Hands meaning o told asked) t.found hands in
       let m = packet pair.view.creator (bodies.Status f.leads.view.id (progress_of f.leads.window)) pair.member in
-      let h = Leveling.sure opening apply encode decode is_state laws (lacks_memory x.step.answer) x.whole
-      (Replying.heard opening apply encode decode told asked t.number pair.member f.other (kinds.Other f.follows) t.couple.other m t.status x.step) in
-      Leveling.asked-by opening apply encode decode is_state laws told asked pair.view.creator pair.member f.first f.other f.leads f.follows t.couple
+      let h = Leveling.sure meaning laws (lacks_memory x.step.answer) x.whole
+      (Replying.heard meaning told asked t.number pair.member f.other (kinds.Other f.follows) t.couple.other m t.status x.step) in
+      Leveling.asked-by meaning laws told asked pair.view.creator pair.member f.first f.other f.leads f.follows t.couple
       (keeps-on told asked (Deliver t.number) x t.couple.keeps) h
 
   -- what the member was told in the view is what its coordinator was told there
-  pub levels : (old new : WorldModel S) (n : ℕ) (pair : Pair) → Keeps old → pair_at old.seats n ≡ Some pair → CatchesUp opening apply encode decode pair old new → IsLevel pair new.history.trace
+  pub levels : (old new : WorldModel S) (n : ℕ) (pair : Pair) → Keeps old → pair_at old.seats n ≡ Some pair → CatchesUp meaning pair old new → IsLevel pair new.history.trace
   levels old new n pair keeps e x =
       let f = found old n pair keeps e in
       let t = told-so old x.told pair f x.ticks in
       let s = asked-so old x.told x.asked pair f t x.hears in
-      subst (λ (v : ViewId). Leveling.Level opening apply encode decode is_state laws new pair.view.creator pair.member v) f.id
-      (Leveling.levelled opening apply encode decode is_state laws x.told x.asked x.answered pair.view.creator pair.member f.first f.leads s x.asks new x.answers)
+      subst (λ (v : ViewId). Leveling.Level meaning laws new pair.view.creator pair.member v) f.id
+      (Leveling.levelled meaning laws x.told x.asked x.answered pair.view.creator pair.member f.first f.leads s x.asks new x.answers)

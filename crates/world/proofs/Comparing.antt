@@ -7,11 +7,12 @@ use Rattle.std.proofs.lemmas.Option.{none-some, same_Some}
 use Rattle.std.proofs.lemmas.List.{length-take, take_all}
 use Rattle.address.specs.Ids.{Address, ViewId}
 use Rattle.view.specs.Members.{View, stands_in}
-use Rattle.packet_values.specs.declared.limits.TheConstants.{WINDOW}
+use Rattle.limits.specs.declared.TheConstants.{WINDOW}
 use Rattle.packet_values.specs.Values.{held_at}
-use Rattle.trace_props.specs.declared.happening.Happening.{Happening}
-use Rattle.trace_props.specs.declared.happening.Install.{Install}
-use Rattle.trace_props.specs.declared.happening.Message.{Message}
+use Rattle.state_transfer.specs.Meanings.{Meaning}
+use Rattle.trace_props.specs.declared.event.Event.{Event}
+use Rattle.trace_props.specs.declared.event.Install.{Install}
+use Rattle.trace_props.specs.declared.event.Message.{Message}
 use Rattle.trace_props.specs.Observed.{delivered_in, entry_of}
 use Rattle.trace_props.specs.Rules.{HasOneOrder}
 use Rattle.agreement.specs.Words.{list_of, members_of, open_count, Tally}
@@ -38,8 +39,7 @@ members-by : (o : Option Install) (v : View) → option_map (λ (e : Install). e
 members-by None v e = absurd (none-some v e)
 members-by (Some x) v e = ap (λ (w : View). w.members) (same_Some x.view v e)
 
-module _ {S : Type 0} (opening : S) (apply : S → Address → List ℕ → S) (encode : S → List ℕ) (decode : List ℕ → Option S) (is_state : S → Type 0)
-    (s : System S) (i : Invariant opening apply encode decode is_state s) where
+module _ {S : Type 0} (meaning : Meaning S) (s : System S) (i : Invariant meaning s) where
   -- two members that run, in the same view, which one of them made
   pub record Both (c q : Address) (first other : Core S) (v : View) : Type 0 where
     pub coordinator : s.running c ≡ Some first
@@ -71,7 +71,7 @@ module _ {S : Type 0} (opening : S) (apply : S → Address → List ℕ → S) (
       let o : ViewFact s.history q other.installed other.traffic other.kept v = (i.members q other b.member).view v b.inside in
       let members : members_of v.id s.history.trace ≡ v.members = members-by (entry_of v.id.creator v.id s.history.trace) v f.inside.first in
       let one : delivered_in q v.id s.history.trace ≡ take (length (delivered_in q v.id s.history.trace)) (delivered_in v.id.creator v.id s.history.trace) =
-      (rules-of opening apply decode s.history i.trace).ordered.order q v.id in
+      (rules-of meaning s.history i.trace).ordered.order q v.id in
       let mine : length (delivered_in q v.id s.history.trace) ≡ other.traffic.delivered = sym (told-many q v.id s.history.trace) ∙ o.counts.told in
       let all : length (delivered_in v.id.creator v.id s.history.trace) ≡ first.traffic.delivered =
       ap (λ (p : Address). length (delivered_in p v.id s.history.trace)) b.own ∙ sym (told-many c v.id s.history.trace) ∙ f.counts.told in

@@ -7,6 +7,7 @@ use Rattle.std.proofs.lemmas.Bool.{cond-true, cond-false}
 use Rattle.std.proofs.lemmas.Bool.Decides.{nat_tests}
 use Rattle.std.proofs.lemmas.Option.{none-some}
 use Rattle.address.specs.Ids.{Address}
+use Rattle.state_transfer.specs.Meanings.{Meaning}
 use Rattle.world_model.specs.declared.WorldEvent.TheVariants.{Deliver}
 use Rattle.world_model.specs.Packets.{packet_numbered}
 use Rattle.world.specs.Worlds.{WorldModel}
@@ -69,42 +70,42 @@ first-none a k pool low = ap (position_from (is_destined a) (k + 1)) (drop-past 
 
 -- ---- one more delivery
 
-module _ {S : Type 0} (opening : S) (apply : S → Address → List ℕ → S) (encode : S → List ℕ) (decode : List ℕ → Option S) where
-  pub delivers-on : (past n k : ℕ) (old mid new : WorldModel S) → Delivers opening apply encode decode past n old mid → k ≡ past + n + 1 → Plays opening apply encode decode mid (Deliver k) new
-      → Delivers opening apply encode decode past (n + 1) old new
+module _ {S : Type 0} (meaning : Meaning S) where
+  pub delivers-on : (past n k : ℕ) (old mid new : WorldModel S) → Delivers meaning past n old mid → k ≡ past + n + 1 → Plays meaning mid (Deliver k) new
+      → Delivers meaning past (n + 1) old new
   delivers-on _ _ k _ _ new (Still past w) e x =
       let same : k ≡ past + 1 = omega (arith, e) in
       let one : suc zero ≡ zero + 1 = omega arith in
-      subst (λ (j : ℕ). Delivers opening apply encode decode past j w new) one
-      (Next past zero w new new (subst (λ (j : ℕ). Plays opening apply encode decode w (Deliver j) new) same x) (Still (past + 1) new))
+      subst (λ (j : ℕ). Delivers meaning past j w new) one
+      (Next past zero w new new (subst (λ (j : ℕ). Plays meaning w (Deliver j) new) same x) (Still (past + 1) new))
   delivers-on _ _ k _ _ new (Next past count old m mid plays rest) e x =
       let one : suc (count + 1) ≡ suc count + 1 = omega arith in
-      subst (λ (j : ℕ). Delivers opening apply encode decode past j old new) one
+      subst (λ (j : ℕ). Delivers meaning past j old new) one
       (Next past (count + 1) old m new plays (delivers-on (past + 1) count k m mid new rest (omega (arith, e)) x))
 
-  pub breaks-on : (past n k total : ℕ) (old mid new : WorldModel S) → Delivers opening apply encode decode past n old mid → k ≡ past + n + 1 → n < total → Fails opening apply encode decode mid (Deliver k) new
-      → Breaks opening apply encode decode past total old new
+  pub breaks-on : (past n k total : ℕ) (old mid new : WorldModel S) → Delivers meaning past n old mid → k ≡ past + n + 1 → n < total → Fails meaning mid (Deliver k) new
+      → Breaks meaning past total old new
   breaks-on _ _ k total _ _ new (Still past w) e low x =
       let same : k ≡ past + 1 = omega (arith, e) in
       let one : suc (total - 1) ≡ total = omega (arith, low) in
-      subst (λ (j : ℕ). Breaks opening apply encode decode past j w new) one
-      (Here past (total - 1) w new (subst (λ (j : ℕ). Fails opening apply encode decode w (Deliver j) new) same x))
+      subst (λ (j : ℕ). Breaks meaning past j w new) one
+      (Here past (total - 1) w new (subst (λ (j : ℕ). Fails meaning w (Deliver j) new) same x))
   breaks-on _ _ k total _ _ new (Next past count old m mid plays rest) e low x =
       let one : suc (total - 1) ≡ total = omega (arith, low) in
-      subst (λ (j : ℕ). Breaks opening apply encode decode past j old new) one
+      subst (λ (j : ℕ). Breaks meaning past j old new) one
       (Later past (total - 1) old m new plays (breaks-on (past + 1) count k (total - 1) m mid new rest (omega (arith, e)) (omega (arith, low)) x))
 
   -- the same, counted from where they begin
-  pub delivers-start : (past : ℕ) (w : WorldModel S) → Delivers opening apply encode decode past (past - past) w w
-  delivers-start past w = let none : zero ≡ past - past = omega arith in subst (λ (j : ℕ). Delivers opening apply encode decode past j w w) none (Still past w)
+  pub delivers-start : (past : ℕ) (w : WorldModel S) → Delivers meaning past (past - past) w w
+  delivers-start past w = let none : zero ≡ past - past = omega arith in subst (λ (j : ℕ). Delivers meaning past j w w) none (Still past w)
 
-  pub delivers-one : (past number : ℕ) (old mid new : WorldModel S) → past ≤ number → Delivers opening apply encode decode past (number - past) old mid
-      → Plays opening apply encode decode mid (Deliver (number + 1)) new → Delivers opening apply encode decode past (number + 1 - past) old new
+  pub delivers-one : (past number : ℕ) (old mid new : WorldModel S) → past ≤ number → Delivers meaning past (number - past) old mid
+      → Plays meaning mid (Deliver (number + 1)) new → Delivers meaning past (number + 1 - past) old new
   delivers-one past number old mid new low all x =
       let more : (number - past) + 1 ≡ number + 1 - past = omega (arith, low) in
-      subst (λ (j : ℕ). Delivers opening apply encode decode past j old new) more
+      subst (λ (j : ℕ). Delivers meaning past j old new) more
       (delivers-on past (number - past) (number + 1) old mid new all (omega (arith, low)) x)
 
-  pub breaks-one : (past number total : ℕ) (old mid new : WorldModel S) → past ≤ number → number < total → Delivers opening apply encode decode past (number - past) old mid
-      → Fails opening apply encode decode mid (Deliver (number + 1)) new → Breaks opening apply encode decode past (total - past) old new
+  pub breaks-one : (past number total : ℕ) (old mid new : WorldModel S) → past ≤ number → number < total → Delivers meaning past (number - past) old mid
+      → Fails meaning mid (Deliver (number + 1)) new → Breaks meaning past (total - past) old new
   breaks-one past number total old mid new low high all x = breaks-on past (number - past) (number + 1) (total - past) old mid new all (omega (arith, low)) (omega (arith, low, high)) x

@@ -7,7 +7,8 @@ use Rattle.std.proofs.lemmas.Option.{none-some}
 use Rattle.std.proofs.lemmas.List.{append-nil}
 use Rattle.address.specs.Ids.{Address}
 use Rattle.wire.specs.Packets.{packet_of, wire_refusal}
-use Rattle.trace_props.specs.declared.happening.Happening.{Happening}
+use Rattle.state_transfer.specs.Meanings.{Meaning}
+use Rattle.trace_props.specs.declared.event.Event.{Event}
 use Rattle.agreement.specs.Histories.{Posted}
 use Rattle.agreement.specs.Cores.{Core}
 use Rattle.agreement.specs.Steps.{handed, came_of}
@@ -73,8 +74,7 @@ module _ {S : Type 0} (pool : List (List ℕ)) (m : MemberModel S) (c : Core S) 
 
 -- ---- a delivery
 
-module _ {S : Type 0} (opening : S) (apply : S → Address → List ℕ → S) (encode : S → List ℕ) (decode : List ℕ → Option S) (is_state : S → Type 0) (at : ℕ → Seat S) (h : History)
-    (w : Turning.World opening apply encode decode is_state at h) (k : ℕ) where
+module _ {S : Type 0} (meaning : Meaning S) (at : ℕ → Seat S) (h : History) (w : Turning.World meaning at h) (k : ℕ) where
   -- the packet of that number, and whom it is for
   pub record IsPacketFor (bytes : List ℕ) (p : Address) : Type 0 where
     pub there : packet_numbered k h.pool ≡ Some bytes
@@ -84,29 +84,29 @@ module _ {S : Type 0} (opening : S) (apply : S → Address → List ℕ → S) (
   in-pool bytes e = numbered-by (nat_eq k 0) (slice_get h.pool (k - 1)) bytes e
 
   -- what has to be known of a delivery to a member that runs
-  module _ (b : Bor (List ℕ)) (p : Address) (f : IsPacketFor b.now p) (m : MemberModel S) (c : Core S) (x : Facts.Runs opening apply encode decode is_state h p.node m c) where
+  module _ (b : Bor (List ℕ)) (p : Address) (f : IsPacketFor b.now p) (m : MemberModel S) (c : Core S) (x : Facts.Runs meaning h p.node m c) where
     is-recipient : recipient k h ≡ Some m.address
-    is-recipient = rw (f.there, f.goes) (Facts.is-running opening apply encode decode is_state h p.node m c x)
+    is-recipient = rw (f.there, f.goes) (Facts.is-running meaning h p.node m c x)
 
     spelled : IsSpelled b.now
     spelled = w.spelled (k - 1) b.now (in-pool b.now f.there)
 
-    deliver-taken : (out : Output) (left : MemberModel S) → Handled apply encode decode m (Datagram b) (Ok out) left → EachOwn m.address out.happenings.items
-        → Taking.TakesSo opening apply encode decode is_state h p.node m (Deliver k) (Datagram b) (answer_to out.happenings.items) out.happenings.items left
+    deliver-taken : (out : Output) (left : MemberModel S) → Handled meaning m (Datagram b) (Ok out) left → EachOwn m.address out.events.items
+        → Taking.TakesSo meaning h p.node m (Deliver k) (Datagram b) (answer_to out.events.items) out.events.items left
     deliver-taken out left handled own =
-        let r = Tables.replies opening apply encode decode is_state h p.node m c x (Datagram b) out left handled in
-        let s = out.happenings.items in
-        subst (λ (a : Answer). Taking.TakesSo opening apply encode decode is_state h p.node m (Deliver k) (Datagram b) a s left) (sym (quiet-done s r.0)) (record {
-          answers = rw is-recipient (Answering.quiet-taken opening apply encode decode is_state h p.node m c x s own r.0);
+        let r = Tables.replies meaning h p.node m c x (Datagram b) out left handled in
+        let s = out.events.items in
+        subst (λ (a : Answer). Taking.TakesSo meaning h p.node m (Deliver k) (Datagram b) a s left) (sym (quiet-done s r.0)) (record {
+          answers = rw is-recipient (Answering.quiet-taken meaning h p.node m c x s own r.0);
           prompt = tt;
           ends = λ e. absurd (let bad : false ≡ true = e in cc);
-          stays = λ e. Tables.stays-so opening apply encode decode is_state h p.node m c x left handled.group r.1;
+          stays = λ e. Tables.stays-so meaning h p.node m c x left handled.group r.1;
         })
 
     not-refused : (err : Error) → refusal_in c (Datagram b) ≡ Some err → ⊥
     not-refused err e = none-some err (sym (ap (option_map Wire) (spelled-free b.now spelled)) ∙ e)
 
-    deliver-table : Taking.Tabled opening apply encode decode is_state h p.node m c (Deliver k) (Datagram b)
+    deliver-table : Taking.Tabled meaning h p.node m c (Deliver k) (Datagram b)
     deliver-table = record {
       elsewhere = λ a j o. refl;
       comes = packet-comes h.pool m c x.core x.group w.spelled (k - 1) b (in-pool b.now f.there);
@@ -115,40 +115,40 @@ module _ {S : Type 0} (opening : S) (apply : S → Address → List ℕ → S) (
       taken = λ out left handled free own. deliver-taken out left handled own;
     }
 
-  module _ (laws : Stepping.Laws opening apply encode decode is_state) (new : ℕ → Seat S) where
-    abbrev Turned : ℕ → Answer → List Happening → List (List ℕ) → Type 0
-    Turned n a t pool = Taking.Turned opening apply encode decode is_state new n h (Deliver k) a t pool
+  module _ (laws : Stepping.Laws meaning) (new : ℕ → Seat S) where
+    abbrev Turned : ℕ → Answer → List Event → List (List ℕ) → Type 0
+    Turned n a t pool = Taking.Turned meaning new n h (Deliver k) a t pool
 
     -- where nothing changes
-    still : (n : ℕ) (a : Answer) (t : List Happening) (pool : List (List ℕ)) → a ≡ Done → SameSeats at new → t ≡ h.trace → pool ≡ h.pool → Turned n a t pool
+    still : (n : ℕ) (a : Answer) (t : List Event) (pool : List (List ℕ)) → a ≡ Done → SameSeats at new → t ≡ h.trace → pool ≡ h.pool → Turned n a t pool
     still n a t pool answer same trace puts = subst (λ (b : Answer). Turned n b t pool) (sym answer) (record {
       ps = [];
       s = [];
       trace = trace ∙ sym (append-nil h.trace);
       puts = puts ∙ sym (append-nil h.pool);
-      turn = Turning.turn-still opening apply encode decode is_state at new n h (Deliver k) Done w same (answers-deliver k h (recipient k h) refl) tt (λ m. refl);
+      turn = Turning.turn-still meaning at new n h (Deliver k) Done w same (answers-deliver k h (recipient k h) refl) tt (λ m. refl);
     })
 
-    idle : (n : ℕ) (s : Seat S) (a : Answer) (t : List Happening) (pool : List (List ℕ)) → at n ≡ s → OthersStand n at new → Idles s h.trace h.pool a (new n) t pool → Turned n a t pool
+    idle : (n : ℕ) (s : Seat S) (a : Answer) (t : List Event) (pool : List (List ℕ)) → at n ≡ s → OthersStand n at new → Idles s h.trace h.pool a (new n) t pool → Turned n a t pool
     idle n s a t pool was others g = still n a t pool g.answer (same-at at new n others (g.seat ∙ sym was)) g.trace g.puts
 
     -- at the node of whom it is for
-    heard : (bytes : List ℕ) (p : Address) (s : Seat S) (a : Answer) (t : List Happening) (pool : List (List ℕ)) → IsPacketFor bytes p → at p.node ≡ s → OthersStand p.node at new
-        → Hears apply encode decode bytes s h.trace h.pool a (new p.node) t pool → Turned p.node a t pool
+    heard : (bytes : List ℕ) (p : Address) (s : Seat S) (a : Answer) (t : List Event) (pool : List (List ℕ)) → IsPacketFor bytes p → at p.node ≡ s → OthersStand p.node at new
+        → Hears meaning bytes s h.trace h.pool a (new p.node) t pool → Turned p.node a t pool
     heard bytes p Vacant a t pool f was others g = idle p.node Vacant a t pool was others g
     heard bytes p (Ended q) a t pool f was others g = idle p.node (Ended q) a t pool was others g
     heard bytes p (Running m) a t pool f was others g =
-        let x = Facts.running-here opening apply encode decode is_state at h p.node m w was in
+        let x = Facts.running-here meaning at h p.node m w was in
         let table = deliver-table g.0 p (subst (λ (l : List ℕ). IsPacketFor l p) (sym g.1) f) m x.0 x.1 in
-        Taking.hands-turn opening apply encode decode is_state laws at new p.node h (Deliver k) (Datagram g.0) m x.0 w was x.1 table others a (new p.node) t pool refl g.2
+        Taking.hands-turn meaning laws at new p.node h (Deliver k) (Datagram g.0) m x.0 w was x.1 table others a (new p.node) t pool refl g.2
 
-    over : (bytes : List ℕ) (d : Option Address) (a : Answer) (t : List Happening) (pool : List (List ℕ)) → packet_numbered k h.pool ≡ Some bytes → destination_of bytes ≡ d
-        → HandsOver apply encode decode bytes d at h.trace h.pool a new t pool → (n : ℕ) × OthersStand n at new × Turned n a t pool
+    over : (bytes : List ℕ) (d : Option Address) (a : Answer) (t : List Event) (pool : List (List ℕ)) → packet_numbered k h.pool ≡ Some bytes → destination_of bytes ≡ d
+        → HandsOver meaning bytes d at h.trace h.pool a new t pool → (n : ℕ) × OthersStand n at new × Turned n a t pool
     over bytes None a t pool there goes g = (0, λ m o. g.seats m, still 0 a t pool g.answer g.seats g.trace g.puts)
     over bytes (Some p) a t pool there goes g = (p.node, g.1, heard bytes p (at p.node) a t pool (record { there = there; goes = goes }) refl g.1 g.0)
 
     -- a delivery is a turn at some node
-    pub delivered : (o : Option (List ℕ)) (a : Answer) (t : List Happening) (pool : List (List ℕ)) → packet_numbered k h.pool ≡ o → Delivers apply encode decode o at h.trace h.pool a new t pool
+    pub delivered : (o : Option (List ℕ)) (a : Answer) (t : List Event) (pool : List (List ℕ)) → packet_numbered k h.pool ≡ o → Delivers meaning o at h.trace h.pool a new t pool
         → (n : ℕ) × OthersStand n at new × Turned n a t pool
     delivered None a t pool there g = (0, λ m o. g.seats m, still 0 a t pool g.answer g.seats g.trace g.puts)
     delivered (Some bytes) a t pool there g = over bytes (destination_of bytes) a t pool there refl g

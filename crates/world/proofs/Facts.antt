@@ -3,7 +3,8 @@ use Rattle.std.proofs.Common.{◌≡◌, ℕ, ◌+◌, false, Option, Some, None
 use Rattle.std.specs.Option.{IsSomeAnd, option_map_or}
 use Rattle.address.specs.Ids.{Address}
 use Rattle.view.specs.Members.{View}
-use Rattle.trace_props.specs.declared.happening.Happening.{Happening}
+use Rattle.state_transfer.specs.Meanings.{Meaning}
+use Rattle.trace_props.specs.declared.event.Event.{Event}
 use Rattle.trace_props.specs.Observed.{has_ended, current_view, sent_in, delivered_in, own}
 use Rattle.agreement.specs.Cores.{Core, id_of}
 use Rattle.agreement.specs.Members.{MemberFact, ViewFact}
@@ -28,7 +29,7 @@ core-there : {S : Type 0} (o : Option (Core S)) (P : Core S → Type 0) → IsSo
 core-there None P x = absurd x
 core-there (Some c) P x = (c, refl, x)
 
-module _ {S : Type 0} (opening : S) (apply : S → Address → List ℕ → S) (encode : S → List ℕ) (decode : List ℕ → Option S) (is_state : S → Type 0) where
+module _ {S : Type 0} (meaning : Meaning S) where
   -- a node's running member
   pub record Runs (h : History) (n : ℕ) (m : MemberModel S) (c : Core S) : Type 0 where
     pub last : last_of n h.trace ≡ Some m.address
@@ -36,14 +37,13 @@ module _ {S : Type 0} (opening : S) (apply : S → Address → List ℕ → S) (
     pub group : m.group ≡ world_group
     pub core : core_of m ≡ Some c
     pub joined : is_connected n h ≡ c.connected
-    pub fact : MemberFact opening apply decode is_state (record { pool = posts_in h.pool; trace = h.trace }) m.address c
+    pub fact : MemberFact meaning (record { pool = posts_in h.pool; trace = h.trace }) m.address c
 
-  runs-at : (at : ℕ → Seat S) (h : History) (n : ℕ) (m : MemberModel S) → Turning.World opening apply encode decode is_state at h → at n ≡ Running m → m.address.node ≡ n
+  runs-at : (at : ℕ → Seat S) (h : History) (n : ℕ) (m : MemberModel S) → Turning.World meaning at h → at n ≡ Running m → m.address.node ≡ n
       → runs at m.address ≡ core_of m
   runs-at at h n m w there node = subst (λ (k : ℕ). core_here m.address (at k) ≡ core_of m) (sym node) (ap (core_here m.address) there ∙ core-running m.address m refl)
 
-  pub running-here : (at : ℕ → Seat S) (h : History) (n : ℕ) (m : MemberModel S) → Turning.World opening apply encode decode is_state at h → at n ≡ Running m
-      → (c : Core S) × Runs h n m c
+  pub running-here : (at : ℕ → Seat S) (h : History) (n : ℕ) (m : MemberModel S) → Turning.World meaning at h → at n ≡ Running m → (c : Core S) × Runs h n m c
   running-here at h n m w there =
       let k : IsSeatOf n (last_of n h.trace) (is_connected n h) h.trace (Running m) = subst (IsSeatOf n (last_of n h.trace) (is_connected n h) h.trace) there (w.seats n) in
       let x = core-there (core_of m) (λ c. is_connected n h ≡ c.connected) k.2.joined in (
@@ -65,7 +65,7 @@ module _ {S : Type 0} (opening : S) (apply : S → Address → List ℕ → S) (
     pub is-running : running n h.trace ≡ Some m.address
     is-running = rw (x.last, going) refl
 
-    pub at-member : (a : Answer) (s : List Happening) (At : Address → Type 0) → At m.address → AtMember n h a s At
+    pub at-member : (a : Answer) (s : List Event) (At : Address → Type 0) → At m.address → AtMember n h a s At
     at-member a s At y = rw (x.last, going) y
 
     pub connected : is_connected m.address.node h ≡ c.connected

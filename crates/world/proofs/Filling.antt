@@ -1,8 +1,9 @@
 -- A window fills up: each ORDER that answers a request brings it one number further.
 use Rattle.std.proofs.Common.{◌≡◌, ℕ, ◌+◌, ◌-◌, ◌<◌, ◌≤◌, Bool, true, false, cond, not, ◌&&◌, Option, Some, None, List, [], ◌∷◌, ◌++◌, inl, inr, nat_eq, nat_lt, min, refl, sym, ap, ◌∙◌, subst, arith}
-use Rattle.std.specs.Prelude.{◌^◌, nat_le, is_some, IsSome, ◌⊎◌}
+use Rattle.std.specs.Prelude.{nat_le, is_some, IsSome, ◌⊎◌}
 use Rattle.std.proofs.lemmas.Bool.{cond-true}
 use Rattle.std.proofs.lemmas.Bool.Decides.{nat_tests}
+use Rattle.limits.specs.declared.TheConstants.{WINDOW, GREATEST_NUMBER}
 use Rattle.address.specs.Ids.{Address}
 use Rattle.packet_values.specs.Values.{Entry, held_at}
 use Rattle.nak_stream.specs.Windows.{WindowModel, held_above, held_with, offers, taken, collected, IsMissing, IsLeastGap, IsGreatestGap}
@@ -91,15 +92,15 @@ taken-held g k e w x = by (offers g w)
     by false = x
 
 -- within reach it is held then, if it was not before
-pub taken-here : (g : ℕ) (e : Entry) (w : WindowModel) → w.delivered < g → g ≤ w.stable + 32 → g ≤ 2 ^ 62 → IsSome (held_at g (taken g e w).held)
+pub taken-here : (g : ℕ) (e : Entry) (w : WindowModel) → w.delivered < g → g ≤ w.stable + WINDOW → g ≤ GREATEST_NUMBER → IsSome (held_at g (taken g e w).held)
 taken-here g e w past near small = by (held-or-not (held_at g w.held))
   where
     by : IsSome (held_at g w.held) ⊎ (held_at g w.held ≡ None) → IsSome (held_at g (taken g e w).held)
     by (inl x) = taken-held g g e w x
     by (inr none) =
         let a : nat_lt w.delivered g ≡ true = grind (arith, nat_tests) in
-        let b : nat_le g (w.stable + 32) ≡ true = grind (arith, nat_tests) in
-        let c : nat_le g (2 ^ 62) ≡ true = grind (arith, nat_tests) in
+        let b : nat_le g (w.stable + WINDOW) ≡ true = grind (arith, nat_tests) in
+        let c : nat_le g GREATEST_NUMBER ≡ true = grind (arith, nat_tests) in
         let o : offers g w ≡ true = rw (a, b, c, none) refl in
         let same : nat_eq g g ≡ true = grind (arith, nat_tests) in
         rw (o, held_at-with g g e w.held, same) refl
@@ -119,27 +120,27 @@ different k g other below = grind (arith, nat_tests)
 
 -- ---- so an ORDER with the first number of the range makes the range smaller
 
-pub filled : (p : Address) (g last highest : ℕ) (e : Entry) (old mid new : Other) (entries : List Entry) → g ≤ 2 ^ 62 → g - 32 ≤ old.window.delivered
-    → mid.window ≡ taken g e (collected (g - 32) old.window) → TellsTo p mid entries new → MissesWithin g last highest old.window → MissesWithin (g + 1) last highest new.window
+pub filled : (p : Address) (g last highest : ℕ) (e : Entry) (old mid new : Other) (entries : List Entry) → g ≤ GREATEST_NUMBER → g - WINDOW ≤ old.window.delivered
+    → mid.window ≡ taken g e (collected (g - WINDOW) old.window) → TellsTo p mid entries new → MissesWithin g last highest old.window → MissesWithin (g + 1) last highest new.window
 filled p g last highest e old mid new entries small near is tells m k past known outside =
-    let between = collected (g - 32) old.window in
-    let start : mid.window.delivered ≡ old.window.delivered = ap (λ (w : WindowModel). w.delivered) is ∙ taken-delivered g e between ∙ collected-delivered (g - 32) old.window in
+    let between = collected (g - WINDOW) old.window in
+    let start : mid.window.delivered ≡ old.window.delivered = ap (λ (w : WindowModel). w.delivered) is ∙ taken-delivered g e between ∙ collected-delivered (g - WINDOW) old.window in
     let further : mid.window.delivered ≤ new.window.delivered = tells-further p mid new entries tells in
     let before : old.window.delivered < k = omega (arith, start, further, past) in
     let held : new.window.held ≡ (taken g e between).held = tells-held p mid new entries tells ∙ ap (λ (w : WindowModel). w.held) is in
-    let here : between.delivered ≡ old.window.delivered = collected-delivered (g - 32) old.window in
-    let stable : g - 32 ≤ between.stable = collected-stable (g - 32) old.window near in
+    let here : between.delivered ≡ old.window.delivered = collected-delivered (g - WINDOW) old.window in
+    let stable : g - WINDOW ≤ between.stable = collected-stable (g - WINDOW) old.window near in
     subst (λ (l : List (ℕ × Entry)). IsSome (held_at k l)) (sym held) (by (nat_eq k g) refl before here stable outside)
   where
-    by : (b : Bool) → nat_eq k g ≡ b → old.window.delivered < k → (collected (g - 32) old.window).delivered ≡ old.window.delivered → g - 32 ≤ (collected (g - 32) old.window).stable → (k < g + 1) ⊎ (last < k)
-        → IsSome (held_at k (taken g e (collected (g - 32) old.window)).held)
+    by : (b : Bool) → nat_eq k g ≡ b → old.window.delivered < k → (collected (g - WINDOW) old.window).delivered ≡ old.window.delivered → g - WINDOW ≤ (collected (g - WINDOW) old.window).stable → (k < g + 1) ⊎ (last < k)
+        → IsSome (held_at k (taken g e (collected (g - WINDOW) old.window)).held)
     by true same before here stable o =
         let is : g ≡ k = sym (same-number k g same) in
-        subst (λ (j : ℕ). IsSome (held_at j (taken g e (collected (g - 32) old.window)).held)) is
-        (taken-here g e (collected (g - 32) old.window) (omega (arith, before, here, is)) (omega (arith, stable)) small)
+        subst (λ (j : ℕ). IsSome (held_at j (taken g e (collected (g - WINDOW) old.window)).held)) is
+        (taken-here g e (collected (g - WINDOW) old.window) (omega (arith, before, here, is)) (omega (arith, stable)) small)
     by false other before here stable (inl below) =
-        taken-held g k e (collected (g - 32) old.window)
-        (subst IsSome (sym (collected-held (g - 32) k old.window before)) (m k before known (inl (different k g other below))))
+        taken-held g k e (collected (g - WINDOW) old.window)
+        (subst IsSome (sym (collected-held (g - WINDOW) k old.window before)) (m k before known (inl (different k g other below))))
     by false other before here stable (inr above) =
-        taken-held g k e (collected (g - 32) old.window)
-        (subst IsSome (sym (collected-held (g - 32) k old.window before)) (m k before known (inr above)))
+        taken-held g k e (collected (g - WINDOW) old.window)
+        (subst IsSome (sym (collected-held (g - WINDOW) k old.window before)) (m k before known (inr above)))

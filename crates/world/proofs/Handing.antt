@@ -1,12 +1,13 @@
 -- What a node gives where its member takes an input, or hears some bytes.
-use Rattle.std.proofs.Common.{◌≡◌, ℕ, Option, List, [], ◌∷◌, map, Result, Ok, Err, refl, sym, ap, subst}
+use Rattle.std.proofs.Common.{◌≡◌, ℕ, List, [], ◌∷◌, map, Result, Ok, Err, refl, sym, ap, subst}
 use Rattle.std.specs.Prelude.{IfOk}
 use Rattle.std.specs.List.{AllByRecursion}
 use Rattle.std.specs.Borrow.{Bor}
 use Rattle.address.specs.Ids.{Address}
 use Rattle.wire.specs.Packets.{IsPacket, spelling}
 use Rattle.wire.proofs.OneSpelling.{spelled_read}
-use Rattle.trace_props.specs.declared.happening.Happening.{Happening}
+use Rattle.state_transfer.specs.Meanings.{Meaning}
+use Rattle.trace_props.specs.declared.event.Event.{Event}
 use Rattle.agreement.specs.Histories.{Posted}
 use Rattle.member.specs.declared.error.Error.{Error}
 use Rattle.member.specs.declared.input.Input.{Input}
@@ -28,18 +29,18 @@ each-addressed group [] sound = tt
 each-addressed group (m ∷ posted) sound =
     (ap destination_in (spelled_read (spelling (packet_in group m)) (packet_in group m) (sound.0, refl)), each-addressed group posted sound.1)
 
-module _ {S : Type 0} (apply : S → Address → List ℕ → S) (encode : S → List ℕ) (decode : List ℕ → Option S) where
-  acted-addressed : (m left : MemberModel S) (input : Input) (out : Output) → HasActed apply encode decode m input out left → AreAddressed out.packets.items
+module _ {S : Type 0} (meaning : Meaning S) where
+  acted-addressed : (m left : MemberModel S) (input : Input) (out : Output) → HasActed meaning m input out left → AreAddressed out.packets.items
   acted-addressed m left input out x = subst AreAddressed (sym x.spelled) (each-addressed m.group x.posted x.sound)
 
   -- a world takes what a member puts out
-  pub fits : (m left : MemberModel S) (input : Input) (r : Result Output Error) → Handled apply encode decode m input r left → IfOk r Fits
+  pub fits : (m left : MemberModel S) (input : Input) (r : Result Output Error) → Handled meaning m input r left → IfOk r Fits
   fits m left input (Ok out) h = record { few = h.few; short = h.short; addressed = acted-addressed m left input out h.acted }
   fits m left input (Err e) h = tt
 
   -- what comes of a call at the node
-  pub handed-here : (input : Input) (m left : MemberModel S) (r : Result Output Error) (p : Address) (t now : List Happening) (pool more : List (List ℕ)) (a : Answer) (new : Seat S)
-      → Handled apply encode decode m input r left → p ≡ m.address → Gives p input r left t pool a new now more → HandsHere apply encode decode input m t pool a new now more
+  pub handed-here : (input : Input) (m left : MemberModel S) (r : Result Output Error) (p : Address) (t now : List Event) (pool more : List (List ℕ)) (a : Answer) (new : Seat S)
+      → Handled meaning m input r left → p ≡ m.address → Gives p input r left t pool a new now more → HandsHere meaning input m t pool a new now more
   handed-here input m left r p t now pool more a new h is g = record {
     result = r;
     left = left;
@@ -48,13 +49,13 @@ module _ {S : Type 0} (apply : S → Address → List ℕ → S) (encode : S →
   }
 
   -- bytes that are handed to a member that runs
-  pub heard : (b : Bor (List ℕ)) (bytes : List ℕ) (s : Seat S) (m : MemberModel S) (t : List Happening) (pool more : List (List ℕ)) (a : Answer) (new : Seat S) (now : List Happening)
-      → s ≡ Running m → b.now ≡ bytes → HandsHere apply encode decode (Datagram b) m t pool a new now more → Hears apply encode decode bytes s t pool a new now more
+  pub heard : (b : Bor (List ℕ)) (bytes : List ℕ) (s : Seat S) (m : MemberModel S) (t : List Event) (pool more : List (List ℕ)) (a : Answer) (new : Seat S) (now : List Event)
+      → s ≡ Running m → b.now ≡ bytes → HandsHere meaning (Datagram b) m t pool a new now more → Hears meaning bytes s t pool a new now more
   heard b bytes s m t pool more a new now is same g = rw is (b, same, g)
 
   -- what is handed with a payload that is lent
-  pub lent : (input : Bor (List ℕ) → Input) (b : Bor (List ℕ)) (bytes : List ℕ) (s : Seat S) (t : List Happening) (pool more : List (List ℕ)) (a : Answer) (new : Seat S) (now : List Happening)
-      → b.now ≡ bytes → Hands apply encode decode (input b) s t pool a new now more → HandsLent apply encode decode input bytes s t pool a new now more
+  pub lent : (input : Bor (List ℕ) → Input) (b : Bor (List ℕ)) (bytes : List ℕ) (s : Seat S) (t : List Event) (pool more : List (List ℕ)) (a : Answer) (new : Seat S) (now : List Event)
+      → b.now ≡ bytes → Hands meaning (input b) s t pool a new now more → HandsLent meaning input bytes s t pool a new now more
   lent input b bytes Vacant t pool more a new now is g = g
   lent input b bytes (Ended p) t pool more a new now is g = g
   lent input b bytes (Running m) t pool more a new now is g = (b, is, g)

@@ -1,6 +1,6 @@
 -- A catch-up brings a member level with the coordinator of its view.
 use Rattle.std.proofs.Common.{◌≡◌, ℕ, zero, suc, ◌+◌, ◌-◌, ◌<◌, ◌≤◌, Bool, true, false, cond, not, ◌&&◌, Option, Some, None, Ok, List, [], ◌∷◌, ◌++◌, map, drop, length, is_some, nat_eq, nat_lt, inl, inr, ◌⊎◌, refl, sym, ap, ◌∙◌, subst, arith}
-use Rattle.std.specs.Prelude.{◌^◌, ◌||◌, IsSome}
+use Rattle.std.specs.Prelude.{◌||◌, IsSome}
 use Rattle.std.specs.List.{slice_get, position_from, AllByRecursion}
 use Rattle.std.specs.Option.{option_map, option_map_or}
 use Rattle.std.proofs.lemmas.Bool.{cond-true, cond-false, eqb-true}
@@ -8,13 +8,15 @@ use Rattle.std.proofs.lemmas.Bool.Decides.{nat_tests}
 use Rattle.std.proofs.lemmas.Option.{none-some, same_Some, slice_get-map}
 use Rattle.std.proofs.lemmas.List.{append-nil, length-append, length-map}
 use Rattle.std.proofs.Math.Seq.{drop-append_seam}
+use Rattle.limits.specs.declared.TheConstants.{WINDOW}
 use Rattle.address.specs.Ids.{Address, ViewId, same_address}
 use Rattle.view.specs.Members.{View, stands_in}
 use Rattle.packet_values.specs.Values.{Entry, Missing, held_at}
+use Rattle.state_transfer.specs.Meanings.{Meaning}
 use Rattle.nak_stream.specs.Windows.{WindowModel, IsLeastGap, IsGreatestGap}
 use Rattle.wire.specs.declared.packet.Body.{Body}
 use Rattle.wire.specs.declared.packet.Body.TheVariants as bodies
-use Rattle.trace_props.specs.declared.happening.Happening.{Happening}
+use Rattle.trace_props.specs.declared.event.Event.{Event}
 use Rattle.trace_props.specs.Observed.{delivered_in}
 use Rattle.trace_props.proofs.Observing.{same_address-refl, same_address-true, same_address-sym}
 use Rattle.trace_props.proofs.Places.{slice_get-before}
@@ -140,29 +142,28 @@ each-at P (x ∷ posted) (suc j) m all at = each-at P posted j m all.1 at
 
 -- ---- no deliveries
 
-module _ {S : Type 0} (opening : S) (apply : S → Address → List ℕ → S) (encode : S → List ℕ) (decode : List ℕ → Option S) where
-  pub delivers-none : (past n : ℕ) (old new : WorldModel S) → n ≡ 0 → Delivers opening apply encode decode past n old new → new ≡ old
+module _ {S : Type 0} (meaning : Meaning S) where
+  pub delivers-none : (past n : ℕ) (old new : WorldModel S) → n ≡ 0 → Delivers meaning past n old new → new ≡ old
   delivers-none _ _ old _ e (Still past w) = refl
   delivers-none _ _ old _ e (Next past count w mid new plays rest) = absurd (omega (arith, e))
 
   pub record Delivered (past n : ℕ) (old new : WorldModel S) : Type 0 where
     pub mid : WorldModel S
-    pub plays : Plays opening apply encode decode old (Deliver (past + 1)) mid
-    pub rest : Delivers opening apply encode decode (past + 1) n mid new
+    pub plays : Plays meaning old (Deliver (past + 1)) mid
+    pub rest : Delivers meaning (past + 1) n mid new
 
-  pub delivers-next : (past m n : ℕ) (old new : WorldModel S) → m ≡ suc n → Delivers opening apply encode decode past m old new → Delivered past n old new
+  pub delivers-next : (past m n : ℕ) (old new : WorldModel S) → m ≡ suc n → Delivers meaning past m old new → Delivered past n old new
   delivers-next _ _ n old _ e (Still past w) = absurd (omega (arith, e))
   delivers-next _ _ n _ _ e (Next past count old mid new plays rest) =
       let same : count ≡ n = omega (arith, e) in
-      record { mid = mid; plays = plays; rest = subst (λ (k : ℕ). Delivers opening apply encode decode (past + 1) k mid new) same rest }
+      record { mid = mid; plays = plays; rest = subst (λ (k : ℕ). Delivers meaning (past + 1) k mid new) same rest }
 
 -- ---- the two
 
 -- different members run at different nodes
-module _ {S : Type 0} (opening : S) (apply : S → Address → List ℕ → S) (encode : S → List ℕ) (decode : List ℕ → Option S) (is_state : S → Type 0)
-    (laws : Stepping.Laws opening apply encode decode is_state) where
+module _ {S : Type 0} (meaning : Meaning S) (laws : Stepping.Laws meaning) where
   abbrev pub RunsAs : WorldModel S → Address → Life S → Traffic → Type 0
-  RunsAs w p l t = Replying.RunsAs opening apply encode decode w p l t
+  RunsAs w p l t = Replying.RunsAs meaning w p l t
 
   same-member : (m n : MemberModel S) → Running m ≡ Running n → m ≡ n
   same-member m n e = cc
@@ -181,7 +182,7 @@ module _ {S : Type 0} (opening : S) (apply : S → Address → List ℕ → S) (
 
   -- the coordinator of a view and another member of it
   pub record Couple (w : WorldModel S) (c q : Address) (lc lq : Life S) (kc : Coordinator) (kq : Other) : Type 0 where
-    pub keeps : IsWorld opening apply encode decode is_state w.seats w.history
+    pub keeps : IsWorld meaning w.seats w.history
     pub first : RunsAs w c lc (kinds.Coordinator kc)
     pub other : RunsAs w q lq (kinds.Other kq)
     pub own : kc.view.id.creator ≡ c
@@ -189,12 +190,12 @@ module _ {S : Type 0} (opening : S) (apply : S → Address → List ℕ → S) (
     pub apart : same_address q c ≡ false
 
   pub runs-in : (w : WorldModel S) (p : Address) (l : Life S) (t : Traffic) → RunsAs w p l t → runs w.seats p ≡ Some (core_at p l)
-  runs-in w p l t r = ap (core_here p) r.seat ∙ core-running p r.member r.address ∙ Replying.core-is opening apply encode decode w p l t r
+  runs-in w p l t r = ap (core_here p) r.seat ∙ core-running p r.member r.address ∙ Replying.core-is meaning w p l t r
 
   -- how far they have come
   pub record Numbers (w : WorldModel S) (c q : Address) (kc : Coordinator) (kq : Other) : Type 0 where
     pub stable : kc.window.stable ≤ kq.window.delivered
-    pub reach : kc.window.delivered ≤ kc.window.stable + 32
+    pub reach : kc.window.delivered ≤ kc.window.stable + WINDOW
     pub top : kq.window.delivered ≤ kc.window.delivered
     pub holds : HoldsAll kc.window.stable kc.window.delivered kc.window.held
     pub listed : stands_in q kc.view.members ≡ true
@@ -203,7 +204,7 @@ module _ {S : Type 0} (opening : S) (apply : S → Address → List ℕ → S) (
 
   pub numbers : (w : WorldModel S) (c q : Address) (lc lq : Life S) (kc : Coordinator) (kq : Other) → Couple w c q lc lq kc kq → Numbers w c q kc kq
   numbers w c q lc lq kc kq x =
-      let p = Comparing.compared opening apply encode decode is_state (system_of w.seats w.history.pool w.history.trace) x.keeps.agreed c q (core_at c lc) (core_at q lq) kc.view (record {
+      let p = Comparing.compared meaning (system_of w.seats w.history.pool w.history.trace) x.keeps.agreed c q (core_at c lc) (core_at q lq) kc.view (record {
         coordinator = runs-in w c lc (kinds.Coordinator kc) x.first;
         member = runs-in w q lq (kinds.Other kq) x.other;
         own = x.own;
@@ -240,7 +241,7 @@ module _ {S : Type 0} (opening : S) (apply : S → Address → List ℕ → S) (
   -- ---- the steps
 
   abbrev pub Keeps : WorldModel S → Type 0
-  Keeps w = IsWorld opening apply encode decode is_state w.seats w.history
+  Keeps w = IsWorld meaning w.seats w.history
 
   pub lost : {A B : Type 0} (b : Bool) → b ≡ true → ((b ≡ false) × A) ⊎ ((b ≡ true) × B) → B
   lost b e (inl x) = absurd (let bad : false ≡ true = sym x.0 ∙ e in cc)
@@ -256,7 +257,7 @@ module _ {S : Type 0} (opening : S) (apply : S → Address → List ℕ → S) (
   coordinator-moves old new c q lc lq kc kq x keeps runs others = record {
     keeps = keeps;
     first = runs;
-    other = Replying.runs-still opening apply encode decode old q lq (kinds.Other kq) x.other new c (nodes-apart old c q lc lq (kinds.Coordinator kc) (kinds.Other kq) x.first x.other x.apart) others;
+    other = Replying.runs-still meaning old q lq (kinds.Other kq) x.other new c (nodes-apart old c q lc lq (kinds.Coordinator kc) (kinds.Other kq) x.first x.other x.apart) others;
     own = x.own;
     same = x.same;
     apart = x.apart;
@@ -269,7 +270,7 @@ module _ {S : Type 0} (opening : S) (apply : S → Address → List ℕ → S) (
       let turned : same_address c q ≡ false = same_address-sym c q ∙ x.apart in
       record {
         keeps = keeps;
-        first = Replying.runs-still opening apply encode decode old c lc (kinds.Coordinator kc) x.first new q (nodes-apart old q c lq lc (kinds.Other kq) (kinds.Coordinator kc) x.other x.first turned) others;
+        first = Replying.runs-still meaning old c lc (kinds.Coordinator kc) x.first new q (nodes-apart old q c lq lc (kinds.Other kq) (kinds.Coordinator kc) x.other x.first turned) others;
         other = runs;
         own = x.own;
         same = view ∙ x.same;
@@ -282,10 +283,10 @@ module _ {S : Type 0} (opening : S) (apply : S → Address → List ℕ → S) (
     pub couple : Couple told c q lc lq kc kq
     pub number : ℕ
     pub found : first_for q (length old.history.pool) told.history.pool ≡ Some number
-    pub status : Replying.IsFor opening apply encode decode told number q (packet c (bodies.Status kc.view.id (progress_of kc.window)) q)
+    pub status : Replying.IsFor meaning told number q (packet c (bodies.Status kc.view.id (progress_of kc.window)) q)
 
   pub told-by : (old told : WorldModel S) (c q : Address) (lc lq : Life S) (kc : Coordinator) (kq : Other) → Couple old c q lc lq kc kq → Keeps told
-      → Replying.Ticked opening apply encode decode old told c lc kc → Told old told c q lc lq kc kq
+      → Replying.Ticked meaning old told c lc kc → Told old told c q lc lq kc kq
   told-by old told c q lc lq kc kq x keeps t =
       let n = numbers old c q lc lq kc kq x in
       let body = bodies.Status kc.view.id (progress_of kc.window) in
@@ -310,8 +311,8 @@ module _ {S : Type 0} (opening : S) (apply : S → Address → List ℕ → S) (
       let stable = n.stable in
       let reach = n.reach in
       let a : nat_lt kq.window.delivered kc.window.stable ≡ false = grind (arith, nat_tests) in
-      let far : kc.window.delivered - 32 ≤ kq.window.delivered = omega (arith, stable, reach) in
-      let b : nat_lt kq.window.delivered (kc.window.delivered - 32) ≡ false = grind (arith, nat_tests) in
+      let far : kc.window.delivered - WINDOW ≤ kq.window.delivered = omega (arith, stable, reach) in
+      let b : nat_lt kq.window.delivered (kc.window.delivered - WINDOW) ≡ false = grind (arith, nat_tests) in
       rw (a, b) refl
 
   own-of : (v w : View) (c : Address) → w ≡ v → v.id.creator ≡ c → w.id.creator ≡ c
@@ -332,13 +333,13 @@ module _ {S : Type 0} (opening : S) (apply : S → Address → List ℕ → S) (
     pub puts : asked.history.pool ≡ told.history.pool ++ map bytes_of out.packets.items
 
   pub asked-by : (told asked : WorldModel S) (c q : Address) (lc lq : Life S) (kc : Coordinator) (kq : Other) → Couple told c q lc lq kc kq → Keeps asked
-      → Replying.Heard opening apply encode decode told asked q lq (packet c (bodies.Status kc.view.id (progress_of kc.window)) q) → AskedSo told asked c q lc kc
+      → Replying.Heard meaning told asked q lq (packet c (bodies.Status kc.view.id (progress_of kc.window)) q) → AskedSo told asked c q lc kc
   asked-by told asked c q lc lq kc kq x keeps h =
       let n = numbers told c q lc lq kc kq x in
       let a = progress_of kc.window in
-      let r = Replying.asked opening apply encode decode told asked c q lq kq a x.other (own-of kc.view kq.view c x.same x.own) (listed-of kc.view kq.view c x.same n.coordinator)
+      let r = Replying.asked meaning told asked c q lq kq a x.other (own-of kc.view kq.view c x.same x.own) (listed-of kc.view kq.view c x.same n.coordinator)
       (near-by told c q kc kq n)
-      (subst (λ (v : View). Replying.Heard opening apply encode decode told asked q lq (packet c (bodies.Status v.id a) q)) (sym x.same) h) in
+      (subst (λ (v : View). Replying.Heard meaning told asked q lq (packet c (bodies.Status v.id a) q)) (sym x.same) h) in
       record {
         after = r.after;
         now = r.now;
@@ -373,20 +374,20 @@ module _ {S : Type 0} (opening : S) (apply : S → Address → List ℕ → S) (
 
   pub round : (w mid : WorldModel S) (c q : Address) (lc lq : Life S) (kc : Coordinator) (kq : Other) (g last : ℕ) (e : Entry) → Couple w c q lc lq kc kq
       → MissesWithin g last kc.window.delivered kq.window → g ≤ kc.window.delivered → IsSound (packet c (bodies.Order kc.view.id g e) q) → Keeps mid
-      → Replying.Heard opening apply encode decode w mid q lq (packet c (bodies.Order kc.view.id g e) q) → Round w mid c q lc kc g last
+      → Replying.Heard meaning w mid q lq (packet c (bodies.Order kc.view.id g e) q) → Round w mid c q lc kc g last
   round w mid c q lc lq kc kq g last e x within known sound keeps h =
       let n = numbers w c q lc lq kc kq x in
       let stable = n.stable in
       let reach = n.reach in
-      let far : g - 32 ≤ kq.window.delivered = omega (arith, stable, reach, known) in
-      let near : nat_lt kq.window.delivered (g - 32) ≡ false = grind (arith, nat_tests) in
-      let r = Replying.ordered opening apply encode decode w mid c q lq kq g e x.other (own-of kc.view kq.view c x.same x.own) (listed-of kc.view kq.view c x.same n.coordinator) near
-      (subst (λ (v : View). Replying.Heard opening apply encode decode w mid q lq (packet c (bodies.Order v.id g e) q)) (sym x.same) h) in
+      let far : g - WINDOW ≤ kq.window.delivered = omega (arith, stable, reach, known) in
+      let near : nat_lt kq.window.delivered (g - WINDOW) ≡ false = grind (arith, nat_tests) in
+      let r = Replying.ordered meaning w mid c q lq kq g e x.other (own-of kc.view kq.view c x.same x.own) (listed-of kc.view kq.view c x.same n.coordinator) near
+      (subst (λ (v : View). Replying.Heard meaning w mid q lq (packet c (bodies.Order v.id g e) q)) (sym x.same) h) in
       record {
         life = r.after;
         now = r.now;
         couple = other-moves w mid c q lc lq r.after kc kq r.now x keeps r.runs r.others r.takes.tells.view;
-        within = filled q g last kc.window.delivered e kq (held_too g e (collected_to (g - 32) kq)) r.now r.takes.tells.entries sound.body.1.1 far refl r.takes.tells.tells within;
+        within = filled q g last kc.window.delivered e kq (held_too g e (collected_to (g - WINDOW) kq)) r.now r.takes.tells.entries sound.body.1.1 far refl r.takes.tells.tells within;
         more = map bytes_of r.out.packets.items;
         puts = r.puts;
       }
@@ -411,9 +412,9 @@ module _ {S : Type 0} (opening : S) (apply : S → Address → List ℕ → S) (
 
   pub rounds : (n g past : ℕ) (w new : WorldModel S) (c q : Address) (lc lq : Life S) (kc : Coordinator) (kq : Other) (last : ℕ) → Couple w c q lc lq kc kq
       → MissesWithin g last kc.window.delivered kq.window → g + n ≡ last + 1 → kc.window.stable < g → last ≤ kc.window.delivered → EachSound (orders c q kc g n)
-      → AreNext past (orders c q kc g n) w.history.pool → Delivers opening apply encode decode past (length (orders c q kc g n)) w new → Ended new c q lc kc last
+      → AreNext past (orders c q kc g n) w.history.pool → Delivers meaning past (length (orders c q kc g n)) w new → Ended new c q lc kc last
   rounds zero g past w new c q lc lq kc kq last x within count low high sound next all =
-      let is : new ≡ w = delivers-none opening apply encode decode past 0 w new refl all in
+      let is : new ≡ w = delivers-none meaning past 0 w new refl all in
       let end : g ≡ last + 1 = omega (arith, count) in
       record {
         life = lq;
@@ -428,12 +429,12 @@ module _ {S : Type 0} (opening : S) (apply : S → Address → List ℕ → S) (
       let rest = orders c q kc (g + 1) n in
       let sounds : EachSound (m ∷ rest) = subst EachSound o.is sound in
       let nexts : AreNext past (m ∷ rest) w.history.pool = subst (λ (l : List Posted). AreNext past l w.history.pool) o.is next in
-      let d = delivers-next opening apply encode decode past (length (m ∷ rest)) (length rest) w new refl
-      (subst (λ (l : List Posted). Delivers opening apply encode decode past (length l) w new) o.is all) in
-      let f : Replying.IsFor opening apply encode decode w (past + 1) q m =
+      let d = delivers-next meaning past (length (m ∷ rest)) (length rest) w new refl
+      (subst (λ (l : List Posted). Delivers meaning past (length l) w new) o.is all) in
+      let f : Replying.IsFor meaning w (past + 1) q m =
       record { there = next-first past m rest w.history.pool nexts; sound = sounds.0; goes = refl; other = same_address-sym c q ∙ x.apart; plain = refl } in
-      let h = sure (lacks_memory d.plays.step.answer) d.plays.whole (Replying.heard opening apply encode decode w d.mid (past + 1) q lq (kinds.Other kq) x.other m f d.plays.step) in
-      let keeps = Keeping.step-keeps opening apply encode decode is_state laws w d.mid (Deliver (past + 1)) d.plays.step x.keeps in
+      let h = sure (lacks_memory d.plays.step.answer) d.plays.whole (Replying.heard meaning w d.mid (past + 1) q lq (kinds.Other kq) x.other m f d.plays.step) in
+      let keeps = Keeping.step-keeps meaning laws w d.mid (Deliver (past + 1)) d.plays.step x.keeps in
       let r = round w d.mid c q lc lq kc kq g last o.entry x within known sounds.0 keeps h in
       rounds n (g + 1) (past + 1) d.mid new c q lc r.life kc r.now last r.couple r.within (omega (arith, count)) (omega (arith, low)) high sounds.1
       (subst (AreNext (past + 1) rest) (sym r.puts) (next-rest past m rest w.history.pool r.more nexts)) d.rest
@@ -464,7 +465,7 @@ module _ {S : Type 0} (opening : S) (apply : S → Address → List ℕ → S) (
   -- the NAK that it put out, if it asks
   pub record Nak (told asked : WorldModel S) (c q : Address) (lc : Life S) (kc : Coordinator) (missing : Missing) : Type 0 where
     pub many : length asked.history.pool - length told.history.pool ≡ 1
-    pub packet : Replying.IsFor opening apply encode decode asked (length told.history.pool + 1) c (packet q (bodies.Nak kc.view.id missing) c)
+    pub packet : Replying.IsFor meaning asked (length told.history.pool + 1) c (packet q (bodies.Nak kc.view.id missing) c)
 
   module _ (told asked : WorldModel S) (c q : Address) (lc : Life S) (kc : Coordinator) (s : AskedSo told asked c q lc kc) where
     pub silent-pool : s.out ≡ s.start → asked.history.pool ≡ told.history.pool
@@ -478,7 +479,7 @@ module _ {S : Type 0} (opening : S) (apply : S → Address → List ℕ → S) (
         ap (λ (v : View). packet q (bodies.Nak v.id k.missing) v.id.creator) s.couple.same ∙ ap (packet q (bodies.Nak kc.view.id k.missing)) s.couple.own in
         let grows : Grows world_group s.start s.out (nak ∷ []) [] = subst (λ (m : Posted). Grows world_group s.start s.out (m ∷ []) []) is k.grows in
         let pool : asked.history.pool ≡ told.history.pool ++ bytes_for (nak ∷ []) =
-        s.puts ∙ ap (λ (ps : List (List ℕ)). told.history.pool ++ ps) (Replying.put-out opening apply encode decode s.start s.out s.nothing (nak ∷ []) [] grows) in
+        s.puts ∙ ap (λ (ps : List (List ℕ)). told.history.pool ++ ps) (Replying.put-out meaning s.start s.out s.nothing (nak ∷ []) [] grows) in
         let next : AreNext (length told.history.pool) (nak ∷ []) asked.history.pool = subst (AreNext (length told.history.pool) (nak ∷ [])) (sym pool) (put-next told.history.pool (nak ∷ [])) in
         record {
           many = some-more asked.history.pool told.history.pool (nak ∷ []) pool;
@@ -486,11 +487,11 @@ module _ {S : Type 0} (opening : S) (apply : S → Address → List ℕ → S) (
         }
 
   module _ (told asked replied : WorldModel S) (c q : Address) (lc : Life S) (kc : Coordinator) (s : AskedSo told asked c q lc kc)
-      (asks : DeliversPast opening apply encode decode (length told.history.pool) asked replied) where
+      (asks : DeliversPast meaning (length told.history.pool) asked replied) where
     -- nothing was missing, and nothing is asked
     pub none-asked : s.out ≡ s.start → replied ≡ asked
     none-asked silent =
-        delivers-none opening apply encode decode (length told.history.pool) (length asked.history.pool - length told.history.pool) asked replied
+        delivers-none meaning (length told.history.pool) (length asked.history.pool - length told.history.pool) asked replied
         (no-more asked.history.pool told.history.pool (silent-pool told asked c q lc kc s silent)) asks
 
     -- or it asked, and was answered by the ORDERs of all that it misses
@@ -510,12 +511,12 @@ module _ {S : Type 0} (opening : S) (apply : S → Address → List ℕ → S) (
     replied-so k =
         let n = numbers asked c q lc s.after kc s.now s.couple in
         let nak = nak-of told asked c q lc kc s k in
-        let d = delivers-next opening apply encode decode (length told.history.pool) (length asked.history.pool - length told.history.pool) 0 asked replied nak.many asks in
-        let mid : replied ≡ d.mid = delivers-none opening apply encode decode (length told.history.pool + 1) 0 d.mid replied refl d.rest in
+        let d = delivers-next meaning (length told.history.pool) (length asked.history.pool - length told.history.pool) 0 asked replied nak.many asks in
+        let mid : replied ≡ d.mid = delivers-none meaning (length told.history.pool + 1) 0 d.mid replied refl d.rest in
         let h = sure (lacks_memory d.plays.step.answer) d.plays.whole
-        (Replying.heard opening apply encode decode asked d.mid (length told.history.pool + 1) c lc (kinds.Coordinator kc) s.couple.first _ nak.packet d.plays.step) in
-        let keeps = Keeping.step-keeps opening apply encode decode is_state laws asked d.mid (Deliver (length told.history.pool + 1)) d.plays.step s.couple.keeps in
-        let r = Replying.answered opening apply encode decode asked d.mid c q lc kc k.missing s.couple.first n.listed h in
+        (Replying.heard meaning asked d.mid (length told.history.pool + 1) c lc (kinds.Coordinator kc) s.couple.first _ nak.packet d.plays.step) in
+        let keeps = Keeping.step-keeps meaning laws asked d.mid (Deliver (length told.history.pool + 1)) d.plays.step s.couple.keeps in
+        let r = Replying.answered meaning asked d.mid c q lc kc k.missing s.couple.first n.listed h in
         let first = k.missing.first in
         let last = k.missing.last in
         let list = orders c q kc first (last + 1 - first) in
@@ -536,7 +537,7 @@ module _ {S : Type 0} (opening : S) (apply : S → Address → List ℕ → S) (
           many = some-more replied.history.pool asked.history.pool list (ap (λ (w : WorldModel S). w.history.pool) mid ∙ r.puts);
         }
 
-    pub levelled : (new : WorldModel S) → DeliversPast opening apply encode decode (length asked.history.pool) replied new → Level new c q kc.view.id
+    pub levelled : (new : WorldModel S) → DeliversPast meaning (length asked.history.pool) replied new → Level new c q kc.view.id
     levelled new answers = by s.asks
       where
         by : AsksUpTo q world_group kc.window.delivered s.now s.start s.out → Level new c q kc.view.id
@@ -544,10 +545,10 @@ module _ {S : Type 0} (opening : S) (apply : S → Address → List ℕ → S) (
             let r = replied-so k in
             ended-level new c q lc kc r.last
             (rounds (r.last + 1 - r.first) r.first (length asked.history.pool) replied new c q lc s.after kc s.now r.last r.couple r.within r.count r.low r.high r.sound r.next
-            (subst (λ (j : ℕ). Delivers opening apply encode decode (length asked.history.pool) j replied new) r.many answers))
+            (subst (λ (j : ℕ). Delivers meaning (length asked.history.pool) j replied new) r.many answers))
         by (inr k) =
             let a = none-asked k.1 in
-            let b : new ≡ replied = delivers-none opening apply encode decode (length asked.history.pool) (length replied.history.pool - length asked.history.pool) replied new
+            let b : new ≡ replied = delivers-none meaning (length asked.history.pool) (length replied.history.pool - length asked.history.pool) replied new
             (no-more replied.history.pool asked.history.pool (ap (λ (w : WorldModel S). w.history.pool) a)) answers in
             subst (λ (w : WorldModel S). Level w c q kc.view.id) (sym (b ∙ a))
             ((numbers asked c q lc s.after kc s.now s.couple).level (nothing-missing s.now.window kc.window.delivered k.0 (none-next asked c q lc s.after kc s.now s.couple)))

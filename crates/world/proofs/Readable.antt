@@ -7,6 +7,7 @@ use Rattle.wire.specs.Values.{Report}
 use Rattle.wire.specs.Values as wire
 use Rattle.wire.specs.declared.packet.Body.{Body}
 use Rattle.wire.specs.declared.packet.Body.TheVariants as bodies
+use Rattle.state_transfer.specs.Meanings.{Meaning}
 use Rattle.trace_props.specs.Observed.{entry_of}
 use Rattle.trace_props.specs.State.{entry_state}
 use Rattle.agreement.specs.Histories.{Posted, History, report_of}
@@ -59,42 +60,41 @@ what-is : {X : Type 0} (o : Option X) → is_some o ≡ true → (x : X) × (o �
 what-is None e = absurd (let bad : false ≡ true = e in cc)
 what-is (Some x) e = (x, refl)
 
-module _ {S : Type 0} (opening : S) (apply : S → Address → List ℕ → S) (encode : S → List ℕ) (decode : List ℕ → Option S) (is_state : S → Type 0)
-    (laws : Stepping.Laws opening apply encode decode is_state) where
+module _ {S : Type 0} (meaning : Meaning S) (laws : Stepping.Laws meaning) where
   -- a state that a receiver can be in is read back
-  read-back : (b : Bool) (o : Option S) (given : Option (List ℕ)) → ((s : S) → o ≡ Some s → is_state s) → given ≡ cond b None (option_map encode o) → is_readable decode given ≡ true
-  read-back true o given are e = ap (is_readable decode) e
-  read-back false None given are e = ap (is_readable decode) e
-  read-back false (Some s) given are e = ap (is_readable decode) e ∙ ap is_some (laws.reads_back s (are s refl))
+  read-back : (b : Bool) (o : Option S) (given : Option (List ℕ)) → ((s : S) → o ≡ Some s → meaning.is_state s) → given ≡ cond b None (option_map meaning.encode o) → is_readable meaning given ≡ true
+  read-back true o given are e = ap (is_readable meaning) e
+  read-back false None given are e = ap (is_readable meaning) e
+  read-back false (Some s) given are e = ap (is_readable meaning) e ∙ ap is_some (laws.reads_back s (are s refl))
 
   -- so the state of an instruction can be read
-  instruction-readable : (s : System S) → Invariant opening apply encode decode is_state s → (p q : Address) (i : wire.Install) → IsInstruction s.history p q i → is_readable decode i.state ≡ true
+  instruction-readable : (s : System S) → Invariant meaning s → (p q : Address) (i : wire.Install) → IsInstruction s.history p q i → is_readable meaning i.state ≡ true
   instruction-readable s inv p q i f =
       let e = what-is (entry_of i.view.id.creator i.view.id s.history.trace) f.led.entered in
       let r = what-is (report_of q i.view.id s.history.pool) (f.led.answered q i f.one) in
-      read-back _ (entry_state opening apply decode i.view.id s.history.trace) i.state (λ z at. inv.states.are i.view.id z at) (inv.states.given i.view.id q i f.one e.0 r.0 e.1 r.1)
+      read-back _ (entry_state meaning i.view.id s.history.trace) i.state (λ z at. inv.states.are i.view.id z at) (inv.states.given i.view.id q i f.one e.0 r.0 e.1 r.1)
 
   -- what a member would enter by is an INSTALL that came, and can be read
-  entry-readable : (s : System S) → Invariant opening apply encode decode is_state s → (c : Core S) (m : Posted) (k : ℕ) → slice_get s.history.pool k ≡ Some m
-      → option_map_or (λ i. not (is_readable decode i.state)) (entry_by c m) false ≡ false
+  entry-readable : (s : System S) → Invariant meaning s → (c : Core S) (m : Posted) (k : ℕ) → slice_get s.history.pool k ≡ Some m
+      → option_map_or (λ i. not (is_readable meaning i.state)) (entry_by c m) false ≡ false
   entry-readable s inv c m k at = by (install_in m.body) refl
     where
-      entered : (b : Bool) (i : wire.Install) → install_in m.body ≡ Some i → option_map_or (λ i. not (is_readable decode i.state)) (cond b (Some i) None) false ≡ false
+      entered : (b : Bool) (i : wire.Install) → install_in m.body ≡ Some i → option_map_or (λ i. not (is_readable meaning i.state)) (cond b (Some i) None) false ≡ false
       entered true i e = ap not (instruction-readable s inv m.source m.destination i (instruction s.history m.source m.destination m.body i (inv.packets k m at) e))
       entered false i e = refl
 
-      by : (o : Option wire.Install) → install_in m.body ≡ o → option_map_or (λ i. not (is_readable decode i.state)) (option_and_then (λ i. cond (is_entry c m.source i) (Some i) None) o) false ≡ false
+      by : (o : Option wire.Install) → install_in m.body ≡ o → option_map_or (λ i. not (is_readable meaning i.state)) (option_and_then (λ i. cond (is_entry c m.source i) (Some i) None) o) false ≡ false
       by None e = refl
       by (Some i) e = entered (is_entry c m.source i) i e
 
-  readable-by : (s : System S) → Invariant opening apply encode decode is_state s → (c : Core S) (o : Option Posted) → Comes s.history.pool c o
-      → option_map_or (λ i. not (is_readable decode i.state)) (option_and_then (entry_by c) o) false ≡ false
+  readable-by : (s : System S) → Invariant meaning s → (c : Core S) (o : Option Posted) → Comes s.history.pool c o
+      → option_map_or (λ i. not (is_readable meaning i.state)) (option_and_then (entry_by c) o) false ≡ false
   readable-by s inv c None x = refl
   readable-by s inv c (Some m) x = let y = came-there s.history.pool c x.which m x.from in entry-readable s inv c m y.0 y.1
 
   -- what `handle` calls unreadable never is, whatever comes from the pool
-  pub never-unreadable : (s : System S) (m : MemberModel S) (c : Core S) (input : Input) → Invariant opening apply encode decode is_state s → core_of m ≡ Some c
-      → Comes s.history.pool c (came_at m input) → is_unreadable decode m input ≡ false
+  pub never-unreadable : (s : System S) (m : MemberModel S) (c : Core S) (input : Input) → Invariant meaning s → core_of m ≡ Some c
+      → Comes s.history.pool c (came_at m input) → is_unreadable meaning m input ≡ false
   never-unreadable s m c input inv core x =
-      ap (λ (o : Option (Core S)). option_map_or (λ i. not (is_readable decode i.state)) (option_and_then (λ d. option_and_then (entry_by d) (came_at m input)) o) false) core
+      ap (λ (o : Option (Core S)). option_map_or (λ i. not (is_readable meaning i.state)) (option_and_then (λ d. option_and_then (entry_by d) (came_at m input)) o) false) core
       ∙ readable-by s inv c (came_at m input) x

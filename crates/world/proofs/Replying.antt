@@ -6,6 +6,7 @@ use Rattle.std.specs.List.{AllByRecursion}
 use Rattle.std.specs.Option.{IsSomeAnd, option_map, option_map_or, option_and_then}
 use Rattle.std.proofs.lemmas.List.{append-nil}
 use Rattle.std.proofs.lemmas.Option.{none-some}
+use Rattle.limits.specs.declared.TheConstants.{WINDOW}
 use Rattle.address.specs.Ids.{Address, ViewId, same_address, same_view_id}
 use Rattle.view.specs.Members.{View, stands_in}
 use Rattle.packet_values.specs.Values.{Entry, Missing, Progress, held_at}
@@ -13,7 +14,8 @@ use Rattle.wire.specs.Packets.{IsPacket, spelling, packet_of, wire_refusal}
 use Rattle.wire.specs.declared.packet.Body.{Body}
 use Rattle.wire.specs.declared.packet.Body.TheVariants as bodies
 use Rattle.wire.proofs.OneSpelling.{spelled_read}
-use Rattle.trace_props.specs.declared.happening.Happening.{Happening}
+use Rattle.state_transfer.specs.Meanings.{Meaning}
+use Rattle.trace_props.specs.declared.event.Event.{Event}
 use Rattle.trace_props.proofs.Observing.{same_address-refl, same_view_id-refl}
 use Rattle.agreement.specs.Histories.{Posted}
 use Rattle.agreement.specs.Cores.{Core, is_frozen}
@@ -65,7 +67,7 @@ reads-back m sound = spelled_read (bytes_as m) (packet_in world_group m) (sound,
 pub goes-to : (m : Posted) → IsSound m → destination_of (bytes_as m) ≡ Some m.destination
 goes-to m sound = rw (reads-back m sound) refl
 
-module _ {S : Type 0} (opening : S) (apply : S → Address → List ℕ → S) (encode : S → List ℕ) (decode : List ℕ → Option S) where
+module _ {S : Type 0} (meaning : Meaning S) where
   -- the member of an address runs, in a view, and is not blocked
   pub record RunsAs (w : WorldModel S) (p : Address) (l : Life S) (t : Traffic) : Type 0 where
     pub member : MemberModel S
@@ -99,43 +101,43 @@ module _ {S : Type 0} (opening : S) (apply : S → Address → List ℕ → S) (
     pub life : left.life ≡ Some after
     pub start : Output
     pub nothing : Puts [] [] start
-    pub does : DoesBy apply encode decode world_group p came i l after start out
+    pub does : DoesBy meaning world_group p came i l after start out
 
   life-there : (o : Option (Life S)) (f : Life S → Core S) (P : Core S → Type 0) → IsSomeAnd (option_map f o) P → (l : Life S) × (o ≡ Some l)
   life-there None f P x = absurd x
   life-there (Some l) f P x = (l, refl)
 
-  pub did : (w : WorldModel S) (p : Address) (l : Life S) (t : Traffic) (r : RunsAs w p l t) (i : Input) (out : Output) (left : MemberModel S) → Handled apply encode decode r.member i (Ok out) left
+  pub did : (w : WorldModel S) (p : Address) (l : Life S) (t : Traffic) (r : RunsAs w p l t) (i : Input) (out : Output) (left : MemberModel S) → Handled meaning r.member i (Ok out) left
       → StaysSo (core_at p l) (core_of left) → Did (came_at r.member i) p i l out left
   did w p l t r i out left handled stays =
       let a = life-there left.life (core_at left.address) _ stays in
-      let x : DoesAt apply encode decode r.member.group r.member.address (came_at r.member i) i r.member.life left.life handled.does.start out = handled.does.does in
-      let y : DoesAt apply encode decode world_group r.member.address (came_at r.member i) i r.member.life left.life handled.does.start out =
-      subst (λ (g : List ℕ). DoesAt apply encode decode g r.member.address (came_at r.member i) i r.member.life left.life handled.does.start out) r.group x in
-      let z : DoesAt apply encode decode world_group p (came_at r.member i) i r.member.life left.life handled.does.start out =
-      subst (λ (q : Address). DoesAt apply encode decode world_group q (came_at r.member i) i r.member.life left.life handled.does.start out) r.address y in
-      let u : DoesAt apply encode decode world_group p (came_at r.member i) i (Some l) left.life handled.does.start out =
-      subst (λ (o : Option (Life S)). DoesAt apply encode decode world_group p (came_at r.member i) i o left.life handled.does.start out) r.life z in
+      let x : DoesAt meaning r.member.group r.member.address (came_at r.member i) i r.member.life left.life handled.does.start out = handled.does.does in
+      let y : DoesAt meaning world_group r.member.address (came_at r.member i) i r.member.life left.life handled.does.start out =
+      subst (λ (g : List ℕ). DoesAt meaning g r.member.address (came_at r.member i) i r.member.life left.life handled.does.start out) r.group x in
+      let z : DoesAt meaning world_group p (came_at r.member i) i r.member.life left.life handled.does.start out =
+      subst (λ (q : Address). DoesAt meaning world_group q (came_at r.member i) i r.member.life left.life handled.does.start out) r.address y in
+      let u : DoesAt meaning world_group p (came_at r.member i) i (Some l) left.life handled.does.start out =
+      subst (λ (o : Option (Life S)). DoesAt meaning world_group p (came_at r.member i) i o left.life handled.does.start out) r.life z in
       record {
         after = a.0;
         life = a.1;
         start = handled.does.start;
         nothing = handled.does.nothing;
-        does = subst (λ (o : Option (Life S)). DoesAt apply encode decode world_group p (came_at r.member i) i (Some l) o handled.does.start out) a.1 u;
+        does = subst (λ (o : Option (Life S)). DoesAt meaning world_group p (came_at r.member i) i (Some l) o handled.does.start out) a.1 u;
       }
 
-  replies-in : (w : WorldModel S) (p : Address) (l : Life S) (t : Traffic) (r : RunsAs w p l t) (i : Input) (out : Output) (left : MemberModel S) → Handled apply encode decode r.member i (Ok out) left
-      → Replies (core_at p l) i out.happenings.items (core_of left)
+  replies-in : (w : WorldModel S) (p : Address) (l : Life S) (t : Traffic) (r : RunsAs w p l t) (i : Input) (out : Output) (left : MemberModel S) → Handled meaning r.member i (Ok out) left
+      → Replies (core_at p l) i out.events.items (core_of left)
   replies-in w p l t r i out left handled =
-      subst (λ (o : Option (Core S)). IsSomeAnd o (λ d. Replies d i out.happenings.items (core_of left))) (core-is w p l t r) handled.reply
+      subst (λ (o : Option (Core S)). IsSomeAnd o (λ d. Replies d i out.events.items (core_of left))) (core-is w p l t r) handled.reply
 
   -- all that was put out and happened
-  module _ (start out : Output) (nothing : Puts [] [] start) (posted : List Posted) (happened : List Happening) (x : Grows world_group start out posted happened) where
+  module _ (start out : Output) (nothing : Puts [] [] start) (posted : List Posted) (happened : List Event) (x : Grows world_group start out posted happened) where
     pub put-out : map bytes_of out.packets.items ≡ bytes_for posted
     put-out = ap (map bytes_of) (x.packets ∙ ap (λ (l : List _). l ++ map (spelled world_group) posted) nothing.packets)
 
-    pub happens : out.happenings.items ≡ happened
-    happens = x.happenings ∙ ap (λ (l : List Happening). l ++ happened) nothing.happenings
+    pub happens : out.events.items ≡ happened
+    happens = x.events ∙ ap (λ (l : List Event). l ++ happened) nothing.events
 
   -- ---- a tick of the coordinator
 
@@ -160,11 +162,11 @@ module _ {S : Type 0} (opening : S) (apply : S → Address → List ℕ → S) (
   tick-free : (w : WorldModel S) (c : Address) (l : Life S) (t : Traffic) (r : RunsAs w c l t) → refusal_of r.member input.Tick ≡ None
   tick-free w c l t r = rw (core-is w c l t r) refl
 
-  tick-readable : (w : WorldModel S) (c : Address) (l : Life S) (t : Traffic) (r : RunsAs w c l t) → is_unreadable decode r.member input.Tick ≡ false
+  tick-readable : (w : WorldModel S) (c : Address) (l : Life S) (t : Traffic) (r : RunsAs w c l t) → is_unreadable meaning r.member input.Tick ≡ false
   tick-readable w c l t r = rw (core-is w c l t r) refl
 
   ticked-by : (old new : WorldModel S) (c : Address) (l : Life S) (k : Coordinator) (r : RunsAs old c l (kinds.Coordinator k)) → OthersStand c.node old.seats new.seats
-      → Played.Taken opening apply encode decode input.Tick r.member old.history.trace old.history.pool (new.seats c.node) new.history.trace new.history.pool → Ticked old new c l k
+      → Played.Taken meaning input.Tick r.member old.history.trace old.history.pool (new.seats c.node) new.history.trace new.history.pool → Ticked old new c l k
   ticked-by old new c l k r others x =
       let d = did old c l (kinds.Coordinator k) r input.Tick x.out x.left x.handled (replies-in old c l (kinds.Coordinator k) r input.Tick x.out x.left x.handled).1 in
       let g : Grows world_group d.start x.out (statuses c k) [] = tick-grows c l k d.start x.out r.traffic r.installed d.does.1 in
@@ -179,24 +181,24 @@ module _ {S : Type 0} (opening : S) (apply : S → Address → List ℕ → S) (
           installed = r.installed;
         };
         others = others;
-        trace = x.trace ∙ ap (λ (hs : List Happening). old.history.trace ++ hs) (happens d.start x.out d.nothing (statuses c k) [] g) ∙ append-nil old.history.trace;
+        trace = x.trace ∙ ap (λ (hs : List Event). old.history.trace ++ hs) (happens d.start x.out d.nothing (statuses c k) [] g) ∙ append-nil old.history.trace;
         puts = x.puts ∙ ap (λ (ps : List (List ℕ)). old.history.pool ++ ps) (put-out d.start x.out d.nothing (statuses c k) [] g);
         sound = g.sound;
       }
 
   -- it is done, or it crashed
-  pub ticked : (old new : WorldModel S) (c : Address) (l : Life S) (k : Coordinator) (r : RunsAs old c l (kinds.Coordinator k)) (step : WorldStep opening apply encode decode old (Tick c.node) new)
+  pub ticked : (old new : WorldModel S) (c : Address) (l : Life S) (k : Coordinator) (r : RunsAs old c l (kinds.Coordinator k)) (step : WorldStep meaning old (Tick c.node) new)
       → ((lacks_memory step.answer ≡ false) × Ticked old new c l k)
-      ⊎ ((lacks_memory step.answer ≡ true) × Played.Lost opening apply encode decode c old.history.trace old.history.pool new.history.trace new.history.pool)
+      ⊎ ((lacks_memory step.answer ≡ true) × Played.Lost meaning c old.history.trace old.history.pool new.history.trace new.history.pool)
   ticked old new c l k r step =
-      by (Played.outcome opening apply encode decode input.Tick r.member old.history.trace old.history.pool step.answer (new.seats c.node) new.history.trace new.history.pool
-      (tick-free old c l (kinds.Coordinator k) r) (tick-readable old c l (kinds.Coordinator k) r) (Played.tick-here opening apply encode decode old new c.node r.member step r.seat))
+      by (Played.outcome meaning input.Tick r.member old.history.trace old.history.pool step.answer (new.seats c.node) new.history.trace new.history.pool
+      (tick-free old c l (kinds.Coordinator k) r) (tick-readable old c l (kinds.Coordinator k) r) (Played.tick-here meaning old new c.node r.member step r.seat))
     where
-      by : Played.Outcome opening apply encode decode input.Tick r.member old.history.trace old.history.pool step.answer (new.seats c.node) new.history.trace new.history.pool
+      by : Played.Outcome meaning input.Tick r.member old.history.trace old.history.pool step.answer (new.seats c.node) new.history.trace new.history.pool
           → ((lacks_memory step.answer ≡ false) × Ticked old new c l k)
-          ⊎ ((lacks_memory step.answer ≡ true) × Played.Lost opening apply encode decode c old.history.trace old.history.pool new.history.trace new.history.pool)
+          ⊎ ((lacks_memory step.answer ≡ true) × Played.Lost meaning c old.history.trace old.history.pool new.history.trace new.history.pool)
       by (inl x) = inl (x.0, ticked-by old new c l k r step.does.1 x.1)
-      by (inr x) = inr (x.0, subst (λ (p : Address). Played.Lost opening apply encode decode p old.history.trace old.history.pool new.history.trace new.history.pool) r.address x.1)
+      by (inr x) = inr (x.0, subst (λ (p : Address). Played.Lost meaning p old.history.trace old.history.pool new.history.trace new.history.pool) r.address x.1)
 
   -- ---- a packet that is heard
 
@@ -210,9 +212,9 @@ module _ {S : Type 0} (opening : S) (apply : S → Address → List ℕ → S) (
     pub start : Output
     pub out : Output
     pub nothing : Puts [] [] start
-    pub hears : hearing.Hears apply encode decode world_group q m.source m.body l after start out
+    pub hears : hearing.Hears meaning world_group q m.source m.body l after start out
     pub others : OthersStand q.node old.seats new.seats
-    pub trace : new.history.trace ≡ old.history.trace ++ out.happenings.items
+    pub trace : new.history.trace ≡ old.history.trace ++ out.events.items
     pub puts : new.history.pool ≡ old.history.pool ++ map bytes_of out.packets.items
 
   -- a packet of the pool that this member is handed
@@ -236,12 +238,12 @@ module _ {S : Type 0} (opening : S) (apply : S → Address → List ℕ → S) (
     packet-free : refusal_of r.member (input.Datagram b) ≡ None
     packet-free = rw (core-is w q l t r, read) refl
 
-    packet-readable : is_unreadable decode r.member (input.Datagram b) ≡ false
+    packet-readable : is_unreadable meaning r.member (input.Datagram b) ≡ false
     packet-readable = rw (core-is w q l t r, came, f.plain) refl
 
   heard-by : (old new : WorldModel S) (k : ℕ) (q : Address) (l : Life S) (t : Traffic) (r : RunsAs old q l t) (m : Posted) (f : IsFor old k q m) (b : Bor (List ℕ)) → b.now ≡ bytes_as m
       → OthersStand q.node old.seats new.seats
-      → Played.Taken opening apply encode decode (input.Datagram b) r.member old.history.trace old.history.pool (new.seats q.node) new.history.trace new.history.pool → Heard old new q l m
+      → Played.Taken meaning (input.Datagram b) r.member old.history.trace old.history.pool (new.seats q.node) new.history.trace new.history.pool → Heard old new q l m
   heard-by old new k q l t r m f b is others x =
       let i = input.Datagram b in
       let d = did old q l t r i x.out x.left x.handled (replies-in old q l t r i x.out x.left x.handled).1 in
@@ -255,26 +257,26 @@ module _ {S : Type 0} (opening : S) (apply : S → Address → List ℕ → S) (
         start = d.start;
         out = x.out;
         nothing = d.nothing;
-        hears = subst (λ (o : Option Posted). DoesBy apply encode decode world_group q o i l d.after d.start x.out) (came old q l t r b m k f is) d.does;
+        hears = subst (λ (o : Option Posted). DoesBy meaning world_group q o i l d.after d.start x.out) (came old q l t r b m k f is) d.does;
         others = others;
         trace = x.trace;
         puts = x.puts;
       }
 
   pub heard : (old new : WorldModel S) (k : ℕ) (q : Address) (l : Life S) (t : Traffic) (r : RunsAs old q l t) (m : Posted) (f : IsFor old k q m)
-      (step : WorldStep opening apply encode decode old (Deliver k) new) → ((lacks_memory step.answer ≡ false) × Heard old new q l m)
-      ⊎ ((lacks_memory step.answer ≡ true) × Played.Lost opening apply encode decode q old.history.trace old.history.pool new.history.trace new.history.pool)
+      (step : WorldStep meaning old (Deliver k) new) → ((lacks_memory step.answer ≡ false) × Heard old new q l m)
+      ⊎ ((lacks_memory step.answer ≡ true) × Played.Lost meaning q old.history.trace old.history.pool new.history.trace new.history.pool)
   heard old new k q l t r m f step =
-      let h = Played.delivered-here opening apply encode decode old new k (bytes_as m) q r.member step f.there (goes-to m f.sound ∙ ap Some f.goes) r.seat in
-      by h (Played.outcome opening apply encode decode (input.Datagram h.lent) r.member old.history.trace old.history.pool step.answer (new.seats q.node) new.history.trace new.history.pool
+      let h = Played.delivered-here meaning old new k (bytes_as m) q r.member step f.there (goes-to m f.sound ∙ ap Some f.goes) r.seat in
+      by h (Played.outcome meaning (input.Datagram h.lent) r.member old.history.trace old.history.pool step.answer (new.seats q.node) new.history.trace new.history.pool
       (packet-free old q l t r h.lent m k f h.is) (packet-readable old q l t r h.lent m k f h.is) h.here)
     where
-      by : (h : Played.Handed opening apply encode decode r.member (bytes_as m) old new step.answer q.node)
-          → Played.Outcome opening apply encode decode (input.Datagram h.lent) r.member old.history.trace old.history.pool step.answer (new.seats q.node) new.history.trace new.history.pool
+      by : (h : Played.Handed meaning r.member (bytes_as m) old new step.answer q.node)
+          → Played.Outcome meaning (input.Datagram h.lent) r.member old.history.trace old.history.pool step.answer (new.seats q.node) new.history.trace new.history.pool
           → ((lacks_memory step.answer ≡ false) × Heard old new q l m)
-          ⊎ ((lacks_memory step.answer ≡ true) × Played.Lost opening apply encode decode q old.history.trace old.history.pool new.history.trace new.history.pool)
+          ⊎ ((lacks_memory step.answer ≡ true) × Played.Lost meaning q old.history.trace old.history.pool new.history.trace new.history.pool)
       by h (inl x) = inl (x.0, heard-by old new k q l t r m f h.lent h.is h.others x.1)
-      by h (inr x) = inr (x.0, subst (λ (p : Address). Played.Lost opening apply encode decode p old.history.trace old.history.pool new.history.trace new.history.pool) r.address x.1)
+      by h (inr x) = inr (x.0, subst (λ (p : Address). Played.Lost meaning p old.history.trace old.history.pool new.history.trace new.history.pool) r.address x.1)
 
   -- ---- another member
 
@@ -302,7 +304,7 @@ module _ {S : Type 0} (opening : S) (apply : S → Address → List ℕ → S) (
     takes-status : (a : Progress) → is_near a k ≡ true → takes_status c k.view.id a l ≡ true
     takes-status a near = rw (traffic, inst, same_view_id-refl k.view.id, listed, from-coordinator, near) refl
 
-    takes-order : (g : ℕ) → nat_lt k.window.delivered (g - 32) ≡ false → takes_order c k.view.id g l ≡ true
+    takes-order : (g : ℕ) → nat_lt k.window.delivered (g - WINDOW) ≡ false → takes_order c k.view.id g l ≡ true
     takes-order g near = rw (traffic, inst, same_view_id-refl k.view.id, listed, from-coordinator, near) refl
 
   -- a STATUS
@@ -318,8 +320,8 @@ module _ {S : Type 0} (opening : S) (apply : S → Address → List ℕ → S) (
     pub others : OthersStand q.node old.seats new.seats
     pub puts : new.history.pool ≡ old.history.pool ++ map bytes_of out.packets.items
 
-  fits : (a : Progress) (k : Other) → is_near a k ≡ true → (nat_lt k.window.delivered a.stable || nat_lt k.window.delivered (a.highest - 32)) ≡ false
-  fits a k near = by (nat_lt k.window.delivered a.stable) (nat_lt k.window.delivered (a.highest - 32)) near
+  fits : (a : Progress) (k : Other) → is_near a k ≡ true → (nat_lt k.window.delivered a.stable || nat_lt k.window.delivered (a.highest - WINDOW)) ≡ false
+  fits a k near = by (nat_lt k.window.delivered a.stable) (nat_lt k.window.delivered (a.highest - WINDOW)) near
     where
       by : (x y : Bool) → (not x && not y) ≡ true → (x || y) ≡ false
       by true y e = absurd (let bad : false ≡ true = e in cc)
@@ -332,7 +334,7 @@ module _ {S : Type 0} (opening : S) (apply : S → Address → List ℕ → S) (
       let x : OnStatus world_group q c k.view.id a l h.after h.start h.out = h.hears in
       let y = when-true (takes_status c k.view.id a l) _ _ (takes-status c l k r.traffic r.installed own listed a near) x in
       let z = still-other (λ m n. TakesStatus q world_group a m h.start n h.out × (h.after.receiver ≡ l.receiver)) l h.after k r.traffic y in
-      let u = when-false (nat_lt k.window.delivered a.stable || nat_lt k.window.delivered (a.highest - 32)) _ _ (fits a k near) z.does.0 in
+      let u = when-false (nat_lt k.window.delivered a.stable || nat_lt k.window.delivered (a.highest - WINDOW)) _ _ (fits a k near) z.does.0 in
       record {
         after = h.after;
         now = z.now;
@@ -355,16 +357,16 @@ module _ {S : Type 0} (opening : S) (apply : S → Address → List ℕ → S) (
     pub new_state : S
     pub start : Output
     pub out : Output
-    pub takes : TakesNear apply q world_group g e k old_state start now new_state out
+    pub takes : TakesNear meaning q world_group g e k old_state start now new_state out
     pub others : OthersStand q.node old.seats new.seats
     pub puts : new.history.pool ≡ old.history.pool ++ map bytes_of out.packets.items
 
   pub ordered : (old new : WorldModel S) (c q : Address) (l : Life S) (k : Other) (g : ℕ) (e : Entry) (r : RunsAs old q l (kinds.Other k)) → k.view.id.creator ≡ c → stands_in c k.view.members ≡ true
-      → nat_lt k.window.delivered (g - 32) ≡ false → Heard old new q l (packet c (bodies.Order k.view.id g e) q) → Ordered old new q k g e
+      → nat_lt k.window.delivered (g - WINDOW) ≡ false → Heard old new q l (packet c (bodies.Order k.view.id g e) q) → Ordered old new q k g e
   ordered old new c q l k g e r own listed near h =
-      let x : OnOrder apply world_group q c k.view.id g e l h.after h.start h.out = h.hears in
+      let x : OnOrder meaning world_group q c k.view.id g e l h.after h.start h.out = h.hears in
       let y = when-true (takes_order c k.view.id g l) _ _ (takes-order c l k r.traffic r.installed own listed g near) x in
-      let z = still-other (λ m n. TakesOrder apply q world_group g e m l.receiver h.start n h.after.receiver h.out) l h.after k r.traffic y in
+      let z = still-other (λ m n. TakesOrder meaning q world_group g e m l.receiver h.start n h.after.receiver h.out) l h.after k r.traffic y in
       record {
         after = h.after;
         now = z.now;
@@ -373,7 +375,7 @@ module _ {S : Type 0} (opening : S) (apply : S → Address → List ℕ → S) (
         new_state = h.after.receiver;
         start = h.start;
         out = h.out;
-        takes = when-false (nat_lt k.window.delivered (g - 32)) _ _ near z.does;
+        takes = when-false (nat_lt k.window.delivered (g - WINDOW)) _ _ near z.does;
         others = h.others;
         puts = h.puts;
       }

@@ -4,8 +4,9 @@ use Rattle.std.specs.Option.{IsSomeAnd, option_map_or}
 use Rattle.std.proofs.lemmas.Bool.{cond-true, eq-eqb}
 use Rattle.std.proofs.lemmas.List.{append-nil, append_assoc}
 use Rattle.address.specs.Ids.{Address, IsAddress}
-use Rattle.trace_props.specs.declared.happening.Happening.{Happening}
-use Rattle.trace_props.specs.declared.happening.Happening.TheVariants.{Started, Crashed}
+use Rattle.state_transfer.specs.Meanings.{Meaning}
+use Rattle.trace_props.specs.declared.event.Event.{Event}
+use Rattle.trace_props.specs.declared.event.Event.TheVariants.{Started, Crashed}
 use Rattle.trace_props.specs.Observed.{has_started, has_ended}
 use Rattle.trace_props.proofs.Observing.{has_ended-now}
 use Rattle.agreement.specs.Cores.{Core}
@@ -32,18 +33,18 @@ use Rattle.world.proofs.Agreeing
 use Rattle.world.proofs.Taking
 
 -- an incarnation above all of its node has not started
-unstarted : (q : Address) (t : List Happening) → StartsInTurn t → top_of q.node t < q.incarnation → (b : Bool) → has_started q t ≡ b → b ≡ false
+unstarted : (q : Address) (t : List Event) → StartsInTurn t → top_of q.node t < q.incarnation → (b : Bool) → has_started q t ≡ b → b ≡ false
 unstarted q t i above false e = refl
 unstarted q t i above true e = let low : q.incarnation ≤ top_of q.node t = i q e in absurd (omega arith)
 
-last-now : (q : Address) (n : ℕ) (t : List Happening) → q.node ≡ n → last_of n (t ++ Started q ∷ []) ≡ Some q
+last-now : (q : Address) (n : ℕ) (t : List Event) → q.node ≡ n → last_of n (t ++ Started q ∷ []) ≡ Some q
 last-now q n t e = last_of-push n t (Started q) ∙ cond-true (nat_eq q.node n) (Some q) (last_of n t) (eq-eqb q.node n e)
 
-module _ {S : Type 0} (opening : S) (apply : S → Address → List ℕ → S) (encode : S → List ℕ) (decode : List ℕ → Option S) (is_state : S → Type 0)
-    (laws : Stepping.Laws opening apply encode decode is_state) (at new : ℕ → Seat S) (n : ℕ) (h : History) (w : Turning.World opening apply encode decode is_state at h)
+module _ {S : Type 0} (meaning : Meaning S)
+    (laws : Stepping.Laws meaning) (at new : ℕ → Seat S) (n : ℕ) (h : History) (w : Turning.World meaning at h)
     (others : OthersStand n at new) where
-  abbrev Turned : Answer → List Happening → List (List ℕ) → Type 0
-  Turned a t pool = Taking.Turned opening apply encode decode is_state new n h (Start n) a t pool
+  abbrev Turned : Answer → List Event → List (List ℕ) → Type 0
+  Turned a t pool = Taking.Turned meaning new n h (Start n) a t pool
 
   -- the next member of the node, which nobody is yet
   record IsNext (q : Address) (old : Seat S) : Type 0 where
@@ -62,7 +63,7 @@ module _ {S : Type 0} (opening : S) (apply : S → Address → List ℕ → S) (
     new-one : has_started q h.trace ≡ false
     new-one = unstarted q h.trace w.starts higher (has_started q h.trace) refl
 
-    moves-to : (now : Seat S) → new n ≡ now → OnlyHere q now → Agreeing.Moves opening apply encode decode is_state laws at new n q old now
+    moves-to : (now : Seat S) → new n ≡ now → OnlyHere q now → Agreeing.Moves meaning laws at new n q old now
     moves-to now is only = record { node = x.node; was = x.was; is = is; only_old = λ p e. x.nobody p; only_now = only; others = others }
 
     starts-now : StartsInTurn (h.trace ++ Started q ∷ [])
@@ -72,7 +73,7 @@ module _ {S : Type 0} (opening : S) (apply : S → Address → List ℕ → S) (
     lasts-now k o = last_of-other k h.trace (Started q) (subst (λ (j : ℕ). nat_eq j k ≡ false) (sym x.node) o)
 
     -- it runs
-    begun : (t : List Happening) (now : Seat S) → new n ≡ now → Begun opening q h.trace now t → Turned Done t h.pool
+    begun : (t : List Event) (now : Seat S) → new n ≡ now → Begun meaning q h.trace now t → Turned Done t h.pool
     begun t now is g =
         let m = g.member in
         let here : new n ≡ Running g.member = is ∙ g.seat in
@@ -84,7 +85,7 @@ module _ {S : Type 0} (opening : S) (apply : S → Address → List ℕ → S) (
           turn = record {
             answers = x.done;
             prompt = tt;
-            agreed = Agreeing.started-agreed opening apply encode decode is_state laws at new n q old (Running g.member) (moves-to (Running g.member) here (only-running q g.member g.address))
+            agreed = Agreeing.started-agreed meaning laws at new n q old (Running g.member) (moves-to (Running g.member) here (only-running q g.member g.address))
                 h.pool h.trace x.real new-one (core-running q g.member g.address ∙ g.core) w.agreed;
             spelled = subst EachSpelled (sym (append-nil h.pool)) w.spelled;
             starts = starts-now;
@@ -103,7 +104,7 @@ module _ {S : Type 0} (opening : S) (apply : S → Address → List ℕ → S) (
         }
 
     -- or it crashed
-    failed : (t : List Happening) → new n ≡ Ended q → t ≡ h.trace ++ Started q ∷ [] ++ Crashed q ∷ [] → Turned (Refused Memory) t h.pool
+    failed : (t : List Event) → new n ≡ Ended q → t ≡ h.trace ++ Started q ∷ [] ++ Crashed q ∷ [] → Turned (Refused Memory) t h.pool
     failed t is trace =
         let one = h.trace ++ Started q ∷ [] in
         let two : (h.trace ++ Started q ∷ []) ++ Crashed q ∷ [] ≡ h.trace ++ Started q ∷ Crashed q ∷ [] = append_assoc h.trace (Started q ∷ []) (Crashed q ∷ []) in
@@ -117,17 +118,17 @@ module _ {S : Type 0} (opening : S) (apply : S → Address → List ℕ → S) (
           turn = record {
             answers = x.memory;
             prompt = tt;
-            agreed = Agreeing.failed-agreed opening apply encode decode is_state laws at new n q old (Ended q) (moves-to (Ended q) is (only-ended q q)) h.pool h.trace x.real new-one refl w.agreed;
+            agreed = Agreeing.failed-agreed meaning laws at new n q old (Ended q) (moves-to (Ended q) is (only-ended q q)) h.pool h.trace x.real new-one refl w.agreed;
             spelled = subst EachSpelled (sym (append-nil h.pool)) w.spelled;
             starts = subst StartsInTurn two (starts-push (h.trace ++ Started q ∷ []) (Crashed q) starts-now tt);
             lasts = λ k o. ap (last_of k) (sym two) ∙ last_of-still k (h.trace ++ Started q ∷ []) (Crashed q) refl ∙ lasts-now k o;
             connected = λ k o. connects_after-other k (is_connected k h) (Start n) (Refused Memory) o;
             seat = subst (IsSeatOf n (last_of n (h.trace ++ Started q ∷ Crashed q ∷ [])) (connects_after n (is_connected n h) (Start n) (Refused Memory)) (h.trace ++ Started q ∷ Crashed q ∷ [])) (sym is)
-                (last, x.node, subst (λ (t : List Happening). has_ended q t ≡ true) two (has_ended-now (h.trace ++ Started q ∷ []) (Crashed q) refl));
+                (last, x.node, subst (λ (t : List Event). has_ended q t ≡ true) two (has_ended-now (h.trace ++ Started q ∷ []) (Crashed q) refl));
           };
         }
 
-    begins : (a : Answer) (t : List Happening) (now : Seat S) → new n ≡ now → BeginsSo opening q h.trace a now t → Turned a t h.pool
+    begins : (a : Answer) (t : List Event) (now : Seat S) → new n ≡ now → BeginsSo meaning q h.trace a now t → Turned a t h.pool
     begins Done t now is g = begun t now is g
     begins (Sent k) t now is g = absurd g
     begins (Refused Memory) t now is g = failed t (is ∙ g.0) g.1
@@ -145,19 +146,19 @@ module _ {S : Type 0} (opening : S) (apply : S → Address → List ℕ → S) (
   top-at o e = ap (λ l. option_map_or (λ (p : Address). p.incarnation) l 0) e
 
   -- it is refused
-  refused : (r : Refusal) (old now : Seat S) (a : Answer) (t : List Happening) → at n ≡ old → new n ≡ now → Answers h (Start n) (Refused r) [] → Stays r old h.trace a now t
+  refused : (r : Refusal) (old now : Seat S) (a : Answer) (t : List Event) → at n ≡ old → new n ≡ now → Answers h (Start n) (Refused r) [] → Stays r old h.trace a now t
       → Turned a t h.pool
   refused r old now a t was is answers g = subst (λ (b : Answer). Turned b t h.pool) (sym g.answer) (record {
     ps = [];
     s = [];
     trace = g.trace ∙ sym (append-nil h.trace);
     puts = sym (append-nil h.pool);
-    turn = Turning.turn-still opening apply encode decode is_state at new n h (Start n) (Refused r) w (same-at at new n others (is ∙ g.seat ∙ sym was)) answers tt
+    turn = Turning.turn-still meaning at new n h (Start n) (Refused r) w (same-at at new n others (is ∙ g.seat ∙ sym was)) answers tt
         (λ k. refused-connects k (is_connected k h) (Start n) r);
   })
 
-  first-at : (a : Answer) (now : Seat S) (t : List Happening) → at n ≡ Vacant → new n ≡ now → last_of n h.trace ≡ None
-      → Begins opening (record { node = n; incarnation = 1 }) h.trace a now t → Turned a t h.pool
+  first-at : (a : Answer) (now : Seat S) (t : List Event) → at n ≡ Vacant → new n ≡ now → last_of n h.trace ≡ None
+      → Begins meaning (record { node = n; incarnation = 1 }) h.trace a now t → Turned a t h.pool
   first-at a now t was is k g =
       let top : top_of n h.trace ≡ 0 = top-at None k in
       begins (record { node = n; incarnation = 1 }) Vacant (record {
@@ -171,11 +172,11 @@ module _ {S : Type 0} (opening : S) (apply : S → Address → List ℕ → S) (
       }) a t now is g.1
 
   -- after an ended member, by whether there is a next incarnation
-  after-ended : (p : Address) (a : Answer) (now : Seat S) (t : List Happening) → at n ≡ Ended p → new n ≡ now → IsSeatOf {S = S} n (last_of n h.trace) (is_connected n h) h.trace (Ended p)
-      → (b : Bool) → nat_lt (p.incarnation + 1) (2 ^ 32) ≡ b → StartGives opening n (Ended p) h.trace a now t → Turned a t h.pool
+  after-ended : (p : Address) (a : Answer) (now : Seat S) (t : List Event) → at n ≡ Ended p → new n ≡ now → IsSeatOf {S = S} n (last_of n h.trace) (is_connected n h) h.trace (Ended p)
+      → (b : Bool) → nat_lt (p.incarnation + 1) (2 ^ 32) ≡ b → StartGives meaning n (Ended p) h.trace a now t → Turned a t h.pool
   after-ended p a now t was is k true e g =
       let top : top_of n h.trace ≡ p.incarnation = top-at (Some p) k.0 in
-      let begun : Begins opening (record { node = p.node; incarnation = p.incarnation + 1 }) h.trace a now t = rw e at g in
+      let begun : Begins meaning (record { node = p.node; incarnation = p.incarnation + 1 }) h.trace a now t = rw e at g in
       begins (record { node = p.node; incarnation = p.incarnation + 1 }) (Ended p) (record {
         node = k.1;
         real = begun.0;
@@ -189,13 +190,13 @@ module _ {S : Type 0} (opening : S) (apply : S → Address → List ℕ → S) (
       let stays : Stays Exhausted (Ended p) h.trace a now t = rw e at g in
       refused Exhausted (Ended p) now a t was is (rw (k.0, k.2, e) (refl, refl)) stays
 
-  start-here : (old : Seat S) (a : Answer) (now : Seat S) (t : List Happening) → at n ≡ old → new n ≡ now → IsSeatOf n (last_of n h.trace) (is_connected n h) h.trace old
-      → StartGives opening n old h.trace a now t → Turned a t h.pool
+  start-here : (old : Seat S) (a : Answer) (now : Seat S) (t : List Event) → at n ≡ old → new n ≡ now → IsSeatOf n (last_of n h.trace) (is_connected n h) h.trace old
+      → StartGives meaning n old h.trace a now t → Turned a t h.pool
   start-here Vacant a now t was is k g = first-at a now t was is k g
   start-here (Ended p) a now t was is k g = after-ended p a now t was is k (nat_lt (p.incarnation + 1) (2 ^ 32)) refl g
   start-here (Running m) a now t was is k g =
-      let x = Facts.running-here opening apply encode decode is_state at h n m w was in
-      refused AlreadyConnected (Running m) now a t was is (rw (k.0, Facts.going opening apply encode decode is_state h n m x.0 x.1) (refl, refl)) g
+      let x = Facts.running-here meaning at h n m w was in
+      refused AlreadyConnected (Running m) now a t was is (rw (k.0, Facts.going meaning h n m x.0 x.1) (refl, refl)) g
 
-  pub start-turns : (a : Answer) (t : List Happening) → StartGives opening n (at n) h.trace a (new n) t → Turned a t h.pool
+  pub start-turns : (a : Answer) (t : List Event) → StartGives meaning n (at n) h.trace a (new n) t → Turned a t h.pool
   start-turns a t g = start-here (at n) a (new n) t refl refl (w.seats n) g

@@ -6,7 +6,8 @@ use Rattle.address.specs.Ids.{Address, ViewId, same_address, same_view_id}
 use Rattle.view.specs.Members.{View}
 use Rattle.packet_values.specs.Values.{Entry, held_at}
 use Rattle.wire.specs.declared.packet.Body.TheVariants as bodies
-use Rattle.trace_props.specs.declared.happening.Happening.TheVariants.{Crashed}
+use Rattle.state_transfer.specs.Meanings.{Meaning}
+use Rattle.trace_props.specs.declared.event.Event.TheVariants.{Crashed}
 use Rattle.trace_props.proofs.Observing.{same_address-refl, same_address-sym, same_view_id-refl}
 use Rattle.agreement.specs.Histories.{Posted}
 use Rattle.agreement.specs.Cores.{Core, is_frozen}
@@ -39,172 +40,170 @@ use Rattle.world.proofs.Leveling
 use Rattle.world.proofs.Leveling.{AreNext, next-first, next-rest}
 use Rattle.world.proofs.Catching
 
-module _ {S : Type 0} (opening : S) (apply : S → Address → List ℕ → S) (encode : S → List ℕ) (decode : List ℕ → Option S) where
-  pub breaks-none : (past n : ℕ) (old new : WorldModel S) → n ≡ 0 → Breaks opening apply encode decode past n old new → ⊥
+module _ {S : Type 0} (meaning : Meaning S) where
+  pub breaks-none : (past n : ℕ) (old new : WorldModel S) → n ≡ 0 → Breaks meaning past n old new → ⊥
   breaks-none _ _ _ _ e (Here past count old new fails) = absurd (omega (arith, e))
   breaks-none _ _ _ _ e (Later past count old mid new plays rest) = absurd (omega (arith, e))
 
   pub record BreaksLater (past n : ℕ) (old new : WorldModel S) : Type 0 where
     pub mid : WorldModel S
-    pub plays : Plays opening apply encode decode old (Deliver (past + 1)) mid
-    pub rest : Breaks opening apply encode decode (past + 1) n mid new
+    pub plays : Plays meaning old (Deliver (past + 1)) mid
+    pub rest : Breaks meaning (past + 1) n mid new
 
-  pub breaks-next : (past m n : ℕ) (old new : WorldModel S) → m ≡ suc n → Breaks opening apply encode decode past m old new
-      → Fails opening apply encode decode old (Deliver (past + 1)) new ⊎ BreaksLater past n old new
+  pub breaks-next : (past m n : ℕ) (old new : WorldModel S) → m ≡ suc n → Breaks meaning past m old new
+      → Fails meaning old (Deliver (past + 1)) new ⊎ BreaksLater past n old new
   breaks-next _ _ n _ _ e (Here past count old new fails) = inl fails
   breaks-next _ _ n _ _ e (Later past count old mid new plays rest) =
       let same : count ≡ n = omega (arith, e) in
-      inr (record { mid = mid; plays = plays; rest = subst (λ (k : ℕ). Breaks opening apply encode decode (past + 1) k mid new) same rest })
+      inr (record { mid = mid; plays = plays; rest = subst (λ (k : ℕ). Breaks meaning (past + 1) k mid new) same rest })
 
   -- who runs in a view is open there
-  open-run : (w : WorldModel S) (p : Address) (l : Life S) (t : Traffic) (v : ViewId) (r : Replying.RunsAs opening apply encode decode w p l t) → (view_of t).id ≡ v → is_open_in p v (w.seats p.node) ≡ true
+  open-run : (w : WorldModel S) (p : Address) (l : Life S) (t : Traffic) (v : ViewId) (r : Replying.RunsAs meaning w p l t) → (view_of t).id ≡ v → is_open_in p v (w.seats p.node) ≡ true
   open-run w p l t v r id =
-      let view : open_view (Running r.member) ≡ Some (view_of t) = rw (Replying.core-is opening apply encode decode w p l t r, r.traffic, r.installed) refl in
+      let view : open_view (Running r.member) ≡ Some (view_of t) = rw (Replying.core-is meaning w p l t r, r.traffic, r.installed) refl in
       let same : same_address r.member.address p ≡ true = ap (λ z. same_address z p) r.address ∙ same_address-refl p in
       let seen : option_map_or (λ (x : View). same_view_id x.id v) (open_view (Running r.member)) false ≡ true =
       ap (λ (o : Option View). option_map_or (λ (x : View). same_view_id x.id v) o false) view ∙ ap (λ (x : ViewId). same_view_id x v) id ∙ same_view_id-refl v in
       subst (λ (s : Seat S). is_open_in p v s ≡ true) (sym r.seat) (and_from (same_address r.member.address p) _ same seen)
 
-module _ {S : Type 0} (opening : S) (apply : S → Address → List ℕ → S) (encode : S → List ℕ) (decode : List ℕ → Option S) (is_state : S → Type 0)
-    (laws : Stepping.Laws opening apply encode decode is_state) where
+module _ {S : Type 0} (meaning : Meaning S) (laws : Stepping.Laws meaning) where
   abbrev Couple : WorldModel S → Address → Address → Life S → Life S → Coordinator → Other → Type 0
-  Couple w c q lc lq kc kq = Leveling.Couple opening apply encode decode is_state laws w c q lc lq kc kq
+  Couple w c q lc lq kc kq = Leveling.Couple meaning laws w c q lc lq kc kq
 
   -- both of a couple run
   both-run : (w : WorldModel S) (pair : Pair) (lc lq : Life S) (kc : Coordinator) (kq : Other) → Couple w pair.view.creator pair.member lc lq kc kq → kc.view.id ≡ pair.view → BothRun pair w
   both-run w pair lc lq kc kq x id = record {
-    coordinator = open-run opening apply encode decode w pair.view.creator lc (kinds.Coordinator kc) pair.view x.first id;
-    member = open-run opening apply encode decode w pair.member lq (kinds.Other kq) pair.view x.other (ap (λ (v : View). v.id) x.same ∙ id);
+    coordinator = open-run meaning w pair.view.creator lc (kinds.Coordinator kc) pair.view x.first id;
+    member = open-run meaning w pair.member lq (kinds.Other kq) pair.view x.other (ap (λ (v : View). v.id) x.same ∙ id);
   }
 
   -- ---- one step that fails
 
   ends-tick : (old new : WorldModel S) (pair : Pair) (lc lq : Life S) (kc : Coordinator) (kq : Other) → Couple old pair.view.creator pair.member lc lq kc kq → kc.view.id ≡ pair.view
-      → Fails opening apply encode decode old (Tick pair.view.creator.node) new → EndsSo pair new
+      → Fails meaning old (Tick pair.view.creator.node) new → EndsSo pair new
   ends-tick old new pair lc lq kc kq x id (inl same) = inr (subst (BothRun pair) (sym same) (both-run old pair lc lq kc kq x id))
   ends-tick old new pair lc lq kc kq x id (inr f) =
-      let y = Leveling.lost opening apply encode decode is_state laws (lacks_memory f.0.answer) f.1 (Replying.ticked opening apply encode decode old new pair.view.creator lc kc x.first f.0) in
+      let y = Leveling.lost meaning laws (lacks_memory f.0.answer) f.1 (Replying.ticked meaning old new pair.view.creator lc kc x.first f.0) in
       inl (record { before = old.history.trace; crash = inl y.trace })
 
   -- a packet to the coordinator
   ends-first : (w new : WorldModel S) (pair : Pair) (lc lq : Life S) (kc : Coordinator) (kq : Other) (k : ℕ) (m : Posted) → Couple w pair.view.creator pair.member lc lq kc kq
-      → kc.view.id ≡ pair.view → Replying.IsFor opening apply encode decode w k pair.view.creator m → Fails opening apply encode decode w (Deliver k) new → EndsSo pair new
+      → kc.view.id ≡ pair.view → Replying.IsFor meaning w k pair.view.creator m → Fails meaning w (Deliver k) new → EndsSo pair new
   ends-first w new pair lc lq kc kq k m x id f (inl same) = inr (subst (BothRun pair) (sym same) (both-run w pair lc lq kc kq x id))
   ends-first w new pair lc lq kc kq k m x id f (inr y) =
-      let z = Leveling.lost opening apply encode decode is_state laws (lacks_memory y.0.answer) y.1
-      (Replying.heard opening apply encode decode w new k pair.view.creator lc (kinds.Coordinator kc) x.first m f y.0) in
+      let z = Leveling.lost meaning laws (lacks_memory y.0.answer) y.1
+      (Replying.heard meaning w new k pair.view.creator lc (kinds.Coordinator kc) x.first m f y.0) in
       inl (record { before = w.history.trace; crash = inl z.trace })
 
   -- and one to the member
   ends-other : (w new : WorldModel S) (pair : Pair) (lc lq : Life S) (kc : Coordinator) (kq : Other) (k : ℕ) (m : Posted) → Couple w pair.view.creator pair.member lc lq kc kq
-      → kc.view.id ≡ pair.view → Replying.IsFor opening apply encode decode w k pair.member m → Fails opening apply encode decode w (Deliver k) new → EndsSo pair new
+      → kc.view.id ≡ pair.view → Replying.IsFor meaning w k pair.member m → Fails meaning w (Deliver k) new → EndsSo pair new
   ends-other w new pair lc lq kc kq k m x id f (inl same) = inr (subst (BothRun pair) (sym same) (both-run w pair lc lq kc kq x id))
   ends-other w new pair lc lq kc kq k m x id f (inr y) =
-      let z = Leveling.lost opening apply encode decode is_state laws (lacks_memory y.0.answer) y.1
-      (Replying.heard opening apply encode decode w new k pair.member lq (kinds.Other kq) x.other m f y.0) in
+      let z = Leveling.lost meaning laws (lacks_memory y.0.answer) y.1
+      (Replying.heard meaning w new k pair.member lq (kinds.Other kq) x.other m f y.0) in
       inl (record { before = w.history.trace; crash = inr z.trace })
 
   -- ---- the answers
 
   rounds-break : (n g past : ℕ) (w new : WorldModel S) (pair : Pair) (lc lq : Life S) (kc : Coordinator) (kq : Other) (last : ℕ) → Couple w pair.view.creator pair.member lc lq kc kq
       → kc.view.id ≡ pair.view → MissesWithin g last kc.window.delivered kq.window → g + n ≡ last + 1 → kc.window.stable < g → last ≤ kc.window.delivered
-      → EachSound (Leveling.orders opening apply encode decode is_state laws pair.view.creator pair.member kc g n)
-      → AreNext past (Leveling.orders opening apply encode decode is_state laws pair.view.creator pair.member kc g n) w.history.pool
-      → Breaks opening apply encode decode past (length (Leveling.orders opening apply encode decode is_state laws pair.view.creator pair.member kc g n)) w new → EndsSo pair new
-  rounds-break zero g past w new pair lc lq kc kq last x id within count low high sound next all = absurd (breaks-none opening apply encode decode past 0 w new refl all)
+      → EachSound (Leveling.orders meaning laws pair.view.creator pair.member kc g n)
+      → AreNext past (Leveling.orders meaning laws pair.view.creator pair.member kc g n) w.history.pool
+      → Breaks meaning past (length (Leveling.orders meaning laws pair.view.creator pair.member kc g n)) w new → EndsSo pair new
+  rounds-break zero g past w new pair lc lq kc kq last x id within count low high sound next all = absurd (breaks-none meaning past 0 w new refl all)
   rounds-break (suc n) g past w new pair lc lq kc kq last x id within count low high sound next all =
       let c = pair.view.creator in
       let q = pair.member in
-      let o = Leveling.order-at opening apply encode decode is_state laws w c q lc lq kc kq n g last x count low high in
+      let o = Leveling.order-at meaning laws w c q lc lq kc kq n g last x count low high in
       let m = packet c (bodies.Order kc.view.id g o.entry) q in
-      let rest = Leveling.orders opening apply encode decode is_state laws c q kc (g + 1) n in
+      let rest = Leveling.orders meaning laws c q kc (g + 1) n in
       let sounds : EachSound (m ∷ rest) = subst EachSound o.is sound in
       let nexts : AreNext past (m ∷ rest) w.history.pool = subst (λ (l : List Posted). AreNext past l w.history.pool) o.is next in
-      let f : Replying.IsFor opening apply encode decode w (past + 1) q m =
+      let f : Replying.IsFor meaning w (past + 1) q m =
       record { there = next-first past m rest w.history.pool nexts; sound = sounds.0; goes = refl; other = same_address-sym c q ∙ x.apart; plain = refl } in
       ⊎_elim (λ fails. ends-other w new pair lc lq kc kq (past + 1) m x id f fails)
       (λ d.
-      let h = Leveling.sure opening apply encode decode is_state laws (lacks_memory d.plays.step.answer) d.plays.whole
-      (Replying.heard opening apply encode decode w d.mid (past + 1) q lq (kinds.Other kq) x.other m f d.plays.step) in
-      let keeps = Keeping.step-keeps opening apply encode decode is_state laws w d.mid (Deliver (past + 1)) d.plays.step x.keeps in
+      let h = Leveling.sure meaning laws (lacks_memory d.plays.step.answer) d.plays.whole
+      (Replying.heard meaning w d.mid (past + 1) q lq (kinds.Other kq) x.other m f d.plays.step) in
+      let keeps = Keeping.step-keeps meaning laws w d.mid (Deliver (past + 1)) d.plays.step x.keeps in
       let known : g ≤ kc.window.delivered = omega (arith, count, high) in
-      let r = Leveling.round opening apply encode decode is_state laws w d.mid c q lc lq kc kq g last o.entry x within known sounds.0 keeps h in
+      let r = Leveling.round meaning laws w d.mid c q lc lq kc kq g last o.entry x within known sounds.0 keeps h in
       rounds-break n (g + 1) (past + 1) d.mid new pair lc r.life kc r.now last r.couple id r.within (omega (arith, count)) (omega (arith, low)) high sounds.1
       (subst (AreNext (past + 1) rest) (sym r.puts) (next-rest past m rest w.history.pool r.more nexts)) d.rest)
-      (breaks-next opening apply encode decode past (length (m ∷ rest)) (length rest) w new refl (subst (λ (l : List Posted). Breaks opening apply encode decode past (length l) w new) o.is all))
+      (breaks-next meaning past (length (m ∷ rest)) (length rest) w new refl (subst (λ (l : List Posted). Breaks meaning past (length l) w new) o.is all))
 
   -- ---- all stages
 
-  pub ends : (old new : WorldModel S) (n : ℕ) (pair : Pair) → IsWorld opening apply encode decode is_state old.seats old.history → pair_at old.seats n ≡ Some pair
-      → Stops opening apply encode decode pair old new → EndsSo pair new
+  pub ends : (old new : WorldModel S) (n : ℕ) (pair : Pair) → IsWorld meaning old.seats old.history → pair_at old.seats n ≡ Some pair
+      → Stops meaning pair old new → EndsSo pair new
   ends old _ n pair keeps e (AtTick new fails) =
-      let f = Catching.found opening apply encode decode is_state laws old n pair keeps e in
+      let f = Catching.found meaning laws old n pair keeps e in
       ends-tick old new pair f.first f.other f.leads f.follows f.couple f.id fails
   ends old _ n pair keeps e (AtStatus told new ticks fails) =
-      let f = Catching.found opening apply encode decode is_state laws old n pair keeps e in
-      let t = Catching.told-so opening apply encode decode is_state laws old told pair f ticks in
-      let x : Fails opening apply encode decode told (Deliver t.number) new =
-      subst (λ (o : Option ℕ). IsSomeAnd o (λ k. Fails opening apply encode decode told (Deliver k) new)) t.found fails in
+      let f = Catching.found meaning laws old n pair keeps e in
+      let t = Catching.told-so meaning laws old told pair f ticks in
+      let x : Fails meaning told (Deliver t.number) new =
+      subst (λ (o : Option ℕ). IsSomeAnd o (λ k. Fails meaning told (Deliver k) new)) t.found fails in
       ends-other told new pair f.first f.other f.leads f.follows t.number _ t.couple f.id t.status x
   ends old _ n pair keeps e (AtRequest told asked new ticks hands breaks) =
-      let f = Catching.found opening apply encode decode is_state laws old n pair keeps e in
-      let t = Catching.told-so opening apply encode decode is_state laws old told pair f ticks in
-      let s = Catching.asked-so opening apply encode decode is_state laws old told asked pair f t hands in
+      let f = Catching.found meaning laws old n pair keeps e in
+      let t = Catching.told-so meaning laws old told pair f ticks in
+      let s = Catching.asked-so meaning laws old told asked pair f t hands in
       by f s s.asks
     where
-      by : (f : Catching.Found opening apply encode decode is_state laws old pair)
-          (s : Leveling.AskedSo opening apply encode decode is_state laws told asked pair.view.creator pair.member f.first f.leads)
+      by : (f : Catching.Found meaning laws old pair)
+          (s : Leveling.AskedSo meaning laws told asked pair.view.creator pair.member f.first f.leads)
           → AsksUpTo pair.member world_group f.leads.window.delivered s.now s.start s.out → EndsSo pair new
       by f s (inl k) =
-          let nak = Leveling.nak-of opening apply encode decode is_state laws told asked pair.view.creator pair.member f.first f.leads s k in
+          let nak = Leveling.nak-of meaning laws told asked pair.view.creator pair.member f.first f.leads s k in
           ⊎_elim (λ fails. ends-first asked new pair f.first s.after f.leads s.now (length told.history.pool + 1) (packet pair.member (bodies.Nak f.leads.view.id k.missing) pair.view.creator) s.couple f.id nak.packet fails)
-          (λ d. absurd (breaks-none opening apply encode decode (length told.history.pool + 1) 0 d.mid new refl d.rest))
-          (breaks-next opening apply encode decode (length told.history.pool) (length asked.history.pool - length told.history.pool) 0 asked new nak.many breaks)
+          (λ d. absurd (breaks-none meaning (length told.history.pool + 1) 0 d.mid new refl d.rest))
+          (breaks-next meaning (length told.history.pool) (length asked.history.pool - length told.history.pool) 0 asked new nak.many breaks)
       by f s (inr k) =
-          absurd (breaks-none opening apply encode decode (length told.history.pool) (length asked.history.pool - length told.history.pool) asked new
-          (Leveling.no-more opening apply encode decode is_state laws asked.history.pool told.history.pool
-          (Leveling.silent-pool opening apply encode decode is_state laws told asked pair.view.creator pair.member f.first f.leads s k.1)) breaks)
+          absurd (breaks-none meaning (length told.history.pool) (length asked.history.pool - length told.history.pool) asked new
+          (Leveling.no-more meaning laws asked.history.pool told.history.pool
+          (Leveling.silent-pool meaning laws told asked pair.view.creator pair.member f.first f.leads s k.1)) breaks)
   ends old _ n pair keeps e (AtAnswer told asked replied new ticks hands asks breaks) =
-      let f = Catching.found opening apply encode decode is_state laws old n pair keeps e in
-      let t = Catching.told-so opening apply encode decode is_state laws old told pair f ticks in
-      let s = Catching.asked-so opening apply encode decode is_state laws old told asked pair f t hands in
+      let f = Catching.found meaning laws old n pair keeps e in
+      let t = Catching.told-so meaning laws old told pair f ticks in
+      let s = Catching.asked-so meaning laws old told asked pair f t hands in
       by f s s.asks
     where
-      by : (f : Catching.Found opening apply encode decode is_state laws old pair)
-          (s : Leveling.AskedSo opening apply encode decode is_state laws told asked pair.view.creator pair.member f.first f.leads)
+      by : (f : Catching.Found meaning laws old pair)
+          (s : Leveling.AskedSo meaning laws told asked pair.view.creator pair.member f.first f.leads)
           → AsksUpTo pair.member world_group f.leads.window.delivered s.now s.start s.out → EndsSo pair new
       by f s (inl k) =
-          let r = Leveling.replied-so opening apply encode decode is_state laws told asked replied pair.view.creator pair.member f.first f.leads s asks k in
+          let r = Leveling.replied-so meaning laws told asked replied pair.view.creator pair.member f.first f.leads s asks k in
           rounds-break (r.last + 1 - r.first) r.first (length asked.history.pool) replied new pair f.first s.after f.leads s.now r.last r.couple f.id r.within r.count r.low r.high r.sound r.next
-          (subst (λ (j : ℕ). Breaks opening apply encode decode (length asked.history.pool) j replied new) r.many breaks)
+          (subst (λ (j : ℕ). Breaks meaning (length asked.history.pool) j replied new) r.many breaks)
       by f s (inr k) =
-          let a : replied ≡ asked = Leveling.none-asked opening apply encode decode is_state laws told asked replied pair.view.creator pair.member f.first f.leads s asks k.1 in
-          absurd (breaks-none opening apply encode decode (length asked.history.pool) (length replied.history.pool - length asked.history.pool) replied new
-          (Leveling.no-more opening apply encode decode is_state laws replied.history.pool asked.history.pool (ap (λ (w : WorldModel S). w.history.pool) a)) breaks)
+          let a : replied ≡ asked = Leveling.none-asked meaning laws told asked replied pair.view.creator pair.member f.first f.leads s asks k.1 in
+          absurd (breaks-none meaning (length asked.history.pool) (length replied.history.pool - length asked.history.pool) replied new
+          (Leveling.no-more meaning laws replied.history.pool asked.history.pool (ap (λ (w : WorldModel S). w.history.pool) a)) breaks)
 
 -- ---- from what the code did
 
-module _ {S : Type 0} (opening : S) (apply : S → Address → List ℕ → S) (encode : S → List ℕ) (decode : List ℕ → Option S) (pair : Pair) (old : WorldModel S) (n : ℕ)
-    (node : n ≡ pair.view.creator.node) where
-  pub at-tick : (new : WorldModel S) → Fails opening apply encode decode old (Tick n) new → Stops opening apply encode decode pair old new
-  at-tick new x = AtTick new (subst (λ (k : ℕ). Fails opening apply encode decode old (Tick k) new) node x)
+module _ {S : Type 0} (meaning : Meaning S) (pair : Pair) (old : WorldModel S) (n : ℕ) (node : n ≡ pair.view.creator.node) where
+  pub at-tick : (new : WorldModel S) → Fails meaning old (Tick n) new → Stops meaning pair old new
+  at-tick new x = AtTick new (subst (λ (k : ℕ). Fails meaning old (Tick k) new) node x)
 
-  module _ (told : WorldModel S) (ticks : Plays opening apply encode decode old (Tick n) told) (o : Option ℕ) (first : o ≡ first_for pair.member (length old.history.pool) told.history.pool) where
-    ticked : Plays opening apply encode decode old (Tick pair.view.creator.node) told
-    ticked = subst (λ (k : ℕ). Plays opening apply encode decode old (Tick k) told) node ticks
+  module _ (told : WorldModel S) (ticks : Plays meaning old (Tick n) told) (o : Option ℕ) (first : o ≡ first_for pair.member (length old.history.pool) told.history.pool) where
+    ticked : Plays meaning old (Tick pair.view.creator.node) told
+    ticked = subst (λ (k : ℕ). Plays meaning old (Tick k) told) node ticks
 
-    pub at-status : (new : WorldModel S) → IsSomeAnd o (λ k. Fails opening apply encode decode told (Deliver k) new) → Stops opening apply encode decode pair old new
-    at-status new x = AtStatus told new ticked (subst (λ (p : Option ℕ). IsSomeAnd p (λ k. Fails opening apply encode decode told (Deliver k) new)) first x)
+    pub at-status : (new : WorldModel S) → IsSomeAnd o (λ k. Fails meaning told (Deliver k) new) → Stops meaning pair old new
+    at-status new x = AtStatus told new ticked (subst (λ (p : Option ℕ). IsSomeAnd p (λ k. Fails meaning told (Deliver k) new)) first x)
 
-    module _ (asked : WorldModel S) (hands : Hands opening apply encode decode o told asked) where
-      handed : Hands opening apply encode decode (first_for pair.member (length old.history.pool) told.history.pool) told asked
-      handed = subst (λ (p : Option ℕ). Hands opening apply encode decode p told asked) first hands
+    module _ (asked : WorldModel S) (hands : Hands meaning o told asked) where
+      handed : Hands meaning (first_for pair.member (length old.history.pool) told.history.pool) told asked
+      handed = subst (λ (p : Option ℕ). Hands meaning p told asked) first hands
 
-      pub at-request : (past : ℕ) (new : WorldModel S) → past ≡ length told.history.pool → BreaksPast opening apply encode decode past asked new → Stops opening apply encode decode pair old new
-      at-request past new is x = AtRequest told asked new ticked handed (subst (λ (k : ℕ). BreaksPast opening apply encode decode k asked new) is x)
+      pub at-request : (past : ℕ) (new : WorldModel S) → past ≡ length told.history.pool → BreaksPast meaning past asked new → Stops meaning pair old new
+      at-request past new is x = AtRequest told asked new ticked handed (subst (λ (k : ℕ). BreaksPast meaning k asked new) is x)
 
-      pub at-answer : (past more : ℕ) (answered new : WorldModel S) → past ≡ length told.history.pool → DeliversPast opening apply encode decode past asked answered → more ≡ length asked.history.pool
-          → BreaksPast opening apply encode decode more answered new → Stops opening apply encode decode pair old new
+      pub at-answer : (past more : ℕ) (answered new : WorldModel S) → past ≡ length told.history.pool → DeliversPast meaning past asked answered → more ≡ length asked.history.pool
+          → BreaksPast meaning more answered new → Stops meaning pair old new
       at-answer past more answered new is asks so x =
-          AtAnswer told asked answered new ticked handed (subst (λ (k : ℕ). DeliversPast opening apply encode decode k asked answered) is asks)
-          (subst (λ (k : ℕ). BreaksPast opening apply encode decode k answered new) so x)
+          AtAnswer told asked answered new ticked handed (subst (λ (k : ℕ). DeliversPast meaning k asked answered) is asks)
+          (subst (λ (k : ℕ). BreaksPast meaning k answered new) so x)

@@ -5,8 +5,9 @@ use Rattle.std.specs.Option.{IsSomeAnd}
 use Rattle.std.proofs.lemmas.Option.{none-some}
 use Rattle.address.specs.Ids.{Address}
 use Rattle.view.specs.Members.{View}
-use Rattle.trace_props.specs.declared.happening.Happening.{Happening}
-use Rattle.trace_props.specs.declared.happening.Happening.TheVariants.{Left, Crashed}
+use Rattle.state_transfer.specs.Meanings.{Meaning}
+use Rattle.trace_props.specs.declared.event.Event.{Event}
+use Rattle.trace_props.specs.declared.event.Event.TheVariants.{Left, Crashed}
 use Rattle.trace_props.specs.Observed.{has_ended}
 use Rattle.trace_props.proofs.Observing.{has_ended-now}
 use Rattle.agreement.specs.Cores.{Core}
@@ -42,19 +43,18 @@ some-map : {X : Type 0} (o : Option X) (P Q : X → Type 0) → ((y : X) → P y
 some-map None P Q f y = absurd y
 some-map (Some z) P Q f y = f z y
 
-module _ {S : Type 0} (opening : S) (apply : S → Address → List ℕ → S) (encode : S → List ℕ) (decode : List ℕ → Option S) (is_state : S → Type 0) (h : History) (n : ℕ) (m : MemberModel S)
-    (c : Core S) (x : Facts.Runs opening apply encode decode is_state h n m c) where
+module _ {S : Type 0} (meaning : Meaning S) (h : History) (n : ℕ) (m : MemberModel S) (c : Core S) (x : Facts.Runs meaning h n m c) where
   abbrev Tabled : WorldEvent → Input → Type 0
-  Tabled e i = Taking.Tabled opening apply encode decode is_state h n m c e i
+  Tabled e i = Taking.Tabled meaning h n m c e i
 
-  abbrev TakesSo : WorldEvent → Input → Answer → List Happening → MemberModel S → Type 0
-  TakesSo e i a s left = Taking.TakesSo opening apply encode decode is_state h n m e i a s left
+  abbrev TakesSo : WorldEvent → Input → Answer → List Event → MemberModel S → Type 0
+  TakesSo e i a s left = Taking.TakesSo meaning h n m e i a s left
 
   abbrev RefusesSo : WorldEvent → Answer → Type 0
-  RefusesSo e a = Taking.RefusesSo opening apply encode decode is_state h e a
+  RefusesSo e a = Taking.RefusesSo meaning h e a
 
-  pub replies : (i : Input) (out : Output) (left : MemberModel S) → Handled apply encode decode m i (Ok out) left → Replies c i out.happenings.items (core_of left)
-  replies i out left handled = subst (λ (o : Option (Core S)). IsSomeAnd o (λ d. Replies d i out.happenings.items (core_of left))) x.core handled.reply
+  pub replies : (i : Input) (out : Output) (left : MemberModel S) → Handled meaning m i (Ok out) left → Replies c i out.events.items (core_of left)
+  replies i out left handled = subst (λ (o : Option (Core S)). IsSomeAnd o (λ d. Replies d i out.events.items (core_of left))) x.core handled.reply
 
   -- the member runs on as before
   pub stays-so : (left : MemberModel S) → left.group ≡ m.group → StaysSo c (core_of left) → IsMember (is_connected n h) left
@@ -72,13 +72,13 @@ module _ {S : Type 0} (opening : S) (apply : S → Address → List ℕ → S) (
 
   -- ---- a create
 
-  create-taken : (out : Output) (left : MemberModel S) → Handled apply encode decode m input.Create (Ok out) left → refusal_in c input.Create ≡ None → TakesSo (Create n) input.Create (answer_to out.happenings.items) out.happenings.items left
+  create-taken : (out : Output) (left : MemberModel S) → Handled meaning m input.Create (Ok out) left → refusal_in c input.Create ≡ None → TakesSo (Create n) input.Create (answer_to out.events.items) out.events.items left
   create-taken out left handled free =
       let r = replies input.Create out left handled in
-      let done : answer_to out.happenings.items ≡ Done = ap answer_to r.0 in
-      subst (λ (a : Answer). TakesSo (Create n) input.Create a out.happenings.items left) (sym done) (record {
-        answers = Facts.at-member opening apply encode decode is_state h n m c x Done out.happenings.items (λ p. AnswersCreate p h Done out.happenings.items)
-            (Answering.create-taken opening apply encode decode is_state h n m c x out.happenings.items free r.0);
+      let done : answer_to out.events.items ≡ Done = ap answer_to r.0 in
+      subst (λ (a : Answer). TakesSo (Create n) input.Create a out.events.items left) (sym done) (record {
+        answers = Facts.at-member meaning h n m c x Done out.events.items (λ p. AnswersCreate p h Done out.events.items)
+            (Answering.create-taken meaning h n m c x out.events.items free r.0);
         prompt = tt;
         ends = λ e. absurd (let bad : false ≡ true = e in cc);
         stays = λ e. connected-so left _ handled.group r.1 (done-here n true (is_connected n h));
@@ -87,9 +87,9 @@ module _ {S : Type 0} (opening : S) (apply : S → Address → List ℕ → S) (
   create-not : (err : Error) → refusal_in c input.Create ≡ Some err → RefusesSo (Create n) (answer_for err)
   create-not err refused =
       let p = passed-by c.connected error.AlreadyConnected err refused in
-      let y : AnswersCreate m.address h (answer_for err) [] = Answering.create-not opening apply encode decode is_state h n m c x err refused in
+      let y : AnswersCreate m.address h (answer_for err) [] = Answering.create-not meaning h n m c x err refused in
       subst (λ (b : Error). RefusesSo (Create n) (answer_for b)) p.1 (record {
-        answers = Facts.at-member opening apply encode decode is_state h n m c x (Refused AlreadyConnected) [] (λ p. AnswersCreate p h (Refused AlreadyConnected) [])
+        answers = Facts.at-member meaning h n m c x (Refused AlreadyConnected) [] (λ p. AnswersCreate p h (Refused AlreadyConnected) [])
             (subst (λ (b : Error). AnswersCreate m.address h (answer_for b) []) (sym p.1) y);
         prompt = tt;
         connected = λ k. refused-connects k (is_connected k h) (Create n) AlreadyConnected;
@@ -99,21 +99,20 @@ module _ {S : Type 0} (opening : S) (apply : S → Address → List ℕ → S) (
   create-table = record {
     elsewhere = λ a k o. connects_after-other k (is_connected k h) (Create n) a o;
     comes = nothing-comes (posts_in h.pool) c;
-    lost = λ free. Facts.at-member opening apply encode decode is_state h n m c x (Refused Memory) (Crashed m.address ∷ []) (λ p. AnswersCreate p h (Refused Memory) (Crashed m.address ∷ []))
-        (Answering.create-lost opening apply encode decode is_state h n m c x free);
+    lost = λ free. Facts.at-member meaning h n m c x (Refused Memory) (Crashed m.address ∷ []) (λ p. AnswersCreate p h (Refused Memory) (Crashed m.address ∷ []))
+        (Answering.create-lost meaning h n m c x free);
     not = λ err refused. create-not err refused;
     taken = λ out left handled free own. create-taken out left handled free;
   }
 
   -- ---- a join
 
-  join-taken : (contact : Address) (out : Output) (left : MemberModel S) → Handled apply encode decode m (input.Join contact) (Ok out) left → refusal_in c (input.Join contact) ≡ None
-      → TakesSo (Join n contact) (input.Join contact) (answer_to out.happenings.items) out.happenings.items left
+  join-taken : (contact : Address) (out : Output) (left : MemberModel S) → Handled meaning m (input.Join contact) (Ok out) left → refusal_in c (input.Join contact) ≡ None
+      → TakesSo (Join n contact) (input.Join contact) (answer_to out.events.items) out.events.items left
   join-taken contact out left handled free =
       let r = replies (input.Join contact) out left handled in
-      subst (λ (l : List Happening). TakesSo (Join n contact) (input.Join contact) (answer_to l) l left) (sym r.0) (record {
-        answers = Facts.at-member opening apply encode decode is_state h n m c x Done [] (λ p. AnswersJoin p h Done [])
-            (Answering.join-taken opening apply encode decode is_state h n m c x free);
+      subst (λ (l : List Event). TakesSo (Join n contact) (input.Join contact) (answer_to l) l left) (sym r.0) (record {
+        answers = Facts.at-member meaning h n m c x Done [] (λ p. AnswersJoin p h Done []) (Answering.join-taken meaning h n m c x free);
         prompt = tt;
         ends = λ e. absurd (let bad : false ≡ true = e in cc);
         stays = λ e. connected-so left _ handled.group r.1 (done-here n true (is_connected n h));
@@ -124,7 +123,7 @@ module _ {S : Type 0} (opening : S) (apply : S → Address → List ℕ → S) (
   join-not-at contact err o e refused y =
       let p = passed-by (is_some o) error.AlreadyConnected err refused in
       subst (λ (b : Error). RefusesSo (Join n contact) (answer_for b)) p.1 (record {
-        answers = Facts.at-member opening apply encode decode is_state h n m c x (Refused AlreadyConnected) [] (λ p. AnswersJoin p h (Refused AlreadyConnected) [])
+        answers = Facts.at-member meaning h n m c x (Refused AlreadyConnected) [] (λ p. AnswersJoin p h (Refused AlreadyConnected) [])
             (subst (λ (b : Error). AnswersJoin m.address h (answer_for b) []) (sym p.1) y);
         prompt = tt;
         connected = λ k. refused-connects k (is_connected k h) (Join n contact) AlreadyConnected;
@@ -134,9 +133,9 @@ module _ {S : Type 0} (opening : S) (apply : S → Address → List ℕ → S) (
   join-table contact = record {
     elsewhere = λ a k o. connects_after-other k (is_connected k h) (Join n contact) a o;
     comes = nothing-comes (posts_in h.pool) c;
-    lost = λ free. Facts.at-member opening apply encode decode is_state h n m c x (Refused Memory) (Crashed m.address ∷ []) (λ p. AnswersJoin p h (Refused Memory) (Crashed m.address ∷ []))
-        (Answering.join-lost opening apply encode decode is_state h n m c x free);
-    not = λ err refused. join-not-at contact err c.view refl refused (Answering.join-not opening apply encode decode is_state h n m c x err refused);
+    lost = λ free. Facts.at-member meaning h n m c x (Refused Memory) (Crashed m.address ∷ []) (λ p. AnswersJoin p h (Refused Memory) (Crashed m.address ∷ []))
+        (Answering.join-lost meaning h n m c x free);
+    not = λ err refused. join-not-at contact err c.view refl refused (Answering.join-not meaning h n m c x err refused);
     taken = λ out left handled free own. join-taken contact out left handled free;
   }
 
@@ -153,15 +152,15 @@ module _ {S : Type 0} (opening : S) (apply : S → Address → List ℕ → S) (
   send-prompt error.Exhausted payload = tt
   send-prompt (error.Wire e) payload = tt
 
-  send-taken : (b : Bor (List ℕ)) (out : Output) (left : MemberModel S) → Handled apply encode decode m (input.Send b) (Ok out) left → refusal_in c (input.Send b) ≡ None
-      → EachOwn m.address out.happenings.items → TakesSo (Send n b.now) (input.Send b) (answer_to out.happenings.items) out.happenings.items left
+  send-taken : (b : Bor (List ℕ)) (out : Output) (left : MemberModel S) → Handled meaning m (input.Send b) (Ok out) left → refusal_in c (input.Send b) ≡ None
+      → EachOwn m.address out.events.items → TakesSo (Send n b.now) (input.Send b) (answer_to out.events.items) out.events.items left
   send-taken b out left handled free own =
       let r = replies (input.Send b) out left handled in
-      let s = out.happenings.items in
+      let s = out.events.items in
       let told = subst (λ (o : Option (Core S)). IsSomeAnd o (λ d. member.IsPrompt d (input.Send b) s)) x.core handled.prompt in
-      let t = Sending.send-taken opening apply encode decode is_state h n m c x b.now s free own r.0.first r.0.quiet told in
+      let t = Sending.send-taken meaning h n m c x b.now s free own r.0.first r.0.quiet told in
       subst (λ (a : Answer). TakesSo (Send n b.now) (input.Send b) a s left) (sym t.answer) (record {
-        answers = Facts.at-member opening apply encode decode is_state h n m c x (Sent (c.traffic.sent + 1)) s (λ p. AnswersSend b.now p h (Sent (c.traffic.sent + 1)) s) t.answers;
+        answers = Facts.at-member meaning h n m c x (Sent (c.traffic.sent + 1)) s (λ p. AnswersSend b.now p h (Sent (c.traffic.sent + 1)) s) t.answers;
         prompt = t.prompt;
         ends = λ e. absurd (let bad : false ≡ true = e in cc);
         stays = λ e. stays-so left handled.group r.1;
@@ -169,8 +168,8 @@ module _ {S : Type 0} (opening : S) (apply : S → Address → List ℕ → S) (
 
   send-not : (b : Bor (List ℕ)) (err : Error) → refusal_in c (input.Send b) ≡ Some err → RefusesSo (Send n b.now) (answer_for err)
   send-not b err refused = record {
-    answers = Facts.at-member opening apply encode decode is_state h n m c x (answer_for err) [] (λ p. AnswersSend b.now p h (answer_for err) [])
-        (Sending.send-not opening apply encode decode is_state h n m c x b.now err refused);
+    answers = Facts.at-member meaning h n m c x (answer_for err) [] (λ p. AnswersSend b.now p h (answer_for err) [])
+        (Sending.send-not meaning h n m c x b.now err refused);
     prompt = send-prompt err b.now;
     connected = λ k. refl;
   }
@@ -179,21 +178,21 @@ module _ {S : Type 0} (opening : S) (apply : S → Address → List ℕ → S) (
   send-table b = record {
     elsewhere = λ a k o. connects_after-other k (is_connected k h) (Send n b.now) a o;
     comes = nothing-comes (posts_in h.pool) c;
-    lost = λ free. Facts.at-member opening apply encode decode is_state h n m c x (Refused Memory) (Crashed m.address ∷ []) (λ p. AnswersSend b.now p h (Refused Memory) (Crashed m.address ∷ []))
-        (Sending.send-lost opening apply encode decode is_state h n m c x b.now free);
+    lost = λ free. Facts.at-member meaning h n m c x (Refused Memory) (Crashed m.address ∷ []) (λ p. AnswersSend b.now p h (Refused Memory) (Crashed m.address ∷ []))
+        (Sending.send-lost meaning h n m c x b.now free);
     not = λ err refused. send-not b err refused;
     taken = λ out left handled free own. send-taken b out left handled free own;
   }
 
   -- ---- a tick
 
-  tick-taken : (out : Output) (left : MemberModel S) → Handled apply encode decode m input.Tick (Ok out) left → EachOwn m.address out.happenings.items
-      → TakesSo (Tick n) input.Tick (answer_to out.happenings.items) out.happenings.items left
+  tick-taken : (out : Output) (left : MemberModel S) → Handled meaning m input.Tick (Ok out) left → EachOwn m.address out.events.items
+      → TakesSo (Tick n) input.Tick (answer_to out.events.items) out.events.items left
   tick-taken out left handled own =
       let r = replies input.Tick out left handled in
-      subst (λ (a : Answer). TakesSo (Tick n) input.Tick a out.happenings.items left) (sym (quiet-done out.happenings.items r.0)) (record {
-        answers = Facts.at-member opening apply encode decode is_state h n m c x Done out.happenings.items (λ p. AnswersQuietly p Done out.happenings.items)
-            (Answering.quiet-taken opening apply encode decode is_state h n m c x out.happenings.items own r.0);
+      subst (λ (a : Answer). TakesSo (Tick n) input.Tick a out.events.items left) (sym (quiet-done out.events.items r.0)) (record {
+        answers = Facts.at-member meaning h n m c x Done out.events.items (λ p. AnswersQuietly p Done out.events.items)
+            (Answering.quiet-taken meaning h n m c x out.events.items own r.0);
         prompt = tt;
         ends = λ e. absurd (let bad : false ≡ true = e in cc);
         stays = λ e. stays-so left handled.group r.1;
@@ -203,20 +202,20 @@ module _ {S : Type 0} (opening : S) (apply : S → Address → List ℕ → S) (
   tick-table = record {
     elsewhere = λ a k o. connects_after-other k (is_connected k h) (Tick n) a o;
     comes = nothing-comes (posts_in h.pool) c;
-    lost = λ free. Facts.at-member opening apply encode decode is_state h n m c x (Refused Memory) (Crashed m.address ∷ []) (λ p. AnswersQuietly p (Refused Memory) (Crashed m.address ∷ [])) (inr (refl, refl));
+    lost = λ free. Facts.at-member meaning h n m c x (Refused Memory) (Crashed m.address ∷ []) (λ p. AnswersQuietly p (Refused Memory) (Crashed m.address ∷ [])) (inr (refl, refl));
     not = λ err refused. absurd (none-some err refused);
     taken = λ out left handled free own. tick-taken out left handled own;
   }
 
   -- ---- what a member is told of others: a suspect, and a member of another view
 
-  suspect-taken : (q : Address) (out : Output) (left : MemberModel S) → Handled apply encode decode m (input.Suspect q) (Ok out) left → EachOwn m.address out.happenings.items
-      → TakesSo (Suspect n q) (input.Suspect q) (answer_to out.happenings.items) out.happenings.items left
+  suspect-taken : (q : Address) (out : Output) (left : MemberModel S) → Handled meaning m (input.Suspect q) (Ok out) left → EachOwn m.address out.events.items
+      → TakesSo (Suspect n q) (input.Suspect q) (answer_to out.events.items) out.events.items left
   suspect-taken q out left handled own =
       let r = replies (input.Suspect q) out left handled in
-      subst (λ (a : Answer). TakesSo (Suspect n q) (input.Suspect q) a out.happenings.items left) (sym (quiet-done out.happenings.items r.0)) (record {
-        answers = Facts.at-member opening apply encode decode is_state h n m c x Done out.happenings.items (λ p. AnswersQuietly p Done out.happenings.items)
-            (Answering.quiet-taken opening apply encode decode is_state h n m c x out.happenings.items own r.0);
+      subst (λ (a : Answer). TakesSo (Suspect n q) (input.Suspect q) a out.events.items left) (sym (quiet-done out.events.items r.0)) (record {
+        answers = Facts.at-member meaning h n m c x Done out.events.items (λ p. AnswersQuietly p Done out.events.items)
+            (Answering.quiet-taken meaning h n m c x out.events.items own r.0);
         prompt = tt;
         ends = λ e. absurd (let bad : false ≡ true = e in cc);
         stays = λ e. stays-so left handled.group r.1;
@@ -226,17 +225,17 @@ module _ {S : Type 0} (opening : S) (apply : S → Address → List ℕ → S) (
   suspect-table q = record {
     elsewhere = λ a k o. connects_after-other k (is_connected k h) (Suspect n q) a o;
     comes = nothing-comes (posts_in h.pool) c;
-    lost = λ free. Facts.at-member opening apply encode decode is_state h n m c x (Refused Memory) (Crashed m.address ∷ []) (λ p. AnswersQuietly p (Refused Memory) (Crashed m.address ∷ [])) (inr (refl, refl));
+    lost = λ free. Facts.at-member meaning h n m c x (Refused Memory) (Crashed m.address ∷ []) (λ p. AnswersQuietly p (Refused Memory) (Crashed m.address ∷ [])) (inr (refl, refl));
     not = λ err refused. absurd (none-some err refused);
     taken = λ out left handled free own. suspect-taken q out left handled own;
   }
 
-  hint-taken : (q : Address) (out : Output) (left : MemberModel S) → Handled apply encode decode m (input.MergeHint q) (Ok out) left
-      → TakesSo (MergeHint n q) (input.MergeHint q) (answer_to out.happenings.items) out.happenings.items left
+  hint-taken : (q : Address) (out : Output) (left : MemberModel S) → Handled meaning m (input.MergeHint q) (Ok out) left
+      → TakesSo (MergeHint n q) (input.MergeHint q) (answer_to out.events.items) out.events.items left
   hint-taken q out left handled =
       let r = replies (input.MergeHint q) out left handled in
-      subst (λ (l : List Happening). TakesSo (MergeHint n q) (input.MergeHint q) (answer_to l) l left) (sym r.0) (record {
-        answers = Facts.at-member opening apply encode decode is_state h n m c x Done [] (λ p. AnswersQuietly p Done []) (inl (refl, refl));
+      subst (λ (l : List Event). TakesSo (MergeHint n q) (input.MergeHint q) (answer_to l) l left) (sym r.0) (record {
+        answers = Facts.at-member meaning h n m c x Done [] (λ p. AnswersQuietly p Done []) (inl (refl, refl));
         prompt = tt;
         ends = λ e. absurd (let bad : false ≡ true = e in cc);
         stays = λ e. stays-so left handled.group r.1;
@@ -246,23 +245,23 @@ module _ {S : Type 0} (opening : S) (apply : S → Address → List ℕ → S) (
   hint-table q = record {
     elsewhere = λ a k o. connects_after-other k (is_connected k h) (MergeHint n q) a o;
     comes = nothing-comes (posts_in h.pool) c;
-    lost = λ free. Facts.at-member opening apply encode decode is_state h n m c x (Refused Memory) (Crashed m.address ∷ []) (λ p. AnswersQuietly p (Refused Memory) (Crashed m.address ∷ [])) (inr (refl, refl));
+    lost = λ free. Facts.at-member meaning h n m c x (Refused Memory) (Crashed m.address ∷ []) (λ p. AnswersQuietly p (Refused Memory) (Crashed m.address ∷ [])) (inr (refl, refl));
     not = λ err refused. absurd (none-some err refused);
     taken = λ out left handled free own. hint-taken q out left handled;
   }
 
   -- ---- a leave
 
-  leave-taken : (out : Output) (left : MemberModel S) → Handled apply encode decode m input.Leave (Ok out) left → TakesSo (Leave n) input.Leave (answer_to out.happenings.items) out.happenings.items left
+  leave-taken : (out : Output) (left : MemberModel S) → Handled meaning m input.Leave (Ok out) left → TakesSo (Leave n) input.Leave (answer_to out.events.items) out.events.items left
   leave-taken out left handled =
       let r = replies input.Leave out left handled in
-      let s = out.happenings.items in
+      let s = out.events.items in
       let is : s ≡ Left m.address ∷ [] = r.0 ∙ ap (λ (p : Address). Left p ∷ []) x.fact.seat.itself in
       let done : answer_to s ≡ Done = ap answer_to r.0 in
       subst (λ (a : Answer). TakesSo (Leave n) input.Leave a s left) (sym done) (record {
-        answers = Facts.at-member opening apply encode decode is_state h n m c x Done s (λ p. AnswersLeave p Done s) (Answering.leave-taken opening apply encode decode is_state h n m c x s r.0);
+        answers = Facts.at-member meaning h n m c x Done s (λ p. AnswersLeave p Done s) (Answering.leave-taken meaning h n m c x s r.0);
         prompt = tt;
-        ends = λ e. (r.1, ap (λ (l : List Happening). has_ended m.address (h.trace ++ l)) is ∙ has_ended-now h.trace (Left m.address) refl);
+        ends = λ e. (r.1, ap (λ (l : List Event). has_ended m.address (h.trace ++ l)) is ∙ has_ended-now h.trace (Left m.address) refl);
         stays = λ e. absurd (let bad : true ≡ false = e in cc);
       })
 
@@ -270,7 +269,7 @@ module _ {S : Type 0} (opening : S) (apply : S → Address → List ℕ → S) (
   leave-table = record {
     elsewhere = λ a k o. connects_after-other k (is_connected k h) (Leave n) a o;
     comes = nothing-comes (posts_in h.pool) c;
-    lost = λ free. Facts.at-member opening apply encode decode is_state h n m c x (Refused Memory) (Crashed m.address ∷ []) (λ p. AnswersLeave p (Refused Memory) (Crashed m.address ∷ [])) (inr (refl, refl));
+    lost = λ free. Facts.at-member meaning h n m c x (Refused Memory) (Crashed m.address ∷ []) (λ p. AnswersLeave p (Refused Memory) (Crashed m.address ∷ [])) (inr (refl, refl));
     not = λ err refused. absurd (none-some err refused);
     taken = λ out left handled free own. leave-taken out left handled;
   }

@@ -6,8 +6,9 @@ use Rattle.std.proofs.lemmas.List.{append-nil}
 use Rattle.std.proofs.lemmas.Option.{none-some}
 use Rattle.address.specs.Ids.{Address}
 use Rattle.wire.specs.Packets.{IsPacket}
-use Rattle.trace_props.specs.declared.happening.Happening.{Happening}
-use Rattle.trace_props.specs.declared.happening.Happening.TheVariants.{Crashed}
+use Rattle.state_transfer.specs.Meanings.{Meaning}
+use Rattle.trace_props.specs.declared.event.Event.{Event}
+use Rattle.trace_props.specs.declared.event.Event.TheVariants.{Crashed}
 use Rattle.trace_props.specs.Observed.{has_ended}
 use Rattle.trace_props.proofs.Observing.{has_ended-now}
 use Rattle.agreement.specs.Histories.{Posted}
@@ -69,9 +70,9 @@ pub when-false : (b : Bool) (P Q : Type 0) → b ≡ false → MatchBool b P Q �
 when-false true P Q e x = absurd (let bad : true ≡ false = e in cc)
 when-false false P Q e x = x
 
-module _ {S : Type 0} (opening : S) (apply : S → Address → List ℕ → S) (encode : S → List ℕ) (decode : List ℕ → Option S) (is_state : S → Type 0) where
+module _ {S : Type 0} (meaning : Meaning S) where
   -- what an event comes to whose input a running member takes
-  pub record TakesSo (h : History) (n : ℕ) (m : MemberModel S) (e : WorldEvent) (input : Input) (a : Answer) (s : List Happening) (left : MemberModel S) : Type 0 where
+  pub record TakesSo (h : History) (n : ℕ) (m : MemberModel S) (e : WorldEvent) (input : Input) (a : Answer) (s : List Event) (left : MemberModel S) : Type 0 where
     pub answers : Answers h e a s
     pub prompt : SendsPromptly h.trace e a s
     pub ends : leaves input ≡ true → (core_of left ≡ None) × (has_ended m.address (h.trace ++ s) ≡ true)
@@ -89,21 +90,21 @@ module _ {S : Type 0} (opening : S) (apply : S → Address → List ℕ → S) (
     pub comes : Comes (posts_in h.pool) c (came_at m input)
     pub lost : refusal_in c input ≡ None → Answers h e (Refused Memory) (Crashed m.address ∷ [])
     pub not : (err : Error) → refusal_in c input ≡ Some err → RefusesSo h e (answer_for err)
-    pub taken : (out : Output) (left : MemberModel S) → Handled apply encode decode m input (Ok out) left → refusal_in c input ≡ None → EachOwn m.address out.happenings.items
-        → TakesSo h n m e input (answer_to out.happenings.items) out.happenings.items left
+    pub taken : (out : Output) (left : MemberModel S) → Handled meaning m input (Ok out) left → refusal_in c input ≡ None → EachOwn m.address out.events.items
+        → TakesSo h n m e input (answer_to out.events.items) out.events.items left
 
   -- an event is a turn: what it put out, what happened
-  pub record Turned (new : ℕ → Seat S) (n : ℕ) (h : History) (e : WorldEvent) (a : Answer) (t : List Happening) (pool : List (List ℕ)) : Type 0 where
+  pub record Turned (new : ℕ → Seat S) (n : ℕ) (h : History) (e : WorldEvent) (a : Answer) (t : List Event) (pool : List (List ℕ)) : Type 0 where
     pub ps : List (List ℕ)
-    pub s : List Happening
+    pub s : List Event
     pub trace : t ≡ h.trace ++ s
     pub puts : pool ≡ h.pool ++ ps
-    pub turn : Turning.Turn opening apply encode decode is_state new n h e a ps s
+    pub turn : Turning.Turn meaning new n h e a ps s
 
-  module _ (laws : Stepping.Laws opening apply encode decode is_state) (at new : ℕ → Seat S) (n : ℕ) (h : History) (e : WorldEvent) (m : MemberModel S) (c : Core S)
-      (w : Turning.World opening apply encode decode is_state at h) (there : at n ≡ Running m) (x : Facts.Runs opening apply encode decode is_state h n m c)
+  module _ (laws : Stepping.Laws meaning) (at new : ℕ → Seat S) (n : ℕ) (h : History) (e : WorldEvent) (m : MemberModel S) (c : Core S)
+      (w : Turning.World meaning at h) (there : at n ≡ Running m) (x : Facts.Runs meaning h n m c)
       (others : OthersStand n at new) (elsewhere : (a : Answer) (k : ℕ) → nat_eq n k ≡ false → connects_after k (is_connected k h) e a ≡ is_connected k h) where
-    pub moves-to : (now : Seat S) → new n ≡ now → OnlyHere m.address now → Agreeing.Moves opening apply encode decode is_state laws at new n m.address (Running m) now
+    pub moves-to : (now : Seat S) → new n ≡ now → OnlyHere m.address now → Agreeing.Moves meaning laws at new n m.address (Running m) now
     moves-to now is only = record { node = x.node; was = there; is = is; only_old = only-running m.address m refl; only_now = only; others = others }
 
     core-was : core_here m.address (Running m) ≡ Some c
@@ -115,13 +116,13 @@ module _ {S : Type 0} (opening : S) (apply : S → Address → List ℕ → S) (
     crash-own = ((refl, refl), tt)
 
     pub crash-turn : (a : Answer) → new n ≡ Ended m.address → Answers h e a (Crashed m.address ∷ []) → SendsPromptly h.trace e a (Crashed m.address ∷ [])
-        → Turning.Turn opening apply encode decode is_state new n h e a [] (Crashed m.address ∷ [])
+        → Turning.Turn meaning new n h e a [] (Crashed m.address ∷ [])
     crash-turn a is answers prompt =
         let last : last_of n (h.trace ++ Crashed m.address ∷ []) ≡ Some m.address = last_of-own n m.address h.trace (Crashed m.address ∷ []) crash-own ∙ x.last in
         record {
           answers = answers;
           prompt = prompt;
-          agreed = Agreeing.crashed-agreed opening apply encode decode is_state laws at new n m.address (Running m) (Ended m.address) (moves-to (Ended m.address) is (only-ended m.address m.address))
+          agreed = Agreeing.crashed-agreed meaning laws at new n m.address (Running m) (Ended m.address) (moves-to (Ended m.address) is (only-ended m.address m.address))
               h.pool h.trace c core-was refl w.agreed;
           spelled = subst EachSpelled (sym (append-nil h.pool)) w.spelled;
           starts = starts-own m.address h.trace (Crashed m.address ∷ []) crash-own w.starts;
@@ -131,8 +132,8 @@ module _ {S : Type 0} (opening : S) (apply : S → Address → List ℕ → S) (
               (last, x.node, has_ended-now h.trace (Crashed m.address) refl);
         }
 
-  module _ (laws : Stepping.Laws opening apply encode decode is_state) (at new : ℕ → Seat S) (n : ℕ) (h : History) (e : WorldEvent) (input : Input) (m : MemberModel S) (c : Core S)
-      (w : Turning.World opening apply encode decode is_state at h) (there : at n ≡ Running m) (x : Facts.Runs opening apply encode decode is_state h n m c)
+  module _ (laws : Stepping.Laws meaning) (at new : ℕ → Seat S) (n : ℕ) (h : History) (e : WorldEvent) (input : Input) (m : MemberModel S) (c : Core S)
+      (w : Turning.World meaning at h) (there : at n ≡ Running m) (x : Facts.Runs meaning h n m c)
       (table : Tabled h n m c e input) (others : OthersStand n at new) where
     -- ---- it takes the input
 
@@ -145,7 +146,7 @@ module _ {S : Type 0} (opening : S) (apply : S → Address → List ℕ → S) (
     left-core true left e same ends = sym (ends e)
     left-core false left e same ends = core-running m.address left same
 
-    left-seat : (b connected : Bool) (s : List Happening) (left : MemberModel S) → leaves input ≡ b → left.address ≡ m.address → last_of n (h.trace ++ s) ≡ Some m.address
+    left-seat : (b connected : Bool) (s : List Event) (left : MemberModel S) → leaves input ≡ b → left.address ≡ m.address → last_of n (h.trace ++ s) ≡ Some m.address
         → (leaves input ≡ true → has_ended m.address (h.trace ++ s) ≡ true) → (leaves input ≡ false → IsMember connected left) → IsAlive left.group left.address left.life
         → IsSeatOf n (last_of n (h.trace ++ s)) connected (h.trace ++ s) (cond b (Ended m.address) (Running left))
     left-seat true connected s left e same last ended stays alive = (last, x.node, ended e)
@@ -158,25 +159,25 @@ module _ {S : Type 0} (opening : S) (apply : S → Address → List ℕ → S) (
     group-bytes packets posted e = ap (map bytes_of) e ∙ ap (λ (g : List ℕ). map bytes_of (map (spelled g) posted)) x.group
 
     taken-turn : (out : Output) (left : MemberModel S) (now : Seat S) → new n ≡ now → now ≡ cond (leaves input) (Ended m.address) (Running left)
-        → Handled apply encode decode m input (Ok out) left → refusal_in c input ≡ None
-        → Turning.Turn opening apply encode decode is_state new n h e (answer_to out.happenings.items) (map bytes_of out.packets.items) out.happenings.items
+        → Handled meaning m input (Ok out) left → refusal_in c input ≡ None
+        → Turning.Turn meaning new n h e (answer_to out.events.items) (map bytes_of out.packets.items) out.events.items
     taken-turn out left now is seat handled free =
-        let s = out.happenings.items in
+        let s = out.events.items in
         let ps = map bytes_of out.packets.items in
         let did = handled.acted in
         let sound : EachSound did.posted = group-sound did.posted did.sound in
         let same : ps ≡ bytes_for did.posted = group-bytes out.packets.items did.posted did.spelled in
-        let acted : Acted apply encode decode (came_at m input) (Some c) did.posted s (core_of left) =
-        subst (λ (o : Option (Core S)). Acted apply encode decode (came_at m input) o did.posted s (core_of left)) x.core did.acted in
-        let own : EachOwn m.address s = own-acted apply encode decode m.address c (came_at m input) did.posted s (core_of left) x.fact.seat.itself acted in
+        let acted : Acted meaning (came_at m input) (Some c) did.posted s (core_of left) =
+        subst (λ (o : Option (Core S)). Acted meaning (came_at m input) o did.posted s (core_of left)) x.core did.acted in
+        let own : EachOwn m.address s = own-acted meaning m.address c (came_at m input) did.posted s (core_of left) x.fact.seat.itself acted in
         let so : TakesSo h n m e input (answer_to s) s left = table.taken out left handled free own in
         let last : last_of n (h.trace ++ s) ≡ Some m.address = last_of-own n m.address h.trace s own ∙ x.last in
         let seated : new n ≡ cond (leaves input) (Ended m.address) (Running left) = is ∙ seat in
         record {
           answers = so.answers;
           prompt = so.prompt;
-          agreed = subst (λ (l : List (List ℕ)). Turning.Holding opening apply encode decode is_state (system_of new (h.pool ++ l) (h.trace ++ s))) (sym same)
-              (Agreeing.taken-agreed opening apply encode decode is_state laws at new n m.address (Running m) (cond (leaves input) (Ended m.address) (Running left))
+          agreed = subst (λ (l : List (List ℕ)). Turning.Holding meaning (system_of new (h.pool ++ l) (h.trace ++ s))) (sym same)
+              (Agreeing.taken-agreed meaning laws at new n m.address (Running m) (cond (leaves input) (Ended m.address) (Running left))
               (moves-to laws at new n h e m c w there x others table.elsewhere (cond (leaves input) (Ended m.address) (Running left)) seated (left-only (leaves input) left handled.address))
               h.pool h.trace c (core_of left) table.comes.which (came_at m input) did.posted s (core-running m.address m refl ∙ x.core)
               (left-core (leaves input) left refl handled.address (λ l. (so.ends l).0)) table.comes.from table.comes.none sound acted w.agreed);
@@ -191,70 +192,70 @@ module _ {S : Type 0} (opening : S) (apply : S → Address → List ℕ → S) (
     -- ---- whatever it answers
 
     is-free : refusal_of m input ≡ None → refusal_in c input ≡ None
-    is-free free = Facts.free-is opening apply encode decode is_state h n m c x input None free
+    is-free free = Facts.free-is meaning h n m c x input None free
 
-    readable : is_unreadable decode m input ≡ false
-    readable = Readable.never-unreadable opening apply encode decode is_state laws (system_of at h.pool h.trace) m c input w.agreed x.core table.comes
+    readable : is_unreadable meaning m input ≡ false
+    readable = Readable.never-unreadable meaning laws (system_of at h.pool h.trace) m c input w.agreed x.core table.comes
 
-    taken : (out : Output) (left : MemberModel S) (a : Answer) (now : Seat S) (t : List Happening) (pool : List (List ℕ)) → new n ≡ now → Handled apply encode decode m input (Ok out) left
+    taken : (out : Output) (left : MemberModel S) (a : Answer) (now : Seat S) (t : List Event) (pool : List (List ℕ)) → new n ≡ now → Handled meaning m input (Ok out) left
         → Takes m.address input out left h.trace h.pool a now t pool → Turned new n h e a t pool
     taken out left a now t pool is handled g = record {
       ps = map bytes_of out.packets.items;
-      s = out.happenings.items;
+      s = out.events.items;
       trace = g.trace;
       puts = g.puts;
-      turn = subst (λ (b : Answer). Turning.Turn opening apply encode decode is_state new n h e b (map bytes_of out.packets.items) out.happenings.items) (sym g.answer)
+      turn = subst (λ (b : Answer). Turning.Turn meaning new n h e b (map bytes_of out.packets.items) out.events.items) (sym g.answer)
           (taken-turn out left now is g.seat handled (is-free handled.refused.0));
     }
 
-    lost : (a : Answer) (now : Seat S) (t : List Happening) (pool : List (List ℕ)) → new n ≡ now → refusal_of m input ≡ None → Crashes m.address h.trace h.pool a now t pool
+    lost : (a : Answer) (now : Seat S) (t : List Event) (pool : List (List ℕ)) → new n ≡ now → refusal_of m input ≡ None → Crashes m.address h.trace h.pool a now t pool
         → Turned new n h e a t pool
     lost a now t pool is free g = record {
       ps = [];
       s = Crashed m.address ∷ [];
       trace = g.trace;
       puts = g.puts ∙ sym (append-nil h.pool);
-      turn = subst (λ (b : Answer). Turning.Turn opening apply encode decode is_state new n h e b [] (Crashed m.address ∷ [])) (sym g.answer)
+      turn = subst (λ (b : Answer). Turning.Turn meaning new n h e b [] (Crashed m.address ∷ [])) (sym g.answer)
           (crash-turn laws at new n h e m c w there x others table.elsewhere (Refused Memory) (is ∙ g.seat) (table.lost (is-free free)) (refused-prompt h.trace e Memory (Crashed m.address ∷ [])));
     }
 
-    refused : (err : Error) (left : MemberModel S) (a : Answer) (now : Seat S) (t : List Happening) (pool : List (List ℕ)) → new n ≡ now → is_closed err ≡ false
+    refused : (err : Error) (left : MemberModel S) (a : Answer) (now : Seat S) (t : List Event) (pool : List (List ℕ)) → new n ≡ now → is_closed err ≡ false
         → (refusal_of m input ≡ Some err) × (left ≡ m) → Refuses m.address err left h.trace h.pool a now t pool → Turned new n h e a t pool
     refused err left a now t pool is runs says g =
-        let so : RefusesSo h e (answer_for err) = table.not err (Facts.free-is opening apply encode decode is_state h n m c x input (Some err) says.0) in
+        let so : RefusesSo h e (answer_for err) = table.not err (Facts.free-is meaning h n m c x input (Some err) says.0) in
         let stays : now ≡ Running m = g.seat ∙ ap {B = Seat S} (λ (b : Bool). cond b (Ended m.address) (Running left)) runs ∙ ap {B = Seat S} Running says.1 in
         record {
           ps = [];
           s = [];
           trace = g.trace ∙ sym (append-nil h.trace);
           puts = g.puts ∙ sym (append-nil h.pool);
-          turn = subst (λ (b : Answer). Turning.Turn opening apply encode decode is_state new n h e b [] []) (sym g.answer)
-              (Turning.turn-still opening apply encode decode is_state at new n h e (answer_for err) w (same-at at new n others (is ∙ stays ∙ sym there)) so.answers so.prompt so.connected);
+          turn = subst (λ (b : Answer). Turning.Turn meaning new n h e b [] []) (sym g.answer)
+              (Turning.turn-still meaning at new n h e (answer_for err) w (same-at at new n others (is ∙ stays ∙ sym there)) so.answers so.prompt so.connected);
         }
 
     -- a running member of a world is not closed
-    never-closed : (err : Error) (left : MemberModel S) → Handled apply encode decode m input (Err err) left → is_closed err ≡ true → ⊥
+    never-closed : (err : Error) (left : MemberModel S) → Handled meaning m input (Err err) left → is_closed err ≡ true → ⊥
     never-closed err left handled is = by (handled.closed.only (ap {B = Result Output Error} Err (closed-is err is)))
       where
-        by : (core_of m ≡ None) ⊎ (is_unreadable decode m input ≡ true) → ⊥
+        by : (core_of m ≡ None) ⊎ (is_unreadable meaning m input ≡ true) → ⊥
         by (inl none) = none-some c (sym none ∙ x.core)
         by (inr bad) = let n : true ≡ false = sym bad ∙ readable in absurd (cc)
 
-    not-taken : (err : Error) (left : MemberModel S) (a : Answer) (now : Seat S) (t : List Happening) (pool : List (List ℕ)) (b k : Bool) → new n ≡ now → is_memory err ≡ b → is_closed err ≡ k
-        → Handled apply encode decode m input (Err err) left → Gives m.address input (Err err) left h.trace h.pool a now t pool → Turned new n h e a t pool
+    not-taken : (err : Error) (left : MemberModel S) (a : Answer) (now : Seat S) (t : List Event) (pool : List (List ℕ)) (b k : Bool) → new n ≡ now → is_memory err ≡ b → is_closed err ≡ k
+        → Handled meaning m input (Err err) left → Gives m.address input (Err err) left h.trace h.pool a now t pool → Turned new n h e a t pool
     not-taken err left a now t pool true k is memory closed handled g =
         lost a now t pool is (when-true (is_memory err) (refusal_of m input ≡ None) _ memory handled.refused) (when-true (is_memory err) _ _ memory g)
     not-taken err left a now t pool false true is memory closed handled g = absurd (never-closed err left handled closed)
     not-taken err left a now t pool false false is memory closed handled g =
-        refused err left a now t pool is closed (when-false (is_unreadable decode m input) _ _ readable (when-false (is_memory err) _ _ memory handled.refused)) (when-false (is_memory err) _ _ memory g)
+        refused err left a now t pool is closed (when-false (is_unreadable meaning m input) _ _ readable (when-false (is_memory err) _ _ memory handled.refused)) (when-false (is_memory err) _ _ memory g)
 
-    called : (result : Result Output Error) (left : MemberModel S) (a : Answer) (now : Seat S) (t : List Happening) (pool : List (List ℕ)) → new n ≡ now
-        → Handled apply encode decode m input result left → Gives m.address input result left h.trace h.pool a now t pool → Turned new n h e a t pool
+    called : (result : Result Output Error) (left : MemberModel S) (a : Answer) (now : Seat S) (t : List Event) (pool : List (List ℕ)) → new n ≡ now
+        → Handled meaning m input result left → Gives m.address input result left h.trace h.pool a now t pool → Turned new n h e a t pool
     called (Ok out) left a now t pool is handled (inl g) = taken out left a now t pool is handled g
     called (Ok out) left a now t pool is handled (inr g) = lost a now t pool is handled.refused.0 g.1
     called (Err err) left a now t pool is handled g = not-taken err left a now t pool (is_memory err) (is_closed err) is refl refl handled g
 
     -- one call of `handle` is a turn
-    pub hands-turn : (a : Answer) (now : Seat S) (t : List Happening) (pool : List (List ℕ)) → new n ≡ now → HandsHere apply encode decode input m h.trace h.pool a now t pool
+    pub hands-turn : (a : Answer) (now : Seat S) (t : List Event) (pool : List (List ℕ)) → new n ≡ now → HandsHere meaning input m h.trace h.pool a now t pool
         → Turned new n h e a t pool
     hands-turn a now t pool is g = called g.result g.left a now t pool is g.handled g.gives

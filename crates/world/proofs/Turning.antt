@@ -3,7 +3,8 @@ use Rattle.std.proofs.Common.{◌≡◌, ℕ, ◌+◌, true, false, Bool, Option
 use Rattle.std.proofs.lemmas.Bool.{eqb-true}
 use Rattle.std.proofs.lemmas.List.{append-nil}
 use Rattle.address.specs.Ids.{Address}
-use Rattle.trace_props.specs.declared.happening.Happening.{Happening}
+use Rattle.state_transfer.specs.Meanings.{Meaning}
+use Rattle.trace_props.specs.declared.event.Event.{Event}
 use Rattle.trace_props.proofs.Observing.{has_ended-stays}
 use Rattle.agreement.specs.Histories.{Posted}
 use Rattle.agreement.specs.Cores.{Core}
@@ -23,20 +24,20 @@ use Rattle.world.proofs.Calls.{is_connected-push}
 use Rattle.world.proofs.Seats.{runs, runs-same}
 
 -- what stands at another node stays what it was
-seat-kept : {S : Type 0} (n : ℕ) (last : Option Address) (connected : Bool) (t s : List Happening) (seat : Seat S) → IsSeatOf n last connected t seat → IsSeatOf n last connected (t ++ s) seat
+seat-kept : {S : Type 0} (n : ℕ) (last : Option Address) (connected : Bool) (t s : List Event) (seat : Seat S) → IsSeatOf n last connected t seat → IsSeatOf n last connected (t ++ s) seat
 seat-kept n last connected t s Vacant k = k
 seat-kept n last connected t s (Ended p) k = (k.0, k.1, has_ended-stays p t s k.2)
 seat-kept n last connected t s (Running m) k = k
 
-module _ {S : Type 0} (opening : S) (apply : S → Address → List ℕ → S) (encode : S → List ℕ) (decode : List ℕ → Option S) (is_state : S → Type 0) where
+module _ {S : Type 0} (meaning : Meaning S) where
   abbrev pub Holding : System S → Type 0
-  Holding s = Invariant opening apply encode decode is_state s
+  Holding s = Invariant meaning s
 
   abbrev pub World : (ℕ → Seat S) → History → Type 0
-  World at h = IsWorld opening apply encode decode is_state at h
+  World at h = IsWorld meaning at h
 
   -- what has to be shown of an event at a node, with its answer, what is put out and what happens
-  pub record Turn (new : ℕ → Seat S) (n : ℕ) (h : History) (e : WorldEvent) (a : Answer) (ps : List (List ℕ)) (s : List Happening) : Type 0 where
+  pub record Turn (new : ℕ → Seat S) (n : ℕ) (h : History) (e : WorldEvent) (a : Answer) (ps : List (List ℕ)) (s : List Event) : Type 0 where
     pub answers : Answers h e a s
     pub prompt : SendsPromptly h.trace e a s
     pub agreed : Holding (system_of new (h.pool ++ ps) (h.trace ++ s))
@@ -46,7 +47,7 @@ module _ {S : Type 0} (opening : S) (apply : S → Address → List ℕ → S) (
     pub connected : (m : ℕ) → nat_eq n m ≡ false → connects_after m (is_connected m h) e a ≡ is_connected m h
     pub seat : IsSeatOf n (last_of n (h.trace ++ s)) (connects_after n (is_connected n h) e a) (h.trace ++ s) (new n)
 
-  seat-turned : (at new : ℕ → Seat S) (n : ℕ) (h : History) (e : WorldEvent) (a : Answer) (ps : List (List ℕ)) (s : List Happening) → World at h → Turn new n h e a ps s → OthersStand n at new
+  seat-turned : (at new : ℕ → Seat S) (n : ℕ) (h : History) (e : WorldEvent) (a : Answer) (ps : List (List ℕ)) (s : List Event) → World at h → Turn new n h e a ps s → OthersStand n at new
       → (m : ℕ) (b : Bool) → nat_eq n m ≡ b → IsSeatOf m (last_of m (h.trace ++ s)) (connects_after m (is_connected m h) e a) (h.trace ++ s) (new m)
   seat-turned at new n h e a ps s w turn others m true b =
       subst (λ (k : ℕ). IsSeatOf k (last_of k (h.trace ++ s)) (connects_after k (is_connected k h) e a) (h.trace ++ s) (new k)) (eqb-true n m b) turn.seat
@@ -54,7 +55,7 @@ module _ {S : Type 0} (opening : S) (apply : S → Address → List ℕ → S) (
       rw (others m b, turn.lasts m b, turn.connected m b) (seat-kept m (last_of m h.trace) (is_connected m h) h.trace s (at m) (w.seats m))
 
   -- with that, the world keeps what every world keeps
-  pub turned : (at new : ℕ → Seat S) (n : ℕ) (h : History) (e : WorldEvent) (a : Answer) (ps : List (List ℕ)) (s : List Happening) → World at h → Turn new n h e a ps s → OthersStand n at new
+  pub turned : (at new : ℕ → Seat S) (n : ℕ) (h : History) (e : WorldEvent) (a : Answer) (ps : List (List ℕ)) (s : List Event) → World at h → Turn new n h e a ps s → OthersStand n at new
       → World new (after h e a ps s)
   turned at new n h e a ps s w turn others = record {
     faithful = Next h e a ps s w.faithful turn.answers turn.prompt;
@@ -67,14 +68,14 @@ module _ {S : Type 0} (opening : S) (apply : S → Address → List ℕ → S) (
 
   -- ---- where nothing changes
 
-  abbrev pub system_at : (Address → Option (Core S)) → List Posted → List Happening → System S
+  abbrev pub system_at : (Address → Option (Core S)) → List Posted → List Event → System S
   system_at running pool t = record { running = running; history = record { pool = pool; trace = t } }
 
-  agreed-same : (at new : ℕ → Seat S) (pool : List (List ℕ)) (t : List Happening) → SameSeats at new → Holding (system_of at pool t) → Holding (system_of new (pool ++ []) (t ++ []))
+  agreed-same : (at new : ℕ → Seat S) (pool : List (List ℕ)) (t : List Event) → SameSeats at new → Holding (system_of at pool t) → Holding (system_of new (pool ++ []) (t ++ []))
   agreed-same at new pool t same i =
       subst (λ (r : Address → Option (Core S)). Holding (system_at r (posts_in (pool ++ [])) (t ++ []))) (sym (runs-same at new same))
       (subst (λ (l : List (List ℕ)). Holding (system_at (runs at) (posts_in l) (t ++ []))) (sym (append-nil pool))
-      (subst (λ (u : List Happening). Holding (system_at (runs at) (posts_in pool) u)) (sym (append-nil t)) i))
+      (subst (λ (u : List Event). Holding (system_at (runs at) (posts_in pool) u)) (sym (append-nil t)) i))
 
   -- an event in whose step nothing happens, nothing is put out, and no node changes
   pub turn-still : (at new : ℕ → Seat S) (n : ℕ) (h : History) (e : WorldEvent) (a : Answer) → World at h → SameSeats at new → Answers h e a [] → SendsPromptly h.trace e a []

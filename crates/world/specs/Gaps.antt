@@ -4,8 +4,9 @@ use Rattle.std.specs.Option.{IsSomeAnd, option_map_or, option_and_then}
 use Rattle.std.specs.List.{position_from}
 use Rattle.address.specs.Ids.{Address, ViewId, same_address, same_view_id}
 use Rattle.view.specs.Members.{View}
-use Rattle.trace_props.specs.declared.happening.Happening.{Happening}
-use Rattle.trace_props.specs.declared.happening.Happening.TheVariants.{Crashed}
+use Rattle.state_transfer.specs.Meanings.{Meaning}
+use Rattle.trace_props.specs.declared.event.Event.{Event}
+use Rattle.trace_props.specs.declared.event.Event.TheVariants.{Crashed}
 use Rattle.trace_props.specs.Observed.{delivered_in}
 use Rattle.agreement.specs.Cores.{is_frozen}
 use Rattle.member.specs.Members.{core_of}
@@ -66,10 +67,10 @@ lacks_memory Done = false
 lacks_memory (Sent n) = false
 lacks_memory (Refused r) = nat_eq (number_of r) 7
 
-module _ {S : Type 0} (opening : S) (apply : S → Address → List ℕ → S) (encode : S → List ℕ) (decode : List ℕ → Option S) where
+module _ {S : Type 0} (meaning : Meaning S) where
   -- one event, carried out with no growth refused to a member
   pub record Plays (old : WorldModel S) (e : WorldEvent) (new : WorldModel S) : Type 0 where
-    pub step : WorldStep opening apply encode decode old e new
+    pub step : WorldStep meaning old e new
     pub whole : lacks_memory step.answer ≡ false
 
   -- a delivery of so many packets past a number, one after another
@@ -99,7 +100,7 @@ module _ {S : Type 0} (opening : S) (apply : S → Address → List ℕ → S) (
 
   -- it was not begun, and all is as it was; or a growth was refused to a member in it
   abbrev pub Fails : WorldModel S → WorldEvent → WorldModel S → Type 0
-  Fails old e new = (new ≡ old) ⊎ ((step : WorldStep opening apply encode decode old e new) × (lacks_memory step.answer ≡ true))
+  Fails old e new = (new ≡ old) ⊎ ((step : WorldStep meaning old e new) × (lacks_memory step.answer ≡ true))
 
   -- so many deliveries that end in an error
   pub data Breaks : ℕ → ℕ → WorldModel S → WorldModel S → Type 0 where
@@ -121,7 +122,7 @@ module _ {S : Type 0} (opening : S) (apply : S → Address → List ℕ → S) (
 
 -- the coordinator or the member has crashed at last
 pub record LosesOne {S : Type 0} (pair : Pair) (w : WorldModel S) : Type 0 where
-  pub before : List Happening
+  pub before : List Event
   pub crash : (w.history.trace ≡ before ++ Crashed pair.view.creator ∷ []) ⊎ (w.history.trace ≡ before ++ Crashed pair.member ∷ [])
 
 -- both run, in the view, and are not blocked
@@ -133,5 +134,5 @@ abbrev pub EndsSo : {S : Type 0} → Pair → WorldModel S → Type 0
 EndsSo pair w = LosesOne pair w ⊎ BothRun pair w
 
 -- what the member was told in the view is what its coordinator was told there
-abbrev pub IsLevel : Pair → List Happening → Type 0
+abbrev pub IsLevel : Pair → List Event → Type 0
 IsLevel pair t = delivered_in pair.member pair.view t ≡ delivered_in pair.view.creator pair.view t

@@ -3,7 +3,8 @@ use Rattle.std.specs.Prelude.{◌≡◌, ℕ, ◌≤◌, Bool, true, Option, Non
 use Rattle.std.specs.Option.{IsSomeAnd, option_map_or}
 use Rattle.address.specs.Ids.{Address}
 use Rattle.wire.specs.Packets.{packet_of}
-use Rattle.trace_props.specs.declared.happening.Happening.{Happening}
+use Rattle.state_transfer.specs.Meanings.{Meaning}
+use Rattle.trace_props.specs.declared.event.Event.{Event}
 use Rattle.trace_props.specs.Observed.{has_started, has_ended}
 use Rattle.agreement.specs.Invariant.{Invariant}
 use Rattle.member_hearing.specs.Running.{IsAlive}
@@ -22,17 +23,17 @@ pub record IsMember {S : Type 0} (connected : Bool) (m : MemberModel S) : Type 0
   pub joined : IsSomeAnd (core_of m) (λ c. connected ≡ c.connected)
 
 -- the history says of a node what stands there: the last member there is given by `last`; what holds of a member between its calls holds of one that runs
-abbrev pub IsSeatOf : {S : Type 0} → ℕ → Option Address → Bool → List Happening → Seat S → Type 0
+abbrev pub IsSeatOf : {S : Type 0} → ℕ → Option Address → Bool → List Event → Seat S → Type 0
 IsSeatOf n last connected t Vacant = last ≡ None
 IsSeatOf n last connected t (Ended p) = (last ≡ Some p) × (p.node ≡ n) × (has_ended p t ≡ true)
 IsSeatOf n last connected t (Running m) = (last ≡ Some m.address) × (m.address.node ≡ n) × IsMember connected m × IsAlive m.group m.address m.life
 
 -- the greatest incarnation of a node so far, 0 for none
-abbrev pub top_of : ℕ → List Happening → ℕ
+abbrev pub top_of : ℕ → List Event → ℕ
 top_of n t = option_map_or (λ (p : Address). p.incarnation) (last_of n t) 0
 
 -- who started has no later incarnation than its node's last
-abbrev pub StartsInTurn : List Happening → Type 0
+abbrev pub StartsInTurn : List Event → Type 0
 StartsInTurn t = (p : Address) → has_started p t ≡ true → p.incarnation ≤ top_of p.node t
 
 -- each packet of the pool is in the group of the world
@@ -42,11 +43,10 @@ IsSpelled bytes = IsSomeAnd (read_as bytes) (λ m. packet_of bytes ≡ Ok (packe
 abbrev pub EachSpelled : List (List ℕ) → Type 0
 EachSpelled pool = (k : ℕ) (bytes : List ℕ) → slice_get pool k ≡ Some bytes → IsSpelled bytes
 
-pub record IsWorld {S : Type 0} (opening : S) (apply : S → Address → List ℕ → S) (encode : S → List ℕ) (decode : List ℕ → Option S) (is_state : S → Type 0) (at : ℕ → Seat S)
-    (h : History) : Type 0 where
+pub record IsWorld {S : Type 0} (meaning : Meaning S) (at : ℕ → Seat S) (h : History) : Type 0 where
   pub faithful : IsFaithful h
   pub paired : length h.events ≡ length h.replies
-  pub agreed : Invariant opening apply encode decode is_state (system_of at h.pool h.trace)
+  pub agreed : Invariant meaning (system_of at h.pool h.trace)
   pub spelled : EachSpelled h.pool
   pub starts : StartsInTurn h.trace
   pub seats : (n : ℕ) → IsSeatOf n (last_of n h.trace) (is_connected n h) h.trace (at n)

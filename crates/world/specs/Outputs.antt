@@ -5,7 +5,7 @@ use Rattle.trace_props.specs.Recorded.{IsRecordable}
 use Rattle.output.specs.declared.output.Outgoing.{Outgoing}
 use Rattle.output.specs.declared.output.Output.{Output}
 use Rattle.world_model.specs.Packets.{destination_of}
-use Rattle.world.specs.declared.TheConstants.{STEP_PLACES}
+use Rattle.limits.specs.declared.TheConstants.{STEP_EVENTS}
 
 -- each packet says itself to whom it goes
 abbrev pub AreAddressed : List Outgoing → Type 0
@@ -13,6 +13,6 @@ AreAddressed packets = AllByRecursion (λ o. destination_of o.bytes ≡ Some o.d
 
 -- there is room for what happened, a trace takes it, and the packets are addressed
 pub record Fits (out : Output) : Type 0 where
-  pub few : length out.happenings.items ≤ STEP_PLACES
-  pub short : IsRecordable out.happenings.items
+  pub few : length out.events.items ≤ STEP_EVENTS
+  pub short : IsRecordable out.events.items
   pub addressed : AreAddressed out.packets.items

@@ -5,9 +5,9 @@ use Rattle.address.specs.Ids.{Address, same_address}
 use Rattle.wire.specs.declared.error.WireError.{WireError}
 use Rattle.wire.specs.declared.packet.Packet.{Packet}
 use Rattle.wire.specs.Packets.{packet_of}
-use Rattle.trace_props.specs.declared.happening.Happening.{Happening}
-use Rattle.trace_props.specs.declared.happening.Happening.TheVariants.{Started, Delivered, Blocked, Installed, Left, Crashed}
-use Rattle.trace_props.specs.declared.happening.Happening.TheVariants as happening
+use Rattle.trace_props.specs.declared.event.Event.{Event}
+use Rattle.trace_props.specs.declared.event.Event.TheVariants.{Started, Delivered, Blocked, Installed, Left, Crashed}
+use Rattle.trace_props.specs.declared.event.Event.TheVariants as event
 use Rattle.agreement.specs.Histories.{Posted}
 use Rattle.agreement.specs.Cores.{Core}
 use Rattle.agreement.specs.Steps.{System}
@@ -48,10 +48,10 @@ is_closed error.Exhausted = false
 is_closed (error.Wire e) = false
 
 -- what an event is answered by which these happened: a message that was sent comes first
-abbrev pub answer_to : List Happening → Answer
+abbrev pub answer_to : List Event → Answer
 answer_to [] = Done
 answer_to (Started p ∷ rest) = Done
-answer_to (happening.Sent s ∷ rest) = Sent s.message.number
+answer_to (event.Sent s ∷ rest) = Sent s.message.number
 answer_to (Delivered d ∷ rest) = Done
 answer_to (Blocked p ∷ rest) = Done
 answer_to (Installed i ∷ rest) = Done
@@ -92,5 +92,5 @@ posts_in pool = filter_map read_as pool
 -- ---- both
 
 -- the system of agreement: the members at these nodes, the packets that the pool's bytes spell, what happened
-abbrev pub system_of : {S : Type 0} → (ℕ → Seat S) → List (List ℕ) → List Happening → System S
+abbrev pub system_of : {S : Type 0} → (ℕ → Seat S) → List (List ℕ) → List Event → System S
 system_of at pool t = record { running = λ p. core_here p (at p.node); history = record { pool = posts_in pool; trace = t } }

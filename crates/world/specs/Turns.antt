@@ -3,8 +3,9 @@
 use Rattle.std.specs.Prelude.{◌≡◌, ℕ, ◌+◌, ◌^◌, false, ◌∷◌, [], ◌++◌, List, map, nat_lt, nat_eq, Result, Ok, Err, ◌⊎◌, MatchBool, Option, None, Some, Vec, if◌then◌else◌}
 use Rattle.std.specs.Borrow.{Bor}
 use Rattle.address.specs.Ids.{Address, IsAddress}
-use Rattle.trace_props.specs.declared.happening.Happening.{Happening}
-use Rattle.trace_props.specs.declared.happening.Happening.TheVariants.{Started, Crashed}
+use Rattle.state_transfer.specs.Meanings.{Meaning}
+use Rattle.trace_props.specs.declared.event.Event.{Event}
+use Rattle.trace_props.specs.declared.event.Event.TheVariants.{Started, Crashed}
 use Rattle.agreement.specs.Cores.{idle}
 use Rattle.member_hearing.specs.Running.{IsAlive}
 use Rattle.member.specs.declared.error.Error.{Error}
@@ -37,52 +38,51 @@ IsWhy e (Ok out) = (e ≡ error.Memory) × (out.packets.items ≡ [] → ⊥)
 IsWhy e (Err f) = f ≡ e
 
 -- one call of `handle`, with its whole contract, whose packets joined the pool
-pub record HasPut {S : Type 0} (apply : S → Address → List ℕ → S) (encode : S → List ℕ) (decode : List ℕ → Option S) (input : Input) (m : MemberModel S) (pool : List (List ℕ))
-    (happened : List Happening) (left : MemberModel S) (pool' : List (List ℕ)) : Type 0 where
+pub record HasPut {S : Type 0} (meaning : Meaning S) (input : Input) (m : MemberModel S) (pool : List (List ℕ))
+    (happened : List Event) (left : MemberModel S) (pool' : List (List ℕ)) : Type 0 where
   pub out : Output
-  pub handled : Handled apply encode decode m input (Ok out) left
-  pub told : happened ≡ out.happenings.items
+  pub handled : Handled meaning m input (Ok out) left
+  pub told : happened ≡ out.events.items
   pub puts : pool' ≡ pool ++ map bytes_of out.packets.items
 
 -- one that comes to an error: nothing joined the pool
-pub record HasFailed {S : Type 0} (apply : S → Address → List ℕ → S) (encode : S → List ℕ) (decode : List ℕ → Option S) (input : Input) (m : MemberModel S) (pool : List (List ℕ)) (e : Error)
+pub record HasFailed {S : Type 0} (meaning : Meaning S) (input : Input) (m : MemberModel S) (pool : List (List ℕ)) (e : Error)
     (left : MemberModel S) (pool' : List (List ℕ)) : Type 0 where
   pub result : Result Output Error
-  pub handled : Handled apply encode decode m input result left
+  pub handled : Handled meaning m input result left
   pub why : IsWhy e result
   pub puts : pool' ≡ pool
 
 -- a step of a member, by what of it is told further: what happened, or the error
-abbrev pub Steps : {S Z : Type 0} → (S → Address → List ℕ → S) → (S → List ℕ) → (List ℕ → Option S) → Input → MemberModel S → List (List ℕ) → Result (Vec Happening Z) Error
-    → MemberModel S → List (List ℕ) → Type 0
-Steps apply encode decode input m pool (Ok happened) left pool' = HasPut apply encode decode input m pool happened.items left pool'
-Steps apply encode decode input m pool (Err e) left pool' = HasFailed apply encode decode input m pool e left pool'
+abbrev pub Steps : {S Z : Type 0} → Meaning S → Input → MemberModel S → List (List ℕ) → Result (Vec Event Z) Error → MemberModel S → List (List ℕ) → Type 0
+Steps meaning input m pool (Ok happened) left pool' = HasPut meaning input m pool happened.items left pool'
+Steps meaning input m pool (Err e) left pool' = HasFailed meaning input m pool e left pool'
 
 -- ---- a node is handed an input
 
 -- nothing changes
-pub record Stays {S : Type 0} (r : Refusal) (old : Seat S) (t : List Happening) (a : Answer) (new : Seat S) (t' : List Happening) : Type 0 where
+pub record Stays {S : Type 0} (r : Refusal) (old : Seat S) (t : List Event) (a : Answer) (new : Seat S) (t' : List Event) : Type 0 where
   pub answer : a ≡ Refused r
   pub seat : new ≡ old
   pub trace : t' ≡ t
 
 -- TAKEN: what happened joins the trace, what was put out joins the pool; the member runs on, or has left
-pub record Takes {S : Type 0} (p : Address) (input : Input) (out : Output) (left : MemberModel S) (t : List Happening) (pool : List (List ℕ)) (a : Answer) (new : Seat S)
-    (t' : List Happening) (pool' : List (List ℕ)) : Type 0 where
-  pub answer : a ≡ answer_to out.happenings.items
+pub record Takes {S : Type 0} (p : Address) (input : Input) (out : Output) (left : MemberModel S) (t : List Event) (pool : List (List ℕ)) (a : Answer) (new : Seat S)
+    (t' : List Event) (pool' : List (List ℕ)) : Type 0 where
+  pub answer : a ≡ answer_to out.events.items
   pub seat : new ≡ (if leaves input then Ended p else Running left)
-  pub trace : t' ≡ t ++ out.happenings.items
+  pub trace : t' ≡ t ++ out.events.items
   pub puts : pool' ≡ pool ++ map bytes_of out.packets.items
 
 -- LOST: memory was refused, and the member has crashed
-pub record Crashes {S : Type 0} (p : Address) (t : List Happening) (pool : List (List ℕ)) (a : Answer) (new : Seat S) (t' : List Happening) (pool' : List (List ℕ)) : Type 0 where
+pub record Crashes {S : Type 0} (p : Address) (t : List Event) (pool : List (List ℕ)) (a : Answer) (new : Seat S) (t' : List Event) (pool' : List (List ℕ)) : Type 0 where
   pub answer : a ≡ Refused Memory
   pub seat : new ≡ Ended p
   pub trace : t' ≡ t ++ Crashed p ∷ []
   pub puts : pool' ≡ pool
 
 -- REFUSED: nothing happened; the member runs on as the call left it, or has ended, if it is closed
-pub record Refuses {S : Type 0} (p : Address) (e : Error) (left : MemberModel S) (t : List Happening) (pool : List (List ℕ)) (a : Answer) (new : Seat S) (t' : List Happening)
+pub record Refuses {S : Type 0} (p : Address) (e : Error) (left : MemberModel S) (t : List Event) (pool : List (List ℕ)) (a : Answer) (new : Seat S) (t' : List Event)
     (pool' : List (List ℕ)) : Type 0 where
   pub answer : a ≡ answer_for e
   pub seat : new ≡ (if is_closed e then Ended p else Running left)
@@ -90,59 +90,58 @@ pub record Refuses {S : Type 0} (p : Address) (e : Error) (left : MemberModel S)
   pub puts : pool' ≡ pool
 
 -- what comes of a call at the node, by what it answered; what it would put out is lost where the pool is refused growth for it
-abbrev pub Gives : {S : Type 0} → Address → Input → Result Output Error → MemberModel S → List Happening → List (List ℕ) → Answer → Seat S → List Happening → List (List ℕ) → Type 0
+abbrev pub Gives : {S : Type 0} → Address → Input → Result Output Error → MemberModel S → List Event → List (List ℕ) → Answer → Seat S → List Event → List (List ℕ) → Type 0
 Gives p input (Ok out) left t pool a new t' pool' = Takes p input out left t pool a new t' pool' ⊎ ((out.packets.items ≡ [] → ⊥) × Crashes p t pool a new t' pool')
 Gives p input (Err e) left t pool a new t' pool' = MatchBool (is_memory e) (Crashes p t pool a new t' pool') (Refuses p e left t pool a new t' pool')
 
 -- one call of `handle` on the member that runs there, with its whole contract, and what comes of it
-pub record HandsHere {S : Type 0} (apply : S → Address → List ℕ → S) (encode : S → List ℕ) (decode : List ℕ → Option S) (input : Input) (m : MemberModel S) (t : List Happening)
-    (pool : List (List ℕ)) (a : Answer) (new : Seat S) (t' : List Happening) (pool' : List (List ℕ)) : Type 0 where
+pub record HandsHere {S : Type 0} (meaning : Meaning S) (input : Input) (m : MemberModel S) (t : List Event)
+    (pool : List (List ℕ)) (a : Answer) (new : Seat S) (t' : List Event) (pool' : List (List ℕ)) : Type 0 where
   pub result : Result Output Error
   pub left : MemberModel S
-  pub handled : Handled apply encode decode m input result left
+  pub handled : Handled meaning m input result left
   pub gives : Gives m.address input result left t pool a new t' pool'
 
-abbrev pub Hands : {S : Type 0} → (S → Address → List ℕ → S) → (S → List ℕ) → (List ℕ → Option S) → Input → Seat S → List Happening → List (List ℕ) → Answer → Seat S → List Happening
-    → List (List ℕ) → Type 0
-Hands apply encode decode input Vacant t pool a new t' pool' = Stays NotConnected Vacant t a new t' × (pool' ≡ pool)
-Hands apply encode decode input (Ended p) t pool a new t' pool' = Stays Closed (Ended p) t a new t' × (pool' ≡ pool)
-Hands apply encode decode input (Running m) t pool a new t' pool' = HandsHere apply encode decode input m t pool a new t' pool'
+abbrev pub Hands : {S : Type 0} → Meaning S → Input → Seat S → List Event → List (List ℕ) → Answer → Seat S → List Event → List (List ℕ) → Type 0
+Hands meaning input Vacant t pool a new t' pool' = Stays NotConnected Vacant t a new t' × (pool' ≡ pool)
+Hands meaning input (Ended p) t pool a new t' pool' = Stays Closed (Ended p) t a new t' × (pool' ≡ pool)
+Hands meaning input (Running m) t pool a new t' pool' = HandsHere meaning input m t pool a new t' pool'
 
 -- ---- starts and crashes
 
 -- the member of an address runs, and nothing happened to it yet
-pub record Begun {S : Type 0} (opening : S) (p : Address) (t : List Happening) (new : Seat S) (t' : List Happening) : Type 0 where
+pub record Begun {S : Type 0} (meaning : Meaning S) (p : Address) (t : List Event) (new : Seat S) (t' : List Event) : Type 0 where
   pub member : MemberModel S
   pub seat : new ≡ Running member
   pub address : member.address ≡ p
   pub group : member.group ≡ world_group
-  pub core : core_of member ≡ Some (idle opening p)
+  pub core : core_of member ≡ Some (idle meaning.opening p)
   pub alive : IsAlive member.group member.address member.life
   pub trace : t' ≡ t ++ Started p ∷ []
 
 -- the member of an address begins, or begins and crashes
-abbrev pub BeginsSo : {S : Type 0} → S → Address → List Happening → Answer → Seat S → List Happening → Type 0
-BeginsSo opening p t Done new t' = Begun opening p t new t'
-BeginsSo opening p t (Sent n) new t' = ⊥
-BeginsSo opening p t (Refused Memory) new t' = (new ≡ Ended p) × (t' ≡ t ++ Started p ∷ [] ++ Crashed p ∷ [])
-BeginsSo opening p t (Refused r) new t' = ⊥
+abbrev pub BeginsSo : {S : Type 0} → Meaning S → Address → List Event → Answer → Seat S → List Event → Type 0
+BeginsSo meaning p t Done new t' = Begun meaning p t new t'
+BeginsSo meaning p t (Sent n) new t' = ⊥
+BeginsSo meaning p t (Refused Memory) new t' = (new ≡ Ended p) × (t' ≡ t ++ Started p ∷ [] ++ Crashed p ∷ [])
+BeginsSo meaning p t (Refused r) new t' = ⊥
 
-abbrev pub Begins : {S : Type 0} → S → Address → List Happening → Answer → Seat S → List Happening → Type 0
-Begins opening p t a new t' = IsAddress p × BeginsSo opening p t a new t'
+abbrev pub Begins : {S : Type 0} → Meaning S → Address → List Event → Answer → Seat S → List Event → Type 0
+Begins meaning p t a new t' = IsAddress p × BeginsSo meaning p t a new t'
 
-abbrev pub StartGives : {S : Type 0} → S → ℕ → Seat S → List Happening → Answer → Seat S → List Happening → Type 0
-StartGives opening n Vacant t a new t' = Begins opening (record { node = n; incarnation = 1 }) t a new t'
-StartGives opening n (Ended p) t a new t' =
+abbrev pub StartGives : {S : Type 0} → Meaning S → ℕ → Seat S → List Event → Answer → Seat S → List Event → Type 0
+StartGives meaning n Vacant t a new t' = Begins meaning (record { node = n; incarnation = 1 }) t a new t'
+StartGives meaning n (Ended p) t a new t' =
     MatchBool (nat_lt (p.incarnation + 1) (2 ^ 32))
-    (Begins opening (record { node = p.node; incarnation = p.incarnation + 1 }) t a new t')
+    (Begins meaning (record { node = p.node; incarnation = p.incarnation + 1 }) t a new t')
     (Stays Exhausted (Ended p) t a new t')
-StartGives opening n (Running m) t a new t' = Stays AlreadyConnected (Running m) t a new t'
+StartGives meaning n (Running m) t a new t' = Stays AlreadyConnected (Running m) t a new t'
 
--- the member ends in this happening
-abbrev pub Ends : {S : Type 0} → Address → Happening → List Happening → Answer → Seat S → List Happening → Type 0
+-- the member ends in this event
+abbrev pub Ends : {S : Type 0} → Address → Event → List Event → Answer → Seat S → List Event → Type 0
 Ends p h t a new t' = (a ≡ Done) × (new ≡ Ended p) × (t' ≡ t ++ h ∷ [])
 
-abbrev pub CrashGives : {S : Type 0} → Seat S → List Happening → Answer → Seat S → List Happening → Type 0
+abbrev pub CrashGives : {S : Type 0} → Seat S → List Event → Answer → Seat S → List Event → Type 0
 CrashGives Vacant t a new t' = Stays NotConnected Vacant t a new t'
 CrashGives (Ended p) t a new t' = Stays Closed (Ended p) t a new t'
 CrashGives (Running m) t a new t' = Ends m.address (Crashed m.address) t a new t'
@@ -150,47 +149,44 @@ CrashGives (Running m) t a new t' = Ends m.address (Crashed m.address) t a new t
 -- ---- events
 
 -- what is handed to the member at the node, with a payload that is lent
-abbrev pub HandsLent : {S : Type 0} → (S → Address → List ℕ → S) → (S → List ℕ) → (List ℕ → Option S) → (Bor (List ℕ) → Input) → List ℕ → Seat S → List Happening → List (List ℕ) → Answer → Seat S
-    → List Happening → List (List ℕ) → Type 0
-HandsLent apply encode decode input bytes Vacant t pool a new t' pool' = Stays NotConnected Vacant t a new t' × (pool' ≡ pool)
-HandsLent apply encode decode input bytes (Ended p) t pool a new t' pool' = Stays Closed (Ended p) t a new t' × (pool' ≡ pool)
-HandsLent apply encode decode input bytes (Running m) t pool a new t' pool' = (b : Bor (List ℕ)) × (b.now ≡ bytes) × HandsHere apply encode decode (input b) m t pool a new t' pool'
+abbrev pub HandsLent : {S : Type 0} → Meaning S → (Bor (List ℕ) → Input) → List ℕ → Seat S → List Event → List (List ℕ) → Answer → Seat S
+    → List Event → List (List ℕ) → Type 0
+HandsLent meaning input bytes Vacant t pool a new t' pool' = Stays NotConnected Vacant t a new t' × (pool' ≡ pool)
+HandsLent meaning input bytes (Ended p) t pool a new t' pool' = Stays Closed (Ended p) t a new t' × (pool' ≡ pool)
+HandsLent meaning input bytes (Running m) t pool a new t' pool' = (b : Bor (List ℕ)) × (b.now ≡ bytes) × HandsHere meaning (input b) m t pool a new t' pool'
 
 -- an event at its node
-abbrev pub Acts : {S : Type 0} → S → (S → Address → List ℕ → S) → (S → List ℕ) → (List ℕ → Option S) → WorldEvent → Seat S → List Happening → List (List ℕ) → Answer → Seat S → List Happening
-    → List (List ℕ) → Type 0
-Acts opening apply encode decode (Start n) old t pool a new t' pool' = StartGives opening n old t a new t' × (pool' ≡ pool)
-Acts opening apply encode decode (Create n) old t pool a new t' pool' = Hands apply encode decode input.Create old t pool a new t' pool'
-Acts opening apply encode decode (Join n contact) old t pool a new t' pool' = Hands apply encode decode (input.Join contact) old t pool a new t' pool'
-Acts opening apply encode decode (Send n payload) old t pool a new t' pool' = HandsLent apply encode decode input.Send payload old t pool a new t' pool'
-Acts opening apply encode decode (Deliver k) old t pool a new t' pool' = (a ≡ Done) × (new ≡ old) × (t' ≡ t) × (pool' ≡ pool)
-Acts opening apply encode decode (Tick n) old t pool a new t' pool' = Hands apply encode decode input.Tick old t pool a new t' pool'
-Acts opening apply encode decode (Suspect n q) old t pool a new t' pool' = Hands apply encode decode (input.Suspect q) old t pool a new t' pool'
-Acts opening apply encode decode (MergeHint n q) old t pool a new t' pool' = Hands apply encode decode (input.MergeHint q) old t pool a new t' pool'
-Acts opening apply encode decode (Leave n) old t pool a new t' pool' = Hands apply encode decode input.Leave old t pool a new t' pool'
-Acts opening apply encode decode (Crash n) old t pool a new t' pool' = CrashGives old t a new t' × (pool' ≡ pool)
+abbrev pub Acts : {S : Type 0} → Meaning S → WorldEvent → Seat S → List Event → List (List ℕ) → Answer → Seat S → List Event → List (List ℕ) → Type 0
+Acts meaning (Start n) old t pool a new t' pool' = StartGives meaning n old t a new t' × (pool' ≡ pool)
+Acts meaning (Create n) old t pool a new t' pool' = Hands meaning input.Create old t pool a new t' pool'
+Acts meaning (Join n contact) old t pool a new t' pool' = Hands meaning (input.Join contact) old t pool a new t' pool'
+Acts meaning (Send n payload) old t pool a new t' pool' = HandsLent meaning input.Send payload old t pool a new t' pool'
+Acts meaning (Deliver k) old t pool a new t' pool' = (a ≡ Done) × (new ≡ old) × (t' ≡ t) × (pool' ≡ pool)
+Acts meaning (Tick n) old t pool a new t' pool' = Hands meaning input.Tick old t pool a new t' pool'
+Acts meaning (Suspect n q) old t pool a new t' pool' = Hands meaning (input.Suspect q) old t pool a new t' pool'
+Acts meaning (MergeHint n q) old t pool a new t' pool' = Hands meaning (input.MergeHint q) old t pool a new t' pool'
+Acts meaning (Leave n) old t pool a new t' pool' = Hands meaning input.Leave old t pool a new t' pool'
+Acts meaning (Crash n) old t pool a new t' pool' = CrashGives old t a new t' × (pool' ≡ pool)
 
 -- nothing is done
-pub record Idles {S : Type 0} (old : Seat S) (t : List Happening) (pool : List (List ℕ)) (a : Answer) (new : Seat S) (t' : List Happening) (pool' : List (List ℕ)) : Type 0 where
+pub record Idles {S : Type 0} (old : Seat S) (t : List Event) (pool : List (List ℕ)) (a : Answer) (new : Seat S) (t' : List Event) (pool' : List (List ℕ)) : Type 0 where
   pub answer : a ≡ Done
   pub seat : new ≡ old
   pub trace : t' ≡ t
   pub puts : pool' ≡ pool
 
 -- the bytes of a packet at a node
-abbrev pub Hears : {S : Type 0} → (S → Address → List ℕ → S) → (S → List ℕ) → (List ℕ → Option S) → List ℕ → Seat S → List Happening → List (List ℕ) → Answer → Seat S → List Happening
-    → List (List ℕ) → Type 0
-Hears apply encode decode bytes Vacant t pool a new t' pool' = Idles Vacant t pool a new t' pool'
-Hears apply encode decode bytes (Ended p) t pool a new t' pool' = Idles (Ended p) t pool a new t' pool'
-Hears apply encode decode bytes (Running m) t pool a new t' pool' = HandsLent apply encode decode input.Datagram bytes (Running m) t pool a new t' pool'
+abbrev pub Hears : {S : Type 0} → Meaning S → List ℕ → Seat S → List Event → List (List ℕ) → Answer → Seat S → List Event → List (List ℕ) → Type 0
+Hears meaning bytes Vacant t pool a new t' pool' = Idles Vacant t pool a new t' pool'
+Hears meaning bytes (Ended p) t pool a new t' pool' = Idles (Ended p) t pool a new t' pool'
+Hears meaning bytes (Running m) t pool a new t' pool' = HandsLent meaning input.Datagram bytes (Running m) t pool a new t' pool'
 
 -- ---- nodes
 
 -- an event at its node, which may not be kept yet
-abbrev pub ActsAt : {S : Type 0} → S → (S → Address → List ℕ → S) → (S → List ℕ) → (List ℕ → Option S) → WorldEvent → Option (Seat S) → List Happening → List (List ℕ) → Answer → Option (Seat S)
-    → List Happening → List (List ℕ) → Type 0
-ActsAt opening apply encode decode e None t pool a new t' pool' = (a ≡ Refused NotConnected) × (new ≡ None) × (t' ≡ t) × (pool' ≡ pool)
-ActsAt opening apply encode decode e (Some s) t pool a new t' pool' = Acts opening apply encode decode e s t pool a (seat_at new) t' pool'
+abbrev pub ActsAt : {S : Type 0} → Meaning S → WorldEvent → Option (Seat S) → List Event → List (List ℕ) → Answer → Option (Seat S) → List Event → List (List ℕ) → Type 0
+ActsAt meaning e None t pool a new t' pool' = (a ≡ Refused NotConnected) × (new ≡ None) × (t' ≡ t) × (pool' ≡ pool)
+ActsAt meaning e (Some s) t pool a new t' pool' = Acts meaning e s t pool a (seat_at new) t' pool'
 
 -- a node that is not kept is kept, and vacant
 abbrev pub KeepsSeat : {S : Type 0} → Option (Seat S) → Option (Seat S) → Type 0
@@ -198,10 +194,10 @@ KeepsSeat None new = new ≡ Some Vacant
 KeepsSeat (Some s) new = new ≡ Some s
 
 -- a start finds its node kept, and vacant if it is new
-abbrev pub CarriesOut : {S : Type 0} → S → (S → Address → List ℕ → S) → (S → List ℕ) → (List ℕ → Option S) → WorldEvent → Option (Seat S) → List Happening → List (List ℕ) → Answer → Option (Seat S)
-    → List Happening → List (List ℕ) → Type 0
-CarriesOut opening apply encode decode e o t pool a new t' pool' =
-    MatchBool (starts e) (Acts opening apply encode decode e (seat_at o) t pool a (seat_at new) t' pool') (ActsAt opening apply encode decode e o t pool a new t' pool')
+abbrev pub CarriesOut : {S : Type 0} → Meaning S → WorldEvent → Option (Seat S) → List Event → List (List ℕ) → Answer → Option (Seat S)
+    → List Event → List (List ℕ) → Type 0
+CarriesOut meaning e o t pool a new t' pool' =
+    MatchBool (starts e) (Acts meaning e (seat_at o) t pool a (seat_at new) t' pool') (ActsAt meaning e o t pool a new t' pool')
 
 -- ---- all nodes
 
@@ -212,27 +208,26 @@ SameSeats at new = (m : ℕ) → new m ≡ at m
 abbrev pub OthersStand : {S : Type 0} → ℕ → (ℕ → Seat S) → (ℕ → Seat S) → Type 0
 OthersStand n at new = (m : ℕ) → nat_eq n m ≡ false → new m ≡ at m
 
--- no node, no happening and no packet changes
-pub record Rests {S : Type 0} (at : ℕ → Seat S) (t : List Happening) (pool : List (List ℕ)) (a : Answer) (new : ℕ → Seat S) (t' : List Happening) (pool' : List (List ℕ)) : Type 0 where
+-- no node, no event and no packet changes
+pub record Rests {S : Type 0} (at : ℕ → Seat S) (t : List Event) (pool : List (List ℕ)) (a : Answer) (new : ℕ → Seat S) (t' : List Event) (pool' : List (List ℕ)) : Type 0 where
   pub answer : a ≡ Done
   pub seats : SameSeats at new
   pub trace : t' ≡ t
   pub puts : pool' ≡ pool
 
 -- some bytes are handed to the member that runs at the node of whom they are for
-abbrev pub HandsOver : {S : Type 0} → (S → Address → List ℕ → S) → (S → List ℕ) → (List ℕ → Option S) → List ℕ → Option Address → (ℕ → Seat S) → List Happening → List (List ℕ) → Answer
-    → (ℕ → Seat S) → List Happening → List (List ℕ) → Type 0
-HandsOver apply encode decode bytes None at t pool a new t' pool' = Rests at t pool a new t' pool'
-HandsOver apply encode decode bytes (Some p) at t pool a new t' pool' = Hears apply encode decode bytes (at p.node) t pool a (new p.node) t' pool' × OthersStand p.node at new
+abbrev pub HandsOver : {S : Type 0} → Meaning S → List ℕ → Option Address → (ℕ → Seat S) → List Event → List (List ℕ) → Answer
+    → (ℕ → Seat S) → List Event → List (List ℕ) → Type 0
+HandsOver meaning bytes None at t pool a new t' pool' = Rests at t pool a new t' pool'
+HandsOver meaning bytes (Some p) at t pool a new t' pool' = Hears meaning bytes (at p.node) t pool a (new p.node) t' pool' × OthersStand p.node at new
 
 -- a packet is delivered, if there is one of that number
-abbrev pub Delivers : {S : Type 0} → (S → Address → List ℕ → S) → (S → List ℕ) → (List ℕ → Option S) → Option (List ℕ) → (ℕ → Seat S) → List Happening → List (List ℕ) → Answer
-    → (ℕ → Seat S) → List Happening → List (List ℕ) → Type 0
-Delivers apply encode decode None at t pool a new t' pool' = Rests at t pool a new t' pool'
-Delivers apply encode decode (Some bytes) at t pool a new t' pool' = HandsOver apply encode decode bytes (destination_of bytes) at t pool a new t' pool'
+abbrev pub Delivers : {S : Type 0} → Meaning S → Option (List ℕ) → (ℕ → Seat S) → List Event → List (List ℕ) → Answer → (ℕ → Seat S) → List Event → List (List ℕ) → Type 0
+Delivers meaning None at t pool a new t' pool' = Rests at t pool a new t' pool'
+Delivers meaning (Some bytes) at t pool a new t' pool' = HandsOver meaning bytes (destination_of bytes) at t pool a new t' pool'
 
 -- one event: at its node, or with the packet of its number
-abbrev pub Carries : {S : Type 0} → S → (S → Address → List ℕ → S) → (S → List ℕ) → (List ℕ → Option S) → Target → WorldEvent → (ℕ → Seat S) → List Happening → List (List ℕ) → Answer
-    → (ℕ → Seat S) → List Happening → List (List ℕ) → Type 0
-Carries opening apply encode decode (target.Member n) e at t pool a new t' pool' = Acts opening apply encode decode e (at n) t pool a (new n) t' pool' × OthersStand n at new
-Carries opening apply encode decode (target.Packet k) e at t pool a new t' pool' = Delivers apply encode decode (packet_numbered k pool) at t pool a new t' pool'
+abbrev pub Carries : {S : Type 0} → Meaning S → Target → WorldEvent → (ℕ → Seat S) → List Event → List (List ℕ) → Answer
+    → (ℕ → Seat S) → List Event → List (List ℕ) → Type 0
+Carries meaning (target.Member n) e at t pool a new t' pool' = Acts meaning e (at n) t pool a (new n) t' pool' × OthersStand n at new
+Carries meaning (target.Packet k) e at t pool a new t' pool' = Delivers meaning (packet_numbered k pool) at t pool a new t' pool'

@@ -1,10 +1,10 @@
 -- A world as contracts see it: its history and what stands at each node; what one event makes of it, and what events one after another do.
-use Rattle.std.specs.Prelude.{◌≡◌, ℕ, List, [], ◌∷◌, ◌++◌, Option}
+use Rattle.std.specs.Prelude.{◌≡◌, ℕ, List, [], ◌∷◌, ◌++◌}
 use Rattle.std.specs.Ordering.{nat_cmp}
 use Rattle.std.specs.BTreeMap.{is_at}
 use Rattle.std.specs.Map.{lookup}
-use Rattle.address.specs.Ids.{Address}
-use Rattle.trace_props.specs.declared.happening.Happening.{Happening}
+use Rattle.state_transfer.specs.Meanings.{Meaning}
+use Rattle.trace_props.specs.declared.event.Event.{Event}
 use Rattle.trace_props.specs.Places.{IsBeginningOf}
 use Rattle.world_model.specs.declared.WorldEvent.{WorldEvent}
 use Rattle.world_model.specs.declared.Answer.{Answer}
@@ -31,21 +31,21 @@ shown w = record { history = w.history; seats = λ n. seat_at (lookup (is_at (na
 abbrev pub no_world : {S : Type 0} → WorldModel S
 no_world = record { history = no_history; seats = λ n. Vacant }
 
--- the old events, replies, packets and happenings are beginnings of the new ones
+-- the old world events, replies, packets and trace are beginnings of the new ones
 pub record IsLonger (old new : History) : Type 0 where
   pub events : IsBeginningOf old.events new.events
   pub replies : IsBeginningOf old.replies new.replies
   pub pool : IsBeginningOf old.pool new.pool
   pub trace : IsBeginningOf old.trace new.trace
 
-module _ {S : Type 0} (opening : S) (apply : S → Address → List ℕ → S) (encode : S → List ℕ) (decode : List ℕ → Option S) where
+module _ {S : Type 0} (meaning : Meaning S) where
   -- WORLD STEP: one event makes one world of another. Its answer, what it puts out and what happens join the history, behind all that was there
   pub record WorldStep (old : WorldModel S) (e : WorldEvent) (new : WorldModel S) : Type 0 where
     pub answer : Answer
     pub packets : List (List ℕ)
-    pub stretch : List Happening
+    pub stretch : List Event
     pub goes_on : new.history ≡ after old.history e answer packets stretch
-    pub does : Carries opening apply encode decode (target_of e) e old.seats old.history.trace old.history.pool answer new.seats new.history.trace new.history.pool
+    pub does : Carries meaning (target_of e) e old.seats old.history.trace old.history.pool answer new.seats new.history.trace new.history.pool
 
   -- one world comes from another by a world step for each of these events, in order
   pub data Runs (from : WorldModel S) : List WorldEvent → WorldModel S → Type 0 where

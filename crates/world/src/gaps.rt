@@ -109,8 +109,8 @@ fn lacks_memory(answer: Answer) -> bool
 impl<R: Receiver> World<R> {
     /// Carries out one event; an error where the step is not begun, and where memory is refused to the member in it, which has then crashed.
     fn play(&mut self, event: &WorldEvent) -> Result<(), AllocError>
-        ensures ok { OnOk result (Plays R.opening_state R.apply R.encode R.decode (shown self.old) event.now (shown self.new)) }
-        ensures err { OnErr result (Fails R.opening_state R.apply R.encode R.decode (shown self.old) event.now (shown self.new)) }
+        ensures ok { OnOk result (Plays R.meaning (shown self.old) event.now (shown self.new)) }
+        ensures err { OnErr result (Fails R.meaning (shown self.old) event.now (shown self.new)) }
     {
         let answer = self.step(event)?;
         if lacks_memory(answer) {
@@ -122,8 +122,8 @@ impl<R: Receiver> World<R> {
 
     /// Delivers every packet past so many that was put out by now.
     fn deliver_past(&mut self, past: u64) -> Result<(), AllocError>
-        ensures ok { OnOk result (DeliversPast R.opening_state R.apply R.encode R.decode past (shown self.old) (shown self.new)) }
-        ensures err { OnErr result (BreaksPast R.opening_state R.apply R.encode R.decode past (shown self.old) (shown self.new)) }
+        ensures ok { OnOk result (DeliversPast R.meaning past (shown self.old) (shown self.new)) }
+        ensures err { OnErr result (BreaksPast R.meaning past (shown self.old) (shown self.new)) }
     {
         let last = self.pool.count();
         let mut number = past;
@@ -136,8 +136,8 @@ impl<R: Receiver> World<R> {
 
     /// Delivers the packet of a number, if there is one.
     fn hand(&mut self, number: Option<u64>) -> Result<(), AllocError>
-        ensures ok { OnOk result (Hands R.opening_state R.apply R.encode R.decode number (shown self.old) (shown self.new)) }
-        ensures err { OnErr result (IsSomeAnd number (λ k. Fails R.opening_state R.apply R.encode R.decode (shown self.old) (Deliver k) (shown self.new))) }
+        ensures ok { OnOk result (Hands R.meaning number (shown self.old) (shown self.new)) }
+        ensures err { OnErr result (IsSomeAnd number (λ k. Fails R.meaning (shown self.old) (Deliver k) (shown self.new))) }
     {
         match number {
             None => Ok(()),
@@ -147,8 +147,8 @@ impl<R: Receiver> World<R> {
 
     /// Plays the steps of a catch-up.
     fn bring_level(&mut self, pair: &Pair) -> Result<(), AllocError>
-        ensures ok { OnOk result (CatchesUp R.opening_state R.apply R.encode R.decode pair.now (shown self.old) (shown self.new)) }
-        ensures err { OnErr result (Stops R.opening_state R.apply R.encode R.decode pair.now (shown self.old) (shown self.new)) }
+        ensures ok { OnOk result (CatchesUp R.meaning pair.now (shown self.old) (shown self.new)) }
+        ensures err { OnErr result (Stops R.meaning pair.now (shown self.old) (shown self.new)) }
     {
         let known = self.pool.count();
         self.play(&WorldEvent::Tick(pair.view.creator().node()))?;
@@ -172,16 +172,16 @@ impl<R: Receiver> World<R> {
         ensures answer { IfOk result (λ b. b ≡ is_some (pair_at (shown self.old).seats node)) }
         ensures nothing { result ≡ Ok false → shown self.new ≡ shown self.old }
         // Else these steps are played, and the member was told in the view what its coordinator was;
-        ensures plays { OnOk result (ForSome (pair_at (shown self.old).seats node) (λ pair. CatchesUp R.opening_state R.apply R.encode R.decode pair (shown self.old) (shown self.new))) }
+        ensures plays { OnOk result (ForSome (pair_at (shown self.old).seats node) (λ pair. CatchesUp R.meaning pair (shown self.old) (shown self.new))) }
         ensures level { OnOk result (ForSome (pair_at (shown self.old).seats node) (λ pair. IsLevel pair self.new.history.trace)) }
         // or a beginning of them, and then one of the two has crashed for want of memory, or a step was not begun and both run.
-        ensures stops { OnErr result (IsSomeAnd (pair_at (shown self.old).seats node) (λ pair. Stops R.opening_state R.apply R.encode R.decode pair (shown self.old) (shown self.new))) }
+        ensures stops { OnErr result (IsSomeAnd (pair_at (shown self.old).seats node) (λ pair. Stops R.meaning pair (shown self.old) (shown self.new))) }
         ensures ends { OnErr result (IsSomeAnd (pair_at (shown self.old).seats node) (λ pair. EndsSo pair (shown self.new))) }
         // What was there is the beginning of what is there, and all rules hold, as after `run`.
         ensures longer { IsLonger self.old.history self.new.history }
         ensures faithful { IsFaithful self.new.history }
         ensures ordered { EachPlace IsWellOrdered self.new.history.trace }
-        ensures synchronous { IsVirtuallySynchronous R.opening_state R.apply R.decode self.new.history.trace }
+        ensures synchronous { IsVirtuallySynchronous R.meaning self.new.history.trace }
     {
         let Some(pair) = pair_at(&self.seats, node) else {
             self.kept();

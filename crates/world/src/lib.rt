@@ -12,7 +12,6 @@ ghost use Rattle.world_model.specs.Histories.{target_of, running};
 ghost use Rattle.world.specs.Worlds.{shown, no_world, IsLonger, WorldStep, Runs};
 ghost use Rattle.world_model.specs.Packets.{packet_numbered};
 ghost use Rattle.world_model.specs.Faithful.{IsFaithful};
-ghost use Rattle.world.specs.declared.TheConstants.{STEP_PLACES};
 ghost use Rattle.world.specs.Seats.{seat_at, seats_in};
 ghost use Rattle.world.specs.Turns.{ActsAt, KeepsSeat, CarriesOut, Carries, Hears, Delivers, SameSeats};
 
@@ -23,15 +22,13 @@ mod seat;
 use crate::pool::Pool;
 use crate::seat::Seat;
 use address::{Address, Node};
+use limits::STEP_EVENTS;
 use state_transfer::Receiver;
 use std::alloc::{AllocError, Global};
 use std::collections::BTreeMap;
 use std::marker::Model;
 use trace_props::{Bytes, Trace};
 use world_model::{Answer, Refusal, Reply, Target, WorldEvent};
-
-/// How many places of the trace are reserved before each step: as many as a step of a member may need.
-pub const STEP_PLACES: usize = member::HAPPENINGS;
 
 /// A world of members, one at a node at a time, each with its receiver (docs/GUARANTEES.md, "The world"). Contracts see its history and
 /// what stands at each node: nothing yet, one that has ended, or the member that runs.
@@ -53,10 +50,10 @@ impl<R: Receiver> Model for World<R> {
     // What stands at its nodes, as data, which `shown` shows by node.
     ghost Value = { WorldValue R };
 
-    ghost view = { λ w. record { history = record { events = w.events.items; replies = w.replies.items; pool = w.pool; trace = w.trace.happenings }; table = w.seats.entries } };
+    ghost view = { λ w. record { history = record { events = w.events.items; replies = w.replies.items; pool = w.pool; trace = w.trace.events }; table = w.seats.entries } };
 
     // It came from nothing by world steps. All that is kept follows from that alone (proofs/Keeping.antt).
-    ghost invariant = { λ w. IsReached R.opening_state R.apply R.encode R.decode (shown (record { history = record { events = w.events.items; replies = w.replies.items; pool = w.pool; trace = w.trace.happenings }; table = w.seats.entries })) };
+    ghost invariant = { λ w. IsReached R.meaning (shown (record { history = record { events = w.events.items; replies = w.replies.items; pool = w.pool; trace = w.trace.events }; table = w.seats.entries })) };
 }
 
 /// Makes room for what runs at a node, where there is none yet.
@@ -80,8 +77,8 @@ fn act_at<R: Receiver>(
     node: Node,
     event: &WorldEvent,
 ) -> Answer
-    requires room { STEP_PLACES ≤ trace.old.room }
-    ensures acts { ActsAt R.opening_state R.apply R.encode R.decode event.now (get nat_cmp seats.old node) trace.old.happenings pool.old result (get nat_cmp seats.new node) trace.new.happenings pool.new }
+    requires room { STEP_EVENTS ≤ trace.old.room }
+    ensures acts { ActsAt R.meaning event.now (get nat_cmp seats.old node) trace.old.events pool.old result (get nat_cmp seats.new node) trace.new.events pool.new }
     ensures others { (m : ℕ) → nat_eq node m ≡ false → get nat_cmp seats.new m ≡ get nat_cmp seats.old m }
 {
     match seats.get_mut(&node) {
@@ -99,11 +96,11 @@ fn carry_out<R: Receiver>(
     node: Node,
     event: &WorldEvent,
 ) -> Result<Answer, AllocError>
-    requires room { STEP_PLACES ≤ trace.old.room }
-    ensures ok { IfOk result (λ a. CarriesOut R.opening_state R.apply R.encode R.decode event.now (get nat_cmp seats.old node) trace.old.happenings pool.old a (get nat_cmp seats.new node) trace.new.happenings pool.new) }
+    requires room { STEP_EVENTS ≤ trace.old.room }
+    ensures ok { IfOk result (λ a. CarriesOut R.meaning event.now (get nat_cmp seats.old node) trace.old.events pool.old a (get nat_cmp seats.new node) trace.new.events pool.new) }
     ensures others { (m : ℕ) → nat_eq node m ≡ false → get nat_cmp seats.new m ≡ get nat_cmp seats.old m }
     ensures err { OnErr result (get nat_cmp seats.new node ≡ get nat_cmp seats.old node) }
-    ensures err_trace { OnErr result (trace.new.happenings ≡ trace.old.happenings) }
+    ensures err_trace { OnErr result (trace.new.events ≡ trace.old.events) }
     ensures err_pool { OnErr result (pool.new ≡ pool.old) }
 {
     if event.is_start() {
@@ -122,8 +119,8 @@ fn hear_at<R: Receiver>(
     node: Node,
     number: u64,
 ) -> Answer
-    requires room { STEP_PLACES ≤ trace.old.room }
-    ensures hears { (bytes : List ℕ) → packet_numbered number pool.old ≡ Some bytes → Hears R.apply R.encode R.decode bytes (seat_at (get nat_cmp seats.old node)) trace.old.happenings pool.old result (seat_at (get nat_cmp seats.new node)) trace.new.happenings pool.new }
+    requires room { STEP_EVENTS ≤ trace.old.room }
+    ensures hears { (bytes : List ℕ) → packet_numbered number pool.old ≡ Some bytes → Hears R.meaning bytes (seat_at (get nat_cmp seats.old node)) trace.old.events pool.old result (seat_at (get nat_cmp seats.new node)) trace.new.events pool.new }
     ensures others { (m : ℕ) → nat_eq node m ≡ false → get nat_cmp seats.new m ≡ get nat_cmp seats.old m }
 {
     match seats.get_mut(&node) {
@@ -139,8 +136,8 @@ fn deliver<R: Receiver>(
     pool: &mut Pool,
     number: u64,
 ) -> Answer
-    requires room { STEP_PLACES ≤ trace.old.room }
-    ensures { Delivers R.apply R.encode R.decode (packet_numbered number pool.old) (seats_in (get nat_cmp seats.old)) trace.old.happenings pool.old result (seats_in (get nat_cmp seats.new)) trace.new.happenings pool.new }
+    requires room { STEP_EVENTS ≤ trace.old.room }
+    ensures { Delivers R.meaning (packet_numbered number pool.old) (seats_in (get nat_cmp seats.old)) trace.old.events pool.old result (seats_in (get nat_cmp seats.new)) trace.new.events pool.new }
 {
     match pool.destination(number) {
         Some(destination) => hear_at(seats, trace, pool, destination.node(), number),
@@ -156,10 +153,10 @@ fn carry<R: Receiver>(
     pool: &mut Pool,
     event: &WorldEvent,
 ) -> Result<Answer, AllocError>
-    requires room { STEP_PLACES ≤ trace.old.room }
-    ensures ok { IfOk result (λ a. Carries R.opening_state R.apply R.encode R.decode (target_of event.now) event.now (seats_in (get nat_cmp seats.old)) trace.old.happenings pool.old a (seats_in (get nat_cmp seats.new)) trace.new.happenings pool.new) }
+    requires room { STEP_EVENTS ≤ trace.old.room }
+    ensures ok { IfOk result (λ a. Carries R.meaning (target_of event.now) event.now (seats_in (get nat_cmp seats.old)) trace.old.events pool.old a (seats_in (get nat_cmp seats.new)) trace.new.events pool.new) }
     ensures err { OnErr result (SameSeats (seats_in (get nat_cmp seats.old)) (seats_in (get nat_cmp seats.new))) }
-    ensures err_trace { OnErr result (trace.new.happenings ≡ trace.old.happenings) }
+    ensures err_trace { OnErr result (trace.new.events ≡ trace.old.events) }
     ensures err_pool { OnErr result (pool.new ≡ pool.old) }
 {
     match event.target() {
@@ -174,14 +171,14 @@ fn reserve_step(
     events: &mut Vec<WorldEvent>,
     replies: &mut Vec<Reply>,
 ) -> Result<(), AllocError>
-    ensures room { OnOk result (STEP_PLACES ≤ trace.new.room) }
+    ensures room { OnOk result (STEP_EVENTS ≤ trace.new.room) }
     ensures event { OnOk result (vec_len events.new + 1 ≤ vec_capacity events.new) }
     ensures reply { OnOk result (vec_len replies.new + 1 ≤ vec_capacity replies.new) }
-    ensures trace { trace.new.happenings ≡ trace.old.happenings }
+    ensures trace { trace.new.events ≡ trace.old.events }
     ensures events { events.new.items ≡ events.old.items }
     ensures replies { replies.new.items ≡ replies.old.items }
 {
-    trace.reserve(STEP_PLACES)?;
+    trace.reserve(STEP_EVENTS)?;
     events.reserve(1)?;
     replies.reserve(1)
 }
@@ -203,7 +200,7 @@ impl<R: Receiver> World<R> {
 
     /// Carries out one event: a world step, and its answer. On refusal of the places of a step nothing has changed.
     fn step(&mut self, event: &WorldEvent) -> Result<Answer, AllocError>
-        ensures ok { IfOk result (λ a. (step : WorldStep R.opening_state R.apply R.encode R.decode (shown self.old) event.now (shown self.new)) × (step.answer ≡ a)) }
+        ensures ok { IfOk result (λ a. (step : WorldStep R.meaning (shown self.old) event.now (shown self.new)) × (step.answer ≡ a)) }
         ensures err { OnErr result (shown self.new ≡ shown self.old) }
     {
         let alloc = self.alloc;
@@ -216,7 +213,7 @@ impl<R: Receiver> World<R> {
             &mut self.pool,
             &event,
         )?;
-        let place = self.trace.happenings().len();
+        let place = self.trace.events().len();
         self.replies.push_reserved(Reply { answer, place });
         self.events.push_reserved(event);
         Ok(answer)
@@ -226,7 +223,7 @@ impl<R: Receiver> World<R> {
     fn kept(&self)
         ensures faithful { IsFaithful self.now.history }
         ensures ordered { EachPlace IsWellOrdered self.now.history.trace }
-        ensures synchronous { IsVirtuallySynchronous R.opening_state R.apply R.decode self.now.history.trace }
+        ensures synchronous { IsVirtuallySynchronous R.meaning self.now.history.trace }
     {
         let _ = &self.trace;
     }
@@ -235,14 +232,14 @@ impl<R: Receiver> World<R> {
     /// refused: then the events before it are carried out, and all stands as before that step.
     pub fn run(&mut self, events: &[WorldEvent]) -> Result<(), AllocError>
         // It comes from where it stood by a world step for each event, of all of them or of the first few;
-        ensures all { OnOk result (Runs R.opening_state R.apply R.encode R.decode (shown self.old) events.now (shown self.new)) }
-        ensures some { (k : ℕ) × Runs R.opening_state R.apply R.encode R.decode (shown self.old) (take k events.now) (shown self.new) }
+        ensures all { OnOk result (Runs R.meaning (shown self.old) events.now (shown self.new)) }
+        ensures some { (k : ℕ) × Runs R.meaning (shown self.old) (take k events.now) (shown self.new) }
         // so what was there is the beginning of what is there,
         ensures longer { IsLonger self.old.history self.new.history }
         // each event is answered as the table says, and all rules hold at every place.
         ensures faithful { IsFaithful self.new.history }
         ensures ordered { EachPlace IsWellOrdered self.new.history.trace }
-        ensures synchronous { IsVirtuallySynchronous R.opening_state R.apply R.decode self.new.history.trace }
+        ensures synchronous { IsVirtuallySynchronous R.meaning self.new.history.trace }
     {
         for event in events {
             if let Err(refused) = self.step(event) {
@@ -295,7 +292,7 @@ impl<R: Receiver> World<R> {
 
     /// The receiver of the member that runs at a node, as it was told all that happened to that member; None where none runs there.
     pub fn receiver(&self, node: Node) -> Option<&R>
-        ensures { option_copied result ≡ option_map (λ p. state_of R.opening_state R.apply R.decode p self.now.history.trace) (running node self.now.history.trace) }
+        ensures { option_copied result ≡ option_map (λ p. state_of R.meaning p self.now.history.trace) (running node self.now.history.trace) }
     {
         match self.seats.get(&node)? {
             Seat::Vacant | Seat::Ended(_) => None,
@@ -305,7 +302,7 @@ impl<R: Receiver> World<R> {
 
     /// What happened.
     pub fn trace(&self) -> &Trace
-        ensures { result.now.happenings ≡ self.now.history.trace }
+        ensures { result.now.events ≡ self.now.history.trace }
     {
         &self.trace
     }

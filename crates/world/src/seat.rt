@@ -2,9 +2,9 @@
 
 ghost use Rattle.std.specs.Prelude.{◌≡◌, ◌≤◌, ◌++◌, ◌∷◌, [], ℕ, List, Some, length, IfOk};
 ghost use Rattle.address.specs.Ids.{IsAddress};
-ghost use Rattle.trace_props.specs.declared.happening.Happening.TheVariants.{Crashed};
+ghost use Rattle.trace_props.specs.declared.event.Event.TheVariants.{Crashed};
 ghost use Rattle.trace_props.specs.Recorded.{IsRecordable};
-ghost use Rattle.world.specs.declared.TheConstants.{STEP_PLACES};
+ghost use Rattle.limits.specs.declared.TheConstants.{STEP_EVENTS};
 ghost use Rattle.member.specs.Handling.{Handled};
 ghost use Rattle.member.specs.declared.input.Input.{Input};
 ghost use Rattle.member.specs.Members.{MemberModel, leaves};
@@ -23,7 +23,7 @@ use output::Output;
 use packet_values::GroupName;
 use state_transfer::Receiver;
 use std::alloc::Global;
-use trace_props::{Happening, Trace};
+use trace_props::{Event, Trace};
 use world_model::{Answer, Refusal, WorldEvent};
 
 /// What runs at a node.
@@ -52,29 +52,29 @@ fn refused(error: Error) -> Answer
 }
 
 /// What an event is answered by which this happened: a message that was sent comes first, and has its number.
-fn answered(happenings: &[Happening]) -> Answer
-    ensures { result ≡ answer_to happenings.now }
+fn answered(events: &[Event]) -> Answer
+    ensures { result ≡ answer_to events.now }
 {
-    match happenings.first() {
-        Some(Happening::Sent(sending)) => Answer::Sent(sending.message.number),
+    match events.first() {
+        Some(Event::Sent(sending)) => Answer::Sent(sending.message.number),
         _ => Answer::Done,
     }
 }
 
 /// Adds to a trace what happened in a step.
-fn record_all(trace: &mut Trace, happenings: Vec<Happening>)
-    requires short { IsRecordable happenings.items }
-    requires room { length happenings.items ≤ trace.old.room }
-    ensures { trace.new.happenings ≡ trace.old.happenings ++ happenings.items }
+fn record_all(trace: &mut Trace, events: Vec<Event>)
+    requires short { IsRecordable events.items }
+    requires room { length events.items ≤ trace.old.room }
+    ensures { trace.new.events ≡ trace.old.events ++ events.items }
 {
-    for happening in happenings {
-        trace.record(happening);
+    for event in events {
+        trace.record(event);
     }
 }
 
 /// Hands an input to a member.
 fn handled<R: Receiver>(member: &mut Member<R>, input: &Input<'_>) -> Result<Output, Error>
-    ensures { Handled R.apply R.encode R.decode member.old input.now result member.new }
+    ensures { Handled R.meaning member.old input.now result member.new }
 {
     // Taken apart and put together again: an enum that lends bytes is not passed on whole.
     match input {
@@ -108,10 +108,10 @@ fn lose<R: Receiver>(seat: &mut Seat<R>, trace: &mut Trace, address: Address) ->
     requires room { 1 ≤ trace.old.room }
     ensures answer { result ≡ Refused Memory }
     ensures seat { seat.new ≡ Ended address }
-    ensures trace { trace.new.happenings ≡ trace.old.happenings ++ Crashed address ∷ [] }
+    ensures trace { trace.new.events ≡ trace.old.events ++ Crashed address ∷ [] }
 {
     end(seat, address);
-    trace.record(Happening::Crashed(address));
+    trace.record(Event::Crashed(address));
     Answer::Refused(Refusal::Memory)
 }
 
@@ -125,22 +125,17 @@ fn settle<R: Receiver>(
     leaving: bool,
     called: Result<Output, Error>,
 ) -> Answer
-    requires room { STEP_PLACES ≤ trace.old.room }
+    requires room { STEP_EVENTS ≤ trace.old.room }
     requires fits { IfOk called Fits }
-    ensures { (input : Input) (left : MemberModel R) → leaves input ≡ leaving → seat.old ≡ Running left → Gives address input called left trace.old.happenings pool.old result seat.new trace.new.happenings pool.new }
+    ensures { (input : Input) (left : MemberModel R) → leaves input ≡ leaving → seat.old ≡ Running left → Gives address input called left trace.old.events pool.old result seat.new trace.new.events pool.new }
 {
     match called {
-        Ok(
-            Output {
-                packets,
-                happenings,
-            },
-        ) => {
+        Ok(Output { packets, events }) => {
             if pool.put_all(packets).is_err() {
                 return lose(seat, trace, address);
             }
-            let answer = answered(&happenings);
-            record_all(trace, happenings);
+            let answer = answered(&events);
+            record_all(trace, events);
             if leaving {
                 end(seat, address);
             }
@@ -164,8 +159,8 @@ fn hand<R: Receiver>(
     pool: &mut Pool,
     input: &Input<'_>,
 ) -> Answer
-    requires room { STEP_PLACES ≤ trace.old.room }
-    ensures { Hands R.apply R.encode R.decode input.now seat.old trace.old.happenings pool.old result seat.new trace.new.happenings pool.new }
+    requires room { STEP_EVENTS ≤ trace.old.room }
+    ensures { Hands R.meaning input.now seat.old trace.old.events pool.old result seat.new trace.new.events pool.new }
 {
     match seat {
         Seat::Vacant => Answer::Refused(Refusal::NotConnected),
@@ -182,7 +177,7 @@ fn hand<R: Receiver>(
 /// memory is refused: then the member has started and crashed.
 fn start<R: Receiver>(alloc: Global, seat: &mut Seat<R>, trace: &mut Trace, node: Node) -> Answer
     requires room { 2 ≤ trace.old.room }
-    ensures { StartGives R.opening_state node seat.old trace.old.happenings result seat.new trace.new.happenings }
+    ensures { StartGives R.meaning node seat.old trace.old.events result seat.new trace.new.events }
 {
     let next = match seat {
         Seat::Running(_) => return Answer::Refused(Refusal::AlreadyConnected),
@@ -204,9 +199,9 @@ fn started<R: Receiver>(
     address: Address,
 ) -> Answer
     requires room { 2 ≤ trace.old.room }
-    ensures { Begins R.opening_state address trace.old.happenings result seat.new trace.new.happenings }
+    ensures { Begins R.meaning address trace.old.events result seat.new trace.new.events }
 {
-    trace.record(Happening::Started(address));
+    trace.record(Event::Started(address));
     match R::opening(alloc) {
         Ok(receiver) => {
             let group = GroupName::new(b"world").unwrap();
@@ -220,7 +215,7 @@ fn started<R: Receiver>(
 /// The member of the node crashes: refused with 1 and 6.
 fn crash<R: Receiver>(seat: &mut Seat<R>, trace: &mut Trace) -> Answer
     requires room { 1 ≤ trace.old.room }
-    ensures { CrashGives seat.old trace.old.happenings result seat.new trace.new.happenings }
+    ensures { CrashGives seat.old trace.old.events result seat.new trace.new.events }
 {
     match seat {
         Seat::Vacant => Answer::Refused(Refusal::NotConnected),
@@ -228,7 +223,7 @@ fn crash<R: Receiver>(seat: &mut Seat<R>, trace: &mut Trace) -> Answer
         Seat::Running(member) => {
             let address = member.address();
             end(seat, address);
-            trace.record(Happening::Crashed(address));
+            trace.record(Event::Crashed(address));
             Answer::Done
         }
     }
@@ -242,8 +237,8 @@ pub fn hear<R: Receiver>(
     pool: &mut Pool,
     number: u64,
 ) -> Answer
-    requires room { STEP_PLACES ≤ trace.old.room }
-    ensures { (bytes : List ℕ) → packet_numbered number pool.old ≡ Some bytes → Hears R.apply R.encode R.decode bytes seat.old trace.old.happenings pool.old result seat.new trace.new.happenings pool.new }
+    requires room { STEP_EVENTS ≤ trace.old.room }
+    ensures { (bytes : List ℕ) → packet_numbered number pool.old ≡ Some bytes → Hears R.meaning bytes seat.old trace.old.events pool.old result seat.new trace.new.events pool.new }
 {
     match seat {
         Seat::Vacant | Seat::Ended(_) => Answer::Done,
@@ -266,8 +261,8 @@ pub fn act<R: Receiver>(
     pool: &mut Pool,
     event: &WorldEvent,
 ) -> Answer
-    requires room { STEP_PLACES ≤ trace.old.room }
-    ensures { Acts R.opening_state R.apply R.encode R.decode event.now seat.old trace.old.happenings pool.old result seat.new trace.new.happenings pool.new }
+    requires room { STEP_EVENTS ≤ trace.old.room }
+    ensures { Acts R.meaning event.now seat.old trace.old.events pool.old result seat.new trace.new.events pool.new }
 {
     match event {
         WorldEvent::Start(node) => start(alloc, seat, trace, *node),

@@ -3,8 +3,8 @@ use Rattle.std.specs.Prelude.{ℕ, Bool, true, false, ◌&&◌, ◌∷◌, [], �
 use Rattle.std.specs.Option.{option_and_then}
 use Rattle.std.specs.List.{zip}
 use Rattle.address.specs.Ids.{Address}
-use Rattle.trace_props.specs.declared.happening.Happening.{Happening}
-use Rattle.trace_props.specs.declared.happening.Happening.TheVariants.{Started, Sent, Delivered, Blocked, Installed, Left, Crashed}
+use Rattle.trace_props.specs.declared.event.Event.{Event}
+use Rattle.trace_props.specs.declared.event.Event.TheVariants.{Started, Sent, Delivered, Blocked, Installed, Left, Crashed}
 use Rattle.trace_props.specs.Observed.{has_ended}
 use Rattle.world_model.specs.declared.WorldEvent.{WorldEvent}
 use Rattle.world_model.specs.declared.WorldEvent.TheVariants.{Start, Create, Join, Send, Deliver, Tick, Suspect, MergeHint, Leave, Crash}
@@ -20,7 +20,7 @@ pub record History : Type 0 where
   pub events : List WorldEvent
   pub replies : List Reply
   pub pool : List (List ℕ)
-  pub trace : List Happening
+  pub trace : List Event
 
 -- whom an event concerns
 abbrev pub target_of : WorldEvent → Target
@@ -61,7 +61,7 @@ starts (MergeHint n q) = false
 starts (Leave n) = false
 starts (Crash n) = false
 
-abbrev pub last_after : ℕ → Option Address → Happening → Option Address
+abbrev pub last_after : ℕ → Option Address → Event → Option Address
 last_after n last (Started p) = if nat_eq p.node n then Some p else last
 last_after n last (Sent s) = last
 last_after n last (Delivered d) = last
@@ -71,11 +71,11 @@ last_after n last (Left p) = last
 last_after n last (Crashed p) = last
 
 -- a node's last member: the last that started there
-abbrev pub last_of : ℕ → List Happening → Option Address
+abbrev pub last_of : ℕ → List Event → Option Address
 last_of n t = fold (last_after n) None t
 
 -- a node's running member: its last, unless that one has ended
-abbrev pub running : ℕ → List Happening → Option Address
+abbrev pub running : ℕ → List Event → Option Address
 running n t = option_and_then (λ p. if has_ended p t then None else Some p) (last_of n t)
 
 abbrev pub is_done : Answer → Bool
@@ -104,7 +104,7 @@ abbrev pub is_connected : ℕ → History → Bool
 is_connected n h = fold (connected_after n) false (zip h.events h.replies)
 
 -- the history after one more event, its answer, the packets that its step put out, and what happened in it
-abbrev pub after : History → WorldEvent → Answer → List (List ℕ) → List Happening → History
+abbrev pub after : History → WorldEvent → Answer → List (List ℕ) → List Event → History
 after h event a packets stretch = record {
   events = h.events ++ event ∷ [];
   replies = h.replies ++ record { answer = a; place = length (h.trace ++ stretch) } ∷ [];

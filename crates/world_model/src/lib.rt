@@ -9,12 +9,6 @@ use address::{Address, Node};
 use std::alloc::{AllocError, Global};
 use trace_props::Bytes;
 
-/// The most own messages that a member may have sent and not been told yet.
-pub const OUTSTANDING: usize = 8;
-
-/// The most messages of a view past the known stable one.
-pub const REACH: usize = 32;
-
 /// What a world is told to do (docs/GUARANTEES.md, "Faithful").
 #[derive(Debug, Drop)]
 pub enum WorldEvent {
@@ -112,9 +106,9 @@ pub enum Refusal {
     NotConnected,
     /// 2: the member is blocked until its next view.
     Blocked,
-    /// 3: eight own messages are not delivered yet.
+    /// 3: `OUTSTANDING` own messages are not delivered yet.
     Busy,
-    /// 4: the payload has more than 512 bytes.
+    /// 4: the payload has more than `PAYLOAD` bytes.
     TooLong,
     /// 5: the member is connected, or runs, already.
     AlreadyConnected,
@@ -155,7 +149,7 @@ pub enum Answer {
     Refused(Refusal),
 }
 
-/// The answer to an event, and its place: how many happenings stand in the trace after it.
+/// The answer to a world event, and its place: how many events stand in the trace after it.
 #[derive(Clone, Copy, Debug, PartialEq, Eq)]
 pub struct Reply {
     pub answer: Answer,

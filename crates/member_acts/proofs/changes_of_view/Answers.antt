@@ -2,22 +2,22 @@ use Rattle.member_acts.proofs.Acting.{promises-acted, begins-acted, proposes-act
 use Rattle.member_acts.proofs.changes_of_view.Goals as goal
 
 pub returns-clause-promises : goal.returns-clause-promises
-returns-clause-promises g c = promises-acted _ _ _
+returns-clause-promises g c = promises-acted g.R.Receiver.meaning
 
 pub returns-clause-begins : goal.returns-clause-begins
-returns-clause-begins g c = begins-acted _ _ _
+returns-clause-begins g c = begins-acted g.R.Receiver.meaning
 
 pub returns-clause-proposes : goal.returns-clause-proposes
-returns-clause-proposes g c = proposes-acted _ _ _
+returns-clause-proposes g c = proposes-acted g.R.Receiver.meaning
 
 pub returns-clause-due : goal.returns-clause-due
-returns-clause-due g c = due-acted _ _ _
+returns-clause-due g c = due-acted g.R.Receiver.meaning
 
 pub returns-clause-records : goal.returns-clause-records
-returns-clause-records g c = records-acted _ _ _
+returns-clause-records g c = records-acted g.R.Receiver.meaning
 
 pub returns-clause-finishes : goal.returns-clause-finishes
-returns-clause-finishes g c = finishes-acted _ _ _
+returns-clause-finishes g c = finishes-acted g.R.Receiver.meaning
 
 pub returns-clause-enters : goal.returns-clause-enters
-returns-clause-enters g c = enters-acted _ _ _
+returns-clause-enters g c = enters-acted g.R.Receiver.meaning

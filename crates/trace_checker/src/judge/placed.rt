@@ -6,7 +6,7 @@ ghost use Rattle.trace_checker.specs.Judged.{runs, stands};
 
 use crate::known::{Past, Standing, member};
 use address::ViewId;
-use trace_props::Happening;
+use trace_props::Event;
 
 fn does_run(standing: Standing) -> bool
     ensures { result ≡ runs standing }
@@ -23,20 +23,20 @@ fn is_in(current: Option<ViewId>, view: ViewId) -> bool
     }
 }
 
-/// Whether a happening is well placed after the past.
-pub fn may_stand(past: &Past, happening: &Happening) -> bool
-    ensures { result ≡ stands (standing_of (member_of happening.now) past.now) happening.now }
+/// Whether an event is well placed after the past.
+pub fn may_stand(past: &Past, event: &Event) -> bool
+    ensures { result ≡ stands (standing_of (member_of event.now) past.now) event.now }
 {
-    let standing = past.standing(member(happening));
-    match happening {
-        Happening::Started(_) => !standing.started,
-        Happening::Sent(sending) => does_run(standing)
+    let standing = past.standing(member(event));
+    match event {
+        Event::Started(_) => !standing.started,
+        Event::Sent(sending) => does_run(standing)
             && is_in(standing.view, sending.view)
             && !standing.blocked,
-        Happening::Delivered(delivery) => does_run(standing) && is_in(standing.view, delivery.view),
-        Happening::Blocked(_) => does_run(standing) && standing.view.is_some() && !standing.blocked,
-        Happening::Installed(_) => does_run(standing),
-        Happening::Left(_) => does_run(standing),
-        Happening::Crashed(_) => does_run(standing),
+        Event::Delivered(delivery) => does_run(standing) && is_in(standing.view, delivery.view),
+        Event::Blocked(_) => does_run(standing) && standing.view.is_some() && !standing.blocked,
+        Event::Installed(_) => does_run(standing),
+        Event::Left(_) => does_run(standing),
+        Event::Crashed(_) => does_run(standing),
     }
 }

@@ -1,7 +1,7 @@
 ghost use Rattle.std.specs.Prelude.{◌≡◌, drop, length};
 ghost use Rattle.std.specs.Bool.{Decides};
 ghost use Rattle.std.specs.Option.{option_copied};
-ghost use Rattle.trace_props.specs.declared.happening.Happening.TheVariants.{Installed};
+ghost use Rattle.trace_props.specs.declared.event.Event.TheVariants.{Installed};
 ghost use Rattle.trace_props.specs.Observed.{sent_in};
 ghost use Rattle.trace_props.specs.Agreeing.{MayHandBack};
 ghost use Rattle.trace_checker.specs.Judged.{are_equal};

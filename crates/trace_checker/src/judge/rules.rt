@@ -12,96 +12,96 @@ use super::placed::may_stand;
 use super::rest::may_hand_back;
 use super::views::may_rise;
 use crate::known::{Past, delivery_in, install_in, sending_in};
-use trace_props::{Happening, Rule};
+use trace_props::{Event, Rule};
 
-fn keeps_placed(past: &Past, happening: &Happening) -> bool
-    ensures { Decides result (MayStand past.now happening.now) }
+fn keeps_placed(past: &Past, event: &Event) -> bool
+    ensures { Decides result (MayStand past.now event.now) }
 {
-    may_stand(past, happening)
+    may_stand(past, event)
 }
 
-fn keeps_views(past: &Past, happening: &Happening) -> bool
-    ensures { Decides result (MayRise past.now happening.now) }
+fn keeps_views(past: &Past, event: &Event) -> bool
+    ensures { Decides result (MayRise past.now event.now) }
 {
-    match install_in(happening) {
+    match install_in(event) {
         None => true,
         Some(install) => may_rise(past, install),
     }
 }
 
-fn keeps_messages(past: &Past, happening: &Happening) -> bool
-    ensures { Decides result (MayCarry past.now happening.now) }
+fn keeps_messages(past: &Past, event: &Event) -> bool
+    ensures { Decides result (MayCarry past.now event.now) }
 {
-    match sending_in(happening) {
+    match sending_in(event) {
         Some(sending) => may_send(past, sending),
-        None => match delivery_in(happening) {
+        None => match delivery_in(event) {
             None => true,
             Some(delivery) => may_tell(past, delivery),
         },
     }
 }
 
-fn keeps_order(past: &Past, happening: &Happening) -> bool
-    ensures { Decides result (MayOrder past.now happening.now) }
+fn keeps_order(past: &Past, event: &Event) -> bool
+    ensures { Decides result (MayOrder past.now event.now) }
 {
-    match delivery_in(happening) {
+    match delivery_in(event) {
         None => true,
         Some(delivery) => may_order(past, delivery),
     }
 }
 
-fn keeps_next(past: &Past, happening: &Happening) -> bool
-    ensures { Decides result (MayMeet past.now happening.now) }
+fn keeps_next(past: &Past, event: &Event) -> bool
+    ensures { Decides result (MayMeet past.now event.now) }
 {
-    match install_in(happening) {
+    match install_in(event) {
         None => true,
         Some(install) => may_meet(past, install),
     }
 }
 
-fn keeps_together(past: &Past, happening: &Happening) -> bool
-    ensures { Decides result (MayKnow past.now happening.now) }
+fn keeps_together(past: &Past, event: &Event) -> bool
+    ensures { Decides result (MayKnow past.now event.now) }
 {
-    match install_in(happening) {
+    match install_in(event) {
         None => true,
         Some(install) => may_know(past, install),
     }
 }
 
-fn keeps_handed_back(past: &Past, happening: &Happening) -> bool
-    ensures { Decides result (MayHandBack past.now happening.now) }
+fn keeps_handed_back(past: &Past, event: &Event) -> bool
+    ensures { Decides result (MayHandBack past.now event.now) }
 {
-    match install_in(happening) {
+    match install_in(event) {
         None => true,
         Some(install) => may_hand_back(past, install),
     }
 }
 
-/// The first rule, but for the one on states, that the happening breaks after the past.
-pub fn broken_rule(past: &Past, happening: &Happening) -> Option<Rule>
+/// The first rule, but for the one on states, that the event breaks after the past.
+pub fn broken_rule(past: &Past, event: &Event) -> Option<Rule>
     ensures { MatchOption result
-        (MayEach (rules_before StateOfEntry) past.now happening.now)
-        (λ rule. MayEach (rules_before rule) past.now happening.now × (May rule past.now happening.now → ⊥)) }
+        (MayEach (rules_before StateOfEntry) past.now event.now)
+        (λ rule. MayEach (rules_before rule) past.now event.now × (May rule past.now event.now → ⊥)) }
 {
-    if !keeps_placed(past, happening) {
+    if !keeps_placed(past, event) {
         return Some(Rule::WellPlaced);
     }
-    if !keeps_views(past, happening) {
+    if !keeps_views(past, event) {
         return Some(Rule::RisingViews);
     }
-    if !keeps_messages(past, happening) {
+    if !keeps_messages(past, event) {
         return Some(Rule::SoundMessages);
     }
-    if !keeps_order(past, happening) {
+    if !keeps_order(past, event) {
         return Some(Rule::OneOrder);
     }
-    if !keeps_next(past, happening) {
+    if !keeps_next(past, event) {
         return Some(Rule::SameNext);
     }
-    if !keeps_together(past, happening) {
+    if !keeps_together(past, event) {
         return Some(Rule::Together);
     }
-    if !keeps_handed_back(past, happening) {
+    if !keeps_handed_back(past, event) {
         return Some(Rule::HandedBack);
     }
     None

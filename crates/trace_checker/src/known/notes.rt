@@ -4,7 +4,7 @@ ghost use Rattle.std.specs.Ordering.{is_eq};
 ghost use Rattle.std.specs.Option.{option_copied};
 ghost use Rattle.trace_props.specs.Observed.{install_of};
 ghost use Rattle.address.specs.Ids.{view_id_cmp};
-ghost use Rattle.trace_props.specs.declared.happening.Happening.{Happening};
+ghost use Rattle.trace_props.specs.declared.event.Event.{Event};
 ghost use Rattle.trace_checker.specs.declared.known.seat.Pair.{Pair};
 ghost use Rattle.trace_props.specs.Following.{MayCarry};
 ghost use Rattle.trace_checker.specs.Known.{sending_of, delivery_of, seat_cmp, pair_cmp, way_cmp, same_pair, KnowsSent, KnowsTold, KnowsLast, KnowsEntries, KnowsFirsts, KnowsWays};
@@ -14,50 +14,50 @@ use super::seat::{Pair, Seat, Way};
 use address::ViewId;
 use std::alloc::{AllocError, Global};
 use std::collections::BTreeMap;
-use trace_props::{Delivery, Happening, Install, Message, Numbered, Sending};
+use trace_props::{Delivery, Event, Install, Message, Numbered, Sending};
 
-/// The message that a happening sends.
-pub fn sending_in<'a>(happening: &'a Happening) -> Option<&'a Sending>
-    ensures { option_copied result ≡ sending_of happening.now }
+/// The message that an event sends.
+pub fn sending_in<'a>(event: &'a Event) -> Option<&'a Sending>
+    ensures { option_copied result ≡ sending_of event.now }
 {
-    match happening {
-        Happening::Started(_) => None,
-        Happening::Sent(sending) => Some(sending),
-        Happening::Delivered(_) => None,
-        Happening::Blocked(_) => None,
-        Happening::Installed(_) => None,
-        Happening::Left(_) => None,
-        Happening::Crashed(_) => None,
+    match event {
+        Event::Started(_) => None,
+        Event::Sent(sending) => Some(sending),
+        Event::Delivered(_) => None,
+        Event::Blocked(_) => None,
+        Event::Installed(_) => None,
+        Event::Left(_) => None,
+        Event::Crashed(_) => None,
     }
 }
 
-/// The message that a happening tells.
-pub fn delivery_in<'a>(happening: &'a Happening) -> Option<&'a Delivery>
-    ensures { option_copied result ≡ delivery_of happening.now }
+/// The message that an event tells.
+pub fn delivery_in<'a>(event: &'a Event) -> Option<&'a Delivery>
+    ensures { option_copied result ≡ delivery_of event.now }
 {
-    match happening {
-        Happening::Started(_) => None,
-        Happening::Sent(_) => None,
-        Happening::Delivered(delivery) => Some(delivery),
-        Happening::Blocked(_) => None,
-        Happening::Installed(_) => None,
-        Happening::Left(_) => None,
-        Happening::Crashed(_) => None,
+    match event {
+        Event::Started(_) => None,
+        Event::Sent(_) => None,
+        Event::Delivered(delivery) => Some(delivery),
+        Event::Blocked(_) => None,
+        Event::Installed(_) => None,
+        Event::Left(_) => None,
+        Event::Crashed(_) => None,
     }
 }
 
-/// The view that a happening installs.
-pub fn install_in<'a>(happening: &'a Happening) -> Option<&'a Install>
-    ensures { option_copied result ≡ install_of happening.now }
+/// The view that an event installs.
+pub fn install_in<'a>(event: &'a Event) -> Option<&'a Install>
+    ensures { option_copied result ≡ install_of event.now }
 {
-    match happening {
-        Happening::Started(_) => None,
-        Happening::Sent(_) => None,
-        Happening::Delivered(_) => None,
-        Happening::Blocked(_) => None,
-        Happening::Installed(install) => Some(install),
-        Happening::Left(_) => None,
-        Happening::Crashed(_) => None,
+    match event {
+        Event::Started(_) => None,
+        Event::Sent(_) => None,
+        Event::Delivered(_) => None,
+        Event::Blocked(_) => None,
+        Event::Installed(install) => Some(install),
+        Event::Left(_) => None,
+        Event::Crashed(_) => None,
     }
 }
 
@@ -65,11 +65,11 @@ pub fn install_in<'a>(happening: &'a Happening) -> Option<&'a Install>
 pub fn note_sent<'a>(
     alloc: Global,
     sent: &mut Lists<'a, Numbered>,
-    happening: &'a Happening,
+    event: &'a Event,
 ) -> Result<(), AllocError>
-    ensures { OnOk result ((t : List Happening) → KnowsSent (get seat_cmp sent.old.lists) t → KnowsSent (get seat_cmp sent.new.lists) (t ++ happening.now ∷ [])) }
+    ensures { OnOk result ((t : List Event) → KnowsSent (get seat_cmp sent.old.lists) t → KnowsSent (get seat_cmp sent.new.lists) (t ++ event.now ∷ [])) }
 {
-    match sending_in(happening) {
+    match sending_in(event) {
         None => Ok(()),
         Some(sending) => {
             let seat = Seat {
@@ -86,11 +86,11 @@ pub fn note_sent<'a>(
 pub fn note_told<'a>(
     alloc: Global,
     told: &mut Lists<'a, Message>,
-    happening: &'a Happening,
+    event: &'a Event,
 ) -> Result<(), AllocError>
-    ensures { OnOk result ((t : List Happening) → KnowsTold (get seat_cmp told.old.lists) t → KnowsTold (get seat_cmp told.new.lists) (t ++ happening.now ∷ [])) }
+    ensures { OnOk result ((t : List Event) → KnowsTold (get seat_cmp told.old.lists) t → KnowsTold (get seat_cmp told.new.lists) (t ++ event.now ∷ [])) }
 {
-    match delivery_in(happening) {
+    match delivery_in(event) {
         None => Ok(()),
         Some(delivery) => {
             let seat = Seat {
@@ -112,10 +112,10 @@ fn keep_last(last: &mut BTreeMap<Pair, u64>, pair: Pair, number: u64) -> Result<
 }
 
 /// Keeps the number of a message that is told, where it is its sender's next.
-pub fn note_last(last: &mut BTreeMap<Pair, u64>, happening: &Happening) -> Result<(), AllocError>
-    ensures { OnOk result ((t : List Happening) → MayCarry t happening.now → KnowsLast (get pair_cmp last.old) t → KnowsLast (get pair_cmp last.new) (t ++ happening.now ∷ [])) }
+pub fn note_last(last: &mut BTreeMap<Pair, u64>, event: &Event) -> Result<(), AllocError>
+    ensures { OnOk result ((t : List Event) → MayCarry t event.now → KnowsLast (get pair_cmp last.old) t → KnowsLast (get pair_cmp last.new) (t ++ event.now ∷ [])) }
 {
-    match delivery_in(happening) {
+    match delivery_in(event) {
         None => Ok(()),
         Some(delivery) => {
             let seat = Seat {
@@ -152,11 +152,11 @@ fn write<'a, K: Ord + Copy + Drop>(
 /// Keeps a member's install of a view.
 pub fn note_entry<'a>(
     entries: &mut BTreeMap<Seat, &'a Install>,
-    happening: &'a Happening,
+    event: &'a Event,
 ) -> Result<(), AllocError>
-    ensures { OnOk result ((t : List Happening) → KnowsEntries (get seat_cmp entries.old) t → KnowsEntries (get seat_cmp entries.new) (t ++ happening.now ∷ [])) }
+    ensures { OnOk result ((t : List Event) → KnowsEntries (get seat_cmp entries.old) t → KnowsEntries (get seat_cmp entries.new) (t ++ event.now ∷ [])) }
 {
-    match install_in(happening) {
+    match install_in(event) {
         None => Ok(()),
         Some(install) => {
             let seat = Seat {
@@ -172,11 +172,11 @@ pub fn note_entry<'a>(
 /// Keeps the first install of a view.
 pub fn note_first<'a>(
     firsts: &mut BTreeMap<ViewId, &'a Install>,
-    happening: &'a Happening,
+    event: &'a Event,
 ) -> Result<(), AllocError>
-    ensures { OnOk result ((t : List Happening) → KnowsFirsts (get view_id_cmp firsts.old) t → KnowsFirsts (get view_id_cmp firsts.new) (t ++ happening.now ∷ [])) }
+    ensures { OnOk result ((t : List Event) → KnowsFirsts (get view_id_cmp firsts.old) t → KnowsFirsts (get view_id_cmp firsts.new) (t ++ event.now ∷ [])) }
 {
-    match install_in(happening) {
+    match install_in(event) {
         None => Ok(()),
         Some(install) => {
             write(firsts, install.view.id(), install)?;
@@ -188,11 +188,11 @@ pub fn note_first<'a>(
 /// Keeps the first install that goes from a view to another.
 pub fn note_way<'a>(
     ways: &mut BTreeMap<Way, &'a Install>,
-    happening: &'a Happening,
+    event: &'a Event,
 ) -> Result<(), AllocError>
-    ensures { OnOk result ((t : List Happening) → KnowsWays (get way_cmp ways.old) t → KnowsWays (get way_cmp ways.new) (t ++ happening.now ∷ [])) }
+    ensures { OnOk result ((t : List Event) → KnowsWays (get way_cmp ways.old) t → KnowsWays (get way_cmp ways.new) (t ++ event.now ∷ [])) }
 {
-    match install_in(happening) {
+    match install_in(event) {
         None => Ok(()),
         Some(install) => match install.previous {
             None => Ok(()),

@@ -11,9 +11,9 @@ use super::tables::{self, Tables};
 use address::{Address, ViewId};
 use std::alloc::{AllocError, Global};
 use std::marker::Model;
-use trace_props::{Happening, Install, Message, Numbered};
+use trace_props::{Event, Install, Message, Numbered};
 
-/// The happenings so far, kept so that what the rules ask of them is looked up. Contracts see it as their list.
+/// The events so far, kept so that what the rules ask of them is looked up. Contracts see it as their list.
 #[derive(Drop)]
 pub struct Past<'a> {
     tables: Tables<'a>,
@@ -23,15 +23,15 @@ impl<'a> Model for Past<'a> {
     ghost use Rattle.std.specs.Prelude.{List};
     ghost use Rattle.std.specs.BTreeMap.{get};
     ghost use Rattle.address.specs.Ids.{address_cmp, view_id_cmp};
-    ghost use Rattle.trace_props.specs.declared.happening.Happening.{Happening};
+    ghost use Rattle.trace_props.specs.declared.event.Event.{Event};
     ghost use Rattle.trace_checker.specs.Known.{KnowsPast, pointed, seat_cmp, pair_cmp, way_cmp};
 
-    ghost Value = { List Happening };
+    ghost Value = { List Event };
 
-    ghost view = { λ p. pointed p.tables.happenings.items };
+    ghost view = { λ p. pointed p.tables.events.items };
 
     ghost invariant = { λ p. KnowsPast (get address_cmp p.tables.standings) (get seat_cmp p.tables.sent.lists) (get seat_cmp p.tables.told.lists) (get pair_cmp p.tables.last)
-        (get seat_cmp p.tables.entries) (get view_id_cmp p.tables.firsts) (get way_cmp p.tables.ways) (pointed p.tables.happenings.items) };
+        (get seat_cmp p.tables.entries) (get view_id_cmp p.tables.firsts) (get way_cmp p.tables.ways) (pointed p.tables.events.items) };
 }
 
 impl<'a> Past<'a> {
@@ -112,11 +112,11 @@ impl<'a> Past<'a> {
     }
 
     /// Notes what happened next, whose message, if it tells one, is its sender's next. On refusal nothing is known any more.
-    pub fn note(&mut self, alloc: Global, happening: &'a Happening) -> Result<(), AllocError>
-        requires may { MayCarry self.old happening.now }
-        ensures { OnOk result (self.new ≡ self.old ++ happening.now ∷ []) }
+    pub fn note(&mut self, alloc: Global, event: &'a Event) -> Result<(), AllocError>
+        requires may { MayCarry self.old event.now }
+        ensures { OnOk result (self.new ≡ self.old ++ event.now ∷ []) }
     {
-        match tables::keep(alloc, &mut self.tables, happening) {
+        match tables::keep(alloc, &mut self.tables, event) {
             Ok(()) => Ok(()),
             Err(refused) => {
                 self.tables = Tables::new(alloc);

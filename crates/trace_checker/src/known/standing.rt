@@ -1,14 +1,14 @@
 ghost use Rattle.std.specs.Prelude.{◌≡◌, OnOk, Some, List, ◌++◌, ◌∷◌, [], if◌then◌else◌};
 ghost use Rattle.std.specs.BTreeMap.{get};
 ghost use Rattle.address.specs.Ids.{Address, address_cmp, same_address};
-ghost use Rattle.trace_props.specs.declared.happening.Happening.{Happening};
+ghost use Rattle.trace_props.specs.declared.event.Event.{Event};
 ghost use Rattle.trace_props.specs.Observed.{member_of};
 ghost use Rattle.trace_checker.specs.Known.{stood, standing_after, KnowsStandings};
 
 use address::{Address, ViewId};
 use std::alloc::AllocError;
 use std::collections::BTreeMap;
-use trace_props::Happening;
+use trace_props::Event;
 
 /// How a member stands: whether it has started, has ended, is blocked, and its current view.
 #[derive(Clone, Copy)]
@@ -35,60 +35,60 @@ pub fn how_stands(standings: &BTreeMap<Address, Standing>, member: Address) -> S
 }
 
 /// How a member stands after what happens to it next.
-pub fn after(standing: Standing, happening: &Happening) -> Standing
-    ensures { result ≡ standing_after standing happening.now }
+pub fn after(standing: Standing, event: &Event) -> Standing
+    ensures { result ≡ standing_after standing event.now }
 {
-    match happening {
-        Happening::Started(_) => Standing {
+    match event {
+        Event::Started(_) => Standing {
             started: true,
             ..standing
         },
-        Happening::Sent(_) => standing,
-        Happening::Delivered(_) => standing,
-        Happening::Blocked(_) => Standing {
+        Event::Sent(_) => standing,
+        Event::Delivered(_) => standing,
+        Event::Blocked(_) => Standing {
             blocked: true,
             ..standing
         },
-        Happening::Installed(install) => Standing {
+        Event::Installed(install) => Standing {
             blocked: false,
             view: Some(install.view.id()),
             ..standing
         },
-        Happening::Left(_) => Standing {
+        Event::Left(_) => Standing {
             ended: true,
             ..standing
         },
-        Happening::Crashed(_) => Standing {
+        Event::Crashed(_) => Standing {
             ended: true,
             ..standing
         },
     }
 }
 
-/// To whom a happening happens.
-pub fn member(happening: &Happening) -> Address
-    ensures { result ≡ member_of happening.now }
+/// To whom an event happens.
+pub fn member(event: &Event) -> Address
+    ensures { result ≡ member_of event.now }
 {
-    match happening {
-        Happening::Started(member) => *member,
-        Happening::Sent(sending) => sending.member,
-        Happening::Delivered(delivery) => delivery.member,
-        Happening::Blocked(member) => *member,
-        Happening::Installed(install) => install.member,
-        Happening::Left(member) => *member,
-        Happening::Crashed(member) => *member,
+    match event {
+        Event::Started(member) => *member,
+        Event::Sent(sending) => sending.member,
+        Event::Delivered(delivery) => delivery.member,
+        Event::Blocked(member) => *member,
+        Event::Installed(install) => install.member,
+        Event::Left(member) => *member,
+        Event::Crashed(member) => *member,
     }
 }
 
-/// Keeps how the member stands to whom a happening happens.
+/// Keeps how the member stands to whom an event happens.
 pub fn note_standing(
     standings: &mut BTreeMap<Address, Standing>,
-    happening: &Happening,
+    event: &Event,
 ) -> Result<(), AllocError>
-    ensures { OnOk result ((t : List Happening) → KnowsStandings (get address_cmp standings.old) t → KnowsStandings (get address_cmp standings.new) (t ++ happening.now ∷ [])) }
+    ensures { OnOk result ((t : List Event) → KnowsStandings (get address_cmp standings.old) t → KnowsStandings (get address_cmp standings.new) (t ++ event.now ∷ [])) }
 {
-    let member = member(happening);
-    let next = after(how_stands(standings, member), happening);
+    let member = member(event);
+    let next = after(how_stands(standings, member), event);
     keep(standings, member, next)?;
     Ok(())
 }

@@ -1,11 +1,11 @@
 ghost use Rattle.std.specs.Prelude.{◌≡◌, ◌≤◌, ◌++◌, ◌∷◌, [], List, true, Some, length, unwrap_or, option_and_then, OnOk, IfOk, if◌then◌else◌, is_some, IsSome, MatchBool};
 ghost use Rattle.std.specs.BTreeMap.{get};
 ghost use Rattle.address.specs.Ids.{Address, IsAddress, address_cmp, view_id_cmp, same_address};
-ghost use Rattle.state_transfer.specs.declared.TheConstants.{PAYLOAD};
+ghost use Rattle.limits.specs.declared.TheConstants.{PAYLOAD};
 ghost use Rattle.std.specs.Bool.{Decides};
 ghost use Rattle.std.specs.Option.{ForSome};
-ghost use Rattle.trace_props.specs.declared.happening.Happening.{Happening};
-ghost use Rattle.trace_props.specs.declared.happening.Happening.TheVariants.{Delivered, Installed};
+ghost use Rattle.trace_props.specs.declared.event.Event.{Event};
+ghost use Rattle.trace_props.specs.declared.event.Event.TheVariants.{Delivered, Installed};
 ghost use Rattle.trace_props.specs.Recorded.{IsShort};
 ghost use Rattle.trace_props.specs.Agreeing.{MayEnter};
 ghost use Rattle.trace_checker.specs.Copies.{EntersWith, KnowsStates};
@@ -15,7 +15,7 @@ use address::{Address, ViewId};
 use state_transfer::Receiver;
 use std::alloc::{AllocError, Global};
 use std::collections::BTreeMap;
-use trace_props::{Bytes, Delivery, Happening, Install};
+use trace_props::{Bytes, Delivery, Event, Install};
 
 /// An address that a program holds is one.
 pub fn known_address(address: Address)
@@ -43,7 +43,7 @@ fn begin<R: Receiver>(
     member: Address,
 ) -> Result<(), AllocError>
     ensures has { OnOk result (is_some (get address_cmp states.new member) ≡ true) }
-    ensures same { OnOk result ((other : Address) → unwrap_or (get address_cmp states.new other) R.opening_state ≡ unwrap_or (get address_cmp states.old other) R.opening_state) }
+    ensures same { OnOk result ((other : Address) → unwrap_or (get address_cmp states.new other) R.meaning.opening ≡ unwrap_or (get address_cmp states.old other) R.meaning.opening) }
 {
     if states.contains_key(&member) {
         return Ok(());
@@ -61,8 +61,8 @@ fn receive_there<R: Receiver>(
 ) -> Result<(), AllocError>
     requires has { is_some (get address_cmp states.old member) ≡ true }
     requires short { length payload.now ≤ PAYLOAD }
-    ensures { OnOk result ((other : Address) → unwrap_or (get address_cmp states.new other) R.opening_state
-        ≡ (if same_address member other then R.apply (unwrap_or (get address_cmp states.old member) R.opening_state) sender payload.now else unwrap_or (get address_cmp states.old other) R.opening_state)) }
+    ensures { OnOk result ((other : Address) → unwrap_or (get address_cmp states.new other) R.meaning.opening
+        ≡ (if same_address member other then R.meaning.apply (unwrap_or (get address_cmp states.old member) R.meaning.opening) sender payload.now else unwrap_or (get address_cmp states.old other) R.meaning.opening)) }
 {
     if let Some(state) = states.get_mut(&member) {
         state.receive(sender, payload)?;
@@ -77,9 +77,9 @@ fn take_there<R: Receiver>(
     given: &[u8],
 ) -> Result<bool, AllocError>
     requires has { is_some (get address_cmp states.old member) ≡ true }
-    ensures read { IfOk result (λ taken. taken ≡ is_some (R.decode given.now)) }
-    ensures takes { OnOk result ((other : Address) → unwrap_or (get address_cmp states.new other) R.opening_state
-        ≡ (if same_address member other then unwrap_or (R.decode given.now) (unwrap_or (get address_cmp states.old member) R.opening_state) else unwrap_or (get address_cmp states.old other) R.opening_state)) }
+    ensures read { IfOk result (λ taken. taken ≡ is_some (R.meaning.decode given.now)) }
+    ensures takes { OnOk result ((other : Address) → unwrap_or (get address_cmp states.new other) R.meaning.opening
+        ≡ (if same_address member other then unwrap_or (R.meaning.decode given.now) (unwrap_or (get address_cmp states.old member) R.meaning.opening) else unwrap_or (get address_cmp states.old other) R.meaning.opening)) }
 {
     match states.get_mut(&member) {
         Some(state) => state.set_state(given),
@@ -93,7 +93,7 @@ fn bytes_of<R: Receiver>(
     states: &BTreeMap<Address, R>,
     member: Address,
 ) -> Result<Bytes, AllocError>
-    ensures { IfOk result (λ b. b ≡ R.encode (unwrap_or (get address_cmp states.now member) R.opening_state)) }
+    ensures { IfOk result (λ b. b ≡ R.meaning.encode (unwrap_or (get address_cmp states.now member) R.meaning.opening)) }
 {
     let mut bytes = Vec::new(alloc);
     match states.get(&member) {
@@ -132,9 +132,9 @@ fn take<R: Receiver>(
     member: Address,
     given: &Option<Bytes>,
 ) -> Result<bool, AllocError>
-    ensures read { IfOk result (λ taken. Decides taken (ForSome given.now (λ g. IsSome (R.decode g)))) }
-    ensures takes { OnOk result ((other : Address) → unwrap_or (get address_cmp states.new other) R.opening_state
-        ≡ (if same_address member other then unwrap_or (option_and_then R.decode given.now) (unwrap_or (get address_cmp states.old member) R.opening_state) else unwrap_or (get address_cmp states.old other) R.opening_state)) }
+    ensures read { IfOk result (λ taken. Decides taken (ForSome given.now (λ g. IsSome (R.meaning.decode g)))) }
+    ensures takes { OnOk result ((other : Address) → unwrap_or (get address_cmp states.new other) R.meaning.opening
+        ≡ (if same_address member other then unwrap_or (option_and_then R.meaning.decode given.now) (unwrap_or (get address_cmp states.old member) R.meaning.opening) else unwrap_or (get address_cmp states.old other) R.meaning.opening)) }
 {
     match given {
         None => Ok(true),
@@ -159,8 +159,8 @@ fn hear<R: Receiver>(
     delivery: &Delivery,
 ) -> Result<(), AllocError>
     requires short { length delivery.now.message.payload ≤ PAYLOAD }
-    ensures { OnOk result ((t : List Happening) → KnowsStates R.opening_state R.apply R.decode R.encode R.is_state (get address_cmp states.old.states) (get view_id_cmp states.old.entering) t
-        → KnowsStates R.opening_state R.apply R.decode R.encode R.is_state (get address_cmp states.new.states) (get view_id_cmp states.new.entering) (t ++ Delivered delivery.now ∷ [])) }
+    ensures { OnOk result ((t : List Event) → KnowsStates R.meaning (get address_cmp states.old.states) (get view_id_cmp states.old.entering) t
+        → KnowsStates R.meaning (get address_cmp states.new.states) (get view_id_cmp states.new.entering) (t ++ Delivered delivery.now ∷ [])) }
 {
     known_address(delivery.message.sender);
     begin(alloc, &mut states.states, delivery.member)?;
@@ -179,11 +179,11 @@ fn enter<R: Receiver>(
     states: &mut States<R>,
     install: &Install,
 ) -> Result<bool, AllocError>
-    ensures { IfOk result (λ ok. (t : List Happening) → KnowsStates R.opening_state R.apply R.decode R.encode R.is_state (get address_cmp states.old.states) (get view_id_cmp states.old.entering) t
+    ensures { IfOk result (λ ok. (t : List Event) → KnowsStates R.meaning (get address_cmp states.old.states) (get view_id_cmp states.old.entering) t
         → MatchBool ok
-        (MayEnter R.opening_state R.apply R.decode t (Installed install.now)
-        × KnowsStates R.opening_state R.apply R.decode R.encode R.is_state (get address_cmp states.new.states) (get view_id_cmp states.new.entering) (t ++ Installed install.now ∷ []))
-        (MayEnter R.opening_state R.apply R.decode t (Installed install.now) → ⊥)) }
+        (MayEnter R.meaning t (Installed install.now)
+        × KnowsStates R.meaning (get address_cmp states.new.states) (get view_id_cmp states.new.entering) (t ++ Installed install.now ∷ []))
+        (MayEnter R.meaning t (Installed install.now) → ⊥)) }
 {
     if !take(alloc, &mut states.states, install.member, &install.given)? {
         return Ok(false);
@@ -198,7 +198,7 @@ fn enter<R: Receiver>(
 impl<R: Receiver> States<R> {
     /// Of nothing. Takes no memory.
     pub fn new(alloc: Global) -> States<R>
-        ensures { KnowsStates R.opening_state R.apply R.decode R.encode R.is_state (get address_cmp result.states) (get view_id_cmp result.entering) [] }
+        ensures { KnowsStates R.meaning (get address_cmp result.states) (get view_id_cmp result.entering) [] }
     {
         States {
             states: BTreeMap::new(alloc),
@@ -206,21 +206,21 @@ impl<R: Receiver> States<R> {
         }
     }
 
-    /// Goes one happening further, and whether it keeps the rule on states.
-    pub fn advance(&mut self, alloc: Global, happening: &Happening) -> Result<bool, AllocError>
-        requires short { IsShort happening.now }
-        ensures { IfOk result (λ ok. (t : List Happening) → KnowsStates R.opening_state R.apply R.decode R.encode R.is_state (get address_cmp self.old.states) (get view_id_cmp self.old.entering) t
+    /// Goes one event further, and whether it keeps the rule on states.
+    pub fn advance(&mut self, alloc: Global, event: &Event) -> Result<bool, AllocError>
+        requires short { IsShort event.now }
+        ensures { IfOk result (λ ok. (t : List Event) → KnowsStates R.meaning (get address_cmp self.old.states) (get view_id_cmp self.old.entering) t
             → MatchBool ok
-            (MayEnter R.opening_state R.apply R.decode t happening.now
-            × KnowsStates R.opening_state R.apply R.decode R.encode R.is_state (get address_cmp self.new.states) (get view_id_cmp self.new.entering) (t ++ happening.now ∷ []))
-            (MayEnter R.opening_state R.apply R.decode t happening.now → ⊥)) }
+            (MayEnter R.meaning t event.now
+            × KnowsStates R.meaning (get address_cmp self.new.states) (get view_id_cmp self.new.entering) (t ++ event.now ∷ []))
+            (MayEnter R.meaning t event.now → ⊥)) }
     {
-        match delivery_in(happening) {
+        match delivery_in(event) {
             Some(delivery) => {
                 hear(alloc, self, delivery)?;
                 Ok(true)
             }
-            None => match install_in(happening) {
+            None => match install_in(event) {
                 Some(install) => {
                     let alike = enter(alloc, self, install)?;
                     Ok(alike)

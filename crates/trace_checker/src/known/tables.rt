@@ -1,7 +1,7 @@
 ghost use Rattle.std.specs.Prelude.{◌≡◌, OnOk, List, ◌++◌, ◌∷◌, []};
 ghost use Rattle.std.specs.BTreeMap.{get};
 ghost use Rattle.address.specs.Ids.{address_cmp, view_id_cmp};
-ghost use Rattle.trace_props.specs.declared.happening.Happening.{Happening};
+ghost use Rattle.trace_props.specs.declared.event.Event.{Event};
 ghost use Rattle.trace_props.specs.Following.{MayCarry};
 ghost use Rattle.trace_checker.specs.Known.{seat_cmp, pair_cmp, way_cmp, KnowsPast, KnowsSent, KnowsTold, KnowsLast, KnowsEntries, KnowsFirsts, KnowsWays, pointed};
 
@@ -12,12 +12,12 @@ use super::{notes, standing};
 use address::{Address, ViewId};
 use std::alloc::{AllocError, Global};
 use std::collections::BTreeMap;
-use trace_props::{Happening, Install, Message, Numbered};
+use trace_props::{Event, Install, Message, Numbered};
 
-/// The happenings so far, and what is looked up of them: by member, by view, or by both.
+/// The events so far, and what is looked up of them: by member, by view, or by both.
 #[derive(Drop)]
 pub struct Tables<'a> {
-    pub happenings: Vec<&'a Happening>,
+    pub events: Vec<&'a Event>,
     pub standings: BTreeMap<Address, Standing>,
     pub sent: Lists<'a, Numbered>,
     pub told: Lists<'a, Message>,
@@ -30,12 +30,12 @@ pub struct Tables<'a> {
 impl<'a> Tables<'a> {
     /// Of nothing. Takes no memory.
     pub fn new(alloc: Global) -> Tables<'a>
-        ensures nothing { pointed result.happenings.items ≡ [] }
+        ensures nothing { pointed result.events.items ≡ [] }
         ensures known { KnowsPast (get address_cmp result.standings) (get seat_cmp result.sent.lists) (get seat_cmp result.told.lists) (get pair_cmp result.last)
             (get seat_cmp result.entries) (get view_id_cmp result.firsts) (get way_cmp result.ways) [] }
     {
         Tables {
-            happenings: Vec::new(alloc),
+            events: Vec::new(alloc),
             standings: BTreeMap::new(alloc),
             sent: Lists::new(alloc),
             told: Lists::new(alloc),
@@ -47,68 +47,64 @@ impl<'a> Tables<'a> {
     }
 }
 
-// Keeps the message that a happening sends or tells.
+// Keeps the message that an event sends or tells.
 fn keep_message<'a>(
     alloc: Global,
     sent: &mut Lists<'a, Numbered>,
     told: &mut Lists<'a, Message>,
     last: &mut BTreeMap<Pair, u64>,
-    happening: &'a Happening,
+    event: &'a Event,
 ) -> Result<(), AllocError>
-    ensures sent { OnOk result ((t : List Happening) → KnowsSent (get seat_cmp sent.old.lists) t → KnowsSent (get seat_cmp sent.new.lists) (t ++ happening.now ∷ [])) }
-    ensures told { OnOk result ((t : List Happening) → KnowsTold (get seat_cmp told.old.lists) t → KnowsTold (get seat_cmp told.new.lists) (t ++ happening.now ∷ [])) }
-    ensures last { OnOk result ((t : List Happening) → MayCarry t happening.now → KnowsLast (get pair_cmp last.old) t → KnowsLast (get pair_cmp last.new) (t ++ happening.now ∷ [])) }
+    ensures sent { OnOk result ((t : List Event) → KnowsSent (get seat_cmp sent.old.lists) t → KnowsSent (get seat_cmp sent.new.lists) (t ++ event.now ∷ [])) }
+    ensures told { OnOk result ((t : List Event) → KnowsTold (get seat_cmp told.old.lists) t → KnowsTold (get seat_cmp told.new.lists) (t ++ event.now ∷ [])) }
+    ensures last { OnOk result ((t : List Event) → MayCarry t event.now → KnowsLast (get pair_cmp last.old) t → KnowsLast (get pair_cmp last.new) (t ++ event.now ∷ [])) }
 {
-    notes::note_sent(alloc, sent, happening)?;
-    notes::note_told(alloc, told, happening)?;
-    notes::note_last(last, happening)?;
+    notes::note_sent(alloc, sent, event)?;
+    notes::note_told(alloc, told, event)?;
+    notes::note_last(last, event)?;
     Ok(())
 }
 
-// Keeps the install that a happening is.
+// Keeps the install that an event is.
 fn keep_install<'a>(
     entries: &mut BTreeMap<Seat, &'a Install>,
     firsts: &mut BTreeMap<ViewId, &'a Install>,
     ways: &mut BTreeMap<Way, &'a Install>,
-    happening: &'a Happening,
+    event: &'a Event,
 ) -> Result<(), AllocError>
-    ensures entries { OnOk result ((t : List Happening) → KnowsEntries (get seat_cmp entries.old) t → KnowsEntries (get seat_cmp entries.new) (t ++ happening.now ∷ [])) }
-    ensures firsts { OnOk result ((t : List Happening) → KnowsFirsts (get view_id_cmp firsts.old) t → KnowsFirsts (get view_id_cmp firsts.new) (t ++ happening.now ∷ [])) }
-    ensures ways { OnOk result ((t : List Happening) → KnowsWays (get way_cmp ways.old) t → KnowsWays (get way_cmp ways.new) (t ++ happening.now ∷ [])) }
+    ensures entries { OnOk result ((t : List Event) → KnowsEntries (get seat_cmp entries.old) t → KnowsEntries (get seat_cmp entries.new) (t ++ event.now ∷ [])) }
+    ensures firsts { OnOk result ((t : List Event) → KnowsFirsts (get view_id_cmp firsts.old) t → KnowsFirsts (get view_id_cmp firsts.new) (t ++ event.now ∷ [])) }
+    ensures ways { OnOk result ((t : List Event) → KnowsWays (get way_cmp ways.old) t → KnowsWays (get way_cmp ways.new) (t ++ event.now ∷ [])) }
 {
-    notes::note_entry(entries, happening)?;
-    notes::note_first(firsts, happening)?;
-    notes::note_way(ways, happening)?;
+    notes::note_entry(entries, event)?;
+    notes::note_first(firsts, event)?;
+    notes::note_way(ways, event)?;
     Ok(())
 }
 
 /// Keeps what happened next, whose message, if it tells one, is its sender's next.
-pub fn keep<'a>(
-    alloc: Global,
-    tables: &mut Tables<'a>,
-    happening: &'a Happening,
-) -> Result<(), AllocError>
-    ensures kept { OnOk result (pointed tables.new.happenings.items ≡ pointed tables.old.happenings.items ++ happening.now ∷ []) }
-    ensures known { OnOk result ((t : List Happening) → MayCarry t happening.now
+pub fn keep<'a>(alloc: Global, tables: &mut Tables<'a>, event: &'a Event) -> Result<(), AllocError>
+    ensures kept { OnOk result (pointed tables.new.events.items ≡ pointed tables.old.events.items ++ event.now ∷ []) }
+    ensures known { OnOk result ((t : List Event) → MayCarry t event.now
         → KnowsPast (get address_cmp tables.old.standings) (get seat_cmp tables.old.sent.lists) (get seat_cmp tables.old.told.lists) (get pair_cmp tables.old.last)
         (get seat_cmp tables.old.entries) (get view_id_cmp tables.old.firsts) (get way_cmp tables.old.ways) t
         → KnowsPast (get address_cmp tables.new.standings) (get seat_cmp tables.new.sent.lists) (get seat_cmp tables.new.told.lists) (get pair_cmp tables.new.last)
-        (get seat_cmp tables.new.entries) (get view_id_cmp tables.new.firsts) (get way_cmp tables.new.ways) (t ++ happening.now ∷ [])) }
+        (get seat_cmp tables.new.entries) (get view_id_cmp tables.new.firsts) (get way_cmp tables.new.ways) (t ++ event.now ∷ [])) }
 {
-    standing::note_standing(&mut tables.standings, happening)?;
+    standing::note_standing(&mut tables.standings, event)?;
     keep_message(
         alloc,
         &mut tables.sent,
         &mut tables.told,
         &mut tables.last,
-        happening,
+        event,
     )?;
     keep_install(
         &mut tables.entries,
         &mut tables.firsts,
         &mut tables.ways,
-        happening,
+        event,
     )?;
-    tables.happenings.push(happening)?;
+    tables.events.push(event)?;
     Ok(())
 }

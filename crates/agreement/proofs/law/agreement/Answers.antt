@@ -3,10 +3,10 @@ use Rattle.agreement.proofs.law.agreement.Goals as goal
 
 pub returns-clause-invariant : goal.returns-clause-invariant
 returns-clause-invariant g c =
-    keeps-invariant g.R.Receiver.opening_state g.R.Receiver.apply g.R.Receiver.encode g.R.Receiver.decode g.R.Receiver.is_state
+    keeps-invariant g.R.Receiver.meaning
     (record { opens = g.met.R.Receiver.opens; applies = g.met.R.Receiver.applies; decodes = g.met.R.Receiver.decodes; reads_back = g.met.R.Receiver.reads_back })
 
 pub returns-clause-synchronous : goal.returns-clause-synchronous
 returns-clause-synchronous g c =
-    always-synchronous g.R.Receiver.opening_state g.R.Receiver.apply g.R.Receiver.encode g.R.Receiver.decode g.R.Receiver.is_state
+    always-synchronous g.R.Receiver.meaning
     (record { opens = g.met.R.Receiver.opens; applies = g.met.R.Receiver.applies; decodes = g.met.R.Receiver.decodes; reads_back = g.met.R.Receiver.reads_back })

@@ -7,17 +7,17 @@ use Rattle.agreement.proofs.law.stories_play.Goals as goal
 
 pub returns-clause-crash : goal.returns-clause-crash
 returns-clause-crash g c =
-    let reads = g.met.R.Receiver.reads_back g.R.Receiver.opening_state g.met.R.Receiver.opens in
-    crash-plays g.R.Receiver.opening_state g.R.Receiver.apply g.R.Receiver.encode g.R.Receiver.decode reads
+    let reads = g.met.R.Receiver.reads_back g.R.Receiver.meaning.opening g.met.R.Receiver.opens in
+    crash-plays g.R.Receiver.meaning reads
 
 pub returns-clause-leave : goal.returns-clause-leave
 returns-clause-leave g c =
-    let reads = g.met.R.Receiver.reads_back g.R.Receiver.opening_state g.met.R.Receiver.opens in
-    leave-plays g.R.Receiver.opening_state g.R.Receiver.apply g.R.Receiver.encode g.R.Receiver.decode reads
+    let reads = g.met.R.Receiver.reads_back g.R.Receiver.meaning.opening g.met.R.Receiver.opens in
+    leave-plays g.R.Receiver.meaning reads
 
 pub returns-clause-merge : goal.returns-clause-merge
 returns-clause-merge g c =
-    let reads = g.met.R.Receiver.reads_back g.R.Receiver.opening_state g.met.R.Receiver.opens in
-    let half = g.met.R.Receiver.applies g.R.Receiver.opening_state one message_a g.met.R.Receiver.opens one-is is-short in
-    let reads_half = g.met.R.Receiver.reads_back (g.R.Receiver.apply g.R.Receiver.opening_state one message_a) half in
-    merge-plays g.R.Receiver.opening_state g.R.Receiver.apply g.R.Receiver.encode g.R.Receiver.decode reads reads_half
+    let reads = g.met.R.Receiver.reads_back g.R.Receiver.meaning.opening g.met.R.Receiver.opens in
+    let half = g.met.R.Receiver.applies g.R.Receiver.meaning.opening one message_a g.met.R.Receiver.opens one-is is-short in
+    let reads_half = g.met.R.Receiver.reads_back (g.R.Receiver.meaning.apply g.R.Receiver.meaning.opening one message_a) half in
+    merge-plays g.R.Receiver.meaning reads reads_half

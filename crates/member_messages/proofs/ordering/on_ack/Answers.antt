@@ -7,7 +7,7 @@ use Rattle.member_messages.proofs.Calming.{acks-calm}
 use Rattle.member_messages.proofs.ordering.on_ack.Goals as goal
 
 pub returns-then-not-takes_ack-clause-did : goal.returns-then-not-takes_ack-clause-did
-returns-then-not-takes_ack-clause-did g c = nothing-did _ _ _ _ _ _ _ _
+returns-then-not-takes_ack-clause-did g c = nothing-did g.R.Receiver.meaning _ _ _ _ _
 
 pub ack-requires-clause-coordinator : goal.ack-requires-clause-coordinator
 ack-requires-clause-coordinator g c =
@@ -33,10 +33,10 @@ returns-in_ok-ack-in-Some-Coordinator-clause-did g c =
     let does = c.in_ok-ack-in-Some-Coordinator.ensures in
     let same = c.get-count.ensures.value in
     rw (sym same)
-    (heard-did _ _ _ (λ i. Some (packet c.args.source.now (bodies.Ack i c.get-count.result) c.args.who.now.address)) _ _ _ _ _ _ _ _ _ _
+    (heard-did g.R.Receiver.meaning (λ i. Some (packet c.args.source.now (bodies.Ack i c.get-count.result) c.args.who.now.address)) _ _ _ _ _ _ _ _ _ _
     c.requires.life heard there does.goes.view does.goes.goes)
 
 pub returns-in_ok-ack-in-Some-Coordinator-clause-calm : goal.returns-in_ok-ack-in-Some-Coordinator-clause-calm
 returns-in_ok-ack-in-Some-Coordinator-clause-calm g c =
     let does = c.in_ok-ack-in-Some-Coordinator.ensures in
-    acks-calm _ _ _ _ _ _ _ _ _ _ _ does.orders does.few
+    acks-calm g.R.Receiver.meaning _ _ _ _ _ _ _ _ _ _ does.orders does.few

@@ -7,7 +7,7 @@ use Rattle.member_messages.proofs.Calming.{ordering-calm}
 use Rattle.member_messages.proofs.ordering.on_forward.Goals as goal
 
 pub returns-then-not-takes_forward-clause-did : goal.returns-then-not-takes_forward-clause-did
-returns-then-not-takes_forward-clause-did g c = nothing-did _ _ _ _ _ _ _ _
+returns-then-not-takes_forward-clause-did g c = nothing-did g.R.Receiver.meaning _ _ _ _ _
 
 pub forward-requires-clause-coordinator : goal.forward-requires-clause-coordinator
 forward-requires-clause-coordinator g c =
@@ -31,9 +31,9 @@ returns-in_ok-forward-in-Some-Coordinator-clause-did g c =
     let there = there-is _ _ _ c.in-Some-Coordinator.is c.in-Some-Coordinator.field-0-is in
     let heard = heard-in _ _ _ _ _ there (sym c.if-not-takes_forward.ensures) in
     let does = c.in_ok-forward-in-Some-Coordinator.ensures in
-    heard-did _ _ _ (λ i. Some (packet c.args.source.now (bodies.Forward i c.args.number c.args.payload.now) c.args.who.now.address)) _ _ _ _ _ _ _ _ _ _ c.requires.life heard there does.goes.view does.goes.goes
+    heard-did g.R.Receiver.meaning (λ i. Some (packet c.args.source.now (bodies.Forward i c.args.number c.args.payload.now) c.args.who.now.address)) _ _ _ _ _ _ _ _ _ _ c.requires.life heard there does.goes.view does.goes.goes
 
 pub returns-in_ok-forward-in-Some-Coordinator-clause-calm : goal.returns-in_ok-forward-in-Some-Coordinator-clause-calm
 returns-in_ok-forward-in-Some-Coordinator-clause-calm g c =
     let does = c.in_ok-forward-in-Some-Coordinator.ensures in
-    ordering-calm _ _ _ _ _ _ _ _ _ does.orders does.few
+    ordering-calm g.R.Receiver.meaning _ _ _ _ _ _ _ _ does.orders does.few

@@ -39,13 +39,13 @@ returns-in_ok-send-in-Some-Coordinator-clause-did g c =
     let there = there-is _ _ _ c.in-Some-Coordinator.is c.in-Some-Coordinator.field-0-is in
     let promised = promised-in c.args.who.now.address c.args.life.now c.args.payload.now _ c.requires.free there in
     let does = c.in_ok-send-in-Some-Coordinator.ensures in
-    λ came. goes-did _ _ _ came _ _ _ _ _ _ _ _ c.requires.life promised there (does.goes came).view (does.goes came).goes
+    λ came. goes-did g.R.Receiver.meaning came _ _ _ _ _ _ _ _ c.requires.life promised there (does.goes came).view (does.goes came).goes
 
 pub returns-in_ok-send-in-Some-Coordinator-clause-calm : goal.returns-in_ok-send-in-Some-Coordinator-clause-calm
 returns-in_ok-send-in-Some-Coordinator-clause-calm g c =
     let there = there-is _ _ _ c.in-Some-Coordinator.is c.in-Some-Coordinator.field-0-is in
     let does = c.in_ok-send-in-Some-Coordinator.ensures in
-    sends-first _ _ _ _ _ c.args.life.now _ _ _ _ _ c.in-Some.ensures.1 there does.orders does.few
+    sends-first g.R.Receiver.meaning _ _ _ _ c.args.life.now _ _ _ _ _ c.in-Some.ensures.1 there does.orders does.few
 
 pub returns-in_ok-send-in-Some-Coordinator-clause-prompt : goal.returns-in_ok-send-in-Some-Coordinator-clause-prompt
 returns-in_ok-send-in-Some-Coordinator-clause-prompt g c =
@@ -58,7 +58,7 @@ returns-in_ok-send-in-Some-Other-clause-life g c =
     let there = there-is _ _ _ c.in-Some-Other.is c.in-Some-Other.field-0-is in
     let promised = promised-in c.args.who.now.address c.args.life.now c.args.payload.now _ c.requires.free there in
     let does = c.in_ok-send-in-Some-Other.ensures in
-    let goes = send-goes g.R.Receiver.apply g.R.Receiver.encode g.R.Receiver.decode None c.args.who.now.address c.args.who.now.group c.in-Some.payload c.in-Some-Other.other c.args.life.now.receiver
+    let goes = send-goes g.R.Receiver.meaning None c.args.who.now.address c.args.who.now.group c.in-Some.payload c.in-Some-Other.other c.args.life.now.receiver
     c.args.out.now c.send-in-Some-Other.new.self c.send-in-Some-Other.new.out does.short does.now does.sends in
     life-kept _ _ _ _ _ _ c.requires.life promised there goes.1
 
@@ -72,7 +72,7 @@ pub returns-in_ok-send-in-Some-Other-clause-does : goal.returns-in_ok-send-in-So
 returns-in_ok-send-in-Some-Other-clause-does g c =
     let there = there-is _ _ _ c.in-Some-Other.is c.in-Some-Other.field-0-is in
     let does = c.in_ok-send-in-Some-Other.ensures in
-    sends-other g.R.Receiver.apply _ _ _ _ _ _ _ _ _ c.in-Some.ensures.1 there does.now does.sends
+    sends-other g.R.Receiver.meaning _ _ _ _ _ _ _ _ _ c.in-Some.ensures.1 there does.now does.sends
 
 pub returns-in_ok-send-in-Some-Other-clause-did : goal.returns-in_ok-send-in-Some-Other-clause-did
 returns-in_ok-send-in-Some-Other-clause-did g c =
@@ -80,6 +80,6 @@ returns-in_ok-send-in-Some-Other-clause-did g c =
     let promised = promised-in c.args.who.now.address c.args.life.now c.args.payload.now _ c.requires.free there in
     let does = c.in_ok-send-in-Some-Other.ensures in
     λ came.
-    let goes = send-goes g.R.Receiver.apply g.R.Receiver.encode g.R.Receiver.decode came c.args.who.now.address c.args.who.now.group c.in-Some.payload c.in-Some-Other.other c.args.life.now.receiver
+    let goes = send-goes g.R.Receiver.meaning came c.args.who.now.address c.args.who.now.group c.in-Some.payload c.in-Some-Other.other c.args.life.now.receiver
     c.args.out.now c.send-in-Some-Other.new.self c.send-in-Some-Other.new.out does.short does.now does.sends in
-    goes-did _ _ _ came _ _ _ _ _ _ _ _ c.requires.life promised there goes.1 goes.0
+    goes-did g.R.Receiver.meaning came _ _ _ _ _ _ _ _ c.requires.life promised there goes.1 goes.0

@@ -1,5 +1,6 @@
 use Rattle.std.proofs.Common.{◌-◌, Some, not, sym}
 use Rattle.std.specs.Prelude.{nat_lt}
+use Rattle.limits.specs.declared.TheConstants.{WINDOW}
 use Rattle.wire.specs.declared.packet.Body.TheVariants as bodies
 use Rattle.agreement.specs.Acts.{packet}
 use Rattle.member_messages.proofs.Opening.{there-is, orderly-in, ordered-by, nothing-did}
@@ -9,7 +10,7 @@ use Rattle.member_messages.proofs.Nexts.{order-orderly}
 use Rattle.member_messages.proofs.taking.on_order.Goals as goal
 
 pub returns-then-not-takes_order-clause-did : goal.returns-then-not-takes_order-clause-did
-returns-then-not-takes_order-clause-did g c = nothing-did _ _ _ _ _ _ _ _
+returns-then-not-takes_order-clause-did g c = nothing-did g.R.Receiver.meaning _ _ _ _ _
 
 pub returns-in_ok-order-in-Some-Other-clause-life : goal.returns-in_ok-order-in-Some-Other-clause-life
 returns-in_ok-order-in-Some-Other-clause-life g c =
@@ -27,17 +28,17 @@ pub returns-in_ok-order-in-Some-Other-clause-ordered : goal.returns-in_ok-order-
 returns-in_ok-order-in-Some-Other-clause-ordered g c =
     let there = there-is _ _ _ c.in-Some-Other.is c.in-Some-Other.field-0-is in
     let does = c.in_ok-order-in-Some-Other.ensures in
-    ordered-by _ _ (order-orderly g.R.Receiver.apply c.args.who.now.address c.args.who.now.group _ _ c.in-Some-Other.other _ _ _ _ _ does.takes does.goes.1 (orderly-in _ _ _ c.requires.ordered there))
+    ordered-by _ _ (order-orderly g.R.Receiver.meaning c.args.who.now.address c.args.who.now.group _ _ c.in-Some-Other.other _ _ _ _ _ does.takes does.goes.1 (orderly-in _ _ _ c.requires.ordered there))
 
 pub returns-in_ok-order-in-Some-Other-clause-did : goal.returns-in_ok-order-in-Some-Other-clause-did
 returns-in_ok-order-in-Some-Other-clause-did g c =
     let there = there-is _ _ _ c.in-Some-Other.is c.in-Some-Other.field-0-is in
     let heard = heard-in _ _ _ _ _ there (sym c.if-not-takes_order.ensures) in
     let does = c.in_ok-order-in-Some-Other.ensures in
-    other-did _ _ _ (λ q i. Some (packet q (bodies.Order i c.args.place c.args.entry.now) c.args.who.now.address)) _ _ _ _ _ _ _ _ _ _ c.requires.life heard there
-    (from-in _ _ c.args.life.now c.in-Some-Other.other (λ m. not (nat_lt m.window.delivered (c.args.place - 32))) there (sym c.if-not-takes_order.ensures)) does.goes
+    other-did g.R.Receiver.meaning (λ q i. Some (packet q (bodies.Order i c.args.place c.args.entry.now) c.args.who.now.address)) _ _ _ _ _ _ _ _ _ _ c.requires.life heard there
+    (from-in _ _ c.args.life.now c.in-Some-Other.other (λ m. not (nat_lt m.window.delivered (c.args.place - WINDOW))) there (sym c.if-not-takes_order.ensures)) does.goes
 
 pub returns-in_ok-order-in-Some-Other-clause-calm : goal.returns-in_ok-order-in-Some-Other-clause-calm
 returns-in_ok-order-in-Some-Other-clause-calm g c =
     let does = c.in_ok-order-in-Some-Other.ensures in
-    takes-calm _ _ _ _ _ _ _ _ _ _ _ does.takes does.few
+    takes-calm g.R.Receiver.meaning _ _ _ _ _ _ _ _ _ _ does.takes does.few

@@ -9,13 +9,13 @@ use Rattle.member_messages.proofs.Nexts.{status-orderly}
 use Rattle.member_messages.proofs.taking.on_status.Goals as goal
 
 pub returns-then-not-takes_status-clause-did : goal.returns-then-not-takes_status-clause-did
-returns-then-not-takes_status-clause-did g c = nothing-did _ _ _ _ _ _ _ _
+returns-then-not-takes_status-clause-did g c = nothing-did g.R.Receiver.meaning _ _ _ _ _
 
 pub returns-in_ok-status-in-Some-Other-clause-life : goal.returns-in_ok-status-in-Some-Other-clause-life
 returns-in_ok-status-in-Some-Other-clause-life g c =
     let there = there-is _ _ _ c.in-Some-Other.is c.in-Some-Other.field-0-is in
     let heard = heard-in _ _ _ _ _ there (sym c.if-not-takes_status.ensures) in
-    let goes = status-goes g.R.Receiver.apply g.R.Receiver.encode g.R.Receiver.decode c.args.who.now.address c.args.who.now.group c.args.progress c.in-Some-Other.other c.args.life.now.receiver
+    let goes = status-goes g.R.Receiver.meaning c.args.who.now.address c.args.who.now.group c.args.progress c.in-Some-Other.other c.args.life.now.receiver
     c.args.out.now c.status.new.self c.status.new.out c.in_ok-status-in-Some-Other.ensures in
     heard-life _ _ _ _ _ _ _ _ c.requires.life heard there goes.1
 
@@ -29,7 +29,7 @@ pub returns-in_ok-status-in-Some-Other-clause-did : goal.returns-in_ok-status-in
 returns-in_ok-status-in-Some-Other-clause-did g c =
     let there = there-is _ _ _ c.in-Some-Other.is c.in-Some-Other.field-0-is in
     let heard = heard-in _ _ _ _ _ there (sym c.if-not-takes_status.ensures) in
-    let goes = status-goes g.R.Receiver.apply g.R.Receiver.encode g.R.Receiver.decode c.args.who.now.address c.args.who.now.group c.args.progress c.in-Some-Other.other c.args.life.now.receiver
+    let goes = status-goes g.R.Receiver.meaning c.args.who.now.address c.args.who.now.group c.args.progress c.in-Some-Other.other c.args.life.now.receiver
     c.args.out.now c.status.new.self c.status.new.out c.in_ok-status-in-Some-Other.ensures in
-    other-did _ _ _ (λ q i. Some (packet q (bodies.Status i c.args.progress) c.args.who.now.address)) _ _ _ _ _ _ _ _ _ _ c.requires.life heard there
+    other-did g.R.Receiver.meaning (λ q i. Some (packet q (bodies.Status i c.args.progress) c.args.who.now.address)) _ _ _ _ _ _ _ _ _ _ c.requires.life heard there
     (from-in _ _ c.args.life.now c.in-Some-Other.other (is_near c.args.progress) there (sym c.if-not-takes_status.ensures)) goes

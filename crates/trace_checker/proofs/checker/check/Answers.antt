@@ -1,5 +1,5 @@
 use Rattle.std.proofs.Common.{rules, List, subst}
-use Rattle.trace_props.specs.declared.happening.Happening.{Happening}
+use Rattle.trace_props.specs.declared.event.Event.{Event}
 use Rattle.trace_props.specs.Verdicts.{IsVerdict}
 use Rattle.trace_props.proofs.Judging.{verdict-exact}
 use Rattle.trace_checker.proofs.checker.check.Goals as goal
@@ -7,9 +7,9 @@ use Rattle.trace_checker.proofs.checker.check.Goals as goal
 -- a verdict that all holds, and only that, is of a virtually synchronous trace
 pub returns-clause-exact : goal.returns-clause-exact
 returns-clause-exact g c =
-    verdict-exact g.R.Receiver.opening_state g.R.Receiver.apply g.R.Receiver.decode c.args.trace.now.happenings c.in_ok-verdict.verdict
-    (subst (λ (t : List Happening). IsVerdict g.R.Receiver.opening_state g.R.Receiver.apply g.R.Receiver.decode t c.in_ok-verdict.verdict) c.happenings.ensures.value c.in_ok-verdict.ensures)
+    verdict-exact g.R.Receiver.meaning c.args.trace.now.events c.in_ok-verdict.verdict
+    (subst (λ (t : List Event). IsVerdict g.R.Receiver.meaning t c.in_ok-verdict.verdict) c.events.ensures.value c.in_ok-verdict.ensures)
 
--- the verdict is of the happenings of the trace
+-- the verdict is of the events of the trace
 pub returns-clause-verdict : goal.returns-clause-verdict
 returns-clause-verdict g c = search rules

@@ -5,10 +5,10 @@ use Rattle.trace_props.specs.Synchrony.{IsVirtuallySynchronous}
 use Rattle.trace_checker.specs.Copies.{KnowsStates}
 use Rattle.trace_checker.proofs.checker.check_all.Given as goal
 
--- so far all rules hold, and what is kept is of the happenings so far
+-- so far all rules hold, and what is kept is of the events so far
 abbrev pub invariant-loop-index : goal.invariant-loop-index
 invariant-loop-index g l = record {
-  so_far : l.past ≡ take l.index l.happenings;
-  holds : IsVirtuallySynchronous g.R.Receiver.opening_state g.R.Receiver.apply g.R.Receiver.decode (take l.index l.happenings);
-  known : KnowsStates g.R.Receiver.opening_state g.R.Receiver.apply g.R.Receiver.decode g.R.Receiver.encode g.R.Receiver.is_state (get address_cmp l.states.states) (get view_id_cmp l.states.entering) (take l.index l.happenings);
+  so_far : l.past ≡ take l.index l.events;
+  holds : IsVirtuallySynchronous g.R.Receiver.meaning (take l.index l.events);
+  known : KnowsStates g.R.Receiver.meaning (get address_cmp l.states.states) (get view_id_cmp l.states.entering) (take l.index l.events);
 }

@@ -7,7 +7,7 @@ use Rattle.trace_reader.proofs.text.read_trace.Given as goal
 -- what was read goes on with the lines that are left
 abbrev pub invariant-loop-rest : goal.invariant-loop-rest
 invariant-loop-rest l =
-    (trace_of l.text ≡ going_on l.trace.happenings (l.number + 1) (lines_of l.rest))
+    (trace_of l.text ≡ going_on l.trace.events (l.number + 1) (lines_of l.rest))
     × (l.number + length l.rest ≤ length l.text)
 
 abbrev pub decreases-loop-rest : goal.decreases-loop-rest

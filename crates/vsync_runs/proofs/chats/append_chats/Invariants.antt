@@ -6,4 +6,4 @@ use Rattle.vsync_runs.proofs.chats.append_chats.Given as goal
 -- the chats of so many nodes are told
 abbrev pub invariant-loop-before : goal.invariant-loop-before
 invariant-loop-before g l =
-    l.out.items ≡ l.initial.out.items ++ concat (chats_to g.C.Receiver.opening_state g.C.Receiver.apply g.C.Receiver.decode g.C.Chat.lines_of l.world.history.trace l.before)
+    l.out.items ≡ l.initial.out.items ++ concat (chats_to g.C.Receiver.meaning g.C.Chat.lines_of l.world.history.trace l.before)

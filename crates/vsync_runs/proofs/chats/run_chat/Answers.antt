@@ -4,7 +4,7 @@ use Rattle.vsync_runs.proofs.chats.run_chat.Goals as goal
 
 pub returns-in-Ok : goal.returns-in-Ok
 returns-in-Ok g c =
-    ran-text (IsChatText g.C.Receiver.opening_state g.C.Receiver.apply g.C.Receiver.encode g.C.Receiver.decode g.C.Chat.lines_of) _ _ _ _ c.in-Ok.script _ c.in-Ok.ensures c.play_chats.ensures
+    ran-text (IsChatText g.C.Receiver.meaning g.C.Chat.lines_of) _ _ _ _ c.in-Ok.script _ c.in-Ok.ensures c.play_chats.ensures
 
 pub returns-in-Err : goal.returns-in-Err
-returns-in-Err g c = unrun-text (IsChatText g.C.Receiver.opening_state g.C.Receiver.apply g.C.Receiver.encode g.C.Receiver.decode g.C.Chat.lines_of) _ _ _ _ c.in-Err.ensures
+returns-in-Err g c = unrun-text (IsChatText g.C.Receiver.meaning g.C.Chat.lines_of) _ _ _ _ c.in-Err.ensures

@@ -5,10 +5,10 @@ use Rattle.vsync_runs.proofs.packets.play_packets.Goals as goal
 
 pub returns-in-Ok : goal.returns-in-Ok
 returns-in-Ok g c =
-    ran-to-end g.R.Receiver.opening_state g.R.Receiver.apply g.R.Receiver.encode g.R.Receiver.decode (λ h. packet_lines h.pool) c.args.script.now _ (shown c.new-world.result) (shown c.run.new.self) _ _ _
+    ran-to-end g.R.Receiver.meaning (λ h. packet_lines h.pool) c.args.script.now _ (shown c.new-world.result) (shown c.run.new.self) _ _ _
     c.events.ensures c.new-world.ensures
     (record { faithful = c.run.ensures.faithful; ordered = c.run.ensures.ordered; synchronous = c.run.ensures.synchronous })
     c.in-Ok.ensures.all c.tell_packets.ensures
 
 pub returns : goal.returns
-returns g c = stopped g.R.Receiver.opening_state g.R.Receiver.apply g.R.Receiver.encode g.R.Receiver.decode (λ h. packet_lines h.pool) c.args.script.now _ _ _ c.end_in_memory.ensures
+returns g c = stopped g.R.Receiver.meaning (λ h. packet_lines h.pool) c.args.script.now _ _ _ c.end_in_memory.ensures

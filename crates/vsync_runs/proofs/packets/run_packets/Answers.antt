@@ -4,7 +4,7 @@ use Rattle.vsync_runs.proofs.packets.run_packets.Goals as goal
 
 pub returns-in-Ok : goal.returns-in-Ok
 returns-in-Ok g c =
-    ran-text (IsPacketText g.R.Receiver.opening_state g.R.Receiver.apply g.R.Receiver.encode g.R.Receiver.decode) _ _ _ _ c.in-Ok.script _ c.in-Ok.ensures c.play_packets.ensures
+    ran-text (IsPacketText g.R.Receiver.meaning) _ _ _ _ c.in-Ok.script _ c.in-Ok.ensures c.play_packets.ensures
 
 pub returns-in-Err : goal.returns-in-Err
-returns-in-Err g c = unrun-text (IsPacketText g.R.Receiver.opening_state g.R.Receiver.apply g.R.Receiver.encode g.R.Receiver.decode) _ _ _ _ c.in-Err.ensures
+returns-in-Err g c = unrun-text (IsPacketText g.R.Receiver.meaning) _ _ _ _ c.in-Err.ensures

@@ -1,12 +1,12 @@
-use Rattle.std.proofs.Common.{length}
-use Rattle.vsync_text.specs.Runs.{lines_from, lines_of_run}
+use Rattle.std.proofs.Common.{length, map}
+use Rattle.vsync_text.specs.TraceText.{line_of}
 use Rattle.vsync_text.proofs.Writing.{GoesOn}
 use Rattle.vsync_text.proofs.run.write_events.Given as goal
 
-abbrev pub invariant-loop-line : goal.invariant-loop-line
-invariant-loop-line g l =
+abbrev pub invariant-loop-event : goal.invariant-loop-event
+invariant-loop-event g l =
     GoesOn (g.W.Write.contents l.initial.writer) (g.W.Write.contents l.writer) l.initial.buffer.items l.buffer.items
-    (lines_from l.from l.lines l.replies l.happenings) (lines_of_run l.initial.lines l.initial.replies l.happenings)
+    (map line_of l.rest) (map line_of l.events)
 
-abbrev pub decreases-loop-line : goal.decreases-loop-line
-decreases-loop-line g l = length l.lines
+abbrev pub decreases-loop-event : goal.decreases-loop-event
+decreases-loop-event g l = length l.rest

@@ -1,5 +1,5 @@
 use Rattle.std.proofs.Common.{◌≡◌, ◌≤◌, ◌-◌}
-use Rattle.address.specs.declared.TheConstants.{GREATEST_NUMBER}
+use Rattle.limits.specs.declared.TheConstants.{GREATEST_NUMBER}
 use Rattle.wire.specs.Reading.{rest_of}
 use Rattle.wire.specs.Lists.{held_at}
 use Rattle.wire.proofs.entries.pass_held.Given as goal

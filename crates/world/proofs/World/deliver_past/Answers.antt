@@ -5,19 +5,19 @@ use Rattle.world.proofs.World.deliver_past.Goals as goal
 
 pub loop-number-init : goal.loop-number-init
 loop-number-init g c =
-    (delivers-start g.R.Receiver.opening_state g.R.Receiver.apply g.R.Receiver.encode g.R.Receiver.decode c.args.past (shown c.args.self.now), omega arith, omega arith, c.count-last.ensures ∙ ap (λ (w : WorldValue _). length w.history.pool) c.self.view_is)
+    (delivers-start g.R.Receiver.meaning c.args.past (shown c.args.self.now), omega arith, omega arith, c.count-last.ensures ∙ ap (λ (w : WorldValue _). length w.history.pool) c.self.view_is)
 
 -- this delivery fails
 pub returns-in_err-play-clause-err : goal.returns-in_err-play-clause-err
 returns-in_err-play-clause-err g c =
     let high : c.loop-number.number < length c.args.self.now.history.pool = omega (arith, c.loop-number-test.true, c.loop-number.invariant.3) in
     on-err c.from_residual.result _
-    (breaks-one g.R.Receiver.opening_state g.R.Receiver.apply g.R.Receiver.encode g.R.Receiver.decode c.args.past c.loop-number.number (length c.args.self.now.history.pool) (shown c.args.self.now) (shown c.loop-number.self) (shown c.play.new.self)
+    (breaks-one g.R.Receiver.meaning c.args.past c.loop-number.number (length c.args.self.now.history.pool) (shown c.args.self.now) (shown c.loop-number.self) (shown c.play.new.self)
     c.loop-number.invariant.1 high c.loop-number.invariant.0 c.in_err-play.ensures.err)
 
 pub loop-number-preserved : goal.loop-number-preserved
 loop-number-preserved g c = (
-  delivers-one g.R.Receiver.opening_state g.R.Receiver.apply g.R.Receiver.encode g.R.Receiver.decode c.args.past c.loop-number.number (shown c.args.self.now) (shown c.loop-number.self) (shown c.play.new.self) c.loop-number.invariant.1 c.loop-number.invariant.0 c.in_ok-play.ensures.ok,
+  delivers-one g.R.Receiver.meaning c.args.past c.loop-number.number (shown c.args.self.now) (shown c.loop-number.self) (shown c.play.new.self) c.loop-number.invariant.1 c.loop-number.invariant.0 c.in_ok-play.ensures.ok,
   omega (arith, c.loop-number.invariant.1),
   omega (arith, c.loop-number-test.true),
   c.loop-number.invariant.3,

@@ -7,15 +7,15 @@ use Rattle.world.proofs.Keeping.{reached-keeps}
 use Rattle.world.proofs.World.kept.Goals as goal
 
 pub returns-clause-faithful : goal.returns-clause-faithful
-returns-clause-faithful g c = subst (λ (w : WorldValue _). IsFaithful w.history) c.self.view_is (reached-keeps g.R.Receiver.opening_state g.R.Receiver.apply g.R.Receiver.encode g.R.Receiver.decode g.R.Receiver.is_state
+returns-clause-faithful g c = subst (λ (w : WorldValue _). IsFaithful w.history) c.self.view_is (reached-keeps g.R.Receiver.meaning
     (record { opens = g.met.R.Receiver.opens; applies = g.met.R.Receiver.applies; decodes = g.met.R.Receiver.decodes; reads_back = g.met.R.Receiver.reads_back }) _ c.self.invariant).faithful
 
 pub returns-clause-ordered : goal.returns-clause-ordered
-returns-clause-ordered g c = subst (λ (w : WorldValue _). EachPlace IsWellOrdered w.history.trace) c.self.view_is (λ k. ((reached-keeps g.R.Receiver.opening_state g.R.Receiver.apply g.R.Receiver.encode g.R.Receiver.decode g.R.Receiver.is_state
+returns-clause-ordered g c = subst (λ (w : WorldValue _). EachPlace IsWellOrdered w.history.trace) c.self.view_is (λ k. ((reached-keeps g.R.Receiver.meaning
     (record { opens = g.met.R.Receiver.opens; applies = g.met.R.Receiver.applies; decodes = g.met.R.Receiver.decodes; reads_back = g.met.R.Receiver.reads_back }) _ c.self.invariant).agreed.trace.synchronous k).ordered)
 
 pub returns-clause-synchronous : goal.returns-clause-synchronous
 returns-clause-synchronous g c =
-    subst (λ (w : WorldValue _). IsVirtuallySynchronous g.R.Receiver.opening_state g.R.Receiver.apply g.R.Receiver.decode w.history.trace) c.self.view_is
-    (reached-keeps g.R.Receiver.opening_state g.R.Receiver.apply g.R.Receiver.encode g.R.Receiver.decode g.R.Receiver.is_state
+    subst (λ (w : WorldValue _). IsVirtuallySynchronous g.R.Receiver.meaning w.history.trace) c.self.view_is
+    (reached-keeps g.R.Receiver.meaning
     (record { opens = g.met.R.Receiver.opens; applies = g.met.R.Receiver.applies; decodes = g.met.R.Receiver.decodes; reads_back = g.met.R.Receiver.reads_back }) _ c.self.invariant).agreed.trace.synchronous

@@ -14,26 +14,26 @@ use Rattle.world.proofs.World.receiver.Goals as goal
 pub returns-in_err-member : goal.returns-in_err-member
 returns-in_err-member g c =
     ap option_copied c.from_residual.ensures
-    ∙ ap (option_map (λ p. state_of g.R.Receiver.opening_state g.R.Receiver.apply g.R.Receiver.decode p c.self.inside.trace.happenings))
-    (nobody-yet g.R.Receiver.opening_state g.R.Receiver.apply g.R.Receiver.encode g.R.Receiver.decode g.R.Receiver.is_state (seats_in (get nat_cmp c.self.inside.seats)) _ c.args.node (reached-keeps g.R.Receiver.opening_state g.R.Receiver.apply g.R.Receiver.encode g.R.Receiver.decode g.R.Receiver.is_state
+    ∙ ap (option_map (λ p. state_of g.R.Receiver.meaning p c.self.inside.trace.events))
+    (nobody-yet g.R.Receiver.meaning (seats_in (get nat_cmp c.self.inside.seats)) _ c.args.node (reached-keeps g.R.Receiver.meaning
     (record { opens = g.met.R.Receiver.opens; applies = g.met.R.Receiver.applies; decodes = g.met.R.Receiver.decodes; reads_back = g.met.R.Receiver.reads_back }) _ c.self.invariant)
     (ap seat_at (sym c.get.ensures.value ∙ ap option_copied c.in_err-member.was)))
-    ∙ ap (λ (w : WorldValue _). option_map (λ p. state_of g.R.Receiver.opening_state g.R.Receiver.apply g.R.Receiver.decode p w.history.trace) (running c.args.node w.history.trace)) c.self.view_is
+    ∙ ap (λ (w : WorldValue _). option_map (λ p. state_of g.R.Receiver.meaning p w.history.trace) (running c.args.node w.history.trace)) c.self.view_is
 
 -- a member runs there
 pub returns-in-Running : goal.returns-in-Running
 returns-in-Running g c =
     c.receiver.ensures
-    ∙ receiver-is g.R.Receiver.opening_state g.R.Receiver.apply g.R.Receiver.encode g.R.Receiver.decode g.R.Receiver.is_state (seats_in (get nat_cmp c.self.inside.seats)) _ c.args.node c.in-Running.member
-    (reached-keeps g.R.Receiver.opening_state g.R.Receiver.apply g.R.Receiver.encode g.R.Receiver.decode g.R.Receiver.is_state
+    ∙ receiver-is g.R.Receiver.meaning (seats_in (get nat_cmp c.self.inside.seats)) _ c.args.node c.in-Running.member
+    (reached-keeps g.R.Receiver.meaning
     (record { opens = g.met.R.Receiver.opens; applies = g.met.R.Receiver.applies; decodes = g.met.R.Receiver.decodes; reads_back = g.met.R.Receiver.reads_back }) _ c.self.invariant) (ap seat_at (sym c.get.ensures.value ∙ ap option_copied c.in_ok-member.was ∙ ap Some c.in-Running.is))
-    ∙ ap (λ (w : WorldValue _). option_map (λ p. state_of g.R.Receiver.opening_state g.R.Receiver.apply g.R.Receiver.decode p w.history.trace) (running c.args.node w.history.trace)) c.self.view_is
+    ∙ ap (λ (w : WorldValue _). option_map (λ p. state_of g.R.Receiver.meaning p w.history.trace) (running c.args.node w.history.trace)) c.self.view_is
 
 -- none runs there yet, or any more
 pub returns-in-Vacant : goal.returns-in-Vacant
 returns-in-Vacant g c =
-    ap (option_map (λ p. state_of g.R.Receiver.opening_state g.R.Receiver.apply g.R.Receiver.decode p c.self.inside.trace.happenings))
-    (nobody-runs g.R.Receiver.opening_state g.R.Receiver.apply g.R.Receiver.encode g.R.Receiver.decode g.R.Receiver.is_state (seats_in (get nat_cmp c.self.inside.seats)) _ c.args.node c.in_ok-member.field-0.now
-    (reached-keeps g.R.Receiver.opening_state g.R.Receiver.apply g.R.Receiver.encode g.R.Receiver.decode g.R.Receiver.is_state
+    ap (option_map (λ p. state_of g.R.Receiver.meaning p c.self.inside.trace.events))
+    (nobody-runs g.R.Receiver.meaning (seats_in (get nat_cmp c.self.inside.seats)) _ c.args.node c.in_ok-member.field-0.now
+    (reached-keeps g.R.Receiver.meaning
     (record { opens = g.met.R.Receiver.opens; applies = g.met.R.Receiver.applies; decodes = g.met.R.Receiver.decodes; reads_back = g.met.R.Receiver.reads_back }) _ c.self.invariant) (ap seat_at (sym c.get.ensures.value ∙ ap option_copied c.in_ok-member.was)) c.in-Vacant.is)
-    ∙ ap (λ (w : WorldValue _). option_map (λ p. state_of g.R.Receiver.opening_state g.R.Receiver.apply g.R.Receiver.decode p w.history.trace) (running c.args.node w.history.trace)) c.self.view_is
+    ∙ ap (λ (w : WorldValue _). option_map (λ p. state_of g.R.Receiver.meaning p w.history.trace) (running c.args.node w.history.trace)) c.self.view_is

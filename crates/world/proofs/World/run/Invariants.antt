@@ -4,4 +4,4 @@ use Rattle.world.proofs.World.run.Given as goal
 
 -- the events so far are carried out
 abbrev pub invariant-loop-event : goal.invariant-loop-event
-invariant-loop-event g l = Runs g.R.Receiver.opening_state g.R.Receiver.apply g.R.Receiver.encode g.R.Receiver.decode (shown l.fn.self) (take l.event-index l.events) (shown l.self)
+invariant-loop-event g l = Runs g.R.Receiver.meaning (shown l.fn.self) (take l.event-index l.events) (shown l.self)

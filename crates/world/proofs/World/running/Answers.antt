@@ -13,7 +13,7 @@ use Rattle.world.proofs.World.running.Goals as goal
 pub returns-in_err-member : goal.returns-in_err-member
 returns-in_err-member g c =
     c.from_residual.ensures
-    ∙ nobody-yet g.R.Receiver.opening_state g.R.Receiver.apply g.R.Receiver.encode g.R.Receiver.decode g.R.Receiver.is_state (seats_in (get nat_cmp c.self.inside.seats)) _ c.args.node (reached-keeps g.R.Receiver.opening_state g.R.Receiver.apply g.R.Receiver.encode g.R.Receiver.decode g.R.Receiver.is_state
+    ∙ nobody-yet g.R.Receiver.meaning (seats_in (get nat_cmp c.self.inside.seats)) _ c.args.node (reached-keeps g.R.Receiver.meaning
     (record { opens = g.met.R.Receiver.opens; applies = g.met.R.Receiver.applies; decodes = g.met.R.Receiver.decodes; reads_back = g.met.R.Receiver.reads_back }) _ c.self.invariant)
     (ap seat_at (sym c.get.ensures.value ∙ ap option_copied c.in_err-member.was))
     ∙ ap (λ (w : WorldValue _). running c.args.node w.history.trace) c.self.view_is
@@ -22,15 +22,15 @@ returns-in_err-member g c =
 pub returns-in-Running : goal.returns-in-Running
 returns-in-Running g c =
     ap Some c.address.ensures
-    ∙ running-is g.R.Receiver.opening_state g.R.Receiver.apply g.R.Receiver.encode g.R.Receiver.decode g.R.Receiver.is_state (seats_in (get nat_cmp c.self.inside.seats)) _ c.args.node c.in-Running.member
-    (reached-keeps g.R.Receiver.opening_state g.R.Receiver.apply g.R.Receiver.encode g.R.Receiver.decode g.R.Receiver.is_state
+    ∙ running-is g.R.Receiver.meaning (seats_in (get nat_cmp c.self.inside.seats)) _ c.args.node c.in-Running.member
+    (reached-keeps g.R.Receiver.meaning
     (record { opens = g.met.R.Receiver.opens; applies = g.met.R.Receiver.applies; decodes = g.met.R.Receiver.decodes; reads_back = g.met.R.Receiver.reads_back }) _ c.self.invariant) (ap seat_at (sym c.get.ensures.value ∙ ap option_copied c.in_ok-member.was ∙ ap Some c.in-Running.is))
     ∙ ap (λ (w : WorldValue _). running c.args.node w.history.trace) c.self.view_is
 
 -- none runs there yet, or any more
 pub returns-in-Vacant : goal.returns-in-Vacant
 returns-in-Vacant g c =
-    nobody-runs g.R.Receiver.opening_state g.R.Receiver.apply g.R.Receiver.encode g.R.Receiver.decode g.R.Receiver.is_state (seats_in (get nat_cmp c.self.inside.seats)) _ c.args.node c.in_ok-member.field-0.now
-    (reached-keeps g.R.Receiver.opening_state g.R.Receiver.apply g.R.Receiver.encode g.R.Receiver.decode g.R.Receiver.is_state
+    nobody-runs g.R.Receiver.meaning (seats_in (get nat_cmp c.self.inside.seats)) _ c.args.node c.in_ok-member.field-0.now
+    (reached-keeps g.R.Receiver.meaning
     (record { opens = g.met.R.Receiver.opens; applies = g.met.R.Receiver.applies; decodes = g.met.R.Receiver.decodes; reads_back = g.met.R.Receiver.reads_back }) _ c.self.invariant) (ap seat_at (sym c.get.ensures.value ∙ ap option_copied c.in_ok-member.was)) c.in-Vacant.is
     ∙ ap (λ (w : WorldValue _). running c.args.node w.history.trace) c.self.view_is

@@ -15,8 +15,8 @@ returns-in-Join g c = rw c.in-Join.is c.hand-in-Join.ensures
 
 pub returns-in-Send : goal.returns-in-Send
 returns-in-Send g c =
-    rw c.in-Send.is (lent g.R.Receiver.apply g.R.Receiver.encode g.R.Receiver.decode Send c.as_slice.result _ c.args.seat.now c.args.trace.now.happenings c.args.pool.now c.hand-in-Send.new.pool
-    c.hand-in-Send.result c.hand-in-Send.new.seat c.hand-in-Send.new.trace.happenings c.as_slice.ensures c.hand-in-Send.ensures)
+    rw c.in-Send.is (lent g.R.Receiver.meaning Send c.as_slice.result _ c.args.seat.now c.args.trace.now.events c.args.pool.now c.hand-in-Send.new.pool
+    c.hand-in-Send.result c.hand-in-Send.new.seat c.hand-in-Send.new.trace.events c.as_slice.ensures c.hand-in-Send.ensures)
 
 pub returns-in-Tick : goal.returns-in-Tick
 returns-in-Tick g c = rw c.in-Tick.is c.hand-in-Tick.ensures

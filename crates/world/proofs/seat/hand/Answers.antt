@@ -2,4 +2,4 @@ use Rattle.world.proofs.Handing.{fits}
 use Rattle.world.proofs.seat.hand.Goals as goal
 
 pub settle-requires-clause-fits : goal.settle-requires-clause-fits
-settle-requires-clause-fits g c = fits g.R.Receiver.apply g.R.Receiver.encode g.R.Receiver.decode _ _ _ _ c.handled-called.ensures
+settle-requires-clause-fits g c = fits g.R.Receiver.meaning _ _ _ _ c.handled-called.ensures

@@ -5,11 +5,11 @@ use Rattle.world.proofs.Handing.{fits, heard, handed-here}
 use Rattle.world.proofs.seat.hear.Goals as goal
 
 pub settle-requires-clause-fits : goal.settle-requires-clause-fits
-settle-requires-clause-fits g c = fits g.R.Receiver.apply g.R.Receiver.encode g.R.Receiver.decode _ _ _ _ c.handled-called.ensures
+settle-requires-clause-fits g c = fits g.R.Receiver.meaning _ _ _ _ c.handled-called.ensures
 
 -- the member is handed the bytes as they lie in the pool
 pub returns-in-Some : goal.returns-in-Some
 returns-in-Some g c bytes is =
-    heard g.R.Receiver.apply g.R.Receiver.encode g.R.Receiver.decode c.in-Some.bytes bytes _ c.in-Running.member _ _ _ _ _ _ c.in-Running.is
+    heard g.R.Receiver.meaning c.in-Some.bytes bytes _ c.in-Running.member _ _ _ _ _ _ c.in-Running.is
     (same_Some _ _ (sym (ap option_copied c.in-Some.is) ∙ c.packet.ensures ∙ is))
-    (handed-here g.R.Receiver.apply g.R.Receiver.encode g.R.Receiver.decode _ c.in-Running.member _ _ _ _ _ _ _ _ _ c.handled-called.ensures c.address-address.ensures (c.settle.ensures _ _ refl refl))
+    (handed-here g.R.Receiver.meaning _ c.in-Running.member _ _ _ _ _ _ _ _ _ c.handled-called.ensures c.address-address.ensures (c.settle.ensures _ _ refl refl))

@@ -1,7 +1,7 @@
 use Rattle.std.proofs.Common.{◌≡◌, ℕ, List, Some, None, sym, ap, ◌∙◌, position}
 use Rattle.std.specs.Option.{option_map}
 use Rattle.std.specs.List.{remove}
-use Rattle.trace_props.specs.declared.happening.Numbered.{Numbered}
+use Rattle.trace_props.specs.declared.event.Numbered.{Numbered}
 use Rattle.sequencer.specs.Queues.{Queue, follows, next_of, entry_with, served}
 use Rattle.sequencer.proofs.Firsts.{IsFirst, first-is, none-is, find-none}
 use Rattle.sequencer.proofs.Queues.{served-is, next-is}

@@ -5,12 +5,12 @@ use Rattle.trace_checker.proofs.judge.rules.keeps_messages.Goals as goal
 
 -- a message is sent
 pub returns-in-Some : goal.returns-in-Some
-returns-in-Some c = of-sent (MayCarry c.args.past.now) c.args.happening.now c.in-Some.sending.now c.may_send.result _ c.in-Some.ensures c.may_send.ensures (send-decides c.args.past.now c.in-Some.sending.now)
+returns-in-Some c = of-sent (MayCarry c.args.past.now) c.args.event.now c.in-Some.sending.now c.may_send.result _ c.in-Some.ensures c.may_send.ensures (send-decides c.args.past.now c.in-Some.sending.now)
 
 -- nothing is sent or told
 pub returns-in-None-delivery_in : goal.returns-in-None-delivery_in
-returns-in-None-delivery_in c = carry-none c.args.past.now c.args.happening.now c.in-None.ensures c.in-None-delivery_in.ensures
+returns-in-None-delivery_in c = carry-none c.args.past.now c.args.event.now c.in-None.ensures c.in-None-delivery_in.ensures
 
 -- a message is told
 pub returns-in-Some-delivery_in : goal.returns-in-Some-delivery_in
-returns-in-Some-delivery_in c = of-told (MayCarry c.args.past.now) c.args.happening.now c.in-Some-delivery_in.delivery.now c.may_tell.result _ c.in-Some-delivery_in.ensures c.may_tell.ensures (tell-decides c.args.past.now c.in-Some-delivery_in.delivery.now)
+returns-in-Some-delivery_in c = of-told (MayCarry c.args.past.now) c.args.event.now c.in-Some-delivery_in.delivery.now c.may_tell.result _ c.in-Some-delivery_in.ensures c.may_tell.ensures (tell-decides c.args.past.now c.in-Some-delivery_in.delivery.now)

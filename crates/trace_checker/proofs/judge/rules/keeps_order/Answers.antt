@@ -5,8 +5,8 @@ use Rattle.trace_checker.proofs.judge.rules.keeps_order.Goals as goal
 
 -- nothing is told
 pub returns-in-None : goal.returns-in-None
-returns-in-None c = order-none c.args.past.now c.args.happening.now c.in-None.ensures
+returns-in-None c = order-none c.args.past.now c.args.event.now c.in-None.ensures
 
 -- the test decides
 pub returns-in-Some : goal.returns-in-Some
-returns-in-Some c = of-told (MayOrder c.args.past.now) c.args.happening.now c.in-Some.delivery.now c.may_order.result _ c.in-Some.ensures c.may_order.ensures (order-decides c.args.past.now c.in-Some.delivery.now)
+returns-in-Some c = of-told (MayOrder c.args.past.now) c.args.event.now c.in-Some.delivery.now c.may_order.result _ c.in-Some.ensures c.may_order.ensures (order-decides c.args.past.now c.in-Some.delivery.now)

@@ -6,4 +6,4 @@ use Rattle.trace_checker.proofs.judge.rules.keeps_placed.Goals as goal
 
 -- the test decides
 pub returns : goal.returns
-returns c = subst (λ (b : Bool). Decides b (MayStand c.args.past.now c.args.happening.now)) (sym c.may_stand.ensures) (stands-decides c.args.past.now c.args.happening.now)
+returns c = subst (λ (b : Bool). Decides b (MayStand c.args.past.now c.args.event.now)) (sym c.may_stand.ensures) (stands-decides c.args.past.now c.args.event.now)

@@ -5,8 +5,8 @@ use Rattle.trace_checker.proofs.judge.rules.keeps_together.Goals as goal
 
 -- nothing is installed
 pub returns-in-None : goal.returns-in-None
-returns-in-None c = know-none c.args.past.now c.args.happening.now c.in-None.ensures
+returns-in-None c = know-none c.args.past.now c.args.event.now c.in-None.ensures
 
 -- the test decides
 pub returns-in-Some : goal.returns-in-Some
-returns-in-Some c = of-installed (MayKnow c.args.past.now) c.args.happening.now c.in-Some.install.now c.may_know.result _ c.in-Some.ensures c.may_know.ensures (knows-decides c.args.past.now c.in-Some.install.now)
+returns-in-Some c = of-installed (MayKnow c.args.past.now) c.args.event.now c.in-Some.install.now c.may_know.result _ c.in-Some.ensures c.may_know.ensures (knows-decides c.args.past.now c.in-Some.install.now)

@@ -5,8 +5,8 @@ use Rattle.trace_checker.proofs.known.notes.note_sent.Goals as goal
 
 -- nothing is sent
 pub returns-in-None : goal.returns-in-None
-returns-in-None c = λ t r. no-sending (get seat_cmp c.args.sent.now.lists) t c.args.happening.now c.in-None.ensures r
+returns-in-None c = λ t r. no-sending (get seat_cmp c.args.sent.now.lists) t c.args.event.now c.in-None.ensures r
 
 -- the message is kept
 pub returns-in_ok-push-in-Some : goal.returns-in_ok-push-in-Some
-returns-in_ok-push-in-Some c = λ t r. a-sending (get seat_cmp c.args.sent.now.lists) (get seat_cmp c.push.new.self.lists) t c.args.happening.now c.in-Some.sending.now c.in-Some.ensures c.in_ok-push-in-Some.ensures r
+returns-in_ok-push-in-Some c = λ t r. a-sending (get seat_cmp c.args.sent.now.lists) (get seat_cmp c.push.new.self.lists) t c.args.event.now c.in-Some.sending.now c.in-Some.ensures c.in_ok-push-in-Some.ensures r

@@ -8,7 +8,7 @@ use Rattle.trace_checker.proofs.known.states.enter.Goals as goal
 -- the bytes are compared, or are the first
 pub returns : goal.returns
 returns g c = λ t r.
-    install-known g.R.Receiver.opening_state g.R.Receiver.apply g.R.Receiver.decode g.R.Receiver.encode g.R.Receiver.is_state g.met.R.Receiver.decodes g.met.R.Receiver.reads_back
+    install-known g.R.Receiver.meaning g.met.R.Receiver.decodes g.met.R.Receiver.reads_back
     (get address_cmp c.args.states.now.states) (get address_cmp c.take.new.states) (get view_id_cmp c.args.states.now.entering) (get view_id_cmp c.enter_with.new.entering) t c.args.install.now
     c.in_ok-bytes.bytes c.eq-first.result c.in_ok-alike.alike c.in_ok-take.ensures.takes (c.in_ok-take.ensures.read.0 c.if-not-branch.false) c.in_ok-bytes.ensures
     (c.eq-first.ensures ∙ ap (same_address c.args.install.now.member) c.first.ensures.creator)

@@ -6,9 +6,9 @@ use Rattle.traffic.specs.Turns.{Ordering, IsSettled}
 use Rattle.traffic.proofs.coordinator.Coordinator.order.Given as goal
 
 abbrev pub invariant-loop : goal.invariant-loop
-invariant-loop g l = ((came : Option Posted) → CoordinatorGoes g.R.Receiver.apply g.R.Receiver.encode g.R.Receiver.decode came l.who.address l.who.group l.fn.self l.fn.receiver l.fn.out l.self l.receiver l.out)
+invariant-loop g l = ((came : Option Posted) → CoordinatorGoes g.R.Receiver.meaning came l.who.address l.who.group l.fn.self l.fn.receiver l.fn.out l.self l.receiver l.out)
     × IsSettled l.who.address l.self
-    × Ordering g.R.Receiver.apply l.who.address l.who.group l.fn.self l.fn.receiver l.fn.out l.self l.receiver l.out
+    × Ordering g.R.Receiver.meaning l.who.address l.who.group l.fn.self l.fn.receiver l.fn.out l.self l.receiver l.out
 
 abbrev pub decreases-loop : goal.decreases-loop
 decreases-loop g l = length (waiting_of l.self.orderer.queues)

@@ -1,7 +1,7 @@
 use Rattle.std.proofs.Common.{MatchBool, ◌++◌, ◌∷◌, []}
 use Rattle.std.specs.BTreeMap.{get}
 use Rattle.address.specs.Ids.{address_cmp, view_id_cmp}
-use Rattle.trace_props.specs.declared.happening.Happening.{Happening}
+use Rattle.trace_props.specs.declared.event.Event.{Event}
 use Rattle.trace_props.specs.Agreeing.{MayEnter}
 use Rattle.trace_checker.specs.Copies.{KnowsStates}
 use Rattle.trace_checker.proofs.Copying.{nothing-known}
@@ -11,15 +11,15 @@ use Rattle.trace_checker.proofs.known.states.States.advance.Goals as goal
 -- nothing is told or installed
 pub returns-in-None-install_in : goal.returns-in-None-install_in
 returns-in-None-install_in g c = λ t r.
-    nothing-known g.R.Receiver.opening_state g.R.Receiver.apply g.R.Receiver.decode g.R.Receiver.encode g.R.Receiver.is_state
-    (get address_cmp c.args.self.now.states) (get view_id_cmp c.args.self.now.entering) t c.args.happening.now c.in-None.ensures c.in-None-install_in.ensures r
+    nothing-known g.R.Receiver.meaning
+    (get address_cmp c.args.self.now.states) (get view_id_cmp c.args.self.now.entering) t c.args.event.now c.in-None.ensures c.in-None-install_in.ensures r
 
 -- a view is installed
 pub returns-in_ok-alike-in-Some-install_in : goal.returns-in_ok-alike-in-Some-install_in
 returns-in_ok-alike-in-Some-install_in g c = λ t r.
     of-install
-    (λ (h : Happening). MatchBool c.in_ok-alike-in-Some-install_in.alike
-    (MayEnter g.R.Receiver.opening_state g.R.Receiver.apply g.R.Receiver.decode t h
-    × KnowsStates g.R.Receiver.opening_state g.R.Receiver.apply g.R.Receiver.decode g.R.Receiver.encode g.R.Receiver.is_state (get address_cmp c.enter.new.states.states) (get view_id_cmp c.enter.new.states.entering) (t ++ h ∷ []))
-    (MayEnter g.R.Receiver.opening_state g.R.Receiver.apply g.R.Receiver.decode t h → ⊥))
-    c.args.happening.now c.in-Some-install_in.install.now c.in-Some-install_in.ensures (c.in_ok-alike-in-Some-install_in.ensures t r)
+    (λ (h : Event). MatchBool c.in_ok-alike-in-Some-install_in.alike
+    (MayEnter g.R.Receiver.meaning t h
+    × KnowsStates g.R.Receiver.meaning (get address_cmp c.enter.new.states.states) (get view_id_cmp c.enter.new.states.entering) (t ++ h ∷ []))
+    (MayEnter g.R.Receiver.meaning t h → ⊥))
+    c.args.event.now c.in-Some-install_in.install.now c.in-Some-install_in.ensures (c.in_ok-alike-in-Some-install_in.ensures t r)

@@ -51,7 +51,7 @@ pub struct Install {
 
 /// What happens to a member of a group (docs/GUARANTEES.md, "Traces").
 #[derive(Debug, Drop)]
-pub enum Happening {
+pub enum Event {
     /// It begins to run.
     Started(Address),
     /// It sends a message.
@@ -76,7 +76,7 @@ pub struct HandedBack {
 
 impl Model for HandedBack {
     ghost use Rattle.std.specs.Prelude.{List};
-    ghost use Rattle.trace_props.specs.declared.happening.Numbered.{Numbered};
+    ghost use Rattle.trace_props.specs.declared.event.Numbered.{Numbered};
 
     ghost Value = { List Numbered };
 

@@ -1,5 +1,5 @@
 use Rattle.std.proofs.Common.{rules}
-use Rattle.trace_props.proofs.happening.HandedBack.as_slice.Goals as goal
+use Rattle.trace_props.proofs.event.HandedBack.from_vec.Goals as goal
 
 pub returns : goal.returns
 returns c = search rules

@@ -1,5 +1,5 @@
 use Rattle.std.proofs.Common.{rules}
-use Rattle.trace_props.proofs.happening.HandedBack.from_vec.Goals as goal
+use Rattle.trace_props.proofs.event.HandedBack.as_slice.Goals as goal
 
 pub returns : goal.returns
 returns c = search rules

@@ -1,5 +1,5 @@
 use Rattle.std.proofs.Common.{rules}
-use Rattle.vsync_text.proofs.trace_line.append_happening.Goals as goal
+use Rattle.vsync_text.proofs.trace_line.append_event.Goals as goal
 
 pub returns-then-is_err-clause-text : goal.returns-then-is_err-clause-text
 returns-then-is_err-clause-text c = search rules

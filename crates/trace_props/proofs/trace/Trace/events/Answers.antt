@@ -1,5 +1,5 @@
 use Rattle.std.proofs.Common.{rules}
-use Rattle.trace_props.proofs.trace.Trace.happenings.Goals as goal
+use Rattle.trace_props.proofs.trace.Trace.events.Goals as goal
 
 pub returns-clause-value : goal.returns-clause-value
 returns-clause-value c = search rules

@@ -1,0 +1,45 @@
+//! The limits of the channel, each once. A later version changes them here: code, definitions and proofs go by the names.
+#![tactic(auto)]
+
+/// The most members that a view may have, also those of a list of addresses in a packet; in members.
+pub const MEMBERS: usize = 16;
+
+/// The longest payload of a message, in bytes.
+pub const PAYLOAD: usize = 512;
+
+/// The longest state that a receiver may give and a packet can carry, in bytes.
+pub const STATE: usize = 16_384;
+
+/// The most own messages of a member that it has sent and not been told yet, and of one sender that may wait to be ordered; in messages.
+pub const OUTSTANDING: u64 = 8;
+
+/// How far the numbers of a view's order may lie past the stable one, in messages: what a window takes and keeps, and a packet can carry.
+pub const WINDOW: u64 = 32;
+
+/// The most events of one step of a member, and so the places of the trace that are reserved before each step; in events. A step tells at most the
+/// messages of a window and a few changes of view.
+pub const STEP_EVENTS: usize = WINDOW as usize + 8;
+
+/// The greatest number of a message in its view, of a member's own messages and of a view id's counter: 2 to the 62.
+pub const GREATEST_NUMBER: u64 = 4_611_686_018_427_387_904;
+
+/// The longest name of a group, in bytes.
+pub const GROUP_NAME: usize = 32;
+
+/// The longest datagram, in bytes.
+pub const DATAGRAM: usize = 40_000;
+
+/// The first two bytes of a packet, `VS`, as a number.
+pub const MAGIC: u16 = 22_099;
+
+/// The version of the format of packets, as its number on the wire.
+pub const VERSION: u8 = 1;
+
+/// How many kinds of packet there are, numbered from 1.
+pub const KINDS: u8 = 13;
+
+/// The longest line of a script, without its line feed, in bytes.
+pub const SCRIPT_LINE: usize = 4_096;
+
+/// The longest line of a trace, without its line feed, in bytes (docs/FORMATS.md, "Trace text").
+pub const TRACE_LINE: usize = 65_536;
