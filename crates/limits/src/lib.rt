@@ -10,14 +10,14 @@ pub const PAYLOAD: usize = 512;
 /// The longest state that a receiver may give and a packet can carry, in bytes.
 pub const STATE: usize = 16_384;
 
-/// The most own messages of a member that it has sent and not been told yet, and of one sender that may wait to be ordered; in messages.
+/// The most own messages of a member that it has sent and that were not delivered to it yet, and of one sender that may wait to be ordered; in messages.
 pub const OUTSTANDING: u64 = 8;
 
 /// How far the numbers of a view's order may lie past the stable one, in messages: what a window takes and keeps, and a packet can carry.
 pub const WINDOW: u64 = 32;
 
-/// The most events of one step of a member, and so the places of the trace that are reserved before each step; in events. A step tells at most the
-/// messages of a window and a few changes of view.
+/// The most events of one step of a member, and so the places of the trace that are reserved before each step; in events. In a step at most the
+/// messages of a window are delivered, and a few views change.
 pub const STEP_EVENTS: usize = WINDOW as usize + 8;
 
 /// The greatest number of a message in its view, of a member's own messages and of a view id's counter: 2 to the 62.
