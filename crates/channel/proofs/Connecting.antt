@@ -1,0 +1,51 @@
+-- A connect: the member starts, and takes its first input.
+use Rattle.std.proofs.Common.{◌≡◌, ℕ, Bool, true, false, Option, Some, None, List, Result, Ok, Err, refl, sym, ap, ◌∙◌, subst}
+use Rattle.address.specs.Ids.{Address}
+use Rattle.packet_values.specs.Names.{is_group_name}
+use Rattle.trace_props.specs.declared.happening.Happening.{Happening}
+use Rattle.output.specs.declared.output.Outgoing.{Outgoing}
+use Rattle.member.specs.declared.input.Input.{Input}
+use Rattle.member.specs.Members.{MemberModel}
+use Rattle.channel.specs.declared.error.Error.{Error}
+use Rattle.channel.specs.declared.stage.Stage.{Stage}
+use Rattle.channel.specs.declared.stage.Stage.TheVariants.{Apart, Connected, Ended}
+use Rattle.channel.specs.Channels.{ChannelModel, is_in}
+use Rattle.channel.specs.Calls.{Takes, Fails, Steps, CallsAt, Calls, ConnectsAt, Connects, Reconnects}
+use Rattle.channel.specs.Stages.{Begins}
+
+module _ {S : Type 0} (apply : S → Address → List ℕ → S) (encode : S → List ℕ) (decode : List ℕ → Option S) where
+  abbrev staged : ChannelModel S → Stage S → ChannelModel S
+  staged c s = record { address = c.address; stage = s; outgoing = c.outgoing; happened = c.happened }
+
+  -- a step says nothing of the stage before
+  steps-from : (input : Input) (m : MemberModel S) (c : ChannelModel S) (s : Stage S) (failure : Option Error) (new : ChannelModel S)
+      → Steps apply encode decode input m (staged c s) failure new → Steps apply encode decode input m c failure new
+  steps-from input m c s None new x = record { out = x.out; left = x.left; handled = x.handled; becomes = x.becomes }
+  steps-from input m c s (Some e) new x = x
+
+  begun-at : {A : Type 0} (input : Input) (name : List ℕ) (c : ChannelModel S) (old mid : Stage S) (done : A) (failure : Option Error) (new : ChannelModel S)
+      → Begins {A = A} c.address name old (Ok done) mid → Calls apply encode decode input (staged c mid) failure new → ConnectsAt apply encode decode input name old c failure new
+  begun-at input name c (Apart s) mid done failure new b x = rw b.0 (record {
+    member = b.1.member;
+    started = b.1.started;
+    steps = steps-from input b.1.member c mid failure new (subst (λ (k : Stage S). CallsAt apply encode decode input k (staged c mid) failure new) b.1.becomes x);
+  })
+  begun-at input name c (Connected m) mid done failure new b x = let n = b.answer in absurd (cc)
+  begun-at input name c Ended mid done failure new b x = let n = b.answer in absurd (cc)
+
+  pub begun : {A : Type 0} (input : Input) (name : List ℕ) (c : ChannelModel S) (mid : Stage S) (r : Result A Error) (done : A) (failure : Option Error) (new : ChannelModel S)
+      → Begins c.address name c.stage r mid → r ≡ Ok done → Calls apply encode decode input (staged c mid) failure new → Connects apply encode decode input name c failure new
+  begun {A} input name c mid r done failure new b is x =
+      begun-at {A = A} input name c c.stage mid done failure new (subst (λ (k : Result A Error). Begins c.address name c.stage k mid) is b) x
+
+  -- under a name that is not its own a member starts
+  pub reconnected : {A : Type 0} (input : Input) (name : List ℕ) (c joined : ChannelModel S) (mid : Stage S) (r : Result A Error) (done : A) (failure : Option Error) (new : ChannelModel S)
+      → is_in name c.stage ≡ false → Begins c.address name c.stage r mid → r ≡ Ok done → joined ≡ staged c mid → Calls apply encode decode input joined failure new
+      → Reconnects apply encode decode input name c failure new
+  reconnected {A} input name c joined mid r done failure new other b is same x =
+      rw other (begun {A = A} input name c mid r done failure new b is (subst (λ (j : ChannelModel S). Calls apply encode decode input j failure new) same x))
+
+  -- under its own name its member is handed the input
+  pub asked-again : (input : Input) (name : List ℕ) (c joined : ChannelModel S) (failure : Option Error) (new : ChannelModel S) → is_in name c.stage ≡ true → joined ≡ c
+      → Calls apply encode decode input joined failure new → Reconnects apply encode decode input name c failure new
+  asked-again input name c joined failure new own same x = rw own (subst (λ (j : ChannelModel S). Calls apply encode decode input j failure new) same x)
