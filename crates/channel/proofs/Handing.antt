@@ -1,10 +1,11 @@
 -- What a step of the member leaves of a channel, and what its callers know of it.
 use Rattle.std.proofs.Common.{◌≡◌, ℕ, ◌++◌, Bool, true, false, cond, Option, Some, None, List, Result, Ok, Err, inl, inr, ◌⊎◌, is_some, refl, sym, ap, ◌∙◌, subst}
 use Rattle.std.specs.Prelude.{MatchBool}
-use Rattle.std.specs.Option.{option_map, option_map_or}
+use Rattle.std.specs.Option.{IsSomeAnd, option_map, option_map_or}
 use Rattle.std.proofs.lemmas.Option.{same_Some}
 use Rattle.address.specs.Ids.{Address}
 use Rattle.trace_props.specs.declared.happening.Happening.{Happening}
+use Rattle.agreement.specs.Cores.{Core}
 use Rattle.output.specs.declared.output.Output.{Output}
 use Rattle.output.specs.declared.output.Outgoing.{Outgoing}
 use Rattle.membership.specs.declared.life.Life.{Life}
@@ -12,8 +13,9 @@ use Rattle.membership.specs.Lives.{core_of as core_at}
 use Rattle.member.specs.declared.error.Error.{Error as MemberError}
 use Rattle.member.specs.declared.error.Error.TheVariants as member
 use Rattle.member.specs.declared.input.Input.{Input}
+use Rattle.member.specs.declared.input.Input.TheVariants.{Leave}
 use Rattle.member.specs.Members.{MemberModel, core_of, refusal_in, refusal_of, is_unreadable}
-use Rattle.member.specs.Handling.{Handled}
+use Rattle.member.specs.Handling.{Handled, Replies}
 use Rattle.channel.specs.declared.error.Error.{Error}
 use Rattle.channel.specs.declared.error.Error.TheVariants.{NotConnected, Closed}
 use Rattle.channel.specs.declared.stage.Stage.{Stage}
@@ -121,3 +123,21 @@ module _ {S : Type 0} (apply : S → Address → List ℕ → S) (encode : S →
       → Hands apply encode decode input c.stage r new → r ≡ Ok out → packets ≡ c.outgoing ++ out.packets.items → events ≡ c.happened ++ out.happenings.items
       → Calls apply encode decode input c None (record { address = c.address; stage = new; outgoing = packets; happened = events })
   taken input c r new out packets events x is p q = taken-at input c c.stage new out packets events (subst (λ (k : Result Output Error). Hands apply encode decode input c.stage k new) is x) p q
+
+  -- ---- a leave
+
+  left-core-at : (core : Option (Core S)) (left : MemberModel S) (out : Output) → IsSomeAnd core (λ c. Replies c Leave out.happenings.items (core_of left)) → core_of left ≡ None
+  left-core-at None left out x = absurd x
+  left-core-at (Some c) left out x = x.1
+
+  left-core : (m left : MemberModel S) (out : Output) → Handled apply encode decode m Leave (Ok out) left → core_of left ≡ None
+  left-core m left out h = left-core-at (core_of m) left out h.reply
+
+  left-at : (old : Stage S) (c new : ChannelModel S) → CallsAt apply encode decode Leave old c None new → new.stage ≡ Ended
+  left-at (Apart s) c new x = absurd (cc)
+  left-at (Connected m) c new x = ap (λ (d : ChannelModel S). d.stage) x.becomes ∙ gone x.left (left-core m x.left x.out x.handled)
+  left-at Ended c new x = absurd (cc)
+
+  -- after a leave that is taken it has ended
+  pub has-left : (c new : ChannelModel S) → Calls apply encode decode Leave c None new → new.stage ≡ Ended
+  has-left c new x = left-at c.stage c new x

@@ -1,10 +1,11 @@
 -- What a call does: it is one call of its member's `handle`, whose packets and events stand behind those that wait.
-use Rattle.std.specs.Prelude.{◌≡◌, ℕ, List, ◌++◌, Option, None, Some, Result, Ok, Err, Vec, MatchBool, MatchResult}
+use Rattle.std.specs.Prelude.{◌≡◌, ℕ, List, [], ◌++◌, Option, None, Some, Result, Ok, Err, Vec, MatchBool, MatchResult}
 use Rattle.std.specs.Borrow.{Bor}
 use Rattle.address.specs.Ids.{Address}
 use Rattle.packet_values.specs.Names.{is_group_name}
 use Rattle.agreement.specs.Cores.{idle}
 use Rattle.output.specs.declared.output.Output.{Output}
+use Rattle.output.specs.Outputs.{Puts}
 use Rattle.member.specs.declared.error.Error.{Error as MemberError}
 use Rattle.member.specs.declared.input.Input.{Input}
 use Rattle.member.specs.Members.{MemberModel, core_of}
@@ -35,9 +36,9 @@ pub record Takes {S : Type 0} (apply : S → Address → List ℕ → S) (encode
   pub handled : Handled apply encode decode m input (Ok out) left
   pub becomes : new ≡ after old out left
 
--- why a step fails: `handle` refused the input, or room was refused for what it put out
+-- why a step fails: `handle` refused the input, or room was refused for what it put out, and that was something
 abbrev pub IsWhy : Result Output MemberError → Error → Type 0
-IsWhy (Ok out) e = e ≡ Memory
+IsWhy (Ok out) e = (e ≡ Memory) × (Puts [] [] out → ⊥)
 IsWhy (Err refused) e = e ≡ answer_for refused
 
 -- FAILED: one call of `handle` came to this error

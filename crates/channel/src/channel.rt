@@ -1,8 +1,8 @@
-ghost use Rattle.std.specs.Prelude.{◌≡◌, [], length, IfOk, IfErr, Some};
+ghost use Rattle.std.specs.Prelude.{◌≡◌, [], length, IfOk, IfErr, OnOk, Some};
 ghost use Rattle.std.specs.Option.{option_copied, option_map};
 ghost use Rattle.std.specs.Result.{result_err};
 ghost use Rattle.member.specs.declared.input.Input.TheVariants as input;
-ghost use Rattle.channel.specs.declared.stage.Stage.TheVariants.{Apart};
+ghost use Rattle.channel.specs.declared.stage.Stage.TheVariants.{Apart, Ended};
 ghost use Rattle.channel.specs.Channels.{left_by, view_in, is_blocked, receiver_in, source_at};
 ghost use Rattle.channel.specs.Calls.{Calls, CallsLent, Connects, Reconnects, Watches};
 ghost use Rattle.channel.specs.Queues.{TakesFirst, sent_at};
@@ -101,6 +101,7 @@ impl<R: Receiver> Channel<R> {
     /// 6 after its end, and with 7 where memory was refused.
     pub fn disconnect(&mut self) -> Result<(), Error>
         ensures calls { Calls R.apply R.encode R.decode input.Leave self.old (result_err result) self.new }
+        ensures ended { OnOk result (self.new.stage ≡ Ended) }
         ensures left { IfErr result (λ e. self.new ≡ left_by e self.old) }
     {
         self.call(&Input::Leave)?;

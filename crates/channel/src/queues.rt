@@ -1,7 +1,8 @@
 //! What waits to be taken.
 
-ghost use Rattle.std.specs.Prelude.{◌≡◌, ◌++◌, OnOk, OnErr};
+ghost use Rattle.std.specs.Prelude.{◌≡◌, ◌++◌, [], OnOk, OnErr};
 ghost use Rattle.std.specs.Option.{option_map};
+ghost use Rattle.output.specs.Outputs.{Puts};
 ghost use Rattle.channel.specs.Queues.{sent_at};
 
 use output::{Outgoing, Output};
@@ -9,7 +10,7 @@ use std::alloc::AllocError;
 use std::collections::VecDeque;
 use trace_props::Happening;
 
-// Puts packets and events behind those that wait. Where room for either is refused, both queues are as before.
+// Puts packets and events behind those that wait. Where room for either is refused, both queues are as before, and there was a packet or an event.
 pub(crate) fn put_all(
     outgoing: &mut VecDeque<Outgoing>,
     happened: &mut VecDeque<Happening>,
@@ -19,11 +20,15 @@ pub(crate) fn put_all(
     ensures events { OnOk result (happened.new.items ≡ happened.old.items ++ out.happenings.items) }
     ensures packets_left { OnErr result (outgoing.new.items ≡ outgoing.old.items) }
     ensures events_left { OnErr result (happened.new.items ≡ happened.old.items) }
+    ensures some { OnErr result (Puts [] [] out → ⊥) }
 {
     let Output {
         packets,
         happenings,
     } = out;
+    if packets.is_empty() && happenings.is_empty() {
+        return Ok(());
+    }
     happened.reserve(happenings.len())?;
     outgoing.append(&mut VecDeque::from_vec(packets))?;
     happened.append(&mut VecDeque::from_vec(happenings))
