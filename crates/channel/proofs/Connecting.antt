@@ -1,16 +1,13 @@
 -- A connect: the member starts, and takes its first input.
-use Rattle.std.proofs.Common.{◌≡◌, ℕ, Bool, true, false, Option, Some, None, List, Result, Ok, Err, refl, sym, ap, ◌∙◌, subst}
+use Rattle.std.proofs.Common.{◌≡◌, ℕ, true, false, Option, Some, None, List, Result, Ok, subst}
 use Rattle.address.specs.Ids.{Address}
-use Rattle.packet_values.specs.Names.{is_group_name}
-use Rattle.trace_props.specs.declared.happening.Happening.{Happening}
-use Rattle.output.specs.declared.output.Outgoing.{Outgoing}
 use Rattle.member.specs.declared.input.Input.{Input}
 use Rattle.member.specs.Members.{MemberModel}
 use Rattle.channel.specs.declared.error.Error.{Error}
 use Rattle.channel.specs.declared.stage.Stage.{Stage}
 use Rattle.channel.specs.declared.stage.Stage.TheVariants.{Apart, Connected, Ended}
 use Rattle.channel.specs.Channels.{ChannelModel, is_in}
-use Rattle.channel.specs.Calls.{Takes, Fails, Steps, CallsAt, Calls, ConnectsAt, Connects, Reconnects}
+use Rattle.channel.specs.Calls.{Steps, CallsAt, Calls, ConnectsAt, Connects, Reconnects}
 use Rattle.channel.specs.Stages.{Begins}
 
 module _ {S : Type 0} (apply : S → Address → List ℕ → S) (encode : S → List ℕ) (decode : List ℕ → Option S) where

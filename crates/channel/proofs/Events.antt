@@ -1,11 +1,11 @@
 -- The first event of a step, among those that wait.
-use Rattle.std.proofs.Common.{◌≡◌, ℕ, ◌++◌, length, Bool, true, false, Option, List, [], ◌∷◌, Result, Ok, Err, refl, sym, ap, ◌∙◌}
+use Rattle.std.proofs.Common.{◌≡◌, ℕ, ◌++◌, length, false, Option, List, [], ◌∷◌, Result, Ok, Err, refl}
 use Rattle.std.specs.Prelude.{OnOk}
-use Rattle.std.specs.Option.{option_and_then, option_map}
+use Rattle.std.specs.Option.{option_map}
 use Rattle.std.specs.Result.{is_err}
 use Rattle.std.specs.List.{slice_get}
 use Rattle.trace_props.specs.declared.happening.Happening.{Happening}
-use Rattle.channel.specs.Queues.{message_sent, sent_at}
+use Rattle.channel.specs.Queues.{sent_at}
 
 behind : {X : Type 0} (xs ys : List X) → slice_get (xs ++ ys) (length xs) ≡ slice_get ys 0
 behind [] ys = refl

@@ -22,8 +22,8 @@ use Rattle.channel.specs.declared.stage.Stage.{Stage}
 use Rattle.channel.specs.declared.stage.Stage.TheVariants.{Apart, Connected, Ended}
 use Rattle.channel.specs.Errors.{answer_for, is_end}
 use Rattle.channel.specs.Channels.{ChannelModel, stage_of, left_by}
-use Rattle.channel.specs.Calls.{after, Takes, CallsAt, Calls}
-use Rattle.channel.specs.Stages.{answer_of, HandsAt, Hands}
+use Rattle.channel.specs.Calls.{CallsAt, Calls}
+use Rattle.channel.specs.Stages.{answer_of, Hands}
 
 same_Ok : {A E : Type 0} (a b : A) → ◌≡◌ {A = Result A E} (Ok a) (Ok b) → a ≡ b
 same_Ok a b e = cc
@@ -87,7 +87,6 @@ module _ {S : Type 0} (apply : S → Address → List ℕ → S) (encode : S →
   refused-stage input (Apart s) r e new x is = stays-at (Apart s) new NotConnected e r x.answer is x.stays
   refused-stage input (Connected m) r e new x is = refused-at m x.left input x.called r e new x.handled x.answer is x.becomes
   refused-stage input Ended r e new x is = stays-at Ended new Closed e r x.answer is x.stays
-
 
   left-as : (c : ChannelModel S) (new : Stage S) (b : Bool) → new ≡ cond b Ended c.stage
       → record { address = c.address; stage = new; outgoing = c.outgoing; happened = c.happened } ≡ cond b (record c { stage = Ended }) c

@@ -1,5 +1,5 @@
 -- A channel as contracts see it.
-use Rattle.std.specs.Prelude.{ℕ, Bool, false, not, is_some, List, Option, None, Some, if◌then◌else◌}
+use Rattle.std.specs.Prelude.{ℕ, Bool, false, is_some, List, Option, None, Some, if◌then◌else◌}
 use Rattle.std.specs.Option.{option_map, option_map_or, option_and_then}
 use Rattle.address.specs.Ids.{Address}
 use Rattle.view.specs.Members.{View}
