@@ -1,0 +1,3 @@
+mod Handing
+mod Connecting
+mod Events
