@@ -85,7 +85,11 @@ impl Lan {
             return Ok(Ok(()));
         };
         let answer = member.round();
-        while self.carry_one(number)? {}
+        for _ in 0..100u16 {
+            if !self.carry_one(number)? {
+                break;
+            }
+        }
         Ok(answer)
     }
 

@@ -1,7 +1,11 @@
 //! Members over nets in memory.
 
 use crate::lan::{Lan, first_at};
+use channel::Channel;
+use chat_log::ChatLog;
+use state_transfer::Receiver;
 use std::alloc::{AllocError, Global};
+use udp_member::{MemoryNet, Runner};
 
 #[test]
 fn four_come_into_one_view(rt: HostRuntime) {
@@ -186,4 +190,67 @@ fn a_round_after_the_end_offers_what_waits_and_answers_6(rt: HostRuntime) {
         "the round answers 6"
     );
     assert!(rt; after == before.saturating_add(1), "its LEAVE is offered");
+}
+
+/// 1.1 in a view of its own, after a round before which as many empty datagrams came: how many still wait.
+fn left_of(alloc: Global, count: u16) -> Result<usize, AllocError> {
+    let mut lan = Lan::new(alloc, 1, 50)?;
+    for _ in 0..count {
+        lan.put(1, b"")?;
+    }
+    let _ = lan.round(1)?;
+    Ok(lan.at(1).ok_or(AllocError)?.net().waiting())
+}
+
+#[test]
+fn a_round_takes_at_most_64_datagrams(rt: HostRuntime) {
+    let all = left_of(rt.alloc(), 64).expect(&rt, "memory");
+    let some = left_of(rt.alloc(), 70).expect(&rt, "memory");
+    assert!(rt; all == 0, "64 are taken");
+    assert!(rt; some == 6, "of 70 6 wait on");
+}
+
+/// 1.1 in a view of its own, after a round before which a datagram of as many bytes came: how long what was given is, and the number of the round's refusal.
+fn with_a_long_one(alloc: Global, len: usize) -> Result<(usize, u8), AllocError> {
+    let mut lan = Lan::new(alloc, 1, 50)?;
+    let bytes = vec![in alloc; 86; len]?;
+    lan.put(1, bytes.as_slice())?;
+    let answer = match lan.round(1)? {
+        Ok(()) => 0,
+        Err(error) => error.number(),
+    };
+    let given = lan
+        .at(1)
+        .ok_or(AllocError)?
+        .net()
+        .given()
+        .ok_or(AllocError)?;
+    match given.first() {
+        Some(bytes) => Ok((bytes.as_slice().len(), answer)),
+        None => Err(AllocError),
+    }
+}
+
+#[test]
+fn a_datagram_that_is_too_long_is_passed_over(rt: HostRuntime) {
+    for (len, want) in [(40_000, 40_000), (40_001, 40_001), (50_000, 40_001)] {
+        let (given, answer) = with_a_long_one(rt.alloc(), len).expect(&rt, "memory");
+        assert!(rt; given == want, "so much is given of {len} bytes");
+        assert!(rt; answer == 0, "the round goes on after {len} bytes");
+    }
+}
+
+/// What a member that was never connected answers to a round, and how often it was asked for a datagram.
+fn not_connected(alloc: Global) -> Result<(bool, u64), AllocError> {
+    let channel = Channel::new(alloc, first_at(1), ChatLog::opening(alloc)?);
+    let mut member = Runner::new(alloc, MemoryNet::new(alloc), channel, 1)?;
+    let answer = member.round();
+    Ok((answer == Ok(()), member.net().receives()))
+}
+
+#[test]
+fn a_round_before_a_connect_goes_on(rt: HostRuntime) {
+    let (is_whole, receives) = not_connected(rt.alloc()).expect(&rt, "memory");
+    assert!(rt; is_whole, "what the channel refuses is passed over");
+    assert!(rt; receives == 1, "it asks for a datagram");
 }
