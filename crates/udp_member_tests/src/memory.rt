@@ -28,8 +28,8 @@ fn a_message_comes_to_all(rt: HostRuntime) {
     }
 }
 
-/// Two that found a view, with nothing waiting at 1.1, and then a round of 1.1 to which an empty datagram came before one of 2.1: how many datagrams it was
-/// given and how many it put out before that round, and the same after it with the round's number of refusal.
+/// A round of 1.1 for which an empty datagram and then those of 2.1 wait: how many datagrams it was given, how long the first of them is, and the number of the
+/// round's refusal.
 fn with_an_empty_one(alloc: Global) -> Result<(usize, usize, u8), AllocError> {
     let mut lan = Lan::new(alloc, 2, 50)?;
     let _ = lan.round(1)?;
