@@ -5,7 +5,7 @@ ghost use Rattle.std.specs.Prelude.{◌≡◌, ℕ, ◌+◌, ◌<◌, ◌≤◌,
 ghost use Rattle.std.specs.Option.{SomeIff};
 ghost use Rattle.std.specs.Result.{OkIff};
 
-use limits::GREATEST_NUMBER;
+use limits::{GREATEST_NUMBER, Refusal};
 use std::fmt;
 use std::marker::Model;
 
@@ -224,7 +224,7 @@ impl Exhausted {
     pub fn number(self) -> u8
         ensures { result ≡ 8 }
     {
-        8
+        Refusal::Exhausted.number()
     }
 }
 

@@ -1,5 +1,9 @@
-//! The limits of the channel, each once. A later version changes them here: code, definitions and proofs go by the names.
+//! The limits of the channel and its refusals, each once. A later version changes them here: code, definitions and proofs go by the names.
 #![tactic(auto)]
+
+mod refusal;
+
+pub use refusal::Refusal;
 
 /// The most members that a view may have, also those of a list of addresses in a packet; in members.
 pub const MEMBERS: usize = 16;

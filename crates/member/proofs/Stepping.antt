@@ -9,6 +9,8 @@ use Rattle.std.proofs.lemmas.Bool.Decides.{nat_tests}
 use Rattle.std.proofs.lemmas.Option.{none-some, same_Some}
 use Rattle.address.specs.Ids.{Address, ViewId, same_address}
 use Rattle.limits.specs.declared.TheConstants.{GREATEST_NUMBER, WINDOW, STEP_EVENTS}
+use Rattle.limits.specs.declared.refusal.Refusal.{Refusal}
+use Rattle.limits.specs.declared.refusal.Refusal.TheVariants.{Memory, Closed, AlreadyConnected}
 use Rattle.state_transfer.specs.Meanings.{Meaning}
 use Rattle.trace_props.specs.Recorded.{IsShort, IsRecordable}
 use Rattle.trace_props.specs.declared.event.Event.{Event}
@@ -24,9 +26,6 @@ use Rattle.membership.specs.declared.life.Life.{Life}
 use Rattle.membership.specs.Lives.{core_of as core_at, view_in, traffic_in, is_connected, IsLife}
 use Rattle.membership.specs.Changes.{StaysAs, TakesSuspicion}
 use Rattle.membership.specs.Doing.{Did}
-use Rattle.member_messages.specs.declared.refusal.SendRefusal.{SendRefusal}
-use Rattle.member_messages.specs.declared.refusal.SendRefusal.TheVariants as refusal
-use Rattle.member_messages.specs.Refusals as messages
 use Rattle.member_messages.specs.Ordered.{IsOrderly, IsOrdered}
 use Rattle.member_messages.specs.Messages.{ByKind, SendsNext, SendsFirst, has_room, DeliversNext, DeliversAtOnce, Sends}
 use Rattle.member_views.specs.Firsts.{lone_install}
@@ -38,15 +37,15 @@ use Rattle.member_views.specs.Views.{Creates, Asks, OnSuspect, TellsView, Leaves
 use Rattle.member_views.proofs.Doing.{create-did, ask-did, hint-did, suspect-did, leave-acted}
 use Rattle.member_views.proofs.Living.{outside}
 use Rattle.member.specs.declared.error.Error.{Error}
-use Rattle.member.specs.declared.error.Error.TheVariants.{Memory, Closed, AlreadyConnected}
+use Rattle.member.specs.declared.error.Error.TheVariants.{Refused}
 use Rattle.member.specs.declared.input.Input.{Input}
 use Rattle.member.specs.declared.input.Input.TheVariants.{Create, Join, Send, Tick, Suspect, MergeHint, Leave}
-use Rattle.member.specs.Errors.{is_memory, unsent}
-use Rattle.member.specs.Members.{MemberModel, core_of, came_at, refusal_in, is_unreadable}
+use Rattle.member.specs.Errors.{is_memory}
+use Rattle.member.specs.Members.{MemberModel, core_of, came_at, refusal_in, send_refusal, is_unreadable}
 use Rattle.member.specs.Doing.{DoesBy, Ticks, is_ignored}
 use Rattle.member.specs.Handling.{Handled, Replies, IsPrompt, Ignores}
 use Rattle.member.proofs.Connecting.{acted-connected}
-use Rattle.member.proofs.Refusing.{never-closed, sends-as}
+use Rattle.member.proofs.Refusing.{never-closed, unsent-own}
 
 -- ---- small things
 
@@ -103,11 +102,11 @@ module _ {S : Type 0} (meaning : Meaning S) (p : Address) (group : List ℕ) whe
 
   -- ---- after the end, refused, and want of memory
 
-  pub ended-handled : (input : Input) → Holds None input (Err Closed) None
+  pub ended-handled : (input : Input) → Holds None input (Err (Refused Closed)) None
   ended-handled input = record {
     acted = tt;
     refused = (refl, refl);
-    memory = λ same. absurd (let n : Closed ≡ Memory = same_Err Closed Memory same in cc);
+    memory = λ same. absurd (let n : Refused Closed ≡ Refused Memory = same_Err (Refused Closed) (Refused Memory) same in cc);
     closed = record { ended = λ none. refl; only = λ same. inl refl };
     reply = tt;
     prompt = tt;
@@ -121,7 +120,7 @@ module _ {S : Type 0} (meaning : Meaning S) (p : Address) (group : List ℕ) whe
   }
 
   refuses : (u b : Bool) (e : Error) (old : Life S) (input : Input) → b ≡ false → u ≡ false → refusal_in (core_at p old) input ≡ Some e
-      → MatchBool b (refusal_in (core_at p old) input ≡ None) (MatchBool u ((e ≡ Closed) × (core_of (at (Some old)) ≡ None)) ((refusal_in (core_at p old) input ≡ Some e) × (at (Some old) ≡ at (Some old))))
+      → MatchBool b (refusal_in (core_at p old) input ≡ None) (MatchBool u ((e ≡ Refused Closed) × (core_of (at (Some old)) ≡ None)) ((refusal_in (core_at p old) input ≡ Some e) × (at (Some old) ≡ at (Some old))))
   refuses u true e old input own readable refused = absurd (let n : true ≡ false = own in cc)
   refuses true false e old input own readable refused = absurd (let n : true ≡ false = readable in cc)
   refuses false false e old input own readable refused = (refused, refl)
@@ -131,10 +130,10 @@ module _ {S : Type 0} (meaning : Meaning S) (p : Address) (group : List ℕ) whe
   refused-handled old input e refused own readable taken runs = record {
     acted = tt;
     refused = refuses (is_unreadable meaning (at (Some old)) input) (is_memory e) e old input own readable refused;
-    memory = λ same. absurd (let n : true ≡ false = sym (ap is_memory (same_Err e Memory same)) ∙ own in cc);
+    memory = λ same. absurd (let n : true ≡ false = sym (ap is_memory (same_Err e (Refused Memory) same)) ∙ own in cc);
     closed = record {
       ended = λ none. absurd (none-some _ (sym none));
-      only = λ same. absurd (never-closed (core_at p old) input (refused ∙ ap {B = Option Error} Some (same_Err e Closed same)));
+      only = λ same. absurd (never-closed (core_at p old) input (refused ∙ ap {B = Option Error} Some (same_Err e (Refused Closed) same)));
     };
     reply = tt;
     prompt = tt;
@@ -147,28 +146,20 @@ module _ {S : Type 0} (meaning : Meaning S) (p : Address) (group : List ℕ) whe
     group = refl;
   }
 
-  unsent-own : (r : SendRefusal) → is_memory (unsent r) ≡ false
-  unsent-own refusal.NotConnected = refl
-  unsent-own refusal.TooLong = refl
-  unsent-own refusal.Blocked = refl
-  unsent-own refusal.Busy = refl
-  unsent-own refusal.Exhausted = refl
-
   -- a message that it does not send
-  pub unsent-handled : (payload : Bor (List ℕ)) (old : Life S) (r : SendRefusal) (e : Error) → messages.send_refusal (core_at p old) payload.now ≡ Some r → e ≡ unsent r → IsRunning group p old
-      → Holds (Some old) (Send payload) (Err e) (Some old)
-  unsent-handled payload old r e refused is runs =
-      subst (λ (x : Error). Holds (Some old) (Send payload) (Err x) (Some old)) (sym is)
-      (refused-handled old (Send payload) (unsent r) (sym (sends-as (core_at p old) payload.now) ∙ ap (option_map unsent) refused) (unsent-own r) refl refl runs)
+  pub unsent-handled : (payload : Bor (List ℕ)) (old : Life S) (r : Refusal) → send_refusal (core_at p old) payload.now ≡ Some r → IsRunning group p old
+      → Holds (Some old) (Send payload) (Err (Refused r)) (Some old)
+  unsent-handled payload old r refused runs =
+      refused-handled old (Send payload) (Refused r) (ap (option_map Refused) refused) (unsent-own (core_at p old) payload.now r refused) refl refl runs
 
-  pub memory-handled : (old : Life S) (input : Input) → refusal_in (core_at p old) input ≡ None → is_ignored (at (Some old)) input ≡ false → Holds (Some old) input (Err Memory) None
+  pub memory-handled : (old : Life S) (input : Input) → refusal_in (core_at p old) input ≡ None → is_ignored (at (Some old)) input ≡ false → Holds (Some old) input (Err (Refused Memory)) None
   memory-handled old input free taken = record {
     acted = tt;
     refused = free;
     memory = λ same. (refl, taken);
     closed = record {
       ended = λ none. absurd (none-some _ (sym none));
-      only = λ same. absurd (let n : Memory ≡ Closed = same_Err Memory Closed same in cc);
+      only = λ same. absurd (let n : Refused Memory ≡ Refused Closed = same_Err (Refused Memory) (Refused Closed) same in cc);
     };
     reply = tt;
     prompt = tt;
@@ -181,15 +172,15 @@ module _ {S : Type 0} (meaning : Meaning S) (p : Address) (group : List ℕ) whe
     group = refl;
   }
 
-  unread : (u : Bool) (A : Type 0) → u ≡ true → MatchBool u ((Closed ≡ Closed) × (core_of (at None) ≡ None)) A
+  unread : (u : Bool) (A : Type 0) → u ≡ true → MatchBool u ((Refused Closed ≡ Refused Closed) × (core_of (at None) ≡ None)) A
   unread true A e = (refl, refl)
   unread false A e = absurd (let n : false ≡ true = e in cc)
 
-  pub unreadable-handled : (old : Life S) (input : Input) → is_unreadable meaning (at (Some old)) input ≡ true → is_ignored (at (Some old)) input ≡ false → Holds (Some old) input (Err Closed) None
+  pub unreadable-handled : (old : Life S) (input : Input) → is_unreadable meaning (at (Some old)) input ≡ true → is_ignored (at (Some old)) input ≡ false → Holds (Some old) input (Err (Refused Closed)) None
   unreadable-handled old input unreadable taken = record {
     acted = tt;
     refused = unread (is_unreadable meaning (at (Some old)) input) _ unreadable;
-    memory = λ same. absurd (let n : Closed ≡ Memory = same_Err Closed Memory same in cc);
+    memory = λ same. absurd (let n : Refused Closed ≡ Refused Memory = same_Err (Refused Closed) (Refused Memory) same in cc);
     closed = record { ended = λ none. refl; only = λ same. inr unreadable };
     reply = tt;
     prompt = tt;
@@ -204,10 +195,10 @@ module _ {S : Type 0} (meaning : Meaning S) (p : Address) (group : List ℕ) whe
 
   -- ---- it runs on
 
-  ok-memory : (old : MemberModel S) (input : Input) (new : MemberModel S) (out : Output) → ◌≡◌ {A = Result Output Error} (Ok out) (Err Memory) → (core_of new ≡ None) × (is_ignored old input ≡ false)
+  ok-memory : (old : MemberModel S) (input : Input) (new : MemberModel S) (out : Output) → ◌≡◌ {A = Result Output Error} (Ok out) (Err (Refused Memory)) → (core_of new ≡ None) × (is_ignored old input ≡ false)
   ok-memory old input new out e = absurd (cc)
 
-  ok-closed : (A : Type 0) (out : Output) → ◌≡◌ {A = Result Output Error} (Ok out) (Err Closed) → A
+  ok-closed : (A : Type 0) (out : Output) → ◌≡◌ {A = Result Output Error} (Ok out) (Err (Refused Closed)) → A
   ok-closed A out e = absurd (cc)
 
   pub ok-handled : (old new : Life S) (input : Input) (start out : Output) → Puts [] [] start → Did meaning (came_at (at (Some old)) input) group p old new start out
@@ -255,10 +246,10 @@ module _ {S : Type 0} (meaning : Meaning S) (p : Address) (group : List ℕ) whe
   create-handled old new start out kept off nothing x runs =
       let happens : out.events.items ≡ Installed (lone_install p) ∷ [] = only start out _ nothing x.grows.events in
       ok-handled old new Create start out nothing (create-did meaning group p None old new start out kept off x)
-      (ap (λ b. if b then Some AlreadyConnected else None) off) refl (happens, ap is_connected x.life) tt x (λ i. absurd (let n : false ≡ true = i in cc))
+      (ap (λ b. if b then Some (Refused AlreadyConnected) else None) off) refl (happens, ap is_connected x.life) tt x (λ i. absurd (let n : false ≡ true = i in cc))
       (subst (λ l. length l ≤ STEP_EVENTS) (sym happens) (omega arith)) runs
 
-  view-none : (traffic : Option Traffic) → traffic ≡ None → (if is_some (view_in traffic) then Some AlreadyConnected else None) ≡ None
+  view-none : (traffic : Option Traffic) → traffic ≡ None → (if is_some (view_in traffic) then Some (Refused AlreadyConnected) else None) ≡ None
   view-none None e = refl
   view-none (Some t) e = absurd (none-some t (sym e))
 
@@ -272,15 +263,15 @@ module _ {S : Type 0} (meaning : Meaning S) (p : Address) (group : List ℕ) whe
 
   -- ---- it does not, where it is connected, or in a view
 
-  pub connected-handled : (old : Life S) → is_connected old ≡ true → IsRunning group p old → Holds (Some old) Create (Err AlreadyConnected) (Some old)
-  connected-handled old on runs = refused-handled old Create AlreadyConnected (ap (λ b. if b then Some AlreadyConnected else None) on) refl refl refl runs
+  pub connected-handled : (old : Life S) → is_connected old ≡ true → IsRunning group p old → Holds (Some old) Create (Err (Refused AlreadyConnected)) (Some old)
+  connected-handled old on runs = refused-handled old Create (Refused AlreadyConnected) (ap (λ b. if b then Some (Refused AlreadyConnected) else None) on) refl refl refl runs
 
-  view-some : (traffic : Option Traffic) → is_some traffic ≡ true → (if is_some (view_in traffic) then Some AlreadyConnected else None) ≡ Some AlreadyConnected
+  view-some : (traffic : Option Traffic) → is_some traffic ≡ true → (if is_some (view_in traffic) then Some (Refused AlreadyConnected) else None) ≡ Some (Refused AlreadyConnected)
   view-some None e = absurd (let n : false ≡ true = e in cc)
   view-some (Some t) e = refl
 
-  pub viewed-handled : (contact : Address) (old : Life S) → is_some old.traffic ≡ true → IsRunning group p old → Holds (Some old) (Join contact) (Err AlreadyConnected) (Some old)
-  viewed-handled contact old there runs = refused-handled old (Join contact) AlreadyConnected (view-some old.traffic there) refl refl refl runs
+  pub viewed-handled : (contact : Address) (old : Life S) → is_some old.traffic ≡ true → IsRunning group p old → Holds (Some old) (Join contact) (Err (Refused AlreadyConnected)) (Some old)
+  viewed-handled contact old there runs = refused-handled old (Join contact) (Refused AlreadyConnected) (view-some old.traffic there) refl refl refl runs
 
   -- ---- it sends
 
@@ -333,19 +324,19 @@ module _ {S : Type 0} (meaning : Meaning S) (p : Address) (group : List ℕ) whe
   connected-in : (traffic : Option Traffic) (b : Bool) → is_some traffic ≡ true → is_some traffic || b ≡ true
   connected-in traffic b e = ap (λ x. x || b) e
 
-  pub send-handled : (payload : Bor (List ℕ)) (old new : Life S) (start out : Output) → IsOrdered p old → messages.send_refusal (core_at p old) payload.now ≡ None → Puts [] [] start
+  pub send-handled : (payload : Bor (List ℕ)) (old new : Life S) (start out : Output) → IsOrdered p old → send_refusal (core_at p old) payload.now ≡ None → Puts [] [] start
       → Sends meaning group p payload.now old new start out → ((came : Option Posted) → Did meaning came group p old new start out)
       → SendsFirst p payload.now old start out → (has_room old.traffic ≡ true → DeliversAtOnce p payload.now old start out) → IsRunning group p new → Holds (Some old) (Send payload) (Ok out) (Some new)
   send-handled payload old new start out ordered free nothing sends did first prompt runs =
       let s = said old.traffic payload.now start out nothing first in
       let on : is_connected old ≡ true = connected-in old.traffic (is_some old.contact) s.inside in
-      ok-handled old new (Send payload) start out nothing (did None) (sym (sends-as (core_at p old) payload.now) ∙ ap (option_map unsent) free) refl
+      ok-handled old new (Send payload) start out nothing (did None) (ap (option_map Refused) free) refl
       (record { first = s.first; quiet = s.quiet }, stays-connected None old new start out on (did None))
       (at-once old.traffic payload.now start out nothing s.inside ordered prompt) sends (λ i. absurd (let n : false ≡ true = i in cc)) s.few runs
 
   -- it is sent, but for want of memory
-  pub unsaid-handled : (payload : Bor (List ℕ)) (old : Life S) → messages.send_refusal (core_at p old) payload.now ≡ None → Holds (Some old) (Send payload) (Err Memory) None
-  unsaid-handled payload old free = memory-handled old (Send payload) (sym (sends-as (core_at p old) payload.now) ∙ ap (option_map unsent) free) refl
+  pub unsaid-handled : (payload : Bor (List ℕ)) (old : Life S) → send_refusal (core_at p old) payload.now ≡ None → Holds (Some old) (Send payload) (Err (Refused Memory)) None
+  unsaid-handled payload old free = memory-handled old (Send payload) (ap (option_map Refused) free) refl
 
   -- ---- time passes
 

@@ -29,7 +29,7 @@ use Rattle.membership.specs.Doing.{Did}
 use Rattle.member_hearing.specs.Hearing.{Hears, ignores, entry_of, is_unreadable_by}
 use Rattle.member_hearing.specs.Running.{IsRunning}
 use Rattle.member.specs.declared.error.Error.{Error}
-use Rattle.member.specs.declared.error.Error.TheVariants.{Wire}
+use Rattle.member.specs.declared.error.Error.TheVariants.{Refused, Wire}
 use Rattle.member.specs.declared.input.Input.TheVariants.{Datagram}
 use Rattle.member.specs.Errors.{stopped}
 use Rattle.member.specs.Members.{MemberModel, came_in}
@@ -143,7 +143,7 @@ module _ {S : Type 0} (meaning : Meaning S) (p : Address) (group : List ℕ) whe
 
   -- one by which it ended
   stopped-handled : (s : Stop) (bytes : Bor (List ℕ)) (k : Packet) (old : Life S) → packet_of bytes.now ≡ Ok k → (ignores_packet p (came_in (here old) (Ok k)) old ≡ true → ⊥)
-      → (s ≡ stop.Unreadable → option_map_or (is_unreadable_by meaning (core_at p old)) (came_in (here old) (Ok k)) false ≡ true) → Holds (Some old) bytes (Err (stopped s)) None
+      → (s ≡ stop.Unreadable → option_map_or (is_unreadable_by meaning (core_at p old)) (came_in (here old) (Ok k)) false ≡ true) → Holds (Some old) bytes (Err (Refused (stopped s))) None
   stopped-handled stop.Memory bytes k old e taken unread =
       Stepping.memory-handled meaning p group old (Datagram bytes) (ap (λ (r : Result Packet WireError). option_map Wire (error_in r)) e)
       (Stepping.unless (is_ignored (here old) (Datagram bytes)) (λ i. taken (ignored-in bytes k old e i)))
@@ -153,6 +153,6 @@ module _ {S : Type 0} (meaning : Meaning S) (p : Address) (group : List ℕ) whe
       (unread-by (came_in (here old) (Ok k)) old (unread refl)))
       (Stepping.unless (is_ignored (here old) (Datagram bytes)) (λ i. taken (ignored-in bytes k old e i)))
 
-  pub packet-stopped : (s : Stop) (e : Error) (bytes : Bor (List ℕ)) (k : Packet) (old : Life S) → e ≡ stopped s → packet_of bytes.now ≡ Ok k → (ignores_packet p (came_in (here old) (Ok k)) old ≡ true → ⊥)
+  pub packet-stopped : (s : Stop) (e : Error) (bytes : Bor (List ℕ)) (k : Packet) (old : Life S) → e ≡ Refused (stopped s) → packet_of bytes.now ≡ Ok k → (ignores_packet p (came_in (here old) (Ok k)) old ≡ true → ⊥)
       → (s ≡ stop.Unreadable → option_map_or (is_unreadable_by meaning (core_at p old)) (came_in (here old) (Ok k)) false ≡ true) → Holds (Some old) bytes (Err e) None
   packet-stopped s e bytes k old is spells taken unread = subst (λ (x : Error). Holds (Some old) bytes (Err x) None) (sym is) (stopped-handled s bytes k old spells taken unread)

@@ -4,6 +4,7 @@ use Rattle.std.specs.Option.{IsSomeAnd}
 use Rattle.std.specs.List.{list_all, Contains, AllByRecursion}
 use Rattle.address.specs.Ids.{same_address}
 use Rattle.limits.specs.declared.TheConstants.{GREATEST_NUMBER, WINDOW, STEP_EVENTS}
+use Rattle.limits.specs.declared.refusal.Refusal.TheVariants.{Memory, Closed}
 use Rattle.wire.specs.Packets.{IsPacket}
 use Rattle.state_transfer.specs.Meanings.{Meaning}
 use Rattle.trace_props.specs.declared.event.Event.{Event}
@@ -17,7 +18,7 @@ use Rattle.output.specs.Outputs.{Puts, packet_in, spelled}
 pub use Rattle.output.specs.Calm.{is_quiet}
 use Rattle.member_hearing.specs.Running.{IsAlive}
 use Rattle.member.specs.declared.error.Error.{Error}
-use Rattle.member.specs.declared.error.Error.TheVariants.{Memory, Closed}
+use Rattle.member.specs.declared.error.Error.TheVariants.{Refused}
 use Rattle.member.specs.declared.input.Input.{Input}
 use Rattle.member.specs.declared.input.Input.TheVariants.{Create, Join, Send, Datagram, Tick, Suspect, MergeHint, Leave}
 use Rattle.member.specs.Errors.{is_memory}
@@ -39,16 +40,16 @@ pub record HasActed {S : Type 0} (meaning : Meaning S) (old : MemberModel S) (in
 abbrev pub RefusesAs : {S : Type 0} → Option Error → Bool → MemberModel S → Result Output Error → MemberModel S → Type 0
 RefusesAs refusal unreadable old (Ok out) new = (refusal ≡ None) × (unreadable ≡ false)
 RefusesAs refusal unreadable old (Err e) new =
-    MatchBool (is_memory e) (refusal ≡ None) (MatchBool unreadable ((e ≡ Closed) × (core_of new ≡ None)) ((refusal ≡ Some e) × (new ≡ old)))
+    MatchBool (is_memory e) (refusal ≡ None) (MatchBool unreadable ((e ≡ Refused Closed) × (core_of new ≡ None)) ((refusal ≡ Some e) × (new ≡ old)))
 
 -- want of memory ends it; on an input that is ignored there is none
 abbrev pub EndsWithout : {S : Type 0} → MemberModel S → Input → MemberModel S → Result Output Error → Type 0
-EndsWithout old input new result = result ≡ Err Memory → (core_of new ≡ None) × (is_ignored old input ≡ false)
+EndsWithout old input new result = result ≡ Err (Refused Memory) → (core_of new ≡ None) × (is_ignored old input ≡ false)
 
 -- 6 after its end, and before it where it cannot read a state that it would take
 pub record IsClosed {S : Type 0} (meaning : Meaning S) (old : MemberModel S) (input : Input) (result : Result Output Error) : Type 0 where
-  pub ended : core_of old ≡ None → result ≡ Err Closed
-  pub only : result ≡ Err Closed → (core_of old ≡ None) ⊎ (is_unreadable meaning old input ≡ true)
+  pub ended : core_of old ≡ None → result ≡ Err (Refused Closed)
+  pub only : result ≡ Err (Refused Closed) → (core_of old ≡ None) ⊎ (is_unreadable meaning old input ≡ true)
 
 -- ---- reply
 

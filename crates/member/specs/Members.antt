@@ -1,15 +1,15 @@
 -- A member as contracts see it: who it is, what it decides by while it runs, and why it refuses an input.
-use Rattle.std.specs.Prelude.{ℕ, Bool, true, false, not, is_some, List, length, Result, Ok, Err, Option, None, Some, nat_lt, nat_le, if◌then◌else◌}
+use Rattle.std.specs.Prelude.{ℕ, Bool, true, false, not, is_some, List, Result, Ok, Err, Option, None, Some, if◌then◌else◌}
 use Rattle.std.specs.Option.{option_map, option_map_or, option_and_then}
 use Rattle.address.specs.Ids.{Address}
-use Rattle.limits.specs.declared.TheConstants.{PAYLOAD, OUTSTANDING, GREATEST_NUMBER}
+use Rattle.limits.specs.declared.refusal.Refusal.TheVariants.{AlreadyConnected, Closed}
 use Rattle.wire.specs.declared.error.WireError.{WireError}
 use Rattle.wire.specs.declared.packet.Packet.{Packet}
 use Rattle.wire.specs.Values as wire
 use Rattle.wire.specs.Packets.{packet_of, wire_refusal}
 use Rattle.state_transfer.specs.Meanings.{Meaning}
 use Rattle.agreement.specs.Histories.{Posted}
-use Rattle.agreement.specs.Cores.{Core, is_frozen}
+use Rattle.agreement.specs.Cores.{Core}
 use Rattle.agreement.specs.Steps.{handed}
 pub use Rattle.member_acts.specs.Decisions.{promise_of, is_fitting, is_entry, is_readable}
 use Rattle.output.specs.Names.{same_name}
@@ -18,8 +18,9 @@ use Rattle.membership.specs.Lives.{core_of as core_at}
 pub use Rattle.membership.specs.Lives.{install_said}
 pub use Rattle.member_hearing.specs.Hearing.{entry_of}
 pub use Rattle.member_views.specs.Firsts.{lone_install}
+pub use Rattle.member_messages.specs.Refusals.{send_refusal}
 use Rattle.member.specs.declared.error.Error.{Error}
-use Rattle.member.specs.declared.error.Error.TheVariants.{NotConnected, Blocked, Busy, TooLong, AlreadyConnected, Closed, Exhausted, Wire}
+use Rattle.member.specs.declared.error.Error.TheVariants.{Refused, Wire}
 use Rattle.member.specs.declared.input.Input.{Input}
 use Rattle.member.specs.declared.input.Input.TheVariants.{Create, Join, Send, Datagram, Tick, Suspect, MergeHint, Leave}
 
@@ -75,21 +76,11 @@ is_unreadable meaning m input = option_map_or (λ i. not (is_readable meaning i.
 
 -- ---- refusals
 
--- the first of these that applies: no view, too long, blocked, too many outstanding, numbers used up
-abbrev pub send_refusal : {S : Type 0} → Core S → List ℕ → Option Error
-send_refusal c payload =
-    if not (is_some c.view) then Some NotConnected
-    else if nat_lt PAYLOAD (length payload) then Some TooLong
-    else if is_frozen c.view c.installed then Some Blocked
-    else if nat_le OUTSTANDING (length c.traffic.outstanding) then Some Busy
-    else if nat_le GREATEST_NUMBER c.traffic.sent then Some Exhausted
-    else None
-
 -- why a running member refuses an input, but for want of memory
 abbrev pub refusal_in : {S : Type 0} → Core S → Input → Option Error
-refusal_in c Create = if c.connected then Some AlreadyConnected else None
-refusal_in c (Join contact) = if is_some c.view then Some AlreadyConnected else None
-refusal_in c (Send payload) = send_refusal c payload.now
+refusal_in c Create = if c.connected then Some (Refused AlreadyConnected) else None
+refusal_in c (Join contact) = if is_some c.view then Some (Refused AlreadyConnected) else None
+refusal_in c (Send payload) = option_map Refused (send_refusal c payload.now)
 refusal_in c (Datagram bytes) = option_map Wire (wire_refusal bytes.now)
 refusal_in c Tick = None
 refusal_in c (Suspect q) = None
@@ -97,4 +88,4 @@ refusal_in c (MergeHint q) = None
 refusal_in c Leave = None
 
 abbrev pub refusal_of : {S : Type 0} → MemberModel S → Input → Option Error
-refusal_of m input = option_map_or (λ c. refusal_in c input) (core_of m) (Some Closed)
+refusal_of m input = option_map_or (λ c. refusal_in c input) (core_of m) (Some (Refused Closed))

@@ -8,6 +8,7 @@ ghost use Rattle.member.specs.Handling.{Handled};
 use crate::Error;
 use crate::hearing::{pass_time, take_packet};
 use address::Address;
+use limits::Refusal;
 use member_messages::{send, send_refusal};
 use member_views::{ask, create, leave, on_suspect, tell_view};
 use membership::Life;
@@ -25,17 +26,17 @@ pub(crate) fn create_group<R: Receiver>(
     ensures handled { Handled R.meaning (record { address = who.now.address; group = who.now.group; life = life.old }) input.Create result (record { address = who.now.address; group = who.now.group; life = life.new }) }
 {
     let Some(running) = life else {
-        return Err(Error::Closed);
+        return Err(Error::Refused(Refusal::Closed));
     };
     if running.is_connected() {
-        return Err(Error::AlreadyConnected);
+        return Err(Error::Refused(Refusal::AlreadyConnected));
     }
     let mut out = Output::nothing(who.alloc);
     match create(running, who, &mut out) {
         Ok(()) => Ok(out),
         Err(_) => {
             *life = None;
-            Err(Error::Memory)
+            Err(Error::Refused(Refusal::Memory))
         }
     }
 }
@@ -51,17 +52,17 @@ pub(crate) fn join_group<R: Receiver>(
     ensures handled { Handled R.meaning (record { address = who.now.address; group = who.now.group; life = life.old }) (input.Join contact) result (record { address = who.now.address; group = who.now.group; life = life.new }) }
 {
     let Some(running) = life else {
-        return Err(Error::Closed);
+        return Err(Error::Refused(Refusal::Closed));
     };
     if running.traffic.is_some() {
-        return Err(Error::AlreadyConnected);
+        return Err(Error::Refused(Refusal::AlreadyConnected));
     }
     let mut out = Output::nothing(who.alloc);
     match ask(running, who, contact, &mut out) {
         Ok(()) => Ok(out),
         Err(_) => {
             *life = None;
-            Err(Error::Memory)
+            Err(Error::Refused(Refusal::Memory))
         }
     }
 }
@@ -77,17 +78,17 @@ pub(crate) fn send_message<R: Receiver>(
     ensures handled { Handled R.meaning (record { address = who.now.address; group = who.now.group; life = life.old }) (input.Send payload.entry) result (record { address = who.now.address; group = who.now.group; life = life.new }) }
 {
     let Some(running) = life else {
-        return Err(Error::Closed);
+        return Err(Error::Refused(Refusal::Closed));
     };
     if let Some(refusal) = send_refusal(running, payload) {
-        return Err(Error::from(refusal));
+        return Err(Error::Refused(refusal));
     }
     let mut out = Output::nothing(who.alloc);
     match send(running, who, payload, &mut out) {
         Ok(()) => Ok(out),
         Err(_) => {
             *life = None;
-            Err(Error::Memory)
+            Err(Error::Refused(Refusal::Memory))
         }
     }
 }
@@ -103,7 +104,7 @@ pub(crate) fn take_datagram<R: Receiver>(
     ensures handled { Handled R.meaning (record { address = who.now.address; group = who.now.group; life = life.old }) (input.Datagram bytes.entry) result (record { address = who.now.address; group = who.now.group; life = life.new }) }
 {
     let Some(running) = life else {
-        return Err(Error::Closed);
+        return Err(Error::Refused(Refusal::Closed));
     };
     match decode(bytes) {
         Err(refusal) => Err(Error::Wire(refusal)),
@@ -127,14 +128,14 @@ pub(crate) fn tick<R: Receiver>(life: &mut Option<Life<R>>, who: &Identity) -> R
     ensures handled { Handled R.meaning (record { address = who.now.address; group = who.now.group; life = life.old }) input.Tick result (record { address = who.now.address; group = who.now.group; life = life.new }) }
 {
     let Some(running) = life else {
-        return Err(Error::Closed);
+        return Err(Error::Refused(Refusal::Closed));
     };
     let mut out = Output::nothing(who.alloc);
     match pass_time(running, who, &mut out) {
         Ok(()) => Ok(out),
         Err(_) => {
             *life = None;
-            Err(Error::Memory)
+            Err(Error::Refused(Refusal::Memory))
         }
     }
 }
@@ -150,14 +151,14 @@ pub(crate) fn suspect<R: Receiver>(
     ensures handled { Handled R.meaning (record { address = who.now.address; group = who.now.group; life = life.old }) (input.Suspect address) result (record { address = who.now.address; group = who.now.group; life = life.new }) }
 {
     let Some(running) = life else {
-        return Err(Error::Closed);
+        return Err(Error::Refused(Refusal::Closed));
     };
     let mut out = Output::nothing(who.alloc);
     match on_suspect(running, who, address, &mut out) {
         Ok(()) => Ok(out),
         Err(_) => {
             *life = None;
-            Err(Error::Memory)
+            Err(Error::Refused(Refusal::Memory))
         }
     }
 }
@@ -173,14 +174,14 @@ pub(crate) fn merge_hint<R: Receiver>(
     ensures handled { Handled R.meaning (record { address = who.now.address; group = who.now.group; life = life.old }) (input.MergeHint address) result (record { address = who.now.address; group = who.now.group; life = life.new }) }
 {
     let Some(running) = life else {
-        return Err(Error::Closed);
+        return Err(Error::Refused(Refusal::Closed));
     };
     let mut out = Output::nothing(who.alloc);
     match tell_view(running, who, address, &mut out) {
         Ok(()) => Ok(out),
         Err(_) => {
             *life = None;
-            Err(Error::Memory)
+            Err(Error::Refused(Refusal::Memory))
         }
     }
 }
@@ -195,11 +196,11 @@ pub(crate) fn leave_group<R: Receiver>(
     ensures handled { Handled R.meaning (record { address = who.now.address; group = who.now.group; life = life.old }) input.Leave result (record { address = who.now.address; group = who.now.group; life = life.new }) }
 {
     let Some(running) = life.take() else {
-        return Err(Error::Closed);
+        return Err(Error::Refused(Refusal::Closed));
     };
     let mut out = Output::nothing(who.alloc);
     match leave(&running, who, &mut out) {
         Ok(()) => Ok(out),
-        Err(_) => Err(Error::Memory),
+        Err(_) => Err(Error::Refused(Refusal::Memory)),
     }
 }

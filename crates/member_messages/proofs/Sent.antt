@@ -24,8 +24,8 @@ use Rattle.traffic.specs.Takes.{other_pushing, SendsForward}
 use Rattle.traffic.specs.Turns.{SendsOrdering, TellsAtOnce, IsFewMore, own_entry}
 use Rattle.membership.specs.declared.life.Life.{Life}
 use Rattle.membership.specs.Lives.{core_of, view_in, traffic_in}
-use Rattle.member_messages.specs.declared.refusal.SendRefusal.{SendRefusal}
-use Rattle.member_messages.specs.declared.refusal.SendRefusal.TheVariants.{NotConnected, TooLong, Blocked, Busy, Exhausted}
+use Rattle.limits.specs.declared.refusal.Refusal.{Refusal}
+use Rattle.limits.specs.declared.refusal.Refusal.TheVariants.{NotConnected, TooLong, Blocked, Busy, Exhausted}
 use Rattle.member_messages.specs.Refusals.{send_refusal}
 use Rattle.member_messages.specs.Messages.{Sends, SendsNext, SendsFirst, DeliversNext, DeliversAtOnce, has_room}
 use Rattle.member_messages.proofs.Opening.{going_on}
@@ -33,7 +33,7 @@ use Rattle.member_messages.proofs.Calming.{deliveries-quiet}
 
 -- ---- nothing refuses it
 
-abbrev refusal_by : Bool → Bool → Bool → Bool → Bool → Option SendRefusal
+abbrev refusal_by : Bool → Bool → Bool → Bool → Bool → Option Refusal
 refusal_by a b c d e = if a then Some NotConnected else if b then Some TooLong else if c then Some Blocked else if d then Some Busy else if e then Some Exhausted else None
 
 none-by : (a b c d e : Bool) → refusal_by a b c d e ≡ None → (a ≡ false) × (b ≡ false) × (c ≡ false) × (d ≡ false) × (e ≡ false)

@@ -2,11 +2,11 @@
 use Rattle.std.specs.Prelude.{ℕ, not, is_some, List, length, Option, None, Some, nat_lt, nat_le, if◌then◌else◌}
 use Rattle.limits.specs.declared.TheConstants.{PAYLOAD, OUTSTANDING, GREATEST_NUMBER}
 use Rattle.agreement.specs.Cores.{Core, is_frozen}
-use Rattle.member_messages.specs.declared.refusal.SendRefusal.{SendRefusal}
-use Rattle.member_messages.specs.declared.refusal.SendRefusal.TheVariants.{NotConnected, TooLong, Blocked, Busy, Exhausted}
+use Rattle.limits.specs.declared.refusal.Refusal.{Refusal}
+use Rattle.limits.specs.declared.refusal.Refusal.TheVariants.{NotConnected, TooLong, Blocked, Busy, Exhausted}
 
 -- the first of these that applies
-abbrev pub send_refusal : {S : Type 0} → Core S → List ℕ → Option SendRefusal
+abbrev pub send_refusal : {S : Type 0} → Core S → List ℕ → Option Refusal
 send_refusal c payload =
     if not (is_some c.view) then Some NotConnected
     else if nat_lt PAYLOAD (length payload) then Some TooLong

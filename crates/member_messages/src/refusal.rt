@@ -6,26 +6,11 @@ ghost use Rattle.membership.specs.Lives.{core_of};
 ghost use Rattle.traffic.specs.Traffics.{traffic_of};
 ghost use Rattle.member_messages.specs.Refusals.{send_refusal};
 
-use limits::{GREATEST_NUMBER, OUTSTANDING, PAYLOAD};
+use limits::{GREATEST_NUMBER, OUTSTANDING, PAYLOAD, Refusal};
 use membership::Life;
 use sequencer::Forwards;
 use state_transfer::Receiver;
 use traffic::Traffic;
-
-/// Why a member does not send a message.
-#[derive(Clone, Copy, Debug, PartialEq, Eq)]
-pub enum SendRefusal {
-    /// It has no view.
-    NotConnected,
-    /// The payload has more than `PAYLOAD` bytes.
-    TooLong,
-    /// It is blocked until its next view.
-    Blocked,
-    /// `OUTSTANDING` of its messages are outstanding.
-    Busy,
-    /// The numbers of its messages in this view are used up.
-    Exhausted,
-}
 
 // Its own messages in its view.
 fn forwards(traffic: &Traffic) -> &Forwards
@@ -40,24 +25,24 @@ fn forwards(traffic: &Traffic) -> &Forwards
 
 /// Why a payload is not sent, if it is not: the first that applies of having no view, a payload that is too long, being blocked, `OUTSTANDING` messages that are
 /// outstanding, and numbers that are used up.
-pub fn send_refusal<R: Receiver>(life: &Life<R>, payload: &[u8]) -> Option<SendRefusal>
+pub fn send_refusal<R: Receiver>(life: &Life<R>, payload: &[u8]) -> Option<Refusal>
     ensures { (me : Address) → result ≡ send_refusal (core_of me life.now) payload.now }
 {
     let Some(traffic) = &life.traffic else {
-        return Some(SendRefusal::NotConnected);
+        return Some(Refusal::NotConnected);
     };
     if payload.len() > PAYLOAD {
-        return Some(SendRefusal::TooLong);
+        return Some(Refusal::TooLong);
     }
     if !life.promise.is_installed() {
-        return Some(SendRefusal::Blocked);
+        return Some(Refusal::Blocked);
     }
     let forwards = forwards(traffic);
     if forwards.rest().len() as u64 >= OUTSTANDING {
-        return Some(SendRefusal::Busy);
+        return Some(Refusal::Busy);
     }
     if forwards.sent() >= GREATEST_NUMBER {
-        return Some(SendRefusal::Exhausted);
+        return Some(Refusal::Exhausted);
     }
     None
 }

@@ -2,8 +2,8 @@
 use Rattle.std.specs.Prelude.{◌≡◌, ℕ, ◌+◌, ◌-◌, ◌≤◌, List, [], ◌∷◌, ◌++◌, Option, Some, None, length, drop, nat_eq, slice_get, if◌then◌else◌}
 use Rattle.limits.specs.declared.TheConstants.{PAYLOAD, OUTSTANDING, GREATEST_NUMBER}
 use Rattle.trace_props.specs.declared.event.Numbered.{Numbered}
-use Rattle.sequencer.specs.declared.forwards.PushRefusal.{PushRefusal}
-use Rattle.sequencer.specs.declared.forwards.PushRefusal.TheVariants.{Busy, Exhausted, Memory}
+use Rattle.limits.specs.declared.refusal.Refusal.{Refusal}
+use Rattle.limits.specs.declared.refusal.Refusal.TheVariants.{Busy, Exhausted}
 
 -- how many messages were sent, and those of them that are outstanding, by number
 pub record ForwardsModel : Type 0 where
@@ -37,10 +37,5 @@ abbrev pub one_told : ForwardsModel → ForwardsModel
 one_told w = record { sent = w.sent; rest = drop 1 w.rest }
 
 -- why one more message is refused, but for want of memory: the first of these that applies
-abbrev pub push_refusal : ForwardsModel → Option PushRefusal
+abbrev pub push_refusal : ForwardsModel → Option Refusal
 push_refusal w = if nat_eq (length w.rest) OUTSTANDING then Some Busy else if nat_eq w.sent GREATEST_NUMBER then Some Exhausted else None
-
-abbrev pub push_number : PushRefusal → ℕ
-push_number Busy = 3
-push_number Exhausted = 8
-push_number Memory = 7

@@ -1,38 +1,15 @@
 ghost use Rattle.std.specs.Prelude.{◌≡◌, ◌+◌, ◌≤◌, ◌++◌, None, drop, length, IfOk, OnOk, MatchResult, MatchOption};
 ghost use Rattle.limits.specs.declared.TheConstants.{PAYLOAD};
-ghost use Rattle.sequencer.specs.Forwards.{ForwardsModel, no_forwards, pushed, delivered_to, one_told, push_refusal, push_number, IsForwards, AreShort};
+ghost use Rattle.limits.specs.declared.refusal.Refusal.TheVariants as refusal;
+ghost use Rattle.sequencer.specs.Forwards.{ForwardsModel, no_forwards, pushed, delivered_to, one_told, push_refusal, IsForwards, AreShort};
 
 use crate::Forward;
-use limits::{GREATEST_NUMBER, OUTSTANDING};
+use limits::{GREATEST_NUMBER, OUTSTANDING, Refusal};
 use nak_stream::KeptPayload;
 use packet_values::Number;
 use std::alloc::{AllocError, Global};
 use std::marker::Model;
 use trace_props::{Bytes, HandedBack, Numbered};
-
-/// Why a message is not taken among the outstanding ones.
-#[derive(Clone, Copy, Debug, PartialEq, Eq)]
-pub enum PushRefusal {
-    /// 3: `OUTSTANDING` messages are outstanding.
-    Busy,
-    /// 8: the numbers of the view are used up.
-    Exhausted,
-    /// 7: memory was refused.
-    Memory,
-}
-
-impl PushRefusal {
-    /// Its number: 3, 8 or 7.
-    pub fn number(self) -> u8
-        ensures { result ≡ push_number self }
-    {
-        match self {
-            PushRefusal::Busy => 3,
-            PushRefusal::Exhausted => 8,
-            PushRefusal::Memory => 7,
-        }
-    }
-}
 
 /// A member's own messages of a view that were sent and not delivered here, at most `OUTSTANDING` of them, by their numbers. Numbers run from 1 to `GREATEST_NUMBER`.
 #[derive(Debug, Drop)]
@@ -64,16 +41,16 @@ impl Forwards {
 
     /// Takes a message under the next number, which is answered. Refused, with the payload given back and all as it was, with 3 exactly where `OUTSTANDING`
     /// messages are outstanding, else with 8 exactly where `GREATEST_NUMBER` were sent, else with 7 where memory was refused.
-    pub fn push(&mut self, payload: KeptPayload) -> Result<Number, (KeptPayload, PushRefusal)>
+    pub fn push(&mut self, payload: KeptPayload) -> Result<Number, (KeptPayload, Refusal)>
         ensures number { MatchResult result (λ number. number ≡ self.old.sent + 1) (λ refused. refused.0 ≡ payload) }
         ensures after { MatchResult result (λ _. self.new ≡ pushed payload self.old) (λ _. self.new ≡ self.old) }
-        ensures refused { MatchResult result (λ _. push_refusal self.old ≡ None) (λ refused. MatchOption (push_refusal self.old) (refused.1 ≡ PushRefusal.Memory) (λ why. refused.1 ≡ why)) }
+        ensures refused { MatchResult result (λ _. push_refusal self.old ≡ None) (λ refused. MatchOption (push_refusal self.old) (refused.1 ≡ refusal.Memory) (λ why. refused.1 ≡ why)) }
     {
         if self.rest.len() as u64 == OUTSTANDING {
-            return Err((payload, PushRefusal::Busy));
+            return Err((payload, Refusal::Busy));
         }
         if self.sent == GREATEST_NUMBER {
-            return Err((payload, PushRefusal::Exhausted));
+            return Err((payload, Refusal::Exhausted));
         }
         let sent = self.sent + 1;
         let Some(number) = Number::new(sent) else {
@@ -84,7 +61,7 @@ impl Forwards {
                 self.sent = sent;
                 Ok(number)
             }
-            Err(refused) => Err((refused.value.payload, PushRefusal::Memory)),
+            Err(refused) => Err((refused.value.payload, Refusal::Memory)),
         }
     }
 

@@ -8,5 +8,5 @@ mod orderer;
 mod queue;
 
 pub use forward::Forward;
-pub use forwards::{Forwards, PushRefusal};
+pub use forwards::Forwards;
 pub use orderer::Orderer;

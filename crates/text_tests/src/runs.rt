@@ -1,9 +1,10 @@
+use limits::Refusal;
 use std::alloc::Global;
 use std::io;
 use std::io::Write;
 use trace_reader::read_trace;
 use vsync_text::{Printed, put_all, write_run};
-use world_model::{Answer, Refusal, Reply};
+use world_model::{Answer, Reply};
 
 // The run of `start 1`, `create 1`, `send 1 hi`.
 const FIRST_RUN: &str =

@@ -15,7 +15,7 @@ use Rattle.trace_props.specs.declared.event.Numbered.{Numbered}
 use Rattle.trace_props.specs.declared.event.Event.{Event}
 use Rattle.trace_props.proofs.Observing.{same_address-refl, same_address-true}
 use Rattle.sequencer.specs.Forwards.{ForwardsModel, IsForwards, pushed, push_refusal}
-use Rattle.sequencer.specs.declared.forwards.PushRefusal.TheVariants.{Busy, Exhausted}
+use Rattle.limits.specs.declared.refusal.Refusal.TheVariants.{Busy, Exhausted}
 use Rattle.sequencer.specs.Queues.{Queue, change_first, follows, has_next, next_of, entry_with, first_next, next_ordered, may_order, is_from, takes, offered}
 use Rattle.stability.specs.Counts.{count_of, noted, stable_count}
 use Rattle.stability.proofs.Counts.{count-noted-le, stable-le-count, members-noted}

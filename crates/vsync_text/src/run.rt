@@ -4,10 +4,11 @@ ghost use Rattle.vsync_text.specs.Runs.{stretch, refused_lines, answer_lines, re
 ghost use Rattle.vsync_text.specs.Writing.{Writes, Prints};
 
 use crate::buffered::{PIECE, Unwritten, settle, write_event, write_refusal};
+use limits::Refusal;
 use std::alloc::Global;
 use std::io::Write;
 use trace_props::Event;
-use world_model::{Answer, Refusal, Reply};
+use world_model::{Answer, Reply};
 
 /// How the writing of a run ended.
 #[derive(Clone, Copy, PartialEq, Eq)]

@@ -16,7 +16,7 @@ use Rattle.member.specs.declared.error.Error.TheVariants as error
 use Rattle.member.specs.Members.{MemberModel, lone_install}
 use Rattle.member.specs.Handling as member
 use Rattle.world_model.specs.declared.Answer.TheVariants.{Done, Refused}
-use Rattle.world_model.specs.declared.Refusal.TheVariants.{Memory}
+use Rattle.limits.specs.declared.refusal.Refusal.TheVariants.{AlreadyConnected, Memory}
 use Rattle.world_model.specs.Histories.{History}
 use Rattle.world_model.specs.Faithful.{AnswersCreate, AnswersJoin, AnswersQuietly, AnswersLeave, is_quiet}
 use Rattle.world.specs.Seats.{answer_for, answer_to}
@@ -26,7 +26,7 @@ use Rattle.world.proofs.Facts
 -- ---- refusals by tests
 
 -- nothing refuses: the test fails
-pub free-of : (b : Bool) (x : Error) (o : Option Error) → cond b (Some x) o ≡ None → (b ≡ false) × (o ≡ None)
+pub free-of : {A : Type 0} (b : Bool) (x : A) (o : Option A) → cond b (Some x) o ≡ None → (b ≡ false) × (o ≡ None)
 free-of true x o e = absurd (none-some x (sym e))
 free-of false x o e = (refl, e)
 
@@ -66,44 +66,44 @@ module _ {S : Type 0} (meaning : Meaning S) (h : History) (n : ℕ) (m : MemberM
 
   -- ---- a create
 
-  pub create-taken : (s : List Event) → cond c.connected (Some error.AlreadyConnected) None ≡ None → s ≡ Installed (lone_install c.me) ∷ [] → AnswersCreate m.address h Done s
+  pub create-taken : (s : List Event) → cond c.connected (Some (error.Refused AlreadyConnected)) None ≡ None → s ≡ Installed (lone_install c.me) ∷ [] → AnswersCreate m.address h Done s
   create-taken s free e =
-      let off = Facts.connected meaning h n m c x ∙ (free-of c.connected error.AlreadyConnected None free).0 in
+      let off = Facts.connected meaning h n m c x ∙ (free-of c.connected (error.Refused AlreadyConnected) None free).0 in
       rw off (inl (refl, e ∙ ap (λ (p : Address). Installed (lone_install p) ∷ []) me-is))
 
-  pub create-lost : cond c.connected (Some error.AlreadyConnected) None ≡ None → AnswersCreate m.address h (Refused Memory) (Crashed m.address ∷ [])
+  pub create-lost : cond c.connected (Some (error.Refused AlreadyConnected)) None ≡ None → AnswersCreate m.address h (Refused Memory) (Crashed m.address ∷ [])
   create-lost free =
-      let off = Facts.connected meaning h n m c x ∙ (free-of c.connected error.AlreadyConnected None free).0 in
+      let off = Facts.connected meaning h n m c x ∙ (free-of c.connected (error.Refused AlreadyConnected) None free).0 in
       rw off (inr (refl, refl))
 
-  pub create-not : (e : Error) → cond c.connected (Some error.AlreadyConnected) None ≡ Some e → AnswersCreate m.address h (answer_for e) []
+  pub create-not : (e : Error) → cond c.connected (Some (error.Refused AlreadyConnected)) None ≡ Some e → AnswersCreate m.address h (answer_for e) []
   create-not e refused =
-      let p = passed-by c.connected error.AlreadyConnected e refused in
+      let p = passed-by c.connected (error.Refused AlreadyConnected) e refused in
       let on = Facts.connected meaning h n m c x ∙ p.0 in
       rw on (ap answer_for (sym p.1), refl)
 
   -- ---- a join
 
-  join-taken-at : (o : Option View) → c.view ≡ o → cond (is_some o) (Some error.AlreadyConnected) None ≡ None → AnswersJoin m.address h Done []
+  join-taken-at : (o : Option View) → c.view ≡ o → cond (is_some o) (Some (error.Refused AlreadyConnected)) None ≡ None → AnswersJoin m.address h Done []
   join-taken-at None e free = rw (Facts.view-is meaning h n m c x None e) (inl (refl, refl))
   join-taken-at (Some v) e free = absurd (none-some _ (sym free))
 
-  join-lost-at : (o : Option View) → c.view ≡ o → cond (is_some o) (Some error.AlreadyConnected) None ≡ None → AnswersJoin m.address h (Refused Memory) (Crashed m.address ∷ [])
+  join-lost-at : (o : Option View) → c.view ≡ o → cond (is_some o) (Some (error.Refused AlreadyConnected)) None ≡ None → AnswersJoin m.address h (Refused Memory) (Crashed m.address ∷ [])
   join-lost-at None e free = rw (Facts.view-is meaning h n m c x None e) (inr (refl, refl))
   join-lost-at (Some v) e free = absurd (none-some _ (sym free))
 
-  join-not-at : (o : Option View) (err : Error) → c.view ≡ o → cond (is_some o) (Some error.AlreadyConnected) None ≡ Some err → AnswersJoin m.address h (answer_for err) []
+  join-not-at : (o : Option View) (err : Error) → c.view ≡ o → cond (is_some o) (Some (error.Refused AlreadyConnected)) None ≡ Some err → AnswersJoin m.address h (answer_for err) []
   join-not-at None err e refused = absurd (none-some err refused)
   join-not-at (Some v) err e refused =
-      rw (Facts.view-is meaning h n m c x (Some v) e) (ap answer_for (sym (same_Some error.AlreadyConnected err refused)), refl)
+      rw (Facts.view-is meaning h n m c x (Some v) e) (ap answer_for (sym (same_Some (error.Refused AlreadyConnected) err refused)), refl)
 
-  pub join-taken : cond (is_some c.view) (Some error.AlreadyConnected) None ≡ None → AnswersJoin m.address h Done []
+  pub join-taken : cond (is_some c.view) (Some (error.Refused AlreadyConnected)) None ≡ None → AnswersJoin m.address h Done []
   join-taken free = join-taken-at c.view refl free
 
-  pub join-lost : cond (is_some c.view) (Some error.AlreadyConnected) None ≡ None → AnswersJoin m.address h (Refused Memory) (Crashed m.address ∷ [])
+  pub join-lost : cond (is_some c.view) (Some (error.Refused AlreadyConnected)) None ≡ None → AnswersJoin m.address h (Refused Memory) (Crashed m.address ∷ [])
   join-lost free = join-lost-at c.view refl free
 
-  pub join-not : (err : Error) → cond (is_some c.view) (Some error.AlreadyConnected) None ≡ Some err → AnswersJoin m.address h (answer_for err) []
+  pub join-not : (err : Error) → cond (is_some c.view) (Some (error.Refused AlreadyConnected)) None ≡ Some err → AnswersJoin m.address h (answer_for err) []
   join-not err refused = join-not-at c.view err refl refused
 
   -- ---- a tick, a packet, what is told of others, and a leave

@@ -10,7 +10,8 @@ use Rattle.agreement.specs.Cores.{Core, id_of}
 use Rattle.agreement.specs.Members.{MemberFact, ViewFact}
 use Rattle.agreement.proofs.Order.{told-many}
 use Rattle.member.specs.declared.error.Error.{Error}
-use Rattle.member.specs.declared.error.Error.TheVariants.{Closed}
+use Rattle.limits.specs.declared.refusal.Refusal.TheVariants.{Closed}
+use Rattle.member.specs.declared.error.Error.TheVariants.{Refused}
 use Rattle.member.specs.declared.input.Input.{Input}
 use Rattle.member.specs.Members.{MemberModel, core_of, refusal_in, refusal_of}
 use Rattle.world_model.specs.Histories.{History, last_of, is_connected, running}
@@ -75,7 +76,7 @@ module _ {S : Type 0} (meaning : Meaning S) where
     view-is o e = x.fact.seat.current ∙ ap id_of e
 
     pub free-is : (input : Input) (o : Option Error) → refusal_of m input ≡ o → refusal_in c input ≡ o
-    free-is input o e = sym (ap (λ (p : Option (Core S)). option_map_or (λ d. refusal_in d input) p (Some Closed)) x.core) ∙ e
+    free-is input o e = sym (ap (λ (p : Option (Core S)). option_map_or (λ d. refusal_in d input) p (Some (Refused Closed))) x.core) ∙ e
 
     module _ (v : View) (inside : c.view ≡ Some v) where
       facts : ViewFact (record { pool = posts_in h.pool; trace = h.trace }) m.address c.installed c.traffic c.kept v

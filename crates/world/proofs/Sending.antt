@@ -13,15 +13,15 @@ use Rattle.trace_props.specs.declared.event.Event.TheVariants.{Delivered, Crashe
 use Rattle.trace_props.specs.declared.event.Event.TheVariants as event
 use Rattle.trace_props.specs.Observed.{is_blocked, current_view, sent_in, delivered_in}
 use Rattle.agreement.specs.Cores.{Core, is_frozen}
-use Rattle.member.specs.declared.error.Error.{Error}
-use Rattle.member.specs.declared.error.Error.TheVariants as error
 use Rattle.member.specs.Members.{MemberModel, send_refusal}
 use Rattle.member.specs.Handling as member
 use Rattle.world_model.specs.declared.Answer.TheVariants.{Sent, Refused}
-use Rattle.world_model.specs.declared.Refusal.TheVariants.{Memory}
+use Rattle.limits.specs.declared.refusal.Refusal.{Refusal}
+use Rattle.limits.specs.declared.refusal.Refusal.TheVariants.{Memory}
+use Rattle.limits.specs.declared.refusal.Refusal.TheVariants as refusal
 use Rattle.world_model.specs.Histories.{History}
 use Rattle.world_model.specs.Faithful.{AnswersSend, IsPrompt, SendsNext, outstanding}
-use Rattle.world.specs.Seats.{answer_for, answer_to}
+use Rattle.world.specs.Seats.{answer_to}
 use Rattle.world.proofs.Owning.{EachOwn, own-quiet}
 use Rattle.world.proofs.Answering.{free-of, quiet-all}
 use Rattle.world.proofs.Facts
@@ -36,11 +36,11 @@ pub record MaySend {S : Type 0} (c : Core S) (payload : List ℕ) : Type 0 where
 
 pub may-send : {S : Type 0} (c : Core S) (payload : List ℕ) → send_refusal c payload ≡ None → MaySend c payload
 may-send c payload e =
-    let a = free-of (not (is_some c.view)) error.NotConnected _ e in
-    let b = free-of (nat_lt PAYLOAD (length payload)) error.TooLong _ a.1 in
-    let d = free-of (is_frozen c.view c.installed) error.Blocked _ b.1 in
-    let f = free-of (nat_le OUTSTANDING (length c.traffic.outstanding)) error.Busy _ d.1 in
-    let g = free-of (nat_le GREATEST_NUMBER c.traffic.sent) error.Exhausted None f.1 in
+    let a = free-of (not (is_some c.view)) refusal.NotConnected _ e in
+    let b = free-of (nat_lt PAYLOAD (length payload)) refusal.TooLong _ a.1 in
+    let d = free-of (is_frozen c.view c.installed) refusal.Blocked _ b.1 in
+    let f = free-of (nat_le OUTSTANDING (length c.traffic.outstanding)) refusal.Busy _ d.1 in
+    let g = free-of (nat_le GREATEST_NUMBER c.traffic.sent) refusal.Exhausted None f.1 in
     record { inside = a.0; long = b.0; frozen = d.0; busy = f.0; used = g.0 }
 
 unused : (k n : ℕ) → n ≡ k → nat_le GREATEST_NUMBER k ≡ false → nat_lt n GREATEST_NUMBER ≡ true
@@ -88,15 +88,15 @@ module _ {S : Type 0} (meaning : Meaning S) (h : History) (n : ℕ) (m : MemberM
         own-rest [] o = tt
         own-rest (y ∷ t) o = o.1
 
-    not-in : (err : Error) (b1 b2 b3 b4 : Bool) → nat_lt PAYLOAD (length payload) ≡ b1 → is_frozen c.view c.installed ≡ b2 → nat_le OUTSTANDING (length c.traffic.outstanding) ≡ b3
+    not-in : (err : Refusal) (b1 b2 b3 b4 : Bool) → nat_lt PAYLOAD (length payload) ≡ b1 → is_frozen c.view c.installed ≡ b2 → nat_le OUTSTANDING (length c.traffic.outstanding) ≡ b3
         → nat_le GREATEST_NUMBER c.traffic.sent ≡ b4
-        → cond b1 (Some error.TooLong) (cond b2 (Some error.Blocked) (cond b3 (Some error.Busy) (cond b4 (Some error.Exhausted) None))) ≡ Some err
-        → AnswersSend payload m.address h (answer_for err) []
-    not-in err true b2 b3 b4 t1 t2 t3 t4 e = rw (current, t1) (ap answer_for (sym (same_Some error.TooLong err e)), refl)
-    not-in err false true b3 b4 t1 t2 t3 t4 e = rw (current, t1, block-is true t2) (ap answer_for (sym (same_Some error.Blocked err e)), refl)
-    not-in err false false true b4 t1 t2 t3 t4 e = rw (current, t1, block-is false t2, busy-is true t3) (ap answer_for (sym (same_Some error.Busy err e)), refl)
+        → cond b1 (Some refusal.TooLong) (cond b2 (Some refusal.Blocked) (cond b3 (Some refusal.Busy) (cond b4 (Some refusal.Exhausted) None))) ≡ Some err
+        → AnswersSend payload m.address h (Refused err) []
+    not-in err true b2 b3 b4 t1 t2 t3 t4 e = rw (current, t1) (ap (λ (r : Refusal). Refused r) (sym (same_Some refusal.TooLong err e)), refl)
+    not-in err false true b3 b4 t1 t2 t3 t4 e = rw (current, t1, block-is true t2) (ap (λ (r : Refusal). Refused r) (sym (same_Some refusal.Blocked err e)), refl)
+    not-in err false false true b4 t1 t2 t3 t4 e = rw (current, t1, block-is false t2, busy-is true t3) (ap (λ (r : Refusal). Refused r) (sym (same_Some refusal.Busy err e)), refl)
     not-in err false false false true t1 t2 t3 t4 e =
-        rw (current, t1, block-is false t2, busy-is false t3, used-up c.traffic.sent _ count t4) (ap answer_for (sym (same_Some error.Exhausted err e)), refl)
+        rw (current, t1, block-is false t2, busy-is false t3, used-up c.traffic.sent _ count t4) (ap (λ (r : Refusal). Refused r) (sym (same_Some refusal.Exhausted err e)), refl)
     not-in err false false false false t1 t2 t3 t4 e = absurd (none-some err e)
 
     near : (k : ℕ) → k ≡ c.traffic.delivered → k < WINDOW → c.traffic.delivered < c.traffic.stable + WINDOW
@@ -131,14 +131,14 @@ module _ {S : Type 0} (meaning : Meaning S) (h : History) (n : ℕ) (m : MemberM
       by may None e = absurd (let n : true ≡ false = sym (ap (λ o. not (is_some o)) e) ∙ may.inside in cc)
       by may (Some v) e = lost-in v e may
 
-  not-at : (err : Error) (o : Option View) → c.view ≡ o
-      → cond (not (is_some o)) (Some error.NotConnected) (cond (nat_lt PAYLOAD (length payload)) (Some error.TooLong) (cond (is_frozen c.view c.installed) (Some error.Blocked)
-      (cond (nat_le OUTSTANDING (length c.traffic.outstanding)) (Some error.Busy) (cond (nat_le GREATEST_NUMBER c.traffic.sent) (Some error.Exhausted) None)))) ≡ Some err
-      → AnswersSend payload m.address h (answer_for err) []
-  not-at err None e r = rw (Facts.view-is meaning h n m c x None e) (ap answer_for (sym (same_Some error.NotConnected err r)), refl)
+  not-at : (err : Refusal) (o : Option View) → c.view ≡ o
+      → cond (not (is_some o)) (Some refusal.NotConnected) (cond (nat_lt PAYLOAD (length payload)) (Some refusal.TooLong) (cond (is_frozen c.view c.installed) (Some refusal.Blocked)
+      (cond (nat_le OUTSTANDING (length c.traffic.outstanding)) (Some refusal.Busy) (cond (nat_le GREATEST_NUMBER c.traffic.sent) (Some refusal.Exhausted) None)))) ≡ Some err
+      → AnswersSend payload m.address h (Refused err) []
+  not-at err None e r = rw (Facts.view-is meaning h n m c x None e) (ap (λ (r : Refusal). Refused r) (sym (same_Some refusal.NotConnected err r)), refl)
   not-at err (Some v) e r = not-in v e err _ _ _ _ refl refl refl refl r
 
-  pub send-not : (err : Error) → send_refusal c payload ≡ Some err → AnswersSend payload m.address h (answer_for err) []
+  pub send-not : (err : Refusal) → send_refusal c payload ≡ Some err → AnswersSend payload m.address h (Refused err) []
   send-not err refused = not-at err c.view refl refused
 
   -- what is known where it takes a message

@@ -14,8 +14,8 @@ use Rattle.agreement.proofs.Stepping
 use Rattle.world_model.specs.declared.WorldEvent.TheVariants.{Start}
 use Rattle.world_model.specs.declared.Answer.{Answer}
 use Rattle.world_model.specs.declared.Answer.TheVariants.{Done, Sent, Refused}
-use Rattle.world_model.specs.declared.Refusal.{Refusal}
-use Rattle.world_model.specs.declared.Refusal.TheVariants.{NotConnected, Blocked, Busy, TooLong, AlreadyConnected, Closed, Memory, Exhausted}
+use Rattle.limits.specs.declared.refusal.Refusal.{Refusal}
+use Rattle.limits.specs.declared.refusal.Refusal.TheVariants.{NotConnected, Blocked, Busy, TooLong, AlreadyConnected, Closed, Memory, Exhausted, BadName}
 use Rattle.world_model.specs.Histories.{History, last_of, is_connected, connects_after}
 use Rattle.world_model.specs.Faithful.{Answers}
 use Rattle.world.specs.declared.seat.Seat.{Seat}
@@ -139,6 +139,7 @@ module _ {S : Type 0} (meaning : Meaning S)
     begins (Refused AlreadyConnected) t now is g = absurd g
     begins (Refused Closed) t now is g = absurd g
     begins (Refused Exhausted) t now is g = absurd g
+    begins (Refused BadName) t now is g = absurd g
 
   -- ---- a start, at any node
 

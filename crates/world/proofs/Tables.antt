@@ -1,8 +1,8 @@
 -- For each event: what has to be known where its input is handed to a running member.
 use Rattle.std.proofs.Common.{◌≡◌, ℕ, ◌+◌, Bool, true, false, cond, Option, Some, None, Ok, List, [], ◌∷◌, ◌++◌, is_some, refl, sym, ap, ◌∙◌, subst, inl, inr}
 use Rattle.std.specs.Borrow.{Bor}
-use Rattle.std.specs.Option.{IsSomeAnd}
-use Rattle.std.proofs.lemmas.Option.{none-some}
+use Rattle.std.specs.Option.{IsSomeAnd, option_map}
+use Rattle.std.proofs.lemmas.Option.{none-some, same_Some}
 use Rattle.address.specs.Ids.{Address}
 use Rattle.view.specs.Members.{View}
 use Rattle.state_transfer.specs.Meanings.{Meaning}
@@ -17,14 +17,15 @@ use Rattle.member.specs.declared.error.Error.TheVariants as error
 use Rattle.member.specs.declared.input.Input.{Input}
 use Rattle.member.specs.declared.input.Input.TheVariants as input
 use Rattle.output.specs.declared.output.Output.{Output}
-use Rattle.member.specs.Members.{MemberModel, core_of, refusal_in}
+use Rattle.member.specs.Members.{MemberModel, core_of, refusal_in, send_refusal}
 use Rattle.member.specs.Handling as member
 use Rattle.member.specs.Handling.{Handled, Replies, StaysSo, IsConnected}
 use Rattle.world_model.specs.declared.WorldEvent.{WorldEvent}
 use Rattle.world_model.specs.declared.WorldEvent.TheVariants.{Create, Join, Send, Tick, Suspect, MergeHint, Leave}
 use Rattle.world_model.specs.declared.Answer.{Answer}
 use Rattle.world_model.specs.declared.Answer.TheVariants.{Done, Sent, Refused}
-use Rattle.world_model.specs.declared.Refusal.TheVariants.{Memory, AlreadyConnected}
+use Rattle.limits.specs.declared.refusal.Refusal.{Refusal}
+use Rattle.limits.specs.declared.refusal.Refusal.TheVariants.{Memory, AlreadyConnected}
 use Rattle.world_model.specs.Histories.{History, is_connected}
 use Rattle.world_model.specs.Faithful.{AnswersCreate, AnswersJoin, AnswersQuietly, AnswersLeave, AnswersSend, IsPrompt}
 use Rattle.world.specs.Seats.{answer_for, answer_to, posts_in}
@@ -86,7 +87,7 @@ module _ {S : Type 0} (meaning : Meaning S) (h : History) (n : ℕ) (m : MemberM
 
   create-not : (err : Error) → refusal_in c input.Create ≡ Some err → RefusesSo (Create n) (answer_for err)
   create-not err refused =
-      let p = passed-by c.connected error.AlreadyConnected err refused in
+      let p = passed-by c.connected (error.Refused AlreadyConnected) err refused in
       let y : AnswersCreate m.address h (answer_for err) [] = Answering.create-not meaning h n m c x err refused in
       subst (λ (b : Error). RefusesSo (Create n) (answer_for b)) p.1 (record {
         answers = Facts.at-member meaning h n m c x (Refused AlreadyConnected) [] (λ p. AnswersCreate p h (Refused AlreadyConnected) [])
@@ -118,10 +119,10 @@ module _ {S : Type 0} (meaning : Meaning S) (h : History) (n : ℕ) (m : MemberM
         stays = λ e. connected-so left _ handled.group r.1 (done-here n true (is_connected n h));
       })
 
-  join-not-at : (contact : Address) (err : Error) (o : Option View) → c.view ≡ o → cond (is_some o) (Some error.AlreadyConnected) None ≡ Some err
+  join-not-at : (contact : Address) (err : Error) (o : Option View) → c.view ≡ o → cond (is_some o) (Some (error.Refused AlreadyConnected)) None ≡ Some err
       → AnswersJoin m.address h (answer_for err) [] → RefusesSo (Join n contact) (answer_for err)
   join-not-at contact err o e refused y =
-      let p = passed-by (is_some o) error.AlreadyConnected err refused in
+      let p = passed-by (is_some o) (error.Refused AlreadyConnected) err refused in
       subst (λ (b : Error). RefusesSo (Join n contact) (answer_for b)) p.1 (record {
         answers = Facts.at-member meaning h n m c x (Refused AlreadyConnected) [] (λ p. AnswersJoin p h (Refused AlreadyConnected) [])
             (subst (λ (b : Error). AnswersJoin m.address h (answer_for b) []) (sym p.1) y);
@@ -142,14 +143,7 @@ module _ {S : Type 0} (meaning : Meaning S) (h : History) (n : ℕ) (m : MemberM
   -- ---- a send
 
   send-prompt : (err : Error) (payload : List ℕ) → IsPrompt n payload h.trace (answer_for err) []
-  send-prompt error.NotConnected payload = tt
-  send-prompt error.Blocked payload = tt
-  send-prompt error.Busy payload = tt
-  send-prompt error.TooLong payload = tt
-  send-prompt error.AlreadyConnected payload = tt
-  send-prompt error.Closed payload = tt
-  send-prompt error.Memory payload = tt
-  send-prompt error.Exhausted payload = tt
+  send-prompt (error.Refused r) payload = tt
   send-prompt (error.Wire e) payload = tt
 
   send-taken : (b : Bor (List ℕ)) (out : Output) (left : MemberModel S) → Handled meaning m (input.Send b) (Ok out) left → refusal_in c (input.Send b) ≡ None
@@ -158,7 +152,7 @@ module _ {S : Type 0} (meaning : Meaning S) (h : History) (n : ℕ) (m : MemberM
       let r = replies (input.Send b) out left handled in
       let s = out.events.items in
       let told = subst (λ (o : Option (Core S)). IsSomeAnd o (λ d. member.IsPrompt d (input.Send b) s)) x.core handled.prompt in
-      let t = Sending.send-taken meaning h n m c x b.now s free own r.0.first r.0.quiet told in
+      let t = Sending.send-taken meaning h n m c x b.now s (send-free b (send_refusal c b.now) free) own r.0.first r.0.quiet told in
       subst (λ (a : Answer). TakesSo (Send n b.now) (input.Send b) a s left) (sym t.answer) (record {
         answers = Facts.at-member meaning h n m c x (Sent (c.traffic.sent + 1)) s (λ p. AnswersSend b.now p h (Sent (c.traffic.sent + 1)) s) t.answers;
         prompt = t.prompt;
@@ -166,20 +160,27 @@ module _ {S : Type 0} (meaning : Meaning S) (h : History) (n : ℕ) (m : MemberM
         stays = λ e. stays-so left handled.group r.1;
       })
 
-  send-not : (b : Bor (List ℕ)) (err : Error) → refusal_in c (input.Send b) ≡ Some err → RefusesSo (Send n b.now) (answer_for err)
-  send-not b err refused = record {
-    answers = Facts.at-member meaning h n m c x (answer_for err) [] (λ p. AnswersSend b.now p h (answer_for err) [])
-        (Sending.send-not meaning h n m c x b.now err refused);
-    prompt = send-prompt err b.now;
+  send-not-for : (b : Bor (List ℕ)) (err : Error) (o : Option Refusal) → send_refusal c b.now ≡ o → option_map error.Refused o ≡ Some err → RefusesSo (Send n b.now) (answer_for err)
+  send-not-for b err None is e = absurd (none-some err e)
+  send-not-for b err (Some r) is e = subst (λ (k : Error). RefusesSo (Send n b.now) (answer_for k)) (same_Some (error.Refused r) err e) (record {
+    answers = Facts.at-member meaning h n m c x (Refused r) [] (λ p. AnswersSend b.now p h (Refused r) []) (Sending.send-not meaning h n m c x b.now r is);
+    prompt = send-prompt (error.Refused r) b.now;
     connected = λ k. refl;
-  }
+  })
+
+  send-not : (b : Bor (List ℕ)) (err : Error) → refusal_in c (input.Send b) ≡ Some err → RefusesSo (Send n b.now) (answer_for err)
+  send-not b err refused = send-not-for b err (send_refusal c b.now) refl refused
+
+  send-free : (b : Bor (List ℕ)) (o : Option Refusal) → option_map error.Refused o ≡ None → o ≡ None
+  send-free b None e = refl
+  send-free b (Some r) e = absurd (none-some (error.Refused r) (sym e))
 
   pub send-table : (b : Bor (List ℕ)) → Tabled (Send n b.now) (input.Send b)
   send-table b = record {
     elsewhere = λ a k o. connects_after-other k (is_connected k h) (Send n b.now) a o;
     comes = nothing-comes (posts_in h.pool) c;
     lost = λ free. Facts.at-member meaning h n m c x (Refused Memory) (Crashed m.address ∷ []) (λ p. AnswersSend b.now p h (Refused Memory) (Crashed m.address ∷ []))
-        (Sending.send-lost meaning h n m c x b.now free);
+        (Sending.send-lost meaning h n m c x b.now (send-free b (send_refusal c b.now) free));
     not = λ err refused. send-not b err refused;
     taken = λ out left handled free own. send-taken b out left handled free own;
   }

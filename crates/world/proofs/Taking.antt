@@ -28,7 +28,10 @@ use Rattle.member.specs.Handling.{Handled}
 use Rattle.world_model.specs.declared.WorldEvent.{WorldEvent}
 use Rattle.world_model.specs.declared.Answer.{Answer}
 use Rattle.world_model.specs.declared.Answer.TheVariants.{Refused}
-use Rattle.world_model.specs.declared.Refusal.TheVariants.{Memory}
+use Rattle.limits.specs.declared.refusal.Refusal.{Refusal}
+use Rattle.limits.specs.declared.refusal.Refusal.TheVariants.{Memory}
+use Rattle.limits.specs.declared.refusal.Refusal.TheVariants as refusal
+use Rattle.limits.specs.Refusals as refusals
 use Rattle.world_model.specs.Histories.{History, last_of, is_connected, connects_after}
 use Rattle.world_model.specs.Faithful.{Answers, SendsPromptly}
 use Rattle.world.specs.declared.seat.Seat.{Seat}
@@ -50,15 +53,19 @@ use Rattle.world.proofs.Readable.{Comes}
 -- ---- what a call that answered an error says
 
 -- one that is closed
-closed-is : (e : Error) → is_closed e ≡ true → e ≡ error.Closed
-closed-is error.NotConnected x = absurd (let bad : false ≡ true = x in cc)
-closed-is error.Blocked x = absurd (let bad : false ≡ true = x in cc)
-closed-is error.Busy x = absurd (let bad : false ≡ true = x in cc)
-closed-is error.TooLong x = absurd (let bad : false ≡ true = x in cc)
-closed-is error.AlreadyConnected x = absurd (let bad : false ≡ true = x in cc)
-closed-is error.Closed x = refl
-closed-is error.Memory x = absurd (let bad : false ≡ true = x in cc)
-closed-is error.Exhausted x = absurd (let bad : false ≡ true = x in cc)
+six-is : (r : Refusal) → refusals.is_closed r ≡ true → r ≡ refusal.Closed
+six-is refusal.NotConnected x = absurd (let bad : false ≡ true = x in cc)
+six-is refusal.Blocked x = absurd (let bad : false ≡ true = x in cc)
+six-is refusal.Busy x = absurd (let bad : false ≡ true = x in cc)
+six-is refusal.TooLong x = absurd (let bad : false ≡ true = x in cc)
+six-is refusal.AlreadyConnected x = absurd (let bad : false ≡ true = x in cc)
+six-is refusal.Closed x = refl
+six-is refusal.Memory x = absurd (let bad : false ≡ true = x in cc)
+six-is refusal.Exhausted x = absurd (let bad : false ≡ true = x in cc)
+six-is refusal.BadName x = absurd (let bad : false ≡ true = x in cc)
+
+closed-is : (e : Error) → is_closed e ≡ true → e ≡ error.Refused refusal.Closed
+closed-is (error.Refused r) x = ap error.Refused (six-is r x)
 closed-is (error.Wire w) x = absurd (let bad : false ≡ true = x in cc)
 
 -- by a test

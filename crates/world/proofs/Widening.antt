@@ -16,7 +16,7 @@ use Rattle.world_model.specs.declared.WorldEvent.{WorldEvent}
 use Rattle.world_model.specs.declared.WorldEvent.TheVariants.{Start, Create, Join, Send, Deliver, Tick, Suspect, MergeHint, Leave, Crash}
 use Rattle.world_model.specs.declared.Answer.{Answer}
 use Rattle.world_model.specs.declared.Answer.TheVariants.{Done, Sent, Refused}
-use Rattle.world_model.specs.declared.Refusal.TheVariants.{NotConnected, Blocked, Busy, TooLong, AlreadyConnected, Closed, Memory, Exhausted}
+use Rattle.limits.specs.declared.refusal.Refusal.TheVariants.{NotConnected, Blocked, Busy, TooLong, AlreadyConnected, Closed, Memory, Exhausted, BadName}
 use Rattle.world_model.specs.Histories.{History}
 use Rattle.world.specs.declared.seat.Seat.{Seat}
 use Rattle.world.specs.declared.seat.Seat.TheVariants.{Vacant, Ended, Running}
@@ -61,6 +61,7 @@ module _ {S : Type 0} (meaning : Meaning S) (t u : List Event) (pool more : List
   begins-widen p (Refused Closed) new g same = absurd g
   begins-widen p (Refused Memory) new g same = told (Started p ∷ Crashed p ∷ []) t u pool more (g.1 ∙ append_assoc t (Started p ∷ []) (Crashed p ∷ [])) same
   begins-widen p (Refused Exhausted) new g same = absurd g
+  begins-widen p (Refused BadName) new g same = absurd g
 
   start-widens : (n : ℕ) (old new : Seat S) (a : Answer) → StartGives meaning n old t a new u → more ≡ pool → Wider t u pool more
   start-widens n Vacant new a g same = begins-widen _ a new g.1 same

@@ -15,7 +15,7 @@ use Rattle.world_model.specs.declared.WorldEvent.TheVariants.{Deliver, Tick}
 use Rattle.world_model.specs.declared.Answer.{Answer}
 use Rattle.world_model.specs.declared.Answer.TheVariants.{Done, Sent, Refused}
 use Rattle.world_model.specs.Packets.{destination_of}
-use Rattle.world_model.specs.Refusals.{number_of}
+use Rattle.limits.specs.Refusals.{number_of}
 use Rattle.world.specs.declared.gaps.Pair.{Pair}
 use Rattle.world.specs.declared.seat.Seat.{Seat}
 use Rattle.world.specs.declared.seat.Seat.TheVariants.{Vacant, Ended, Running}

@@ -13,11 +13,11 @@ use Rattle.agreement.specs.Cores.{Core}
 use Rattle.agreement.specs.Steps.{System}
 use Rattle.member.specs.declared.error.Error.{Error}
 use Rattle.member.specs.declared.error.Error.TheVariants as error
+pub use Rattle.member.specs.Errors.{is_closed}
 use Rattle.output.specs.declared.output.Outgoing.{Outgoing}
 use Rattle.member.specs.Members.{core_of}
 use Rattle.world_model.specs.declared.Answer.{Answer}
 use Rattle.world_model.specs.declared.Answer.TheVariants.{Done, Sent, Refused}
-use Rattle.world_model.specs.declared.Refusal.TheVariants as refusal
 use Rattle.world.specs.declared.seat.Seat.{Seat}
 use Rattle.world.specs.declared.seat.Seat.TheVariants.{Vacant, Ended, Running}
 
@@ -25,27 +25,8 @@ use Rattle.world.specs.declared.seat.Seat.TheVariants.{Vacant, Ended, Running}
 
 -- what an event is answered whose input was refused so
 abbrev pub answer_for : Error → Answer
-answer_for error.NotConnected = Refused refusal.NotConnected
-answer_for error.Blocked = Refused refusal.Blocked
-answer_for error.Busy = Refused refusal.Busy
-answer_for error.TooLong = Refused refusal.TooLong
-answer_for error.AlreadyConnected = Refused refusal.AlreadyConnected
-answer_for error.Closed = Refused refusal.Closed
-answer_for error.Memory = Refused refusal.Memory
-answer_for error.Exhausted = Refused refusal.Exhausted
+answer_for (error.Refused r) = Refused r
 answer_for (error.Wire e) = Done
-
--- it has ended
-abbrev pub is_closed : Error → Bool
-is_closed error.NotConnected = false
-is_closed error.Blocked = false
-is_closed error.Busy = false
-is_closed error.TooLong = false
-is_closed error.AlreadyConnected = false
-is_closed error.Closed = true
-is_closed error.Memory = false
-is_closed error.Exhausted = false
-is_closed (error.Wire e) = false
 
 -- what an event is answered by which these happened: a message that was sent comes first
 abbrev pub answer_to : List Event → Answer

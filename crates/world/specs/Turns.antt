@@ -18,8 +18,8 @@ use Rattle.member.specs.Members.{MemberModel, core_of, leaves}
 use Rattle.member.specs.Handling.{Handled}
 use Rattle.world_model.specs.declared.Answer.{Answer}
 use Rattle.world_model.specs.declared.Answer.TheVariants.{Done, Sent, Refused}
-use Rattle.world_model.specs.declared.Refusal.{Refusal}
-use Rattle.world_model.specs.declared.Refusal.TheVariants.{NotConnected, AlreadyConnected, Closed, Memory, Exhausted}
+use Rattle.limits.specs.declared.refusal.Refusal.{Refusal}
+use Rattle.limits.specs.declared.refusal.Refusal.TheVariants.{NotConnected, AlreadyConnected, Closed, Memory, Exhausted}
 use Rattle.world_model.specs.declared.WorldEvent.{WorldEvent}
 use Rattle.world_model.specs.declared.WorldEvent.TheVariants.{Start, Create, Join, Send, Deliver, Tick, Suspect, MergeHint, Leave, Crash}
 use Rattle.world_model.specs.declared.Target.{Target}
@@ -34,7 +34,7 @@ use Rattle.world.specs.Seats.{answer_for, is_closed, answer_to, seat_at, bytes_o
 
 -- why a step of a member comes to an error: the call of `handle` answered it, or the pool was refused growth for what the call puts out
 abbrev pub IsWhy : Error → Result Output Error → Type 0
-IsWhy e (Ok out) = (e ≡ error.Memory) × (out.packets.items ≡ [] → ⊥)
+IsWhy e (Ok out) = (e ≡ error.Refused Memory) × (out.packets.items ≡ [] → ⊥)
 IsWhy e (Err f) = f ≡ e
 
 -- one call of `handle`, with its whole contract, whose packets joined the pool

@@ -22,13 +22,13 @@ mod seat;
 use crate::pool::Pool;
 use crate::seat::Seat;
 use address::{Address, Node};
-use limits::STEP_EVENTS;
+use limits::{Refusal, STEP_EVENTS};
 use state_transfer::Receiver;
 use std::alloc::{AllocError, Global};
 use std::collections::BTreeMap;
 use std::marker::Model;
 use trace_props::{Bytes, Trace};
-use world_model::{Answer, Refusal, Reply, Target, WorldEvent};
+use world_model::{Answer, Reply, Target, WorldEvent};
 
 /// A world of members, one at a node at a time, each with its receiver (docs/GUARANTEES.md, "The world"). Contracts see its history and
 /// what stands at each node: nothing yet, one that has ended, or the member that runs.

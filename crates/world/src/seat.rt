@@ -9,7 +9,7 @@ ghost use Rattle.member.specs.Handling.{Handled};
 ghost use Rattle.member.specs.declared.input.Input.{Input};
 ghost use Rattle.member.specs.Members.{MemberModel, leaves};
 ghost use Rattle.world_model.specs.declared.Answer.TheVariants.{Refused};
-ghost use Rattle.world_model.specs.declared.Refusal.TheVariants.{Memory};
+ghost use Rattle.limits.specs.declared.refusal.Refusal.TheVariants.{Memory};
 ghost use Rattle.world_model.specs.Packets.{packet_numbered};
 ghost use Rattle.world.specs.declared.seat.Seat.TheVariants.{Ended, Running};
 ghost use Rattle.world.specs.Seats.{answer_for, answer_to};
@@ -18,13 +18,14 @@ ghost use Rattle.world.specs.Turns.{Hands, Gives, Begins, StartGives, CrashGives
 
 use crate::pool::Pool;
 use address::{Address, Node};
+use limits::Refusal;
 use member::{Error, Input, Member};
 use output::Output;
 use packet_values::GroupName;
 use state_transfer::Receiver;
 use std::alloc::Global;
 use trace_props::{Event, Trace};
-use world_model::{Answer, Refusal, WorldEvent};
+use world_model::{Answer, WorldEvent};
 
 /// What runs at a node.
 #[derive(Drop)]
@@ -39,14 +40,7 @@ fn refused(error: Error) -> Answer
     ensures { result ≡ answer_for error }
 {
     match error {
-        Error::NotConnected => Answer::Refused(Refusal::NotConnected),
-        Error::Blocked => Answer::Refused(Refusal::Blocked),
-        Error::Busy => Answer::Refused(Refusal::Busy),
-        Error::TooLong => Answer::Refused(Refusal::TooLong),
-        Error::AlreadyConnected => Answer::Refused(Refusal::AlreadyConnected),
-        Error::Closed => Answer::Refused(Refusal::Closed),
-        Error::Memory => Answer::Refused(Refusal::Memory),
-        Error::Exhausted => Answer::Refused(Refusal::Exhausted),
+        Error::Refused(refusal) => Answer::Refused(refusal),
         Error::Wire(_) => Answer::Done,
     }
 }
@@ -141,9 +135,9 @@ fn settle<R: Receiver>(
             }
             answer
         }
-        Err(Error::Memory) => lose(seat, trace, address),
+        Err(Error::Refused(Refusal::Memory)) => lose(seat, trace, address),
         // It was to enter a view with a state that cannot be read, which no packet of a world says.
-        Err(Error::Closed) => {
+        Err(Error::Refused(Refusal::Closed)) => {
             end(seat, address);
             Answer::Refused(Refusal::Closed)
         }

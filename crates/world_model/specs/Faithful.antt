@@ -13,9 +13,9 @@ use Rattle.world_model.specs.declared.WorldEvent.TheVariants.{Start, Create, Joi
 use Rattle.world_model.specs.declared.Answer.{Answer}
 use Rattle.world_model.specs.declared.Answer.TheVariants.{Done, Refused}
 use Rattle.world_model.specs.declared.Answer.TheVariants as answer
-use Rattle.world_model.specs.declared.Refusal.{Refusal}
-use Rattle.world_model.specs.declared.Refusal.TheVariants.{NotConnected, Busy, TooLong, AlreadyConnected, Closed, Memory, Exhausted}
-use Rattle.world_model.specs.declared.Refusal.TheVariants as refusal
+use Rattle.limits.specs.declared.refusal.Refusal.{Refusal}
+use Rattle.limits.specs.declared.refusal.Refusal.TheVariants.{NotConnected, Busy, TooLong, AlreadyConnected, Closed, Memory, Exhausted}
+use Rattle.limits.specs.declared.refusal.Refusal.TheVariants as refusal
 use Rattle.world_model.specs.Histories.{History, last_of, is_connected, after, no_history}
 use Rattle.world_model.specs.Packets.{recipient}
 

@@ -1,4 +1,3 @@
-pub mod Refusals
 pub mod Histories
 pub mod Packets
 pub mod Faithful

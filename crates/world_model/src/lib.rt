@@ -2,10 +2,10 @@
 #![tactic(auto)]
 
 ghost use Rattle.std.specs.Prelude.{◌≡◌, IfOk};
-ghost use Rattle.world_model.specs.Refusals.{number_of};
 ghost use Rattle.world_model.specs.Histories.{target_of, starts};
 
 use address::{Address, Node};
+use limits::Refusal;
 use std::alloc::{AllocError, Global};
 use trace_props::Bytes;
 
@@ -95,45 +95,6 @@ impl WorldEvent {
             WorldEvent::MergeHint(node, address) => Ok(WorldEvent::MergeHint(*node, *address)),
             WorldEvent::Leave(node) => Ok(WorldEvent::Leave(*node)),
             WorldEvent::Crash(node) => Ok(WorldEvent::Crash(*node)),
-        }
-    }
-}
-
-/// Why an event is refused.
-#[derive(Clone, Copy, Debug, PartialEq, Eq)]
-pub enum Refusal {
-    /// 1: the member has no view, or the node was never started.
-    NotConnected,
-    /// 2: the member is blocked until its next view.
-    Blocked,
-    /// 3: `OUTSTANDING` own messages are not delivered yet.
-    Busy,
-    /// 4: the payload has more than `PAYLOAD` bytes.
-    TooLong,
-    /// 5: the member is connected, or runs, already.
-    AlreadyConnected,
-    /// 6: the member has ended.
-    Closed,
-    /// 7: memory was refused, and the member has ended.
-    Memory,
-    /// 8: a number is used up.
-    Exhausted,
-}
-
-impl Refusal {
-    /// Its number, 1 to 8.
-    pub fn number(self) -> u8
-        ensures { result ≡ number_of self }
-    {
-        match self {
-            Refusal::NotConnected => 1,
-            Refusal::Blocked => 2,
-            Refusal::Busy => 3,
-            Refusal::TooLong => 4,
-            Refusal::AlreadyConnected => 5,
-            Refusal::Closed => 6,
-            Refusal::Memory => 7,
-            Refusal::Exhausted => 8,
         }
     }
 }

@@ -9,7 +9,7 @@ returns-in-Some-send_refusal-clause-alive g c =
 pub returns-in-Some-send_refusal-clause-handled : goal.returns-in-Some-send_refusal-clause-handled
 returns-in-Some-send_refusal-clause-handled g c =
     from-some g.R.Receiver.meaning c.args.who.now.address c.args.who.now.group c.args.life.now c.in-Some.running _ _ _ c.in-Some.is
-    (unsent-handled g.R.Receiver.meaning c.args.who.now.address c.args.who.now.group c.args.payload c.in-Some.running c.in-Some-send_refusal.refusal c.from.result (sym (c.send_refusal.ensures c.args.who.now.address) ∙ c.in-Some-send_refusal.is) c.from.ensures (c.requires.alive c.in-Some.running c.in-Some.is))
+    (unsent-handled g.R.Receiver.meaning c.args.who.now.address c.args.who.now.group c.args.payload c.in-Some.running c.in-Some-send_refusal.refusal (sym (c.send_refusal.ensures c.args.who.now.address) ∙ c.in-Some-send_refusal.is) (c.requires.alive c.in-Some.running c.in-Some.is))
 
 pub send-requires-clause-life : goal.send-requires-clause-life
 send-requires-clause-life g c =
