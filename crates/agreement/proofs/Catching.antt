@@ -9,7 +9,7 @@ use Rattle.std.proofs.lemmas.List.Elements.{filter_map-append}
 use Rattle.address.specs.Ids.{Address, ViewId, IsAddress, same_address}
 use Rattle.view.specs.Members.{View}
 use Rattle.limits.specs.declared.TheConstants.{PAYLOAD}
-use Rattle.packet_values.specs.Values.{Entry}
+use Rattle.wire.specs.Values.{Entry}
 use Rattle.state_transfer.specs.Meanings.{Meaning}
 use Rattle.trace_props.specs.declared.event.Event.{Event}
 use Rattle.trace_props.specs.declared.event.Event.TheVariants.{Delivered}

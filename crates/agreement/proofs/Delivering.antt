@@ -10,7 +10,7 @@ use Rattle.std.proofs.lemmas.List.Sums.{fold-append}
 use Rattle.address.specs.Ids.{Address, ViewId, IsAddress, same_address}
 use Rattle.view.specs.Members.{View}
 use Rattle.limits.specs.declared.TheConstants.{PAYLOAD}
-use Rattle.packet_values.specs.Values.{Entry, held_at}
+use Rattle.wire.specs.Values.{Entry, held_at}
 use Rattle.state_transfer.specs.Meanings.{Meaning}
 use Rattle.trace_props.specs.declared.event.Event.{Event}
 use Rattle.trace_props.specs.declared.event.Event.TheVariants.{Delivered}

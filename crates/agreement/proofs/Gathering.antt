@@ -9,8 +9,7 @@ use Rattle.std.proofs.lemmas.Option.{none-some, same_Some}
 use Rattle.address.specs.Ids.{Address, ViewId, same_address}
 use Rattle.view.specs.Members.{View, stands_in}
 use Rattle.limits.specs.declared.TheConstants.{WINDOW}
-use Rattle.packet_values.specs.Values.{Entry, held_at}
-use Rattle.wire.specs.Values.{Report}
+use Rattle.wire.specs.Values.{Entry, held_at, Report}
 use Rattle.wire.specs.declared.packet.Body.TheVariants as bodies
 use Rattle.state_transfer.specs.Meanings.{Meaning}
 use Rattle.flush.specs.Flushes.{FlushModel}

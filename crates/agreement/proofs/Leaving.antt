@@ -4,7 +4,7 @@ use Rattle.std.specs.Prelude.{IsSome}
 use Rattle.std.proofs.lemmas.Bool.Decides.{nat_tests}
 use Rattle.address.specs.Ids.{Address, same_address}
 use Rattle.view.specs.Members.{stands_in}
-use Rattle.packet_values.specs.Values.{held_at}
+use Rattle.wire.specs.Values.{held_at}
 use Rattle.state_transfer.specs.Meanings.{Meaning}
 use Rattle.flush.specs.Cuts.{IsCut}
 use Rattle.flush.specs.Flushes.{group}

@@ -6,8 +6,7 @@ use Rattle.std.proofs.lemmas.Bool.{cond-false, and_left}
 use Rattle.std.proofs.lemmas.Option.{none-some}
 use Rattle.address.specs.Ids.{Address, ViewId, same_address, same_view_id}
 use Rattle.view.specs.Members.{View}
-use Rattle.packet_values.specs.Values.{Entry}
-use Rattle.wire.specs.Values.{Report}
+use Rattle.wire.specs.Values.{Entry, Report}
 use Rattle.wire.specs.Values as wire
 use Rattle.wire.specs.declared.packet.Body.{Body}
 use Rattle.wire.specs.declared.packet.Body.TheVariants as bodies

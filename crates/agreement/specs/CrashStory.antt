@@ -2,8 +2,7 @@
 -- over, and is told the other by the cut.
 use Rattle.std.specs.Prelude.{ℕ, None, Some, List, [], ◌∷◌, ◌++◌, take}
 use Rattle.address.specs.Ids.{Address}
-use Rattle.packet_values.specs.Values.{Entry}
-use Rattle.wire.specs.Values.{Report}
+use Rattle.wire.specs.Values.{Entry, Report}
 use Rattle.wire.specs.declared.packet.Body.TheVariants as bodies
 use Rattle.state_transfer.specs.Meanings.{Meaning}
 use Rattle.trace_props.specs.declared.event.Event.{Event}

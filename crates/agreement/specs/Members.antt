@@ -5,8 +5,7 @@ use Rattle.address.specs.Ids.{Address, ViewId, same_address}
 use Rattle.view.specs.Members.{View, stands_in}
 use Rattle.view.specs.View.{view_refusal}
 use Rattle.limits.specs.declared.TheConstants.{WINDOW}
-use Rattle.packet_values.specs.Values.{Entry, held_at}
-use Rattle.wire.specs.Values.{Report}
+use Rattle.wire.specs.Values.{Entry, held_at, Report}
 use Rattle.wire.specs.Values as wire
 use Rattle.state_transfer.specs.Meanings.{Meaning}
 use Rattle.flush.specs.Flushes.{FlushModel, report_from}

@@ -3,8 +3,7 @@
 use Rattle.std.specs.Prelude.{ℕ, None, Some, List, [], ◌∷◌, ◌++◌, take, if◌then◌else◌}
 use Rattle.address.specs.Ids.{Address, same_view_id}
 use Rattle.view.specs.Members.{View}
-use Rattle.packet_values.specs.Values.{Entry}
-use Rattle.wire.specs.Values.{Report, nothing_reported}
+use Rattle.wire.specs.Values.{Entry, Report, nothing_reported}
 use Rattle.wire.specs.Values as wire
 use Rattle.wire.specs.declared.packet.Body.TheVariants as bodies
 use Rattle.state_transfer.specs.Meanings.{Meaning}

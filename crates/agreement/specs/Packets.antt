@@ -5,8 +5,7 @@ use Rattle.address.specs.Ids.{Address, ViewId, same_address, same_view_id}
 use Rattle.view.specs.Members.{View, stands_in}
 use Rattle.view.specs.View.{view_refusal}
 use Rattle.limits.specs.declared.TheConstants.{WINDOW}
-use Rattle.packet_values.specs.Values.{Entry, held_at}
-use Rattle.wire.specs.Values.{Report}
+use Rattle.wire.specs.Values.{Entry, held_at, Report}
 use Rattle.wire.specs.Values as wire
 use Rattle.wire.specs.declared.packet.Body.{Body}
 use Rattle.wire.specs.declared.packet.Body.TheVariants as bodies

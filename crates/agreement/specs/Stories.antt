@@ -2,8 +2,7 @@
 use Rattle.std.specs.Prelude.{◌≡◌, ℕ, Option, None, Some, List, [], ◌∷◌, ◌++◌, take}
 use Rattle.address.specs.Ids.{Address, ViewId}
 use Rattle.view.specs.Members.{View}
-use Rattle.packet_values.specs.Values.{Entry}
-use Rattle.wire.specs.Values.{Report, nothing_reported}
+use Rattle.wire.specs.Values.{Entry, Report, nothing_reported}
 use Rattle.wire.specs.Values as wire
 use Rattle.wire.specs.declared.packet.Body.TheVariants as bodies
 use Rattle.state_transfer.specs.Meanings.{Meaning}

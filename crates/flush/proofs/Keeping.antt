@@ -5,8 +5,7 @@ use Rattle.std.proofs.lemmas.Bool.{and_parts, and_from}
 use Rattle.std.proofs.lemmas.List.{map-append}
 use Rattle.std.proofs.lemmas.List.Folds.{list_any-append, list_all-append}
 use Rattle.view.specs.Members.{stands_in, is_distinct}
-use Rattle.packet_values.specs.Values.{Entry}
-use Rattle.wire.specs.Values.{Report}
+use Rattle.wire.specs.Values.{Entry, Report}
 use Rattle.wire.specs.Reading.{list_at}
 use Rattle.wire.specs.Fields.{IsPlaced, placed_bytes, placed_at}
 use Rattle.indexmap.specs.IndexMap.{IndexMap, insert_entry}

@@ -6,8 +6,7 @@ use Rattle.std.specs.Option.{option_map_or}
 use Rattle.std.proofs.lemmas.Bool.{and_parts}
 use Rattle.std.proofs.lemmas.Bool.Decides.{nat_tests}
 use Rattle.address.specs.Ids.{ViewId}
-use Rattle.packet_values.specs.Values.{Entry, held_at}
-use Rattle.wire.specs.Values.{Report}
+use Rattle.wire.specs.Values.{Entry, held_at, Report}
 use Rattle.wire.specs.Lists.{highest_next, are_held, is_filled, is_nothing, is_report}
 
 -- the number after the last, until the delivered count is reached

@@ -1,9 +1,8 @@
 -- The cut of a view: up to which number of its order, and with which entries, its reporters go on together.
 use Rattle.std.specs.Prelude.{◌≡◌, ℕ, zero, suc, ◌+◌, List, [], ◌∷◌, length, max, Option, None, Some, slice_get}
 use Rattle.std.specs.Option.{option_or, option_map_or}
-use Rattle.packet_values.specs.Values.{Entry, held_at}
+use Rattle.wire.specs.Values.{Entry, held_at, Report}
 use Rattle.limits.specs.declared.TheConstants.{WINDOW}
-use Rattle.wire.specs.Values.{Report}
 
 -- the first that a function finds in a list
 abbrev pub first_of : {X Y : Type 0} → (X → Option Y) → List X → Option Y

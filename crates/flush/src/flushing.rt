@@ -10,7 +10,7 @@ use crate::progress::Progress;
 use address::{Address, ViewId};
 use indexmap::IndexMap;
 use indexmap::map::Slice;
-use packet_values::{Count, Entry};
+use wire::{Count, Entry};
 use std::alloc::{AllocError, Global};
 use std::marker::Model;
 use view::Addresses;

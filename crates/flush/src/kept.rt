@@ -1,14 +1,13 @@
 ghost use Rattle.std.specs.Prelude.{◌≡◌, ◌≤◌, ◌+◌, true, IfOk, OnOk, IfSome};
 ghost use Rattle.limits.specs.declared.TheConstants.{WINDOW};
-ghost use Rattle.packet_values.specs.Values.{held_at};
+ghost use Rattle.wire.specs.Values.{held_at};
 ghost use Rattle.wire.specs.Lists.{is_report};
 ghost use Rattle.flush.specs.Flushes.{comes_from};
 
 use address::ViewId;
-use packet_values::{Count, Entry};
+use wire::{Count, Entry, Held, Report};
 use std::alloc::{AllocError, Global};
 use std::marker::Model;
-use wire::{Held, Report};
 
 /// A report as a flush keeps it: its counts, and a copy of the bytes that spell its entries.
 #[derive(Drop)]

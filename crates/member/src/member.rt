@@ -17,7 +17,7 @@ use address::Address;
 use limits::STEP_EVENTS;
 use membership::Life;
 use output::{Identity, KeptName, Output};
-use packet_values::GroupName;
+use wire::GroupName;
 use state_transfer::Receiver;
 use std::alloc::{AllocError, Global};
 use std::marker::Model;

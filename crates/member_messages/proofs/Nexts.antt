@@ -4,7 +4,7 @@ use Rattle.std.specs.Prelude.{MatchBool, nat_lt, if◌then◌else◌}
 use Rattle.limits.specs.declared.TheConstants.{WINDOW}
 use Rattle.address.specs.Ids.{Address, same_address}
 use Rattle.view.specs.Members.{View}
-use Rattle.packet_values.specs.Values.{Entry, Progress, held_at}
+use Rattle.wire.specs.Values.{Entry, Progress, held_at}
 use Rattle.state_transfer.specs.Meanings.{Meaning}
 use Rattle.nak_stream.specs.Windows.{WindowModel, collected, held_above}
 use Rattle.nak_stream.proofs.Windows.{held_at-above}

@@ -4,7 +4,7 @@ use Rattle.std.specs.Option.{option_map_or}
 use Rattle.limits.specs.declared.TheConstants.{WINDOW}
 use Rattle.address.specs.Ids.{Address, ViewId, same_address, same_view_id}
 use Rattle.view.specs.Members.{View, stands_in}
-use Rattle.packet_values.specs.Values.{Progress}
+use Rattle.wire.specs.Values.{Progress}
 use Rattle.traffic.specs.declared.coordinator.Coordinator.{Coordinator}
 use Rattle.traffic.specs.declared.other.Other.{Other}
 use Rattle.traffic.specs.declared.traffic.Traffic.{Traffic}

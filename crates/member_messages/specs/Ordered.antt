@@ -2,7 +2,7 @@
 use Rattle.std.specs.Prelude.{◌≡◌, ◌+◌, false, None}
 use Rattle.std.specs.Option.{ForSome}
 use Rattle.address.specs.Ids.{Address, same_address}
-use Rattle.packet_values.specs.Values.{held_at}
+use Rattle.wire.specs.Values.{held_at}
 use Rattle.nak_stream.specs.Windows.{WindowModel}
 use Rattle.sequencer.specs.Queues.{next_ordered}
 use Rattle.traffic.specs.declared.traffic.Traffic.{Traffic}

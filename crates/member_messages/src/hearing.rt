@@ -6,7 +6,7 @@ ghost use Rattle.member_messages.specs.Hears.{hears, takes_forward, takes_ack, t
 use address::{Address, ViewId};
 use limits::WINDOW;
 use membership::Life;
-use packet_values::{Number, Progress};
+use wire::{Number, Progress};
 use state_transfer::Receiver;
 use traffic::{Other, Traffic};
 

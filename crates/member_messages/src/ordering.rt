@@ -16,7 +16,7 @@ use crate::hearing::{takes_ack, takes_forward};
 use address::{Address, ViewId};
 use membership::Life;
 use output::{Identity, Output};
-use packet_values::{Count, Missing, Number, Payload};
+use wire::{Count, Missing, Number, Payload};
 use state_transfer::Receiver;
 use std::alloc::AllocError;
 use traffic::Traffic;

@@ -10,7 +10,7 @@ ghost use Rattle.member_messages.specs.Messages.{Sends, SendsFirst, DeliversAtOn
 
 use membership::Life;
 use output::{Identity, Output};
-use packet_values::Payload;
+use wire::Payload;
 use state_transfer::Receiver;
 use std::alloc::AllocError;
 use traffic::Traffic;

@@ -16,7 +16,7 @@ use crate::hearing::{takes_order, takes_status};
 use address::{Address, ViewId};
 use membership::Life;
 use output::{Identity, Output};
-use packet_values::{Entry, Number, Progress};
+use wire::{Entry, Number, Progress};
 use state_transfer::Receiver;
 use std::alloc::AllocError;
 use traffic::Traffic;

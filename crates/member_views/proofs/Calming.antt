@@ -8,9 +8,8 @@ use Rattle.std.proofs.lemmas.List.{append-nil, length-append}
 use Rattle.address.specs.Ids.{Address, ViewId, same_address}
 use Rattle.view.specs.Members.{View}
 use Rattle.limits.specs.declared.TheConstants.{WINDOW}
-use Rattle.packet_values.specs.Values.{Entry}
+use Rattle.wire.specs.Values.{Entry, Report}
 use Rattle.wire.specs.Values as wire
-use Rattle.wire.specs.Values.{Report}
 use Rattle.state_transfer.specs.Meanings.{Meaning}
 use Rattle.trace_props.specs.declared.event.Event.{Event}
 use Rattle.trace_props.specs.declared.event.Event.TheVariants.{Blocked}

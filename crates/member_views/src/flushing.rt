@@ -10,7 +10,7 @@ ghost use Rattle.member_views.specs.Ignoring.{is_flush_ignored, is_report_ignore
 use address::{Address, ViewId};
 use membership::Life;
 use output::{Identity, Output};
-use packet_values::Number;
+use wire::Number;
 use state_transfer::Receiver;
 use std::alloc::AllocError;
 use wire::{Report, Roster};

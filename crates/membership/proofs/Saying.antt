@@ -11,8 +11,7 @@ use Rattle.limits.specs.declared.TheConstants.{GREATEST_NUMBER, MEMBERS, WINDOW}
 use Rattle.view.specs.Members.{stands_in, is_distinct}
 use Rattle.view.specs.View.{view_refusal, begins_with}
 use Rattle.view.specs.declared.ViewError.TheVariants.{Empty, TooMany, Repeated, NotFirst}
-use Rattle.packet_values.specs.Values.{Entry, held_at}
-use Rattle.wire.specs.Values.{Report}
+use Rattle.wire.specs.Values.{Entry, held_at, Report}
 use Rattle.wire.specs.Lists.{rest_after, is_in_order, highest_next, are_held, is_filled, is_nothing, is_report}
 use Rattle.flush.specs.Flushes.{FlushModel, IsFlush, report_from, has_reported, comes_from, has_come_from, group, together_of, previous_of}
 use Rattle.flush.specs.Cuts.{held_among, greatest_stable, entries_from, cut_base, cut_items}

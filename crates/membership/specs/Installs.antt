@@ -3,7 +3,7 @@ use Rattle.std.specs.Prelude.{[], ◌∷◌, ◌++◌, ◌≡◌, ℕ, true, dro
 use Rattle.std.specs.Option.{option_eq, option_map_or, option_and_then}
 use Rattle.std.specs.List.{AllByRecursion, flat_map}
 use Rattle.address.specs.Ids.{Address, ViewId, same_view_id}
-use Rattle.packet_values.specs.Values.{Entry}
+use Rattle.wire.specs.Values.{Entry}
 use Rattle.wire.specs.Values as wire
 use Rattle.wire.specs.declared.packet.Body.TheVariants as bodies
 use Rattle.wire.specs.Lists.{is_install}

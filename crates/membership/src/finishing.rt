@@ -17,14 +17,13 @@ use crate::beginning::others_of;
 use address::{Address, ViewId};
 use flush::Flush;
 use output::{Identity, Output};
-use packet_values::{Count, Entry, State};
+use wire::{Count, Entry, State, Body, Install, Items, Members, Roster};
 use state_transfer::Receiver;
 use std::alloc::{AllocError, Global};
 use trace_props::{Bytes, Delivery, Event, Install as Installed, Message};
 use traffic::Traffic;
 use view::{Addresses, View};
-use wire::{Body, Install, Items, Members, Roster};
-use wire_writer::put_entry;
+use wire::put_entry;
 
 // A cut as an INSTALL lists it.
 #[derive(Drop)]

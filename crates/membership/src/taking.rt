@@ -12,7 +12,7 @@ use crate::entering::is_fitting;
 use crate::{Life, Stop};
 use address::Address;
 use output::{Identity, Output};
-use packet_values::Number;
+use wire::Number;
 use state_transfer::Receiver;
 use std::alloc::AllocError;
 use view_install::{OfferAnswer, Promise};

@@ -1,7 +1,7 @@
 -- Windows that agree with one order of a view's messages: they go on to agree, and what each delivered is a beginning of it.
 use Rattle.std.proofs.Common.{◌≡◌, ℕ, ◌+◌, Bool, true, false, List, [], ◌∷◌, ◌++◌, Some, None, take, refl, sym, ap, ◌∙◌, arith, cond, min}
 use Rattle.std.specs.Prelude.{slice_get, nat_eq, nat_lt, is_some}
-use Rattle.packet_values.specs.Values.{Entry, held_at}
+use Rattle.wire.specs.Values.{Entry, held_at}
 use Rattle.nak_stream.specs.Windows.{WindowModel, held_with, held_above, offers, taken, delivering, collected, empty_window}
 use Rattle.nak_stream.specs.Orders.{Agrees}
 use Rattle.nak_stream.proofs.Lists.{one-more}

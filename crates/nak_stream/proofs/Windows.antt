@@ -7,7 +7,7 @@ use Rattle.std.specs.List.Sorted.{IsStrictlySortedBy}
 use Rattle.std.proofs.lemmas.Bool.Decides.{nat_tests}
 use Rattle.std.proofs.lemmas.Map.Entries.{lookup-filter-keys}
 use Rattle.limits.specs.declared.TheConstants.{WINDOW, GREATEST_NUMBER}
-use Rattle.packet_values.specs.Values.{Entry, held_at}
+use Rattle.wire.specs.Values.{Entry, held_at}
 use Rattle.nak_stream.specs.Windows.{WindowModel, held_above, held_with, offers, IsWindow}
 
 pub same-number : (g k : ℕ) → nat_eq g k ≡ true → g ≡ k

@@ -2,7 +2,7 @@ ghost use Rattle.std.specs.Prelude.{◌≡◌, IfOk};
 
 use crate::KeptPayload;
 use address::Address;
-use packet_values::{Entry as LentEntry, Number};
+use wire::{Entry as LentEntry, Number};
 use std::alloc::{AllocError, Global};
 use std::marker::Model;
 
@@ -19,7 +19,7 @@ pub struct Entry {
 }
 
 impl Model for Entry {
-    ghost use Rattle.packet_values.specs.Values.{Entry};
+    ghost use Rattle.wire.specs.Values.{Entry};
 
     ghost Value = { Entry };
 

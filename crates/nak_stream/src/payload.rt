@@ -1,6 +1,6 @@
 ghost use Rattle.std.specs.Prelude.{◌≡◌, IfOk};
 
-use packet_values::Payload;
+use wire::Payload;
 use std::alloc::{AllocError, Global};
 use std::marker::Model;
 

@@ -3,12 +3,12 @@ ghost use Rattle.std.specs.Option.{option_copied};
 ghost use Rattle.std.specs.Ordering.{nat_cmp};
 ghost use Rattle.std.specs.Map.{keys_of};
 ghost use Rattle.std.specs.List.Sorted.{IsStrictlySortedBy};
-ghost use Rattle.packet_values.specs.Values.{held_at};
+ghost use Rattle.wire.specs.Values.{held_at};
 ghost use Rattle.nak_stream.specs.Windows.{WindowModel, empty_window, held_above, offers, taken, delivering, collected, IsWindow, IsMissing, IsLeastGap, IsGreatestGap};
 
 use crate::Entry;
 use limits::{GREATEST_NUMBER, WINDOW};
-use packet_values::Entry as LentEntry;
+use wire::Entry as LentEntry;
 use std::alloc::{AllocError, Global};
 use std::collections::BTreeMap;
 use std::marker::Model;

@@ -9,7 +9,7 @@ use address::Address;
 use std::alloc::{AllocError, Global};
 use trace_props::{Bytes, Event};
 use wire::{Body, Packet};
-use wire_writer::encode;
+use wire::encode;
 
 /// Who a member is, its address and its group, and from where it takes memory.
 #[derive(Debug, Drop)]

@@ -2,7 +2,7 @@ ghost use Rattle.std.specs.Prelude.{◌≡◌};
 ghost use Rattle.output.specs.Names.{same_name};
 
 use limits::GROUP_NAME;
-use packet_values::GroupName;
+use wire::GroupName;
 use std::marker::Model;
 
 /// The name of a group, kept: 1 to `GROUP_NAME` bytes.
@@ -15,7 +15,7 @@ pub struct KeptName {
 impl Model for KeptName {
     ghost use Rattle.std.specs.Prelude.{List, ℕ, take, ◌≡◌, ◌≤◌, true};
     ghost use Rattle.limits.specs.declared.TheConstants.{GROUP_NAME};
-    ghost use Rattle.packet_values.specs.Names.{is_group_name};
+    ghost use Rattle.wire.specs.Names.{is_group_name};
 
     ghost Value = { List ℕ };
 

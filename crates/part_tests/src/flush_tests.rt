@@ -3,9 +3,8 @@ ghost use Rattle.std.specs.Prelude.{◌≤◌};
 use crate::fixtures::{first_of, listed, view_id};
 use address::ViewId;
 use flush::{Flush, Progress, cut_covers};
-use packet_values::{Count, Entry};
+use wire::{Count, Entry, Held, Report};
 use std::alloc::Global;
-use wire::{Held, Report};
 
 /// The flush for `9@1.1` with the first addresses of these nodes as its list.
 fn started(alloc: Global, nodes: &[u16]) -> Option<Flush> {

@@ -1,6 +1,6 @@
 use crate::fixtures::first_of;
 use nak_stream::{Entry, KeptPayload, Window, beginnings_agree, windows_agree};
-use packet_values::{Entry as LentEntry, Number, Payload};
+use wire::{Entry as LentEntry, Number, Payload};
 use std::alloc::{AllocError, Global};
 
 /// The entry of 1.1 with a number and a payload, as packets lend it.

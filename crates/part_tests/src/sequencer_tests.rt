@@ -1,7 +1,7 @@
 use crate::fixtures::{first_of, view_of};
 use address::Address;
 use nak_stream::KeptPayload;
-use packet_values::{Number, Payload};
+use wire::{Number, Payload};
 use sequencer::{Forwards, Orderer};
 use std::alloc::{AllocError, Global};
 

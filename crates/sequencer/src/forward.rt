@@ -1,5 +1,5 @@
 use nak_stream::KeptPayload;
-use packet_values::Number;
+use wire::Number;
 use std::marker::Model;
 
 /// A message on its way into the order: its number among its sender's messages of the view, from 1 to `GREATEST_NUMBER`, and its payload of at most `PAYLOAD`

@@ -6,7 +6,7 @@ ghost use Rattle.sequencer.specs.Forwards.{ForwardsModel, no_forwards, pushed, d
 use crate::Forward;
 use limits::{GREATEST_NUMBER, OUTSTANDING, Refusal};
 use nak_stream::KeptPayload;
-use packet_values::Number;
+use wire::Number;
 use std::alloc::{AllocError, Global};
 use std::marker::Model;
 use trace_props::{Bytes, HandedBack, Numbered};

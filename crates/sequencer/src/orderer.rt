@@ -7,7 +7,7 @@ use crate::queue::Queue;
 use address::Address;
 use limits::{GREATEST_NUMBER, WINDOW};
 use nak_stream::Entry;
-use packet_values::{Number, Payload};
+use wire::{Number, Payload};
 use std::alloc::{AllocError, Global};
 use std::marker::Model;
 use view::View;

@@ -6,7 +6,7 @@ use crate::Forward;
 use address::Address;
 use limits::OUTSTANDING;
 use nak_stream::{Entry, KeptPayload};
-use packet_values::{Number, Payload};
+use wire::{Number, Payload};
 use std::alloc::{AllocError, Global};
 use std::marker::Model;
 

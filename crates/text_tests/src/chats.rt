@@ -1,6 +1,6 @@
 use crate::fixtures::{address, is};
 use chat_log::ChatLog;
-use chat_text::append_chat;
+use vsync_text::append_chat;
 use state_transfer::Receiver;
 use std::alloc::{AllocError, Global};
 use vsync_text::{put, put_address, put_hex};

@@ -1,5 +1,5 @@
 use crate::fixtures::is;
-use packet_text::{append_packet, append_packets};
+use vsync_text::{append_packet, append_packets};
 use std::alloc::{AllocError, Global};
 use trace_props::Bytes;
 use vsync_text::put_decimal;

@@ -8,7 +8,7 @@ use Rattle.std.proofs.lemmas.List.Elements.{Contains-push}
 use Rattle.std.proofs.Math.Nat.{max-eq_right}
 use Rattle.limits.specs.declared.TheConstants.{WINDOW, PAYLOAD}
 use Rattle.address.specs.Ids.{Address}
-use Rattle.packet_values.specs.Values.{Entry, Progress, held_at}
+use Rattle.wire.specs.Values.{Entry, Progress, held_at}
 use Rattle.wire.specs.Values as wire
 use Rattle.wire.specs.declared.packet.Body.TheVariants as bodies
 use Rattle.state_transfer.specs.Meanings.{Meaning}

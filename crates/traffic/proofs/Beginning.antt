@@ -6,7 +6,7 @@ use mathlib.Core.Path.{fun_ext}
 use Rattle.address.specs.Ids.{Address, same_address}
 use Rattle.view.specs.Members.{View, stands_in}
 use Rattle.view.specs.View.{view_refusal}
-use Rattle.packet_values.specs.Values.{Entry}
+use Rattle.wire.specs.Values.{Entry}
 use Rattle.trace_props.proofs.Observing.{same_address-true}
 use Rattle.sequencer.specs.Forwards.{no_forwards}
 use Rattle.sequencer.specs.Queues.{Queue, idle, is_from, first_next, next_ordered}

@@ -9,7 +9,7 @@ use Rattle.std.proofs.lemmas.Bool.{cond-true}
 use Rattle.address.specs.Ids.{Address, same_address}
 use Rattle.view.specs.Members.{View, stands_in, is_distinct}
 use Rattle.view.specs.View.{view_refusal}
-use Rattle.packet_values.specs.Values.{Entry, held_at}
+use Rattle.wire.specs.Values.{Entry, held_at}
 use Rattle.wire.specs.declared.packet.Body.TheVariants as bodies
 use Rattle.state_transfer.specs.Meanings.{Meaning}
 use Rattle.trace_props.proofs.Observing.{same_address-refl, same_address-true}

@@ -8,7 +8,7 @@ use Rattle.std.proofs.lemmas.Bool.{cond-true, cond-false}
 use Rattle.std.proofs.lemmas.List.{map-append}
 use Rattle.address.specs.Ids.{Address, same_address}
 use Rattle.view.specs.Members.{stands_in}
-use Rattle.packet_values.specs.Values.{Entry}
+use Rattle.wire.specs.Values.{Entry}
 use Rattle.trace_props.proofs.Observing.{same_address-true}
 use Rattle.sequencer.specs.Queues.{Queue, change_first, entry_with, is_from, takes, offered}
 use Rattle.traffic.specs.Traffics.{waiting_in, waiting_of, ordered_of, senders_of}

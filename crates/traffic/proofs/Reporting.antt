@@ -9,7 +9,7 @@ use Rattle.std.specs.List.Sorted.{IsStrictlySortedBy}
 use Rattle.std.proofs.lemmas.Bool.Decides.{nat_tests}
 use Rattle.limits.specs.declared.TheConstants.{WINDOW, GREATEST_NUMBER}
 use Rattle.address.specs.Ids.{ViewId}
-use Rattle.packet_values.specs.Values.{Entry, held_at}
+use Rattle.wire.specs.Values.{Entry, held_at}
 use Rattle.view.specs.Members.{View}
 use Rattle.wire.specs.Fields.{IsNumber, IsPlaced, placed_bytes}
 use Rattle.wire.specs.Lists.{highest_next, are_held, is_filled, is_report}

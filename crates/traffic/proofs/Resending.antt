@@ -7,7 +7,7 @@ use Rattle.std.proofs.lemmas.List.{append-nil}
 use Rattle.limits.specs.declared.TheConstants.{WINDOW}
 use Rattle.address.specs.Ids.{Address}
 use Rattle.view.specs.Members.{View}
-use Rattle.packet_values.specs.Values.{Entry, held_at}
+use Rattle.wire.specs.Values.{Entry, held_at}
 use Rattle.wire.specs.declared.packet.Body.TheVariants as bodies
 use Rattle.nak_stream.specs.Windows.{WindowModel, IsWindow}
 use Rattle.agreement.specs.Histories.{Posted}

@@ -1,7 +1,7 @@
 -- What holds of the coordinator of a view, and what it does.
 use Rattle.std.specs.Prelude.{◌≡◌, ℕ, ◌<◌, true, List, [], ◌∷◌, None}
 use Rattle.address.specs.Ids.{Address, same_address}
-use Rattle.packet_values.specs.Values.{Entry, held_at}
+use Rattle.wire.specs.Values.{Entry, held_at}
 use Rattle.state_transfer.specs.Meanings.{Meaning}
 use Rattle.nak_stream.specs.Windows.{taken, delivering, collected}
 use Rattle.sequencer.specs.Forwards.{pushed}

@@ -5,7 +5,7 @@ use Rattle.limits.specs.declared.TheConstants.{WINDOW}
 use Rattle.trace_props.specs.declared.event.Numbered.{Numbered}
 use Rattle.address.specs.Ids.{Address}
 use Rattle.view.specs.Members.{View}
-use Rattle.packet_values.specs.Values.{Entry, held_at, Missing, Progress}
+use Rattle.wire.specs.Values.{Entry, held_at, Missing, Progress}
 use Rattle.wire.specs.declared.packet.Body.TheVariants as bodies
 use Rattle.state_transfer.specs.Meanings.{Meaning}
 use Rattle.nak_stream.specs.Windows.{WindowModel, offers, collected, IsLeastGap, IsGreatestGap}

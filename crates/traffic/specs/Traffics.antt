@@ -3,7 +3,7 @@ use Rattle.std.specs.Prelude.{ℕ, List, [], ◌∷◌, map, if◌then◌else◌
 use Rattle.std.specs.List.{flat_map}
 use Rattle.address.specs.Ids.{Address, same_address}
 use Rattle.view.specs.Members.{View}
-use Rattle.packet_values.specs.Values.{Entry}
+use Rattle.wire.specs.Values.{Entry}
 use Rattle.nak_stream.specs.Windows.{empty_window}
 use Rattle.sequencer.specs.Forwards.{ForwardsModel, no_forwards, one_told}
 use Rattle.sequencer.specs.Queues.{Queue, idle, entry_with}

@@ -2,7 +2,7 @@
 use Rattle.std.specs.Prelude.{◌≡◌, ℕ, ◌+◌, ◌-◌, ◌≤◌, true, false, List, [], ◌∷◌, ◌++◌, map, length, None, Some, MatchOption, MatchBool, nat_lt, Bool}
 use Rattle.address.specs.Ids.{Address, same_address}
 use Rattle.view.specs.Members.{View}
-use Rattle.packet_values.specs.Values.{Entry}
+use Rattle.wire.specs.Values.{Entry}
 use Rattle.wire.specs.declared.packet.Body.TheVariants as bodies
 use Rattle.std.specs.List.{find}
 use Rattle.limits.specs.declared.TheConstants.{WINDOW}

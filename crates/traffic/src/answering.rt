@@ -10,7 +10,7 @@ use crate::Coordinator;
 use address::Address;
 use limits::WINDOW;
 use output::{Identity, Output};
-use packet_values::{Count, Missing, Number, Progress};
+use wire::{Count, Missing, Number, Progress};
 use std::alloc::AllocError;
 use wire::Body;
 

@@ -19,7 +19,7 @@ use crate::delivering::deliver;
 use address::Address;
 use nak_stream::Entry;
 use output::{Identity, Output};
-use packet_values::{Number, Payload};
+use wire::{Number, Payload};
 use state_transfer::Receiver;
 use std::alloc::AllocError;
 use wire::Body;

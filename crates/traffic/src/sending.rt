@@ -15,7 +15,7 @@ use crate::Coordinator;
 use address::ViewId;
 use nak_stream::KeptPayload;
 use output::{Identity, Output};
-use packet_values::{Number, Payload};
+use wire::{Number, Payload};
 use sequencer::Forwards;
 use state_transfer::Receiver;
 use std::alloc::AllocError;

@@ -10,8 +10,8 @@ use Rattle.vsync_runs.specs.Packets.{RunsPackets}
 use Rattle.vsync_runs.specs.Checks.{ChecksTrace}
 use Rattle.vsync_runs.specs.declared.status.Status.{Status}
 use Rattle.vsync_runs.specs.declared.status.Status.TheVariants.{Done, Memory, Outside, Usage}
-use Rattle.vsync_words.specs.declared.words.Invocation.{Invocation}
-use Rattle.vsync_words.specs.declared.words.Invocation.TheVariants.{World, Chat, Packets, Check}
+use Rattle.vsync_cli.specs.declared.words.Invocation.{Invocation}
+use Rattle.vsync_cli.specs.declared.words.Invocation.TheVariants.{World, Chat, Packets, Check}
 
 -- the command is done, from a reader with these bytes left to a writer: a script is run; or it is run and the chats, or the packets, are
 -- told; or a trace is checked. Its members keep a chat

@@ -1,9 +1,10 @@
-//! The command line of the program: doing what its words ask for.
+//! The command line of the program: what its words ask for, and doing it.
 #![tactic(auto)]
 
 mod programs;
+mod words;
 
 pub use chat_log::{Chat, ChatLog};
 pub use programs::program;
 pub use vsync_runs::{Status, run_chat, run_check, run_packets, run_script};
-pub use vsync_words::{Invocation, command};
+pub use words::{Invocation, command};

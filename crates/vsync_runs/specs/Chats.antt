@@ -7,7 +7,7 @@ use Rattle.trace_props.specs.declared.event.Event.{Event}
 use Rattle.trace_props.specs.State.{state_of}
 use Rattle.world_model.specs.Histories.{running}
 use Rattle.chat_log.specs.declared.lines.Line.{Line}
-use Rattle.chat_text.specs.ChatText.{chat_line}
+use Rattle.vsync_text.specs.ChatText.{chat_line}
 use Rattle.script_reader.specs.declared.script.Script.{Script}
 use Rattle.vsync_runs.specs.declared.status.Status.{Status}
 use Rattle.vsync_runs.specs.Outcomes.{IsEndText, IsScriptText, IsAnswer}

@@ -1,7 +1,7 @@
 -- What a command writes that tells the packets of a script's run.
 use Rattle.std.specs.Prelude.{ℕ, List, Option}
 use Rattle.state_transfer.specs.Meanings.{Meaning}
-use Rattle.packet_text.specs.PacketText.{packet_lines}
+use Rattle.vsync_text.specs.PacketText.{packet_lines}
 use Rattle.script_reader.specs.declared.script.Script.{Script}
 use Rattle.vsync_runs.specs.declared.status.Status.{Status}
 use Rattle.vsync_runs.specs.Outcomes.{IsEndText, IsScriptText, IsAnswer}

@@ -8,7 +8,7 @@ use crate::ends::{end_in_memory, end_with_lines};
 use crate::scripts::script_from;
 use address::Node;
 use chat_log::Chat;
-use chat_text::append_chat;
+use vsync_text::append_chat;
 use script_reader::Script;
 use std::alloc::{AllocError, Global};
 use std::io::{Read, Write};

@@ -1,12 +1,12 @@
 ghost use Rattle.std.specs.Prelude.{true};
-ghost use Rattle.packet_text.specs.PacketText.{packet_lines};
+ghost use Rattle.vsync_text.specs.PacketText.{packet_lines};
 ghost use Rattle.vsync_runs.specs.Outcomes.{Written, IsLinesText};
 ghost use Rattle.vsync_runs.specs.Packets.{IsPacketText, RunsPackets};
 
 use crate::Status;
 use crate::ends::{end_in_memory, end_with_lines};
 use crate::scripts::script_from;
-use packet_text::append_packets;
+use vsync_text::append_packets;
 use script_reader::Script;
 use state_transfer::Receiver;
 use std::alloc::Global;

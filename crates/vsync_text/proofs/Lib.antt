@@ -1,2 +1,4 @@
 pub mod Appending
 pub mod Writing
+pub mod ChatLines
+pub mod PacketLines

@@ -1,3 +1,5 @@
 pub mod TraceText
 pub mod Runs
 pub mod Writing
+pub mod ChatText
+pub mod PacketText

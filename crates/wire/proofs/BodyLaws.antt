@@ -7,7 +7,7 @@ use Rattle.wire.specs.declared.error.WireError.{WireError}
 use Rattle.wire.specs.declared.error.WireError.TheVariants.{Value}
 use Rattle.wire.specs.declared.packet.Body.{Body}
 use Rattle.wire.specs.declared.packet.Body.TheVariants as bodies
-use Rattle.packet_values.specs.Values.{Missing, Progress}
+use Rattle.wire.specs.Values.{Missing, Progress}
 use Rattle.wire.specs.Reading.{Read, ◌>>=◌, number_at}
 use Rattle.wire.specs.Fields.{IsAddress, IsViewId, IsEntry, address_bytes, number_bytes, view_id_bytes, payload_bytes, entry_bytes, address_at, view_id_at, payload_at, entry_at}
 use Rattle.wire.specs.Lists.{IsView, IsReport, IsInstall, view_bytes, report_bytes, install_bytes, view_at, report_at, install_at}

@@ -12,8 +12,7 @@ use Rattle.limits.specs.declared.TheConstants.{GREATEST_NUMBER, MEMBERS, WINDOW,
 use Rattle.view.specs.Members.{View}
 use Rattle.wire.specs.declared.error.WireError.{WireError}
 use Rattle.wire.specs.declared.error.WireError.TheVariants.{Length, Value}
-use Rattle.packet_values.specs.Values.{Entry}
-use Rattle.wire.specs.Values.{Report, Install, nothing_reported}
+use Rattle.wire.specs.Values.{Entry, Report, Install, nothing_reported}
 use Rattle.wire.specs.Reading.{◌>>=◌, bytes_at, number_at, list_at}
 use Rattle.wire.specs.Fields.{IsAddress, IsViewId, IsEntry, IsPlaced, address_bytes, number_bytes, entry_bytes, entry_at}
 use Rattle.wire.specs.Lists.{IsReport, IsInstall, is_filled, is_nothing, is_report, filled_bytes, report_bytes, filled_at, report_at, is_in_order, is_install, addresses_bytes, view_bytes, items_bytes, state_bytes, given_bytes, install_bytes, IsView, view_at, together_at, items_count_at, state_at, given_at, install_at}

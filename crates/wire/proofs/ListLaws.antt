@@ -5,7 +5,7 @@ use Rattle.std.specs.List.{flat_map, AllByRecursion}
 use Rattle.std.proofs.lemmas.Bool.{ltb-true, leb-true, le-leb}
 use Rattle.limits.specs.declared.TheConstants.{GREATEST_NUMBER, WINDOW}
 use Rattle.wire.specs.declared.error.WireError.TheVariants.{Value}
-use Rattle.packet_values.specs.Values.{Entry}
+use Rattle.wire.specs.Values.{Entry}
 use Rattle.wire.specs.Reading.{Read, ◌>>=◌, number_at, list_at}
 use Rattle.wire.specs.Fields.{IsPlaced, number_bytes, entry_bytes, placed_bytes, entry_at}
 use Rattle.wire.specs.Lists.{highest_next, are_held, held_at}

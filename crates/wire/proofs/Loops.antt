@@ -8,7 +8,7 @@ use Rattle.address.specs.Ids.{Address, ViewId}
 use Rattle.limits.specs.declared.TheConstants.{GREATEST_NUMBER}
 use Rattle.wire.specs.declared.error.WireError.{WireError}
 use Rattle.wire.specs.declared.error.WireError.TheVariants.{Value}
-use Rattle.packet_values.specs.Values.{Entry}
+use Rattle.wire.specs.Values.{Entry}
 use Rattle.wire.specs.Reading.{Read, ◌>>=◌, number_at, list_at, listed, is_whole, rest_of}
 use Rattle.wire.specs.Fields.{IsPlaced, placed_bytes, address_at, entry_at, placed_at}
 use Rattle.wire.specs.Lists.{may_follow, members_at, rest_after, is_in_order, together_at, highest_next, are_held, held_at}

@@ -12,7 +12,7 @@ use Rattle.wire.specs.declared.packet.Body.TheVariants as bodies
 use Rattle.wire.specs.declared.packet.Packet.{Packet}
 use Rattle.wire.specs.Reading.{◌>>=◌, bytes_at, number_at}
 use Rattle.wire.specs.Fields.{address_bytes, address_at}
-use Rattle.packet_values.specs.Names.{is_name_byte, is_group_name}
+use Rattle.wire.specs.Names.{is_name_byte, is_group_name}
 use Rattle.wire.specs.Texts.{group_bytes, group_at}
 use Rattle.wire.specs.Packets.{kind_of, body_bytes, body_at, IsPacket, front_bytes, header_bytes, spelling, front_at, packet_at}
 use Rattle.wire.proofs.Bytes.{IsBytes, wide1, wide2}

@@ -7,8 +7,7 @@ use Rattle.byteorder.specs.Endian.{big_bytes}
 use Rattle.address.specs.Ids.{ViewId}
 use Rattle.limits.specs.declared.TheConstants.{GREATEST_NUMBER, WINDOW}
 use Rattle.wire.specs.declared.error.WireError.TheVariants.{Length, Value}
-use Rattle.packet_values.specs.Values.{Entry}
-use Rattle.wire.specs.Values.{Report}
+use Rattle.wire.specs.Values.{Entry, Report}
 use Rattle.wire.specs.Reading.{◌>>=◌, number_at}
 use Rattle.wire.specs.Fields.{IsViewId, IsPlaced, number_bytes, view_id_bytes, placed_bytes, view_id_at}
 use Rattle.wire.specs.Lists.{are_held, is_filled, held_bytes, held_at, held_count_at, filled_at, items_count_at}

@@ -10,8 +10,7 @@ use Rattle.limits.specs.declared.TheConstants.{MEMBERS, PAYLOAD, WINDOW, STATE, 
 use Rattle.wire.specs.declared.packet.Body.{Body}
 use Rattle.wire.specs.declared.packet.Body.TheVariants as bodies
 use Rattle.wire.specs.declared.packet.Packet.{Packet}
-use Rattle.packet_values.specs.Values.{Entry}
-use Rattle.wire.specs.Values.{Report, Install}
+use Rattle.wire.specs.Values.{Entry, Report, Install}
 use Rattle.wire.specs.Fields.{IsEntry, IsPlaced, address_bytes, number_bytes, view_id_bytes, payload_bytes, entry_bytes, placed_bytes}
 use Rattle.wire.specs.Lists.{IsView, IsReport, IsInstall, is_filled, is_nothing, addresses_bytes, view_bytes, held_bytes, filled_bytes, report_bytes, items_bytes, state_bytes, given_bytes, install_bytes}
 use Rattle.wire.specs.Packets.{IsBody, kind_of, body_bytes, IsPacket, front_bytes, header_bytes, spelling}

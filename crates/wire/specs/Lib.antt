@@ -1,4 +1,5 @@
 pub mod Values
+pub mod Names
 pub mod Reading
 pub mod Fields
 pub mod Texts

@@ -8,8 +8,7 @@ use Rattle.limits.specs.declared.TheConstants.{GREATEST_NUMBER, MEMBERS, WINDOW,
 use Rattle.view.specs.Members.{View, stands_in}
 use Rattle.view.specs.View.{view_refusal}
 use Rattle.wire.specs.declared.error.WireError.TheVariants.{Length, Value}
-use Rattle.packet_values.specs.Values.{Entry}
-use Rattle.wire.specs.Values.{Report, Install, nothing_reported}
+use Rattle.wire.specs.Values.{Entry, Report, Install, nothing_reported}
 use Rattle.wire.specs.Reading.{Read, ◌>>=◌, bytes_at, number_at, list_at}
 use Rattle.wire.specs.Fields.{IsAddress, IsViewId, IsEntry, IsPlaced, address_bytes, number_bytes, view_id_bytes, entry_bytes, placed_bytes, address_at, view_id_at, entry_at}
 

@@ -2,14 +2,14 @@
 use Rattle.std.specs.Prelude.{◌≡◌, ◌≤◌, ◌+◌, ◌-◌, ℕ, true, List, [], ◌++◌, length, Option, Some, None, Result, Ok, Err, nat_lt, ◌==◌, if◌then◌else◌}
 use Rattle.std.specs.Option.{option_map_or}
 use Rattle.byteorder.specs.Endian.{big_bytes}
-use Rattle.packet_values.specs.Values.{Entry}
+use Rattle.wire.specs.Values.{Entry}
 use Rattle.limits.specs.declared.TheConstants.{GREATEST_NUMBER, PAYLOAD, WINDOW, DATAGRAM, VERSION, MAGIC, KINDS}
 use Rattle.wire.specs.declared.error.WireError.{WireError}
 use Rattle.wire.specs.declared.error.WireError.TheVariants.{NotOurs, Version, Kind, Length, Value, Trailing}
 use Rattle.wire.specs.declared.packet.Body.{Body}
 use Rattle.wire.specs.declared.packet.Body.TheVariants as bodies
 use Rattle.wire.specs.declared.packet.Packet.{Packet}
-use Rattle.packet_values.specs.Names.{is_group_name}
+use Rattle.wire.specs.Names.{is_group_name}
 use Rattle.wire.specs.Texts.{group_bytes, group_at}
 use Rattle.wire.specs.Reading.{Read, ◌>>=◌, number_at}
 use Rattle.wire.specs.Fields.{IsAddress, IsNumber, IsCount, IsViewId, IsEntry, address_bytes, number_bytes, view_id_bytes, payload_bytes, entry_bytes, placed_bytes, address_at, view_id_at, payload_at, entry_at}

@@ -3,7 +3,7 @@ use Rattle.std.specs.Prelude.{ℕ, List, ◌++◌, length, Ok, Err, if◌then◌
 use Rattle.std.specs.List.{list_all}
 use Rattle.byteorder.specs.Endian.{big_bytes}
 use Rattle.limits.specs.declared.TheConstants.{GROUP_NAME}
-use Rattle.packet_values.specs.Names.{is_name_byte}
+use Rattle.wire.specs.Names.{is_name_byte}
 use Rattle.wire.specs.declared.error.WireError.TheVariants.{Length, Value}
 use Rattle.wire.specs.Reading.{Read, ◌>>=◌, bytes_at, number_at}
 

@@ -1,7 +1,7 @@
 ghost use Rattle.std.specs.Prelude.{◌≡◌, ◌<◌, ◌≤◌, ◌^◌, ◌++◌, [], true, Some, Ok, ℕ, List, length, option_to_list, IfOk, IfNone};
 ghost use Rattle.std.specs.Option.{SomeIff};
 ghost use Rattle.std.specs.List.{flat_map, AllByRecursion};
-ghost use Rattle.packet_values.specs.Values.{Entry as EntryValue};
+ghost use Rattle.wire.specs.Values.{Entry as EntryValue};
 ghost use Rattle.wire.specs.Reading.{Gives, rest_of, listed, is_whole, list_at};
 ghost use Rattle.wire.specs.Fields.{payload_at, entry_at, placed_at, IsEntry, IsPlaced, entry_bytes, placed_bytes};
 ghost use Rattle.wire.specs.Lists.{are_held, held_at, highest_next};
@@ -11,7 +11,7 @@ use crate::fields::Reader;
 use crate::numbers::number_at;
 use crate::text::payload_at;
 use limits::{GREATEST_NUMBER, WINDOW};
-use packet_values::{Entry, Number};
+use crate::{Entry, Number};
 use std::marker::Model;
 
 #[tactic(auto, unfolding(crate::specs::Fields::entry_at))]
@@ -37,7 +37,7 @@ pub struct Items<'a> {
 
 impl<'a> Model for Items<'a> {
     ghost use Rattle.std.specs.Prelude.{List, ◌≡◌, true};
-    ghost use Rattle.packet_values.specs.Values.{Entry};
+    ghost use Rattle.wire.specs.Values.{Entry};
     ghost use Rattle.wire.specs.Reading.{listed, is_whole, list_at};
     ghost use Rattle.wire.specs.Fields.{entry_at};
 
@@ -178,7 +178,7 @@ pub struct Held<'a> {
 
 impl<'a> Model for Held<'a> {
     ghost use Rattle.std.specs.Prelude.{ℕ, List, ◌≡◌, true};
-    ghost use Rattle.packet_values.specs.Values.{Entry};
+    ghost use Rattle.wire.specs.Values.{Entry};
     ghost use Rattle.wire.specs.Reading.{listed, is_whole, list_at};
     ghost use Rattle.wire.specs.Fields.{placed_at};
 

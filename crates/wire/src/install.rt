@@ -11,7 +11,7 @@ use crate::numbers::count_at;
 use crate::text::state_at;
 use address::Address;
 use limits::{GREATEST_NUMBER, MEMBERS, WINDOW};
-use packet_values::{Count, State};
+use crate::{Count, State};
 use std::marker::Model;
 
 /// A view to be installed: who of its members come from the same view, the messages of that one from the

@@ -13,6 +13,8 @@ mod packet;
 mod reading;
 mod report;
 mod text;
+mod values;
+mod writing;
 
 pub use entries::{Held, Items};
 pub use error::WireError;
@@ -22,3 +24,5 @@ pub use members::{Members, Roster};
 pub use packet::{Body, Packet};
 pub use reading::decode;
 pub use report::Report;
+pub use values::{Count, Entry, GroupName, Missing, Number, Payload, Progress, State};
+pub use writing::{encode, put_entry};

@@ -5,7 +5,7 @@ use crate::install::Install;
 use crate::members::Roster;
 use crate::report::Report;
 use address::{Address, ViewId};
-use packet_values::{Count, Entry, GroupName, Missing, Number, Payload, Progress};
+use crate::{Count, Entry, GroupName, Missing, Number, Payload, Progress};
 
 /// What a packet says, by its kind.
 #[derive(Drop)]

@@ -15,7 +15,7 @@ use crate::packet::{Body, Packet};
 use crate::report::report_at;
 use crate::text::{group_at, payload_at};
 use limits::{DATAGRAM, GREATEST_NUMBER, KINDS, MAGIC, VERSION, WINDOW};
-use packet_values::{Missing, Progress};
+use crate::{Missing, Progress};
 
 #[tactic(auto, unfolding(crate::specs::Packets::redirect_at))]
 fn redirect_at<'a>(from: &mut Reader<'a>) -> Result<Body<'a>, WireError>

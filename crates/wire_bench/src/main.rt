@@ -5,7 +5,7 @@
 use std::io::{self, Read};
 use std::time::Instant;
 use wire::{Packet, decode};
-use wire_writer::encode;
+use wire::encode;
 
 const ROUNDS: u64 = 20_000;
 

@@ -3,9 +3,8 @@ use crate::samples::{
     is_spelled, number, second_view, unhex,
 };
 use address::Address;
-use packet_values::{Count, GroupName, State};
+use wire::{Count, GroupName, State, Body, Held, Install, Items, Members, Packet, Report, Roster, decode};
 use std::alloc::Global;
-use wire::{Body, Held, Install, Items, Members, Packet, Report, Roster, decode};
 
 /// Whether a packet of the group `world` is written as a text says in hexadecimal.
 fn is_written(

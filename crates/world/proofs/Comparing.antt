@@ -8,7 +8,7 @@ use Rattle.std.proofs.lemmas.List.{length-take, take_all}
 use Rattle.address.specs.Ids.{Address, ViewId}
 use Rattle.view.specs.Members.{View, stands_in}
 use Rattle.limits.specs.declared.TheConstants.{WINDOW}
-use Rattle.packet_values.specs.Values.{held_at}
+use Rattle.wire.specs.Values.{held_at}
 use Rattle.state_transfer.specs.Meanings.{Meaning}
 use Rattle.trace_props.specs.declared.event.Event.{Event}
 use Rattle.trace_props.specs.declared.event.Install.{Install}

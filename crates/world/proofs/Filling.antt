@@ -5,7 +5,7 @@ use Rattle.std.proofs.lemmas.Bool.{cond-true}
 use Rattle.std.proofs.lemmas.Bool.Decides.{nat_tests}
 use Rattle.limits.specs.declared.TheConstants.{WINDOW, GREATEST_NUMBER}
 use Rattle.address.specs.Ids.{Address}
-use Rattle.packet_values.specs.Values.{Entry, held_at}
+use Rattle.wire.specs.Values.{Entry, held_at}
 use Rattle.nak_stream.specs.Windows.{WindowModel, held_above, held_with, offers, taken, collected, IsMissing, IsLeastGap, IsGreatestGap}
 use Rattle.nak_stream.proofs.Windows.{same-number, held_at-above, held_at-with}
 use Rattle.traffic.specs.declared.other.Other.{Other}

@@ -9,7 +9,7 @@ use Rattle.std.proofs.lemmas.Option.{none-some}
 use Rattle.limits.specs.declared.TheConstants.{WINDOW}
 use Rattle.address.specs.Ids.{Address, ViewId, same_address, same_view_id}
 use Rattle.view.specs.Members.{View, stands_in}
-use Rattle.packet_values.specs.Values.{Entry, Missing, Progress, held_at}
+use Rattle.wire.specs.Values.{Entry, Missing, Progress, held_at}
 use Rattle.wire.specs.Packets.{IsPacket, spelling, packet_of, wire_refusal}
 use Rattle.wire.specs.declared.packet.Body.{Body}
 use Rattle.wire.specs.declared.packet.Body.TheVariants as bodies

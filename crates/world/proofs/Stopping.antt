@@ -4,7 +4,7 @@ use Rattle.std.specs.Option.{IsSomeAnd, option_map_or, option_and_then}
 use Rattle.std.proofs.lemmas.Bool.{and_from}
 use Rattle.address.specs.Ids.{Address, ViewId, same_address, same_view_id}
 use Rattle.view.specs.Members.{View}
-use Rattle.packet_values.specs.Values.{Entry, held_at}
+use Rattle.wire.specs.Values.{Entry, held_at}
 use Rattle.wire.specs.declared.packet.Body.TheVariants as bodies
 use Rattle.state_transfer.specs.Meanings.{Meaning}
 use Rattle.trace_props.specs.declared.event.Event.TheVariants.{Crashed}

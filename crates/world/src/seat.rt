@@ -21,7 +21,7 @@ use address::{Address, Node};
 use limits::Refusal;
 use member::{Error, Input, Member};
 use output::Output;
-use packet_values::GroupName;
+use wire::GroupName;
 use state_transfer::Receiver;
 use std::alloc::Global;
 use trace_props::{Event, Trace};

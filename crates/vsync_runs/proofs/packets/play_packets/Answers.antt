@@ -1,5 +1,5 @@
 use Rattle.world.specs.Worlds.{shown}
-use Rattle.packet_text.specs.PacketText.{packet_lines}
+use Rattle.vsync_text.specs.PacketText.{packet_lines}
 use Rattle.vsync_runs.proofs.Running.{ran-to-end, stopped}
 use Rattle.vsync_runs.proofs.packets.play_packets.Goals as goal
 

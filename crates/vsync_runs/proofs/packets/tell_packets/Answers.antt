@@ -1,5 +1,5 @@
 use Rattle.std.proofs.Common.{List, ℕ, true, subst}
-use Rattle.packet_text.specs.PacketText.{packet_lines}
+use Rattle.vsync_text.specs.PacketText.{packet_lines}
 use Rattle.vsync_runs.specs.Outcomes.{Written, IsLinesText}
 use Rattle.vsync_runs.proofs.Ending.{appended-all, appended-some}
 use Rattle.vsync_runs.proofs.packets.tell_packets.Goals as goal

@@ -1,5 +1,5 @@
 use Rattle.std.proofs.Common.{ℕ, List, length, Ok, sym, ap, ◌∙◌, arith}
-use Rattle.packet_values.specs.Values.{Entry}
+use Rattle.wire.specs.Values.{Entry}
 use Rattle.wire.specs.Fields.{placed_at}
 use Rattle.wire.specs.Lists.{are_held}
 use Rattle.wire.proofs.Loops.{held_front, fronted_values}

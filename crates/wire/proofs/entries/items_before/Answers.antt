@@ -1,5 +1,5 @@
 use Rattle.std.proofs.Common.{List, length, Ok, sym, ap, ◌∙◌, arith}
-use Rattle.packet_values.specs.Values.{Entry}
+use Rattle.wire.specs.Values.{Entry}
 use Rattle.wire.specs.Fields.{IsEntry, entry_bytes, entry_at}
 use Rattle.wire.proofs.FieldLaws.{entry_part}
 use Rattle.wire.proofs.Loops.{list_front, list_count, fronted_values}

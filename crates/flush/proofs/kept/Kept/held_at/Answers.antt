@@ -1,6 +1,6 @@
 use Rattle.std.proofs.Common.{◌≡◌, ◌∷◌, true, cond, Some, nat_eq, eq-eqb, ap, sym, ◌∙◌}
 use Rattle.std.specs.Prelude.{is_some}
-use Rattle.packet_values.specs.Values.{held_at}
+use Rattle.wire.specs.Values.{held_at}
 use Rattle.flush.proofs.Reports.{report-near}
 use Rattle.flush.proofs.kept.Kept.held_at.Goals as goal
 

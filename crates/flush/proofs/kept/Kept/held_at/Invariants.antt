@@ -1,5 +1,5 @@
 use Rattle.std.proofs.Common.{◌≡◌, length}
-use Rattle.packet_values.specs.Values.{held_at}
+use Rattle.wire.specs.Values.{held_at}
 use Rattle.flush.proofs.kept.Kept.held_at.Given as goal
 
 -- the entries that are left decide

@@ -1,0 +1,50 @@
+-- What a command names.
+use Rattle.std.specs.Prelude.{◌≡◌, ℕ, List, Result, MatchResult, codes}
+use Rattle.clap.specs.Words.{kind_of}
+use Rattle.clap.specs.declared.error.Error.{Error}
+use Rattle.clap.specs.declared.error.kind.ErrorKind.TheVariants.{OutOfMemory}
+use Rattle.vsync_cli.specs.declared.words.Invocation.{Invocation}
+use Rattle.vsync_cli.specs.declared.words.Invocation.TheVariants.{World, Chat, Packets, Check}
+
+-- the script of this path is run
+abbrev pub IsWorldOn : List ℕ → Invocation → Type 0
+IsWorldOn path (World input) = input.now ≡ path
+IsWorldOn path (Chat input) = ⊥
+IsWorldOn path (Packets input) = ⊥
+IsWorldOn path (Check input) = ⊥
+
+-- the script of this path is run, and the chats are told
+abbrev pub IsChatOn : List ℕ → Invocation → Type 0
+IsChatOn path (World input) = ⊥
+IsChatOn path (Chat input) = input.now ≡ path
+IsChatOn path (Packets input) = ⊥
+IsChatOn path (Check input) = ⊥
+
+-- the script of this path is run, and the packets are told
+abbrev pub IsPacketsOn : List ℕ → Invocation → Type 0
+IsPacketsOn path (World input) = ⊥
+IsPacketsOn path (Chat input) = ⊥
+IsPacketsOn path (Packets input) = input.now ≡ path
+IsPacketsOn path (Check input) = ⊥
+
+-- the trace of this path is checked
+abbrev pub IsCheckOn : List ℕ → Invocation → Type 0
+IsCheckOn path (World input) = ⊥
+IsCheckOn path (Chat input) = ⊥
+IsCheckOn path (Packets input) = ⊥
+IsCheckOn path (Check input) = input.now ≡ path
+
+-- a script from the standard input is run
+abbrev pub RunsStandardInput : Invocation → Type 0
+RunsStandardInput = IsWorldOn (codes "-")
+
+-- the path of a command's input
+abbrev pub input_of : Invocation → List ℕ
+input_of (World path) = path.now
+input_of (Chat path) = path.now
+input_of (Packets path) = path.now
+input_of (Check path) = path.now
+
+-- this command, or an error that says that memory was refused
+abbrev pub IsOrNoMemory : (Invocation → Type 0) → Result Invocation Error → Type 0
+IsOrNoMemory IsIt result = MatchResult result IsIt (λ e. kind_of e ≡ OutOfMemory)

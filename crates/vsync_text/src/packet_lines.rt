@@ -1,0 +1,113 @@
+//! The lines of packets as text (docs/FORMATS.md, "The packets' lines").
+
+ghost use Rattle.std.specs.Prelude.{◌≡◌, ◌++◌, ◌∷◌, [], ℕ, Ok, take, OnOk, OnErr};
+ghost use Rattle.std.specs.List.{concat};
+ghost use Rattle.wire.specs.Packets.{packet_of};
+ghost use Rattle.vsync_text.specs.TraceText.{GoesOnFrom, field, hex_of};
+ghost use Rattle.vsync_text.specs.PacketText.{kind_name, packet_fields, packet_line, packet_lines};
+
+use std::alloc::AllocError;
+use trace_props::Bytes;
+use crate::{put, put_address, put_decimal, put_hex};
+use wire::{Body, Packet, decode};
+
+/// The name of what a packet says.
+fn kind_name(body: &Body<'_>) -> &'static [u8]
+    ensures { result.now ≡ kind_name body.now }
+{
+    match body {
+        Body::Join => b"JOIN",
+        Body::Redirect(_) => b"REDIRECT",
+        Body::Leave => b"LEAVE",
+        Body::Forward { .. } => b"FORWARD",
+        Body::Order { .. } => b"ORDER",
+        Body::Nak { .. } => b"NAK",
+        Body::Ack { .. } => b"ACK",
+        Body::Status { .. } => b"STATUS",
+        Body::Flush(_) => b"FLUSH",
+        Body::Behind { .. } => b"BEHIND",
+        Body::Report { .. } => b"REPORT",
+        Body::Install(_) => b"INSTALL",
+        Body::Merge(_) => b"MERGE",
+    }
+}
+
+/// Appends what a packet says, who sent it and to whom, each behind a space.
+#[tactic(auto, using(crate::proofs::Appending::goes_on))]
+fn put_named(out: &mut Vec<u8>, packet: &Packet<'_>) -> Result<(), AllocError>
+    ensures text { OnOk result (out.new.items ≡ out.old.items ++ packet_fields (Ok packet.now)) }
+    ensures kept { GoesOnFrom out.old.items out.new.items }
+{
+    put(out, b" ")?;
+    put(out, kind_name(&packet.body))?;
+    put_address(out, b' ', &packet.source)?;
+    put_address(out, b' ', &packet.destination)
+}
+
+/// Appends what bytes say as a packet, who sent it and to whom, `-` for each where they spell none.
+fn put_fields(out: &mut Vec<u8>, bytes: &[u8]) -> Result<(), AllocError>
+    ensures text { OnOk result (out.new.items ≡ out.old.items ++ packet_fields (packet_of bytes.now)) }
+    ensures kept { GoesOnFrom out.old.items out.new.items }
+{
+    match decode(bytes) {
+        Ok(packet) => put_named(out, &packet),
+        Err(_) => put(out, b" - - -"),
+    }
+}
+
+/// Appends bytes in hexadecimal behind a space, and a line feed.
+#[tactic(auto, using(crate::proofs::Appending::goes_on))]
+fn put_bytes(out: &mut Vec<u8>, bytes: &[u8]) -> Result<(), AllocError>
+    ensures text { OnOk result (out.new.items ≡ out.old.items ++ (field (hex_of bytes.now) ++ 10 ∷ [])) }
+    ensures kept { GoesOnFrom out.old.items out.new.items }
+{
+    put(out, b" ")?;
+    put_hex(out, bytes)?;
+    put(out, b"\n")
+}
+
+/// Appends the line of a packet or a part of it.
+#[tactic(auto, using(crate::proofs::Appending::goes_on))]
+fn put_packet(out: &mut Vec<u8>, number: u64, bytes: &[u8]) -> Result<(), AllocError>
+    ensures text { OnOk result (out.new.items ≡ out.old.items ++ packet_line number bytes.now) }
+    ensures kept { GoesOnFrom out.old.items out.new.items }
+{
+    put_decimal(out, number)?;
+    put_fields(out, bytes)?;
+    put_bytes(out, bytes)
+}
+
+/// Appends the line of the packet of a number with its line feed, as `1 JOIN 2.1 1.1 5653..`. Bytes that spell no packet have `-` in the
+/// place of its kind and of both addresses.
+///
+/// # Errors
+///
+/// Where memory is refused, the buffer is left as it was.
+pub fn append_packet(out: &mut Vec<u8>, number: u64, bytes: &[u8]) -> Result<(), AllocError>
+    ensures text { OnOk result (out.new.items ≡ out.old.items ++ packet_line number bytes.now) }
+    ensures err { OnErr result (out.new.items ≡ out.old.items) }
+{
+    let before = out.len();
+    let result = put_packet(out, number, bytes);
+    if result.is_err() {
+        out.truncate(before);
+    }
+    result
+}
+
+/// Appends the lines of packets, numbered from 1.
+///
+/// # Errors
+///
+/// Where memory is refused, the lines of the first few packets stand there.
+pub fn append_packets(out: &mut Vec<u8>, packets: &[Bytes]) -> Result<(), AllocError>
+    ensures ok { OnOk result (out.new.items ≡ out.old.items ++ concat (packet_lines packets.now)) }
+    ensures err { OnErr result ((count : ℕ) × (out.new.items ≡ out.old.items ++ concat (take count (packet_lines packets.now)))) }
+{
+    let mut number = 0;
+    for packet in packets {
+        number += 1;
+        append_packet(out, number, packet.as_slice())?;
+    }
+    Ok(())
+}

@@ -1,6 +1,0 @@
-//! What the words of the command line ask for.
-#![tactic(auto)]
-
-mod words;
-
-pub use words::{Invocation, command};

@@ -1,0 +1,9 @@
+use Rattle.std.proofs.Common.{sym, ◌∙◌}
+use Rattle.wire.proofs.InstallLaws.{none_fits, some_fits}
+use Rattle.wire.proofs.writing.put_report.Goals as goal
+
+pub returns-in-None-clause-fits : goal.returns-in-None-clause-fits
+returns-in-None-clause-fits c = none_fits c.args.report.now (sym c.previous.ensures.value ∙ c.in-None.is) c.previous.ensures.report
+
+pub returns-in-Some-clause-fits : goal.returns-in-Some-clause-fits
+returns-in-Some-clause-fits c = some_fits c.in-Some.previous c.args.report.now (sym c.previous.ensures.value ∙ c.in-Some.is) c.put_filled.ensures.previous c.put_filled.ensures.held c.previous.ensures.report

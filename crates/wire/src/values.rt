@@ -1,0 +1,9 @@
+//! The values that packets carry: numbers, counts, names, payloads, states and messages (docs/WIRE.md, "The parts of a body").
+
+mod entry;
+mod numbers;
+mod text;
+
+pub use entry::Entry;
+pub use numbers::{Count, Missing, Number, Progress};
+pub use text::{GroupName, Payload, State};

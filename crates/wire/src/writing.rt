@@ -1,0 +1,459 @@
+//! Packets as bytes. What grows is grown once, before the first byte is put.
+
+ghost use Rattle.std.specs.Prelude.{◌≡◌, ◌≤◌, ◌+◌, ◌*◌, ◌++◌, ◌<◌, ◌^◌, true, length, vec_len, vec_capacity, IfSome, OnOk, OnErr};
+ghost use Rattle.std.specs.List.{flat_map, AllByRecursion};
+ghost use Rattle.byteorder.specs.Endian.{big_bytes};
+ghost use Rattle.wire.specs.Fields.{IsAddress, IsViewId, IsNumber, IsEntry, IsPlaced, address_bytes, view_id_bytes, number_bytes, payload_bytes, entry_bytes};
+ghost use Rattle.wire.specs.Lists.{IsView, IsReport, IsInstall, addresses_bytes, view_bytes, held_bytes, filled_bytes, report_bytes, state_bytes, given_bytes, install_bytes};
+ghost use Rattle.wire.specs.Names.{is_group_name};
+ghost use Rattle.wire.specs.Texts.{group_bytes};
+ghost use Rattle.limits.specs.declared.TheConstants.{MEMBERS, PAYLOAD, STATE};
+ghost use Rattle.wire.specs.Packets.{IsBody, Spells, front_bytes, header_bytes, body_bytes, spelling, listed_bytes};
+
+use address::{Address, ViewId};
+use byteorder::{BigEndian, ByteOrder};
+use limits::{MAGIC, VERSION};
+use crate::{Entry, GroupName, Number, Payload, State, Body, Held, Install, Items, Packet, Report, Roster};
+use std::alloc::AllocError;
+
+fn put(text: &[u8], out: &mut Vec<u8>)
+    requires { vec_len out.old + length text.now ≤ vec_capacity out.old }
+    ensures items { out.new.items ≡ out.old.items ++ text.now }
+    ensures room { vec_capacity out.old ≤ vec_capacity out.new }
+{
+    if out.extend_from_slice(text).is_err() {
+        unreachable!();
+    }
+}
+
+fn put_u8(value: u8, out: &mut Vec<u8>)
+    requires { vec_len out.old + 1 ≤ vec_capacity out.old }
+    ensures items { out.new.items ≡ out.old.items ++ big_bytes 1 value }
+    ensures room { vec_capacity out.old ≤ vec_capacity out.new }
+{
+    put(&value.to_be_bytes(), out);
+}
+
+fn put_u16(value: u16, out: &mut Vec<u8>)
+    requires { vec_len out.old + 2 ≤ vec_capacity out.old }
+    ensures items { out.new.items ≡ out.old.items ++ big_bytes 2 value }
+    ensures room { vec_capacity out.old ≤ vec_capacity out.new }
+{
+    let mut text = [0; 2];
+    BigEndian::write_u16(&mut text, value);
+    put(&text, out);
+}
+
+fn put_u32(value: u32, out: &mut Vec<u8>)
+    requires { vec_len out.old + 4 ≤ vec_capacity out.old }
+    ensures items { out.new.items ≡ out.old.items ++ big_bytes 4 value }
+    ensures room { vec_capacity out.old ≤ vec_capacity out.new }
+{
+    let mut text = [0; 4];
+    BigEndian::write_u32(&mut text, value);
+    put(&text, out);
+}
+
+fn put_u64(value: u64, out: &mut Vec<u8>)
+    requires { vec_len out.old + 8 ≤ vec_capacity out.old }
+    ensures items { out.new.items ≡ out.old.items ++ number_bytes value }
+    ensures room { vec_capacity out.old ≤ vec_capacity out.new }
+{
+    let mut text = [0; 8];
+    BigEndian::write_u64(&mut text, value);
+    put(&text, out);
+}
+
+fn put_address(address: Address, out: &mut Vec<u8>)
+    requires { vec_len out.old + length (address_bytes address) ≤ vec_capacity out.old }
+    ensures items { out.new.items ≡ out.old.items ++ address_bytes address }
+    ensures room { vec_capacity out.old ≤ vec_capacity out.new }
+    ensures fits { IsAddress address }
+{
+    put_u16(address.node().number(), out);
+    put_u32(address.incarnation(), out);
+}
+
+fn put_view_id(id: ViewId, out: &mut Vec<u8>)
+    requires { vec_len out.old + length (view_id_bytes id) ≤ vec_capacity out.old }
+    ensures items { out.new.items ≡ out.old.items ++ view_id_bytes id }
+    ensures room { vec_capacity out.old ≤ vec_capacity out.new }
+    ensures fits { IsViewId id }
+{
+    put_u64(id.counter(), out);
+    put_address(id.creator(), out);
+}
+
+fn put_payload(payload: &Payload<'_>, out: &mut Vec<u8>)
+    requires { vec_len out.old + length (payload_bytes payload.now) ≤ vec_capacity out.old }
+    ensures items { out.new.items ≡ out.old.items ++ payload_bytes payload.now }
+    ensures room { vec_capacity out.old ≤ vec_capacity out.new }
+    ensures fits { length payload.now ≤ PAYLOAD }
+{
+    let bytes = payload.as_slice();
+    put_u16(bytes.len() as u16, out);
+    put(bytes, out);
+}
+
+fn put_entry_text(entry: &Entry<'_>, out: &mut Vec<u8>)
+    requires { vec_len out.old + length (entry_bytes entry.now) ≤ vec_capacity out.old }
+    ensures items { out.new.items ≡ out.old.items ++ entry_bytes entry.now }
+    ensures room { vec_capacity out.old ≤ vec_capacity out.new }
+    ensures fits { IsEntry entry.now }
+{
+    put_address(entry.sender, out);
+    put_u64(entry.number.get(), out);
+    put_payload(&entry.payload, out);
+}
+
+/// Appends an entry's spelling to the vector: for a REPORT with its place in the order before it, for an
+/// INSTALL without. On refusal the vector's items are as they were.
+pub fn put_entry(
+    place: Option<Number>,
+    entry: &Entry<'_>,
+    out: &mut Vec<u8>,
+) -> Result<(), AllocError>
+    ensures ok { OnOk result (out.new.items ≡ out.old.items ++ listed_bytes place entry.now) }
+    ensures err { OnErr result (out.new.items ≡ out.old.items) }
+    ensures entry { OnOk result (IsEntry entry.now) }
+    ensures place { OnOk result (IfSome place IsNumber) }
+{
+    out.reserve(24 + entry.payload.as_slice().len())?;
+    if let Some(place) = place {
+        put_u64(place.get(), out);
+    }
+    put_entry_text(entry, out);
+    Ok(())
+}
+
+fn put_addresses(addresses: &[Address], out: &mut Vec<u8>)
+    requires { vec_len out.old + length (flat_map address_bytes addresses.now) ≤ vec_capacity out.old }
+    ensures items { out.new.items ≡ out.old.items ++ flat_map address_bytes addresses.now }
+    ensures room { vec_capacity out.old ≤ vec_capacity out.new }
+    ensures fits { AllByRecursion IsAddress addresses.now }
+{
+    for address in addresses {
+        put_address(*address, out);
+    }
+}
+
+fn put_members(addresses: &[Address], out: &mut Vec<u8>)
+    requires few { length addresses.now ≤ MEMBERS }
+    requires room { vec_len out.old + length (addresses_bytes addresses.now) ≤ vec_capacity out.old }
+    ensures items { out.new.items ≡ out.old.items ++ addresses_bytes addresses.now }
+    ensures room { vec_capacity out.old ≤ vec_capacity out.new }
+    ensures fits { AllByRecursion IsAddress addresses.now }
+{
+    put_u8(addresses.len() as u8, out);
+    put_addresses(addresses, out);
+}
+
+fn put_view(view: &Roster, out: &mut Vec<u8>)
+    requires { vec_len out.old + length (view_bytes view.now) ≤ vec_capacity out.old }
+    ensures items { out.new.items ≡ out.old.items ++ view_bytes view.now }
+    ensures room { vec_capacity out.old ≤ vec_capacity out.new }
+    ensures fits { IsView view.now }
+{
+    put_view_id(view.id(), out);
+    put_members(view.members().as_slice(), out);
+}
+
+// The view of a report, and its counts.
+fn put_counts(previous: ViewId, report: &Report<'_>, out: &mut Vec<u8>)
+    requires { vec_len out.old + length (view_id_bytes previous ++ number_bytes report.now.stable ++ number_bytes report.now.delivered) ≤ vec_capacity out.old }
+    ensures items { out.new.items ≡ out.old.items ++ (view_id_bytes previous ++ number_bytes report.now.stable ++ number_bytes report.now.delivered) }
+    ensures room { vec_capacity out.old ≤ vec_capacity out.new }
+    ensures fits { IsViewId previous }
+{
+    put_numbers(
+        previous,
+        report.stable().get(),
+        report.delivered().get(),
+        out,
+    );
+}
+
+fn put_held(held: &Held<'_>, out: &mut Vec<u8>)
+    requires { vec_len out.old + length (held_bytes held.now) ≤ vec_capacity out.old }
+    ensures items { out.new.items ≡ out.old.items ++ held_bytes held.now }
+    ensures room { vec_capacity out.old ≤ vec_capacity out.new }
+    ensures fits { AllByRecursion IsPlaced held.now }
+{
+    put_u8(held.len() as u8, out);
+    put(held.text(), out);
+}
+
+// A report's body behind its flag.
+fn put_filled(previous: ViewId, report: &Report<'_>, out: &mut Vec<u8>)
+    requires { vec_len out.old + length (filled_bytes previous report.now) ≤ vec_capacity out.old }
+    ensures items { out.new.items ≡ out.old.items ++ filled_bytes previous report.now }
+    ensures room { vec_capacity out.old ≤ vec_capacity out.new }
+    ensures previous { IsViewId previous }
+    ensures held { AllByRecursion IsPlaced report.now.held }
+{
+    put_counts(previous, report, out);
+    put_held(&report.held(), out);
+}
+
+fn put_report(report: &Report<'_>, out: &mut Vec<u8>)
+    requires { vec_len out.old + length (report_bytes report.now) ≤ vec_capacity out.old }
+    ensures items { out.new.items ≡ out.old.items ++ report_bytes report.now }
+    ensures room { vec_capacity out.old ≤ vec_capacity out.new }
+    ensures fits { IsReport report.now }
+{
+    match report.previous() {
+        None => put_u8(0, out),
+        Some(previous) => {
+            put_u8(1, out);
+            put_filled(previous, report, out);
+        }
+    }
+}
+
+fn put_state(state: &Option<State<'_>>, out: &mut Vec<u8>)
+    requires { vec_len out.old + length (state_bytes state.now) ≤ vec_capacity out.old }
+    ensures items { out.new.items ≡ out.old.items ++ state_bytes state.now }
+    ensures room { vec_capacity out.old ≤ vec_capacity out.new }
+    ensures fits { IfSome state.now (λ s. length s ≤ STATE) }
+{
+    match state {
+        None => put_u8(0, out),
+        Some(state) => {
+            let bytes = state.as_slice();
+            put_u8(1, out);
+            put_u32(bytes.len() as u32, out);
+            put(bytes, out);
+        }
+    }
+}
+
+fn put_given(install: &Install<'_>, out: &mut Vec<u8>)
+    requires { vec_len out.old + length (given_bytes install.now) ≤ vec_capacity out.old }
+    ensures items { out.new.items ≡ out.old.items ++ given_bytes install.now }
+    ensures room { vec_capacity out.old ≤ vec_capacity out.new }
+    ensures entries { AllByRecursion IsEntry install.now.items }
+    ensures state { IfSome install.now.state (λ s. length s ≤ STATE) }
+{
+    let items = install.items();
+    put_u64(install.base().get(), out);
+    put_u8(items.len() as u8, out);
+    put(items.text(), out);
+    put_state(install.state(), out);
+}
+
+fn put_install(install: &Install<'_>, out: &mut Vec<u8>)
+    requires { vec_len out.old + length (install_bytes install.now) ≤ vec_capacity out.old }
+    ensures items { out.new.items ≡ out.old.items ++ install_bytes install.now }
+    ensures room { vec_capacity out.old ≤ vec_capacity out.new }
+    ensures fits { IsInstall install.now }
+{
+    put_view(install.view(), out);
+    put_members(install.together().as_slice(), out);
+    put_given(install, out);
+}
+
+// A view's id and a number of it.
+fn put_number(view: ViewId, number: u64, out: &mut Vec<u8>)
+    requires { vec_len out.old + length (view_id_bytes view ++ number_bytes number) ≤ vec_capacity out.old }
+    ensures items { out.new.items ≡ out.old.items ++ (view_id_bytes view ++ number_bytes number) }
+    ensures room { vec_capacity out.old ≤ vec_capacity out.new }
+    ensures fits { IsViewId view }
+{
+    put_view_id(view, out);
+    put_u64(number, out);
+}
+
+// A view's id and two numbers of it.
+fn put_numbers(view: ViewId, first: u64, second: u64, out: &mut Vec<u8>)
+    requires { vec_len out.old + length (view_id_bytes view ++ number_bytes first ++ number_bytes second) ≤ vec_capacity out.old }
+    ensures items { out.new.items ≡ out.old.items ++ (view_id_bytes view ++ number_bytes first ++ number_bytes second) }
+    ensures room { vec_capacity out.old ≤ vec_capacity out.new }
+    ensures fits { IsViewId view }
+{
+    put_number(view, first, out);
+    put_u64(second, out);
+}
+
+fn put_forward(view: ViewId, number: Number, payload: &Payload<'_>, out: &mut Vec<u8>)
+    requires { vec_len out.old + length (view_id_bytes view ++ number_bytes number ++ payload_bytes payload.now) ≤ vec_capacity out.old }
+    ensures items { out.new.items ≡ out.old.items ++ (view_id_bytes view ++ number_bytes number ++ payload_bytes payload.now) }
+    ensures room { vec_capacity out.old ≤ vec_capacity out.new }
+    ensures view { IsViewId view }
+    ensures number { IsNumber number }
+    ensures payload { length payload.now ≤ PAYLOAD }
+{
+    put_number(view, number.get(), out);
+    put_payload(payload, out);
+}
+
+fn put_order(view: ViewId, place: Number, entry: &Entry<'_>, out: &mut Vec<u8>)
+    requires { vec_len out.old + length (view_id_bytes view ++ number_bytes place ++ entry_bytes entry.now) ≤ vec_capacity out.old }
+    ensures items { out.new.items ≡ out.old.items ++ (view_id_bytes view ++ number_bytes place ++ entry_bytes entry.now) }
+    ensures room { vec_capacity out.old ≤ vec_capacity out.new }
+    ensures view { IsViewId view }
+    ensures place { IsNumber place }
+    ensures entry { IsEntry entry.now }
+{
+    put_number(view, place.get(), out);
+    put_entry_text(entry, out);
+}
+
+fn put_reported(proposal: ViewId, report: &Report<'_>, out: &mut Vec<u8>)
+    requires { vec_len out.old + length (view_id_bytes proposal ++ report_bytes report.now) ≤ vec_capacity out.old }
+    ensures items { out.new.items ≡ out.old.items ++ (view_id_bytes proposal ++ report_bytes report.now) }
+    ensures room { vec_capacity out.old ≤ vec_capacity out.new }
+    ensures proposal { IsViewId proposal }
+    ensures report { IsReport report.now }
+{
+    put_view_id(proposal, out);
+    put_report(report, out);
+}
+
+fn put_body(body: &Body<'_>, out: &mut Vec<u8>)
+    requires { vec_len out.old + length (body_bytes body.now) ≤ vec_capacity out.old }
+    ensures items { out.new.items ≡ out.old.items ++ body_bytes body.now }
+    ensures room { vec_capacity out.old ≤ vec_capacity out.new }
+    ensures fits { IsBody body.now }
+{
+    match body {
+        Body::Join => {}
+        Body::Redirect(coordinator) => put_address(*coordinator, out),
+        Body::Leave => {}
+        Body::Forward {
+            view,
+            number,
+            payload,
+        } => put_forward(*view, *number, payload, out),
+        Body::Order { view, place, entry } => put_order(*view, *place, entry, out),
+        Body::Nak { view, missing } => {
+            put_numbers(*view, missing.first().get(), missing.last().get(), out);
+        }
+        Body::Ack { view, delivered } => put_number(*view, delivered.get(), out),
+        Body::Status { view, progress } => {
+            put_numbers(
+                *view,
+                progress.highest().get(),
+                progress.stable().get(),
+                out,
+            );
+        }
+        Body::Flush(proposal) => put_view(proposal, out),
+        Body::Behind { proposal, counter } => put_number(*proposal, counter.get(), out),
+        Body::Report { proposal, report } => put_reported(*proposal, report, out),
+        Body::Install(install) => put_install(install, out),
+        Body::Merge(view) => put_view(view, out),
+    }
+}
+
+fn put_group(group: &GroupName<'_>, out: &mut Vec<u8>)
+    requires { vec_len out.old + length (group_bytes group.now) ≤ vec_capacity out.old }
+    ensures items { out.new.items ≡ out.old.items ++ group_bytes group.now }
+    ensures room { vec_capacity out.old ≤ vec_capacity out.new }
+    ensures fits { is_group_name group.now ≡ true }
+{
+    let bytes = group.as_slice();
+    put_u8(bytes.len() as u8, out);
+    put(bytes, out);
+}
+
+fn put_front(kind: u8, out: &mut Vec<u8>)
+    requires { vec_len out.old + length (front_bytes kind) ≤ vec_capacity out.old }
+    ensures items { out.new.items ≡ out.old.items ++ front_bytes kind }
+    ensures room { vec_capacity out.old ≤ vec_capacity out.new }
+{
+    put_u16(MAGIC, out);
+    put_u8(VERSION, out);
+    put_u8(kind, out);
+}
+
+fn put_header(packet: &Packet<'_>, out: &mut Vec<u8>)
+    requires { vec_len out.old + length (header_bytes packet.now) ≤ vec_capacity out.old }
+    ensures items { out.new.items ≡ out.old.items ++ header_bytes packet.now }
+    ensures room { vec_capacity out.old ≤ vec_capacity out.new }
+    ensures group { is_group_name packet.now.group ≡ true }
+    ensures source { IsAddress packet.now.source }
+    ensures destination { IsAddress packet.now.destination }
+{
+    put_front(packet.body.kind(), out);
+    put_group(&packet.group, out);
+    put_address(packet.source, out);
+    put_address(packet.destination, out);
+}
+
+fn state_len(state: &Option<State<'_>>) -> usize
+    ensures size { result ≡ length (state_bytes state.now) }
+    ensures few { result ≤ 5 + STATE }
+{
+    match state {
+        None => 1,
+        Some(state) => 5 + state.as_slice().len(),
+    }
+}
+
+fn view_len(view: &Roster) -> usize
+    ensures size { result ≡ length (view_bytes view.now) }
+    ensures few { result ≤ 15 + 6 * MEMBERS }
+{
+    15 + 6 * view.members().len()
+}
+
+fn items_len(items: &Items<'_>) -> usize
+    ensures size { result ≡ length (flat_map entry_bytes items.now) }
+    ensures few { result < 2 ^ 18 }
+{
+    items.text().len()
+}
+
+fn install_len(install: &Install<'_>) -> usize
+    ensures size { result ≡ length (install_bytes install.now) }
+    ensures few { result < 2 ^ 19 }
+{
+    let view = view_len(install.view());
+    let together = 6 * install.together().len();
+    10 + view + together + items_len(&install.items()) + state_len(install.state())
+}
+
+fn report_len(report: &Report<'_>) -> usize
+    ensures size { result ≡ length (report_bytes report.now) }
+    ensures few { result < 2 ^ 19 }
+{
+    match report.previous() {
+        None => 1,
+        Some(_) => 32 + report.held().text().len(),
+    }
+}
+
+// How many bytes a body has.
+fn body_len(body: &Body<'_>) -> usize
+    ensures size { result ≡ length (body_bytes body.now) }
+    ensures few { result < 2 ^ 20 }
+{
+    match body {
+        Body::Join => 0,
+        Body::Redirect(_) => 6,
+        Body::Leave => 0,
+        Body::Forward { payload, .. } => 24 + payload.as_slice().len(),
+        Body::Order { entry, .. } => 38 + entry.payload.as_slice().len(),
+        Body::Nak { .. } => 30,
+        Body::Ack { .. } => 22,
+        Body::Status { .. } => 30,
+        Body::Flush(proposal) => view_len(proposal),
+        Body::Behind { .. } => 22,
+        Body::Report { report, .. } => 14 + report_len(report),
+        Body::Install(install) => install_len(install),
+        Body::Merge(view) => view_len(view),
+    }
+}
+
+/// Appends the packet's one spelling to the vector. On refusal the vector's items are as they were.
+pub fn encode(packet: &Packet<'_>, out: &mut Vec<u8>) -> Result<(), AllocError>
+    ensures ok { OnOk result (out.new.items ≡ out.old.items ++ spelling packet.now) }
+    ensures err { OnErr result (out.new.items ≡ out.old.items) }
+    // What is appended is in the grammar.
+    ensures packet { OnOk result (Spells packet.now (spelling packet.now)) }
+{
+    out.reserve(17 + packet.group.as_slice().len() + body_len(&packet.body))?;
+    put_header(packet, out);
+    put_body(&packet.body, out);
+    Ok(())
+}
