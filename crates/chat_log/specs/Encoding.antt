@@ -3,15 +3,13 @@ use Rattle.std.specs.Prelude.{ℕ, List, ◌++◌, length, Option, Some, None, �
 use Rattle.std.specs.List.{flat_map}
 use Rattle.byteorder.specs.Endian.{big_bytes}
 use Rattle.address.specs.Ids.{Address}
+pub use Rattle.big_endian.specs.Spelled.{address_bytes}
 use Rattle.limits.specs.declared.TheConstants.{PAYLOAD}
 use Rattle.chat_log.specs.declared.TheConstants.{LINES}
 use Rattle.chat_log.specs.declared.lines.Line.{Line}
 use Rattle.chat_log.specs.Reading.{Read, ◌>>=◌, bytes_at, number_at, list_at}
 
 -- ---- an address: the node in two bytes, the incarnation in four; neither is 0
-
-abbrev pub address_bytes : Address → List ℕ
-address_bytes a = big_bytes 2 a.node ++ big_bytes 4 a.incarnation
 
 unfoldable pub address_at : List ℕ → Read Address
 address_at bytes = do

@@ -112,17 +112,17 @@ address_takes bytes a rest fits e =
     let node : big_bytes 2 (node_in front) ≡ take 2 front = wide2.back (take 2 front) (omega (arith, length-take 2 front, t.2)) fits_node in
     let incarnation : big_bytes 4 (incarnation_in front) ≡ drop 2 front = wide4.back (drop 2 front) (omega (arith, length-drop 2 front, t.2)) fits_incarnation in
     let text : address_bytes (made front) ≡ front = ap (λ (x : List ℕ). x ++ big_bytes 4 (incarnation_in front)) node ∙ ap (λ (y : List ℕ). take 2 front ++ y) incarnation ∙ take-append-drop 2 front in
-    let is : IsAddress (made front) = record { node = (leb-true _ _ tests.0, big_from-lt 0 2 (take 2 front) fits_node); incarnation = (leb-true _ _ tests.1, big_from-lt 0 4 (drop 2 front) fits_incarnation) } in
+    let is : IsAddress (made front) = record { node = leb-true _ _ tests.0; node_fits = big_from-lt 0 2 (take 2 front) fits_node; incarnation = leb-true _ _ tests.1; incarnation_fits = big_from-lt 0 4 (drop 2 front) fits_incarnation } in
     let whole : Takes bytes (address_bytes (made front)) b.0.1 × IsAddress (made front) = (subst (λ (x : List ℕ). Takes bytes x b.0.1) (sym text) t.0, is) in
     subst (λ (p : Address × List ℕ). Takes bytes (address_bytes p.0) p.1 × IsAddress p.0) (ok_is (made front, b.0.1) (a, rest) g.1) whole
 
 address_again : (a : Address) (rest : List ℕ) → IsAddress a → address_at (address_bytes a ++ rest) ≡ Ok (a, rest)
 unfolding address_at
 address_again a rest fits =
-    let node : node_in (address_bytes a) ≡ a.node = ap (big_number 2) (take_at (big_bytes 2 a.node) (big_bytes 4 a.incarnation) 2 refl) ∙ number_back 2 a.node fits.node.1 in
-    let incarnation : incarnation_in (address_bytes a) ≡ a.incarnation = ap (big_number 4) (drop_at (big_bytes 2 a.node) (big_bytes 4 a.incarnation) 2 refl) ∙ number_back 4 a.incarnation fits.incarnation.1 in
-    let one : leb 1 (node_in (address_bytes a)) ≡ true = ap (leb 1) node ∙ le-leb 1 a.node fits.node.0 in
-    let two : leb 1 (incarnation_in (address_bytes a)) ≡ true = ap (leb 1) incarnation ∙ le-leb 1 a.incarnation fits.incarnation.0 in
+    let node : node_in (address_bytes a) ≡ a.node = ap (big_number 2) (take_at (big_bytes 2 a.node) (big_bytes 4 a.incarnation) 2 refl) ∙ number_back 2 a.node fits.node_fits in
+    let incarnation : incarnation_in (address_bytes a) ≡ a.incarnation = ap (big_number 4) (drop_at (big_bytes 2 a.node) (big_bytes 4 a.incarnation) 2 refl) ∙ number_back 4 a.incarnation fits.incarnation_fits in
+    let one : leb 1 (node_in (address_bytes a)) ≡ true = ap (leb 1) node ∙ le-leb 1 a.node fits.node in
+    let two : leb 1 (incarnation_in (address_bytes a)) ≡ true = ap (leb 1) incarnation ∙ le-leb 1 a.incarnation fits.incarnation in
     ap (λ (r : Read (List ℕ)). r >>= λ front. cond (leb 1 (node_in front.0) && leb 1 (incarnation_in front.0)) (Ok (record { node = node_in front.0; incarnation = incarnation_in front.0 }, front.1)) (Err Value)) (bytes_again 6 (address_bytes a) rest refl)
     ∙ ap (λ (b : Bool). cond (b && leb 1 (incarnation_in (address_bytes a))) (Ok (record { node = node_in (address_bytes a); incarnation = incarnation_in (address_bytes a) }, rest)) (Err Value)) one
     ∙ ap (λ (b : Bool). cond b (Ok (record { node = node_in (address_bytes a); incarnation = incarnation_in (address_bytes a) }, rest)) (Err Value)) two

@@ -2,19 +2,14 @@
 use Rattle.std.specs.Prelude.{◌≤◌, ◌<◌, ◌^◌, ℕ, List, ◌++◌, length, take, drop, Ok, Err, nat_le, ◌&&◌, if◌then◌else◌}
 use Rattle.byteorder.specs.Endian.{big_bytes, big_number}
 use Rattle.address.specs.Ids.{Address, ViewId}
+pub use Rattle.address.specs.Ids.{IsAddress}
+pub use Rattle.big_endian.specs.Spelled.{address_bytes}
 use Rattle.limits.specs.declared.TheConstants.{GREATEST_NUMBER, PAYLOAD}
 use Rattle.wire.specs.declared.error.WireError.TheVariants.{Length, Value}
 use Rattle.wire.specs.Values.{Entry}
 use Rattle.wire.specs.Reading.{Read, ◌>>=◌, bytes_at, number_at}
 
 -- ---- an address: the node in two bytes, the incarnation in four; neither is 0
-
-pub record IsAddress (a : Address) : Type 0 where
-  pub node : (1 ≤ a.node) × (a.node < 2 ^ 16)
-  pub incarnation : (1 ≤ a.incarnation) × (a.incarnation < 2 ^ 32)
-
-abbrev pub address_bytes : Address → List ℕ
-address_bytes a = big_bytes 2 a.node ++ big_bytes 4 a.incarnation
 
 abbrev pub node_in : List ℕ → ℕ
 node_in front = big_number 2 (take 2 front)

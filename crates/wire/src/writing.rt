@@ -2,7 +2,6 @@
 
 ghost use Rattle.std.specs.Prelude.{◌≡◌, ◌≤◌, ◌+◌, ◌*◌, ◌++◌, ◌<◌, ◌^◌, true, length, vec_len, vec_capacity, IfSome, OnOk, OnErr};
 ghost use Rattle.std.specs.List.{flat_map, AllByRecursion};
-ghost use Rattle.byteorder.specs.Endian.{big_bytes};
 ghost use Rattle.wire.specs.Fields.{IsAddress, IsViewId, IsNumber, IsEntry, IsPlaced, address_bytes, view_id_bytes, number_bytes, payload_bytes, entry_bytes};
 ghost use Rattle.wire.specs.Lists.{IsView, IsReport, IsInstall, addresses_bytes, view_bytes, held_bytes, filled_bytes, report_bytes, state_bytes, given_bytes, install_bytes};
 ghost use Rattle.wire.specs.Names.{is_group_name};
@@ -11,68 +10,10 @@ ghost use Rattle.limits.specs.declared.TheConstants.{MEMBERS, PAYLOAD, STATE};
 ghost use Rattle.wire.specs.Packets.{IsBody, Spells, front_bytes, header_bytes, body_bytes, spelling, listed_bytes};
 
 use address::{Address, ViewId};
-use byteorder::{BigEndian, ByteOrder};
+use big_endian::{put, put_address, put_u8, put_u16, put_u32, put_u64};
 use limits::{MAGIC, VERSION};
 use crate::{Entry, GroupName, Number, Payload, State, Body, Held, Install, Items, Packet, Report, Roster};
 use std::alloc::AllocError;
-
-fn put(text: &[u8], out: &mut Vec<u8>)
-    requires { vec_len out.old + length text.now ≤ vec_capacity out.old }
-    ensures items { out.new.items ≡ out.old.items ++ text.now }
-    ensures room { vec_capacity out.old ≤ vec_capacity out.new }
-{
-    if out.extend_from_slice(text).is_err() {
-        unreachable!();
-    }
-}
-
-fn put_u8(value: u8, out: &mut Vec<u8>)
-    requires { vec_len out.old + 1 ≤ vec_capacity out.old }
-    ensures items { out.new.items ≡ out.old.items ++ big_bytes 1 value }
-    ensures room { vec_capacity out.old ≤ vec_capacity out.new }
-{
-    put(&value.to_be_bytes(), out);
-}
-
-fn put_u16(value: u16, out: &mut Vec<u8>)
-    requires { vec_len out.old + 2 ≤ vec_capacity out.old }
-    ensures items { out.new.items ≡ out.old.items ++ big_bytes 2 value }
-    ensures room { vec_capacity out.old ≤ vec_capacity out.new }
-{
-    let mut text = [0; 2];
-    BigEndian::write_u16(&mut text, value);
-    put(&text, out);
-}
-
-fn put_u32(value: u32, out: &mut Vec<u8>)
-    requires { vec_len out.old + 4 ≤ vec_capacity out.old }
-    ensures items { out.new.items ≡ out.old.items ++ big_bytes 4 value }
-    ensures room { vec_capacity out.old ≤ vec_capacity out.new }
-{
-    let mut text = [0; 4];
-    BigEndian::write_u32(&mut text, value);
-    put(&text, out);
-}
-
-fn put_u64(value: u64, out: &mut Vec<u8>)
-    requires { vec_len out.old + 8 ≤ vec_capacity out.old }
-    ensures items { out.new.items ≡ out.old.items ++ number_bytes value }
-    ensures room { vec_capacity out.old ≤ vec_capacity out.new }
-{
-    let mut text = [0; 8];
-    BigEndian::write_u64(&mut text, value);
-    put(&text, out);
-}
-
-fn put_address(address: Address, out: &mut Vec<u8>)
-    requires { vec_len out.old + length (address_bytes address) ≤ vec_capacity out.old }
-    ensures items { out.new.items ≡ out.old.items ++ address_bytes address }
-    ensures room { vec_capacity out.old ≤ vec_capacity out.new }
-    ensures fits { IsAddress address }
-{
-    put_u16(address.node().number(), out);
-    put_u32(address.incarnation(), out);
-}
 
 fn put_view_id(id: ViewId, out: &mut Vec<u8>)
     requires { vec_len out.old + length (view_id_bytes id) ≤ vec_capacity out.old }

@@ -1,0 +1,8 @@
+-- What an address is spelled in.
+use Rattle.std.specs.Prelude.{ℕ, List, ◌++◌}
+use Rattle.byteorder.specs.Endian.{big_bytes}
+use Rattle.address.specs.Ids.{Address}
+
+-- the node in two bytes, the incarnation in four
+abbrev pub address_bytes : Address → List ℕ
+address_bytes a = big_bytes 2 a.node ++ big_bytes 4 a.incarnation
