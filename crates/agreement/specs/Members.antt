@@ -94,7 +94,7 @@ KeepsInstructions pool p kept v = (q : Address) (i : wire.Install) → kept_for 
 
 -- how many messages it was told, and whether that is all that it will be told while open
 pub record HasCounts (t : List Event) (p : Address) (v : ViewId) (installed : Bool) (delivered : ℕ) : Type 0 where
-  pub told : length (list_of p v t) ≡ delivered
+  pub delivered_count : length (list_of p v t) ≡ delivered
   pub tally : tally_of p v t ≡ record { phase = if installed then Open else Past; count = delivered }
 
 -- what it sent is its own messages that it was told, and then the outstanding ones
@@ -107,7 +107,7 @@ pub record HasWindow (t : List Event) (v : ViewId) (stable delivered : ℕ) (hel
   pub order : HoldsOrder t v held
   pub all : HoldsAll stable delivered held
   pub near : (g : ℕ) → is_some (held_at g held) ≡ true → g ≤ stable + WINDOW
-  pub told : AllHave t v stable 0
+  pub all_have : AllHave t v stable 0
 
 -- what the coordinator knows of others: acknowledgements are at most what was told, what waits was sent, what was ordered is counted
 abbrev pub HasAcks : List Event → ViewId → (Address → ℕ) → Type 0

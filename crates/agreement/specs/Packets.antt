@@ -52,7 +52,7 @@ pub record IsProposal (h : History) (p : Address) (w : View) : Type 0 where
 -- ---- a REPORT
 
 -- what a member says of the view from which it comes: it is a member of it and is blocked there for good
-pub record TellsOf (t : List Event) (p : Address) (r : Report) (v : ViewId) : Type 0 where
+pub record SaysOf (t : List Event) (p : Address) (r : Report) (v : ViewId) : Type 0 where
   pub closed : IsClosed p v t
   pub entered : is_some (entry_of p v t) ≡ true
   pub member : stands_in p (members_of v t) ≡ true
@@ -65,7 +65,7 @@ pub record TellsOf (t : List Event) (p : Address) (r : Report) (v : ViewId) : Ty
 pub record IsAnswer (h : History) (p : Address) (w : ViewId) (r : Report) : Type 0 where
   pub other : same_address p w.creator ≡ false
   pub one : report_of p w h.pool ≡ Some r
-  pub true_of : ForSome r.previous (TellsOf h.trace p r)
+  pub true_of : ForSome r.previous (SaysOf h.trace p r)
 
 -- ---- an INSTALL
 
@@ -155,7 +155,7 @@ pub record IsEntry (h : History) (q : Address) (w : ViewId) (e : Install) : Type
   pub complete : AllAnswered h w e.view.members
   pub together : e.together ≡ filter (goes_with h w e.previous) e.view.members
   -- all but the coordinator were told to, and had then been told the order up to its end
-  pub told : same_address q w.creator ≡ false → is_some (install_of w q h.pool) ≡ true
+  pub instructed : same_address q w.creator ≡ false → is_some (install_of w q h.pool) ≡ true
   pub end : (i : wire.Install) (v : ViewId) → same_address q w.creator ≡ false → install_of w q h.pool ≡ Some i → e.previous ≡ Some v
       → length (list_of q v h.trace) ≡ end_of i
 

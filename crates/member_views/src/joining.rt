@@ -10,7 +10,7 @@ ghost use Rattle.member_views.specs.Firsts.{lone_install};
 ghost use Rattle.member_views.specs.Views.{Creates, Asks, OnJoin, OnRedirect, Redirects, Admits, leads_now, first_in, outdated, joined};
 ghost use Rattle.member_views.specs.Ignoring.{is_misdirected};
 
-use crate::merging::tell_view;
+use crate::merging::announce_view;
 use address::{Address, ViewId};
 use candidates::Notes;
 use membership::Life;
@@ -233,7 +233,7 @@ pub fn on_redirect<R: Receiver>(
         return Ok(());
     }
     if life.traffic.is_some() {
-        tell_view(life, who, coordinator, out)?;
+        announce_view(life, who, coordinator, out)?;
     } else {
         ask(life, who, coordinator, out)?;
     }

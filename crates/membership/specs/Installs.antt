@@ -54,8 +54,8 @@ IsSayable f v state q = is_install (instruction_to f v state q) ≡ true
 -- ---- a flush is finished
 
 -- what its creator is delivered of its own view's cut
-abbrev pub told_by : FlushModel → Traffic → List Entry
-told_by f t = undelivered (traffic_of t).delivered ((cuts_of f).base (view_of t).id) ((cuts_of f).items (view_of t).id)
+abbrev pub delivered_by : FlushModel → Traffic → List Entry
+delivered_by f t = undelivered (traffic_of t).delivered ((cuts_of f).base (view_of t).id) ((cuts_of f).items (view_of t).id)
 
 -- how many of these are its own
 abbrev pub own_of : Address → List Entry → ℕ
@@ -74,7 +74,7 @@ going me f t n = Installed (record {
 
 -- the state with which the view begins
 abbrev pub finished_state : {S : Type 0} → Meaning S → FlushModel → Traffic → S → S
-finished_state meaning f t s = applied meaning s (told_by f t)
+finished_state meaning f t s = applied meaning s (delivered_by f t)
 
 -- what its creator puts out
 abbrev pub finish_packets : Address → FlushModel → Traffic → List ℕ → List Posted
@@ -82,7 +82,7 @@ finish_packets me f t state = map (instructing me f (view_of t).id state) (other
 
 -- what happens to its creator
 abbrev pub finish_events : Address → FlushModel → Traffic → List Event
-finish_events me f t = map (delivery me (view_of t).id) (told_by f t) ++ going me f t (own_of me (told_by f t)) ∷ []
+finish_events me f t = map (delivery me (view_of t).id) (delivered_by f t) ++ going me f t (own_of me (delivered_by f t)) ∷ []
 
 -- ---- an INSTALL is entered
 

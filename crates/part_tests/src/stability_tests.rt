@@ -16,7 +16,7 @@ fn noted(acks: &mut Acks, node: u16, count: u64) -> u64 {
 }
 
 #[test]
-fn nothing_is_stable_until_all_have_told(rt: HostRuntime) {
+fn nothing_is_stable_until_all_have_acknowledged(rt: HostRuntime) {
     let mut acks = of_two(rt.alloc()).expect(&rt, "the view of two");
     assert_eq!(rt; noted(&mut acks, 1, 5), 0);
 }

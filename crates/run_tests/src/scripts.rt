@@ -128,7 +128,7 @@ fn packets_of(alloc: Global, script: &[u8]) -> (Vec<u8>, Status) {
 }
 
 #[test]
-fn packets_are_told_in_order(rt: HostRuntime) {
+fn packets_are_printed_in_order(rt: HostRuntime) {
     let (text, status) = packets_of(rt.alloc(), b"start 2\njoin 2 9.1\ntick 2\n");
     let wanted = b"\
         1 JOIN 2.1 9.1 5653010105776f726c64000200000001000900000001\n\
@@ -139,7 +139,7 @@ fn packets_are_told_in_order(rt: HostRuntime) {
 }
 
 #[test]
-fn a_fault_is_told_in_the_place_of_packets(rt: HostRuntime) {
+fn a_fault_is_printed_in_the_place_of_packets(rt: HostRuntime) {
     let (text, status) = packets_of(rt.alloc(), b"start 2\njoin 2 9.1\nfly 2\n");
     assert!(rt; text.as_slice() == b"fault 3 40\n".as_slice(), "the fault");
     assert!(rt; status == Status::Refused, "the status");

@@ -101,7 +101,7 @@ fn a_writer_that_fails_has_taken_a_beginning_of_the_run(rt: HostRuntime) {
 }
 
 #[test]
-fn a_text_is_put_whole_or_a_failure_is_told(rt: HostRuntime) {
+fn a_text_is_put_whole_or_a_failure_is_reported(rt: HostRuntime) {
     let mut small = Failing {
         taken: Vec::new(rt.alloc()),
         most: 4,

@@ -75,18 +75,18 @@ is_blocked p t = fold (block_after p) false t
 abbrev pub IsBlocked : Address → List Event → Type 0
 IsBlocked p t = IsTrue (is_blocked p t)
 
-abbrev pub told : Address → ViewId → Event → Option Message
-told p v (Started q) = None
-told p v (Sent s) = None
-told p v (Delivered d) = if same_address d.member p && same_view_id d.view v then Some d.message else None
-told p v (Blocked q) = None
-told p v (Installed i) = None
-told p v (Left q) = None
-told p v (Crashed q) = None
+abbrev pub delivered_message : Address → ViewId → Event → Option Message
+delivered_message p v (Started q) = None
+delivered_message p v (Sent s) = None
+delivered_message p v (Delivered d) = if same_address d.member p && same_view_id d.view v then Some d.message else None
+delivered_message p v (Blocked q) = None
+delivered_message p v (Installed i) = None
+delivered_message p v (Left q) = None
+delivered_message p v (Crashed q) = None
 
 -- the messages that a member was told in a view, in order
 abbrev pub delivered_in : Address → ViewId → List Event → List Message
-delivered_in p v t = filter_map (told p v) t
+delivered_in p v t = filter_map (delivered_message p v) t
 
 abbrev pub said : Address → ViewId → Event → Option Numbered
 said p v (Started q) = None

@@ -1,2 +1,2 @@
-pub mod Appending
-pub mod Writing
+pub mod KeepFront
+pub mod FactOfWriting

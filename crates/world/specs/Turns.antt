@@ -42,7 +42,7 @@ pub record HasPut {S : Type 0} (meaning : Meaning S) (input : Input) (m : Member
     (happened : List Event) (left : MemberModel S) (pool' : List (List ℕ)) : Type 0 where
   pub out : Output
   pub handled : Handled meaning m input (Ok out) left
-  pub told : happened ≡ out.events.items
+  pub events_are : happened ≡ out.events.items
   pub puts : pool' ≡ pool ++ map bytes_of out.packets.items
 
 -- one that comes to an error: nothing joined the pool

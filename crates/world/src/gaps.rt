@@ -152,11 +152,11 @@ impl<R: Receiver> World<R> {
     {
         let known = self.pool.count();
         self.play(&WorldEvent::Tick(pair.view.creator().node()))?;
-        let told = self.pool.count();
+        let announced = self.pool.count();
         let status = self.pool.first_for(pair.member, known);
         self.hand(status)?;
         let asked = self.pool.count();
-        self.deliver_past(told)?;
+        self.deliver_past(announced)?;
         self.deliver_past(asked)
     }
 

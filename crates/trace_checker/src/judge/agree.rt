@@ -16,7 +16,7 @@ fn is_as_far(past: &Past, other: Option<&Install>, view: ViewId, member: Address
 {
     match other {
         None => true,
-        Some(other) => past.told_count(other.member, view) == past.told_count(member, view),
+        Some(other) => past.delivered_count(other.member, view) == past.delivered_count(member, view),
     }
 }
 

@@ -43,12 +43,12 @@ pub fn may_hand_back(past: &Past, install: &Install) -> bool
     match install.previous {
         None => install.handed_back.as_slice().is_empty(),
         Some(previous) => {
-            let told = past.own_count(install.member, install.member, previous);
+            let delivered = past.own_count(install.member, install.member, previous);
             is_rest(
                 past,
                 install.member,
                 previous,
-                told as usize,
+                delivered as usize,
                 install.handed_back.as_slice(),
             )
         }

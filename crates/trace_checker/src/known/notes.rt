@@ -7,7 +7,7 @@ ghost use Rattle.address.specs.Ids.{view_id_cmp};
 ghost use Rattle.trace_props.specs.declared.event.Event.{Event};
 ghost use Rattle.trace_checker.specs.declared.known.seat.Pair.{Pair};
 ghost use Rattle.trace_props.specs.Following.{MayCarry};
-ghost use Rattle.trace_checker.specs.Known.{sending_of, delivery_of, seat_cmp, pair_cmp, way_cmp, same_pair, KnowsSent, KnowsTold, KnowsLast, KnowsEntries, KnowsFirsts, KnowsWays};
+ghost use Rattle.trace_checker.specs.Known.{sending_of, delivery_of, seat_cmp, pair_cmp, way_cmp, same_pair, KnowsSent, KnowsDelivered, KnowsLast, KnowsEntries, KnowsFirsts, KnowsWays};
 
 use super::lists::Lists;
 use super::seat::{Pair, Seat, Way};
@@ -83,12 +83,12 @@ pub fn note_sent<'a>(
 }
 
 /// Keeps a message that is told.
-pub fn note_told<'a>(
+pub fn note_delivered<'a>(
     alloc: Global,
-    told: &mut Lists<'a, Message>,
+    delivered: &mut Lists<'a, Message>,
     event: &'a Event,
 ) -> Result<(), AllocError>
-    ensures { OnOk result ((t : List Event) → KnowsTold (get seat_cmp told.old.lists) t → KnowsTold (get seat_cmp told.new.lists) (t ++ event.now ∷ [])) }
+    ensures { OnOk result ((t : List Event) → KnowsDelivered (get seat_cmp delivered.old.lists) t → KnowsDelivered (get seat_cmp delivered.new.lists) (t ++ event.now ∷ [])) }
 {
     match delivery_in(event) {
         None => Ok(()),
@@ -97,7 +97,7 @@ pub fn note_told<'a>(
                 view: delivery.view,
                 member: delivery.member,
             };
-            told.push(alloc, seat, &delivery.message)?;
+            delivered.push(alloc, seat, &delivery.message)?;
             Ok(())
         }
     }

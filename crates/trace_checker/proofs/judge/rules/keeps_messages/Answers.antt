@@ -1,6 +1,6 @@
 use Rattle.trace_props.specs.Following.{MayCarry}
-use Rattle.trace_checker.proofs.Ruling.{carry-none, of-sent, of-told}
-use Rattle.trace_checker.proofs.Deciding.{send-decides, tell-decides}
+use Rattle.trace_checker.proofs.TestsOfEvents.{carry-none, of-sent, of-delivered}
+use Rattle.trace_checker.proofs.TestsOfOneView.{send-decides, deliver-decides}
 use Rattle.trace_checker.proofs.judge.rules.keeps_messages.Goals as goal
 
 -- a message is sent
@@ -13,4 +13,4 @@ returns-in-None-delivery_in c = carry-none c.args.past.now c.args.event.now c.in
 
 -- a message is told
 pub returns-in-Some-delivery_in : goal.returns-in-Some-delivery_in
-returns-in-Some-delivery_in c = of-told (MayCarry c.args.past.now) c.args.event.now c.in-Some-delivery_in.delivery.now c.may_tell.result _ c.in-Some-delivery_in.ensures c.may_tell.ensures (tell-decides c.args.past.now c.in-Some-delivery_in.delivery.now)
+returns-in-Some-delivery_in c = of-delivered (MayCarry c.args.past.now) c.args.event.now c.in-Some-delivery_in.delivery.now c.may_deliver.result _ c.in-Some-delivery_in.ensures c.may_deliver.ensures (deliver-decides c.args.past.now c.in-Some-delivery_in.delivery.now)

@@ -1,6 +1,6 @@
 use Rattle.std.specs.BTreeMap.{get}
 use Rattle.trace_checker.specs.Known.{pair_cmp}
-use Rattle.trace_checker.proofs.Noting.{no-number, a-number}
+use Rattle.trace_checker.proofs.KeepMessages.{no-number, a-number}
 use Rattle.trace_checker.proofs.known.notes.note_last.Goals as goal
 
 -- nothing is told
