@@ -1,4 +1,4 @@
--- The act Delivers: a member that is not the first is told the next entry that it holds.
+-- The act Delivers: a member that is not the first delivers the next entry that it holds.
 use Rattle.std.proofs.Common.{◌≡◌, ℕ, ◌+◌, ◌≤◌, Bool, true, false, cond, Option, Some, None, List, [], ◌∷◌, ◌++◌, length, drop, refl, sym, ap, ◌∙◌, subst, arith, is_some}
 use Rattle.std.specs.Prelude.{slice_get, nat_lt}
 use Rattle.std.specs.Option.{option_map}
@@ -61,7 +61,7 @@ own-by false p so_far sent rest m test is next =
     let none : own p (m ∷ []) ≡ [] = own-miss p [] m test in
     is ∙ ap (λ l. l ++ rest) (sym (own-miss p so_far m test)) ∙ ap (λ l. own p (so_far ++ m ∷ []) ++ drop (length l) rest) (sym none)
 
--- what a member is told next, if it is its own, is the first that is outstanding: what it sent is still its own messages and then the rest
+-- what a member delivers next, if it is its own, is the first that is outstanding: what it sent is still its own messages and then the rest
 pub own-next : (t : List Event) (p : Address) (v : ViewId) (rest : List Numbered) (e : Entry) → sent_in p v t ≡ own p (delivered_in p v t) ++ rest → IsNext t p v (message_for e)
     → sent_in p v t ≡ own p (delivered_in p v t ++ message_for e ∷ []) ++ left_of p (e ∷ []) rest
 own-next t p v rest e is next =
@@ -80,7 +80,7 @@ sender-started meaning h p v k m trace at = by (has_started p h.trace) refl
         let none = (nobody meaning p h.trace (rules-of meaning h trace).ordered.placed e).silent v in
         absurd (none-some m (sym (ap (λ l. slice_get l k) none) ∙ at))
 
--- so the state after a message that is told next is one that a receiver can be in
+-- so the state after a message that is delivered next is one that a receiver can be in
 pub next-state : {S : Type 0} (meaning : Meaning S) (h : History) (p : Address) (v : ViewId) (e : Entry) (s : S)
     → ((z : S) (from : Address) (payload : List ℕ) → meaning.is_state z → IsAddress from → length payload ≤ PAYLOAD → meaning.is_state (meaning.apply z from payload))
     → TraceFact meaning h → IsNext h.trace p v (message_for e) → meaning.is_state s → meaning.is_state (meaning.apply s e.sender e.payload)

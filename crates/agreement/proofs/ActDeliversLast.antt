@@ -1,4 +1,4 @@
--- A member is told the last entries of the view from which it goes.
+-- A member is delivered the last entries of the view from which it goes.
 use Rattle.std.proofs.Common.{◌≡◌, ℕ, zero, suc, ◌+◌, ◌-◌, ◌≤◌, Bool, true, false, Option, Some, None, List, [], ◌∷◌, ◌++◌, length, map, drop, refl, sym, ap, ◌∙◌, subst, arith}
 use Rattle.std.specs.Prelude.{slice_get}
 use Rattle.std.specs.Option.{ForSome}
@@ -35,13 +35,13 @@ use Rattle.agreement.proofs.KeepWithoutInstall.{Quiet, quiet-refl, quiet-trans, 
 use Rattle.agreement.proofs.FactOfOrder.{next-of-order}
 use Rattle.agreement.proofs.ActDelivers.{own-next, next-state}
 
--- entries that come next in a view's order, for one who was told so many
+-- entries that come next in a view's order, for one to whom so many were delivered
 abbrev pub Follow : List Event → Address → ViewId → List Entry → Type 0
 Follow t p v entries = (j : ℕ) (e : Entry) → slice_get entries j ≡ Some e → slice_get (order_of v t) (length (list_of p v t) + j) ≡ Some e
 
--- ---- of a cut what was not told yet
+-- ---- of a cut what was not delivered yet
 
--- what was not told yet ends where the cut ends
+-- what was not delivered yet ends where the cut ends
 pub undelivered-end : (d base : ℕ) (items : List Entry) → base ≤ d → d ≤ base + length items → d + length (undelivered d base items) ≡ base + length items
 undelivered-end d base items low high = let long : length (drop (d - base) items) ≡ length items - (d - base) = length-drop (d - base) items in omega arith
 
@@ -53,7 +53,7 @@ undelivered-follow t p v d base items count_is low order j e at =
     let same : length (list_of p v t) + j ≡ base + (d - base + j) = omega arith in
     ap (slice_get (order_of v t)) same ∙ order (d - base + j) e there
 
--- ---- being told them
+-- ---- their delivery
 
 -- of nothing nothing is left
 drop-nil : {X : Type 0} (n : ℕ) → drop {A = X} n [] ≡ []
@@ -66,7 +66,7 @@ drop-twice zero m xs = ap (λ k. drop k xs) (let e : m ≡ 0 + m = omega arith i
 drop-twice (suc n) m [] = drop-nil m ∙ sym (drop-nil (suc n + m))
 drop-twice (suc n) m (x ∷ xs) = drop-twice n m xs ∙ ap (λ k. drop k (x ∷ xs)) (let e : suc (n + m) ≡ suc n + m = omega arith in e)
 
--- of the own messages, when an entry is told and then others
+-- of the own messages, when an entry is delivered and then others
 left-more : (p : Address) (e : Entry) (entries : List Entry) (rest : List Numbered) → left_of p (e ∷ entries) rest ≡ left_of p entries (left_of p (e ∷ []) rest)
 left-more p e entries rest =
     let one = own p (message_for e ∷ []) in
@@ -74,7 +74,7 @@ left-more p e entries rest =
     ap (λ l. drop (length l) rest) (filter_map-append (own_by p) (message_for e ∷ []) (map message_for entries))
     ∙ ap (λ n. drop n rest) (length-append one others) ∙ sym (drop-twice (length one) (length others) rest)
 
--- who is told the next of the order of its view is not the first there
+-- who is delivered the next of the order of its view is not the first there
 not-first : (b : Bool) (t : List Event) (p : Address) (v : ViewId) (e : Entry) → same_address p v.creator ≡ b → slice_get (order_of v t) (length (list_of p v t)) ≡ Some e
     → same_address p v.creator ≡ false
 not-first false t p v e test at = test
@@ -83,7 +83,7 @@ not-first true t p v e test at =
     ap (λ q. slice_get (list_of q v t) (length (list_of p v t))) (same_address-true p v.creator test) ∙ at in
     absurd (none-some e (sym (slice_get_past (list_of p v t) (length (list_of p v t)) (omega arith)) ∙ here))
 
--- the history after a member was told entries in a view
+-- the history after entries were delivered to a member in a view
 abbrev pub delivered_on : History → Address → Option View → List Entry → History
 delivered_on h p v entries = record { pool = h.pool; trace = h.trace ++ deliveries p v entries }
 
@@ -94,13 +94,13 @@ module _ {S : Type 0} (meaning : Meaning S) where
   abbrev Fact : History → Address → Core S → Type 0
   Fact h p c = MemberFact meaning h p c
 
-  -- what is so of a view after entries were told there
+  -- what is so of a view after entries were delivered there
   pub record CatchesUp (h k : History) (p : Address) (v : ViewId) (rest : List Numbered) (entries : List Entry) : Type 0 where
     pub list : list_of p v k.trace ≡ list_of p v h.trace ++ entries
     pub order : order_of v k.trace ≡ order_of v h.trace
     pub sent : sent_in p v k.trace ≡ own p (delivered_in p v k.trace) ++ left_of p entries rest
 
-  -- what is so of a member in a view after it was told entries there
+  -- what is so of a member in a view after entries were delivered to it there
   record DeliversLast (h k : History) (p : Address) (v : ViewId) (rest : List Numbered) (s : S) (entries : List Entry) : Type 0 where
     quiet : Quiet meaning p h k
     running : IsRunning p k.trace
@@ -118,7 +118,7 @@ module _ {S : Type 0} (meaning : Meaning S) where
     state : state_of meaning p h.trace ≡ s
     is : meaning.is_state s
 
-  -- told no entry
+  -- no entry is delivered
   delivers-none : (h : History) (p : Address) (v : ViewId) (rest : List Numbered) (s : S) → Stands h p v rest s
       → DeliversLast h (record { pool = h.pool; trace = h.trace ++ [] }) p v rest s []
   delivers-none h p v rest s x =
@@ -139,7 +139,7 @@ module _ {S : Type 0} (meaning : Meaning S) where
     stands : Stands (record { pool = h.pool; trace = h.trace ++ delivery p v e ∷ [] }) p v (left_of p (e ∷ []) rest) (meaning.apply s e.sender e.payload)
     follow : Follow (h.trace ++ delivery p v e ∷ []) p v entries
 
-  -- told the first of some entries
+  -- the first of some entries is delivered
   delivers-first : (h : History) (p : Address) (v : ViewId) (rest : List Numbered) (s : S) (e : Entry) (entries : List Entry) → Law → Stands h p v rest s → Follow h.trace p v (e ∷ entries)
       → First h p v rest s e entries
   delivers-first h p v rest s e entries law x follow =
@@ -179,7 +179,7 @@ module _ {S : Type 0} (meaning : Meaning S) where
             ap (λ l. slice_get l (length (list_of p v (t ++ happened ∷ [])) + j)) order ∙ ap (slice_get (order_of v t)) same ∙ follow (suc j) y there;
       }
 
-  -- told all of them
+  -- all of them are delivered
   delivers-last : (h : History) (p : Address) (v : ViewId) (rest : List Numbered) (s : S) (entries : List Entry) → Law → Stands h p v rest s → Follow h.trace p v entries
       → DeliversLast h (record { pool = h.pool; trace = h.trace ++ map (delivery p v) entries }) p v rest s entries
   delivers-last h p v rest s [] law x follow = delivers-none h p v rest s x
@@ -203,7 +203,7 @@ module _ {S : Type 0} (meaning : Meaning S) where
         is = all.is;
       })
 
-  -- what is so of a member after it was told its last entries of its view, if it has one
+  -- what is so of a member after the last entries of its view were delivered to it, if it has one
   pub record GoesOut (h k : History) (c : Core S) (entries : List Entry) : Type 0 where
     pub quiet : Quiet meaning c.me h k
     pub running : IsRunning c.me k.trace
@@ -212,7 +212,7 @@ module _ {S : Type 0} (meaning : Meaning S) where
     pub state : state_of meaning c.me k.trace ≡ applied meaning c.state entries
     pub is : meaning.is_state (state_of meaning c.me k.trace)
 
-  -- a member without a view is told nothing
+  -- to a member without a view nothing is delivered
   goes-none : (h : History) (c : Core S) (entries : List Entry) → TraceFact meaning h → Fact h c.me c → c.view ≡ None → entries ≡ []
       → GoesOut h (delivered_on h c.me c.view entries) c entries
   goes-none h c entries trace x is none =
@@ -250,7 +250,7 @@ module _ {S : Type 0} (meaning : Meaning S) where
         is = subst meaning.is_state (sym all.state) all.is;
       })
 
-  -- a member is told its last entries of its view, if it has one
+  -- a member is delivered the last entries of its view, if it has one
   pub goes-out : (h : History) (c : Core S) (entries : List Entry) → Law → TraceFact meaning h → Fact h c.me c
       → ForSome c.view (λ v. Follow h.trace c.me v.id entries) → (c.view ≡ None → entries ≡ [])
       → GoesOut h (delivered_on h c.me c.view entries) c entries

@@ -1,4 +1,4 @@
--- The act Enters: a member goes into the view that it promised, as the view's coordinator told it.
+-- The act Enters: a member goes into the view that it promised, as the view's coordinator instructs it.
 use Rattle.std.proofs.Common.{◌≡◌, ℕ, ◌+◌, false, Option, Some, None, List, [], ◌∷◌, ◌++◌, length, refl, sym, ap, ◌∙◌, subst}
 use Rattle.std.specs.Prelude.{MatchOption, IsSome}
 use Rattle.std.specs.Option.{ForSome, IsSomeAnd, option_map, option_map_or}
@@ -67,7 +67,7 @@ module _ {S : Type 0} (meaning : Meaning S) where
   abbrev Fact : History → Address → Core S → Type 0
   Fact h p c = MemberFact meaning h p c
 
-  -- what is told
+  -- what is delivered
   abbrev last_delivered : Core S → wire.Install → List Entry
   last_delivered c i = delivered_at c i.base i.items
 
@@ -78,7 +78,7 @@ module _ {S : Type 0} (meaning : Meaning S) where
   abbrev mine_of : Core S → Report
   mine_of c = report_with c.view c.traffic
 
-  -- in a view, what is told is what was not told of the cut
+  -- in a view, what is delivered is what was not yet delivered of the cut
   last-is : (c : Core S) (i : wire.Install) (v : View) → c.view ≡ Some v → last_delivered c i ≡ undelivered c.traffic.delivered i.base i.items
   last-is c i v e = ap (λ o. option_map_or (λ (u : View). undelivered c.traffic.delivered i.base i.items) o []) e
 
@@ -91,7 +91,7 @@ module _ {S : Type 0} (meaning : Meaning S) where
       subst (λ (l : List Entry). Follow h.trace c.me v.id l) (sym (last-is c i v e))
       (undelivered-follow h.trace c.me v.id c.traffic.delivered i.base i.items (x.view v e).counts.delivered_count cut.low cut.order)
 
-  -- then it has been told the order up to the end of the cut
+  -- then it has delivered the order up to the end of the cut
   ends : (h k : History) (c : Core S) (i : wire.Install) → Fact h c.me c → IsFitting h i.view.id c.me i (mine_of c)
       → ForSome c.view (λ v. list_of c.me v.id k.trace ≡ list_of c.me v.id h.trace ++ last_delivered c i) → ForSome c.view (λ v. length (list_of c.me v.id k.trace) ≡ end_of i)
   ends h k c i x fits list v e =
@@ -101,7 +101,7 @@ module _ {S : Type 0} (meaning : Meaning S) where
       ∙ ap (λ (l : List Entry). c.traffic.delivered + length l) (last-is c i v e)
       ∙ undelivered-end c.traffic.delivered i.base i.items cut.low cut.high
 
-  -- once it was told its last entries it is ready
+  -- once it delivered its last entries it is ready
   ready : (s : System S) (c : Core S) (i : wire.Install) (k : History) → Invariant meaning s → Fact s.history c.me c
       → IsInstruction s.history i.view.id.creator c.me i → c.promise ≡ Some i.view → c.installed ≡ false → report_of c.me i.view.id s.history.pool ≡ Some (mine_of c)
       → GoesOut meaning s.history k c (last_delivered c i) → k.pool ≡ s.history.pool → ForSome i.state (λ bytes. IsSome (meaning.decode bytes))

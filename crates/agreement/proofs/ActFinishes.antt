@@ -1,4 +1,4 @@
--- The act Finishes: a member goes into its own proposal, and tells all others of the list how to.
+-- The act Finishes: a member goes into its own proposal, and instructs all others of the list.
 use Rattle.std.proofs.Common.{◌≡◌, ◌+◌, Bool, true, false, cond, Option, Some, None, List, [], ◌∷◌, ◌++◌, length, refl, sym, ap, ◌∙◌, subst, is_some, ◌⊎◌, inl, inr}
 use Rattle.std.specs.Option.{option_map, option_eq}
 use Rattle.std.proofs.lemmas.Option.{none-some, same_Some}
@@ -48,7 +48,7 @@ state_with-append {S} meaning v entries more t s is = by (entry_state meaning v 
     by (Some z) x =
         ap Some (fold-append (λ y (w : Entry). meaning.apply y w.sender w.payload) z entries more ∙ ap (λ y. applied meaning y more) (same_Some (applied meaning z entries) s x))
 
--- nobody was told to go into a view that its coordinator has not installed
+-- nobody was instructed to go into a view that its coordinator has not installed
 no-install : (h : History) (w : ViewId) (q : Address) → EachPacket h → entry_of w.creator w h.trace ≡ None → install_of w q h.pool ≡ None
 no-install h w q each none =
     none-of (install_of w q h.pool) (λ j e.
@@ -72,7 +72,7 @@ module _ {S : Type 0} (meaning : Meaning S) where
   abbrev after_by : History → Core S → View → FlushModel → Cuts → History
   after_by h c v f cuts = made_on (before_by h c v cuts) (packets_by c v f cuts) (maker_install c v f cuts)
 
-  -- it is told its last entries
+  -- it delivers its last entries
   finishes-out : (s : System S) (c : Core S) (v : View) (f : FlushModel) (cuts : Cuts) → Law meaning → Invariant meaning s → Fact s.history c.me c
       → MayFinish c v f cuts → IsReady meaning s.history c v f cuts
       → GoesOut meaning s.history (before_by s.history c v cuts) c (last_entries c v cuts)
@@ -127,7 +127,7 @@ module _ {S : Type 0} (meaning : Meaning S) where
       subst (λ (a : ViewId). state_with meaning a (list_of f.proposal.creator a t) t ≡ entry_state meaning f.proposal t)
       (same_Some v.id u (sym (ap id_of is) ∙ sym from ∙ left)) now
 
-  -- the coordinator was told its view's order up to the end of its cut
+  -- the coordinator has delivered its view's order up to the end of its cut
   ends-at : (h h1 : History) (c : Core S) (v : View) (f : FlushModel) (cuts : Cuts) (i : Install) → c.view ≡ Some v → IsReady meaning h c v f cuts
       → GoesOut meaning h h1 c (last_entries c v cuts) → (u : ViewId) → id_of c.view ≡ Some u
       → length (list_of c.me u (h1.trace ++ Installed i ∷ [])) ≡ cuts.base u + length (cuts.items u)

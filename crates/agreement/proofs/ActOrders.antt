@@ -1,4 +1,4 @@
--- The act Orders: a view's coordinator orders the next message of a sender, and is told it by that.
+-- The act Orders: a view's coordinator orders the next message of a sender, and delivers it by that.
 use Rattle.std.proofs.Common.{◌≡◌, ℕ, ◌+◌, ◌<◌, ◌≤◌, Bool, true, false, cond, Some, List, [], ◌∷◌, ◌++◌, length, refl, sym, ap, ◌∙◌, subst, arith, is_some, nat_eq}
 use Rattle.std.specs.Prelude.{slice_get}
 use Rattle.std.specs.Option.{option_map}
@@ -73,7 +73,7 @@ all-by false held new s d g e test more all past within =
     let low : g ≤ d = grind (arith, nat_tests) in
     ap is_some (more.now g ∙ cond-false (nat_eq g (d + 1)) (Some e) (held_at g held) test) ∙ all g past low
 
--- the window with the new entry at the number after those that were told
+-- the window with the new entry at the number after those that were delivered
 window-next : (t : List Event) (v : ViewId) (s d : ℕ) (old new : List (ℕ × Entry)) (e : Entry) → HasWindow t v s d old → IsOrdered t v (d + 1) e → d < s + WINDOW
     → HoldsMore old (d + 1) e new → HasWindow t v s (d + 1) new
 window-next t v s d old new e w is room more = record {

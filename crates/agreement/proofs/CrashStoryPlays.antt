@@ -1,4 +1,4 @@
--- The story of the crash of the first plays: each of its steps is allowed after those before, and the trace is the one that is told.
+-- The story of the crash of the first plays: each of its steps is allowed after those before, and the trace is the one that is written.
 use Rattle.std.proofs.Common.{◌≡◌, ℕ, zero, suc, ◌+◌, cond, Some, None, List, [], ◌∷◌, ◌++◌, refl, sym, ◌∙◌, arith, inl}
 use Rattle.std.specs.Prelude.{IsSome, slice_get, nat_eq}
 use Rattle.std.proofs.lemmas.Option.{none-some}

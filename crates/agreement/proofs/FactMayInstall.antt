@@ -41,7 +41,7 @@ use Rattle.agreement.proofs.FactOfFirstInstall.{none-of, unentered, MayMake}
 use Rattle.agreement.proofs.FactOfInstructions.{filter-within}
 use Rattle.agreement.proofs.FactOfFinished.{report-recorded, in-group}
 
--- ---- what those of a flush tell of their views
+-- ---- what those of a flush report of their views
 
 report-says : (b : Bool) (h : History) (p q : Address) (w : ViewId) (mine r : Report) (x : Address × Report) (u : ViewId) → same_address x.0 p ≡ b → EachPacket h → ForSome mine.previous (SaysOf h.trace p mine)
     → MatchBool b (x.1 ≡ mine) (report_of x.0 w h.pool ≡ Some x.1) → x.0 ≡ q → x.1 ≡ r → r.previous ≡ Some u → SaysOf h.trace q r u
@@ -54,7 +54,7 @@ report-says false h p q w mine r x u test each own one at is from =
     (subst (λ (a : Address). SaysOf h.trace a x.1 u) at
     ((report-fact h x.0 w x.1 each one).true_of u (ap (λ (z : Report). z.previous) is ∙ from)))
 
--- each report of a flush tells of its sender
+-- each report of a flush says what is so of its sender
 pub reports-say : (h : History) (p q : Address) (promise view : Option View) (traffic : Traffic) (kept : List (Address × wire.Install)) (f : FlushModel) (r : Report) (u : ViewId) → EachPacket h
     → RunsFlush h.pool p promise false view traffic f → ForSome view (ViewFact h p false traffic kept) → report_from q f.reports ≡ Some r → r.previous ≡ Some u → SaysOf h.trace q r u
 reports-say h p q promise view traffic kept f r u each runs inside said from =
@@ -80,7 +80,7 @@ came-by : (o : Option Report) (v : Option ViewId) → option_map_or (comes_from 
 came-by None v e = absurd (let n : false ≡ true = e in cc)
 came-by (Some r) v e = (r, refl, same-previous r.previous v e)
 
--- what is handed back is what was not told of what was sent
+-- what is handed back is what was not delivered of what was sent
 back-by : (o : Option View) (t : List Event) (p : Address) (rest : List Numbered) (entries : List Entry) → ((v : View) → o ≡ Some v → sent_in p v.id t ≡ own p (delivered_in p v.id t) ++ left_of p entries rest)
     → MatchOption (id_of o) (option_map_or (λ v. left_of p entries rest) o [] ≡ [])
     (λ v. option_map_or (λ v. left_of p entries rest) o [] ≡ drop (length (own p (delivered_in p v t))) (sent_in p v t))
@@ -90,7 +90,7 @@ back-by (Some v) t p rest entries sent =
 
 -- ---- the coordinator goes
 
--- the entries of its view that the coordinator is told last
+-- the entries of its view that the coordinator delivers last
 abbrev pub last_entries : {S : Type 0} → Core S → View → Cuts → List Entry
 last_entries c v cuts = undelivered c.traffic.delivered (cuts.base v.id) (cuts.items v.id)
 

@@ -28,7 +28,7 @@ pub option_eq-some : (o : Option ViewId) (v : ViewId) → option_eq same_view_id
 option_eq-some None v e = absurd (let n : false ≡ true = e in cc)
 option_eq-some (Some u) v e = ap Some (same_view_id-true u v e)
 
--- a report from a view, by somebody, that tells of it
+-- a report from a view, by somebody, that says what is so of it
 pub record IsReportFrom (t : List Event) (v : ViewId) (r : Report) : Type 0 where
   pub reporter : Address
   pub says_of : SaysOf t reporter r v

@@ -1,4 +1,4 @@
--- Who goes into a view as its coordinator told it agrees with all who went there: on the members, on the messages, on who came along, on the state.
+-- Who goes into a view as its coordinator instructs it agrees with all who went there: on the members, on the messages, on who came along, on the state.
 use Rattle.std.proofs.Common.{◌≡◌, ℕ, Bool, true, false, cond, Option, Some, None, List, [], ◌∷◌, ◌++◌, length, drop, refl, sym, ap, ◌∙◌, subst, is_some}
 use Rattle.std.specs.Prelude.{slice_get, MatchOption, IsSome, unwrap_or}
 use Rattle.std.specs.Option.{ForSome, option_map, option_and_then, option_eq}
@@ -37,7 +37,7 @@ use Rattle.agreement.proofs.KeepTrace.{rules-of}
 use Rattle.agreement.proofs.FactOfMeeting.{found, filter-passes, goes-reported, same-end, same-previous, together-exact}
 use Rattle.agreement.proofs.FactOfEntrants.{members-agree, comes-member, goes-passes, filter-within, same-list}
 
--- ---- what is so of a member that is about to go into a view as it was told
+-- ---- what is so of a member that is about to go into a view as it was instructed
 
 -- its install
 abbrev pub going : Address → wire.Install → Option ViewId → List Numbered → Install
@@ -51,7 +51,7 @@ going p i from back = record {
 }
 
 module _ {S : Type 0} (meaning : Meaning S) where
-  -- it runs, and has been told its last messages; the instruction is for its report
+  -- it runs, and has delivered its last messages; the instruction is for its report
   pub record IsReady (k : History) (p : Address) (i : wire.Install) (r : Report) (back : List Numbered) (s : S) : Type 0 where
     pub trace : TraceFact meaning k
     pub packets : EachPacket k

@@ -130,7 +130,7 @@ pub record IsPutOut (k : History) (p : Address) (mine : Report) (f : FlushModel)
   pub each : (q : Address) → stands_in q (others_of p f.members) ≡ true → install_of f.proposal q k.pool ≡ Some (instruction_for f cuts v state q)
   pub only : (q : Address) (j : wire.Install) → install_of f.proposal q k.pool ≡ Some j → (stands_in q (others_of p f.members) ≡ true) × (j ≡ instruction_for f cuts v state q)
   pub cut : (q : Address) (r : Report) (u : ViewId) → report_from q f.reports ≡ Some r → r.previous ≡ Some u → IsCutOf k.trace (cuts.base u) (cuts.items u) r u
-  -- the coordinator too was told its view's order up to the cut's end
+  -- the coordinator too has delivered its view's order up to the cut's end
   pub own_end : (u : ViewId) → mine.previous ≡ Some u → length (list_of p u k.trace) ≡ cuts.base u + length (cuts.items u)
 
 cut-as : (k : History) (cuts : Cuts) (r : Report) (o : Option ViewId) → ((u : ViewId) → o ≡ Some u → IsCutOf k.trace (cuts.base u) (cuts.items u) r u)
@@ -141,7 +141,7 @@ cut-as k cuts r (Some u) cut v from = subst (IsCutOf k.trace (cuts.base u) (cuts
 abbrev end_for : Cuts → Option ViewId → ℕ
 end_for cuts o = base_for cuts o + length (items_for cuts o)
 
--- who was told to go into the view has reported, and was told its own instruction
+-- who was instructed to go into the view has reported, and was given its own instruction
 pub instructed-report : (k : History) (p q : Address) (mine : Report) (f : FlushModel) (cuts : Cuts) (v : ViewId) (state : List ℕ) (e : Install) (j : wire.Install) → IsFinished k p mine f e
     → IsPutOut k p mine f cuts v state → install_of f.proposal q k.pool ≡ Some j
     → (r : Report) × (report_from q f.reports ≡ Some r) × (report_of q f.proposal k.pool ≡ Some r) × (j ≡ instruction f cuts v state q r)

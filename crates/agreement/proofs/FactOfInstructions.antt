@@ -108,7 +108,7 @@ nothing-by : (b c : Bool) (i : wire.Install) → c ≡ false → cond b (cond c 
 nothing-by true c i e = cond-false c (Some i) None e
 nothing-by false c i e = refl
 
--- of other views nothing is told
+-- of other views nothing is said
 pub install-still : (p : Address) (u : ViewId) (q : Address) (g : Address → wire.Install) (list : List Address) (pool : List Posted) → ((r : Address) → same_view_id (g r).view.id u ≡ false)
     → install_of u q (pool ++ instructing p g list) ≡ install_of u q pool
 unfolding install_of

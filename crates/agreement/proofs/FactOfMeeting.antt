@@ -1,4 +1,4 @@
--- Who goes into a view as it was told: it meets all who came from the same view at one end of its order, and knows who they are.
+-- Who goes into a view as it was instructed: it meets all who came from the same view at one end of its order, and knows who they are.
 use Rattle.std.proofs.Common.{◌≡◌, Bool, true, false, cond, Option, Some, None, List, [], ◌∷◌, length, filter, refl, sym, ap, ◌∙◌, is_some, ◌⊎◌, inl, inr}
 use Rattle.std.specs.Prelude.{◌↔◌}
 use Rattle.std.specs.Option.{option_map, option_map_or, option_eq}
@@ -29,7 +29,7 @@ goes-reported h w q r other report = cond-false (same_address q w.creator) _ _ o
 
 -- ---- one end
 
--- two who come from one view into another were told its order up to one end
+-- two who come from one view into another delivered its order up to one end
 same-end-by : (b : Bool) (h : History) (w v : ViewId) (p q : Address) (i : wire.Install) (r : Report) (f : Install) → same_address q w.creator ≡ b → IsLed h w i → IsFitting h w p i r
     → r.previous ≡ Some v → IsEntry h q w f → entry_of q w h.trace ≡ Some f → f.previous ≡ Some v → length (list_of q v h.trace) ≡ end_of i
 same-end-by true h w v p q i r f test led fits mine x entry from =

@@ -25,7 +25,7 @@ use Rattle.agreement.specs.Invariant.{NothingBefore}
 use Rattle.agreement.proofs.FactOfTally.{list_of-still, tally_of-push}
 use Rattle.agreement.proofs.KeepByInstall.{installed_on, entry-now}
 
--- who was told no message was told no entry
+-- where no message was delivered no entry was
 list-none : (p : Address) (v : ViewId) (t : List Event) → delivered_in p v t ≡ [] → list_of p v t ≡ []
 unfolding list_of
 list-none p v t e = ap (map entry_for) e
@@ -46,7 +46,7 @@ module _ {S : Type 0} (meaning : Meaning S) where
     pub is : meaning.is_state s
     pub begins : entry_state meaning i.view.id (installed_on h i).trace ≡ Some s
 
-  -- so it is open in that view, with nothing told, sent or held there yet
+  -- so it is open in that view, with nothing delivered, sent or held there yet
   pub arrives : (h : History) (c : Core S) (i : Install) (s : S) (kept : List (Address × wire.Install)) → Comes h c i s kept
       → MemberFact meaning (installed_on h i) c.me (gone_into i.view s kept c)
   arrives h c i s kept x =

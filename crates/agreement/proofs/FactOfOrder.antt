@@ -1,4 +1,4 @@
--- The next message of a view's order may be told: it was sent, and it is its sender's next.
+-- The next message of a view's order may be delivered: it was sent, and it is its sender's next.
 use Rattle.std.proofs.Common.{◌≡◌, ℕ, zero, suc, ◌+◌, Bool, true, false, cond, Some, None, List, [], ◌∷◌, length, map, take, refl, sym, ap, ◌∙◌}
 use Rattle.std.specs.Prelude.{slice_get}
 use Rattle.std.specs.List.{cons_option}
@@ -14,7 +14,7 @@ use Rattle.trace_props.proofs.FactOfPlaces.{IsBeginningOf-at}
 use Rattle.trace_props.proofs.FactOfObserved.{same_address-refl}
 use Rattle.agreement.specs.Words.{entry_for, message_for, list_of, order_of}
 
--- an entry of the order is the message that its coordinator was told there
+-- an entry of the order is the message that its coordinator delivered there
 message-at : (l : List Message) (k : ℕ) (e : Entry) → slice_get (map entry_for l) k ≡ Some e → slice_get l k ≡ Some (message_for e)
 message-at [] k e at = absurd (none-some e at)
 message-at (m ∷ l) zero e at = ap Some (ap message_for (same_Some (entry_for m) e at))
@@ -24,7 +24,7 @@ pub order-message : (v : ViewId) (t : List Event) (k : ℕ) (e : Entry) → slic
 unfolding list_of
 order-message v t k e at = message-at (delivered_in v.creator v t) k e at
 
--- as many messages were told as entries
+-- as many messages were delivered as entries
 pub many-delivered : (p : Address) (v : ViewId) (t : List Event) → length (list_of p v t) ≡ length (delivered_in p v t)
 unfolding list_of
 many-delivered p v t = by (delivered_in p v t)
@@ -48,7 +48,7 @@ own-place (x ∷ l) zero m at =
 own-place (x ∷ l) (suc k) m at =
     own-step (same_address x.sender m.sender) m.sender x m (own m.sender l) (own m.sender (take k l)) refl (own-place l k m at)
 
--- what is needed of a message that is told next
+-- what is needed of a message that is delivered next
 pub record IsNext (t : List Event) (p : Address) (v : ViewId) (m : Message) : Type 0 where
   pub number : m.number ≡ length (own m.sender (delivered_in p v t)) + 1
   pub sent : slice_get (sent_in m.sender v t) (length (own m.sender (delivered_in p v t))) ≡ Some (numbered m)

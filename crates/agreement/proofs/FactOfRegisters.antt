@@ -64,7 +64,7 @@ report-says w (bodies.Report proposal report) r e =
 report-says w (bodies.Install install) r e = absurd (none-some r e)
 report-says w (bodies.Merge view) r e = absurd (none-some r e)
 
--- what tells to go into a view is an INSTALL of it
+-- what instructs to go into a view is an INSTALL of it
 pub install-says : (w : ViewId) (b : Body) (i : wire.Install) → install_in w b ≡ Some i → (b ≡ bodies.Install i) × (i.view.id ≡ w)
 install-says w bodies.Join i e = absurd (none-some i e)
 install-says w (bodies.Redirect coordinator) i e = absurd (none-some i e)

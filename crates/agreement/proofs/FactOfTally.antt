@@ -13,12 +13,12 @@ use Rattle.agreement.specs.Words.{entry_for, list_of, Phase, Before, Open, Past,
 
 -- ---- the order
 
--- an event that tells nothing
+-- an event that delivers nothing
 pub list_of-still : (p : Address) (v : ViewId) (t : List Event) (h : Event) → delivered_message p v h ≡ None → list_of p v (t ++ h ∷ []) ≡ list_of p v t
 unfolding list_of
 list_of-still p v t h e = ap (map entry_for) (delivered_in-still p v t h e)
 
--- what another is told, or in another view
+-- what another delivers, or in another view
 pub list_of-miss : (p : Address) (v : ViewId) (t : List Event) (d : Delivery) → is_delivery_to p v d ≡ false → list_of p v (t ++ Delivered d ∷ []) ≡ list_of p v t
 unfolding list_of
 list_of-miss p v t d e = ap (map entry_for) (delivered_in-miss p v t d e)

@@ -118,7 +118,7 @@ module _ {S : Type 0} (meaning : Meaning S) where
     pub may : MayMake h.trace i
     pub state : state_of meaning c.me h.trace ≡ z
     pub is : meaning.is_state z
-    -- the packets are the coordinator's, and tell nobody to go into another view
+    -- the packets are the coordinator's, and instruct nobody to go into another view
     pub from : (n : ℕ) (m : Posted) → slice_get more n ≡ Some m → IsFrom c.me m
     pub other_installs : (w : ViewId) (q : Address) → same_view_id i.view.id w ≡ false → install_of w q (h.pool ++ more) ≡ install_of w q h.pool
     pub below : LiesBelow (h.pool ++ more) c.me (Some i.view)

@@ -75,7 +75,7 @@ begins-later meaning h k w e m kept entry there x v from =
     (x v from) there
     ∙ sym (state-same meaning w h k kept there)
 
--- where no view's coordinator installed anything, and nobody was told to
+-- where no view's coordinator installed anything, and nobody was instructed to
 pub states-kept : {S : Type 0} (meaning : Meaning S) (h k : History) → Later h k
     → ((v : ViewId) → entry_state meaning v k.trace ≡ entry_state meaning v h.trace)
     → ((w : ViewId) → entry_of w.creator w k.trace ≡ entry_of w.creator w h.trace)

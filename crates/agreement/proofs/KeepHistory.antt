@@ -48,14 +48,14 @@ pub record Later (h k : History) : Type 0 where
   pub report : (p : Address) (w : ViewId) (r : Report) → report_of p w h.pool ≡ Some r → report_of p w k.pool ≡ Some r
   pub install : (w : ViewId) (q : Address) (i : wire.Install) → install_of w q h.pool ≡ Some i → install_of w q k.pool ≡ Some i
   pub entry : (p : Address) (v : ViewId) (e : Install) → entry_of p v h.trace ≡ Some e → entry_of p v k.trace ≡ Some e
-  -- what was told and sent stays at its place
+  -- what was delivered and sent stays at its place
   pub list : (p : Address) (v : ViewId) (n : ℕ) (e : Entry) → slice_get (list_of p v h.trace) n ≡ Some e → slice_get (list_of p v k.trace) n ≡ Some e
   pub sent : (p : Address) (v : ViewId) (n : ℕ) (m : Numbered) → slice_get (sent_in p v h.trace) n ≡ Some m → slice_get (sent_in p v k.trace) n ≡ Some m
-  -- who left a view is told nothing more there
+  -- who left a view delivers nothing more there
   pub left : (p : Address) (v w : ViewId) (e : Install) → entry_of p w h.trace ≡ Some e → e.previous ≡ Some v → list_of p v k.trace ≡ list_of p v h.trace
   pub count : (p : Address) (v : ViewId) → open_count p v h.trace ≤ open_count p v k.trace
   pub closed : (p : Address) (v : ViewId) → IsClosed p v h.trace → tally_of p v k.trace ≡ tally_of p v h.trace
-  -- once a view's coordinator has installed it nobody else is told to
+  -- once a view's coordinator has installed it nobody else is instructed to
   pub installs : (w : ViewId) (q : Address) → is_some (entry_of w.creator w h.trace) ≡ true → install_of w q k.pool ≡ install_of w q h.pool
 
 pub later-refl : (h : History) → Later h h
@@ -96,7 +96,7 @@ later-trans h k l a b = record {
 
 -- ---- packets more
 
--- no packet tells one to go into a view that its coordinator has installed
+-- no packet instructs one to go into a view that its coordinator has installed
 pub record InstructsNobodyNew (h : History) (more : List Posted) : Type 0 where
   pub same : (w : ViewId) (q : Address) → is_some (entry_of w.creator w h.trace) ≡ true → install_of w q (h.pool ++ more) ≡ install_of w q h.pool
 

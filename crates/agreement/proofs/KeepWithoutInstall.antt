@@ -28,7 +28,7 @@ use Rattle.agreement.proofs.KeepOthers.{Only, OnlyState, IsFrom, only-refl, only
 use Rattle.agreement.proofs.KeepTrace.{IsProper, stands-of, views-of, trace-push, trace-packets, only-state, only_state-refl, only_state-trans}
 use Rattle.agreement.proofs.KeepByMove.{NoInstall, Moves, packets-later, entries-later, states-later}
 
--- from one history to a later one only p did something, and nobody went into a view or was told to
+-- from one history to a later one only p did something, and nobody went into a view or was instructed to
 pub record Quiet {S : Type 0} (meaning : Meaning S) (p : Address) (h k : History) : Type 0 where
   pub later : Later h k
   pub only : Only p h k
@@ -88,7 +88,7 @@ module _ {S : Type 0} (meaning : Meaning S) where
 
   -- PACKETS
 
-  -- a packet that tells nobody to go into a view
+  -- a packet that instructs nobody to go into a view
   pub instructs-none : (w : ViewId) (q : Address) (pool more : List Posted) → ((k : ℕ) (m : Posted) → slice_get more k ≡ Some m → install_in w m.body ≡ None)
       → histories.install_of w q (pool ++ more) ≡ histories.install_of w q pool
   unfolding histories.install_of

@@ -1,4 +1,4 @@
--- The story of the leave of the first plays: each of its steps is allowed after those before, and the trace is the one that is told.
+-- The story of the leave of the first plays: each of its steps is allowed after those before, and the trace is the one that is written.
 use Rattle.std.proofs.Common.{◌≡◌, ℕ, zero, suc, ◌≤◌, ◌<◌, max, Bool, true, false, cond, ◌||◌, Some, List, [], ◌∷◌, ◌++◌, refl, arith, inl}
 use Rattle.std.specs.Prelude.{IsSome}
 use Rattle.std.proofs.lemmas.Bool.Decides.{nat_tests}

@@ -1,4 +1,4 @@
--- The story of the two halves plays: each of its steps is allowed after those before, and the trace is the one that is told.
+-- The story of the two halves plays: each of its steps is allowed after those before, and the trace is the one that is written.
 use Rattle.std.proofs.Common.{◌≡◌, ℕ, zero, suc, ◌+◌, Some, None, List, [], ◌∷◌, ◌++◌, refl, sym, ap, ◌∙◌, is_some, arith, inl}
 use Rattle.std.specs.Prelude.{IsSome, slice_get, length, ◌≤◌}
 use Rattle.std.proofs.lemmas.Option.{none-some}

@@ -45,7 +45,7 @@ pub data Act : Type 0 where
   Collects : View → ℕ → List (ℕ × Entry) → Act
   -- holds an entry at its number: what is held afterwards
   Holds : View → ℕ → Entry → List (ℕ × Entry) → Act
-  -- is told the next entry that it holds
+  -- delivers the next entry that it holds
   Delivers : View → Entry → Act
   -- promises the proposal of another
   Promises : View → Act
@@ -213,7 +213,7 @@ pub record MayFinish {S : Type 0} (c : Core S) (v : View) (f : FlushModel) (cuts
   pub cut : (q : Address) (r : Report) (u : ViewId) → report_from q f.reports ≡ Some r → r.previous ≡ Some u
       → IsCut (group (Some u) f.reports) (cuts.base u) (cuts.items u)
 
--- who comes from no view is told no messages and given a state
+-- who comes from no view is delivered no messages and given a state
 pub record IsForNewcomer (i : wire.Install) : Type 0 where
   pub base : i.base ≡ 0
   pub items : i.items ≡ []
@@ -276,7 +276,7 @@ begun w c = record { proposal = w.id; members = w.members; reports = (c.me, repo
 abbrev pub undelivered : ℕ → ℕ → List Entry → List Entry
 undelivered delivered base items = drop (delivered - base) items
 
--- what a member is told when it goes from a view by a cut; nothing without a view
+-- what a member delivers when it goes from a view by a cut; nothing without a view
 abbrev pub delivered_at : {S : Type 0} → Core S → ℕ → List Entry → List Entry
 delivered_at c base items = option_map_or (λ v. undelivered c.traffic.delivered base items) c.view []
 
@@ -379,11 +379,11 @@ packets_of meaning c Leaves = []
 abbrev pub delivery : Address → ViewId → Entry → Event
 delivery p v e = Delivered (record { member = p; view = v; message = message_for e })
 
--- a member is told entries in the view from which it goes
+-- a member delivers entries in the view from which it goes
 abbrev pub deliveries : Address → Option View → List Entry → List Event
 deliveries p v entries = option_map_or (λ u. map (delivery p u.id) entries) v []
 
--- a member goes into a view: it is told some last entries, and what was not told of its own messages is handed back
+-- a member goes into a view: it delivers some last entries, and what was not delivered of its own messages is handed back
 abbrev pub entering : {S : Type 0} → Core S → List Entry → View → List Address → Option (List ℕ) → List Event
 entering c entries w together given =
     deliveries c.me c.view entries

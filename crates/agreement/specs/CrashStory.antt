@@ -1,5 +1,5 @@
--- The crash of the first: three members come together, the first orders two messages, of which the second is told one, and crashes; the second takes
--- over, and is told the other by the cut.
+-- The crash of the first: three members come together, the first orders two messages, of which the second delivers one, and crashes; the second takes
+-- over, and delivers the other by the cut.
 use Rattle.std.specs.Prelude.{ℕ, None, Some, List, [], ◌∷◌, ◌++◌, take}
 use Rattle.address.specs.Ids.{Address}
 use Rattle.packet_values.specs.Values.{Entry}
@@ -59,7 +59,7 @@ messages_chapter =
     ∷ Does three (Some 14) (Puts one (bodies.Ack view_of_three.id 2))
     ∷ []
 
--- the first crashes, and the second takes over: it is told the message that it missed
+-- the first crashes, and the second takes over: it delivers the message that it missed
 abbrev pub crash_chapter : List Step
 crash_chapter =
     Crash one

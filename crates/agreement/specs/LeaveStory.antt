@@ -17,7 +17,7 @@ use Rattle.agreement.specs.Stories.{Plays, one, two, three, view_of_three, view_
 abbrev pub entry_of_two : Entry
 entry_of_two = record { sender = two; number = 1; payload = message_a }
 
--- the report of one that was told one message, and has let go of it
+-- the report of one that delivered one message, and has let go of it
 abbrev pub delivered_stable : Report
 delivered_stable = record { previous = Some view_of_three.id; stable = 1; delivered = 1; held = [] }
 
@@ -32,7 +32,7 @@ stable_cuts = record { base = λ v. 1; items = λ v. [] }
 abbrev pub for_third : wire.Install
 for_third = record { view = view_of_rest; together = two ∷ three ∷ []; base = 1; items = []; state = None }
 
--- the second sends a message, the first orders it, all are told it, and the first and the second learn that it is stable
+-- the second sends a message, the first orders it, all deliver it, and the first and the second learn that it is stable
 abbrev pub stable_chapter : List Step
 stable_chapter =
     Does two None (Sends view_of_three message_a)
@@ -58,7 +58,7 @@ stable_chapter =
     ∷ Does two (Some 16) (Collects view_of_three 1 [])
     ∷ []
 
--- the second sends another message, which is lost; the first tells that it leaves, and leaves
+-- the second sends another message, which is lost; the first says that it leaves, and leaves
 abbrev pub leave_chapter : List Step
 leave_chapter =
     Does two None (Sends view_of_three message_b)

@@ -1,5 +1,5 @@
 -- Two halves: four members come together and fall into two halves, in each of which a message is ordered; the halves merge. The second half is given the
--- state of the first, and the fourth member is told the message of its own half that it lacks.
+-- state of the first, and the fourth member delivers the message of its own half that it lacks.
 use Rattle.std.specs.Prelude.{ℕ, None, Some, List, [], ◌∷◌, ◌++◌, take, if◌then◌else◌}
 use Rattle.address.specs.Ids.{Address, same_view_id}
 use Rattle.view.specs.Members.{View}
@@ -64,7 +64,7 @@ all_reports =
 abbrev pub half_cuts : Cuts
 half_cuts = record { base = λ v. 0; items = λ v. if same_view_id v first_half.id then entry_of_one ∷ [] else entry_of_three ∷ [] }
 
--- the instruction to one that comes from another view: it is told what that one lacks, and given this state
+-- the instruction to one that comes from another view: it has the messages that that one lacks, and this state
 abbrev pub for_merged : View → List Address → List Entry → List ℕ → wire.Install
 for_merged w together items state = record { view = w; together = together; base = 0; items = items; state = Some state }
 
@@ -103,7 +103,7 @@ parting_chapter =
     ∷ Does four (Some 28) (Enters (for_companion second_half (three ∷ four ∷ []) []))
     ∷ []
 
--- a message in each half; the fourth is not told that of the third
+-- a message in each half; that of the third is not delivered to the fourth
 abbrev pub apart_chapter : List Step
 apart_chapter =
     Does one None (Sends first_half message_a)
@@ -123,7 +123,7 @@ apart_chapter =
     ∷ Does three None (Collects second_half 0 (held_first entry_of_three))
     ∷ []
 
--- the halves merge: the second is given the state of the first, and the fourth is told what it lacks
+-- the halves merge: the second is given the state of the first, and the fourth delivers what it lacks
 abbrev pub merge_chapter : List ℕ → List Step
 merge_chapter state =
     Does three None (Puts one (bodies.Merge second_half))

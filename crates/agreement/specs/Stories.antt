@@ -1,4 +1,4 @@
--- Stories: lists of steps, as the law speaks of them, told in full. This is what all of them have alike: who takes part, how three come together.
+-- Stories: lists of steps, as the law speaks of them, written in full. This is what all of them have alike: who takes part, how three come together.
 use Rattle.std.specs.Prelude.{◌≡◌, ℕ, Option, None, Some, List, [], ◌∷◌, ◌++◌, take}
 use Rattle.address.specs.Ids.{Address, ViewId}
 use Rattle.view.specs.Members.{View}
@@ -53,11 +53,11 @@ message_b = 98 ∷ []
 abbrev pub held_first : Entry → List (ℕ × Entry)
 held_first e = (1, e) ∷ []
 
--- the report of one that was told nothing in its view
+-- the report of one that delivered nothing in its view
 abbrev pub delivered_nothing : View → Report
 delivered_nothing v = record { previous = Some v.id; stable = 0; delivered = 0; held = [] }
 
--- the report of one that was told one message
+-- the report of one that delivered one message
 abbrev pub delivered_first : View → Entry → Report
 delivered_first v e = record { previous = Some v.id; stable = 0; delivered = 1; held = held_first e }
 

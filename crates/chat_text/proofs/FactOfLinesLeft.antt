@@ -1,4 +1,4 @@
--- The lines of a chat that are not told yet.
+-- The lines of a chat that are not printed yet.
 use Rattle.std.proofs.Common.{◌≡◌, ℕ, zero, suc, ◌+◌, List, [], ◌∷◌, ◌++◌, Some, None, drop, refl, ap, sym, ◌∙◌, append_assoc, append-nil, slice_get, arith}
 use Rattle.chat_log.specs.declared.lines.Line.{Line}
 use Rattle.vsync_text.specs.TraceText.{GoesOnFrom}
@@ -16,7 +16,7 @@ past-end [] (suc i) e = refl
 past-end (x ∷ xs) zero e = absurd (let bad : Some x ≡ None = e in cc)
 past-end (x ∷ xs) (suc i) e = past-end xs i e
 
--- one line more is told
+-- one line more is printed
 pub printed-one : (lines : List Line) (i : ℕ) (l : Line) (old now new all : List ℕ) → slice_get lines i ≡ Some l
     → (now ++ text_of_more (drop i lines) ≡ all) × GoesOnFrom old now → new ≡ now ++ 44 ∷ text_of_said l.sender l.payload → GoesOnFrom now new
     → (new ++ text_of_more (drop (i + 1) lines) ≡ all) × GoesOnFrom old new
@@ -29,6 +29,6 @@ printed-one lines i l old now new all here kept more front =
       goes_on old now new kept.1 front,
     )
 
--- all is told
+-- all is printed
 pub printed-all : (lines : List Line) (i : ℕ) (now all : List ℕ) → slice_get lines i ≡ None → now ++ text_of_more (drop i lines) ≡ all → now ≡ all
 printed-all lines i now all none kept = sym (append-nil now) ∙ ap (λ (t : List Line). now ++ text_of_more t) (sym (past-end lines i none)) ∙ kept

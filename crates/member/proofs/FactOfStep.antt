@@ -355,7 +355,7 @@ module _ {S : Type 0} (meaning : Meaning S) (p : Address) (group : List ℕ) whe
       ok-handled old old Tick start out nothing (did None) refl refl (calm-quiet 0 start out nothing calm, refl) tt (refl, ticks)
       (λ i. (same-nothing start out nothing (idle (not-so (is_connected old) i)), refl)) (calm-few 0 start out nothing calm (omega arith)) runs
 
-  -- ---- it is told of others
+  -- ---- it hears of others
 
   suspect-off : (q : Address) (old new : Life S) (start out : Output) → is_connected old ≡ false → OnSuspect meaning group p q old new start out → is_connected new ≡ is_connected old
   suspect-off q old new start out off x =

@@ -165,7 +165,7 @@ module _ {S : Type 0} (meaning : Meaning S) (group : List ℕ) (me : Address) wh
       let same : old ≡ record old { traffic = None } = λ j. record old { traffic = none j } in
       subst (λ (l : Life S). DidThis came l new out later) (sym same) (asked-at came contact old new out later (subst (λ (l : Life S). Asks group me contact l new out later) same z))
 
-  -- ---- it tells of its view, and whom to ask
+  -- ---- it announces its view, and says whom to ask
 
   redirect-acted : (came : Option Posted) (o : Option Address) (q : Address) (l : Life S) → PutsOut came l (option_map_or (λ p. packet me (bodies.Redirect p) q ∷ []) o [])
   redirect-acted came None q l = nothing-acted meaning came (Some (core_of me l))

@@ -173,7 +173,7 @@ fn note_joiner<R: Receiver>(
     }
 }
 
-// One asks to be let in, where earlier incarnations of its node are suspected already: it is noted, and what is due is begun; or it is told whom to ask.
+// One asks to be let in, where earlier incarnations of its node are suspected already: it is noted, and what is due is begun; or it is redirected.
 fn admit<R: Receiver>(
     life: &mut Life<R>,
     who: &Identity,

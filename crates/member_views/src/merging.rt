@@ -57,7 +57,7 @@ fn say(who: &Identity, view: &View, address: Address, out: &mut Output) -> Resul
     Ok(())
 }
 
-/// A member of another view may be at an address: it is told of this view by a MERGE, where this member leads the view and is not blocked, and the
+/// A member of another view may be at an address: a MERGE announces this view to it, where this member leads the view and is not blocked, and the
 /// address is not in the view (docs/PROTOCOL.md, "Merging"). After an error for want of memory nothing is said of what was put out.
 pub fn announce_view<R: Receiver>(
     life: &Life<R>,
@@ -77,7 +77,7 @@ pub fn announce_view<R: Receiver>(
     }
 }
 
-// The view that a MERGE tells of.
+// The view that a MERGE announces.
 fn view_from(alloc: Global, roster: &Roster) -> Result<View, AllocError>
     ensures { IfOk result (λ v. v ≡ roster.now) }
 {
@@ -144,7 +144,7 @@ fn meet<R: Receiver>(
     Ok(())
 }
 
-/// MERGE: there is another view. A member that leads its own tells a lesser address of it, and notes those of a greater one's and begins what is due; one that
+/// MERGE: there is another view. A member that leads its own announces it to a lesser address, notes those of a greater one's and begins what is due; one that
 /// does not lead says whom to ask (docs/PROTOCOL.md, "Merging"). Ignored without a view and from a member of the own one. After an error for want
 /// of memory nothing is said of the member.
 pub fn on_merge<R: Receiver>(

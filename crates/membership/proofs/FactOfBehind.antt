@@ -1,4 +1,4 @@
--- Who offers less than what was promised is told the promised counter.
+-- Who offers less than what was promised is answered with the promised counter.
 use Rattle.std.proofs.Common.{◌≡◌, ℕ, Bool, true, false, cond, Option, Some, List, [], ◌∷◌, refl, sym, ap, ◌∙◌, subst}
 use Rattle.std.specs.Option.{option_map_or}
 use Rattle.std.specs.declared.cmp.Ordering.{Ordering}

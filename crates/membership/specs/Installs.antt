@@ -61,7 +61,7 @@ delivered_by f t = undelivered (traffic_of t).delivered ((cuts_of f).base (view_
 abbrev pub own_of : Address → List Entry → ℕ
 own_of me entries = length (own me (map message_for entries))
 
--- its creator is told the view that it proposed
+-- its creator installs the view that it proposed
 abbrev pub going : Address → FlushModel → Traffic → ℕ → Event
 going me f t n = Installed (record {
   member = me;
@@ -98,7 +98,7 @@ left_in traffic n = option_map_or (λ t. drop n (traffic_of t).outstanding) traf
 abbrev pub state_by : {S : Type 0} → Meaning S → Option Traffic → wire.Install → S → S
 state_by meaning traffic i s = unwrap_or (option_and_then meaning.decode i.state) (applied meaning s (lacking traffic i))
 
--- it is told the view
+-- it installs the view
 abbrev pub arriving : Address → Option Traffic → wire.Install → ℕ → Event
 arriving me traffic i n = Installed (record {
   member = me;

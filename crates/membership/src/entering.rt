@@ -152,7 +152,7 @@ fn id_in(traffic: &Option<Traffic>) -> Option<ViewId>
     }
 }
 
-// Tells the view of an INSTALL.
+// Installs the view of an INSTALL: the event is recorded.
 fn install_view(
     who: &Identity,
     traffic: Option<Traffic>,
@@ -200,7 +200,7 @@ impl<R: Receiver> Life<R> {
         Ok(())
     }
 
-    // It is told the view, and begins there anew.
+    // It installs the view, and begins there anew.
     fn arrive(
         &mut self,
         who: &Identity,

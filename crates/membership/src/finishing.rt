@@ -1,4 +1,4 @@
-//! What a finished flush says: what its creator is delivered and told, and what it says to each other of the list.
+//! What a finished flush says: what its creator delivers and installs, and what it says to each other of the list.
 
 ghost use Rattle.std.specs.Prelude.{◌≡◌, ◌≤◌, ◌++◌, drop, [], ◌∷◌, OnOk, IfOk, Some, None, length, map, true};
 ghost use Rattle.std.specs.List.{flat_map, AllByRecursion};
@@ -236,7 +236,7 @@ fn deliver_cut<R: Receiver>(
     Ok(own_of(&who.address, lacking))
 }
 
-// Tells the creator of a flush the view that it proposed.
+// The creator of a flush installs the view that it proposed: the event is recorded.
 fn install_view(
     who: &Identity,
     flush: &Flush,
@@ -265,7 +265,7 @@ fn install_view(
     )
 }
 
-// Finishes a flush to which all of its list have reported: what its creator is delivered and told, and what it says to the others.
+// Finishes a flush to which all of its list have reported: what its creator delivers and installs, and what it says to the others.
 pub(crate) fn finish<R: Receiver>(
     who: &Identity,
     flush: &Flush,

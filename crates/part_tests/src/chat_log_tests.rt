@@ -164,7 +164,7 @@ fn a_state_of_25_lines_is_refused(rt: HostRuntime) {
     assert!(rt; are_refused(rt.alloc(), &state));
 }
 
-// A chat that was told the bytes 1 to 25 by a sender, one a message.
+// A chat that was delivered the bytes 1 to 25 by a sender, one a message.
 fn delivered_25(alloc: Global, sender: Address) -> Result<ChatLog, AllocError> {
     let mut chat = ChatLog::opening(alloc)?;
     for number in 1..26u8 {

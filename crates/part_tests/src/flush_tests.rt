@@ -29,7 +29,7 @@ fn report<'a>(view: u64, stable: u64, delivered: u64, held: &'a [[u8; 25]]) -> O
     )
 }
 
-/// Whether the flush stands so once a node's report is told.
+/// Whether the flush stands so once a node has reported.
 fn stands(flush: &mut Flush, node: u16, report: Option<Report<'_>>, progress: Progress) -> bool
     requires { 1 ≤ node }
 {
@@ -39,14 +39,14 @@ fn stands(flush: &mut Flush, node: u16, report: Option<Report<'_>>, progress: Pr
     }
 }
 
-/// Whether the flush waits on once a node has told that it comes from no view.
+/// Whether the flush waits on once a node has reported that it comes from no view.
 fn waits(flush: &mut Flush, node: u16) -> bool
     requires { 1 ≤ node }
 {
     stands(flush, node, Some(Report::nothing()), Progress::Waiting)
 }
 
-/// Whether the flush is complete once a node has told that it comes from no view.
+/// Whether the flush is complete once a node has reported that it comes from no view.
 fn is_complete(flush: &mut Flush, node: u16) -> bool
     requires { 1 ≤ node }
 {

@@ -1,4 +1,4 @@
-//! How often a receiver is told of a view, and that its member is blocked: once at each install, and once at each block.
+//! How often a receiver is given a view, and called because its member is blocked: once at each install, and once at each block.
 
 use crate::last::Last;
 use address::{Address, Node};
@@ -42,7 +42,7 @@ fn flushed_twice(alloc: Global) -> Option<World<Last>> {
     Some(world)
 }
 
-/// How many views the receiver of a node was told, and how often that its member is blocked.
+/// How many views the receiver of a node was given, and how often it was called because its member is blocked.
 fn calls_at(world: &World<Last>, number: u16) -> Option<(usize, usize)> {
     let receiver = world.receiver(node(number))?;
     Some((receiver.installs, receiver.blocks))
@@ -55,9 +55,9 @@ fn a_receiver_is_given_each_view_and_each_block_once(rt: HostRuntime) {
     let second = calls_at(&world, 2);
     assert!(rt;
         first == Some((2, 1)),
-        "the coordinator is told two views, and once that it is blocked"
+        "the coordinator is given two views, and is blocked once"
     );
-    assert!(rt; second == Some((1, 0)), "the newcomer is told one view");
+    assert!(rt; second == Some((1, 0)), "the newcomer is given one view");
 }
 
 #[test]
@@ -66,6 +66,6 @@ fn a_flush_that_comes_again_blocks_once(rt: HostRuntime) {
     let second = calls_at(&world, 2);
     assert!(rt;
         second == Some((1, 1)),
-        "2.1 is told once that it is blocked"
+        "2.1 is blocked once"
     );
 }

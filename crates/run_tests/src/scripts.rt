@@ -77,7 +77,7 @@ const MERGE: [u8; 43] = [
     0, 0, 0, 0, 0, 1, 0, 1, 0, 0, 0, 1, 1, 0, 1, 0, 0, 0, 1,
 ];
 
-/// The world in which the member of a node is alone, suspects another and is told that it may be reached.
+/// The world in which the member of a node is alone, suspects another and is given the hint that it may be reached.
 fn world_of_a_hint(alloc: Global, node: Node, other: Address) -> Option<World<ChatLog>> {
     let events = [
         WorldEvent::Start(node),
@@ -119,7 +119,7 @@ impl Read for Failing {
     }
 }
 
-/// What the packets of a script are told as, and the status.
+/// What the packets of a script are printed as, and the status.
 fn packets_of(alloc: Global, script: &[u8]) -> (Vec<u8>, Status) {
     let mut reader = script;
     let mut output = Vec::new(alloc);

@@ -106,7 +106,7 @@ impl Forwards {
         }
     }
 
-    /// Copies of the outstanding messages but the oldest `told`, by number, as they are handed back. An error comes for want of memory.
+    /// Copies of the outstanding messages but the oldest `past`, by number, as they are handed back. An error comes for want of memory.
     pub fn handed_back(&self, past: usize) -> Result<HandedBack, AllocError>
         ensures value { IfOk result (λ h. h ≡ drop past self.now.rest) }
         ensures short { IfOk result AreShort }

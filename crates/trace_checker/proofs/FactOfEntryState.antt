@@ -147,7 +147,7 @@ module _ {S : Type 0} (meaning : Meaning S)
 pub of-install : (P : Event → Type 0) (h : Event) (i : Install) → Some i ≡ install_of h → P (Installed i) → P h
 of-install P h i e p = subst P (sym (install_of-some h i (sym e))) p
 
--- a message that is told keeps the rule on states
+-- a message that is delivered keeps the rule on states
 pub of-delivery : {S : Type 0} (meaning : Meaning S) (P : List Event → Type 0) (t : List Event) (h : Event) (d : Delivery) → Some d ≡ delivery_of h
     → P (t ++ Delivered d ∷ []) → MayEnter meaning t h × P (t ++ h ∷ [])
 of-delivery meaning P t h d e p =

@@ -47,7 +47,7 @@ pub sent-noted : {Z : Type 0} (m n : Seat → Option (Vec (Bor Numbered) Z)) (t 
     → KnowsSent m t → KnowsSent n (t ++ Sent s ∷ [])
 sent-noted m n t s updates r seat = updates seat ∙ sent-at t s seat (listed (m seat)) (same_seat (record { view = s.view; member = s.member }) seat) refl (r seat)
 
--- what tells nothing leaves what is kept of messages that were told
+-- what delivers nothing leaves what is kept of messages that were delivered
 pub delivered-still : {Z : Type 0} (m : Seat → Option (Vec (Bor Message) Z)) (t : List Event) (h : Event) → ((p : Address) (v : ViewId) → delivered_message p v h ≡ None) → KnowsDelivered m t → KnowsDelivered m (t ++ h ∷ [])
 delivered-still m t h none r s = r s ∙ sym (delivered_in-still s.member s.view t h (none s.member s.view))
 
@@ -56,7 +56,7 @@ delivered-at : (t : List Event) (d : Delivery) (seat : Seat) (l : List Message) 
 delivered-at t d seat l true e r = ap (λ ms. ms ++ d.message ∷ []) r ∙ sym (delivered_in-hit seat.member seat.view t d (and-swap (same_address d.member seat.member) (same_view_id d.view seat.view) ∙ e))
 delivered-at t d seat l false e r = r ∙ sym (delivered_in-miss seat.member seat.view t d (and-swap (same_address d.member seat.member) (same_view_id d.view seat.view) ∙ e))
 
--- a message that is told is kept
+-- a message that is delivered is kept
 pub delivered-noted : {Z : Type 0} (m n : Seat → Option (Vec (Bor Message) Z)) (t : List Event) (d : Delivery)
     → ((seat : Seat) → listed (n seat) ≡ cond (same_seat (record { view = d.view; member = d.member }) seat) (listed (m seat) ++ d.message ∷ []) (listed (m seat)))
     → KnowsDelivered m t → KnowsDelivered n (t ++ Delivered d ∷ [])
@@ -64,14 +64,14 @@ delivered-noted m n t d updates r seat = updates seat ∙ delivered-at t d seat 
 
 -- NUMBERS
 
--- what tells nothing leaves the numbers
+-- what delivers nothing leaves the numbers
 pub last-still : (m : Pair → Option ℕ) (t : List Event) (h : Event) → ((p : Address) (v : ViewId) → delivered_message p v h ≡ None) → KnowsLast m t → KnowsLast m (t ++ h ∷ [])
 last-still m t h none r s = r s ∙ ap (λ l. length (own s.sender l)) (sym (delivered_in-still s.seat.member s.seat.view t h (none s.seat.member s.seat.view)))
 
 abbrev pub pair_of : Delivery → Pair
 pair_of d = record { seat = record { view = d.view; member = d.member }; sender = d.message.sender }
 
--- the number of a sender's next message is one more than how many were told
+-- the number of a sender's next message is one more than how many were delivered
 number-next : (t : List Event) (d : Delivery) (p q : Address) (v : ViewId) → d.member ≡ p → d.view ≡ v → d.message.sender ≡ q → MayCarry t (Delivered d)
     → d.message.number ≡ length (own q (delivered_in p v t)) + 1
 number-next t d p q v a b c m =
@@ -90,7 +90,7 @@ last-at m t d s true true e f may r =
     ∙ ap length (sym (own-hit s.sender (delivered_in s.seat.member s.seat.view t) d.message f))
     ∙ ap (λ l. length (own s.sender l)) (sym (delivered_in-hit s.seat.member s.seat.view t d e))
 
--- the number of a message that is told is kept
+-- the number of a message that is delivered is kept
 pub last-noted : (m n : Pair → Option ℕ) (t : List Event) (d : Delivery)
     → ((s : Pair) → n s ≡ cond (same_pair (pair_of d) s) (Some d.message.number) (m s))
     → MayCarry t (Delivered d) → KnowsLast m t → KnowsLast n (t ++ Delivered d ∷ [])
@@ -188,7 +188,7 @@ pub way-none : (m : Way → Option (Bor Install)) (t : List Event) (i : Install)
 way-none m t i none r k =
     r k ∙ sym (register-push (goes k.from k.to) t i ∙ ap (λ b. option_or (first_from k.from k.to t) (cond b (Some i) None)) (ap (λ o. same_view_id i.view.id k.to && is_view k.from o) none ∙ and_right (same_view_id i.view.id k.to) false refl) ∙ or-none (first_from k.from k.to t))
 
--- BY WHAT A EVENT TELLS
+-- BY WHAT AN EVENT SAYS
 
 -- an event that gives a message sends it
 pub sending-is : (h : Event) (s : Sending) → sending_of h ≡ Some s → h ≡ Sent s
@@ -209,7 +209,7 @@ sending-none (Installed i) e p v = refl
 sending-none (Left q) e p v = refl
 sending-none (Crashed q) e p v = refl
 
--- an event that gives a delivery tells it
+-- an event that gives a delivery is that delivery
 pub delivery-is : (h : Event) (d : Delivery) → delivery_of h ≡ Some d → h ≡ Delivered d
 delivery-is (Started q) s e = absurd (none-some s e)
 delivery-is (Sent x) s e = absurd (none-some s e)
@@ -238,11 +238,11 @@ pub a-sending : {Z : Type 0} (m n : Seat → Option (Vec (Bor Numbered) Z)) (t :
     → KnowsSent m t → KnowsSent n (t ++ h ∷ [])
 a-sending m n t h s e updates r = subst (λ (x : Event). KnowsSent n (t ++ x ∷ [])) (sym (sending-is h s (sym e))) (sent-noted m n t s updates r)
 
--- an event that tells nothing
+-- an event that delivers nothing
 pub no-delivery : {Z : Type 0} (m : Seat → Option (Vec (Bor Message) Z)) (t : List Event) (h : Event) → None ≡ delivery_of h → KnowsDelivered m t → KnowsDelivered m (t ++ h ∷ [])
 no-delivery m t h e r = delivered-still m t h (delivery-none h (sym e)) r
 
--- one that tells
+-- one that delivers
 pub a-delivery : {Z : Type 0} (m n : Seat → Option (Vec (Bor Message) Z)) (t : List Event) (h : Event) (d : Delivery) → Some d ≡ delivery_of h
     → ((seat : Seat) → listed (n seat) ≡ cond (same_seat (record { view = d.view; member = d.member }) seat) (listed (m seat) ++ d.message ∷ []) (listed (m seat)))
     → KnowsDelivered m t → KnowsDelivered n (t ++ h ∷ [])

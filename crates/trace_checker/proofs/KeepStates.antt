@@ -46,7 +46,7 @@ knows-still meaning m e t h same none r = record {
   are_entered = λ v s x. r.are_entered v s (sym (entry_state-still meaning v t h (none v)) ∙ x);
 }
 
--- an event that tells nothing and installs nothing
+-- an event that delivers nothing and installs nothing
 pub nothing-known : {S : Type 0} (meaning : Meaning S)
     (m : Address → Option S) (e : ViewId → Option (List ℕ)) (t : List Event) (h : Event) → None ≡ delivery_of h → None ≡ install_of h
     → KnowsStates meaning m e t → MayEnter meaning t h × KnowsStates meaning m e (t ++ h ∷ [])
@@ -76,7 +76,7 @@ pub delivered-is : {S : Type 0} (meaning : Meaning S) (s x : S) (b : Bool) → m
 delivered-is meaning s x true a c = a
 delivered-is meaning s x false a c = c
 
--- a message that is told is applied
+-- a message that is delivered is applied
 pub message-known : {S : Type 0} (meaning : Meaning S)
     (applies : (s : S) (from : Address) (payload : List ℕ) → meaning.is_state s → IsAddress from → length payload ≤ PAYLOAD → meaning.is_state (meaning.apply s from payload))
     (m n : Address → Option S) (e : ViewId → Option (List ℕ)) (t : List Event) (d : Delivery) → IsAddress d.message.sender → length d.message.payload ≤ PAYLOAD

@@ -1,4 +1,4 @@
--- The tests decide the conditions on each event, whatever it tells.
+-- The tests decide the conditions on each event, whatever it says.
 use Rattle.std.proofs.Common.{◌≡◌, Bool, true, List, Some, None, sym, refl, subst}
 use Rattle.std.specs.Bool.{Decides}
 use Rattle.std.proofs.lemmas.Option.{none-some}
@@ -28,7 +28,7 @@ rise-none t (Installed i) e = absurd (none-some i e)
 rise-none t (Left q) e = asks-nothing tt
 rise-none t (Crashed q) e = asks-nothing tt
 
--- what sends nothing and tells nothing may carry
+-- what sends nothing and delivers nothing may carry
 pub carry-none : (t : List Event) (h : Event) → None ≡ sending_of h → None ≡ delivery_of h → Decides true (MayCarry t h)
 carry-none t (Started q) e0 e1 = asks-nothing tt
 carry-none t (Sent x) e0 e1 = absurd (none-some x e0)
@@ -38,7 +38,7 @@ carry-none t (Installed i) e0 e1 = asks-nothing tt
 carry-none t (Left q) e0 e1 = asks-nothing tt
 carry-none t (Crashed q) e0 e1 = asks-nothing tt
 
--- what tells nothing may keep the order
+-- what delivers nothing may keep the order
 pub order-none : (t : List Event) (h : Event) → None ≡ delivery_of h → Decides true (MayOrder t h)
 order-none t (Started q) e = asks-nothing tt
 order-none t (Sent x) e = asks-nothing tt
@@ -78,7 +78,7 @@ hand-none t (Installed i) e = absurd (none-some i e)
 hand-none t (Left q) e = asks-nothing tt
 hand-none t (Crashed q) e = asks-nothing tt
 
--- a test of what an event sends, tells or installs is a test of the event
+-- a test of what an event sends, delivers or installs is a test of the event
 pub of-sent : (P : Event → Type 0) (h : Event) (s : Sending) (b c : Bool) → Some s ≡ sending_of h → b ≡ c → Decides c (P (Sent s)) → Decides b (P h)
 of-sent P h s b c e same d = subst (λ (x : Bool). Decides x (P h)) (sym same) (subst (λ (x : Event). Decides c (P x)) (sym (sending-is h s (sym e))) d)
 

@@ -129,7 +129,7 @@ numbered-decides (Some n) m =
 pub send-decides : (t : List Event) (s : Sending) → Decides (nat_eq s.message.number (length (sent_in s.member s.view t) + 1)) (MayCarry t (Sent s))
 send-decides t s = nat_eq-decides s.message.number (length (sent_in s.member s.view t) + 1)
 
--- the test decides whether a message may be told
+-- the test decides whether a message may be delivered
 pub deliver-decides : (t : List Event) (d : Delivery)
     → Decides
     (nat_eq d.message.number (length (own d.message.sender (delivered_in d.member d.view t)) + 1)
@@ -168,7 +168,7 @@ order-decides t d =
     else-decides (same_address d.member d.view.creator) (is_message (slice_get (delivered_in d.view.creator d.view t) (length (delivered_in d.member d.view t))) d.message)
     (message-decides (slice_get (delivered_in d.view.creator d.view t) (length (delivered_in d.member d.view t))) d.message)
 
--- where the member is not the first one, the test asks what that one was told
+-- where the member is not the first one, the test asks what that one delivered
 pub order-else : (t : List Event) (d : Delivery) (a b : Address) (e r : Bool) → a ≡ d.view.creator → b ≡ d.view.creator → e ≡ same_address d.member a → e ≡ false
     → r ≡ is_message (slice_get (delivered_in b d.view t) (length (delivered_in d.member d.view t))) d.message
     → r ≡ (same_address d.member d.view.creator || is_message (slice_get (delivered_in d.view.creator d.view t) (length (delivered_in d.member d.view t))) d.message)

@@ -80,7 +80,7 @@ KnowsSent m t = (s : Seat) → listed (m s) ≡ sent_in s.member s.view t
 abbrev pub KnowsDelivered : {Z : Type 0} → (Seat → Option (Vec (Bor Message) Z)) → List Event → Type 0
 KnowsDelivered m t = (s : Seat) → listed (m s) ≡ delivered_in s.member s.view t
 
--- the number of a sender's last message that a member was told in a view, 0 before the first, is how many these are
+-- the number of a sender's last message that a member delivered in a view, 0 before the first, is how many these are
 abbrev pub KnowsLast : (Pair → Option ℕ) → List Event → Type 0
 KnowsLast m t = (s : Pair) → unwrap_or (m s) 0 ≡ length (own s.sender (delivered_in s.seat.member s.seat.view t))
 
@@ -95,7 +95,7 @@ KnowsFirsts m t = (v : ViewId) → option_copied (m v) ≡ first_install v t
 abbrev pub KnowsWays : (Way → Option (Bor Install)) → List Event → Type 0
 KnowsWays m t = (w : Way) → option_copied (m w) ≡ first_from w.from w.to t
 
--- WHAT A EVENT TELLS
+-- WHAT AN EVENT SAYS
 
 abbrev pub sending_of : Event → Option Sending
 sending_of (Started p) = None

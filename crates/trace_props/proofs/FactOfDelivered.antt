@@ -1,4 +1,4 @@
--- What one more event changes of the messages that a member was told or sent, and of the installs.
+-- What one more event changes of the messages that a member delivered or sent, and of the installs.
 use Rattle.std.proofs.Common.{◌≡◌, ℕ, suc, zero, Bool, true, false, ◌&&◌, cond, List, [], ◌∷◌, ◌++◌, Option, Some, None, filter_map, find, sym, refl, ap, ◌∙◌, subst, slice_get}
 use Rattle.std.specs.Option.{option_or}
 use Rattle.std.specs.List.{cons_option}
@@ -16,25 +16,25 @@ use Rattle.trace_props.specs.declared.event.Sending.{Sending}
 use Rattle.trace_props.specs.Observed.{member_of, delivered_message, delivered_in, said, sent_in, numbered, own_by, own, install_of, installs_in}
 use Rattle.trace_props.proofs.FactOfObserved.{same_address-true, same_address-refl, same_view_id-true, same_view_id-refl, filter_map-still, filter_map-more}
 
--- WHAT A MEMBER WAS TOLD
+-- WHAT A MEMBER DELIVERED
 
--- whether a message is told to a member in a view
+-- whether a message is delivered to a member in a view
 abbrev pub is_delivery_to : Address → ViewId → Delivery → Bool
 is_delivery_to p v d = same_address d.member p && same_view_id d.view v
 
--- what tells it nothing leaves its list
+-- what delivers nothing to it leaves its list
 pub delivered_in-still : (p : Address) (v : ViewId) (t : List Event) (h : Event) → delivered_message p v h ≡ None → delivered_in p v (t ++ h ∷ []) ≡ delivered_in p v t
 delivered_in-still p v t h e = filter_map-still (delivered_message p v) t h e
 
--- what another is told, or what is told in another view, leaves its list
+-- what another delivers, or what is delivered in another view, leaves its list
 pub delivered_in-miss : (p : Address) (v : ViewId) (t : List Event) (d : Delivery) → is_delivery_to p v d ≡ false → delivered_in p v (t ++ Delivered d ∷ []) ≡ delivered_in p v t
 delivered_in-miss p v t d e = delivered_in-still p v t (Delivered d) (cond-false (is_delivery_to p v d) (Some d.message) None e)
 
--- what it is told in the view stands at the end
+-- what it delivers in the view stands at the end
 pub delivered_in-hit : (p : Address) (v : ViewId) (t : List Event) (d : Delivery) → is_delivery_to p v d ≡ true → delivered_in p v (t ++ Delivered d ∷ []) ≡ delivered_in p v t ++ d.message ∷ []
 delivered_in-hit p v t d e = filter_map-more (delivered_message p v) t (Delivered d) d.message (cond-true (is_delivery_to p v d) (Some d.message) None e)
 
--- a message is told to its member in its view
+-- a message is delivered to its member in its view
 pub is_delivery_to-at : (d : Delivery) → is_delivery_to d.member d.view d ≡ true
 is_delivery_to-at d = and_from (same_address d.member d.member) (same_view_id d.view d.view) (same_address-refl d.member) (same_view_id-refl d.view)
 
@@ -44,7 +44,7 @@ is_delivery_to-true p v d e =
     let parts = and_parts (same_address d.member p) (same_view_id d.view v) e in
     (same_address-true d.member p parts.0, same_view_id-true d.view v parts.1)
 
--- what happens to another tells this one nothing
+-- what happens to another delivers nothing to this one
 delivered-other : (p : Address) (v : ViewId) (h : Event) → same_address (member_of h) p ≡ false → delivered_message p v h ≡ None
 delivered-other p v (Started q) e = refl
 delivered-other p v (Sent s) e = refl

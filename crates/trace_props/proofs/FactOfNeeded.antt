@@ -48,7 +48,7 @@ sent-needed t s r =
     r.numbers s.member s.view (length (sent_in s.member s.view t)) s.message
     (ap (λ ms. slice_get ms (length (sent_in s.member s.view t))) (sent_in-hit s.member s.view t s (said_by-at s)) ∙ slice_get-last (sent_in s.member s.view t) s.message)
 
--- a message that is told under sound messages is its sender's next
+-- a message that is delivered under sound messages is its sender's next
 delivered-needed : (t : List Event) (d : Delivery) → HasSoundMessages (t ++ Delivered d ∷ [])
     → slice_get (sent_in d.message.sender d.view t) (length (own d.message.sender (delivered_in d.member d.view t))) ≡ Some (numbered d.message)
 delivered-needed t d r =
@@ -71,7 +71,7 @@ messages-needed t (Installed i) r = tt
 messages-needed t (Left p) r = tt
 messages-needed t (Crashed p) r = tt
 
--- who is told a message under one order, and is not the coordinator, is told the next of what that one was told
+-- who delivers a message under one order, and is not the coordinator, delivers the next of what that one delivered
 delivered-in-order : (t : List Event) (d : Delivery) → HasOneOrder (t ++ Delivered d ∷ []) → same_address d.member d.view.creator ≡ false
     → slice_get (delivered_in d.view.creator d.view t) (length (delivered_in d.member d.view t)) ≡ Some d.message
 delivered-in-order t d r e =

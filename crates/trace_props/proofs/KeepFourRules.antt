@@ -119,7 +119,7 @@ IsOnce-push ms m once new j k a b x y same number =
     (slice_get-push ms m k b y))
     (slice_get-push ms m j a x)
 
--- a message that was told has a number up to the count of its sender's messages that were told
+-- a message that was delivered has a number up to the count of its sender's messages that were delivered
 pub delivered-number : (t : List Event) (p : Address) (v : ViewId) → HasSoundMessages t → (j : ℕ) (a : Message) → slice_get (delivered_in p v t) j ≡ Some a → a.number ≤ length (own a.sender (delivered_in p v t))
 delivered-number t p v r j a s =
     let at = own-at (delivered_in p v t) j a s in
@@ -127,7 +127,7 @@ delivered-number t p v r j a s =
     let number : a.number ≡ at.0 + 1 = r.numbers a.sender v at.0 (numbered a) (IsBeginningOf-at (own a.sender (delivered_in p v t)) (sent_in a.sender v t) at.0 (numbered a) (r.in_turn p a.sender v) at.1) in
     omega arith
 
--- so the next message of a sender is unlike all that were told
+-- so the next message of a sender is unlike all that were delivered
 delivered-fresh : (t : List Event) (d : Delivery) → HasSoundMessages t → MayCarry t (Delivered d)
     → (j : ℕ) (a : Message) → slice_get (delivered_in d.member d.view t) j ≡ Some a → a.sender ≡ d.message.sender → a.number ≡ d.message.number → ⊥
 delivered-fresh t d r m j a s same number =
@@ -157,14 +157,14 @@ once-push t (Installed i) r m p v = once-still t (Installed i) p v r refl
 once-push t (Left q) r m p v = once-still t (Left q) p v r refl
 once-push t (Crashed q) r m p v = once-still t (Crashed q) p v r refl
 
--- who is told nothing stays at a beginning of what was sent
+-- who delivers nothing stays at a beginning of what was sent
 turn-still : (t : List Event) (h : Event) (p q : Address) (v : ViewId) → HasSoundMessages t → delivered_message p v h ≡ None → IsBeginningOf (own q (delivered_in p v (t ++ h ∷ []))) (sent_in q v (t ++ h ∷ []))
 turn-still t h p q v r e =
     subst (λ (ms : List Message). IsBeginningOf (own q ms) (sent_in q v (t ++ h ∷ []))) (sym (delivered_in-still p v t h e))
     (subst (λ (ns : List Numbered). IsBeginningOf (own q (delivered_in p v t)) ns) (sym (filter_map-append (said q v) t (h ∷ [])))
     (IsBeginningOf-grow (own q (delivered_in p v t)) (sent_in q v t) (filter_map (said q v) (h ∷ [])) (r.in_turn p q v)))
 
--- who is told a message goes on with its sender's next
+-- who delivers a message goes on with its sender's next
 turn-hit : (t : List Event) (d : Delivery) (q : Address) (b : Bool) → same_address d.message.sender q ≡ b → HasSoundMessages t → MayCarry t (Delivered d)
     → IsBeginningOf (own q (delivered_in d.member d.view t ++ d.message ∷ [])) (sent_in q d.view t)
 turn-hit t d q false e r m = subst (λ (ns : List Numbered). IsBeginningOf ns (sent_in q d.view t)) (sym (own-miss q (delivered_in d.member d.view t) d.message e)) (r.in_turn d.member q d.view)
@@ -206,14 +206,14 @@ messages-push t h r m = record {
 
 -- ONE ORDER
 
--- who is told nothing stays at a beginning of what the coordinator was told
+-- who delivers nothing stays at a beginning of what the coordinator delivered
 order-still : (t : List Event) (h : Event) (p : Address) (v : ViewId) → HasOneOrder t → delivered_message p v h ≡ None → IsBeginningOf (delivered_in p v (t ++ h ∷ [])) (delivered_in v.creator v (t ++ h ∷ []))
 order-still t h p v r e =
     subst (λ (ms : List Message). IsBeginningOf ms (delivered_in v.creator v (t ++ h ∷ []))) (sym (delivered_in-still p v t h e))
     (subst (λ (ns : List Message). IsBeginningOf (delivered_in p v t) ns) (sym (filter_map-append (delivered_message v.creator v) t (h ∷ [])))
     (IsBeginningOf-grow (delivered_in p v t) (delivered_in v.creator v t) (filter_map (delivered_message v.creator v) (h ∷ [])) (r p v)))
 
--- the coordinator goes before, all others are told the next of what it was told
+-- the coordinator goes before, all others deliver the next of what it delivered
 order-hit : (t : List Event) (d : Delivery) (b : Bool) → same_address d.member d.view.creator ≡ b → HasOneOrder t → MayOrder t (Delivered d)
     → IsBeginningOf (delivered_in d.member d.view (t ++ Delivered d ∷ [])) (delivered_in d.view.creator d.view (t ++ Delivered d ∷ []))
 order-hit t d true e r m =

@@ -1,4 +1,4 @@
--- Handed back: what is handed back is what was sent past the count of the own messages that were told.
+-- Handed back: what is handed back is what was sent past the count of the own messages that were delivered.
 use Rattle.std.proofs.Common.{◌≡◌, List, [], ◌∷◌, ◌++◌, length, drop, Option, Some, None, MatchOption, sym, refl, ap, ◌∙◌}
 use Rattle.std.proofs.lemmas.List.{take-append-drop, drop_at}
 use Rattle.address.specs.Ids.{ViewId}

@@ -1,4 +1,4 @@
--- Same next view, same list: it goes one event further exactly when who enters was told as many messages as the first who went from the same view to the same next.
+-- Same next view, same list: it goes one event further exactly when who enters delivered as many messages as the first who went from the same view to the same next.
 use Rattle.std.proofs.Common.{◌≡◌, ℕ, Bool, true, false, List, [], ◌∷◌, ◌++◌, length, take, Option, Some, None, slice_get, sym, refl, ap, ◌∙◌}
 use Rattle.std.proofs.lemmas.Bool.{and_from, and_parts, true≢false}
 use Rattle.std.proofs.lemmas.Option.{none-some, same_Some}
@@ -15,7 +15,7 @@ use Rattle.trace_props.proofs.FactOfDelivered.{is_delivery_to, is_delivery_to-tr
 use Rattle.trace_props.proofs.FactOfInstalls.{EachInstall, EachTwoInstalls-still, EachTwoInstalls-push, EachTwoInstalls-right}
 use Rattle.trace_props.proofs.FactOfRisingViews.{gone}
 
--- two that went from one view to the same next were told the same there
+-- two that went from one view to the same next delivered the same there
 abbrev pub SameList : List Event → Install → Install → Type 0
 SameList t e f = e.view.id ≡ f.view.id → (v : ViewId) → e.previous ≡ Some v → f.previous ≡ Some v → delivered_in e.member v t ≡ delivered_in f.member v t
 
@@ -42,7 +42,7 @@ meets-kept t h none same r =
     EachTwoInstalls-still (SameList (t ++ h ∷ [])) (SameList (t ++ h ∷ [])) t h (λ e f x. x) none
     (λ j k e f a b next v left right. same j e v a left ∙ r j k e f a b next v left right ∙ sym (same k f v b right))
 
--- who has gone from a view is told nothing more there
+-- who has gone from a view delivers nothing more there
 gone-delivered : (t : List Event) (d : Delivery) (b : Bool) (k : ℕ) (e : Install) (v : ViewId) → is_delivery_to e.member v d ≡ b → HasRisingViews t → MayStand t (Delivered d)
     → slice_get t k ≡ Some (Installed e) → e.previous ≡ Some v → delivered_in e.member v (t ++ Delivered d ∷ []) ≡ delivered_in e.member v t
 gone-delivered t d false k e v test views stands s came = delivered_in-miss e.member v t d test
@@ -52,7 +52,7 @@ gone-delivered t d true k e v test views stands s came =
 
 -- WHO ENTERS
 
--- each who went from the same view to the same next before was told the same
+-- each who went from the same view to the same next before delivered the same
 meets-old : (t : List Event) (i : Install) → HasOneOrder t → HasSameNext t → MayMeet t (Installed i) → EachInstall (λ e. SameList t e i) t
 meets-old t i order r m k e s next v left right =
     let first = register-written (goes v i.view.id) t k e s (and_from (same_view_id e.view.id i.view.id) (is_view v e.previous) (same_view_id-from e.view.id i.view.id next) (is_view-from v e.previous left)) in

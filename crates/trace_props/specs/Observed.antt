@@ -1,4 +1,4 @@
--- What a trace says of a member: whether it runs, its current view, whether it is blocked, what it sent and was told.
+-- What a trace says of a member: whether it runs, its current view, whether it is blocked, what it sent and delivered.
 use Rattle.std.specs.Prelude.{Bool, true, false, ◌&&◌, Option, None, Some, List, fold, IsTrue, if◌then◌else◌}
 use Rattle.std.specs.List.{list_any, filter_map, find}
 use Rattle.address.specs.Ids.{Address, ViewId, same_address, same_view_id}
@@ -84,7 +84,7 @@ delivered_message p v (Installed i) = None
 delivered_message p v (Left q) = None
 delivered_message p v (Crashed q) = None
 
--- the messages that a member was told in a view, in order
+-- the messages that a member delivered in a view, in order
 abbrev pub delivered_in : Address → ViewId → List Event → List Message
 delivered_in p v t = filter_map (delivered_message p v) t
 
@@ -108,7 +108,7 @@ numbered m = record { number = m.number; payload = m.payload }
 abbrev pub own_by : Address → Message → Option Numbered
 own_by q m = if same_address m.sender q then Some (numbered m) else None
 
--- a member's own messages among those that were told
+-- a member's own messages among those that were delivered
 abbrev pub own : Address → List Message → List Numbered
 own q messages = filter_map (own_by q) messages
 

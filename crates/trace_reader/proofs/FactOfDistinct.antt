@@ -1,4 +1,4 @@
--- Whether addresses are distinct, told by the set of those that were seen.
+-- Whether addresses are distinct, by the set of those that were seen.
 use Rattle.std.proofs.Common.{◌≡◌, ℕ, ◌+◌, ◌<◌, Bool, true, false, ◌||◌, List, [], ◌∷◌, ◌++◌, length, take, drop, not, cond, is_eq, get_or, refl, sym, ◌∙◌, ap, suc, add-one, drop-cons}
 use Rattle.std.proofs.lemmas.Bool.{and_from, or_parts, or_cases, or_from, or_left, or_right, and_left, and_right, and_parts, not-true, not-false}
 use Rattle.std.proofs.lemmas.List.{take_more, take-append-drop}

@@ -1,4 +1,4 @@
--- The text of a run tells what happened in it.
+-- The text of a run spells what happened in it.
 use Rattle.std.proofs.Common.{◌≡◌, ℕ, ◌+◌, ◌-◌, ◌≤◌, true, false, List, [], ◌∷◌, ◌++◌, Ok, length, take, drop, map, nat_eq, refl, sym, ◌∙◌, ap, subst, arith, zero, suc, append_assoc, length-append, codes, if◌then◌else◌}
 use Rattle.std.proofs.Math.Seq.{drop-length}
 use Rattle.std.proofs.lemmas.Bool.{or_from}

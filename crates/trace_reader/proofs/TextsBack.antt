@@ -1,4 +1,4 @@
--- Lines that tell what happened are read back as that.
+-- Lines that spell what happened are read back as that.
 use Rattle.std.proofs.Common.{◌≡◌, ℕ, ◌+◌, ◌≤◌, true, false, List, [], ◌∷◌, ◌++◌, Some, None, Ok, nat_eq, nat_le, slice_get, refl, sym, ◌∙◌, ap, arith, append_assoc, append-nil, codes}
 use Rattle.std.proofs.lemmas.Bool.{and_parts, or_parts, leb-true}
 use Rattle.std.specs.List.{list_all, list_any, concat}
@@ -105,6 +105,6 @@ delivered_on _ _ (Line h lines t s rest) u k =
     ∙ delivered_on lines t rest (u ++ h ∷ []) (k + 1)
     ∙ ap Ok (append_assoc u (h ∷ []) t)
 
--- lines that tell what happened are read back as that
+-- lines that spell what happened are read back as that
 pub trace_back : (lines : List (List ℕ)) (t : List Event) → Spell lines t → trace_of (concat lines) ≡ Ok t
 trace_back lines t spell = trace_is_going_on (concat lines) ∙ delivered_on lines t spell [] 1

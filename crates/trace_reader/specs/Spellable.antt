@@ -1,4 +1,4 @@
--- Which events the text of a trace can spell, and what texts tell, line by line.
+-- Which events the text of a trace can spell, and what texts spell, line by line.
 use Rattle.std.specs.Prelude.{◌≡◌, ℕ, ◌+◌, ◌<◌, ◌≤◌, true, false, List, [], ◌∷◌, ◌++◌, None, Some, length, slice_get, nat_eq, All}
 use Rattle.std.specs.List.{list_any}
 use Rattle.std.specs.Option.{ForSome}
@@ -80,7 +80,7 @@ pub record IsNote (text : List ℕ) : Type 0 where
   pub begins : slice_get text 0 ≡ Some 35
   pub one_line : list_any (λ b. nat_eq b 10) text ≡ false
 
--- lines, each with its line feed, tell what happened: each is the line of the next event, or a note
+-- lines, each with its line feed, spell what happened: each is the line of the next event, or a note
 pub data Spell : List (List ℕ) → List Event → Type 0 where
   Nothing : Spell [] []
   Note : (note : List ℕ) (lines : List (List ℕ)) (t : List Event) → IsNote note → Spell lines t → Spell ((note ++ 10 ∷ []) ∷ lines) t

@@ -63,7 +63,7 @@ printed-some meaning lines_of t n old new few is =
     let (count, e) = front meaning lines_of t n (65535 - n) in
     (count, is ∙ ap (λ (x : List (List ℕ)). old ++ concat x) (e ∙ ap (λ (m : ℕ). take count (chats_to meaning lines_of t m)) (let all : n + (65535 - n) ≡ 65535 = omega arith in all)))
 
--- those of all nodes are told
+-- those of all nodes are printed
 pub printed-all : {S : Type 0} (meaning : Meaning S) (lines_of : S → List Line) (t : List Event) (n : ℕ) (old new : List ℕ)
     → n ≡ 65535 → new ≡ old ++ concat (chats_to meaning lines_of t n) → new ≡ old ++ concat (chats_of meaning lines_of t)
 unfolding chats_of

@@ -1,4 +1,4 @@
--- What is told of a world that ran a script's events.
+-- What is printed of a world that ran a script's events.
 use Rattle.std.proofs.Common.{◌≡◌, ℕ, List, take, Bool, true, false, Result, Ok, Err, OnOk, is_ok, Option, sym, ap, ◌∙◌, subst}
 use Rattle.state_transfer.specs.Meanings.{Meaning}
 use Rattle.trace_props.specs.Places.{EachPlace}
@@ -43,13 +43,13 @@ module _ {S : Type 0} (meaning : Meaning S) where
 
   -- ---- a script's run
 
-  -- what a world tells that ran a script's events, all of them or a beginning, is a text of the script's run
+  -- what is printed of a world that ran a script's events, all of them or a beginning, is a text of the script's run
   run-text : (script : Script) (w : WorldModel S) (ran : Bool) (k : ℕ) → Kept w → RunsFrom no_world (take k script.events) w → (ran ≡ true → RunsFrom no_world script.events w)
       → (s : Status) (t : List ℕ) → IsLinesText (lines_of_run script.lines w.history.replies w.history.trace) ran s t → IsRunText meaning script s t
   run-text script w ran k kept some all s t (Printed whole) = All w (ran-these script.events w kept (all whole))
   run-text script w ran k kept some all s t (Unprinted count) = Part w k count (ran-these (take k script.events) w kept some)
 
-  -- what a world tells that ran a script's events from the beginning
+  -- what is printed of a world that ran a script's events from the beginning
   pub played : {A E : Type 0} (script : Script) (lines : List ℕ) (given : List WorldEvent) (old w : WorldModel S) (ran : Bool) (r : Result A E) (k : ℕ) (a b : Option (List ℕ)) (status : Status)
       → lines ≡ script.lines → given ≡ script.events → old ≡ no_world → Kept w → RunsFrom old (take k given) w → OnOk r (RunsFrom old given w) → ran ≡ is_ok r
       → Written (IsLinesText (lines_of_run lines w.history.replies w.history.trace) ran) a b status → Written (IsRunText meaning script) a b status
@@ -59,7 +59,7 @@ module _ {S : Type 0} (meaning : Meaning S) where
       (λ to-end. from-nothing given script.events old w all empty (on-ok r (RunsFrom old given w) ran whole is to-end)))
       (subst (λ (l : List ℕ). Written (IsLinesText (lines_of_run l w.history.replies w.history.trace) ran) a b status) same written)
 
-  -- ---- what is told at its end
+  -- ---- what is printed at its end
 
   module _ (lines_of : History → List (List ℕ)) (script : Script) where
     end-text : (w : WorldModel S) → Ran meaning script.events w → (s : Status) (t : List ℕ)

@@ -80,7 +80,7 @@ prints-part lines whole a b c status f e = record {
   ends = ends-then a b c (concat lines) memory_line Memory status f e;
 }
 
--- all is told
+-- all is printed
 pub prints-all : (lines : List (List ℕ)) (whole : Bool) (a b c : Option (List ℕ)) (status : Status) → whole ≡ true
     → Appends a b (concat lines) → Ends b c [] Done status → Written (IsLinesText lines whole) a c status
 prints-all lines whole a b c status all f e = record {
@@ -174,7 +174,7 @@ fault-text left a b bytes line fault status is read w =
 after-none : (P : Status → List ℕ → Type 0) (a b c : Option (List ℕ)) (status : Status) → Appends a b [] → Written P b c status → Written P a c status
 after-none P a b c status none w = record { meant = w.meant; text = w.text; says = w.says; ends = ends-then a b c [] w.text w.meant status none w.ends }
 
--- the script was read, and what it comes to was told
+-- the script was read, and what it comes to was printed
 pub ran-text : (Prints : Script → Status → List ℕ → Type 0) (left a b c : Option (List ℕ)) (script : Script) (status : Status) → ReadsScript left a b (Ok script) → Written (Prints script) b c status
     → IsAnswer (IsScriptText Prints) left a c status
 ran-text Prints left a b c script status read w =
@@ -182,6 +182,6 @@ ran-text Prints left a b c script status read w =
     Answers bytes status read.1
     (written-as (Prints script) (IsScriptText Prints bytes) a c status (λ s t says. Runs script s t read.2 says) (after-none (Prints script) a b c status read.3 w))
 
--- it was not read, and why was told
+-- it was not read, and why was printed
 pub unrun-text : (Prints : Script → Status → List ℕ → Type 0) (left a b : Option (List ℕ)) (status : Status) → IsAnswer IsUnreadText left a b status → IsAnswer (IsScriptText Prints) left a b status
 unrun-text Prints left a b status w = answer-as IsUnreadText (IsScriptText Prints) left a b status (λ bytes s t says. Unrun s t says) w

@@ -16,7 +16,7 @@ use Rattle.vsync_runs.specs.Checks.IsJudgedText.{Judged, Unjudged}
 use Rattle.vsync_runs.specs.Checks.IsCheckText.{Checks, Faulty, Unread}
 use Rattle.vsync_runs.proofs.FactOfTexts.{written-as, left-of}
 
--- a verdict was told
+-- a verdict was printed
 pub judged-text : {S : Type 0} (meaning : Meaning S) (t : List Event) (v : Verdict) (a b : Option (List ℕ)) (status : Status)
     → IsVerdict meaning t v → Written (IsVerdictText v) a b status → Written (IsJudgedText meaning t) a b status
 judged-text meaning t v a b status is w = written-as (IsVerdictText v) (IsJudgedText meaning t) a b status (λ s x says. Judged v s x is says) w

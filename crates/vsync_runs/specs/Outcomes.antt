@@ -58,7 +58,7 @@ pub data IsRunText {S : Type 0} (meaning : Meaning S) (script : Script) : Status
   Part : (w : WorldModel S) (events lines : ℕ) → Ran meaning (take events script.events) w
       → IsRunText meaning script Memory (concat (take lines (lines_of_run script.lines w.history.replies w.history.trace)) ++ memory_line)
 
--- the texts of what is told of a script's run at its end, lines of its history: all of them; the first few and `# memory`; or `# memory`
+-- the texts of what is printed of a script's run at its end, lines of its history: all of them; the first few and `# memory`; or `# memory`
 -- alone, where the script was not run to its end for want of memory
 pub data IsEndText {S : Type 0} (meaning : Meaning S) (lines_of : History → List (List ℕ)) (script : Script) : Status → List ℕ → Type 0 where
   All : (w : WorldModel S) → Ran meaning script.events w → IsEndText meaning lines_of script Done (concat (lines_of w.history))
@@ -76,7 +76,7 @@ pub data IsUnreadText (bytes : List ℕ) : Status → List ℕ → Type 0 where
       → IsFaultText line (fault_number fault) status text → IsUnreadText bytes status text
   Unread : IsUnreadText bytes Memory memory_line
 
--- the texts of a script's bytes: what they tell of the script; or why it is not run
+-- the texts of a script's bytes: what they say of the script; or why it is not run
 pub data IsScriptText (Prints : Script → Status → List ℕ → Type 0) (bytes : List ℕ) : Status → List ℕ → Type 0 where
   Runs : (script : Script) (status : Status) (text : List ℕ) → script_of bytes ≡ Ok script → Prints script status text → IsScriptText Prints bytes status text
   Unrun : (status : Status) (text : List ℕ) → IsUnreadText bytes status text → IsScriptText Prints bytes status text

@@ -206,7 +206,7 @@ text_taken a b text w = (w.count, w.appended)
 pub nothing_taken : (a : Option (List ℕ)) (lines : List (List ℕ)) → (n : ℕ) × Appends a a (concat (take n lines))
 nothing_taken a lines = (0, appends_nothing a)
 
--- a refusal for another reason than memory is told
+-- a refusal for another reason than memory is printed
 pub refused_one : (a b : Option (List ℕ)) (h l : List ℕ) (r : Result Unit Unwritten) (line number : ℕ) (refusal : Refusal)
     → number ≡ number_of refusal → (number ≡ 7 → ⊥) → Writes a b h l r (refusal_line line number ∷ []) → Writes a b h l r (refused_lines line refusal)
 refused_one a b h l r line number refusal e other w =

@@ -226,7 +226,7 @@ module _ {S : Type 0} (meaning : Meaning S) (laws : KeepBySteps.Laws meaning) wh
       CatchUpLevels.asked-by meaning laws announced asked pair.view.creator pair.member f.first f.other f.leads f.follows t.couple
       (keeps-on announced asked (Deliver t.number) x t.couple.keeps) h
 
-  -- what the member was told in the view is what its coordinator was told there
+  -- what the member delivered in the view is what its coordinator delivered there
   pub levels : (old new : WorldModel S) (n : ℕ) (pair : Pair) → Keeps old → pair_at old.seats n ≡ Some pair → CatchesUp meaning pair old new → IsLevel pair new.history.trace
   levels old new n pair keeps e x =
       let f = found old n pair keeps e in

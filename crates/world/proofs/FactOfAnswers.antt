@@ -106,7 +106,7 @@ module _ {S : Type 0} (meaning : Meaning S) (h : History) (n : ℕ) (m : MemberM
   pub join-not : (err : Error) → cond (is_some c.view) (Some error.AlreadyConnected) None ≡ Some err → AnswersJoin m.address h (answer_for err) []
   join-not err refused = join-not-at c.view err refl refused
 
-  -- ---- a tick, a packet, what is told of others, and a leave
+  -- ---- a tick, a packet, a suspect, a hint, and a leave
 
   pub quiet-taken : (s : List Event) → EachOwn m.address s → list_all member.is_quiet s ≡ true → AnswersQuietly m.address Done s
   quiet-taken s own quiet = inl (refl, own-quiet m.address s own (quiet-all s quiet))

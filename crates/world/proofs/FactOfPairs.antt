@@ -33,7 +33,7 @@ shorter xs ys e = let l : length xs ≡ length (take (length xs) ys) = ap length
 as-long : {X : Type 0} (xs ys : List X) → xs ≡ take (length xs) ys → length ys ≤ length xs → xs ≡ ys
 as-long xs ys e l = e ∙ take_all (length xs) ys l
 
--- ---- what each member of a view was told while open
+-- ---- what each member of a view delivered while open
 
 members-by : (o : Option Install) (v : View) → option_map (λ (e : Install). e.view) o ≡ Some v → option_map_or (λ (e : Install). e.view.members) o [] ≡ v.members
 members-by None v e = absurd (none-some v e)

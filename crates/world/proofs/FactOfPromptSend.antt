@@ -105,7 +105,7 @@ module _ {S : Type 0} (meaning : Meaning S) (h : History) (n : ℕ) (m : MemberM
     counted : (k : ℕ) → k ≡ c.traffic.delivered → k < WINDOW → c.traffic.delivered < GREATEST_NUMBER
     counted k e low = omega arith
 
-    -- a message that is told where it is sent is told promptly, whoever is asked for as the node's member and its view
+    -- a message that is delivered where it is sent is delivered promptly, whoever is asked for as the node's member and its view
     prompt-in : (s : List Event)
         → (same_address c.me v.id.creator ≡ true → c.traffic.delivered < c.traffic.stable + WINDOW → c.traffic.delivered < GREATEST_NUMBER
         → Contains s (Delivered (record { member = c.me; view = v.id; message = record { sender = c.me; number = c.traffic.sent + 1; payload = payload } })))

@@ -207,7 +207,7 @@ module _ {S : Type 0} (meaning : Meaning S) (h : History) (n : ℕ) (m : MemberM
     taken = λ out left handled free own. tick-taken out left handled own;
   }
 
-  -- ---- what a member is told of others: a suspect, and a member of another view
+  -- ---- what a member hears of others: a suspect, and a member of another view
 
   suspect-taken : (q : Address) (out : Output) (left : MemberModel S) → Handled meaning m (input.Suspect q) (Ok out) left → EachOwn m.address out.events.items
       → TakesSo (Suspect n q) (input.Suspect q) (answer_to out.events.items) out.events.items left

@@ -133,6 +133,6 @@ pub record BothRun {S : Type 0} (pair : Pair) (w : WorldModel S) : Type 0 where
 abbrev pub EndsSo : {S : Type 0} → Pair → WorldModel S → Type 0
 EndsSo pair w = LosesOne pair w ⊎ BothRun pair w
 
--- what the member was told in the view is what its coordinator was told there
+-- what the member delivered in the view is what its coordinator delivered there
 abbrev pub IsLevel : Pair → List Event → Type 0
 IsLevel pair t = delivered_in pair.member pair.view t ≡ delivered_in pair.view.creator pair.view t

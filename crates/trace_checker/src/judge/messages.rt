@@ -50,7 +50,7 @@ pub fn may_send(past: &Past, sending: &Sending) -> bool
     )
 }
 
-/// Whether a message that is told is its sender's next.
+/// Whether a message that is delivered is its sender's next.
 pub fn may_deliver(past: &Past, delivery: &Delivery) -> bool
     ensures { result
         ≡ (nat_eq delivery.now.message.number (length (own delivery.now.message.sender (delivered_in delivery.now.member delivery.now.view past.now)) + 1)
@@ -65,7 +65,7 @@ pub fn may_deliver(past: &Past, delivery: &Delivery) -> bool
         )
 }
 
-// Whether a message that is told is the next that another member was told.
+// Whether a message that is delivered is the next that another member delivered.
 fn is_next_of(past: &Past, other: Address, delivery: &Delivery) -> bool
     ensures { result
         ≡ is_message (slice_get (delivered_in other delivery.now.view past.now) (length (delivered_in delivery.now.member delivery.now.view past.now))) delivery.now.message }
@@ -74,7 +74,7 @@ fn is_next_of(past: &Past, other: Address, delivery: &Delivery) -> bool
     is_same_message(past.delivered_at(other, delivery.view, count), &delivery.message)
 }
 
-/// Whether a message that is told is the next that the view's coordinator was told.
+/// Whether a message that is delivered is the next that the view's coordinator delivered.
 pub fn may_order(past: &Past, delivery: &Delivery) -> bool
     ensures { result
         ≡ (same_address delivery.now.member delivery.now.view.creator

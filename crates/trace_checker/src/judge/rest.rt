@@ -36,7 +36,7 @@ fn is_rest(past: &Past, member: Address, view: ViewId, start: usize, messages: &
     true
 }
 
-/// Whether who enters gets back what it sent past its own messages that it was told.
+/// Whether who enters gets back what it sent past its own messages that it delivered.
 pub fn may_hand_back(past: &Past, install: &Install) -> bool
     ensures { Decides result (MayHandBack past.now (Installed install.now)) }
 {

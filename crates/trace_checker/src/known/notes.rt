@@ -31,7 +31,7 @@ pub fn sending_in<'a>(event: &'a Event) -> Option<&'a Sending>
     }
 }
 
-/// The message that an event tells.
+/// The message that an event delivers.
 pub fn delivery_in<'a>(event: &'a Event) -> Option<&'a Delivery>
     ensures { option_copied result ≡ delivery_of event.now }
 {
@@ -82,7 +82,7 @@ pub fn note_sent<'a>(
     }
 }
 
-/// Keeps a message that is told.
+/// Keeps a message that is delivered.
 pub fn note_delivered<'a>(
     alloc: Global,
     delivered: &mut Lists<'a, Message>,
@@ -111,7 +111,7 @@ fn keep_last(last: &mut BTreeMap<Pair, u64>, pair: Pair, number: u64) -> Result<
     Ok(())
 }
 
-/// Keeps the number of a message that is told, where it is its sender's next.
+/// Keeps the number of a message that is delivered, where it is its sender's next.
 pub fn note_last(last: &mut BTreeMap<Pair, u64>, event: &Event) -> Result<(), AllocError>
     ensures { OnOk result ((t : List Event) → MayCarry t event.now → KnowsLast (get pair_cmp last.old) t → KnowsLast (get pair_cmp last.new) (t ++ event.now ∷ [])) }
 {

@@ -47,7 +47,7 @@ impl<'a> Tables<'a> {
     }
 }
 
-// Keeps the message that an event sends or tells.
+// Keeps the message that an event sends or delivers.
 fn keep_message<'a>(
     alloc: Global,
     sent: &mut Lists<'a, Numbered>,
@@ -82,7 +82,7 @@ fn keep_install<'a>(
     Ok(())
 }
 
-/// Keeps what happened next, whose message, if it tells one, is its sender's next.
+/// Keeps what happened next, whose message, if it delivers one, is its sender's next.
 pub fn keep<'a>(alloc: Global, tables: &mut Tables<'a>, event: &'a Event) -> Result<(), AllocError>
     ensures kept { OnOk result (pointed tables.new.events.items ≡ pointed tables.old.events.items ++ event.now ∷ []) }
     ensures known { OnOk result ((t : List Event) → MayCarry t event.now

@@ -3,7 +3,7 @@ use Rattle.trace_checker.proofs.TestsOfEvents.{order-none, of-delivered}
 use Rattle.trace_checker.proofs.TestsOfOneView.{order-decides}
 use Rattle.trace_checker.proofs.judge.rules.keeps_order.Goals as goal
 
--- nothing is told
+-- nothing is delivered
 pub returns-in-None : goal.returns-in-None
 returns-in-None c = order-none c.args.past.now c.args.event.now c.in-None.ensures
 

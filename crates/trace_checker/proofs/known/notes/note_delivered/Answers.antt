@@ -3,7 +3,7 @@ use Rattle.trace_checker.specs.Known.{seat_cmp}
 use Rattle.trace_checker.proofs.KeepMessages.{no-delivery, a-delivery}
 use Rattle.trace_checker.proofs.known.notes.note_delivered.Goals as goal
 
--- nothing is told
+-- nothing is delivered
 pub returns-in-None : goal.returns-in-None
 returns-in-None c = λ t r. no-delivery (get seat_cmp c.args.delivered.now.lists) t c.args.event.now c.in-None.ensures r
 

@@ -8,7 +8,7 @@ use Rattle.trace_checker.proofs.KeepStates.{nothing-known}
 use Rattle.trace_checker.proofs.FactOfEntryState.{of-install}
 use Rattle.trace_checker.proofs.known.states.States.advance.Goals as goal
 
--- nothing is told or installed
+-- nothing is delivered or installed
 pub returns-in-None-install_in : goal.returns-in-None-install_in
 returns-in-None-install_in g c = λ t r.
     nothing-known g.R.Receiver.meaning
