@@ -1,7 +1,7 @@
 #!/usr/bin/env python3
 """Prints a script for `vsync world`; a seed always gives the same one:
 
-    schedules.py random SEED LINES NODES     the nodes 1 to NODES start, create, join, send, tick, suspect, leave, crash and start again, are told of
+    schedules.py random SEED LINES NODES     the nodes 1 to NODES start, create, join, send, tick, suspect, leave, crash and start again, get hints of
                                              each other and merge; packets are delivered late, out of order, twice, or never
     schedules.py changes SEED LINES NODES    the same with few messages and many changes of views
     schedules.py steady LINES                five members in one view; one that is not the coordinator sends, and everything is delivered in order
@@ -469,7 +469,7 @@ def split(world, chance, nodes):
 
 
 def hint(world, chance, members):
-    """A member is told of another; one that leads its view of one outside, where there is such a pair."""
+    """A member is handed a suspect or a hint of another; one that leads its view of one outside, where there is such a pair."""
     pairs = [(m, o) for m in members if m.view is not None and m.leads() for o in members if o.me not in m.members]
     member, other = chance.choice(pairs) if pairs else (chance.choice(members), chance.choice(members))
     world.say("hint", member.me[0], other.me)

@@ -8,7 +8,7 @@ use Rattle.std.proofs.lemmas.Option.{none-some, slice_get-get_or}
 use Rattle.std.proofs.lemmas.Bool.{or_left, or_right}
 use Rattle.address.specs.Ids.{Address, same_address}
 use Rattle.view.specs.Members.{stands_in}
-use Rattle.trace_props.proofs.Observing.{same_address-refl}
+use Rattle.trace_props.proofs.FactOfObserved.{same_address-refl}
 use Rattle.flush.specs.Cuts.{first_of}
 
 -- ---- what is found first

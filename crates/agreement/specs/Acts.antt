@@ -18,7 +18,7 @@ use Rattle.trace_props.specs.declared.event.Event.TheVariants.{Sent, Delivered, 
 use Rattle.trace_props.specs.Rules.{IsBelow}
 use Rattle.agreement.specs.Words.{message_for}
 use Rattle.agreement.specs.Histories.{Posted}
-use Rattle.agreement.specs.Cores.{Traffic, Core, fresh_traffic, kept_for, is_open, id_of, report_with, told_more, left_of, applied}
+use Rattle.agreement.specs.Cores.{Traffic, Core, fresh_traffic, kept_for, is_open, id_of, report_with, delivered_more, left_of, applied}
 
 -- a cut for each view: the number before its items, and the items
 pub record Cuts : Type 0 where
@@ -44,7 +44,7 @@ pub data Act : Type 0 where
   Collects : View → ℕ → List (ℕ × Entry) → Act
   -- holds an entry at its number: what is held afterwards
   Holds : View → ℕ → Entry → List (ℕ × Entry) → Act
-  -- is told the next entry that it holds
+  -- delivers the next entry that it holds
   Delivers : View → Entry → Act
   -- promises the proposal of another
   Promises : View → Act
@@ -159,17 +159,17 @@ pub record MayHear {S : Type 0} (came : Option Posted) (c : Core S) (v : View) (
   pub open_in : IsOpenIn c v
   pub first : same_address c.me v.id.creator ≡ true
   pub member : stands_in q v.members ≡ true
-  pub told : MatchBool (same_address q c.me) (n ≤ c.traffic.delivered) (Says came c q (bodies.Ack v.id n))
+  pub acked : MatchBool (same_address q c.me) (n ≤ c.traffic.delivered) (Says came c q (bodies.Ack v.id n))
 
 -- why a count is stable: each member of the view has acknowledged it; or the coordinator says so, or orders a number that lies so far ahead
 pub data IsStable {S : Type 0} (came : Option Posted) (c : Core S) (v : View) (t : ℕ) : Type 0 where
   All : same_address c.me v.id.creator ≡ true → ((q : Address) → stands_in q v.members ≡ true → t ≤ c.traffic.acks q) → IsStable came c v t
   Ordered : (g : ℕ) (e : Entry) → Says came c v.id.creator (bodies.Order v.id g e) → t + WINDOW ≤ g → IsStable came c v t
-  Told : (p : wire.Progress) → Says came c v.id.creator (bodies.Status v.id p) → t ≤ p.stable → IsStable came c v t
+  Announced : (p : wire.Progress) → Says came c v.id.creator (bodies.Status v.id p) → t ≤ p.stable → IsStable came c v t
 
 pub record MayCollect {S : Type 0} (came : Option Posted) (c : Core S) (v : View) (t : ℕ) (held : List (ℕ × Entry)) : Type 0 where
   pub open_in : IsOpenIn c v
-  pub told : t ≤ c.traffic.delivered
+  pub reached : t ≤ c.traffic.delivered
   pub stable : IsStable came c v t
   pub fewer : HoldsAbove c.traffic.held (max c.traffic.stable t) held
 
@@ -200,7 +200,7 @@ pub record MayBegin {S : Type 0} (c : Core S) (w : View) : Type 0 where
 
 pub record MayRecord {S : Type 0} (came : Option Posted) (c : Core S) (f : FlushModel) (q : Address) (r : Report) : Type 0 where
   pub flush : c.flush ≡ Some f
-  pub told : Says came c q (bodies.Report f.proposal r)
+  pub received : Says came c q (bodies.Report f.proposal r)
   pub listed : stands_in q f.members ≡ true
   pub new : report_from q f.reports ≡ None
 
@@ -212,7 +212,7 @@ pub record MayFinish {S : Type 0} (c : Core S) (v : View) (f : FlushModel) (cuts
   pub cut : (q : Address) (r : Report) (u : ViewId) → report_from q f.reports ≡ Some r → r.previous ≡ Some u
       → IsCut (group (Some u) f.reports) (cuts.base u) (cuts.items u)
 
--- who comes from no view is told no messages and given a state
+-- who comes from no view is delivered no messages and given a state
 pub record IsForNewcomer (i : wire.Install) : Type 0 where
   pub base : i.base ≡ 0
   pub items : i.items ≡ []
@@ -275,9 +275,9 @@ begun w c = record { proposal = w.id; members = w.members; reports = (c.me, repo
 abbrev pub undelivered : ℕ → ℕ → List Entry → List Entry
 undelivered delivered base items = drop (delivered - base) items
 
--- what a member is told when it goes from a view by a cut; nothing without a view
-abbrev pub told_at : {S : Type 0} → Core S → ℕ → List Entry → List Entry
-told_at c base items = option_map_or (λ v. undelivered c.traffic.delivered base items) c.view []
+-- what a member delivers when it goes from a view by a cut; nothing without a view
+abbrev pub delivered_at : {S : Type 0} → Core S → ℕ → List Entry → List Entry
+delivered_at c base items = option_map_or (λ v. undelivered c.traffic.delivered base items) c.view []
 
 -- the state with which a member goes into a view
 abbrev pub state_into : {S : Type 0} → Meaning S → Core S → List Entry → Option (List ℕ) → S
@@ -337,7 +337,7 @@ after meaning c (Sends v payload) =
     Some (with_traffic (record t { sent = t.sent + 1; outstanding = t.outstanding ++ record { number = t.sent + 1; payload = payload } ∷ [] }) c)
 after meaning c (Queues v e waiting) = let t = c.traffic in Some (with_traffic (record t { waiting = waiting }) c)
 after meaning c (Orders v e waiting held) =
-    let t = told_more c.me (e ∷ []) c.traffic in
+    let t = delivered_more c.me (e ∷ []) c.traffic in
     Some (record c {
       traffic = record t { waiting = waiting; held = held; ordered = one_more e.sender t.ordered };
       state = applied meaning c.state (e ∷ []);
@@ -345,12 +345,12 @@ after meaning c (Orders v e waiting held) =
 after meaning c (Hears v q n) = let t = c.traffic in Some (with_traffic (record t { acks = heard q n t.acks }) c)
 after meaning c (Collects v n held) = let t = c.traffic in Some (with_traffic (record t { stable = max t.stable n; held = held }) c)
 after meaning c (Holds v g e held) = let t = c.traffic in Some (with_traffic (record t { held = held }) c)
-after meaning c (Delivers v e) = Some (record c { traffic = told_more c.me (e ∷ []) c.traffic; state = applied meaning c.state (e ∷ []) })
+after meaning c (Delivers v e) = Some (record c { traffic = delivered_more c.me (e ∷ []) c.traffic; state = applied meaning c.state (e ∷ []) })
 after meaning c (Promises w) = Some (promised w None c)
 after meaning c (Begins w) = Some (promised w (Some (begun w c)) c)
 after meaning c (Records f q r) = Some (record c { flush = Some (record f { reports = f.reports ++ (q, r) ∷ [] }) })
 after meaning c (Finishes v f cuts) = Some (gone_into (proposed f) (state_after_cut meaning c v cuts) (instructions meaning c v f cuts) c)
-after meaning c (Enters i) = Some (gone_into i.view (state_into meaning c (told_at c i.base i.items) i.state) [] c)
+after meaning c (Enters i) = Some (gone_into i.view (state_into meaning c (delivered_at c i.base i.items) i.state) [] c)
 after meaning c Leaves = None
 
 -- ---- what an act puts out
@@ -378,11 +378,11 @@ packets_of meaning c Leaves = []
 abbrev pub delivery : Address → ViewId → Entry → Event
 delivery p v e = Delivered (record { member = p; view = v; message = message_for e })
 
--- a member is told entries in the view from which it goes
+-- a member delivers entries in the view from which it goes
 abbrev pub deliveries : Address → Option View → List Entry → List Event
 deliveries p v entries = option_map_or (λ u. map (delivery p u.id) entries) v []
 
--- a member goes into a view: it is told some last entries, and what was not told of its own messages is handed back
+-- a member goes into a view: it delivers some last entries, and what was not delivered of its own messages is handed back
 abbrev pub entering : {S : Type 0} → Core S → List Entry → View → List Address → Option (List ℕ) → List Event
 entering c entries w together given =
     deliveries c.me c.view entries
@@ -415,5 +415,5 @@ events_of c (Promises w) = blocking c
 events_of c (Begins w) = blocking c
 events_of c (Records f q r) = []
 events_of c (Finishes v f cuts) = entering c (undelivered c.traffic.delivered (cuts.base v.id) (cuts.items v.id)) (proposed f) (together_of c.me f) None
-events_of c (Enters i) = entering c (told_at c i.base i.items) i.view i.together i.state
+events_of c (Enters i) = entering c (delivered_at c i.base i.items) i.view i.together i.state
 events_of c Leaves = Left c.me ∷ []

@@ -81,14 +81,14 @@ id_of view = option_map (λ v. v.id) view
 abbrev pub report_with : Option View → Traffic → Report
 report_with view traffic = record { previous = id_of view; stable = traffic.stable; delivered = traffic.delivered; held = traffic.held }
 
--- ---- being told messages
+-- ---- the delivery of messages
 
--- what is left of the own messages when these entries are told: as many fewer as are its own
+-- what is left of the own messages when these entries are delivered: as many fewer as are its own
 abbrev pub left_of : Address → List Entry → List Numbered → List Numbered
 left_of p entries outstanding = drop (length (own p (map message_for entries))) outstanding
 
-abbrev pub told_more : Address → List Entry → Traffic → Traffic
-told_more p entries t = record t { delivered = t.delivered + length entries; outstanding = left_of p entries t.outstanding }
+abbrev pub delivered_more : Address → List Entry → Traffic → Traffic
+delivered_more p entries t = record t { delivered = t.delivered + length entries; outstanding = left_of p entries t.outstanding }
 
 -- the state after these entries
 abbrev pub applied : {S : Type 0} → Meaning S → S → List Entry → S

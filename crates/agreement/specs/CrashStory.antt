@@ -1,5 +1,5 @@
--- The crash of the first: three members come together, the first orders two messages, of which the second is told one, and crashes; the second takes
--- over, and is told the other by the cut.
+-- The crash of the first: three members come together, the first orders two messages, of which the second delivers one, and crashes; the second takes
+-- over, and delivers the other by the cut.
 use Rattle.std.specs.Prelude.{ℕ, None, Some, List, [], ◌∷◌, ◌++◌, take}
 use Rattle.address.specs.Ids.{Address}
 use Rattle.wire.specs.Values.{Entry, Report}
@@ -9,7 +9,7 @@ use Rattle.trace_props.specs.declared.event.Event.{Event}
 use Rattle.trace_props.specs.declared.event.Event.TheVariants.{Blocked, Crashed}
 use Rattle.agreement.specs.Acts.{Cuts, Puts, Sends, Queues, Orders, Hears, Collects, Holds, Delivers, Promises, Begins, Records, Finishes, Enters, delivery}
 use Rattle.agreement.specs.Steps.{Step, Crash, Does}
-use Rattle.agreement.specs.Stories.{Plays, one, two, three, view_of_three, view_of_rest, message_a, message_b, held_first, told_first, flush_with, for_companion, joining, three_joined, installs, sends}
+use Rattle.agreement.specs.Stories.{Plays, one, two, three, view_of_three, view_of_rest, message_a, message_b, held_first, delivered_first, flush_with, for_companion, joining, three_joined, installs, sends}
 
 abbrev pub entry_a : Entry
 entry_a = record { sender = one; number = 1; payload = message_a }
@@ -20,11 +20,11 @@ entry_b = record { sender = one; number = 2; payload = message_b }
 abbrev pub held_both : List (ℕ × Entry)
 held_both = (1, entry_a) ∷ (2, entry_b) ∷ []
 
-abbrev pub told_both : Report
-told_both = record { previous = Some view_of_three.id; stable = 0; delivered = 2; held = held_both }
+abbrev pub delivered_both : Report
+delivered_both = record { previous = Some view_of_three.id; stable = 0; delivered = 2; held = held_both }
 
 abbrev pub rest_reports : List (Address × Report)
-rest_reports = (two, told_first view_of_three entry_a) ∷ (three, told_both) ∷ []
+rest_reports = (two, delivered_first view_of_three entry_a) ∷ (three, delivered_both) ∷ []
 
 -- both messages
 abbrev pub both_cuts : Cuts
@@ -58,13 +58,13 @@ messages_chapter =
     ∷ Does three (Some 14) (Puts one (bodies.Ack view_of_three.id 2))
     ∷ []
 
--- the first crashes, and the second takes over: it is told the message that it missed
+-- the first crashes, and the second takes over: it delivers the message that it missed
 abbrev pub crash_chapter : List Step
 crash_chapter =
     Crash one
     ∷ Does two None (Begins view_of_rest)
     ∷ Does three (Some 18) (Promises view_of_rest)
-    ∷ Does two (Some 19) (Records (flush_with view_of_rest (take 1 rest_reports)) three told_both)
+    ∷ Does two (Some 19) (Records (flush_with view_of_rest (take 1 rest_reports)) three delivered_both)
     ∷ Does two (Some 19) (Finishes view_of_three (flush_with view_of_rest rest_reports) both_cuts)
     ∷ Does three (Some 20) (Enters (for_companion view_of_rest (two ∷ three ∷ []) (entry_a ∷ entry_b ∷ [])))
     ∷ []

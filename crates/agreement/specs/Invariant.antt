@@ -17,9 +17,9 @@ use Rattle.agreement.specs.Steps.{System}
 use Rattle.agreement.specs.Packets.{PacketFact, IsEntry, GivesState, BeginsWith}
 use Rattle.agreement.specs.Members.{MemberFact}
 
--- a member that has not installed a view was told nothing and sent nothing there
+-- a member that has not installed a view delivered nothing and sent nothing there
 pub record IsUntouched (t : List Event) (p : Address) (v : ViewId) : Type 0 where
-  pub told : delivered_in p v t ≡ []
+  pub none_delivered : delivered_in p v t ≡ []
   pub sent : sent_in p v t ≡ []
   pub tally : tally_of p v t ≡ no_tally
 

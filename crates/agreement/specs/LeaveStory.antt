@@ -11,17 +11,17 @@ use Rattle.trace_props.specs.declared.event.Event.TheVariants.{Blocked, Installe
 use Rattle.trace_props.specs.declared.event.Install.{Install}
 use Rattle.agreement.specs.Acts.{Cuts, Puts, Sends, Queues, Orders, Hears, Collects, Holds, Delivers, Promises, Begins, Records, Finishes, Enters, Leaves, delivery}
 use Rattle.agreement.specs.Steps.{Step, Does}
-use Rattle.agreement.specs.Stories.{Plays, one, two, three, view_of_three, view_of_rest, message_a, message_b, held_first, told_first, flush_with, joining, three_joined, installs, sends}
+use Rattle.agreement.specs.Stories.{Plays, one, two, three, view_of_three, view_of_rest, message_a, message_b, held_first, delivered_first, flush_with, joining, three_joined, installs, sends}
 
 abbrev pub entry_of_two : Entry
 entry_of_two = record { sender = two; number = 1; payload = message_a }
 
--- the report of one that was told one message, and has let go of it
-abbrev pub told_stable : Report
-told_stable = record { previous = Some view_of_three.id; stable = 1; delivered = 1; held = [] }
+-- the report of one that delivered one message, and has let go of it
+abbrev pub delivered_stable : Report
+delivered_stable = record { previous = Some view_of_three.id; stable = 1; delivered = 1; held = [] }
 
 abbrev pub rest_reports : List (Address × Report)
-rest_reports = (two, told_stable) ∷ (three, told_first view_of_three entry_of_two) ∷ []
+rest_reports = (two, delivered_stable) ∷ (three, delivered_first view_of_three entry_of_two) ∷ []
 
 -- the one message is stable, and none follows
 abbrev pub stable_cuts : Cuts
@@ -31,7 +31,7 @@ stable_cuts = record { base = λ v. 1; items = λ v. [] }
 abbrev pub for_third : wire.Install
 for_third = record { view = view_of_rest; together = two ∷ three ∷ []; base = 1; items = []; state = None }
 
--- the second sends a message, the first orders it, all are told it, and the first and the second learn that it is stable
+-- the second sends a message, the first orders it, all deliver it, and the first and the second learn that it is stable
 abbrev pub stable_chapter : List Step
 stable_chapter =
     Does two None (Sends view_of_three message_a)
@@ -57,7 +57,7 @@ stable_chapter =
     ∷ Does two (Some 16) (Collects view_of_three 1 [])
     ∷ []
 
--- the second sends another message, which is lost; the first tells that it leaves, and leaves
+-- the second sends another message, which is lost; the first says that it leaves, and leaves
 abbrev pub leave_chapter : List Step
 leave_chapter =
     Does two None (Sends view_of_three message_b)
@@ -67,7 +67,7 @@ leave_chapter =
     ∷ Does one None Leaves
     ∷ Does two (Some 19) (Begins view_of_rest)
     ∷ Does three (Some 21) (Promises view_of_rest)
-    ∷ Does two (Some 22) (Records (flush_with view_of_rest (take 1 rest_reports)) three (told_first view_of_three entry_of_two))
+    ∷ Does two (Some 22) (Records (flush_with view_of_rest (take 1 rest_reports)) three (delivered_first view_of_three entry_of_two))
     ∷ Does two (Some 22) (Finishes view_of_three (flush_with view_of_rest rest_reports) stable_cuts)
     ∷ Does three (Some 23) (Enters for_third)
     ∷ []

@@ -91,24 +91,24 @@ KeepsInstructions pool p kept v = (q : Address) (i : wire.Install) → kept_for 
 
 -- ---- the traffic of its view
 
--- how many messages it was told, and whether that is all that it will be told while open
+-- how many messages it delivered, and whether that is all that it will deliver while open
 pub record HasCounts (t : List Event) (p : Address) (v : ViewId) (installed : Bool) (delivered : ℕ) : Type 0 where
-  pub told : length (list_of p v t) ≡ delivered
+  pub delivered_count : length (list_of p v t) ≡ delivered
   pub tally : tally_of p v t ≡ record { phase = if installed then Open else Past; count = delivered }
 
--- what it sent is its own messages that it was told, and then the outstanding ones
+-- what it sent is its own messages that it delivered, and then the outstanding ones
 pub record HasOwn (t : List Event) (p : Address) (v : ViewId) (number : ℕ) (outstanding : List Numbered) : Type 0 where
   pub sent : sent_in p v t ≡ own p (delivered_in p v t) ++ outstanding
   pub count : length (sent_in p v t) ≡ number
 
--- what it holds is the order's, and all that is not stable; what it takes as stable all members were told
+-- what it holds is the order's, and all that is not stable; what it takes as stable all members delivered
 pub record HasWindow (t : List Event) (v : ViewId) (stable delivered : ℕ) (held : List (ℕ × Entry)) : Type 0 where
   pub order : HoldsOrder t v held
   pub all : HoldsAll stable delivered held
   pub near : (g : ℕ) → is_some (held_at g held) ≡ true → g ≤ stable + WINDOW
-  pub told : AllHave t v stable 0
+  pub all_have : AllHave t v stable 0
 
--- what the coordinator knows of others: acknowledgements are at most what was told, what waits was sent, what was ordered is counted
+-- what the coordinator knows of others: acknowledgements are at most what was delivered, what waits was sent, what was ordered is counted
 abbrev pub HasAcks : List Event → ViewId → (Address → ℕ) → Type 0
 HasAcks t v acks = (q : Address) → acks q ≤ open_count q v t
 
@@ -134,7 +134,7 @@ pub record ViewFact (h : History) (p : Address) (installed : Bool) (traffic : Tr
 pub record HasState {S : Type 0} (meaning : Meaning S) (t : List Event) (p : Address) (view : Option View) (state : S) : Type 0 where
   pub now : state_of meaning p t ≡ state
   pub is : meaning.is_state state
-  -- in a view, that of the view's beginning with all applied that it was told there
+  -- in a view, that of the view's beginning with all applied that it delivered there
   pub in_view : ForSome view (λ v. state_with meaning v.id (list_of p v.id t) t ≡ Some state)
 
 -- ---- all of it

@@ -1,5 +1,5 @@
 -- Two halves: four members come together and fall into two halves, in each of which a message is ordered; the halves merge. The second half is given the
--- state of the first, and the fourth member is told the message of its own half that it lacks.
+-- state of the first, and the fourth member delivers the message of its own half that it lacks.
 use Rattle.std.specs.Prelude.{ℕ, None, Some, List, [], ◌∷◌, ◌++◌, take, if◌then◌else◌}
 use Rattle.address.specs.Ids.{Address, same_view_id}
 use Rattle.view.specs.Members.{View}
@@ -11,7 +11,7 @@ use Rattle.trace_props.specs.declared.event.Event.{Event}
 use Rattle.trace_props.specs.declared.event.Event.TheVariants.{Started, Blocked}
 use Rattle.agreement.specs.Acts.{Cuts, Joins, Puts, Sends, Queues, Orders, Hears, Collects, Holds, Delivers, Promises, Begins, Records, Finishes, Enters, delivery}
 use Rattle.agreement.specs.Steps.{Step, Start, Does}
-use Rattle.agreement.specs.Stories.{Plays, one, two, three, view_of_three, message_a, message_b, held_first, told_nothing, told_first, flush_with, empty_cuts, for_newcomer, for_companion, joining, three_joined, installs, sends}
+use Rattle.agreement.specs.Stories.{Plays, one, two, three, view_of_three, message_a, message_b, held_first, delivered_nothing, delivered_first, flush_with, empty_cuts, for_newcomer, for_companion, joining, three_joined, installs, sends}
 
 abbrev pub four : Address
 four = record { node = 4; incarnation = 1 }
@@ -43,27 +43,27 @@ entry_of_three = record { sender = three; number = 1; payload = message_b }
 
 -- the reports of the four flushes, in order of arrival
 abbrev pub four_reports : List (Address × Report)
-four_reports = (one, told_nothing view_of_three) ∷ (two, told_nothing view_of_three) ∷ (three, told_nothing view_of_three) ∷ (four, nothing_reported) ∷ []
+four_reports = (one, delivered_nothing view_of_three) ∷ (two, delivered_nothing view_of_three) ∷ (three, delivered_nothing view_of_three) ∷ (four, nothing_reported) ∷ []
 
 abbrev pub first_reports : List (Address × Report)
-first_reports = (one, told_nothing view_of_four) ∷ (two, told_nothing view_of_four) ∷ []
+first_reports = (one, delivered_nothing view_of_four) ∷ (two, delivered_nothing view_of_four) ∷ []
 
 abbrev pub second_reports : List (Address × Report)
-second_reports = (three, told_nothing view_of_four) ∷ (four, told_nothing view_of_four) ∷ []
+second_reports = (three, delivered_nothing view_of_four) ∷ (four, delivered_nothing view_of_four) ∷ []
 
 abbrev pub all_reports : List (Address × Report)
 all_reports =
-    (one, told_first first_half entry_of_one)
-    ∷ (two, told_first first_half entry_of_one)
-    ∷ (three, told_first second_half entry_of_three)
-    ∷ (four, told_nothing second_half)
+    (one, delivered_first first_half entry_of_one)
+    ∷ (two, delivered_first first_half entry_of_one)
+    ∷ (three, delivered_first second_half entry_of_three)
+    ∷ (four, delivered_nothing second_half)
     ∷ []
 
 -- in each half the one message that was sent there
 abbrev pub half_cuts : Cuts
 half_cuts = record { base = λ v. 0; items = λ v. if same_view_id v first_half.id then entry_of_one ∷ [] else entry_of_three ∷ [] }
 
--- the instruction to one that comes from another view: it is told what that one lacks, and given this state
+-- the instruction to one that comes from another view: it has the messages that that one lacks, and this state
 abbrev pub for_merged : View → List Address → List Entry → List ℕ → wire.Install
 for_merged w together items state = record { view = w; together = together; base = 0; items = items; state = Some state }
 
@@ -77,8 +77,8 @@ fourth_chapter state =
     ∷ Does two (Some 12) (Promises view_of_four)
     ∷ Does three (Some 13) (Promises view_of_four)
     ∷ Does four (Some 14) (Promises view_of_four)
-    ∷ Does one (Some 15) (Records (flush_with view_of_four (take 1 four_reports)) two (told_nothing view_of_three))
-    ∷ Does one (Some 16) (Records (flush_with view_of_four (take 2 four_reports)) three (told_nothing view_of_three))
+    ∷ Does one (Some 15) (Records (flush_with view_of_four (take 1 four_reports)) two (delivered_nothing view_of_three))
+    ∷ Does one (Some 16) (Records (flush_with view_of_four (take 2 four_reports)) three (delivered_nothing view_of_three))
     ∷ Does one (Some 17) (Records (flush_with view_of_four (take 3 four_reports)) four nothing_reported)
     ∷ Does one (Some 17) (Finishes view_of_three (flush_with view_of_four four_reports) empty_cuts)
     ∷ Does two (Some 18) (Enters (for_companion view_of_four (one ∷ two ∷ three ∷ []) []))
@@ -93,16 +93,16 @@ parting_chapter =
     ∷ Does one None (Begins first_half)
     ∷ Does three None (Begins second_half)
     ∷ Does two (Some 23) (Promises first_half)
-    ∷ Does one (Some 25) (Records (flush_with first_half (take 1 first_reports)) two (told_nothing view_of_four))
+    ∷ Does one (Some 25) (Records (flush_with first_half (take 1 first_reports)) two (delivered_nothing view_of_four))
     ∷ Does one (Some 25) (Finishes view_of_four (flush_with first_half first_reports) empty_cuts)
     ∷ Does two (Some 26) (Enters (for_companion first_half (one ∷ two ∷ []) []))
     ∷ Does four (Some 24) (Promises second_half)
-    ∷ Does three (Some 27) (Records (flush_with second_half (take 1 second_reports)) four (told_nothing view_of_four))
+    ∷ Does three (Some 27) (Records (flush_with second_half (take 1 second_reports)) four (delivered_nothing view_of_four))
     ∷ Does three (Some 27) (Finishes view_of_four (flush_with second_half second_reports) empty_cuts)
     ∷ Does four (Some 28) (Enters (for_companion second_half (three ∷ four ∷ []) []))
     ∷ []
 
--- a message in each half; the fourth is not told that of the third
+-- a message in each half; that of the third is not delivered to the fourth
 abbrev pub apart_chapter : List Step
 apart_chapter =
     Does one None (Sends first_half message_a)
@@ -122,7 +122,7 @@ apart_chapter =
     ∷ Does three None (Collects second_half 0 (held_first entry_of_three))
     ∷ []
 
--- the halves merge: the second is given the state of the first, and the fourth is told what it lacks
+-- the halves merge: the second is given the state of the first, and the fourth delivers what it lacks
 abbrev pub merge_chapter : List ℕ → List Step
 merge_chapter state =
     Does three None (Puts one (bodies.Merge second_half))
@@ -130,9 +130,9 @@ merge_chapter state =
     ∷ Does two (Some 33) (Promises view_of_all)
     ∷ Does three (Some 34) (Promises view_of_all)
     ∷ Does four (Some 35) (Promises view_of_all)
-    ∷ Does one (Some 36) (Records (flush_with view_of_all (take 1 all_reports)) two (told_first first_half entry_of_one))
-    ∷ Does one (Some 37) (Records (flush_with view_of_all (take 2 all_reports)) three (told_first second_half entry_of_three))
-    ∷ Does one (Some 38) (Records (flush_with view_of_all (take 3 all_reports)) four (told_nothing second_half))
+    ∷ Does one (Some 36) (Records (flush_with view_of_all (take 1 all_reports)) two (delivered_first first_half entry_of_one))
+    ∷ Does one (Some 37) (Records (flush_with view_of_all (take 2 all_reports)) three (delivered_first second_half entry_of_three))
+    ∷ Does one (Some 38) (Records (flush_with view_of_all (take 3 all_reports)) four (delivered_nothing second_half))
     ∷ Does one (Some 38) (Finishes first_half (flush_with view_of_all all_reports) half_cuts)
     ∷ Does two (Some 39) (Enters (for_companion view_of_all (one ∷ two ∷ []) (entry_of_one ∷ [])))
     ∷ Does three (Some 40) (Enters (for_merged view_of_all (three ∷ four ∷ []) (entry_of_three ∷ []) state))

@@ -28,7 +28,7 @@ IsOrdered t v g e = (k : ℕ) → g ≡ k + 1 → slice_get (order_of v t) k ≡
 abbrev pub IsSent : List Event → ViewId → Entry → Type 0
 IsSent t v e = (k : ℕ) → e.number ≡ k + 1 → slice_get (sent_in e.sender v t) k ≡ Some (record { number = e.number; payload = e.payload })
 
--- each member of the view was told so many before it was blocked there, give or take some
+-- each member of the view delivered so many before it was blocked there, give or take some
 abbrev pub AllHave : List Event → ViewId → ℕ → ℕ → Type 0
 AllHave t v n less = (q : Address) → stands_in q (members_of v t) ≡ true → n ≤ open_count q v t + less
 
@@ -51,7 +51,7 @@ pub record IsProposal (h : History) (p : Address) (w : View) : Type 0 where
 -- ---- a REPORT
 
 -- what a member says of the view from which it comes: it is a member of it and is blocked there for good
-pub record TellsOf (t : List Event) (p : Address) (r : Report) (v : ViewId) : Type 0 where
+pub record SaysOf (t : List Event) (p : Address) (r : Report) (v : ViewId) : Type 0 where
   pub closed : IsClosed p v t
   pub entered : is_some (entry_of p v t) ≡ true
   pub member : stands_in p (members_of v t) ≡ true
@@ -64,7 +64,7 @@ pub record TellsOf (t : List Event) (p : Address) (r : Report) (v : ViewId) : Ty
 pub record IsAnswer (h : History) (p : Address) (w : ViewId) (r : Report) : Type 0 where
   pub other : same_address p w.creator ≡ false
   pub one : report_of p w h.pool ≡ Some r
-  pub true_of : ForSome r.previous (TellsOf h.trace p r)
+  pub true_of : ForSome r.previous (SaysOf h.trace p r)
 
 -- ---- an INSTALL
 
@@ -74,7 +74,7 @@ pub record IsCutOf (t : List Event) (base : ℕ) (items : List Entry) (r : Repor
   pub high : r.delivered ≤ base + length items
   pub order : (j : ℕ) (e : Entry) → slice_get items j ≡ Some e → slice_get (order_of v t) (base + j) ≡ Some e
 
--- up to which number of its previous view's order one is told by an INSTALL
+-- up to which number of its previous view's order one delivers by an INSTALL
 abbrev pub end_of : wire.Install → ℕ
 end_of i = i.base + length i.items
 
@@ -82,7 +82,7 @@ end_of i = i.base + length i.items
 abbrev pub AllAnswered : History → ViewId → List Address → Type 0
 AllAnswered h w members = (m : Address) → stands_in m members ≡ true → is_some (goes_from h w m) ≡ true
 
--- the coordinator of the view is in it, with the same members and from some view; all have reported, and so have those who are told to go into it
+-- the coordinator of the view is in it, with the same members and from some view; all have reported, and so have those who are instructed to go into it
 pub record IsLed (h : History) (w : ViewId) (i : wire.Install) : Type 0 where
   pub entered : is_some (entry_of w.creator w h.trace) ≡ true
   pub members : members_of w h.trace ≡ i.view.members
@@ -153,14 +153,14 @@ pub record IsEntry (h : History) (q : Address) (w : ViewId) (e : Install) : Type
   pub from : goes_from h w q ≡ Some e.previous
   pub complete : AllAnswered h w e.view.members
   pub together : e.together ≡ filter (goes_with h w e.previous) e.view.members
-  -- all but the coordinator were told to, and had then been told the order up to its end
-  pub told : same_address q w.creator ≡ false → is_some (install_of w q h.pool) ≡ true
+  -- all but the coordinator were instructed to, and had then delivered the order up to its end
+  pub instructed : same_address q w.creator ≡ false → is_some (install_of w q h.pool) ≡ true
   pub end : (i : wire.Install) (v : ViewId) → same_address q w.creator ≡ false → install_of w q h.pool ≡ Some i → e.previous ≡ Some v
       → length (list_of q v h.trace) ≡ end_of i
 
 -- ---- states
 
--- the state that all who were told a view's order up to somewhere have: that of its beginning, with these applied; None where nobody has begun it
+-- the state that all who delivered a view's order up to somewhere have: that of its beginning, with these applied; None where nobody has begun it
 abbrev pub state_with : {S : Type 0} → Meaning S → ViewId → List Entry → List Event → Option S
 state_with meaning v entries t = option_map (λ s. applied meaning s entries) (entry_state meaning v t)
 

@@ -1,4 +1,4 @@
--- Stories: lists of steps, as the law speaks of them, told in full. This is what all of them have alike: who takes part, how three come together.
+-- Stories: lists of steps, as the law speaks of them, written in full. This is what all of them have alike: who takes part, how three come together.
 use Rattle.std.specs.Prelude.{◌≡◌, ℕ, Option, None, Some, List, [], ◌∷◌, ◌++◌, take}
 use Rattle.address.specs.Ids.{Address, ViewId}
 use Rattle.view.specs.Members.{View}
@@ -52,13 +52,13 @@ message_b = 98 ∷ []
 abbrev pub held_first : Entry → List (ℕ × Entry)
 held_first e = (1, e) ∷ []
 
--- the report of one that was told nothing in its view
-abbrev pub told_nothing : View → Report
-told_nothing v = record { previous = Some v.id; stable = 0; delivered = 0; held = [] }
+-- the report of one that delivered nothing in its view
+abbrev pub delivered_nothing : View → Report
+delivered_nothing v = record { previous = Some v.id; stable = 0; delivered = 0; held = [] }
 
--- the report of one that was told one message
-abbrev pub told_first : View → Entry → Report
-told_first v e = record { previous = Some v.id; stable = 0; delivered = 1; held = held_first e }
+-- the report of one that delivered one message
+abbrev pub delivered_first : View → Entry → Report
+delivered_first v e = record { previous = Some v.id; stable = 0; delivered = 1; held = held_first e }
 
 -- ---- flushes and their cuts
 
@@ -67,10 +67,10 @@ flush_with w reports = record { proposal = w.id; members = w.members; reports = 
 
 -- the reports for the second view, and for the third, in order of arrival
 abbrev pub two_reports : List (Address × Report)
-two_reports = (one, told_nothing (lone_view one)) ∷ (two, nothing_reported) ∷ []
+two_reports = (one, delivered_nothing (lone_view one)) ∷ (two, nothing_reported) ∷ []
 
 abbrev pub three_reports : List (Address × Report)
-three_reports = (one, told_nothing view_of_two) ∷ (two, told_nothing view_of_two) ∷ (three, nothing_reported) ∷ []
+three_reports = (one, delivered_nothing view_of_two) ∷ (two, delivered_nothing view_of_two) ∷ (three, nothing_reported) ∷ []
 
 -- nothing is held
 abbrev pub empty_cuts : Cuts
@@ -112,7 +112,7 @@ third_chapter state =
     ∷ Does one (Some 4) (Begins view_of_three)
     ∷ Does two (Some 5) (Promises view_of_three)
     ∷ Does three (Some 6) (Promises view_of_three)
-    ∷ Does one (Some 7) (Records (flush_with view_of_three (take 1 three_reports)) two (told_nothing view_of_two))
+    ∷ Does one (Some 7) (Records (flush_with view_of_three (take 1 three_reports)) two (delivered_nothing view_of_two))
     ∷ Does one (Some 8) (Records (flush_with view_of_three (take 2 three_reports)) three nothing_reported)
     ∷ Does one (Some 8) (Finishes view_of_two (flush_with view_of_three three_reports) empty_cuts)
     ∷ Does two (Some 9) (Enters (for_companion view_of_three (one ∷ two ∷ []) []))

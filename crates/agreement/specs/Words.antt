@@ -1,4 +1,4 @@
--- What a trace says of one view: its order, its members, and how many messages a member was told there before it was blocked.
+-- What a trace says of one view: its order, its members, and how many messages a member delivered there before it was blocked.
 use Rattle.std.specs.Prelude.{◌≡◌, ℕ, ◌+◌, ◌&&◌, List, [], map, fold, if◌then◌else◌}
 use Rattle.std.specs.Option.{option_map_or}
 use Rattle.address.specs.Ids.{Address, ViewId, same_address, same_view_id}
@@ -14,15 +14,15 @@ use Rattle.trace_props.specs.Observed.{delivered_in, entry_of}
 abbrev pub entry_for : Message → Entry
 entry_for m = record { sender = m.sender; number = m.number; payload = m.payload }
 
--- an entry as members are told it
+-- an entry as members deliver it
 abbrev pub message_for : Entry → Message
 message_for e = record { sender = e.sender; number = e.number; payload = e.payload }
 
--- the entries that a member was told in a view
+-- the entries that a member delivered in a view
 unfoldable pub list_of : Address → ViewId → List Event → List Entry
 list_of p v t = map entry_for (delivered_in p v t)
 
--- the one order of a view: what its coordinator was told
+-- the one order of a view: what its coordinator delivered
 abbrev pub order_of : ViewId → List Event → List Entry
 order_of v t = list_of v.creator v t
 
@@ -38,7 +38,7 @@ pub data Phase : Type 0 where
   Open : Phase
   Past : Phase
 
--- how far a member is in a view, and how many messages it was told while open
+-- how far a member is in a view, and how many messages it delivered while open
 pub record Tally : Type 0 where
   pub phase : Phase
   pub count : ℕ
@@ -74,7 +74,7 @@ tally_after p v s (Crashed q) = s
 unfoldable pub tally_of : Address → ViewId → List Event → Tally
 tally_of p v t = fold (tally_after p v) no_tally t
 
--- how many messages a member was told in a view before it was blocked there
+-- how many messages a member delivered in a view before it was blocked there
 abbrev pub open_count : Address → ViewId → List Event → ℕ
 open_count p v t = (tally_of p v t).count
 

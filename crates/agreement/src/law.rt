@@ -24,10 +24,10 @@ pub fn acts_in_turn<R: Receiver>()
 {}
 
 /// The law speaks of something: these three lists of steps are allowed from the beginning on, and these traces come of them. In each three members come
-/// together one after the other. Then the first orders two messages and crashes before the second has the last one; the second takes over and is told it
+/// together one after the other. Then the first orders two messages and crashes before the second has the last one; the second takes over and delivers it
 /// by the cut. Or the first orders a message of the second, which becomes stable, and leaves before it has the next one, which is handed back. Or a fourth
 /// joins, the four fall into two halves, a message is ordered in each, and the halves merge: the second half is given the state of the first, and the
-/// fourth is told what it lacks of its own half. Each of the sixteen acts is done somewhere. For every receiver that keeps the laws. It does nothing.
+/// fourth delivers what it lacks of its own half. Each of the sixteen acts is done somewhere. For every receiver that keeps the laws. It does nothing.
 pub fn stories_play<R: Receiver>()
     ensures crash { CrashPlays R.meaning }
     ensures leave { LeavePlays R.meaning }

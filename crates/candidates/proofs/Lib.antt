@@ -1,2 +1,2 @@
-pub mod Listing
-pub mod Leading
+pub mod FactOfAddressList
+pub mod FactOfLeader

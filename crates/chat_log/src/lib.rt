@@ -1,4 +1,4 @@
-//! A replicated chat: its state is the last lines that were said, and all copies that were told the same have the
+//! A replicated chat: its state is the last lines that were said, and all copies that were given the same have the
 //! same lines (docs/FORMATS.md, "The chat's state").
 #![tactic(auto)]
 

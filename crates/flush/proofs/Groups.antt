@@ -9,7 +9,7 @@ use Rattle.wire.specs.Values.{Report}
 use Rattle.wire.specs.Lists.{is_report}
 use Rattle.flush.specs.Flushes.{report_from, has_reported, comes_from, group}
 use Rattle.flush.specs.Covers.{EachReport, HasReporter, GroupsAreReported}
-use Rattle.flush.proofs.Keeping.{reporter-stands, not-true}
+use Rattle.flush.proofs.FactOfKeptReports.{reporter-stands, not-true}
 
 address-refl : (a : Address) → same_address a a ≡ true
 address-refl a = and_from (nat_eq a.node a.node) (nat_eq a.incarnation a.incarnation) (eq-eqb a.node a.node refl) (eq-eqb a.incarnation a.incarnation refl)

@@ -1,5 +1,5 @@
 pub mod Covers
 pub mod Groups
-pub mod Keeping
+pub mod FactOfKeptReports
 pub mod Reports
 pub mod CutItems

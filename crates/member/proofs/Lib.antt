@@ -1,4 +1,4 @@
-pub mod Refusing
-pub mod Connecting
-pub mod Stepping
-pub mod Taking
+pub mod FactOfRefusals
+pub mod KeepConnected
+pub mod FactOfStep
+pub mod FactOfDatagram

@@ -11,7 +11,7 @@ use Rattle.membership.specs.declared.life.Life.{Life}
 use Rattle.membership.specs.Lives.{is_connected}
 use Rattle.membership.specs.Changes.{StaysAs}
 use Rattle.member_messages.specs.Messages.{Sends, TicksInView}
-use Rattle.member_views.specs.Views.{Creates, Asks, OnSuspect, TellsView, Leaves, is_suspectable, asks_again, flushes_again}
+use Rattle.member_views.specs.Views.{Creates, Asks, OnSuspect, AnnouncesView, Leaves, is_suspectable, asks_again, flushes_again}
 use Rattle.member_views.specs.Ignoring.{is_hint_ignored}
 use Rattle.member_hearing.specs.Hearing.{Hears, ignores}
 use Rattle.member.specs.declared.input.Input.{Input}
@@ -34,7 +34,7 @@ DoesBy meaning group me came (Datagram bytes) old new out later =
     MatchOption came (StaysAs old new out later) (λ m. Hears meaning group me m.source m.body old new out later)
 DoesBy meaning group me came Tick old new out later = (new ≡ old) × Ticks group me old out later
 DoesBy meaning group me came (Suspect q) old new out later = OnSuspect meaning group me q old new out later
-DoesBy meaning group me came (MergeHint q) old new out later = TellsView group me q old new out later
+DoesBy meaning group me came (MergeHint q) old new out later = AnnouncesView group me q old new out later
 DoesBy meaning group me came Leave old new out later = ⊥
 
 -- from one that runs to one that runs; where it leaves, it ends

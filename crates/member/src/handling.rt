@@ -10,7 +10,7 @@ use crate::hearing::{pass_time, take_packet};
 use address::Address;
 use limits::Refusal;
 use member_messages::{send, send_refusal};
-use member_views::{ask, create, leave, on_suspect, tell_view};
+use member_views::{ask, create, leave, on_suspect, announce_view};
 use membership::Life;
 use output::{Identity, Output};
 use state_transfer::Receiver;
@@ -177,7 +177,7 @@ pub(crate) fn merge_hint<R: Receiver>(
         return Err(Error::Refused(Refusal::Closed));
     };
     let mut out = Output::nothing(who.alloc);
-    match tell_view(running, who, address, &mut out) {
+    match announce_view(running, who, address, &mut out) {
         Ok(()) => Ok(out),
         Err(_) => {
             *life = None;

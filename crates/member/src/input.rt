@@ -1,6 +1,6 @@
 use address::Address;
 
-/// What a member is handed: a wish of its application, a datagram, what it is told of others, or that time passes. Payloads and bytes are lent. After its
+/// What a member is handed: a wish of its application, a datagram, a suspect or a hint, or that time passes. Payloads and bytes are lent. After its
 /// end a member refuses all with 6. Where memory is refused the answer is 7, and it has ended. What is ignored leaves it as it was, and nothing comes
 /// of it (docs/PROTOCOL.md, "Inputs and refusals").
 #[derive(Clone, Copy, Debug)]
@@ -25,7 +25,7 @@ pub enum Input<'a> {
     /// due (docs/PROTOCOL.md, "Suspicion" and "Candidates"). Ignored without a view, for itself, and for an address that is neither in its view nor in the
     /// list that it promised. Never refused but with 6 and 7.
     Suspect(Address),
-    /// A member of another view of the group may be reached at this address: it is told of this view, so that the two merge (docs/PROTOCOL.md, "Merging").
+    /// A member of another view of the group may be reached at this address: this view is announced to it, so that the two merge (docs/PROTOCOL.md, "Merging").
     /// Ignored unless this member leads its view and is not blocked, and for an address in its view. Never refused but with 6 and 7.
     MergeHint(Address),
     /// Leaves the group, for good, and says so to the others of its view (docs/PROTOCOL.md, "Leaving"). Never refused but with 6 and 7.

@@ -23,7 +23,7 @@ use std::alloc::{AllocError, Global};
 use std::marker::Model;
 use view::View;
 
-/// A member of a group, with the receiver that it tells messages and views. Contracts see its address, its group and, while it runs, what it keeps
+/// A member of a group, with the receiver that it gives messages and views. Contracts see its address, its group and, while it runs, what it keeps
 /// (docs/PROTOCOL.md, "What a member keeps") and the core by which it decides (docs/PROOF.md, "Agreement over acts").
 #[derive(Drop)]
 pub struct Member<R: Receiver> {
@@ -127,7 +127,7 @@ impl<R: Receiver> Member<R> {
         ensures closed { IsClosed R.meaning self.old input.entry result }
         // What happens by each input, and whether the member is connected then;
         ensures reply { IfOk result (λ out. IsSomeAnd (core_of self.old) (λ c. Replies c input.entry out.events.items (core_of self.new))) }
-        // a coordinator is told its message at once, while the window has room;
+        // a coordinator delivers its message at once, while the window has room;
         ensures prompt { IfOk result (λ out. IsSomeAnd (core_of self.old) (λ c. IsPrompt c input.entry out.events.items)) }
         // what it must do by each input and each kind of packet: what is put out, what happens, and what it keeps and notes then;
         ensures does { IfOk result (λ out. Does R.meaning self.old input.entry out self.new) }

@@ -1,3 +1,3 @@
-pub mod Offering
-pub mod Proposing
-pub mod Acting
+pub mod FactOfOffer
+pub mod FactOfProposal
+pub mod ActsAreAllowed

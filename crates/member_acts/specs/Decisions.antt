@@ -68,7 +68,7 @@ cuts_of f = record { base = λ u. cut_base (group (Some u) f.reports); items = �
 abbrev pub is_readable : {S : Type 0} → Meaning S → Option (List ℕ) → Bool
 is_readable meaning given = option_map_or (λ bytes. is_some (meaning.decode bytes)) given true
 
--- who comes from a view is told what follows a number that it has reached; who comes from none is told no messages and given a state
+-- who comes from a view delivers what follows a number that it has reached; who comes from none delivers no messages and is given a state
 abbrev pub is_fitting : Option View → ℕ → wire.Install → Bool
 is_fitting (Some v) delivered i = nat_le i.base delivered
 is_fitting None delivered i = nat_eq i.base 0 && nat_eq (length i.items) 0 && is_some i.state

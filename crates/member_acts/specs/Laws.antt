@@ -14,7 +14,7 @@ use Rattle.flush.specs.declared.progress.Progress.TheVariants.{Complete}
 use Rattle.view_install.specs.Promises.{offered, is_accept}
 use Rattle.agreement.specs.Histories.{Posted}
 use Rattle.agreement.specs.Cores.{Core, report_with}
-use Rattle.agreement.specs.Acts.{packet, others_of, promised, begun, proposed, gone_into, blocking, entering, undelivered, state_after_cut, instructions, told_at, state_into}
+use Rattle.agreement.specs.Acts.{packet, others_of, promised, begun, proposed, gone_into, blocking, entering, undelivered, state_after_cut, instructions, delivered_at, state_into}
 use Rattle.agreement.specs.Chains.{Acted}
 use Rattle.member_acts.specs.Decisions.{promise_of, next_proposal, proposal_after, due_proposal, cuts_of, is_readable, is_entry}
 
@@ -54,13 +54,13 @@ RecordsActed {S} meaning = (came : Option Posted) (c : Core S) (f : FlushModel) 
 abbrev pub FinishesActed : {S : Type 0} → Meaning S → Type 0
 FinishesActed {S} meaning = (came : Option Posted) (c : Core S) (v : View) (f : FlushModel) → c.view ≡ Some v → c.flush ≡ Some f → IsFlush f → progress_of f ≡ Complete
     → let given = instructions meaning c v f (cuts_of f) in
-    let told = undelivered c.traffic.delivered ((cuts_of f).base v.id) ((cuts_of f).items v.id) in
-    Acted meaning came (Some c) (map (λ p. packet c.me (bodies.Install p.1) p.0) given) (entering c told (proposed f) (together_of c.me f) None)
+    let last = undelivered c.traffic.delivered ((cuts_of f).base v.id) ((cuts_of f).items v.id) in
+    Acted meaning came (Some c) (map (λ p. packet c.me (bodies.Install p.1) p.0) given) (entering c last (proposed f) (together_of c.me f) None)
     (Some (gone_into (proposed f) (state_after_cut meaning c v (cuts_of f)) given c))
 
 -- an INSTALL by which it would enter, whose state can be read, is entered
 abbrev pub EntersActed : {S : Type 0} → Meaning S → Type 0
 EntersActed {S} meaning = (came : Option Posted) (c : Core S) (q : Address) (i : wire.Install) → came ≡ Some (packet q (bodies.Install i) c.me)
     → is_entry c q i ≡ true → is_readable meaning i.state ≡ true
-    → let told = told_at c i.base i.items in
-    Acted meaning came (Some c) [] (entering c told i.view i.together i.state) (Some (gone_into i.view (state_into meaning c told i.state) [] c))
+    → let last = delivered_at c i.base i.items in
+    Acted meaning came (Some c) [] (entering c last i.view i.together i.state) (Some (gone_into i.view (state_into meaning c last i.state) [] c))

@@ -1,1 +1,1 @@
-pub mod Ordering
+pub mod KeepOrder

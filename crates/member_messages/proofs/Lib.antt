@@ -1,6 +1,6 @@
-pub mod Opening
-pub mod Heard
-pub mod Calming
-pub mod Sent
-pub mod Fresh
-pub mod Nexts
+pub mod FactOfOpen
+pub mod FactOfHeard
+pub mod FactOfCalm
+pub mod FactOfSent
+pub mod FactOfFresh
+pub mod FactOfNext

@@ -120,7 +120,7 @@ DeliversAtOnce me payload old out later = ByKind (λ m. DeliversNext me m.view.i
 
 -- ---- a tick
 
--- the coordinator tells the others how far its order has come; another member puts out its outstanding messages again, and how far it has come
+-- the coordinator announces to the others how far its order has come; another member puts out its outstanding messages again, and how far it has come
 abbrev pub TicksInView : {S : Type 0} → List ℕ → Address → Life S → Output → Output → Type 0
 TicksInView group me l out later = ByKind
     (λ m. Grows group out later (map (packet me (bodies.Status m.view.id (progress_of m.window))) (others_of me m.view.members)) [])

@@ -1,4 +1,4 @@
-pub mod Living
-pub mod Steady
-pub mod Calming
-pub mod Doing
+pub mod KeepLife
+pub mod KeepSteady
+pub mod FactOfCalm
+pub mod ActsOfRules

@@ -8,7 +8,7 @@ use Rattle.membership.specs.Lives.{is_kept_for}
 use Rattle.membership.specs.Changes.{is_ignored_offer}
 use Rattle.member_views.specs.Views.{leads_now, has_member, view_for, is_less, expects, is_in}
 
--- a hint of an address that it may not tell of its view
+-- a hint of an address to which it may not announce its view
 abbrev pub is_hint_ignored : {S : Type 0} → Address → Address → Life S → Bool
 is_hint_ignored me p l = not (is_some (view_for me p l))
 

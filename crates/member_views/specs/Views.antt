@@ -88,8 +88,8 @@ OnJoin meaning group me q old new out later =
 abbrev pub view_for : {S : Type 0} → Address → Address → Life S → Option View
 view_for me p l = if (l.promise.is_installed && leads_now me l) && not (has_member p l) then view_in l.traffic else None
 
--- it tells an address of its view, by a MERGE, where it may
-pub record TellsView {S : Type 0} (group : List ℕ) (me p : Address) (old new : Life S) (out later : Output) : Type 0 where
+-- it announces its view to an address, by a MERGE, where it may
+pub record AnnouncesView {S : Type 0} (group : List ℕ) (me p : Address) (old new : Life S) (out later : Output) : Type 0 where
   pub life : new ≡ old
   pub grows : Grows group out later (option_map_or (λ v. packet me (bodies.Merge v) p ∷ []) (view_for me p old) []) []
 
@@ -97,7 +97,7 @@ pub record TellsView {S : Type 0} (group : List ℕ) (me p : Address) (old new :
 abbrev pub OnRedirect : {S : Type 0} → List ℕ → Address → Address → Life S → Life S → Output → Output → Type 0
 OnRedirect group me c old new out later =
     MatchBool (same_address c me) (StaysAs old new out later)
-    (MatchBool (is_some old.traffic) (TellsView group me c old new out later) (Asks group me c old new out later))
+    (MatchBool (is_some old.traffic) (AnnouncesView group me c old new out later) (Asks group me c old new out later))
 
 -- ---- MERGE
 
@@ -109,10 +109,10 @@ is_less p q = nat_lt p.node q.node || (nat_eq p.node q.node && nat_lt p.incarnat
 abbrev pub merged : {S : Type 0} → Address → View → Life S → Life S
 merged me u l = record l { notes = option_map_or (λ v. noting_view me v.members u l.notes) (view_in l.traffic) l.notes }
 
--- where it leads: a lesser address is told of its view; those of a greater one's view are noted, and what is due is begun
+-- where it leads: to a lesser address it announces its view; those of a greater one's view are noted, and what is due is begun
 abbrev pub Meets : {S : Type 0} → Meaning S → List ℕ → Address → Address → View → Life S → Life S → Output → Output → Type 0
 Meets meaning group me q u old new out later =
-    MatchBool (is_less q me) (TellsView group me q old new out later) (Regroups meaning group me (merged me u old) new out later)
+    MatchBool (is_less q me) (AnnouncesView group me q old new out later) (Regroups meaning group me (merged me u old) new out later)
 
 -- of one who is in no view or in this one it is ignored
 abbrev pub OnMerge : {S : Type 0} → Meaning S → List ℕ → Address → Address → View → Life S → Life S → Output → Output → Type 0

@@ -10,7 +10,7 @@ ghost use Rattle.member_views.specs.Firsts.{lone_install};
 ghost use Rattle.member_views.specs.Views.{Creates, Asks, OnJoin, OnRedirect, Redirects, Admits, leads_now, first_in, outdated, joined};
 ghost use Rattle.member_views.specs.Ignoring.{is_misdirected};
 
-use crate::merging::tell_view;
+use crate::merging::announce_view;
 use address::{Address, ViewId};
 use candidates::Notes;
 use membership::Life;
@@ -173,7 +173,7 @@ fn note_joiner<R: Receiver>(
     }
 }
 
-// One asks to be let in, where earlier incarnations of its node are suspected already: it is noted, and what is due is begun; or it is told whom to ask.
+// One asks to be let in, where earlier incarnations of its node are suspected already: it is noted, and what is due is begun; or it is redirected.
 fn admit<R: Receiver>(
     life: &mut Life<R>,
     who: &Identity,
@@ -233,7 +233,7 @@ pub fn on_redirect<R: Receiver>(
         return Ok(());
     }
     if life.traffic.is_some() {
-        tell_view(life, who, coordinator, out)?;
+        announce_view(life, who, coordinator, out)?;
     } else {
         ask(life, who, coordinator, out)?;
     }

@@ -31,7 +31,7 @@ fn say_to(who: &Identity, traffic: &Traffic, out: &mut Output) -> Result<(), All
     Ok(())
 }
 
-/// Leaves the group: each other member of its view is told by a LEAVE, by rank. After an error for want of memory nothing is said of what was put out.
+/// Leaves the group: a LEAVE goes to each other member of its view, by rank. After an error for want of memory nothing is said of what was put out.
 pub fn leave<R: Receiver>(
     life: &Life<R>,
     who: &Identity,

@@ -8,7 +8,7 @@ ghost use Rattle.agreement.specs.Acts.{packet};
 ghost use Rattle.output.specs.Outputs.{Grows};
 ghost use Rattle.membership.specs.Lives.{IsLife, view_in};
 ghost use Rattle.membership.specs.Changes.{StaysAs};
-ghost use Rattle.member_views.specs.Views.{TellsView, Meets, OnMerge, is_less, has_member, view_for, merged};
+ghost use Rattle.member_views.specs.Views.{AnnouncesView, Meets, OnMerge, is_less, has_member, view_for, merged};
 ghost use Rattle.member_views.specs.Ignoring.{is_hint_ignored, is_merge_ignored};
 
 use crate::joining::{leads_now, redirect};
@@ -57,15 +57,15 @@ fn say(who: &Identity, view: &View, address: Address, out: &mut Output) -> Resul
     Ok(())
 }
 
-/// A member of another view may be at an address: it is told of this view by a MERGE, where this member leads the view and is not blocked, and the
+/// A member of another view may be at an address: a MERGE announces this view to it, where this member leads the view and is not blocked, and the
 /// address is not in the view (docs/PROTOCOL.md, "Merging"). After an error for want of memory nothing is said of what was put out.
-pub fn tell_view<R: Receiver>(
+pub fn announce_view<R: Receiver>(
     life: &Life<R>,
     who: &Identity,
     address: Address,
     out: &mut Output,
 ) -> Result<(), AllocError>
-    ensures does { OnOk result (TellsView who.now.group who.now.address address life.now life.now out.old out.new) }
+    ensures does { OnOk result (AnnouncesView who.now.group who.now.address address life.now life.now out.old out.new) }
     ensures ignored { is_hint_ignored who.now.address address life.now ≡ true → (result ≡ Ok tt) × (out.new ≡ out.old) }
 {
     match view_for(life, who, &address) {
@@ -77,7 +77,7 @@ pub fn tell_view<R: Receiver>(
     }
 }
 
-// The view that a MERGE tells of.
+// The view that a MERGE announces.
 fn view_from(alloc: Global, roster: &Roster) -> Result<View, AllocError>
     ensures { IfOk result (λ v. v ≡ roster.now) }
 {
@@ -136,7 +136,7 @@ fn meet<R: Receiver>(
     ensures ignored { is_less source who.now.address ≡ true → is_hint_ignored who.now.address source life.old ≡ true → (result ≡ Ok tt) × StaysAs life.old life.new out.old out.new }
 {
     if is_less(&source, &who.address) {
-        tell_view(life, who, source, out)?;
+        announce_view(life, who, source, out)?;
     } else {
         note_view(life, who, other)?;
         life.regroup(who, out)?;
@@ -144,7 +144,7 @@ fn meet<R: Receiver>(
     Ok(())
 }
 
-/// MERGE: there is another view. A member that leads its own tells a lesser address of it, and notes those of a greater one's and begins what is due; one that
+/// MERGE: there is another view. A member that leads its own announces it to a lesser address, notes those of a greater one's and begins what is due; one that
 /// does not lead says whom to ask (docs/PROTOCOL.md, "Merging"). Ignored without a view and from a member of the own one. After an error for want
 /// of memory nothing is said of the member.
 pub fn on_merge<R: Receiver>(

@@ -132,7 +132,7 @@ TakesSuspicion meaning group me p old new out later = Regroups meaning group me 
 
 -- ---- an INSTALL
 
--- it is told the view, and begins there anew
+-- it installs the view, and begins there anew
 pub record Arrives {S : Type 0} (group : List ℕ) (me : Address) (traffic : Option Traffic) (i : wire.Install) (own : ℕ) (old new : Life S) (out later : Output) : Type 0 where
   pub life : new ≡ record old {
     traffic = Some (fresh_in me i.view);
@@ -144,7 +144,7 @@ pub record Arrives {S : Type 0} (group : List ℕ) (me : Address) (traffic : Opt
   pub kept : new.kept.items ≡ []
   pub grows : Grows group out later [] (arriving me traffic i own ∷ [])
 
--- it is delivered what it lacks of its view, takes the state that is given, is told the view, and begins there anew
+-- it delivers what it lacks of its view, takes the state that is given, installs the view, and begins there anew
 pub record Enters {S : Type 0} (meaning : Meaning S) (group : List ℕ) (me : Address) (traffic : Option Traffic) (i : wire.Install)
     (old new : Life S) (out later : Output) : Type 0 where
   pub life : new ≡ record old {

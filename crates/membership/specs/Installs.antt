@@ -54,14 +54,14 @@ IsSayable f v state q = is_install (instruction_to f v state q) ≡ true
 -- ---- a flush is finished
 
 -- what its creator is delivered of its own view's cut
-abbrev pub told_by : FlushModel → Traffic → List Entry
-told_by f t = undelivered (traffic_of t).delivered ((cuts_of f).base (view_of t).id) ((cuts_of f).items (view_of t).id)
+abbrev pub delivered_by : FlushModel → Traffic → List Entry
+delivered_by f t = undelivered (traffic_of t).delivered ((cuts_of f).base (view_of t).id) ((cuts_of f).items (view_of t).id)
 
 -- how many of these are its own
 abbrev pub own_of : Address → List Entry → ℕ
 own_of me entries = length (own me (map message_for entries))
 
--- its creator is told the view that it proposed
+-- its creator installs the view that it proposed
 abbrev pub going : Address → FlushModel → Traffic → ℕ → Event
 going me f t n = Installed (record {
   member = me;
@@ -74,7 +74,7 @@ going me f t n = Installed (record {
 
 -- the state with which the view begins
 abbrev pub finished_state : {S : Type 0} → Meaning S → FlushModel → Traffic → S → S
-finished_state meaning f t s = applied meaning s (told_by f t)
+finished_state meaning f t s = applied meaning s (delivered_by f t)
 
 -- what its creator puts out
 abbrev pub finish_packets : Address → FlushModel → Traffic → List ℕ → List Posted
@@ -82,7 +82,7 @@ finish_packets me f t state = map (instructing me f (view_of t).id state) (other
 
 -- what happens to its creator
 abbrev pub finish_events : Address → FlushModel → Traffic → List Event
-finish_events me f t = map (delivery me (view_of t).id) (told_by f t) ++ going me f t (own_of me (told_by f t)) ∷ []
+finish_events me f t = map (delivery me (view_of t).id) (delivered_by f t) ++ going me f t (own_of me (delivered_by f t)) ∷ []
 
 -- ---- an INSTALL is entered
 
@@ -98,7 +98,7 @@ left_in traffic n = option_map_or (λ t. drop n (traffic_of t).outstanding) traf
 abbrev pub state_by : {S : Type 0} → Meaning S → Option Traffic → wire.Install → S → S
 state_by meaning traffic i s = unwrap_or (option_and_then meaning.decode i.state) (applied meaning s (lacking traffic i))
 
--- it is told the view
+-- it installs the view
 abbrev pub arriving : Address → Option Traffic → wire.Install → ℕ → Event
 arriving me traffic i n = Installed (record {
   member = me;

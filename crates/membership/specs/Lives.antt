@@ -140,14 +140,14 @@ pub record IsFlushing {S : Type 0} (me : Address) (l : Life S) (f : FlushModel) 
   pub leads : ForSome (view_in l.traffic) (λ v. leads_in me v l.notes ≡ true)
 
 -- a packet of its own that gives an INSTALL
-abbrev pub telling : Address → Address × wire.Install → Posted
-telling me p = packet me (bodies.Install p.1) p.0
+abbrev pub install_packet : Address → Address × wire.Install → Posted
+install_packet me p = packet me (bodies.Install p.1) p.0
 
 -- what it kept are INSTALLs of its view, to others, as it spelled them
 pub record IsKept {S : Type 0} (group : List ℕ) (me : Address) (l : Life S) : Type 0 where
   pub given : List (Address × wire.Install)
-  pub spelled : l.kept.items ≡ map (spelled group) (map (telling me) given)
-  pub sound : AllByRecursion (λ m. IsPacket (packet_in group m)) (map (telling me) given)
+  pub spelled : l.kept.items ≡ map (spelled group) (map (install_packet me) given)
+  pub sound : AllByRecursion (λ m. IsPacket (packet_in group m)) (map (install_packet me) given)
   pub current : AllByRecursion (λ p. view_in l.traffic ≡ Some p.1.view) given
 
 pub record IsLife {S : Type 0} (group : List ℕ) (me : Address) (l : Life S) : Type 0 where

@@ -151,8 +151,8 @@ fn id_in(traffic: &Option<Traffic>) -> Option<ViewId>
     }
 }
 
-// Tells the view of an INSTALL.
-fn tell_view(
+// Installs the view of an INSTALL: the event is recorded.
+fn install_view(
     who: &Identity,
     traffic: Option<Traffic>,
     install: &Install<'_>,
@@ -199,7 +199,7 @@ impl<R: Receiver> Life<R> {
         Ok(())
     }
 
-    // It is told the view, and begins there anew.
+    // It installs the view, and begins there anew.
     fn arrive(
         &mut self,
         who: &Identity,
@@ -210,7 +210,7 @@ impl<R: Receiver> Life<R> {
     ) -> Result<(), AllocError>
         ensures { OnOk result (Arrives who.now.group who.now.address traffic install.now own self.old self.new out.old out.new) }
     {
-        tell_view(who, traffic, install, own, out)?;
+        install_view(who, traffic, install, own, out)?;
         let view = view_from(who.alloc, install.view())?;
         let _ = self.promise.install(install.view());
         self.notes.clear();

@@ -1,4 +1,4 @@
-//! What a finished flush says: what its creator is delivered and told, and what it says to each other of the list.
+//! What a finished flush says: what its creator delivers and installs, and what it says to each other of the list.
 
 ghost use Rattle.std.specs.Prelude.{◌≡◌, ◌≤◌, ◌++◌, drop, [], ◌∷◌, OnOk, IfOk, Some, None, length, map, true};
 ghost use Rattle.std.specs.List.{flat_map, AllByRecursion};
@@ -11,7 +11,7 @@ ghost use Rattle.agreement.specs.Cores.{applied};
 ghost use Rattle.member_acts.specs.Decisions.{cuts_of};
 ghost use Rattle.traffic.specs.Traffics.{view_of};
 ghost use Rattle.output.specs.Outputs.{Grows};
-ghost use Rattle.membership.specs.Installs.{SpellsCut, IsSayable, instruction_to, instructing, told_by, own_of, going, finished_state, finish_packets, finish_events};
+ghost use Rattle.membership.specs.Installs.{SpellsCut, IsSayable, instruction_to, instructing, delivered_by, own_of, going, finished_state, finish_packets, finish_events};
 
 use crate::beginning::others_of;
 use address::{Address, ViewId};
@@ -223,9 +223,9 @@ fn deliver_cut<R: Receiver>(
     receiver: &mut R,
     out: &mut Output,
 ) -> Result<usize, AllocError>
-    ensures state { OnOk result (receiver.new ≡ applied R.meaning receiver.old (told_by flush.now traffic.now)) }
-    ensures out { OnOk result (Grows who.now.group out.old out.new [] (map (delivery who.now.address (view_of traffic.now).id) (told_by flush.now traffic.now))) }
-    ensures own { IfOk result (λ n. n ≡ own_of who.now.address (told_by flush.now traffic.now)) }
+    ensures state { OnOk result (receiver.new ≡ applied R.meaning receiver.old (delivered_by flush.now traffic.now)) }
+    ensures out { OnOk result (Grows who.now.group out.old out.new [] (map (delivery who.now.address (view_of traffic.now).id) (delivered_by flush.now traffic.now))) }
+    ensures own { IfOk result (λ n. n ≡ own_of who.now.address (delivered_by flush.now traffic.now)) }
 {
     let view = traffic.view().id();
     let cut = flush.cut(who.alloc, &Some(view))?;
@@ -235,8 +235,8 @@ fn deliver_cut<R: Receiver>(
     Ok(own_of(&who.address, lacking))
 }
 
-// Tells the creator of a flush the view that it proposed.
-fn tell_view(
+// The creator of a flush installs the view that it proposed: the event is recorded.
+fn install_view(
     who: &Identity,
     flush: &Flush,
     traffic: Traffic,
@@ -264,7 +264,7 @@ fn tell_view(
     )
 }
 
-// Finishes a flush to which all of its list have reported: what its creator is delivered and told, and what it says to the others.
+// Finishes a flush to which all of its list have reported: what its creator delivers and installs, and what it says to the others.
 pub(crate) fn finish<R: Receiver>(
     who: &Identity,
     flush: &Flush,
@@ -282,7 +282,7 @@ pub(crate) fn finish<R: Receiver>(
     let mut state = Vec::new(who.alloc);
     receiver.get_state(&mut state)?;
     let others = others_of(who.alloc, &who.address, flush.members().as_slice())?;
-    tell_view(who, flush, traffic, own, out)?;
+    install_view(who, flush, traffic, own, out)?;
     instruct_all(who, flush, view, state.as_slice(), others.as_slice(), out)?;
     Ok(())
 }

@@ -1,5 +1,5 @@
 //! The window of a view: the messages that a member holds by their number in the view's one order, and
-//! those of them that it was told (docs/PROTOCOL.md, "Window").
+//! those of them that it delivered (docs/PROTOCOL.md, "Window").
 #![tactic(auto)]
 
 mod entry;

@@ -1,2 +1,2 @@
-pub mod Growing
-pub mod Calming
+pub mod FactOfGrows
+pub mod FactOfCalm

@@ -14,7 +14,7 @@ fn the_incarnation_0_is_none(rt: HostRuntime) {
 }
 
 #[test]
-fn the_greatest_address_tells_its_parts(rt: HostRuntime) {
+fn the_greatest_address_gives_its_parts(rt: HostRuntime) {
     let last = address(65535, 4_294_967_295);
     assert_eq!(rt; last.node().number(), 65535, "the node");
     assert_eq!(rt; last.incarnation(), 4_294_967_295, "the incarnation");
@@ -87,6 +87,6 @@ fn no_view_id_is_behind_the_greatest_counter(rt: HostRuntime) {
 }
 
 #[test]
-fn used_up_counters_are_told_as_8(rt: HostRuntime) {
+fn used_up_counters_are_refused_as_8(rt: HostRuntime) {
     assert_eq!(rt; Exhausted.number(), 8);
 }

@@ -164,8 +164,8 @@ fn a_state_of_25_lines_is_refused(rt: HostRuntime) {
     assert!(rt; are_refused(rt.alloc(), &state));
 }
 
-// A chat that was told the bytes 1 to 25 by a sender, one a message.
-fn told_25(alloc: Global, sender: Address) -> Result<ChatLog, AllocError> {
+// A chat that was delivered the bytes 1 to 25 by a sender, one a message.
+fn delivered_25(alloc: Global, sender: Address) -> Result<ChatLog, AllocError> {
     let mut chat = ChatLog::opening(alloc)?;
     for number in 1..26u8 {
         chat.receive(sender, &[number])?;
@@ -176,7 +176,7 @@ fn told_25(alloc: Global, sender: Address) -> Result<ChatLog, AllocError> {
 #[test]
 fn the_last_24_lines_are_kept(rt: HostRuntime) {
     let sender = first_of(3);
-    let chat = told_25(rt.alloc(), sender).ok().expect(&rt, "a chat");
+    let chat = delivered_25(rt.alloc(), sender).ok().expect(&rt, "a chat");
     assert_eq!(rt; chat.len(), 24, "how many lines there are");
     for i in 0..24u8 {
         assert!(rt;

@@ -28,7 +28,7 @@ fn report<'a>(view: u64, stable: u64, delivered: u64, held: &'a [[u8; 25]]) -> O
     )
 }
 
-/// Whether the flush stands so once a node's report is told.
+/// Whether the flush stands so once a node has reported.
 fn stands(flush: &mut Flush, node: u16, report: Option<Report<'_>>, progress: Progress) -> bool
     requires { 1 ≤ node }
 {
@@ -38,14 +38,14 @@ fn stands(flush: &mut Flush, node: u16, report: Option<Report<'_>>, progress: Pr
     }
 }
 
-/// Whether the flush waits on once a node has told that it comes from no view.
+/// Whether the flush waits on once a node has reported that it comes from no view.
 fn waits(flush: &mut Flush, node: u16) -> bool
     requires { 1 ≤ node }
 {
     stands(flush, node, Some(Report::nothing()), Progress::Waiting)
 }
 
-/// Whether the flush is complete once a node has told that it comes from no view.
+/// Whether the flush is complete once a node has reported that it comes from no view.
 fn is_complete(flush: &mut Flush, node: u16) -> bool
     requires { 1 ≤ node }
 {
@@ -84,7 +84,7 @@ fn goes_with(flush: &Flush, alloc: Global, node: u16, nodes: &[u16]) -> bool
 }
 
 #[test]
-fn a_flush_tells_its_proposal_and_its_list(rt: HostRuntime) {
+fn a_flush_gives_its_proposal_and_its_list(rt: HostRuntime) {
     let flush = started(rt.alloc(), &[1, 2]).expect(&rt, "a flush");
     flush.kept();
     assert!(rt; flush.proposal() == view_id(9), "the proposal");
@@ -224,7 +224,7 @@ fn those_of_one_view_go_together(rt: HostRuntime) {
 }
 
 /// Whether a report is recorded, or is refused for want of memory and leaves the flush as it was, so that it is recorded afterwards.
-fn told_or_unchanged(flush: &mut Flush, node: u16, report: &Report<'_>) -> bool
+fn reported_or_unchanged(flush: &mut Flush, node: u16, report: &Report<'_>) -> bool
     requires { 1 ≤ node }
 {
     let from = first_of(node);
@@ -239,10 +239,10 @@ fn told_or_unchanged(flush: &mut Flush, node: u16, report: &Report<'_>) -> bool
 fn a_refused_growth_changes_nothing(rt: HostRuntime) {
     if let Some(mut flush) = started(rt.alloc(), &[1, 2]) {
         let held = [spelled(1, 10)];
-        let told = report(3, 0, 1, &held).expect(&rt, "a report");
-        assert!(rt; told_or_unchanged(&mut flush, 1, &told), "the first report");
+        let reported = report(3, 0, 1, &held).expect(&rt, "a report");
+        assert!(rt; reported_or_unchanged(&mut flush, 1, &reported), "the first report");
         assert!(rt;
-            told_or_unchanged(&mut flush, 2, &told),
+            reported_or_unchanged(&mut flush, 2, &reported),
             "the second report"
         );
     }

@@ -89,7 +89,7 @@ fn delivers_in_order(rt: HostRuntime) {
 }
 
 #[test]
-fn tells_what_is_delivered_and_stable(rt: HostRuntime) {
+fn says_what_is_delivered_and_stable(rt: HostRuntime) {
     let window = after_three(rt.alloc()).ok().expect(&rt, "a window");
     assert_eq!(rt; window.delivered(), 3, "delivered");
     assert_eq!(rt; window.stable(), 2, "stable");
@@ -113,7 +113,7 @@ fn reaches_32_behind_what_is_stable(rt: HostRuntime) {
 }
 
 #[test]
-fn tells_its_gaps(rt: HostRuntime) {
+fn says_its_gaps(rt: HostRuntime) {
     let mut window = after_three(rt.alloc()).ok().expect(&rt, "a window");
     assert!(rt; offered(&mut window, 34), "34 is taken");
     assert!(rt; window.gaps(34) == Some((4, 33)), "what lacks before 34");
@@ -121,7 +121,7 @@ fn tells_its_gaps(rt: HostRuntime) {
 }
 
 #[test]
-fn an_entry_tells_its_parts(rt: HostRuntime) {
+fn an_entry_gives_its_parts(rt: HostRuntime) {
     let lent = lent(4, &[1, 2]).expect(&rt, "a lent entry");
     let entry = Entry::copy_of(rt.alloc(), &lent).ok().expect(&rt, "a copy");
     let again = entry.lent();
@@ -151,7 +151,7 @@ fn taken_or_unchanged(window: &mut Window, g: u64) -> bool {
 }
 
 /// Whether the next number is delivered where it is held, or is refused for want of memory and leaves the window as it was.
-fn told_or_unchanged(window: &mut Window) -> bool {
+fn delivered_or_unchanged(window: &mut Window) -> bool {
     let before = window.delivered();
     let next = before.saturating_add(1);
     match window.take_ready() {
@@ -170,7 +170,7 @@ fn a_refused_growth_changes_nothing(rt: HostRuntime) {
         }
         for turn in 0..3 {
             assert!(rt;
-                told_or_unchanged(&mut window),
+                delivered_or_unchanged(&mut window),
                 "the delivery in the turn {turn}"
             );
         }

@@ -170,7 +170,7 @@ fn oldest(forwards: &Forwards) -> Option<u64> {
 #[test]
 fn the_oldest_message_is_outstanding_no_longer(rt: HostRuntime) {
     let mut forwards = eight(rt.alloc());
-    forwards.told();
+    forwards.oldest_delivered();
     assert_eq!(rt; forwards.rest().len(), 7, "how many are outstanding");
     assert_eq!(rt; oldest(&forwards), Some(2), "the oldest of them");
     assert_eq!(rt; forwards.sent(), 8, "how many were sent");
@@ -179,7 +179,7 @@ fn the_oldest_message_is_outstanding_no_longer(rt: HostRuntime) {
 #[test]
 fn nothing_changes_where_none_is_outstanding(rt: HostRuntime) {
     let mut forwards = Forwards::new(rt.alloc());
-    forwards.told();
+    forwards.oldest_delivered();
     assert!(rt; forwards.rest().is_empty(), "none is outstanding");
 }
 

@@ -7,7 +7,7 @@ fn of_two(alloc: Global) -> Option<Acks> {
     Acks::new(alloc, &view_of(alloc, &[1, 2])?).ok()
 }
 
-/// Notes a count of the first address of a node, and tells how many are stable then.
+/// Notes a count of the first address of a node, and answers how many are stable then.
 fn noted(acks: &mut Acks, node: u16, count: u64) -> u64 {
     if node > 0 {
         acks.note(&first_of(node), count);
@@ -16,7 +16,7 @@ fn noted(acks: &mut Acks, node: u16, count: u64) -> u64 {
 }
 
 #[test]
-fn nothing_is_stable_until_all_have_told(rt: HostRuntime) {
+fn nothing_is_stable_until_all_have_acknowledged(rt: HostRuntime) {
     let mut acks = of_two(rt.alloc()).expect(&rt, "the view of two");
     assert_eq!(rt; noted(&mut acks, 1, 5), 0);
 }

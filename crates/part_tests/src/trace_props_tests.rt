@@ -21,7 +21,7 @@ fn is_started(events: &[Event]) -> bool {
 }
 
 #[test]
-fn a_trace_tells_what_was_recorded(rt: HostRuntime) {
+fn a_trace_has_what_was_recorded(rt: HostRuntime) {
     let trace = started(rt.alloc()).ok().expect(&rt, "a trace");
     assert!(rt; is_started(trace.events()));
 }
@@ -40,7 +40,7 @@ fn nothing_handed_back_is_no_message(rt: HostRuntime) {
 }
 
 #[test]
-fn what_is_handed_back_is_told(rt: HostRuntime) {
+fn what_is_handed_back_is_recorded(rt: HostRuntime) {
     let back = one_back(rt.alloc()).ok().expect(&rt, "a message");
     let messages = back.as_slice();
     assert_eq!(rt; messages.len(), 1, "how many messages there are");

@@ -73,7 +73,7 @@ fn two(alloc: Global) -> Option<Addresses> {
 }
 
 #[test]
-fn a_list_tells_its_addresses(rt: HostRuntime) {
+fn a_list_gives_its_addresses(rt: HostRuntime) {
     let members = two(rt.alloc()).expect(&rt, "a list");
     assert!(rt;
         members.as_slice() == [first_of(1), first_of(3)].as_slice(),

@@ -41,7 +41,7 @@ fn behind(alloc: Global, payloads: &[&[u8]]) -> Option<World<ChatLog>> {
 }
 
 /// How many messages were delivered to 2.1.
-fn told_to_second(world: &World<ChatLog>) -> usize {
+fn delivered_to_second(world: &World<ChatLog>) -> usize {
     let mut count: usize = 0;
     for event in world.trace().events() {
         if let Event::Delivered(delivery) = event {
@@ -75,14 +75,14 @@ const STATUS: u8 = 8;
 #[test]
 fn two_lost_messages_are_recovered(rt: HostRuntime) {
     let mut world = behind(rt.alloc(), &[b"a", b"b"]).expect(&rt, "the events are done");
-    assert!(rt; told_to_second(&world) == 0, "nothing was delivered to 2.1");
+    assert!(rt; delivered_to_second(&world) == 0, "nothing was delivered to 2.1");
     assert!(rt; world.packets().len() == 6, "six packets are there");
     assert!(rt;
         world.catch_up(node(2)) == Ok(true),
         "the catch-up is played"
     );
     assert!(rt;
-        told_to_second(&world) == 2,
+        delivered_to_second(&world) == 2,
         "both messages are delivered to 2.1"
     );
     assert!(rt; world.packets().len() == 12, "six packets more");
@@ -153,7 +153,7 @@ fn thirty_two_lost_messages_are_recovered(rt: HostRuntime) {
         world.catch_up(node(2)) == Ok(true),
         "the catch-up is played"
     );
-    assert!(rt; told_to_second(&world) == 32, "all are delivered to 2.1");
+    assert!(rt; delivered_to_second(&world) == 32, "all are delivered to 2.1");
     assert!(rt;
         world.packets().len() == 102,
         "a STATUS, a NAK, 32 ORDERs, 32 ACKs"

@@ -7,17 +7,17 @@ use std::alloc::{AllocError, Global};
 use std::marker::Model;
 use view::View;
 
-/// A receiver whose state is the first byte of the last message. It counts what else it is told, and of the byte 255 it says that
+/// A receiver whose state is the first byte of the last message. It counts what else it is given, and of the byte 255 it says that
 /// memory was refused.
 #[derive(Drop)]
 pub struct Last {
     /// The first byte of the last message that had one; 0 before.
     pub value: u8,
-    /// How many members the views had that it was told.
+    /// How many members the views had that it was given.
     pub views: usize,
-    /// How many views it was told.
+    /// How many views it was given.
     pub installs: usize,
-    /// How often it was told that its member is blocked.
+    /// How often it was called because its member is blocked.
     pub blocks: usize,
 }
 

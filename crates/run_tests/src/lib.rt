@@ -11,4 +11,4 @@ mod last;
 #[cfg(test)]
 mod scripts;
 #[cfg(test)]
-mod told;
+mod receiver_calls;

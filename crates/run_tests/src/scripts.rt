@@ -77,7 +77,7 @@ const MERGE: [u8; 43] = [
     0, 0, 0, 0, 0, 1, 0, 1, 0, 0, 0, 1, 1, 0, 1, 0, 0, 0, 1,
 ];
 
-/// The world in which the member of a node is alone, suspects another and is told that it may be reached.
+/// The world in which the member of a node is alone, suspects another and is given the hint that it may be reached.
 fn world_of_a_hint(alloc: Global, node: Node, other: Address) -> Option<World<ChatLog>> {
     let events = [
         WorldEvent::Start(node),
@@ -119,7 +119,7 @@ impl Read for Failing {
     }
 }
 
-/// What the packets of a script are told as, and the status.
+/// What the packets of a script are printed as, and the status.
 fn packets_of(alloc: Global, script: &[u8]) -> (Vec<u8>, Status) {
     let mut reader = script;
     let mut output = Vec::new(alloc);
@@ -128,7 +128,7 @@ fn packets_of(alloc: Global, script: &[u8]) -> (Vec<u8>, Status) {
 }
 
 #[test]
-fn packets_are_told_in_order(rt: HostRuntime) {
+fn packets_are_printed_in_order(rt: HostRuntime) {
     let (text, status) = packets_of(rt.alloc(), b"start 2\njoin 2 9.1\ntick 2\n");
     let wanted = b"\
         1 JOIN 2.1 9.1 5653010105776f726c64000200000001000900000001\n\
@@ -139,7 +139,7 @@ fn packets_are_told_in_order(rt: HostRuntime) {
 }
 
 #[test]
-fn a_fault_is_told_in_the_place_of_packets(rt: HostRuntime) {
+fn a_fault_is_printed_in_the_place_of_packets(rt: HostRuntime) {
     let (text, status) = packets_of(rt.alloc(), b"start 2\njoin 2 9.1\nfly 2\n");
     assert!(rt; text.as_slice() == b"fault 3 40\n".as_slice(), "the fault");
     assert!(rt; status == Status::Refused, "the status");

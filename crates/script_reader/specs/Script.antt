@@ -120,8 +120,8 @@ is_skipped [] = true
 is_skipped (b ∷ bs) = nat_eq b 35
 
 -- a line that is not skipped: its length is tested first
-abbrev pub told : List ℕ → Result WorldEvent Fault
-told line = if nat_lt SCRIPT_LINE (length line) then Err LineTooLong else spoken (word_of (field_of line)) (behind_field line)
+abbrev pub event_in_line : List ℕ → Result WorldEvent Fault
+event_in_line line = if nat_lt SCRIPT_LINE (length line) then Err LineTooLong else spoken (word_of (field_of line)) (behind_field line)
 
 abbrev pub heard : Result WorldEvent Fault → Result (Option WorldEvent) Fault
 heard (Ok e) = Ok (Some e)
@@ -129,7 +129,7 @@ heard (Err f) = Err f
 
 -- what a line says: nothing, an event or a fault
 abbrev pub reading_of : List ℕ → Result (Option WorldEvent) Fault
-reading_of line = if is_skipped line then Ok None else heard (told line)
+reading_of line = if is_skipped line then Ok None else heard (event_in_line line)
 
 -- SCRIPTS
 

@@ -3,7 +3,7 @@ ghost use Rattle.std.specs.Option.{option_copied};
 ghost use Rattle.world_model.specs.declared.WorldEvent.TheVariants as event;
 ghost use Rattle.script_reader.specs.declared.line.Unheard.TheVariants as unheard;
 ghost use Rattle.script_reader.specs.declared.fault.Fault.TheVariants.{MissingField};
-ghost use Rattle.script_reader.specs.Script.{node_field, packet_field, address_field, only, node_and_address, of_other, sent, word_of, event_of, told, is_skipped, reading_of, IsUnheard};
+ghost use Rattle.script_reader.specs.Script.{node_field, packet_field, address_field, only, node_and_address, of_other, sent, word_of, event_of, event_in_line, is_skipped, reading_of, IsUnheard};
 
 use crate::Fault;
 use crate::field::{address_field, first_field, node_field, packet_field};
@@ -188,8 +188,8 @@ fn is_skipped(line: &[u8]) -> bool
 }
 
 /// The event of a line that is not skipped.
-fn told(alloc: Global, line: &[u8]) -> Result<WorldEvent, Unheard>
-    ensures { MatchResult result (λ e. told line.now ≡ Ok e) (IsUnheard (told line.now)) }
+fn event_in_line(alloc: Global, line: &[u8]) -> Result<WorldEvent, Unheard>
+    ensures { MatchResult result (λ e. event_in_line line.now ≡ Ok e) (IsUnheard (event_in_line line.now)) }
 {
     if line.len() > SCRIPT_LINE {
         return Err(Unheard::Fault(Fault::LineTooLong));
@@ -208,5 +208,5 @@ pub(crate) fn read_line(alloc: Global, line: &[u8]) -> Result<Option<WorldEvent>
     if is_skipped(line) {
         return Ok(None);
     }
-    Ok(Some(told(alloc, line)?))
+    Ok(Some(event_in_line(alloc, line)?))
 }

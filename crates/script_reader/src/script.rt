@@ -86,7 +86,7 @@ impl Script {
 /// `Unread::Fault` has the first line that is none of these and what is wrong with it: it has more than `SCRIPT_LINE` bytes (43),
 /// begins with no known word (40), lacks a field (42), or has a field that is no such number or one field too many (41).
 /// `Unread::Memory` where memory was refused.
-#[tactic(auto, using(crate::proofs::Reading::script_is_going_on))]
+#[tactic(auto, using(crate::proofs::FactOfReading::script_is_going_on))]
 pub fn read_script(alloc: Global, text: &[u8]) -> Result<Script, Unread>
     ensures { MatchResult result (λ script. script_of text.now ≡ Ok script) (IsUnread (script_of text.now)) }
 {

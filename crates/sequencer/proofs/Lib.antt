@@ -1,3 +1,3 @@
-pub mod Firsts
+pub mod FactOfFirst
 pub mod Queues
-pub mod Waiting
+pub mod KeepWaiting

@@ -8,7 +8,7 @@ use Rattle.std.proofs.lemmas.Bool.Decides.{nat_tests}
 use Rattle.wire.specs.Values.{Entry}
 use Rattle.trace_props.specs.declared.event.Numbered.{Numbered}
 use Rattle.sequencer.specs.Queues.{Queue, follows, has_next, next_of, entry_with, served, first_next, change_first}
-use Rattle.sequencer.proofs.Firsts.{IsFirst, IsNone, without-at, find-at, change-at}
+use Rattle.sequencer.proofs.FactOfFirst.{IsFirst, IsNone, without-at, find-at, change-at}
 
 next-number : (q : Queue) (f : Numbered) → follows q f ≡ true → f.number ≡ q.ordered + 1
 next-number q f h = grind (arith, nat_tests)

@@ -33,8 +33,8 @@ abbrev pub delivered_to : ℕ → ForwardsModel → ForwardsModel
 delivered_to n w = record { sent = w.sent; rest = drop (n - (w.sent - length w.rest)) w.rest }
 
 -- the oldest of them is outstanding no longer
-abbrev pub one_told : ForwardsModel → ForwardsModel
-one_told w = record { sent = w.sent; rest = drop 1 w.rest }
+abbrev pub one_delivered : ForwardsModel → ForwardsModel
+one_delivered w = record { sent = w.sent; rest = drop 1 w.rest }
 
 -- why one more message is refused, but for want of memory: the first of these that applies
 abbrev pub push_refusal : ForwardsModel → Option Refusal

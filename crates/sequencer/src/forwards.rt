@@ -1,7 +1,7 @@
 ghost use Rattle.std.specs.Prelude.{◌≡◌, ◌+◌, ◌≤◌, ◌++◌, None, drop, length, IfOk, OnOk, MatchResult, MatchOption};
 ghost use Rattle.limits.specs.declared.TheConstants.{PAYLOAD};
 ghost use Rattle.limits.specs.declared.refusal.Refusal.TheVariants as refusal;
-ghost use Rattle.sequencer.specs.Forwards.{ForwardsModel, no_forwards, pushed, delivered_to, one_told, push_refusal, IsForwards, AreShort};
+ghost use Rattle.sequencer.specs.Forwards.{ForwardsModel, no_forwards, pushed, delivered_to, one_delivered, push_refusal, IsForwards, AreShort};
 
 use crate::Forward;
 use limits::{GREATEST_NUMBER, OUTSTANDING, Refusal};
@@ -75,22 +75,22 @@ impl Forwards {
     }
 
     /// The oldest outstanding message was delivered: it is outstanding no longer. Nothing changes where none is. Takes no memory.
-    pub fn told(&mut self)
-        ensures { self.new ≡ one_told self.old }
+    pub fn oldest_delivered(&mut self)
+        ensures { self.new ≡ one_delivered self.old }
     {
         if !self.rest.is_empty() {
             let _oldest = self.rest.remove(0);
         }
     }
 
-    /// Copies of the outstanding messages but the oldest `told`, by number, as they are handed back. An error comes for want of memory.
-    pub fn handed_back(&self, told: usize) -> Result<HandedBack, AllocError>
-        ensures value { IfOk result (λ h. h ≡ drop told self.now.rest) }
+    /// Copies of the outstanding messages but the oldest `past`, by number, as they are handed back. An error comes for want of memory.
+    pub fn handed_back(&self, past: usize) -> Result<HandedBack, AllocError>
+        ensures value { IfOk result (λ h. h ≡ drop past self.now.rest) }
         ensures short { IfOk result AreShort }
     {
         let mut items = Vec::new(*self.rest.allocator());
-        let told = told.min(self.rest.len());
-        copy_all(&self.rest.as_slice()[told..], &mut items)?;
+        let past = past.min(self.rest.len());
+        copy_all(&self.rest.as_slice()[past..], &mut items)?;
         Ok(HandedBack::from_vec(items))
     }
 

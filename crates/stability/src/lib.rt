@@ -1,4 +1,4 @@
-//! The acknowledgements that the coordinator of a view keeps: how many messages each member said it was told, and how many
+//! The acknowledgements that the coordinator of a view keeps: how many messages each member said it delivered, and how many
 //! are stable by that (docs/PROTOCOL.md, "Stability").
 #![tactic(auto)]
 

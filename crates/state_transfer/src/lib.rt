@@ -1,4 +1,4 @@
-//! The application above a channel: what it is told, and the laws that make its copies agree.
+//! The application above a channel: what it is given, and the laws that make its copies agree.
 #![tactic(auto)]
 
 ghost use Rattle.std.specs.Prelude.{◌≡◌, ◌≤◌, ◌++◌, length, List, ℕ, Some, None, Option, true, false, IfOk, OnOk, MatchOption};
@@ -10,8 +10,8 @@ use address::Address;
 use std::alloc::{AllocError, Global};
 use view::View;
 
-/// What an application does with the messages, views and states that its member is told
-/// (docs/GUARANTEES.md, "The receiver's laws"). Its meaning is a state: two copies that were told the same are equal.
+/// What an application does with the messages, views and states that its member gives it
+/// (docs/GUARANTEES.md, "The receiver's laws"). Its meaning is a state: two copies that were given the same are equal.
 ///
 /// After an `Err`, which means that memory was refused, nothing is said of the receiver: its member has ended.
 pub trait Receiver: Drop + Sized {
@@ -27,11 +27,11 @@ pub trait Receiver: Drop + Sized {
     fn receive(&mut self, from: Address, payload: &[u8]) -> Result<(), AllocError>
         ensures { OnOk result (length payload.now ≤ PAYLOAD → self.new ≡ meaning.apply self.old from payload.now) };
 
-    /// Tells it of a view that its member installed, after a given state was taken. Leaves the state.
+    /// Its member installed this view, after a given state was taken. Leaves the state.
     fn view_accepted(&mut self, view: &View)
         ensures { self.new ≡ self.old };
 
-    /// Tells it that its member is blocked until the next view. Leaves the state.
+    /// Its member is blocked until the next view. Leaves the state.
     fn blocked(&mut self)
         ensures { self.new ≡ self.old };
 

@@ -134,6 +134,6 @@ fn a_field_that_is_no_address_is_a_bad_number(rt: HostRuntime) {
 }
 
 #[test]
-fn an_unknown_word_is_told_as_40(rt: HostRuntime) {
+fn an_unknown_word_is_refused_as_40(rt: HostRuntime) {
     assert_eq!(rt; Fault::UnknownWord.number(), 40);
 }

@@ -34,7 +34,7 @@ fn numbered(alloc: Global) -> Result<Vec<u8>, AllocError> {
 }
 
 #[test]
-fn a_packet_is_told_with_its_kind_and_its_bytes(rt: HostRuntime) {
+fn a_packet_is_printed_with_its_kind_and_its_bytes(rt: HostRuntime) {
     let wanted = b"12 LEAVE 3.1 1.2 5653010305776f726c64000300000001000100000002\n";
     assert!(rt; is(line_of(rt.alloc(), 12, &LEAVE), wanted));
 }

@@ -91,7 +91,7 @@ fn a_writer_that_fails_has_taken_a_beginning_of_the_run(rt: HostRuntime) {
                 most: 15,
             };
             let printed = write_run(alloc, &mut writer, &[1], &[done(4)], trace.events());
-            assert!(rt; printed == Printed::Failed, "the failure is told");
+            assert!(rt; printed == Printed::Failed, "the failure is reported");
             assert!(rt;
                 writer.taken.as_slice() == b"started 1.1\nins".as_slice(),
                 "what it has taken"
@@ -102,7 +102,7 @@ fn a_writer_that_fails_has_taken_a_beginning_of_the_run(rt: HostRuntime) {
 }
 
 #[test]
-fn a_text_is_put_whole_or_a_failure_is_told(rt: HostRuntime) {
+fn a_text_is_put_whole_or_a_failure_is_reported(rt: HostRuntime) {
     let mut small = Failing {
         taken: Vec::new(rt.alloc()),
         most: 4,

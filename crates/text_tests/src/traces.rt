@@ -138,7 +138,7 @@ fn an_install_has_its_fields(rt: HostRuntime) {
     let text = b"installed 2.1 6@2.1 7@3.1 3.1,2.1 2.1 4:6869 =0aff\n";
     match read_trace(rt.alloc(), text) {
         Ok(trace) => match trace.events() {
-            [Event::Installed(install)] => are_fields_told(&rt, install),
+            [Event::Installed(install)] => are_fields_read(&rt, install),
             _ => assert!(rt; false, "one install is read"),
         },
         Err(_) => assert!(rt; false, "the line is read"),
@@ -146,7 +146,7 @@ fn an_install_has_its_fields(rt: HostRuntime) {
 }
 
 /// Asserts each field that the line of an install spells.
-fn are_fields_told(rt: &impl Abort, install: &Install) {
+fn are_fields_read(rt: &impl Abort, install: &Install) {
     assert!(rt; install.member == address(2, 1), "the member");
     assert_eq!(rt; install.view.id().counter(), 7, "the view's counter");
     assert!(rt;
@@ -198,7 +198,7 @@ fn are_two_or_refused(alloc: Global, text: &[u8]) -> bool {
 }
 
 #[test]
-fn refused_memory_is_told(rt: HostRuntime) {
+fn refused_memory_is_reported(rt: HostRuntime) {
     assert!(rt; are_two_or_refused(rt.alloc(), b"sent 1.1 1@1.1 1 6869\nleft 1.1\n"));
     reads_what_is_written();
 }

@@ -1,8 +1,8 @@
-pub mod Seats
-pub mod Stands
-pub mod Noting
-pub mod Deciding
-pub mod Agreed
-pub mod Copying
-pub mod Installing
-pub mod Ruling
+pub mod FactOfTables
+pub mod KeepStandings
+pub mod KeepMessages
+pub mod TestsOfOneView
+pub mod TestsOfViewChanges
+pub mod KeepStates
+pub mod FactOfEntryState
+pub mod TestsOfEvents

@@ -77,10 +77,10 @@ KnowsStandings m t = (p : Address) → stood (m p) ≡ standing_of p t
 abbrev pub KnowsSent : {Z : Type 0} → (Seat → Option (Vec (Bor Numbered) Z)) → List Event → Type 0
 KnowsSent m t = (s : Seat) → listed (m s) ≡ sent_in s.member s.view t
 
-abbrev pub KnowsTold : {Z : Type 0} → (Seat → Option (Vec (Bor Message) Z)) → List Event → Type 0
-KnowsTold m t = (s : Seat) → listed (m s) ≡ delivered_in s.member s.view t
+abbrev pub KnowsDelivered : {Z : Type 0} → (Seat → Option (Vec (Bor Message) Z)) → List Event → Type 0
+KnowsDelivered m t = (s : Seat) → listed (m s) ≡ delivered_in s.member s.view t
 
--- the number of a sender's last message that a member was told in a view, 0 before the first, is how many these are
+-- the number of a sender's last message that a member delivered in a view, 0 before the first, is how many these are
 abbrev pub KnowsLast : (Pair → Option ℕ) → List Event → Type 0
 KnowsLast m t = (s : Pair) → unwrap_or (m s) 0 ≡ length (own s.sender (delivered_in s.seat.member s.seat.view t))
 
@@ -95,7 +95,7 @@ KnowsFirsts m t = (v : ViewId) → option_copied (m v) ≡ first_install v t
 abbrev pub KnowsWays : (Way → Option (Bor Install)) → List Event → Type 0
 KnowsWays m t = (w : Way) → option_copied (m w) ≡ first_from w.from w.to t
 
--- WHAT A EVENT TELLS
+-- WHAT AN EVENT SAYS
 
 abbrev pub sending_of : Event → Option Sending
 sending_of (Started p) = None
@@ -118,11 +118,11 @@ delivery_of (Crashed p) = None
 -- ALL OF IT
 
 -- all that is kept says what the trace says
-pub record KnowsPast {Y Z : Type 0} (standings : Address → Option Standing) (sent : Seat → Option (Vec (Bor Numbered) Y)) (told : Seat → Option (Vec (Bor Message) Z)) (last : Pair → Option ℕ)
+pub record KnowsPast {Y Z : Type 0} (standings : Address → Option Standing) (sent : Seat → Option (Vec (Bor Numbered) Y)) (delivered : Seat → Option (Vec (Bor Message) Z)) (last : Pair → Option ℕ)
     (entries : Seat → Option (Bor Install)) (firsts : ViewId → Option (Bor Install)) (ways : Way → Option (Bor Install)) (t : List Event) : Type 0 where
   pub standings_known : KnowsStandings standings t
   pub sent_known : KnowsSent sent t
-  pub told_known : KnowsTold told t
+  pub delivered_known : KnowsDelivered delivered t
   pub last_known : KnowsLast last t
   pub entries_known : KnowsEntries entries t
   pub firsts_known : KnowsFirsts firsts t

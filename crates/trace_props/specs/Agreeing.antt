@@ -62,7 +62,7 @@ MayKnow past (Crashed p) = Unit {0}
 
 -- HANDED BACK
 
--- what the member sent past the count of its own messages that it was told
+-- what the member sent past the count of its own messages that it delivered
 abbrev pub MayHandBack : List Event → Event → Type 0
 MayHandBack past (Started p) = Unit {0}
 MayHandBack past (Sent s) = Unit {0}

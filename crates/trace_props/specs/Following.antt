@@ -17,7 +17,7 @@ MayRise past (Installed i) = EntersAbove past i × ForSome (first_install i.view
 MayRise past (Left p) = Unit {0}
 MayRise past (Crashed p) = Unit {0}
 
--- sound messages: the sender's next number is sent, and its next message that was sent is told
+-- sound messages: the sender's next number is sent, and its next message that was sent is delivered
 abbrev pub MayCarry : List Event → Event → Type 0
 MayCarry past (Started p) = Unit {0}
 MayCarry past (Sent s) = s.message.number ≡ length (sent_in s.member s.view past) + 1
@@ -29,7 +29,7 @@ MayCarry past (Installed i) = Unit {0}
 MayCarry past (Left p) = Unit {0}
 MayCarry past (Crashed p) = Unit {0}
 
--- one order: the view's coordinator goes before, all others are told the next of what it was told
+-- one order: the view's coordinator goes before, all others deliver the next of what it delivered
 abbrev pub MayOrder : List Event → Event → Type 0
 MayOrder past (Started p) = Unit {0}
 MayOrder past (Sent s) = Unit {0}

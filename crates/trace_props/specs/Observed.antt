@@ -1,4 +1,4 @@
--- What a trace says of a member: whether it runs, its current view, whether it is blocked, what it sent and was told.
+-- What a trace says of a member: whether it runs, its current view, whether it is blocked, what it sent and delivered.
 use Rattle.std.specs.Prelude.{Bool, true, false, ◌&&◌, Option, None, Some, List, fold, IsTrue, if◌then◌else◌}
 use Rattle.std.specs.List.{list_any, filter_map, find}
 use Rattle.address.specs.Ids.{Address, ViewId, same_address, same_view_id}
@@ -75,18 +75,18 @@ is_blocked p t = fold (block_after p) false t
 abbrev pub IsBlocked : Address → List Event → Type 0
 IsBlocked p t = IsTrue (is_blocked p t)
 
-abbrev pub told : Address → ViewId → Event → Option Message
-told p v (Started q) = None
-told p v (Sent s) = None
-told p v (Delivered d) = if same_address d.member p && same_view_id d.view v then Some d.message else None
-told p v (Blocked q) = None
-told p v (Installed i) = None
-told p v (Left q) = None
-told p v (Crashed q) = None
+abbrev pub delivered_message : Address → ViewId → Event → Option Message
+delivered_message p v (Started q) = None
+delivered_message p v (Sent s) = None
+delivered_message p v (Delivered d) = if same_address d.member p && same_view_id d.view v then Some d.message else None
+delivered_message p v (Blocked q) = None
+delivered_message p v (Installed i) = None
+delivered_message p v (Left q) = None
+delivered_message p v (Crashed q) = None
 
--- the messages that a member was told in a view, in order
+-- the messages that a member delivered in a view, in order
 abbrev pub delivered_in : Address → ViewId → List Event → List Message
-delivered_in p v t = filter_map (told p v) t
+delivered_in p v t = filter_map (delivered_message p v) t
 
 abbrev pub said : Address → ViewId → Event → Option Numbered
 said p v (Started q) = None
@@ -108,7 +108,7 @@ numbered m = record { number = m.number; payload = m.payload }
 abbrev pub own_by : Address → Message → Option Numbered
 own_by q m = if same_address m.sender q then Some (numbered m) else None
 
--- a member's own messages among those that were told
+-- a member's own messages among those that were delivered
 abbrev pub own : Address → List Message → List Numbered
 own q messages = filter_map (own_by q) messages
 

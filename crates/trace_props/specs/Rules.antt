@@ -39,7 +39,7 @@ IsWellPlaced t = EachEvent MayStand t
 abbrev pub IsBelow : ViewId → ViewId → Type 0
 IsBelow v w = view_id_cmp v w ≡ Less
 
--- a member installs a view that has it, tells the view from which it comes, and that one's id is lower
+-- a member installs a view that has it, names the view from which it comes, and that one's id is lower
 pub record EntersAbove (past : List Event) (i : Install) : Type 0 where
   pub inside : stands_in i.member i.view.members ≡ true
   pub previous : i.previous ≡ current_view i.member past
@@ -65,7 +65,7 @@ pub record HasRisingViews (t : List Event) : Type 0 where
 
 -- SOUND MESSAGES (delivery integrity, no duplication)
 
--- a message that is told was sent before, in that view, by its sender
+-- a message that is delivered was sent before, in that view, by its sender
 abbrev pub WasSent : List Event → Event → Type 0
 WasSent past (Started p) = Unit {0}
 WasSent past (Sent s) = Unit {0}
@@ -92,13 +92,13 @@ pub record HasSoundMessages (t : List Event) : Type 0 where
 
 -- ONE ORDER
 
--- what a member was told in a view is a beginning of what the view's coordinator was told there
+-- what a member delivered in a view is a beginning of what the view's coordinator delivered there
 abbrev pub HasOneOrder : List Event → Type 0
 HasOneOrder t = (p : Address) (v : ViewId) → IsBeginningOf (delivered_in p v t) (delivered_in v.creator v t)
 
 -- SAME NEXT VIEW, SAME LIST (virtual synchrony)
 
--- two members that went from one view to the same next view were told the same messages there
+-- two members that went from one view to the same next view delivered the same messages there
 abbrev pub HasSameNext : List Event → Type 0
 HasSameNext t = EachTwoInstalls
     (λ e f. e.view.id ≡ f.view.id → (v : ViewId) → e.previous ≡ Some v → f.previous ≡ Some v → delivered_in e.member v t ≡ delivered_in f.member v t) t
@@ -119,7 +119,7 @@ pub record KnowsTogether (t : List Event) : Type 0 where
 
 -- HANDED BACK
 
--- what a member sent in the old view is its own messages that it was told there, and then those handed back
+-- what a member sent in the old view is its own messages that it delivered there, and then those handed back
 abbrev pub GivesBack : List Event → Event → Type 0
 GivesBack past (Started p) = Unit {0}
 GivesBack past (Sent s) = Unit {0}

@@ -29,7 +29,7 @@ pub struct Sending {
     pub message: Numbered,
 }
 
-/// A member is told a message that was sent in its view.
+/// A member delivers a message that was sent in its view.
 #[derive(Debug, Drop)]
 pub struct Delivery {
     pub member: Address,
@@ -37,7 +37,7 @@ pub struct Delivery {
     pub message: Message,
 }
 
-/// A member is told a view: from which it comes, who comes from there with it (itself among them), its own messages of the
+/// A member installs a view: from which it comes, who comes from there with it (itself among them), its own messages of the
 /// old view that were not delivered to it, and the coordinator's state where it comes from elsewhere than the coordinator.
 #[derive(Debug, Drop)]
 pub struct Install {
@@ -56,11 +56,11 @@ pub enum Event {
     Started(Address),
     /// It sends a message.
     Sent(Sending),
-    /// It is told a message.
+    /// It delivers a message.
     Delivered(Delivery),
     /// It may send nothing until its next view.
     Blocked(Address),
-    /// It is told a view.
+    /// It installs a view.
     Installed(Install),
     /// It has left.
     Left(Address),

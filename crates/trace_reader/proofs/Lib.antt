@@ -1,9 +1,9 @@
-pub mod Reading
-pub mod Listing
-pub mod Cutting
+pub mod FactOfReading
+pub mod FactOfReadLists
+pub mod FactOfCutTexts
 pub mod Numerals
-pub mod Spelled
+pub mod FieldsBack
 pub mod LinesBack
-pub mod Telling
+pub mod TextsBack
 pub mod RunsBack
-pub mod Distinct
+pub mod FactOfDistinct

@@ -17,10 +17,10 @@ use Rattle.trace_reader.specs.declared.line.Word.TheVariants.{Started, Sent, Del
 use Rattle.limits.specs.declared.TheConstants.{TRACE_LINE}
 use Rattle.trace_reader.specs.Spelling.{number_of_text, view_id_of_text, previous_of_text, payload_of_text, view_of_text, together_of_text, handed_back_of_text, given_of_text}
 use Rattle.trace_reader.specs.Fields.{field_at, spelled_at, end_at, sending_at, delivery_at, view_at, install_at, last}
-use Rattle.trace_reader.specs.Traces.{word_of, event_of, told, reading_of}
-use Rattle.trace_reader.specs.Spellable.{IsSendable, IsTellable, IsInstallable, IsInFormat, IsSpellable}
-use Rattle.trace_reader.proofs.Cutting.{Without, is_cut, without_below, before_cut, behind_cut}
-use Rattle.trace_reader.proofs.Spelled.{Spells, number_spells, address_spells, view_id_spells, previous_spells, payload_spells, given_spells, view_spells, together_spells, handed_back_spells}
+use Rattle.trace_reader.specs.Traces.{word_of, event_of, event_in_line, reading_of}
+use Rattle.trace_reader.specs.Spellable.{IsSendable, IsSpellableDelivery, IsInstallable, IsInFormat, IsSpellable}
+use Rattle.trace_reader.proofs.FactOfCutTexts.{Without, is_cut, without_below, before_cut, behind_cut}
+use Rattle.trace_reader.proofs.FieldsBack.{Spells, number_spells, address_spells, view_id_spells, previous_spells, payload_spells, given_spells, view_spells, together_spells, handed_back_spells}
 
 -- FIELDS
 
@@ -54,7 +54,7 @@ sending_back s h =
 five_parts : (a b c d e : List ℕ) → (((a ++ 32 ∷ b) ++ 32 ∷ c) ++ 32 ∷ d) ++ 32 ∷ e ≡ a ++ 32 ∷ (b ++ 32 ∷ (c ++ 32 ∷ (d ++ 32 ∷ e)))
 five_parts a b c d e = simp append_assoc
 
-delivery_back : (d : Delivery) → IsTellable d → delivery_at (behind (delivery_fields d)) ≡ Ok (d, None)
+delivery_back : (d : Delivery) → IsSpellableDelivery d → delivery_at (behind (delivery_fields d)) ≡ Ok (d, None)
 unfolding delivery_at
 delivery_back d h =
     let a = text_of_address d.member in
@@ -158,7 +158,7 @@ is_read (event.Crashed p) = refl
 
 -- the line of an event is read back
 pub body_back : (h : Event) → IsSpellable h → reading_of (body_of h) ≡ Ok (Some h)
-unfolding reading_of told
+unfolding reading_of event_in_line
 body_back h s =
     let short : nat_lt TRACE_LINE (length (body_of h)) ≡ false = le-ltb TRACE_LINE (length (body_of h)) (omega (arith, s.line, length-append (body_of h) (10 ∷ []))) in
     rw (is_read h, short, word_is h, fields_are h, event_back h s.fields) refl

@@ -1,4 +1,4 @@
--- The text of a run tells what happened in it.
+-- The text of a run spells what happened in it.
 use Rattle.std.proofs.Common.{◌≡◌, ℕ, ◌+◌, ◌-◌, ◌≤◌, true, false, List, [], ◌∷◌, ◌++◌, Ok, length, take, drop, map, nat_eq, refl, sym, ◌∙◌, ap, subst, arith, zero, suc, append_assoc, length-append, codes, if◌then◌else◌}
 use Rattle.std.proofs.Math.Seq.{drop-length}
 use Rattle.std.proofs.lemmas.Bool.{or_from}
@@ -20,11 +20,11 @@ use Rattle.world_model.specs.Faithful.IsFaithful.{Nothing as Began, Next}
 use Rattle.vsync_text.specs.TraceText.{line_of, field}
 use Rattle.vsync_text.specs.Runs.{refusal_line, refused_lines, answer_lines, stretch, reply_lines, lines_from, text_of_run, lines_of_run}
 use Rattle.trace_reader.specs.Traces.{trace_of}
-use Rattle.trace_reader.specs.Spellable.{IsSpellable, IsNote, Tell}
-use Rattle.trace_reader.specs.Spellable.Tell.{Nothing, Note, Line}
-use Rattle.trace_reader.proofs.Cutting.{Without, From, all_append, without_below}
-use Rattle.trace_reader.proofs.Spelled.{digits_from_least}
-use Rattle.trace_reader.proofs.Telling.{trace_back, from_test}
+use Rattle.trace_reader.specs.Spellable.{IsSpellable, IsNote, Spell}
+use Rattle.trace_reader.specs.Spellable.Spell.{Nothing, Note, Line}
+use Rattle.trace_reader.proofs.FactOfCutTexts.{Without, From, all_append, without_below}
+use Rattle.trace_reader.proofs.FieldsBack.{digits_from_least}
+use Rattle.trace_reader.proofs.TextsBack.{trace_back, from_test}
 
 -- PLACES
 
@@ -71,21 +71,21 @@ refusal_is_note line number = record {
   one_line = no_feed (refusal_text line number) (without_below 32 10 (refusal_text line number) (omega arith) (refusal_from line number));
 }
 
-refused_tells : (line : ℕ) (r : Refusal) (lines : List (List ℕ)) (t : List Event) → Tell lines t → Tell (refused_lines line r ++ lines) t
-refused_tells line r lines t tell =
-    elim (nat_eq (number_of r) (number_of Memory)) as (λ b. Tell ((if b then [] else refusal_line line (number_of r) ∷ []) ++ lines) t)
-    [ true ↦ tell | false ↦ Note (refusal_text line (number_of r)) lines t (refusal_is_note line (number_of r)) tell ]
+refused_spells : (line : ℕ) (r : Refusal) (lines : List (List ℕ)) (t : List Event) → Spell lines t → Spell (refused_lines line r ++ lines) t
+refused_spells line r lines t spell =
+    elim (nat_eq (number_of r) (number_of Memory)) as (λ b. Spell ((if b then [] else refusal_line line (number_of r) ∷ []) ++ lines) t)
+    [ true ↦ spell | false ↦ Note (refusal_text line (number_of r)) lines t (refusal_is_note line (number_of r)) spell ]
 
-answer_tells : (line : ℕ) (a : Answer) (lines : List (List ℕ)) (t : List Event) → Tell lines t → Tell (answer_lines line a ++ lines) t
-answer_tells line Done lines t tell = tell
-answer_tells line (Sent n) lines t tell = tell
-answer_tells line (Refused r) lines t tell = refused_tells line r lines t tell
+answer_spells : (line : ℕ) (a : Answer) (lines : List (List ℕ)) (t : List Event) → Spell lines t → Spell (answer_lines line a ++ lines) t
+answer_spells line Done lines t spell = spell
+answer_spells line (Sent n) lines t spell = spell
+answer_spells line (Refused r) lines t spell = refused_spells line r lines t spell
 
 -- RUNS
 
-events_tell : (s : List Event) (lines : List (List ℕ)) (t : List Event) → AllByRecursion IsSpellable s → Tell lines t → Tell (map line_of s ++ lines) (s ++ t)
-events_tell [] lines t a tell = tell
-events_tell (h ∷ s) lines t a tell = Line h (map line_of s ++ lines) (s ++ t) a.0 (events_tell s lines t a.1 tell)
+events_spell : (s : List Event) (lines : List (List ℕ)) (t : List Event) → AllByRecursion IsSpellable s → Spell lines t → Spell (map line_of s ++ lines) (s ++ t)
+events_spell [] lines t a spell = spell
+events_spell (h ∷ s) lines t a spell = Line h (map line_of s ++ lines) (s ++ t) a.0 (events_spell s lines t a.1 spell)
 
 all_drop : (n : ℕ) (t : List Event) → AllByRecursion IsSpellable t → AllByRecursion IsSpellable (drop n t)
 all_drop zero t a = a
@@ -102,19 +102,19 @@ stretch_then from to t le =
     let far : from + (to - from) ≡ to = omega arith in
     ap (λ r. stretch from to t ++ r) (sym (drop-drop (to - from) from t ∙ ap (λ n. drop n t) far)) ∙ take-append-drop (to - from) (drop from t)
 
-lines_tell : (from : ℕ) (lines : List ℕ) (replies : List Reply) (t : List Event) → length lines ≡ length replies → Rises from replies (length t) → AllByRecursion IsSpellable t
-    → Tell (lines_from from lines replies t) (drop from t)
-lines_tell from [] [] t e r a = let P : List Event → Type 0 = λ s. Tell [] s in subst P (sym (drop-length t) ∙ ap (λ n. drop n t) (sym r)) Nothing
-lines_tell from [] (reply ∷ replies) t e r a = absurd (omega arith)
-lines_tell from (line ∷ lines) [] t e r a = absurd (omega arith)
-lines_tell from (line ∷ lines) (reply ∷ replies) t e r a =
+lines_spell : (from : ℕ) (lines : List ℕ) (replies : List Reply) (t : List Event) → length lines ≡ length replies → Rises from replies (length t) → AllByRecursion IsSpellable t
+    → Spell (lines_from from lines replies t) (drop from t)
+lines_spell from [] [] t e r a = let P : List Event → Type 0 = λ s. Spell [] s in subst P (sym (drop-length t) ∙ ap (λ n. drop n t) (sym r)) Nothing
+lines_spell from [] (reply ∷ replies) t e r a = absurd (omega arith)
+lines_spell from (line ∷ lines) [] t e r a = absurd (omega arith)
+lines_spell from (line ∷ lines) (reply ∷ replies) t e r a =
     let s = stretch from reply.place t in
     let rest = lines_from reply.place lines replies t in
-    let next : Tell rest (drop reply.place t) = lines_tell reply.place lines replies t (omega arith) r.1 a in
-    let answered : Tell (answer_lines line reply.answer ++ rest) (drop reply.place t) = answer_tells line reply.answer rest (drop reply.place t) next in
-    let whole : Tell (map line_of s ++ (answer_lines line reply.answer ++ rest)) (s ++ drop reply.place t) = events_tell s _ _ (all_take (reply.place - from) (drop from t) (all_drop from t a)) answered in
-    let P : List Event → Type 0 = λ u. Tell (reply_lines from line reply t ++ rest) u in
-    let Q : List (List ℕ) → Type 0 = λ ls. Tell ls (s ++ drop reply.place t) in
+    let next : Spell rest (drop reply.place t) = lines_spell reply.place lines replies t (omega arith) r.1 a in
+    let answered : Spell (answer_lines line reply.answer ++ rest) (drop reply.place t) = answer_spells line reply.answer rest (drop reply.place t) next in
+    let whole : Spell (map line_of s ++ (answer_lines line reply.answer ++ rest)) (s ++ drop reply.place t) = events_spell s _ _ (all_take (reply.place - from) (drop from t) (all_drop from t a)) answered in
+    let P : List Event → Type 0 = λ u. Spell (reply_lines from line reply t ++ rest) u in
+    let Q : List (List ℕ) → Type 0 = λ ls. Spell ls (s ++ drop reply.place t) in
     subst P (stretch_then from reply.place t r.0) (subst Q (sym (append_assoc (map line_of s) (answer_lines line reply.answer) rest)) whole)
 
 -- the text of a run is read back as what happened in it
@@ -122,4 +122,4 @@ pub run_back : (h : History) (lines : List ℕ) → IsFaithful h → length line
     → trace_of (text_of_run lines h.replies h.trace) ≡ Ok h.trace
 run_back h lines f e a =
     trace_back (lines_of_run lines h.replies h.trace) h.trace
-    (lines_tell 0 lines h.replies h.trace (e ∙ sym (faithful_answers h f)) (faithful_rises h f) (recursion_from_All IsSpellable h.trace a))
+    (lines_spell 0 lines h.replies h.trace (e ∙ sym (faithful_answers h f)) (faithful_rises h f) (recursion_from_All IsSpellable h.trace a))

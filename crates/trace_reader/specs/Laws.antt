@@ -6,11 +6,11 @@ use Rattle.world_model.specs.Histories.{History}
 use Rattle.world_model.specs.Faithful.{IsFaithful}
 use Rattle.vsync_text.specs.Runs.{text_of_run}
 use Rattle.trace_reader.specs.Traces.{trace_of}
-use Rattle.trace_reader.specs.Spellable.{IsSpellable, Tell}
+use Rattle.trace_reader.specs.Spellable.{IsSpellable, Spell}
 
--- lines that tell what happened, each the line of an event or a note, are read back as that
+-- lines that spell what happened, each the line of an event or a note, are read back as that
 abbrev pub LinesReadBack : Type 0
-LinesReadBack = (lines : List (List ℕ)) (t : List Event) → Tell lines t → trace_of (concat lines) ≡ Ok t
+LinesReadBack = (lines : List (List ℕ)) (t : List Event) → Spell lines t → trace_of (concat lines) ≡ Ok t
 
 -- the text of a run, whose events stood on these lines of a script, is read back as what happened in it
 abbrev pub RunsReadBack : Type 0

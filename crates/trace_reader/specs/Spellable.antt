@@ -1,4 +1,4 @@
--- Which events the text of a trace can spell, and what texts tell, line by line.
+-- Which events the text of a trace can spell, and what texts spell, line by line.
 use Rattle.std.specs.Prelude.{◌≡◌, ℕ, ◌+◌, ◌<◌, ◌≤◌, true, false, List, [], ◌∷◌, ◌++◌, None, Some, length, slice_get, nat_eq, All}
 use Rattle.std.specs.List.{list_any}
 use Rattle.std.specs.Option.{ForSome}
@@ -36,7 +36,7 @@ pub record IsSendable (s : Sending) : Type 0 where
   pub number : IsNumber s.message.number
   pub payload : IsPayload s.message.payload
 
-pub record IsTellable (d : Delivery) : Type 0 where
+pub record IsSpellableDelivery (d : Delivery) : Type 0 where
   pub member : IsAddress d.member
   pub view : IsViewId d.view
   pub sender : IsAddress d.message.sender
@@ -64,7 +64,7 @@ pub record IsInstallable (i : Install) : Type 0 where
 abbrev pub IsInFormat : Event → Type 0
 IsInFormat (Started p) = IsAddress p
 IsInFormat (Sent s) = IsSendable s
-IsInFormat (Delivered d) = IsTellable d
+IsInFormat (Delivered d) = IsSpellableDelivery d
 IsInFormat (Blocked p) = IsAddress p
 IsInFormat (Installed i) = IsInstallable i
 IsInFormat (Left p) = IsAddress p
@@ -80,8 +80,8 @@ pub record IsNote (text : List ℕ) : Type 0 where
   pub begins : slice_get text 0 ≡ Some 35
   pub one_line : list_any (λ b. nat_eq b 10) text ≡ false
 
--- lines, each with its line feed, tell what happened: each is the line of the next event, or a note
-pub data Tell : List (List ℕ) → List Event → Type 0 where
-  Nothing : Tell [] []
-  Note : (note : List ℕ) (lines : List (List ℕ)) (t : List Event) → IsNote note → Tell lines t → Tell ((note ++ 10 ∷ []) ∷ lines) t
-  Line : (h : Event) (lines : List (List ℕ)) (t : List Event) → IsSpellable h → Tell lines t → Tell (line_of h ∷ lines) (h ∷ t)
+-- lines, each with its line feed, spell what happened: each is the line of the next event, or a note
+pub data Spell : List (List ℕ) → List Event → Type 0 where
+  Nothing : Spell [] []
+  Note : (note : List ℕ) (lines : List (List ℕ)) (t : List Event) → IsNote note → Spell lines t → Spell ((note ++ 10 ∷ []) ∷ lines) t
+  Line : (h : Event) (lines : List (List ℕ)) (t : List Event) → IsSpellable h → Spell lines t → Spell (line_of h ∷ lines) (h ∷ t)

@@ -46,13 +46,13 @@ spoken None rest = Err UnknownWord
 spoken (Some word) rest = event_of word rest
 
 -- a line that is not skipped: its length is tested first
-unfoldable pub told : List ℕ → Result Event Fault
-told line = if nat_lt TRACE_LINE (length line) then Err LineTooLong else spoken (word_of (field_of line)) (behind_field line)
+unfoldable pub event_in_line : List ℕ → Result Event Fault
+event_in_line line = if nat_lt TRACE_LINE (length line) then Err LineTooLong else spoken (word_of (field_of line)) (behind_field line)
 
 -- what a line says: nothing, an event or a fault
 unfoldable pub reading_of : List ℕ → Result (Option Event) Fault
 reading_of line = if is_skipped line then Ok None else do
-  event ← told line
+  event ← event_in_line line
   Ok (Some event)
 
 -- TRACES

@@ -8,7 +8,7 @@ ghost use Rattle.script_reader.specs.Script.{is_skipped};
 ghost use Rattle.script_reader.specs.AddressText.{address_of_text};
 ghost use Rattle.trace_reader.specs.Spelling.{AreShort};
 ghost use Rattle.trace_reader.specs.Fields.{Gives, spelled_at, sending_at, delivery_at, view_at, install_at, last};
-ghost use Rattle.trace_reader.specs.Traces.{word_of, event_of, told, reading_of};
+ghost use Rattle.trace_reader.specs.Traces.{word_of, event_of, event_in_line, reading_of};
 
 use crate::fields::{Fields, Unheard};
 use address::Address;
@@ -190,9 +190,9 @@ fn is_skipped(line: &[u8]) -> bool
 }
 
 /// The event of a line that is not skipped.
-#[tactic(auto, unfolding(crate::specs::Traces::told))]
-fn told(alloc: Global, line: &[u8]) -> Result<Event, Unheard>
-    ensures gives { Gives (λ x. x) result (told line.now) }
+#[tactic(auto, unfolding(crate::specs::Traces::event_in_line))]
+fn event_in_line(alloc: Global, line: &[u8]) -> Result<Event, Unheard>
+    ensures gives { Gives (λ x. x) result (event_in_line line.now) }
     ensures short { IfOk result IsShort }
 {
     if line.len() > TRACE_LINE {
@@ -214,5 +214,5 @@ pub(crate) fn read_line(alloc: Global, line: &[u8]) -> Result<Option<Event>, Unh
     if is_skipped(line) {
         return Ok(None);
     }
-    Ok(Some(told(alloc, line)?))
+    Ok(Some(event_in_line(alloc, line)?))
 }

@@ -87,7 +87,7 @@ pub(crate) fn view_in(alloc: Global, id: ViewId, field: &[u8]) -> Result<Option<
 }
 
 /// Whether no address stands twice.
-#[tactic(auto, using(crate::proofs::Distinct::nothing_seen))]
+#[tactic(auto, using(crate::proofs::FactOfDistinct::nothing_seen))]
 fn are_distinct(alloc: Global, addresses: &[Address]) -> Result<bool, AllocError>
     ensures { IfOk result (λ distinct. distinct ≡ is_distinct addresses.now) }
 {
@@ -134,7 +134,7 @@ fn message_in(alloc: Global, part: &[u8]) -> Result<Option<Numbered>, AllocError
 }
 
 /// Messages joined by commas.
-#[tactic(auto, using(crate::proofs::Listing::part_read, crate::proofs::Listing::part_fails, crate::proofs::Listing::all_read, crate::proofs::Listing::short_push), unfolding(crate::specs::Spelling::messages_of_text))]
+#[tactic(auto, using(crate::proofs::FactOfReadLists::part_read, crate::proofs::FactOfReadLists::part_fails, crate::proofs::FactOfReadLists::all_read, crate::proofs::FactOfReadLists::short_push), unfolding(crate::specs::Spelling::messages_of_text))]
 fn messages_in(alloc: Global, field: &[u8]) -> Result<Option<HandedBack>, AllocError>
     ensures read { IfOk result (λ read. read ≡ messages_of_text field.now) }
     ensures short { IfOk result (λ read. IfSome read AreShort) }

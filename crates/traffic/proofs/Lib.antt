@@ -1,18 +1,18 @@
-mod Reporting
-mod Waiting
-mod Offering
+mod FactOfReported
+mod FactOfQueues
+mod FactOfOffered
 mod Windows
-mod Counting
-mod Going
-mod Acts
-mod Coordinators
-mod Others
-mod Sends
-mod Turning
-mod Few
-mod Settling
-mod Rules
-mod Telling
-mod Resending
-pub mod Asking
-pub mod Beginning
+mod FactOfAcks
+mod ActsInTurn
+mod ActsOfCoordinator
+mod ActsOfTurns
+mod ActsOfOthers
+mod FactOfSends
+mod FactOfTurns
+mod FactOfFew
+mod KeepSettled
+mod KeepBetweenSteps
+mod FactOfDeliveries
+mod FactOfRanges
+pub mod ActsOfAnswers
+pub mod FactOfNewView

@@ -9,7 +9,7 @@ use Rattle.sequencer.specs.Queues.{ordering, forwarded}
 use Rattle.stability.specs.Counts.{members_of, noted, stable_count}
 use Rattle.agreement.specs.Acts.{delivery}
 use Rattle.traffic.specs.declared.coordinator.Coordinator.{Coordinator}
-use Rattle.traffic.specs.Traffics.{senders_of, told_to}
+use Rattle.traffic.specs.Traffics.{senders_of, after_delivery}
 use Rattle.output.specs.declared.output.Output.{Output}
 use Rattle.output.specs.Outputs.{Grows}
 
@@ -32,7 +32,7 @@ queued p n x m = record m { orderer = forwarded p n x m.orderer }
 abbrev pub after_one : Address → ℕ × Entry → Coordinator → Coordinator
 after_one p n m = record m {
   window = delivering (taken n.0 n.1 m.window);
-  forwards = told_to p n.1 m.forwards;
+  forwards = after_delivery p n.1 m.forwards;
   orderer = ordering m.window.stable m.orderer;
 }
 

@@ -11,11 +11,11 @@ use Rattle.wire.specs.declared.packet.Body.TheVariants as bodies
 use Rattle.traffic.specs.declared.other.Other.{Other}
 use Rattle.output.specs.declared.output.Output.{Output}
 use Rattle.output.specs.Outputs.{Grows}
-use Rattle.traffic.specs.Traffics.{told_to}
+use Rattle.traffic.specs.Traffics.{after_delivery}
 
 -- it delivers the next message that it holds
-pub record TellsOne {S : Type 0} (meaning : Meaning S) (p : Address) (group : List ℕ) (e : Entry) (old : Other) (s : S) (out : Output) (new : Other) (t : S) (more : Output) : Type 0 where
-  pub now : new ≡ record old { window = record (old.window) { delivered = old.window.delivered + 1 }; forwards = told_to p e old.forwards }
+pub record DeliversOne {S : Type 0} (meaning : Meaning S) (p : Address) (group : List ℕ) (e : Entry) (old : Other) (s : S) (out : Output) (new : Other) (t : S) (more : Output) : Type 0 where
+  pub now : new ≡ record old { window = record (old.window) { delivered = old.window.delivered + 1 }; forwards = after_delivery p e old.forwards }
   pub state : t ≡ meaning.apply s e.sender e.payload
   pub grows : Grows group out more [] (delivery p old.view.id e ∷ [])
 

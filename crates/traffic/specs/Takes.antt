@@ -16,22 +16,22 @@ use Rattle.traffic.specs.declared.other.Other.{Other}
 use Rattle.output.specs.declared.output.Output.{Output}
 use Rattle.trace_props.specs.declared.event.Event.TheVariants.{Sent}
 use Rattle.sequencer.specs.Forwards.{pushed}
-use Rattle.traffic.specs.Traffics.{told_to}
+use Rattle.traffic.specs.Traffics.{after_delivery}
 use Rattle.traffic.specs.Goings.{sending}
 use Rattle.traffic.specs.Others.{collected_to, held_too}
 use Rattle.output.specs.Outputs.{Grows}
 
-abbrev pub told_next : Address → Entry → Other → Other
-told_next p e m = record m { window = record (m.window) { delivered = m.window.delivered + 1 }; forwards = told_to p e m.forwards }
+abbrev pub delivered_next : Address → Entry → Other → Other
+delivered_next p e m = record m { window = record (m.window) { delivered = m.window.delivered + 1 }; forwards = after_delivery p e m.forwards }
 
 -- it delivered these messages, each where it was held at the next number
-pub data TellsTo (p : Address) : Other → List Entry → Other → Type 0 where
-  Starts : (m : Other) → TellsTo p m [] m
-  Tells : (m n : Other) (entries : List Entry) (e : Entry) → TellsTo p m entries n → held_at (n.window.delivered + 1) n.window.held ≡ Some e → TellsTo p m (entries ++ e ∷ []) (told_next p e n)
+pub data DeliversTo (p : Address) : Other → List Entry → Other → Type 0 where
+  Starts : (m : Other) → DeliversTo p m [] m
+  DeliversMore : (m n : Other) (entries : List Entry) (e : Entry) → DeliversTo p m entries n → held_at (n.window.delivered + 1) n.window.held ≡ Some e → DeliversTo p m (entries ++ e ∷ []) (delivered_next p e n)
 
-pub record Telling {S : Type 0} (meaning : Meaning S) (p : Address) (group : List ℕ) (old : Other) (s : S) (out : Output) (new : Other) (t : S) (more : Output) : Type 0 where
+pub record DeliversHeld {S : Type 0} (meaning : Meaning S) (p : Address) (group : List ℕ) (old : Other) (s : S) (out : Output) (new : Other) (t : S) (more : Output) : Type 0 where
   pub entries : List Entry
-  pub tells : TellsTo p old entries new
+  pub delivers : DeliversTo p old entries new
   pub state : t ≡ applied meaning s entries
   pub grows : Grows group out more [] (map (delivery p old.view.id) entries)
   pub view : new.view ≡ old.view
@@ -60,7 +60,7 @@ AnswersOrder p group before new g m out more =
 
 pub record TakesNear {S : Type 0} (meaning : Meaning S) (p : Address) (group : List ℕ) (g : ℕ) (e : Entry) (old : Other) (s : S) (out : Output) (new : Other) (t : S) (more : Output) : Type 0 where
   pub between : Output
-  pub tells : Telling meaning p group (held_too g e (collected_to (g - WINDOW) old)) s out new t between
+  pub delivers : DeliversHeld meaning p group (held_too g e (collected_to (g - WINDOW) old)) s out new t between
   pub ready : held_at (new.window.delivered + 1) new.window.held ≡ None
   pub answers : AnswersOrder p group old.window.delivered (offers g (collected (g - WINDOW) old.window)) g new between more
 

@@ -5,7 +5,7 @@ use Rattle.address.specs.Ids.{Address, same_address}
 use Rattle.view.specs.Members.{View}
 use Rattle.wire.specs.Values.{Entry}
 use Rattle.nak_stream.specs.Windows.{empty_window}
-use Rattle.sequencer.specs.Forwards.{ForwardsModel, no_forwards, one_told}
+use Rattle.sequencer.specs.Forwards.{ForwardsModel, no_forwards, one_delivered}
 use Rattle.sequencer.specs.Queues.{Queue, idle, entry_with}
 use Rattle.stability.specs.Counts.{count_of, unheard}
 use Rattle.agreement.specs.Cores as cores
@@ -65,8 +65,8 @@ view_of (kinds.Coordinator m) = m.view
 view_of (kinds.Other m) = m.view
 
 -- an own message that is delivered is outstanding no longer
-abbrev pub told_to : Address → Entry → ForwardsModel → ForwardsModel
-told_to p e w = if same_address e.sender p then one_told w else w
+abbrev pub after_delivery : Address → Entry → ForwardsModel → ForwardsModel
+after_delivery p e w = if same_address e.sender p then one_delivered w else w
 
 -- ---- at the beginning of a view
 

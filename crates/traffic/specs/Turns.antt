@@ -67,7 +67,7 @@ own_queue p f = record { sender = p; ordered = f.sent - length f.rest; waiting =
 pub record IsSettled (p : Address) (m : Coordinator) : Type 0 where
   -- nobody acknowledged more than was delivered here, and it acknowledged that itself
   pub heard : (q : Address) → count_of q m.acks ≤ m.window.delivered
-  pub told : count_of p m.acks ≡ m.window.delivered
+  pub own_acked : count_of p m.acks ≡ m.window.delivered
   pub least : m.window.stable ≡ stable_count m.acks
   pub own : find (is_from p) m.orderer.queues ≡ Some (own_queue p m.forwards)
 
@@ -93,7 +93,7 @@ pub record SendsOrdering {S : Type 0} (meaning : Meaning S) (p : Address) (group
   pub orders : Ordering meaning p group (queued p (old.forwards.sent + 1) x (pushing x old)) s between new t more
 
 -- it is delivered at once
-pub record TellsAtOnce (p : Address) (x : List ℕ) (old : Coordinator) (out more : Output) : Type 0 where
+pub record DeliversOwnAtOnce (p : Address) (x : List ℕ) (old : Coordinator) (out more : Output) : Type 0 where
   pub rest : List Entry
   pub happens : more.events.items ≡ out.events.items ++ Sent (sending p old.view.id (old.forwards.sent + 1) x) ∷ map (delivery p old.view.id) (own_entry p old x ∷ rest)
 

@@ -3,7 +3,7 @@
 ghost use Rattle.std.specs.Prelude.{◌≡◌, [], ◌∷◌, IfOk, OnOk};
 ghost use Rattle.agreement.specs.Acts.{delivery};
 ghost use Rattle.output.specs.Outputs.{Grows};
-ghost use Rattle.traffic.specs.Traffics.{told_to};
+ghost use Rattle.traffic.specs.Traffics.{after_delivery};
 
 use address::ViewId;
 use nak_stream::Entry;
@@ -39,13 +39,13 @@ pub(crate) fn deliver<R: Receiver>(
 ) -> Result<(), AllocError>
     ensures state { OnOk result (receiver.new ≡ R.meaning.apply receiver.old entry.now.sender entry.now.payload) }
     ensures happens { OnOk result (Grows who.now.group out.old out.new [] (delivery who.now.address view entry.now ∷ [])) }
-    ensures left { OnOk result (forwards.new ≡ told_to who.now.address entry.now forwards.old) }
+    ensures left { OnOk result (forwards.new ≡ after_delivery who.now.address entry.now forwards.old) }
 {
     receiver.receive(entry.sender, entry.payload.lent().as_slice())?;
     let delivery = delivery(who, view, entry)?;
     who.record(delivery, out)?;
     if entry.sender == who.address {
-        forwards.told();
+        forwards.oldest_delivered();
     }
     Ok(())
 }

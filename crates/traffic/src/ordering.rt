@@ -120,8 +120,8 @@ impl Coordinator {
             None => Ok(false),
             Some(placed) => {
                 self.announce(who, placed.0, &placed.1, out)?;
-                let told = self.window.delivered();
-                self.acknowledge(&who.address, told);
+                let reached = self.window.delivered();
+                self.acknowledge(&who.address, reached);
                 Ok(true)
             }
         }

@@ -9,7 +9,7 @@ ghost use Rattle.limits.specs.declared.TheConstants.{PAYLOAD};
 ghost use Rattle.output.specs.Outputs.{Grows};
 ghost use Rattle.traffic.specs.Coordinators.{IsCoordinator, pushing};
 ghost use Rattle.traffic.specs.Goings.{CoordinatorGoes, sending};
-ghost use Rattle.traffic.specs.Turns.{IsSettled, SendsOrdering, TellsAtOnce, IsFewMore};
+ghost use Rattle.traffic.specs.Turns.{IsSettled, SendsOrdering, DeliversOwnAtOnce, IsFewMore};
 
 use crate::Coordinator;
 use address::ViewId;
@@ -99,7 +99,7 @@ impl Coordinator {
         ensures goes { OnOk result ((came : Option Posted) → CoordinatorGoes R.meaning came who.now.address who.now.group self.old receiver.old out.old self.new receiver.new out.new) }
         ensures done { OnOk result (next_ordered self.new.window.stable self.new.orderer ≡ None) }
         ensures orders { OnOk result (SendsOrdering R.meaning who.now.address who.now.group payload.now self.old receiver.old out.old self.new receiver.new out.new) }
-        ensures prompt { OnOk result (may_order self.old.window.stable self.old.orderer ≡ true → TellsAtOnce who.now.address payload.now self.old out.old out.new) }
+        ensures prompt { OnOk result (may_order self.old.window.stable self.old.orderer ≡ true → DeliversOwnAtOnce who.now.address payload.now self.old out.old out.new) }
         ensures settled { OnOk result (IsSettled who.now.address self.new) }
         ensures few { OnOk result (IsFewMore out.old out.new) }
     {

@@ -11,8 +11,8 @@ ghost use Rattle.output.specs.Outputs.{Grows};
 ghost use Rattle.limits.specs.declared.TheConstants.{PAYLOAD, GREATEST_NUMBER};
 ghost use Rattle.traffic.specs.Goings.{OtherGoes, sending};
 ghost use Rattle.traffic.specs.Turns.{IsFew};
-ghost use Rattle.traffic.specs.Others.{order_packet, TellsOne, collected_to, held_too};
-ghost use Rattle.traffic.specs.Takes.{Telling, TakesStatus, forward_of, ack_of, other_pushing, SendsForward, IsComplete, AsksUpTo, AnswersOrder, TakesOrder};
+ghost use Rattle.traffic.specs.Others.{order_packet, DeliversOne, collected_to, held_too};
+ghost use Rattle.traffic.specs.Takes.{DeliversHeld, TakesStatus, forward_of, ack_of, other_pushing, SendsForward, IsComplete, AsksUpTo, AnswersOrder, TakesOrder};
 ghost use Rattle.trace_props.specs.declared.event.Event.TheVariants.{Sent};
 ghost use Rattle.sequencer.specs.Forwards.{push_refusal};
 
@@ -35,9 +35,9 @@ impl Other {
         receiver: &mut R,
         out: &mut Output,
     ) -> Result<bool, AllocError>
-        ensures does { IfOk result (λ told. MatchOption (held_at (self.old.window.delivered + 1) self.old.window.held)
-            ((told ≡ false) × (self.new ≡ self.old) × (receiver.new ≡ receiver.old) × (out.new ≡ out.old))
-            (λ e. (told ≡ true) × TellsOne R.meaning who.now.address who.now.group e self.old receiver.old out.old self.new receiver.new out.new)) }
+        ensures does { IfOk result (λ did_deliver. MatchOption (held_at (self.old.window.delivered + 1) self.old.window.held)
+            ((did_deliver ≡ false) × (self.new ≡ self.old) × (receiver.new ≡ receiver.old) × (out.new ≡ out.old))
+            (λ e. (did_deliver ≡ true) × DeliversOne R.meaning who.now.address who.now.group e self.old receiver.old out.old self.new receiver.new out.new)) }
     {
         match self.window.take_ready()? {
             None => Ok(false),
@@ -81,7 +81,7 @@ impl Other {
         requires other { same_address who.now.address self.old.view.id.creator ≡ false }
         ensures goes { OnOk result ((came : Option Posted) → OtherGoes R.meaning came who.now.address who.now.group self.old receiver.old out.old self.new receiver.new out.new) }
         ensures done { OnOk result (held_at (self.new.window.delivered + 1) self.new.window.held ≡ None) }
-        ensures tells { OnOk result (Telling R.meaning who.now.address who.now.group self.old receiver.old out.old self.new receiver.new out.new) }
+        ensures delivers { OnOk result (DeliversHeld R.meaning who.now.address who.now.group self.old receiver.old out.old self.new receiver.new out.new) }
         ensures few { OnOk result (IsFew out.old out.new) }
     {
         self.window.kept();

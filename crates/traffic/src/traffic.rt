@@ -138,13 +138,13 @@ impl Traffic {
         Ok(())
     }
 
-    /// Its own messages that are handed back, where the oldest `told` of those that are outstanding are delivered first. They are copied. An error
+    /// Its own messages that are handed back, where the oldest `past` of those that are outstanding are delivered first. They are copied. An error
     /// comes for want of memory.
-    pub fn handed_back(&self, told: usize) -> Result<HandedBack, AllocError>
-        ensures value { IfOk result (λ h. h ≡ drop told (traffic_of self.now).outstanding) }
+    pub fn handed_back(&self, past: usize) -> Result<HandedBack, AllocError>
+        ensures value { IfOk result (λ h. h ≡ drop past (traffic_of self.now).outstanding) }
         ensures short { IfOk result AreShort }
     {
-        let handed_back = self.forwards().handed_back(told)?;
+        let handed_back = self.forwards().handed_back(past)?;
         Ok(handed_back)
     }
 }

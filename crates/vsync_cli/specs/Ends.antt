@@ -14,7 +14,7 @@ use Rattle.vsync_cli.specs.declared.words.Invocation.{Invocation}
 use Rattle.vsync_cli.specs.declared.words.Invocation.TheVariants.{World, Chat, Packets, Check}
 
 -- the command is done, from a reader with these bytes left to a writer: a script is run; or it is run and the chats, or the packets, are
--- told; or a trace is checked. Its members keep a chat
+-- printed; or a trace is checked. Its members keep a chat
 abbrev pub Does : Invocation → Option (List ℕ) → Option (List ℕ) → Option (List ℕ) → Status → Type 0
 Does (World path) left old new status = RunsScript chat_meaning left old new status
 Does (Chat path) left old new status = RunsChat chat_meaning (λ s. s) left old new status

@@ -13,14 +13,14 @@ IsWorldOn path (Chat input) = ⊥
 IsWorldOn path (Packets input) = ⊥
 IsWorldOn path (Check input) = ⊥
 
--- the script of this path is run, and the chats are told
+-- the script of this path is run, and the chats are printed
 abbrev pub IsChatOn : List ℕ → Invocation → Type 0
 IsChatOn path (World input) = ⊥
 IsChatOn path (Chat input) = input.now ≡ path
 IsChatOn path (Packets input) = ⊥
 IsChatOn path (Check input) = ⊥
 
--- the script of this path is run, and the packets are told
+-- the script of this path is run, and the packets are printed
 abbrev pub IsPacketsOn : List ℕ → Invocation → Type 0
 IsPacketsOn path (World input) = ⊥
 IsPacketsOn path (Chat input) = ⊥

@@ -57,7 +57,7 @@ fn answer<I: Read, W: Write>(
 }
 
 /// What a command's status says where it ended outside, on the standard error.
-fn told<R: Eprint>(rt: &R, status: Status, path: &str) -> Status
+fn explained<R: Eprint>(rt: &R, status: Status, path: &str) -> Status
     ensures { result ≡ status }
 {
     if status == Status::Outside {
@@ -75,7 +75,7 @@ fn answer_at<R: Files + Input + Print + Eprint + AllocGlobal>(
     let mut output = io::writer(rt);
     if path == "-" {
         let mut input = rt.reader();
-        return told(
+        return explained(
             rt,
             answer(rt.alloc(), command, &mut input, &mut output),
             "the standard input or output",
@@ -84,7 +84,7 @@ fn answer_at<R: Files + Input + Print + Eprint + AllocGlobal>(
     match fs::open(rt, path) {
         Ok(file) => {
             let mut file = file;
-            told(
+            explained(
                 rt,
                 answer(rt.alloc(), command, &mut file, &mut output),
                 path,

@@ -11,10 +11,10 @@ use std::alloc::{AllocError, Global};
 pub enum Invocation<'a> {
     /// `world SCRIPT`: the script of this path is run; `-` is the standard input.
     World(&'a str),
-    /// `chat SCRIPT`: the script of this path is run, and the chats of the running members are told; `-` is the standard
+    /// `chat SCRIPT`: the script of this path is run, and the chats of the running members are printed; `-` is the standard
     /// input.
     Chat(&'a str),
-    /// `packets SCRIPT`: the script of this path is run, and the packets that were put out are told; `-` is the standard
+    /// `packets SCRIPT`: the script of this path is run, and the packets that were put out are printed; `-` is the standard
     /// input.
     Packets(&'a str),
     /// `check TRACE`: the trace of this path is checked; `-` is the standard input.

@@ -1,4 +1,4 @@
-pub mod Ending
-pub mod Running
-pub mod Chatting
-pub mod Checking
+pub mod FactOfTexts
+pub mod FactOfRuns
+pub mod FactOfChatLines
+pub mod FactOfVerdicts

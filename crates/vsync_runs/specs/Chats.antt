@@ -1,4 +1,4 @@
--- What a command writes that tells the chats of a script's run.
+-- What a command writes that prints the chats of a script's run.
 use Rattle.std.specs.Prelude.{ℕ, List, Option}
 use Rattle.std.specs.List.{filter_map, range_with_len}
 use Rattle.std.specs.Option.{option_map}
@@ -28,6 +28,6 @@ chats_of meaning lines_of t = chats_to meaning lines_of t 65535
 abbrev pub IsChatText : {S : Type 0} → Meaning S → (S → List Line) → Script → Status → List ℕ → Type 0
 IsChatText meaning lines_of = IsEndText meaning (λ h. chats_of meaning lines_of h.trace)
 
--- a script is run from a reader, and the chats are told to a writer
+-- a script is run from a reader, and the chats are written to a writer
 abbrev pub RunsChat : {S : Type 0} → Meaning S → (S → List Line) → Option (List ℕ) → Option (List ℕ) → Option (List ℕ) → Status → Type 0
 RunsChat meaning lines_of left old new status = IsAnswer (IsScriptText (IsChatText meaning lines_of)) left old new status

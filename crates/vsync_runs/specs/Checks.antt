@@ -34,7 +34,7 @@ broken_line rule place = codes "broken " ++ (rule_code rule ++ 32 ∷ (decimal p
 pub data IsVerdictText : Verdict → Status → List ℕ → Type 0 where
   Held : IsVerdictText Holds Done (codes "holds\n")
   Broke : (rule : Rule) (place : ℕ) → IsVerdictText (Breaks rule place) Broken (broken_line rule place)
-  Untold : (v : Verdict) → IsVerdictText v Memory memory_line
+  Unprinted : (v : Verdict) → IsVerdictText v Memory memory_line
 
 -- the texts of what happened: of the verdict on it; or `# memory`, where memory is refused
 pub data IsJudgedText {S : Type 0} (meaning : Meaning S) (t : List Event) : Status → List ℕ → Type 0 where

@@ -48,8 +48,8 @@ pub record Ran {S : Type 0} (meaning : Meaning S) (events : List WorldEvent) (w 
 
 -- the texts of some lines: all of them, where there is nothing more to say; or the first few and `# memory`
 pub data IsLinesText (lines : List (List ℕ)) (whole : Bool) : Status → List ℕ → Type 0 where
-  Told : whole ≡ true → IsLinesText lines whole Done (concat lines)
-  Untold : (count : ℕ) → IsLinesText lines whole Memory (concat (take count lines) ++ memory_line)
+  Printed : whole ≡ true → IsLinesText lines whole Done (concat lines)
+  Unprinted : (count : ℕ) → IsLinesText lines whole Memory (concat (take count lines) ++ memory_line)
 
 -- the texts of a script's run: all of it; or, where memory was refused outside a member's step, whole lines of a beginning
 -- and `# memory`
@@ -58,7 +58,7 @@ pub data IsRunText {S : Type 0} (meaning : Meaning S) (script : Script) : Status
   Part : (w : WorldModel S) (events lines : ℕ) → Ran meaning (take events script.events) w
       → IsRunText meaning script Memory (concat (take lines (lines_of_run script.lines w.history.replies w.history.trace)) ++ memory_line)
 
--- the texts of what is told of a script's run at its end, lines of its history: all of them; the first few and `# memory`; or `# memory`
+-- the texts of what is printed of a script's run at its end, lines of its history: all of them; the first few and `# memory`; or `# memory`
 -- alone, where the script was not run to its end for want of memory
 pub data IsEndText {S : Type 0} (meaning : Meaning S) (lines_of : History → List (List ℕ)) (script : Script) : Status → List ℕ → Type 0 where
   All : (w : WorldModel S) → Ran meaning script.events w → IsEndText meaning lines_of script Done (concat (lines_of w.history))
@@ -67,8 +67,8 @@ pub data IsEndText {S : Type 0} (meaning : Meaning S) (lines_of : History → Li
 
 -- the texts of an input's first fault: its line; or `# memory`, where memory is refused
 pub data IsFaultText (line number : ℕ) : Status → List ℕ → Type 0 where
-  Told : IsFaultText line number Refused (fault_line line number)
-  Untold : IsFaultText line number Memory memory_line
+  Printed : IsFaultText line number Refused (fault_line line number)
+  Unprinted : IsFaultText line number Memory memory_line
 
 -- the texts of a script's bytes that are not run: their first fault; or `# memory`, before they are read whole
 pub data IsUnreadText (bytes : List ℕ) : Status → List ℕ → Type 0 where
@@ -76,10 +76,10 @@ pub data IsUnreadText (bytes : List ℕ) : Status → List ℕ → Type 0 where
       → IsFaultText line (fault_number fault) status text → IsUnreadText bytes status text
   Unread : IsUnreadText bytes Memory memory_line
 
--- the texts of a script's bytes: what they tell of the script; or why it is not run
-pub data IsScriptText (Tells : Script → Status → List ℕ → Type 0) (bytes : List ℕ) : Status → List ℕ → Type 0 where
-  Runs : (script : Script) (status : Status) (text : List ℕ) → script_of bytes ≡ Ok script → Tells script status text → IsScriptText Tells bytes status text
-  Unrun : (status : Status) (text : List ℕ) → IsUnreadText bytes status text → IsScriptText Tells bytes status text
+-- the texts of a script's bytes: what they say of the script; or why it is not run
+pub data IsScriptText (Prints : Script → Status → List ℕ → Type 0) (bytes : List ℕ) : Status → List ℕ → Type 0 where
+  Runs : (script : Script) (status : Status) (text : List ℕ) → script_of bytes ≡ Ok script → Prints script status text → IsScriptText Prints bytes status text
+  Unrun : (status : Status) (text : List ℕ) → IsUnreadText bytes status text → IsScriptText Prints bytes status text
 
 -- how writing the text of something ends: with that text and its status; or the writer failed and took a beginning of it
 pub record Written (Says : Status → List ℕ → Type 0) (old new : Option (List ℕ)) (status : Status) : Type 0 where

@@ -1,4 +1,4 @@
--- What a command writes that tells the packets of a script's run.
+-- What a command writes that prints the packets of a script's run.
 use Rattle.std.specs.Prelude.{ℕ, List, Option}
 use Rattle.state_transfer.specs.Meanings.{Meaning}
 use Rattle.vsync_text.specs.PacketText.{packet_lines}
@@ -10,6 +10,6 @@ use Rattle.vsync_runs.specs.Outcomes.{IsEndText, IsScriptText, IsAnswer}
 abbrev pub IsPacketText : {S : Type 0} → Meaning S → Script → Status → List ℕ → Type 0
 IsPacketText meaning = IsEndText meaning (λ h. packet_lines h.pool)
 
--- a script is run from a reader, and the packets are told to a writer
+-- a script is run from a reader, and the packets are written to a writer
 abbrev pub RunsPackets : {S : Type 0} → Meaning S → Option (List ℕ) → Option (List ℕ) → Option (List ℕ) → Status → Type 0
 RunsPackets meaning left old new status = IsAnswer (IsScriptText (IsPacketText meaning)) left old new status

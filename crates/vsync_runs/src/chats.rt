@@ -48,7 +48,7 @@ fn append_chats<C: Chat>(out: &mut Vec<u8>, world: &World<C>) -> Result<(), Allo
 }
 
 /// Writes the chats of a world.
-fn tell_chats<C: Chat, W: Write>(alloc: Global, world: &World<C>, writer: &mut W) -> Status
+fn print_chats<C: Chat, W: Write>(alloc: Global, world: &World<C>, writer: &mut W) -> Status
     ensures { Written (IsLinesText (chats_of C.meaning C.lines_of world.now.history.trace) true) (W.contents writer.old) (W.contents writer.new) result }
 {
     let mut text = Vec::new(alloc);
@@ -62,7 +62,7 @@ fn play_chats<C: Chat, W: Write>(alloc: Global, script: &Script, writer: &mut W)
 {
     let mut world = World::<C>::new(alloc);
     match world.run(script.events()) {
-        Ok(()) => tell_chats(alloc, &world, writer),
+        Ok(()) => print_chats(alloc, &world, writer),
         Err(_) => end_in_memory(writer),
     }
 }

@@ -13,7 +13,7 @@ use trace_checker::check;
 use trace_props::{Rule, Trace, Verdict};
 use trace_reader::read_trace;
 
-/// The code under which a broken rule is told (docs/GUARANTEES.md, "What check prints").
+/// The code under which a broken rule is printed (docs/GUARANTEES.md, "What check prints").
 fn code_of(rule: Rule) -> &'static str
     ensures { result.now ≡ rule_code rule }
 {
@@ -30,7 +30,7 @@ fn code_of(rule: Rule) -> &'static str
 }
 
 /// Writes a verdict.
-fn tell_verdict<W: Write>(alloc: Global, writer: &mut W, verdict: Verdict) -> Status
+fn print_verdict<W: Write>(alloc: Global, writer: &mut W, verdict: Verdict) -> Status
     ensures { Written (IsVerdictText verdict) (W.contents writer.old) (W.contents writer.new) result }
 {
     match verdict {
@@ -50,7 +50,7 @@ fn judge<R: Receiver, W: Write>(alloc: Global, trace: &Trace, writer: &mut W) ->
     ensures { Written (IsJudgedText R.meaning trace.now.events) (W.contents writer.old) (W.contents writer.new) result }
 {
     match check::<R>(alloc, trace) {
-        Ok(verdict) => tell_verdict(alloc, writer, verdict),
+        Ok(verdict) => print_verdict(alloc, writer, verdict),
         Err(_) => end_in_memory(writer),
     }
 }

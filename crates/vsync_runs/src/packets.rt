@@ -14,7 +14,7 @@ use std::io::{Read, Write};
 use world::World;
 
 /// Writes the packets of a world.
-fn tell_packets<R: Receiver, W: Write>(alloc: Global, world: &World<R>, writer: &mut W) -> Status
+fn print_packets<R: Receiver, W: Write>(alloc: Global, world: &World<R>, writer: &mut W) -> Status
     ensures { Written (IsLinesText (packet_lines world.now.history.pool) true) (W.contents writer.old) (W.contents writer.new) result }
 {
     let mut text = Vec::new(alloc);
@@ -28,7 +28,7 @@ fn play_packets<R: Receiver, W: Write>(alloc: Global, script: &Script, writer: &
 {
     let mut world = World::<R>::new(alloc);
     match world.run(script.events()) {
-        Ok(()) => tell_packets(alloc, &world, writer),
+        Ok(()) => print_packets(alloc, &world, writer),
         Err(_) => end_in_memory(writer),
     }
 }

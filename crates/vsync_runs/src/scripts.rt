@@ -32,7 +32,7 @@ pub fn script_from<I: Read, W: Write>(
 
 /// Writes what happened in a world that ran events of these lines: all of it, or with `# memory` at its end where
 /// the world could not run them all.
-fn tell<R: Receiver, W: Write>(
+fn print_run<R: Receiver, W: Write>(
     alloc: Global,
     world: &World<R>,
     ran: bool,
@@ -61,7 +61,7 @@ fn play<R: Receiver, W: Write>(alloc: Global, script: &Script, writer: &mut W) -
 {
     let mut world = World::<R>::new(alloc);
     let ran = world.run(script.events()).is_ok();
-    tell(alloc, &world, ran, script.lines(), writer)
+    print_run(alloc, &world, ran, script.lines(), writer)
 }
 
 /// Runs a script from a reader in a world whose receivers are `R`, and writes what happened to a writer: the text of the trace

@@ -1,4 +1,4 @@
-pub mod Appending
-pub mod Writing
-pub mod ChatLines
-pub mod PacketLines
+pub mod KeepFront
+pub mod FactOfWriting
+pub mod FactOfLinesLeft
+pub mod FactOfPacketLines

@@ -13,7 +13,7 @@ use std::alloc::AllocError;
 use trace_props::{Bytes, Numbered};
 
 /// Appends bytes. Where memory is refused, what stood before is kept, and a part may have been appended.
-#[tactic(auto, using(crate::proofs::Appending::at_once, crate::proofs::Appending::same))]
+#[tactic(auto, using(crate::proofs::KeepFront::at_once, crate::proofs::KeepFront::same))]
 pub fn put(out: &mut Vec<u8>, bytes: &[u8]) -> Result<(), AllocError>
     ensures text { OnOk result (out.new.items ≡ out.old.items ++ bytes.now) }
     ensures kept { GoesOnFrom out.old.items out.new.items }
@@ -32,7 +32,7 @@ pub fn put_decimal(out: &mut Vec<u8>, number: u64) -> Result<(), AllocError>
 }
 
 /// Appends a number.
-#[tactic(auto, using(crate::proofs::Appending::goes_on))]
+#[tactic(auto, using(crate::proofs::KeepFront::goes_on))]
 pub(crate) fn put_number(out: &mut Vec<u8>, before: u8, number: u64) -> Result<(), AllocError>
     ensures text { OnOk result (out.new.items ≡ out.old.items ++ before ∷ decimal number) }
     ensures kept { GoesOnFrom out.old.items out.new.items }
@@ -42,7 +42,7 @@ pub(crate) fn put_number(out: &mut Vec<u8>, before: u8, number: u64) -> Result<(
 }
 
 /// Appends an address as `3.1`, behind one byte. Where memory is refused, what stood before is kept, and a part may have been appended.
-#[tactic(auto, using(crate::proofs::Appending::goes_on))]
+#[tactic(auto, using(crate::proofs::KeepFront::goes_on))]
 pub fn put_address(out: &mut Vec<u8>, before: u8, address: &Address) -> Result<(), AllocError>
     ensures text { OnOk result (out.new.items ≡ out.old.items ++ before ∷ text_of_address address.now) }
     ensures kept { GoesOnFrom out.old.items out.new.items }
@@ -52,7 +52,7 @@ pub fn put_address(out: &mut Vec<u8>, before: u8, address: &Address) -> Result<(
 }
 
 /// Appends a view id.
-#[tactic(auto, using(crate::proofs::Appending::goes_on))]
+#[tactic(auto, using(crate::proofs::KeepFront::goes_on))]
 pub(crate) fn put_view_id(out: &mut Vec<u8>, before: u8, view: &ViewId) -> Result<(), AllocError>
     ensures text { OnOk result (out.new.items ≡ out.old.items ++ before ∷ text_of_view_id view.now) }
     ensures kept { GoesOnFrom out.old.items out.new.items }
@@ -62,7 +62,7 @@ pub(crate) fn put_view_id(out: &mut Vec<u8>, before: u8, view: &ViewId) -> Resul
 }
 
 /// Appends the view id, or `-`.
-#[tactic(auto, using(crate::proofs::Appending::goes_on))]
+#[tactic(auto, using(crate::proofs::KeepFront::goes_on))]
 pub(crate) fn put_previous(
     out: &mut Vec<u8>,
     before: u8,
@@ -91,7 +91,7 @@ fn hex_digit(number: u8) -> u8
 
 /// Appends bytes in lower case hexadecimal, two digits a byte, with no byte before them. Where memory is refused, what stood before is
 /// kept, and a part may have been appended.
-#[tactic(auto, using(crate::proofs::Appending::goes_on, crate::proofs::Appending::stays))]
+#[tactic(auto, using(crate::proofs::KeepFront::goes_on, crate::proofs::KeepFront::stays))]
 pub fn put_hex(out: &mut Vec<u8>, bytes: &[u8]) -> Result<(), AllocError>
     ensures text { OnOk result (out.new.items ≡ out.old.items ++ hex_of bytes.now) }
     ensures kept { GoesOnFrom out.old.items out.new.items }
@@ -103,7 +103,7 @@ pub fn put_hex(out: &mut Vec<u8>, bytes: &[u8]) -> Result<(), AllocError>
 }
 
 /// Appends bytes in lower case hexadecimal, behind one byte.
-#[tactic(auto, using(crate::proofs::Appending::goes_on))]
+#[tactic(auto, using(crate::proofs::KeepFront::goes_on))]
 fn put_hex_behind(out: &mut Vec<u8>, before: u8, bytes: &[u8]) -> Result<(), AllocError>
     ensures text { OnOk result (out.new.items ≡ out.old.items ++ before ∷ hex_of bytes.now) }
     ensures kept { GoesOnFrom out.old.items out.new.items }
@@ -113,7 +113,7 @@ fn put_hex_behind(out: &mut Vec<u8>, before: u8, bytes: &[u8]) -> Result<(), All
 }
 
 /// Appends a payload, `-` for none.
-#[tactic(auto, using(crate::proofs::Appending::goes_on))]
+#[tactic(auto, using(crate::proofs::KeepFront::goes_on))]
 pub(crate) fn put_payload(out: &mut Vec<u8>, before: u8, payload: &[u8]) -> Result<(), AllocError>
     ensures text { OnOk result (out.new.items ≡ out.old.items ++ before ∷ text_of_payload payload.now) }
     ensures kept { GoesOnFrom out.old.items out.new.items }
@@ -126,7 +126,7 @@ pub(crate) fn put_payload(out: &mut Vec<u8>, before: u8, payload: &[u8]) -> Resu
 }
 
 /// Appends a given state, `-` for none.
-#[tactic(auto, using(crate::proofs::Appending::goes_on))]
+#[tactic(auto, using(crate::proofs::KeepFront::goes_on))]
 pub(crate) fn put_given(
     out: &mut Vec<u8>,
     before: u8,
@@ -145,7 +145,7 @@ pub(crate) fn put_given(
 }
 
 /// Appends addresses, each behind a comma.
-#[tactic(auto, using(crate::proofs::Appending::goes_on, crate::proofs::Appending::stays))]
+#[tactic(auto, using(crate::proofs::KeepFront::goes_on, crate::proofs::KeepFront::stays))]
 fn put_more_addresses(out: &mut Vec<u8>, members: &[Address]) -> Result<(), AllocError>
     ensures text { OnOk result (out.new.items ≡ out.old.items ++ flat_map (λ p. 44 ∷ text_of_address p) members.now) }
     ensures kept { GoesOnFrom out.old.items out.new.items }
@@ -157,7 +157,7 @@ fn put_more_addresses(out: &mut Vec<u8>, members: &[Address]) -> Result<(), Allo
 }
 
 /// Appends addresses, joined by commas.
-#[tactic(auto, using(crate::proofs::Appending::goes_on))]
+#[tactic(auto, using(crate::proofs::KeepFront::goes_on))]
 pub(crate) fn put_addresses(
     out: &mut Vec<u8>,
     before: u8,
@@ -176,7 +176,7 @@ pub(crate) fn put_addresses(
 }
 
 /// Appends a message that was handed back: its number and its payload.
-#[tactic(auto, using(crate::proofs::Appending::goes_on))]
+#[tactic(auto, using(crate::proofs::KeepFront::goes_on))]
 fn put_numbered(out: &mut Vec<u8>, before: u8, message: &Numbered) -> Result<(), AllocError>
     ensures text { OnOk result (out.new.items ≡ out.old.items ++ before ∷ text_of_numbered message.now) }
     ensures kept { GoesOnFrom out.old.items out.new.items }
@@ -186,7 +186,7 @@ fn put_numbered(out: &mut Vec<u8>, before: u8, message: &Numbered) -> Result<(),
 }
 
 /// Appends messages, each behind a comma.
-#[tactic(auto, using(crate::proofs::Appending::goes_on, crate::proofs::Appending::stays))]
+#[tactic(auto, using(crate::proofs::KeepFront::goes_on, crate::proofs::KeepFront::stays))]
 fn put_more_numbered(out: &mut Vec<u8>, messages: &[Numbered]) -> Result<(), AllocError>
     ensures text { OnOk result (out.new.items ≡ out.old.items ++ flat_map (λ m. 44 ∷ text_of_numbered m) messages.now) }
     ensures kept { GoesOnFrom out.old.items out.new.items }
@@ -198,7 +198,7 @@ fn put_more_numbered(out: &mut Vec<u8>, messages: &[Numbered]) -> Result<(), All
 }
 
 /// Appends messages that were handed back, joined by commas, `-` for none.
-#[tactic(auto, using(crate::proofs::Appending::goes_on))]
+#[tactic(auto, using(crate::proofs::KeepFront::goes_on))]
 pub(crate) fn put_handed_back(
     out: &mut Vec<u8>,
     before: u8,

@@ -10,7 +10,7 @@ use std::alloc::AllocError;
 use crate::{put, put_address, put_hex};
 
 /// Appends who said a line, and what in hexadecimal, behind one byte.
-#[tactic(auto, using(crate::proofs::Appending::goes_on))]
+#[tactic(auto, using(crate::proofs::KeepFront::goes_on))]
 fn put_said(
     out: &mut Vec<u8>,
     before: u8,
@@ -39,7 +39,7 @@ fn put_more<C: Chat>(out: &mut Vec<u8>, chat: &C, first: usize) -> Result<(), Al
 }
 
 /// Appends the lines of a chat behind a space, joined by commas, `-` for none.
-#[tactic(auto, using(crate::proofs::Appending::goes_on))]
+#[tactic(auto, using(crate::proofs::KeepFront::goes_on))]
 fn put_lines<C: Chat>(out: &mut Vec<u8>, chat: &C) -> Result<(), AllocError>
     ensures text { OnOk result (out.new.items ≡ out.old.items ++ 32 ∷ text_of_lines (C.lines_of chat.now)) }
     ensures kept { GoesOnFrom out.old.items out.new.items }
@@ -54,7 +54,7 @@ fn put_lines<C: Chat>(out: &mut Vec<u8>, chat: &C) -> Result<(), AllocError>
 }
 
 /// Appends the chat line of a member or a part of it.
-#[tactic(auto, using(crate::proofs::Appending::goes_on))]
+#[tactic(auto, using(crate::proofs::KeepFront::goes_on))]
 fn put_chat<C: Chat>(out: &mut Vec<u8>, member: &Address, chat: &C) -> Result<(), AllocError>
     ensures text { OnOk result (out.new.items ≡ out.old.items ++ chat_line member.now (C.lines_of chat.now)) }
     ensures kept { GoesOnFrom out.old.items out.new.items }

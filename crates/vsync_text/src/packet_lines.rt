@@ -33,7 +33,7 @@ fn kind_name(body: &Body<'_>) -> &'static [u8]
 }
 
 /// Appends what a packet says, who sent it and to whom, each behind a space.
-#[tactic(auto, using(crate::proofs::Appending::goes_on))]
+#[tactic(auto, using(crate::proofs::KeepFront::goes_on))]
 fn put_named(out: &mut Vec<u8>, packet: &Packet<'_>) -> Result<(), AllocError>
     ensures text { OnOk result (out.new.items ≡ out.old.items ++ packet_fields (Ok packet.now)) }
     ensures kept { GoesOnFrom out.old.items out.new.items }
@@ -56,7 +56,7 @@ fn put_fields(out: &mut Vec<u8>, bytes: &[u8]) -> Result<(), AllocError>
 }
 
 /// Appends bytes in hexadecimal behind a space, and a line feed.
-#[tactic(auto, using(crate::proofs::Appending::goes_on))]
+#[tactic(auto, using(crate::proofs::KeepFront::goes_on))]
 fn put_bytes(out: &mut Vec<u8>, bytes: &[u8]) -> Result<(), AllocError>
     ensures text { OnOk result (out.new.items ≡ out.old.items ++ (field (hex_of bytes.now) ++ 10 ∷ [])) }
     ensures kept { GoesOnFrom out.old.items out.new.items }
@@ -67,7 +67,7 @@ fn put_bytes(out: &mut Vec<u8>, bytes: &[u8]) -> Result<(), AllocError>
 }
 
 /// Appends the line of a packet or a part of it.
-#[tactic(auto, using(crate::proofs::Appending::goes_on))]
+#[tactic(auto, using(crate::proofs::KeepFront::goes_on))]
 fn put_packet(out: &mut Vec<u8>, number: u64, bytes: &[u8]) -> Result<(), AllocError>
     ensures text { OnOk result (out.new.items ≡ out.old.items ++ packet_line number bytes.now) }
     ensures kept { GoesOnFrom out.old.items out.new.items }

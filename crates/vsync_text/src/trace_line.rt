@@ -14,7 +14,7 @@ use trace_props::{Delivery, Event, Install, Sending};
 use view::View;
 
 /// Appends a member and the view in which it is.
-#[tactic(auto, using(crate::proofs::Appending::goes_on))]
+#[tactic(auto, using(crate::proofs::KeepFront::goes_on))]
 fn put_member_view(out: &mut Vec<u8>, member: &Address, view: &ViewId) -> Result<(), AllocError>
     ensures text { OnOk result (out.new.items ≡ out.old.items ++ (field (text_of_address member.now) ++ field (text_of_view_id view.now))) }
     ensures kept { GoesOnFrom out.old.items out.new.items }
@@ -24,7 +24,7 @@ fn put_member_view(out: &mut Vec<u8>, member: &Address, view: &ViewId) -> Result
 }
 
 /// Appends a message: its number and its payload.
-#[tactic(auto, using(crate::proofs::Appending::goes_on))]
+#[tactic(auto, using(crate::proofs::KeepFront::goes_on))]
 fn put_message(out: &mut Vec<u8>, number: u64, payload: &[u8]) -> Result<(), AllocError>
     ensures text { OnOk result (out.new.items ≡ out.old.items ++ (field (decimal number) ++ field (text_of_payload payload.now))) }
     ensures kept { GoesOnFrom out.old.items out.new.items }
@@ -33,7 +33,7 @@ fn put_message(out: &mut Vec<u8>, number: u64, payload: &[u8]) -> Result<(), All
     put_payload(out, b' ', payload)
 }
 
-#[tactic(auto, using(crate::proofs::Appending::goes_on))]
+#[tactic(auto, using(crate::proofs::KeepFront::goes_on))]
 fn put_sending_fields(out: &mut Vec<u8>, sending: &Sending) -> Result<(), AllocError>
     ensures text { OnOk result (out.new.items ≡ out.old.items ++ sending_fields sending.now) }
     ensures kept { GoesOnFrom out.old.items out.new.items }
@@ -46,7 +46,7 @@ fn put_sending_fields(out: &mut Vec<u8>, sending: &Sending) -> Result<(), AllocE
     )
 }
 
-#[tactic(auto, using(crate::proofs::Appending::goes_on))]
+#[tactic(auto, using(crate::proofs::KeepFront::goes_on))]
 fn put_delivery_fields(out: &mut Vec<u8>, delivery: &Delivery) -> Result<(), AllocError>
     ensures text { OnOk result (out.new.items ≡ out.old.items ++ delivery_fields delivery.now) }
     ensures kept { GoesOnFrom out.old.items out.new.items }
@@ -61,7 +61,7 @@ fn put_delivery_fields(out: &mut Vec<u8>, delivery: &Delivery) -> Result<(), All
 }
 
 /// Appends a view: its id and its members.
-#[tactic(auto, using(crate::proofs::Appending::goes_on))]
+#[tactic(auto, using(crate::proofs::KeepFront::goes_on))]
 fn put_view(out: &mut Vec<u8>, view: &View) -> Result<(), AllocError>
     ensures text { OnOk result (out.new.items ≡ out.old.items ++ (field (text_of_view_id view.now.id) ++ field (text_of_addresses view.now.members))) }
     ensures kept { GoesOnFrom out.old.items out.new.items }
@@ -71,7 +71,7 @@ fn put_view(out: &mut Vec<u8>, view: &View) -> Result<(), AllocError>
 }
 
 /// Appends which view a member installs, and from which it comes.
-#[tactic(auto, using(crate::proofs::Appending::goes_on))]
+#[tactic(auto, using(crate::proofs::KeepFront::goes_on))]
 fn put_install_view(out: &mut Vec<u8>, install: &Install) -> Result<(), AllocError>
     ensures text { OnOk result (out.new.items ≡ out.old.items ++ install_view install.now) }
     ensures kept { GoesOnFrom out.old.items out.new.items }
@@ -82,7 +82,7 @@ fn put_install_view(out: &mut Vec<u8>, install: &Install) -> Result<(), AllocErr
 }
 
 /// Appends who comes together into a view, what is handed back, and the given state.
-#[tactic(auto, using(crate::proofs::Appending::goes_on))]
+#[tactic(auto, using(crate::proofs::KeepFront::goes_on))]
 fn put_install_rest(out: &mut Vec<u8>, install: &Install) -> Result<(), AllocError>
     ensures text { OnOk result (out.new.items ≡ out.old.items ++ install_rest install.now) }
     ensures kept { GoesOnFrom out.old.items out.new.items }
@@ -92,7 +92,7 @@ fn put_install_rest(out: &mut Vec<u8>, install: &Install) -> Result<(), AllocErr
     put_given(out, b' ', install.given.as_ref())
 }
 
-#[tactic(auto, using(crate::proofs::Appending::goes_on))]
+#[tactic(auto, using(crate::proofs::KeepFront::goes_on))]
 fn put_install_fields(out: &mut Vec<u8>, install: &Install) -> Result<(), AllocError>
     ensures text { OnOk result (out.new.items ≡ out.old.items ++ (install_view install.now ++ install_rest install.now)) }
     ensures kept { GoesOnFrom out.old.items out.new.items }
@@ -133,7 +133,7 @@ fn event_word(event: &Event) -> &'static [u8]
 }
 
 /// Appends the line of an event or a part of it.
-#[tactic(auto, using(crate::proofs::Appending::goes_on))]
+#[tactic(auto, using(crate::proofs::KeepFront::goes_on))]
 fn put_event(out: &mut Vec<u8>, event: &Event) -> Result<(), AllocError>
     ensures text { OnOk result (out.new.items ≡ out.old.items ++ line_of event.now) }
     ensures kept { GoesOnFrom out.old.items out.new.items }
@@ -144,7 +144,7 @@ fn put_event(out: &mut Vec<u8>, event: &Event) -> Result<(), AllocError>
 }
 
 /// Appends two numbers, each behind a space.
-#[tactic(auto, using(crate::proofs::Appending::goes_on))]
+#[tactic(auto, using(crate::proofs::KeepFront::goes_on))]
 fn put_two_numbers(out: &mut Vec<u8>, first: u64, second: u64) -> Result<(), AllocError>
     ensures text { OnOk result (out.new.items ≡ out.old.items ++ (field (decimal first) ++ field (decimal second))) }
     ensures kept { GoesOnFrom out.old.items out.new.items }
@@ -154,7 +154,7 @@ fn put_two_numbers(out: &mut Vec<u8>, first: u64, second: u64) -> Result<(), All
 }
 
 /// Appends the refusal of the event of a line or a part of it.
-#[tactic(auto, using(crate::proofs::Appending::goes_on))]
+#[tactic(auto, using(crate::proofs::KeepFront::goes_on))]
 fn put_refusal(out: &mut Vec<u8>, line: u64, number: u8) -> Result<(), AllocError>
     ensures text { OnOk result (out.new.items ≡ out.old.items ++ refusal_line line number) }
     ensures kept { GoesOnFrom out.old.items out.new.items }

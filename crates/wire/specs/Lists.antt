@@ -155,7 +155,7 @@ abbrev pub state_bytes : Option (List ℕ) → List ℕ
 state_bytes None = big_bytes 1 0
 state_bytes (Some s) = big_bytes 1 1 ++ (big_bytes 4 (length s) ++ s)
 
--- what is given to the one that is told
+-- what is given to the one that is instructed
 abbrev pub given_bytes : Install → List ℕ
 given_bytes i = number_bytes i.base ++ items_bytes i.items ++ state_bytes i.state
 

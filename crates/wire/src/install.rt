@@ -87,7 +87,7 @@ impl<'a> Install<'a> {
         &self.view
     }
 
-    /// Who come from the same view as the one that is told, itself among them, in member order.
+    /// Who come from the same view as the one that is instructed, itself among them, in member order.
     pub fn together(&self) -> &Members
         ensures { result.now ≡ self.now.together }
     {

@@ -107,7 +107,7 @@ fn the_longest_install_has_33551_bytes(rt: HostRuntime) {
 }
 
 #[test]
-fn entries_are_as_many_as_is_told(rt: HostRuntime) {
+fn entries_are_as_many_as_is_said(rt: HostRuntime) {
     let text = entries(rt.alloc(), false).expect(&rt, "the entries");
     assert!(rt; Items::new(31, &text).is_none());
 }

@@ -159,7 +159,7 @@ fn holds(held: &mut Held<'_>, place: u64, number: u64, payload: &[u8]) -> bool {
 }
 
 #[test]
-fn a_report_tells_its_parts(rt: HostRuntime) {
+fn a_report_gives_its_parts(rt: HostRuntime) {
     let bytes = unhex(rt.alloc(), REPORT).ok().expect(&rt, "the bytes");
     match decode(&bytes) {
         Ok(packet) => match &packet.body {

@@ -128,7 +128,7 @@ fn an_unknown_option_is_refused(rt: HostRuntime) {
 }
 
 #[test]
-fn help_is_told_of_the_program_and_of_each_subcommand(rt: HostRuntime) {
+fn help_is_printed_of_the_program_and_of_each_subcommand(rt: HostRuntime) {
     let (alloc, wanted) = (rt.alloc(), Some(ErrorKind::DisplayHelp));
     assert!(rt;
         refusal(alloc, &["vsync", "--help"]) == wanted,

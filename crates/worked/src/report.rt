@@ -1,4 +1,4 @@
-//! What is told of runs.
+//! What is printed of runs.
 
 use std::io::{self, Write};
 
@@ -38,7 +38,7 @@ impl Report {
         self.failures
     }
 
-    /// Counts a failure of a file, and tells it.
+    /// Counts a failure of a file, and prints it.
     pub fn fail<W: Write>(&mut self, writer: &mut W, name: &str, why: &str) -> io::Result<()> {
         self.failures = self.failures.saturating_add(1);
         writeln!(writer, "FAILED {name}: {why}")

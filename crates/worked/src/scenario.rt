@@ -45,7 +45,7 @@ fn add_line(text: &mut Vec<u8>, line: &[u8]) -> io::Result<()> {
     Ok(())
 }
 
-/// The exit status that a line tells.
+/// The exit status that a line says.
 fn exit_status(mark: &[u8]) -> Option<u8> {
     match mark.strip_prefix(b"exit status ") {
         Some([digit]) if digit.is_ascii_digit() => Some(*digit - b'0'),

@@ -28,7 +28,7 @@ fn run_one<W: Write>(
     report.compare(writer, name, scenario.headline(), &wanted, &came)
 }
 
-/// Runs a scenario's text, and tells how many runs it has.
+/// Runs a scenario's text, and answers how many runs it has.
 fn run_text<W: Write>(
     alloc: Global,
     writer: &mut W,

@@ -88,12 +88,12 @@ module _ {S : Type 0} (meaning : Meaning S) where
 
   -- A CATCH-UP: a tick of the coordinator, a delivery of its STATUS to the member, of what the member puts out by that, and of each answer
   pub record CatchesUp (pair : Pair) (old new : WorldModel S) : Type 0 where
-    pub told : WorldModel S
+    pub announced : WorldModel S
     pub asked : WorldModel S
     pub answered : WorldModel S
-    pub ticks : Plays old (Tick pair.view.creator.node) told
-    pub hears : Hands (first_for pair.member (length old.history.pool) told.history.pool) told asked
-    pub asks : DeliversPast (length told.history.pool) asked answered
+    pub ticks : Plays old (Tick pair.view.creator.node) announced
+    pub hears : Hands (first_for pair.member (length old.history.pool) announced.history.pool) announced asked
+    pub asks : DeliversPast (length announced.history.pool) asked answered
     pub answers : DeliversPast (length asked.history.pool) answered new
 
   -- ---- what an error leaves
@@ -113,12 +113,12 @@ module _ {S : Type 0} (meaning : Meaning S) where
   -- a catch-up that ends in an error: the steps before it are carried out
   pub data Stops (pair : Pair) (old : WorldModel S) : WorldModel S → Type 0 where
     AtTick : (new : WorldModel S) → Fails old (Tick pair.view.creator.node) new → Stops pair old new
-    AtStatus : (told new : WorldModel S) → Plays old (Tick pair.view.creator.node) told
-        → IsSomeAnd (first_for pair.member (length old.history.pool) told.history.pool) (λ k. Fails told (Deliver k) new) → Stops pair old new
-    AtRequest : (told asked new : WorldModel S) → Plays old (Tick pair.view.creator.node) told → Hands (first_for pair.member (length old.history.pool) told.history.pool) told asked
-        → BreaksPast (length told.history.pool) asked new → Stops pair old new
-    AtAnswer : (told asked answered new : WorldModel S) → Plays old (Tick pair.view.creator.node) told → Hands (first_for pair.member (length old.history.pool) told.history.pool) told asked
-        → DeliversPast (length told.history.pool) asked answered → BreaksPast (length asked.history.pool) answered new → Stops pair old new
+    AtStatus : (announced new : WorldModel S) → Plays old (Tick pair.view.creator.node) announced
+        → IsSomeAnd (first_for pair.member (length old.history.pool) announced.history.pool) (λ k. Fails announced (Deliver k) new) → Stops pair old new
+    AtRequest : (announced asked new : WorldModel S) → Plays old (Tick pair.view.creator.node) announced → Hands (first_for pair.member (length old.history.pool) announced.history.pool) announced asked
+        → BreaksPast (length announced.history.pool) asked new → Stops pair old new
+    AtAnswer : (announced asked answered new : WorldModel S) → Plays old (Tick pair.view.creator.node) announced → Hands (first_for pair.member (length old.history.pool) announced.history.pool) announced asked
+        → DeliversPast (length announced.history.pool) asked answered → BreaksPast (length asked.history.pool) answered new → Stops pair old new
 
 -- the coordinator or the member has crashed at last
 pub record LosesOne {S : Type 0} (pair : Pair) (w : WorldModel S) : Type 0 where
@@ -133,6 +133,6 @@ pub record BothRun {S : Type 0} (pair : Pair) (w : WorldModel S) : Type 0 where
 abbrev pub EndsSo : {S : Type 0} → Pair → WorldModel S → Type 0
 EndsSo pair w = LosesOne pair w ⊎ BothRun pair w
 
--- what the member was told in the view is what its coordinator was told there
+-- what the member delivered in the view is what its coordinator delivered there
 abbrev pub IsLevel : Pair → List Event → Type 0
 IsLevel pair t = delivered_in pair.member pair.view t ≡ delivered_in pair.view.creator pair.view t

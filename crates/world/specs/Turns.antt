@@ -42,7 +42,7 @@ pub record HasPut {S : Type 0} (meaning : Meaning S) (input : Input) (m : Member
     (happened : List Event) (left : MemberModel S) (pool' : List (List ℕ)) : Type 0 where
   pub out : Output
   pub handled : Handled meaning m input (Ok out) left
-  pub told : happened ≡ out.events.items
+  pub events_are : happened ≡ out.events.items
   pub puts : pool' ≡ pool ++ map bytes_of out.packets.items
 
 -- one that comes to an error: nothing joined the pool
@@ -53,7 +53,7 @@ pub record HasFailed {S : Type 0} (meaning : Meaning S) (input : Input) (m : Mem
   pub why : IsWhy e result
   pub puts : pool' ≡ pool
 
--- a step of a member, by what of it is told further: what happened, or the error
+-- a step of a member, by what of it is handed on: what happened, or the error
 abbrev pub Steps : {S Z : Type 0} → Meaning S → Input → MemberModel S → List (List ℕ) → Result (Vec Event Z) Error → MemberModel S → List (List ℕ) → Type 0
 Steps meaning input m pool (Ok happened) left pool' = HasPut meaning input m pool happened.items left pool'
 Steps meaning input m pool (Err e) left pool' = HasFailed meaning input m pool e left pool'

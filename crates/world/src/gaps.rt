@@ -152,17 +152,17 @@ impl<R: Receiver> World<R> {
     {
         let known = self.pool.count();
         self.play(&WorldEvent::Tick(pair.view.creator().node()))?;
-        let told = self.pool.count();
+        let announced = self.pool.count();
         let status = self.pool.first_for(pair.member, known);
         self.hand(status)?;
         let asked = self.pool.count();
-        self.deliver_past(told)?;
+        self.deliver_past(announced)?;
         self.deliver_past(asked)
     }
 
     /// Brings the member that runs at a node level with the coordinator of its view (docs/GUARANTEES.md, "Gaps close"): a tick of the coordinator, a
     /// delivery of its STATUS to the member, of the NAK if the member puts one out, and of each answer in order. These are events like those that
-    /// `run` is told. Answers true then, and the member was told in the view what its coordinator was.
+    /// `run` is given. Answers true then, and the member has delivered in the view what its coordinator has.
     ///
     /// Answers false, and does nothing, unless the member and its coordinator are two, and both run in that view and are not blocked. Answers an error
     /// (7) where the places of a step are refused, which is then not begun, and where memory is refused to one of the two in a step, by which it
@@ -171,7 +171,7 @@ impl<R: Receiver> World<R> {
         // It answers whether there are those two; where there are not, nothing is done.
         ensures answer { IfOk result (λ b. b ≡ is_some (pair_at (shown self.old).seats node)) }
         ensures nothing { result ≡ Ok false → shown self.new ≡ shown self.old }
-        // Else these steps are played, and the member was told in the view what its coordinator was;
+        // Else these steps are played, and the member has delivered in the view what its coordinator has;
         ensures plays { OnOk result (ForSome (pair_at (shown self.old).seats node) (λ pair. CatchesUp R.meaning pair (shown self.old) (shown self.new))) }
         ensures level { OnOk result (ForSome (pair_at (shown self.old).seats node) (λ pair. IsLevel pair self.new.history.trace)) }
         // or a beginning of them, and then one of the two has crashed for want of memory, or a step was not begun and both run.

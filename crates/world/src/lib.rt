@@ -52,7 +52,7 @@ impl<R: Receiver> Model for World<R> {
 
     ghost view = { λ w. record { history = record { events = w.events.items; replies = w.replies.items; pool = w.pool; trace = w.trace.events }; table = w.seats.entries } };
 
-    // It came from nothing by world steps. All that is kept follows from that alone (proofs/Keeping.antt).
+    // It came from nothing by world steps. All that is kept follows from that alone (proofs/KeepOfWorlds.antt).
     ghost invariant = { λ w. IsReached R.meaning (shown (record { history = record { events = w.events.items; replies = w.replies.items; pool = w.pool; trace = w.trace.events }; table = w.seats.entries })) };
 }
 
@@ -290,7 +290,7 @@ impl<R: Receiver> World<R> {
         }
     }
 
-    /// The receiver of the member that runs at a node, as it was told all that happened to that member; None where none runs there.
+    /// The receiver of the member that runs at a node, as it was given all that happened to that member; None where none runs there.
     pub fn receiver(&self, node: Node) -> Option<&R>
         ensures { option_copied result ≡ option_map (λ p. state_of R.meaning p self.now.history.trace) (running node self.now.history.trace) }
     {

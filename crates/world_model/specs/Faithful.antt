@@ -73,7 +73,7 @@ AnswersCreate p h a stretch =
     MatchBool (is_connected p.node h) (Refuses AlreadyConnected a stretch)
     (((a ≡ Done) × (stretch ≡ Installed (lone_install p) ∷ [])) ⊎ Fails p a stretch)
 
--- how many of a member's messages in a view it was not told yet
+-- how many of a member's messages in a view it has not delivered yet
 abbrev pub outstanding : Address → ViewId → List Event → ℕ
 outstanding p v t = length (sent_in p v t) - length (own p (delivered_in p v t))
 
@@ -140,7 +140,7 @@ Answers h (Leave n) a stretch = AtMember n h a stretch (λ p. AnswersLeave p a s
 Answers h (Crash n) a stretch = AtMember n h a stretch (λ p. AnswersCrash p a stretch)
 
 -- PROMPT SEND: a message that the coordinator of a view sends is delivered to it in the same step,
--- if it was told fewer messages in that view than the reach
+-- if it delivered fewer messages in that view than the reach
 abbrev pub IsPrompt : ℕ → List ℕ → List Event → Answer → List Event → Type 0
 IsPrompt n payload t (answer.Sent k) stretch =
     ForSome (last_of n t) (λ p. ForSome (current_view p t) (λ v.

@@ -1,4 +1,4 @@
-//! What a world of members can be told and what it answers, and when its history is faithful to that.
+//! What a world of members can be given and what it answers, and when its history is faithful to that.
 #![tactic(auto)]
 
 ghost use Rattle.std.specs.Prelude.{◌≡◌, IfOk};
@@ -9,7 +9,7 @@ use limits::Refusal;
 use std::alloc::{AllocError, Global};
 use trace_props::Bytes;
 
-/// What a world is told to do (docs/GUARANTEES.md, "Faithful").
+/// What a world is given to do (docs/GUARANTEES.md, "Faithful").
 #[derive(Debug, Drop)]
 pub enum WorldEvent {
     /// The node's next incarnation begins to run.
@@ -26,7 +26,7 @@ pub enum WorldEvent {
     Tick(Node),
     /// The failure detector of the node's member says that the member of the address has failed.
     Suspect(Node, Address),
-    /// The node's member is told that a member of another view may be reached at the address.
+    /// The node's member is given the hint that a member of another view may be reached at the address.
     MergeHint(Node, Address),
     /// The node's member leaves.
     Leave(Node),

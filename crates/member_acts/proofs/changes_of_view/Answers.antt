@@ -1,4 +1,4 @@
-use Rattle.member_acts.proofs.Acting.{promises-acted, begins-acted, proposes-acted, due-acted, records-acted, finishes-acted, enters-acted}
+use Rattle.member_acts.proofs.ActsAreAllowed.{promises-acted, begins-acted, proposes-acted, due-acted, records-acted, finishes-acted, enters-acted}
 use Rattle.member_acts.proofs.changes_of_view.Goals as goal
 
 pub returns-clause-promises : goal.returns-clause-promises

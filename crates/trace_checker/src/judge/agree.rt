@@ -10,17 +10,17 @@ use address::{Address, ViewId};
 use trace_props::Install;
 use view::Addresses;
 
-// Whether a member was told as many messages as another.
+// Whether a member delivered as many messages as another.
 fn is_as_far(past: &Past, other: Option<&Install>, view: ViewId, member: Address) -> bool
     ensures { result ≡ is_level (option_copied other.entry) view member past.now }
 {
     match other {
         None => true,
-        Some(other) => past.told_count(other.member, view) == past.told_count(member, view),
+        Some(other) => past.delivered_count(other.member, view) == past.delivered_count(member, view),
     }
 }
 
-/// Whether who enters was told as many messages as the first who went from the same view to the same next.
+/// Whether who enters delivered as many messages as the first who went from the same view to the same next.
 pub fn may_meet(past: &Past, install: &Install) -> bool
     ensures { result ≡ meets install.now.previous install.now past.now }
 {

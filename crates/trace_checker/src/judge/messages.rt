@@ -29,14 +29,14 @@ fn is_same_numbered(sent: Option<&Numbered>, message: &Message) -> bool
     }
 }
 
-fn is_same_message(told: Option<&Message>, message: &Message) -> bool
-    ensures { result ≡ is_message (option_copied told.entry) message.now }
+fn is_same_message(delivered: Option<&Message>, message: &Message) -> bool
+    ensures { result ≡ is_message (option_copied delivered.entry) message.now }
 {
-    match told {
+    match delivered {
         None => false,
-        Some(told) => told.sender == message.sender
-            && told.number == message.number
-            && told.payload.as_slice() == message.payload.as_slice(),
+        Some(delivered) => delivered.sender == message.sender
+            && delivered.number == message.number
+            && delivered.payload.as_slice() == message.payload.as_slice(),
     }
 }
 
@@ -50,8 +50,8 @@ pub fn may_send(past: &Past, sending: &Sending) -> bool
     )
 }
 
-/// Whether a message that is told is its sender's next.
-pub fn may_tell(past: &Past, delivery: &Delivery) -> bool
+/// Whether a message that is delivered is its sender's next.
+pub fn may_deliver(past: &Past, delivery: &Delivery) -> bool
     ensures { result
         ≡ (nat_eq delivery.now.message.number (length (own delivery.now.message.sender (delivered_in delivery.now.member delivery.now.view past.now)) + 1)
         && is_numbered (slice_get (sent_in delivery.now.message.sender delivery.now.view past.now) (length (own delivery.now.message.sender (delivered_in delivery.now.member delivery.now.view past.now)))) delivery.now.message) }
@@ -65,16 +65,16 @@ pub fn may_tell(past: &Past, delivery: &Delivery) -> bool
         )
 }
 
-// Whether a message that is told is the next that another member was told.
+// Whether a message that is delivered is the next that another member delivered.
 fn is_next_of(past: &Past, other: Address, delivery: &Delivery) -> bool
     ensures { result
         ≡ is_message (slice_get (delivered_in other delivery.now.view past.now) (length (delivered_in delivery.now.member delivery.now.view past.now))) delivery.now.message }
 {
-    let count = past.told_count(delivery.member, delivery.view);
-    is_same_message(past.told_at(other, delivery.view, count), &delivery.message)
+    let count = past.delivered_count(delivery.member, delivery.view);
+    is_same_message(past.delivered_at(other, delivery.view, count), &delivery.message)
 }
 
-/// Whether a message that is told is the next that the view's coordinator was told.
+/// Whether a message that is delivered is the next that the view's coordinator delivered.
 pub fn may_order(past: &Past, delivery: &Delivery) -> bool
     ensures { result
         ≡ (same_address delivery.now.member delivery.now.view.creator

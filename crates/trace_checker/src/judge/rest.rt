@@ -36,19 +36,19 @@ fn is_rest(past: &Past, member: Address, view: ViewId, start: usize, messages: &
     true
 }
 
-/// Whether who enters gets back what it sent past its own messages that it was told.
+/// Whether who enters gets back what it sent past its own messages that it delivered.
 pub fn may_hand_back(past: &Past, install: &Install) -> bool
     ensures { Decides result (MayHandBack past.now (Installed install.now)) }
 {
     match install.previous {
         None => install.handed_back.as_slice().is_empty(),
         Some(previous) => {
-            let told = past.own_count(install.member, install.member, previous);
+            let delivered = past.own_count(install.member, install.member, previous);
             is_rest(
                 past,
                 install.member,
                 previous,
-                told as usize,
+                delivered as usize,
                 install.handed_back.as_slice(),
             )
         }

@@ -7,7 +7,7 @@ ghost use Rattle.trace_props.specs.Agreeing.{MayMeet, MayKnow, MayHandBack};
 ghost use Rattle.trace_props.specs.Verdicts.{May, MayEach, rules_before};
 
 use super::agree::{may_know, may_meet};
-use super::messages::{may_order, may_send, may_tell};
+use super::messages::{may_order, may_send, may_deliver};
 use super::placed::may_stand;
 use super::rest::may_hand_back;
 use super::views::may_rise;
@@ -36,7 +36,7 @@ fn keeps_messages(past: &Past, event: &Event) -> bool
         Some(sending) => may_send(past, sending),
         None => match delivery_in(event) {
             None => true,
-            Some(delivery) => may_tell(past, delivery),
+            Some(delivery) => may_deliver(past, delivery),
         },
     }
 }

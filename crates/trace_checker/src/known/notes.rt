@@ -7,7 +7,7 @@ ghost use Rattle.address.specs.Ids.{view_id_cmp};
 ghost use Rattle.trace_props.specs.declared.event.Event.{Event};
 ghost use Rattle.trace_checker.specs.declared.known.seat.Pair.{Pair};
 ghost use Rattle.trace_props.specs.Following.{MayCarry};
-ghost use Rattle.trace_checker.specs.Known.{sending_of, delivery_of, seat_cmp, pair_cmp, way_cmp, same_pair, KnowsSent, KnowsTold, KnowsLast, KnowsEntries, KnowsFirsts, KnowsWays};
+ghost use Rattle.trace_checker.specs.Known.{sending_of, delivery_of, seat_cmp, pair_cmp, way_cmp, same_pair, KnowsSent, KnowsDelivered, KnowsLast, KnowsEntries, KnowsFirsts, KnowsWays};
 
 use super::lists::Lists;
 use super::seat::{Pair, Seat, Way};
@@ -31,7 +31,7 @@ pub fn sending_in<'a>(event: &'a Event) -> Option<&'a Sending>
     }
 }
 
-/// The message that an event tells.
+/// The message that an event delivers.
 pub fn delivery_in<'a>(event: &'a Event) -> Option<&'a Delivery>
     ensures { option_copied result ≡ delivery_of event.now }
 {
@@ -82,13 +82,13 @@ pub fn note_sent<'a>(
     }
 }
 
-/// Keeps a message that is told.
-pub fn note_told<'a>(
+/// Keeps a message that is delivered.
+pub fn note_delivered<'a>(
     alloc: Global,
-    told: &mut Lists<'a, Message>,
+    delivered: &mut Lists<'a, Message>,
     event: &'a Event,
 ) -> Result<(), AllocError>
-    ensures { OnOk result ((t : List Event) → KnowsTold (get seat_cmp told.old.lists) t → KnowsTold (get seat_cmp told.new.lists) (t ++ event.now ∷ [])) }
+    ensures { OnOk result ((t : List Event) → KnowsDelivered (get seat_cmp delivered.old.lists) t → KnowsDelivered (get seat_cmp delivered.new.lists) (t ++ event.now ∷ [])) }
 {
     match delivery_in(event) {
         None => Ok(()),
@@ -97,7 +97,7 @@ pub fn note_told<'a>(
                 view: delivery.view,
                 member: delivery.member,
             };
-            told.push(alloc, seat, &delivery.message)?;
+            delivered.push(alloc, seat, &delivery.message)?;
             Ok(())
         }
     }
@@ -111,7 +111,7 @@ fn keep_last(last: &mut BTreeMap<Pair, u64>, pair: Pair, number: u64) -> Result<
     Ok(())
 }
 
-/// Keeps the number of a message that is told, where it is its sender's next.
+/// Keeps the number of a message that is delivered, where it is its sender's next.
 pub fn note_last(last: &mut BTreeMap<Pair, u64>, event: &Event) -> Result<(), AllocError>
     ensures { OnOk result ((t : List Event) → MayCarry t event.now → KnowsLast (get pair_cmp last.old) t → KnowsLast (get pair_cmp last.new) (t ++ event.now ∷ [])) }
 {

@@ -30,7 +30,7 @@ impl<'a> Model for Past<'a> {
 
     ghost view = { λ p. pointed p.tables.events.items };
 
-    ghost invariant = { λ p. KnowsPast (get address_cmp p.tables.standings) (get seat_cmp p.tables.sent.lists) (get seat_cmp p.tables.told.lists) (get pair_cmp p.tables.last)
+    ghost invariant = { λ p. KnowsPast (get address_cmp p.tables.standings) (get seat_cmp p.tables.sent.lists) (get seat_cmp p.tables.delivered.lists) (get pair_cmp p.tables.last)
         (get seat_cmp p.tables.entries) (get view_id_cmp p.tables.firsts) (get way_cmp p.tables.ways) (pointed p.tables.events.items) };
 }
 
@@ -65,21 +65,21 @@ impl<'a> Past<'a> {
         self.tables.sent.at(Seat { view, member }, index)
     }
 
-    /// How many messages a member was told in a view.
-    pub fn told_count(&self, member: Address, view: ViewId) -> usize
+    /// How many messages a member delivered in a view.
+    pub fn delivered_count(&self, member: Address, view: ViewId) -> usize
         ensures { result ≡ length (delivered_in member view self.now) }
     {
-        self.tables.told.count(Seat { view, member })
+        self.tables.delivered.count(Seat { view, member })
     }
 
-    /// A message that a member was told in a view, by its index from 0.
-    pub fn told_at(&self, member: Address, view: ViewId, index: usize) -> Option<&'a Message>
+    /// A message that a member delivered in a view, by its index from 0.
+    pub fn delivered_at(&self, member: Address, view: ViewId, index: usize) -> Option<&'a Message>
         ensures { option_copied result ≡ slice_get (delivered_in member view self.now) index }
     {
-        self.tables.told.at(Seat { view, member }, index)
+        self.tables.delivered.at(Seat { view, member }, index)
     }
 
-    /// How many messages of a sender a member was told in a view.
+    /// How many messages of a sender a member delivered in a view.
     pub fn own_count(&self, member: Address, sender: Address, view: ViewId) -> u64
         ensures { result ≡ length (own sender (delivered_in member view self.now)) }
     {
@@ -111,7 +111,7 @@ impl<'a> Past<'a> {
         self.tables.ways.get(&Way { from, to }).copied()
     }
 
-    /// Notes what happened next, whose message, if it tells one, is its sender's next. On refusal nothing is known any more.
+    /// Notes what happened next, whose message, if it delivers one, is its sender's next. On refusal nothing is known any more.
     pub fn note(&mut self, alloc: Global, event: &'a Event) -> Result<(), AllocError>
         requires may { MayCarry self.old event.now }
         ensures { OnOk result (self.new ≡ self.old ++ event.now ∷ []) }

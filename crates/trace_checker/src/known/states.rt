@@ -152,7 +152,7 @@ pub struct States<R> {
     entering: BTreeMap<ViewId, Bytes>,
 }
 
-/// Applies a message that is told.
+/// Applies a message that is delivered.
 fn hear<R: Receiver>(
     alloc: Global,
     states: &mut States<R>,

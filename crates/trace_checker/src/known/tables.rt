@@ -3,7 +3,7 @@ ghost use Rattle.std.specs.BTreeMap.{get};
 ghost use Rattle.address.specs.Ids.{address_cmp, view_id_cmp};
 ghost use Rattle.trace_props.specs.declared.event.Event.{Event};
 ghost use Rattle.trace_props.specs.Following.{MayCarry};
-ghost use Rattle.trace_checker.specs.Known.{seat_cmp, pair_cmp, way_cmp, KnowsPast, KnowsSent, KnowsTold, KnowsLast, KnowsEntries, KnowsFirsts, KnowsWays, pointed};
+ghost use Rattle.trace_checker.specs.Known.{seat_cmp, pair_cmp, way_cmp, KnowsPast, KnowsSent, KnowsDelivered, KnowsLast, KnowsEntries, KnowsFirsts, KnowsWays, pointed};
 
 use super::lists::Lists;
 use super::seat::{Pair, Seat, Way};
@@ -20,7 +20,7 @@ pub struct Tables<'a> {
     pub events: Vec<&'a Event>,
     pub standings: BTreeMap<Address, Standing>,
     pub sent: Lists<'a, Numbered>,
-    pub told: Lists<'a, Message>,
+    pub delivered: Lists<'a, Message>,
     pub last: BTreeMap<Pair, u64>,
     pub entries: BTreeMap<Seat, &'a Install>,
     pub firsts: BTreeMap<ViewId, &'a Install>,
@@ -31,14 +31,14 @@ impl<'a> Tables<'a> {
     /// Of nothing. Takes no memory.
     pub fn new(alloc: Global) -> Tables<'a>
         ensures nothing { pointed result.events.items ≡ [] }
-        ensures known { KnowsPast (get address_cmp result.standings) (get seat_cmp result.sent.lists) (get seat_cmp result.told.lists) (get pair_cmp result.last)
+        ensures known { KnowsPast (get address_cmp result.standings) (get seat_cmp result.sent.lists) (get seat_cmp result.delivered.lists) (get pair_cmp result.last)
             (get seat_cmp result.entries) (get view_id_cmp result.firsts) (get way_cmp result.ways) [] }
     {
         Tables {
             events: Vec::new(alloc),
             standings: BTreeMap::new(alloc),
             sent: Lists::new(alloc),
-            told: Lists::new(alloc),
+            delivered: Lists::new(alloc),
             last: BTreeMap::new(alloc),
             entries: BTreeMap::new(alloc),
             firsts: BTreeMap::new(alloc),
@@ -47,20 +47,20 @@ impl<'a> Tables<'a> {
     }
 }
 
-// Keeps the message that an event sends or tells.
+// Keeps the message that an event sends or delivers.
 fn keep_message<'a>(
     alloc: Global,
     sent: &mut Lists<'a, Numbered>,
-    told: &mut Lists<'a, Message>,
+    delivered: &mut Lists<'a, Message>,
     last: &mut BTreeMap<Pair, u64>,
     event: &'a Event,
 ) -> Result<(), AllocError>
     ensures sent { OnOk result ((t : List Event) → KnowsSent (get seat_cmp sent.old.lists) t → KnowsSent (get seat_cmp sent.new.lists) (t ++ event.now ∷ [])) }
-    ensures told { OnOk result ((t : List Event) → KnowsTold (get seat_cmp told.old.lists) t → KnowsTold (get seat_cmp told.new.lists) (t ++ event.now ∷ [])) }
+    ensures delivered { OnOk result ((t : List Event) → KnowsDelivered (get seat_cmp delivered.old.lists) t → KnowsDelivered (get seat_cmp delivered.new.lists) (t ++ event.now ∷ [])) }
     ensures last { OnOk result ((t : List Event) → MayCarry t event.now → KnowsLast (get pair_cmp last.old) t → KnowsLast (get pair_cmp last.new) (t ++ event.now ∷ [])) }
 {
     notes::note_sent(alloc, sent, event)?;
-    notes::note_told(alloc, told, event)?;
+    notes::note_delivered(alloc, delivered, event)?;
     notes::note_last(last, event)?;
     Ok(())
 }
@@ -82,20 +82,20 @@ fn keep_install<'a>(
     Ok(())
 }
 
-/// Keeps what happened next, whose message, if it tells one, is its sender's next.
+/// Keeps what happened next, whose message, if it delivers one, is its sender's next.
 pub fn keep<'a>(alloc: Global, tables: &mut Tables<'a>, event: &'a Event) -> Result<(), AllocError>
     ensures kept { OnOk result (pointed tables.new.events.items ≡ pointed tables.old.events.items ++ event.now ∷ []) }
     ensures known { OnOk result ((t : List Event) → MayCarry t event.now
-        → KnowsPast (get address_cmp tables.old.standings) (get seat_cmp tables.old.sent.lists) (get seat_cmp tables.old.told.lists) (get pair_cmp tables.old.last)
+        → KnowsPast (get address_cmp tables.old.standings) (get seat_cmp tables.old.sent.lists) (get seat_cmp tables.old.delivered.lists) (get pair_cmp tables.old.last)
         (get seat_cmp tables.old.entries) (get view_id_cmp tables.old.firsts) (get way_cmp tables.old.ways) t
-        → KnowsPast (get address_cmp tables.new.standings) (get seat_cmp tables.new.sent.lists) (get seat_cmp tables.new.told.lists) (get pair_cmp tables.new.last)
+        → KnowsPast (get address_cmp tables.new.standings) (get seat_cmp tables.new.sent.lists) (get seat_cmp tables.new.delivered.lists) (get pair_cmp tables.new.last)
         (get seat_cmp tables.new.entries) (get view_id_cmp tables.new.firsts) (get way_cmp tables.new.ways) (t ++ event.now ∷ [])) }
 {
     standing::note_standing(&mut tables.standings, event)?;
     keep_message(
         alloc,
         &mut tables.sent,
-        &mut tables.told,
+        &mut tables.delivered,
         &mut tables.last,
         event,
     )?;

@@ -1,5 +1,5 @@
-use Rattle.agreement.proofs.Chaining.{nothing-acted, one-acted, then-acted}
-use Rattle.agreement.proofs.Stretching.{acted-keeps}
+use Rattle.agreement.proofs.LawsOfActs.{nothing-acted, one-acted, then-acted}
+use Rattle.agreement.proofs.KeepByCall.{acted-keeps}
 use Rattle.agreement.proofs.law.acts_in_turn.Goals as goal
 
 pub returns-clause-nothing : goal.returns-clause-nothing

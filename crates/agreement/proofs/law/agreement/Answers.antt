@@ -1,4 +1,4 @@
-use Rattle.agreement.proofs.Stepping.{keeps-invariant, always-synchronous}
+use Rattle.agreement.proofs.KeepBySteps.{keeps-invariant, always-synchronous}
 use Rattle.agreement.proofs.law.agreement.Goals as goal
 
 pub returns-clause-invariant : goal.returns-clause-invariant

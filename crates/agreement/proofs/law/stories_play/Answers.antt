@@ -1,8 +1,8 @@
 use Rattle.agreement.specs.Stories.{one, message_a}
-use Rattle.agreement.proofs.Playing.{one-is}
-use Rattle.agreement.proofs.Crashing.{crash-plays}
-use Rattle.agreement.proofs.Leaving.{leave-plays}
-use Rattle.agreement.proofs.Merging.{merge-plays, is-short}
+use Rattle.agreement.proofs.StoriesPlay.{one-is}
+use Rattle.agreement.proofs.CrashStoryPlays.{crash-plays}
+use Rattle.agreement.proofs.LeaveStoryPlays.{leave-plays}
+use Rattle.agreement.proofs.MergeStoryPlays.{merge-plays, is-short}
 use Rattle.agreement.proofs.law.stories_play.Goals as goal
 
 pub returns-clause-crash : goal.returns-clause-crash

@@ -1,7 +1,7 @@
 use Rattle.chat_log.specs.Reading.{list_at}
 use Rattle.chat_log.specs.Encoding.{line_at}
 use Rattle.chat_log.specs.Chat.{said}
-use Rattle.chat_log.proofs.Loops.{list_goes_on, list_ends, list_is_done}
+use Rattle.chat_log.proofs.FactOfReadNumbers.{list_goes_on, list_ends, list_is_done}
 use Rattle.chat_log.proofs.reading.lines_at.Goals as goal
 
 pub returns-in_default : goal.returns-in_default

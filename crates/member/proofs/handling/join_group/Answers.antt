@@ -1,8 +1,8 @@
 use Rattle.std.proofs.Common.{sym, ap, ◌∙◌}
 use Rattle.membership.specs.declared.life.Life.{Life}
-use Rattle.member_views.proofs.Steady.{Same}
-use Rattle.member.proofs.Taking.{none-in}
-use Rattle.member.proofs.Stepping.{from-some, steady-runs, viewed-handled, join-handled}
+use Rattle.member_views.proofs.KeepSteady.{Same}
+use Rattle.member.proofs.FactOfDatagram.{none-in}
+use Rattle.member.proofs.FactOfStep.{from-some, steady-runs, viewed-handled, join-handled}
 use Rattle.member.proofs.handling.join_group.Goals as goal
 
 pub returns-then-is_some-clause-handled : goal.returns-then-is_some-clause-handled

@@ -1,10 +1,10 @@
 use Rattle.std.proofs.Common.{not, refl}
 use Rattle.member.specs.declared.input.Input.TheVariants.{Suspect}
 use Rattle.member_views.specs.Views.{is_suspectable}
-use Rattle.member_views.proofs.Steady.{suspect-steady}
-use Rattle.member_views.proofs.Calming.{suspect-calm}
-use Rattle.member_hearing.proofs.Ordering.{not-so}
-use Rattle.member.proofs.Stepping.{from-some, still, steady-runs, suspect-handled, memory-handled, unless}
+use Rattle.member_views.proofs.KeepSteady.{suspect-steady}
+use Rattle.member_views.proofs.FactOfCalm.{suspect-calm}
+use Rattle.member_hearing.proofs.KeepOrder.{not-so}
+use Rattle.member.proofs.FactOfStep.{from-some, still, steady-runs, suspect-handled, memory-handled, unless}
 use Rattle.member.proofs.handling.suspect.Goals as goal
 
 pub on_suspect-requires : goal.on_suspect-requires

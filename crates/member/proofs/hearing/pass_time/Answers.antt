@@ -1,6 +1,6 @@
 use Rattle.std.proofs.Common.{sym, ap, not, ◌∙◌}
-use Rattle.member.proofs.Taking.{none-in}
-use Rattle.member_views.proofs.Doing.{ask-again-did, flush-again-did}
+use Rattle.member.proofs.FactOfDatagram.{none-in}
+use Rattle.member_views.proofs.ActsOfRules.{ask-again-did, flush-again-did}
 use Rattle.member.proofs.hearing.pass_time.Goals as goal
 
 pub returns-then-is_none-clause-did : goal.returns-then-is_none-clause-did

@@ -1,6 +1,6 @@
 use Rattle.std.proofs.Common.{sym, ◌∙◌}
-use Rattle.member.proofs.Stepping.{stays-connected}
-use Rattle.member.proofs.Taking.{handed, take-did, take-ignored}
+use Rattle.member.proofs.FactOfStep.{stays-connected}
+use Rattle.member.proofs.FactOfDatagram.{handed, take-did, take-ignored}
 use Rattle.member.proofs.hearing.take_packet.Goals as goal
 
 pub returns-in_ok-hear-clause-did : goal.returns-in_ok-hear-clause-did

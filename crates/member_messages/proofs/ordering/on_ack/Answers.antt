@@ -1,9 +1,9 @@
 use Rattle.std.proofs.Common.{Some, sym}
 use Rattle.wire.specs.declared.packet.Body.TheVariants as bodies
 use Rattle.agreement.specs.Acts.{packet}
-use Rattle.member_messages.proofs.Opening.{there-is, orderly-in, nothing-did}
-use Rattle.member_messages.proofs.Heard.{heard-in, heard-life, heard-did}
-use Rattle.member_messages.proofs.Calming.{acks-calm}
+use Rattle.member_messages.proofs.FactOfOpen.{there-is, orderly-in, nothing-did}
+use Rattle.member_messages.proofs.FactOfHeard.{heard-in, heard-life, heard-did}
+use Rattle.member_messages.proofs.FactOfCalm.{acks-calm}
 use Rattle.member_messages.proofs.ordering.on_ack.Goals as goal
 
 pub returns-then-not-takes_ack-clause-did : goal.returns-then-not-takes_ack-clause-did

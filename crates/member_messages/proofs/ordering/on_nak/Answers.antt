@@ -1,9 +1,9 @@
 use Rattle.std.proofs.Common.{Some, sym}
 use Rattle.wire.specs.declared.packet.Body.TheVariants as bodies
 use Rattle.agreement.specs.Acts.{packet}
-use Rattle.traffic.proofs.Asking.{nak-goes}
-use Rattle.member_messages.proofs.Opening.{there-is, orderly-in, nothing-did}
-use Rattle.member_messages.proofs.Heard.{heard-in, heard-same}
+use Rattle.traffic.proofs.ActsOfAnswers.{nak-goes}
+use Rattle.member_messages.proofs.FactOfOpen.{there-is, orderly-in, nothing-did}
+use Rattle.member_messages.proofs.FactOfHeard.{heard-in, heard-same}
 use Rattle.member_messages.proofs.ordering.on_nak.Goals as goal
 
 pub returns-then-not-takes_forward-clause-did : goal.returns-then-not-takes_forward-clause-did

@@ -1,10 +1,10 @@
 use Rattle.std.proofs.Common.{None, sym, subst}
 use Rattle.traffic.specs.declared.other.Other.{Other}
 use Rattle.traffic.specs.declared.traffic.Traffic.TheVariants as kinds
-use Rattle.traffic.proofs.Asking.{send-goes}
+use Rattle.traffic.proofs.ActsOfAnswers.{send-goes}
 use Rattle.member_messages.specs.Ordered.{IsOrderly}
-use Rattle.member_messages.proofs.Opening.{there-is, orderly-in, ordered-by, life-kept, goes-did}
-use Rattle.member_messages.proofs.Sent.{promised-in, sends-first, sends-other, delivers-first}
+use Rattle.member_messages.proofs.FactOfOpen.{there-is, orderly-in, ordered-by, life-kept, goes-did}
+use Rattle.member_messages.proofs.FactOfSent.{promised-in, sends-first, sends-other, delivers-first}
 use Rattle.member_messages.proofs.sending.send.Goals as goal
 
 pub send-requires-clause-coordinator : goal.send-requires-clause-coordinator

@@ -3,10 +3,10 @@ use Rattle.std.specs.Prelude.{nat_lt}
 use Rattle.limits.specs.declared.TheConstants.{WINDOW}
 use Rattle.wire.specs.declared.packet.Body.TheVariants as bodies
 use Rattle.agreement.specs.Acts.{packet}
-use Rattle.member_messages.proofs.Opening.{there-is, orderly-in, ordered-by, nothing-did}
-use Rattle.member_messages.proofs.Heard.{heard-in, heard-life, from-in, other-did}
-use Rattle.member_messages.proofs.Calming.{takes-calm}
-use Rattle.member_messages.proofs.Nexts.{order-orderly}
+use Rattle.member_messages.proofs.FactOfOpen.{there-is, orderly-in, ordered-by, nothing-did}
+use Rattle.member_messages.proofs.FactOfHeard.{heard-in, heard-life, from-in, other-did}
+use Rattle.member_messages.proofs.FactOfCalm.{takes-calm}
+use Rattle.member_messages.proofs.FactOfNext.{order-orderly}
 use Rattle.member_messages.proofs.taking.on_order.Goals as goal
 
 pub returns-then-not-takes_order-clause-did : goal.returns-then-not-takes_order-clause-did

@@ -1,11 +1,11 @@
 use Rattle.std.proofs.Common.{Some, sym}
 use Rattle.wire.specs.declared.packet.Body.TheVariants as bodies
 use Rattle.agreement.specs.Acts.{packet}
-use Rattle.traffic.proofs.Asking.{status-goes}
+use Rattle.traffic.proofs.ActsOfAnswers.{status-goes}
 use Rattle.member_messages.specs.Hears.{is_near}
-use Rattle.member_messages.proofs.Opening.{there-is, orderly-in, ordered-by, nothing-did}
-use Rattle.member_messages.proofs.Heard.{heard-in, heard-life, from-in, other-did}
-use Rattle.member_messages.proofs.Nexts.{status-orderly}
+use Rattle.member_messages.proofs.FactOfOpen.{there-is, orderly-in, ordered-by, nothing-did}
+use Rattle.member_messages.proofs.FactOfHeard.{heard-in, heard-life, from-in, other-did}
+use Rattle.member_messages.proofs.FactOfNext.{status-orderly}
 use Rattle.member_messages.proofs.taking.on_status.Goals as goal
 
 pub returns-then-not-takes_status-clause-did : goal.returns-then-not-takes_status-clause-did

@@ -1,4 +1,4 @@
-use Rattle.member_views.proofs.Living.{joined-life}
+use Rattle.member_views.proofs.KeepLife.{joined-life}
 use Rattle.member_views.proofs.joining.admit.Goals as goal
 
 pub regroup-requires : goal.regroup-requires

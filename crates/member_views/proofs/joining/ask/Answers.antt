@@ -1,4 +1,4 @@
-use Rattle.member_views.proofs.Living.{asked-life}
+use Rattle.member_views.proofs.KeepLife.{asked-life}
 use Rattle.member_views.proofs.joining.ask.Goals as goal
 
 pub returns-clause-life : goal.returns-clause-life

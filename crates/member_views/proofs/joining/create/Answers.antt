@@ -1,5 +1,5 @@
 use Rattle.std.proofs.Common.{rules}
-use Rattle.member_views.proofs.Living.{created-life}
+use Rattle.member_views.proofs.KeepLife.{created-life}
 use Rattle.member_views.proofs.joining.create.Goals as goal
 
 pub returns-clause-life : goal.returns-clause-life

@@ -1,4 +1,4 @@
-use Rattle.member_views.proofs.Living.{outdated-life}
+use Rattle.member_views.proofs.KeepLife.{outdated-life}
 use Rattle.member_views.proofs.joining.on_join.Goals as goal
 
 pub admit-requires-clause-life : goal.admit-requires-clause-life

@@ -1,4 +1,4 @@
-use Rattle.member_views.proofs.Living.{merged-life}
+use Rattle.member_views.proofs.KeepLife.{merged-life}
 use Rattle.member_views.proofs.merging.meet.Goals as goal
 
 pub regroup-requires : goal.regroup-requires

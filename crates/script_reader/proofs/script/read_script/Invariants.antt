@@ -1,7 +1,7 @@
 use Rattle.std.proofs.Common.{◌≡◌, ◌+◌, ◌≤◌, length}
 use Rattle.script_reader.specs.Script.{script_of}
 use Rattle.script_reader.specs.Lines.{lines_of}
-use Rattle.script_reader.proofs.Reading.{going_on}
+use Rattle.script_reader.proofs.FactOfReading.{going_on}
 use Rattle.script_reader.proofs.script.read_script.Given as goal
 
 -- what was read goes on with the lines that are left

@@ -1,7 +1,7 @@
 use Rattle.std.proofs.Common.{rules, List, subst}
 use Rattle.trace_props.specs.declared.event.Event.{Event}
 use Rattle.trace_props.specs.Verdicts.{IsVerdict}
-use Rattle.trace_props.proofs.Judging.{verdict-exact}
+use Rattle.trace_props.proofs.KeepEightRules.{verdict-exact}
 use Rattle.trace_checker.proofs.checker.check.Goals as goal
 
 -- a verdict that all holds, and only that, is of a virtually synchronous trace

@@ -4,7 +4,7 @@ use Rattle.std.proofs.lemmas.Option.{slice_get_read}
 use Rattle.address.specs.Ids.{address_cmp, view_id_cmp}
 use Rattle.trace_props.specs.declared.event.Event.{Event}
 use Rattle.trace_checker.specs.Copies.{KnowsStates}
-use Rattle.trace_props.proofs.Judging.{step-broken, step-on, so_far-next, holds-next, known-next, holds-all}
+use Rattle.trace_props.proofs.KeepEightRules.{step-broken, step-on, so_far-next, holds-next, known-next, holds-all}
 use Rattle.trace_checker.proofs.checker.check_all.Goals as goal
 
 -- the rule breaks first

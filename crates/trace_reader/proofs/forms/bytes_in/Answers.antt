@@ -1,4 +1,4 @@
-use Rattle.trace_reader.proofs.Listing.{byte_read}
+use Rattle.trace_reader.proofs.FactOfReadLists.{byte_read}
 use Rattle.trace_reader.proofs.forms.bytes_in.Goals as goal
 
 pub loop-high-preserved : goal.loop-high-preserved

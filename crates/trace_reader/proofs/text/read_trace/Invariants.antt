@@ -1,7 +1,7 @@
 use Rattle.std.proofs.Common.{◌≡◌, ◌+◌, ◌≤◌, length}
 use Rattle.script_reader.specs.Lines.{lines_of}
 use Rattle.trace_reader.specs.Traces.{trace_of}
-use Rattle.trace_reader.proofs.Reading.{going_on}
+use Rattle.trace_reader.proofs.FactOfReading.{going_on}
 use Rattle.trace_reader.proofs.text.read_trace.Given as goal
 
 -- what was read goes on with the lines that are left

@@ -1,5 +1,5 @@
 use Rattle.std.proofs.Common.{◌∙◌}
-use Rattle.traffic.proofs.Reporting.{all-left}
+use Rattle.traffic.proofs.FactOfReported.{all-left}
 use Rattle.traffic.proofs.traffic.put_window.Goals as goal
 
 pub loop-number-init : goal.loop-number-init

@@ -1,4 +1,4 @@
-use Rattle.view_install.proofs.Runs.{installs-rise, only-the-promised, promises-rise}
+use Rattle.view_install.proofs.ViewsRise.{installs-rise, only-the-promised, promises-rise}
 use Rattle.view_install.proofs.law.promises_rise.Goals as goal
 
 pub returns-clause-installs : goal.returns-clause-installs

@@ -1,22 +1,22 @@
 use Rattle.std.proofs.Common.{◌≡◌, ◌∙◌, arith, rules}
-use Rattle.vsync_runs.proofs.Chatting.{told-next, told-some, told-all, on-err}
+use Rattle.vsync_runs.proofs.FactOfChatLines.{printed-next, printed-some, printed-all, on-err}
 use Rattle.vsync_runs.proofs.chats.append_chats.Goals as goal
 
 pub returns-in_err-append_chat_at-clause-err : goal.returns-in_err-append_chat_at-clause-err
 returns-in_err-append_chat_at-clause-err g c =
     on-err c.from_residual.result _
-    (told-some g.C.Receiver.meaning g.C.Chat.lines_of c.args.world.now.history.trace c.loop-before.before _ _ c.loop-before.auto.before-end
+    (printed-some g.C.Receiver.meaning g.C.Chat.lines_of c.args.world.now.history.trace c.loop-before.before _ _ c.loop-before.auto.before-end
     (c.in_err-append_chat_at.ensures.err ∙ c.loop-before.invariant))
 
 pub loop-before-preserved : goal.loop-before-preserved
 loop-before-preserved g c =
-    told-next g.C.Receiver.meaning g.C.Chat.lines_of c.args.world.now.history.trace c.loop-before.before _ _ _ c.loop-before.invariant
+    printed-next g.C.Receiver.meaning g.C.Chat.lines_of c.args.world.now.history.trace c.loop-before.before _ _ _ c.loop-before.invariant
     c.in_ok-append_chat_at.ensures.ok
 
 pub returns-clause-ok : goal.returns-clause-ok
 returns-clause-ok g c =
     let all : c.loop-before.before ≡ 65535 = omega (arith, c.loop-before.auto.before-end, c.loop-before-test.false) in
-    told-all g.C.Receiver.meaning g.C.Chat.lines_of c.args.world.now.history.trace c.loop-before.before _ _ all c.loop-before.invariant
+    printed-all g.C.Receiver.meaning g.C.Chat.lines_of c.args.world.now.history.trace c.loop-before.before _ _ all c.loop-before.invariant
 
 pub loop-before-init : goal.loop-before-init
 loop-before-init g c = search rules

@@ -1,6 +1,6 @@
 use Rattle.world.specs.Worlds.{shown}
 use Rattle.vsync_runs.specs.Chats.{chats_of}
-use Rattle.vsync_runs.proofs.Running.{ran-to-end, stopped}
+use Rattle.vsync_runs.proofs.FactOfRuns.{ran-to-end, stopped}
 use Rattle.vsync_runs.proofs.chats.play_chats.Goals as goal
 
 pub returns-in-Ok : goal.returns-in-Ok
@@ -9,7 +9,7 @@ returns-in-Ok g c =
     (λ h. chats_of g.C.Receiver.meaning g.C.Chat.lines_of h.trace) c.args.script.now _ (shown c.new-world.result) (shown c.run.new.self) _ _ _
     c.events.ensures c.new-world.ensures
     (record { faithful = c.run.ensures.faithful; ordered = c.run.ensures.ordered; synchronous = c.run.ensures.synchronous })
-    c.in-Ok.ensures.all c.tell_chats.ensures
+    c.in-Ok.ensures.all c.print_chats.ensures
 
 pub returns : goal.returns
 returns g c =

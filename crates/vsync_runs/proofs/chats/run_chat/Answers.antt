@@ -1,5 +1,5 @@
 use Rattle.vsync_runs.specs.Chats.{IsChatText}
-use Rattle.vsync_runs.proofs.Ending.{ran-text, unrun-text}
+use Rattle.vsync_runs.proofs.FactOfTexts.{ran-text, unrun-text}
 use Rattle.vsync_runs.proofs.chats.run_chat.Goals as goal
 
 pub returns-in-Ok : goal.returns-in-Ok

@@ -1,8 +1,8 @@
 use Rattle.std.proofs.Common.{◌∙◌, ap, sym}
 use Rattle.trace_reader.specs.Traces.{trace_of}
 use Rattle.vsync_runs.specs.Outcomes.IsAnswer.{ReaderFails}
-use Rattle.vsync_runs.proofs.Ending.{appends-none}
-use Rattle.vsync_runs.proofs.Checking.{checked-text, faulty-text, unread-trace}
+use Rattle.vsync_runs.proofs.FactOfTexts.{appends-none}
+use Rattle.vsync_runs.proofs.FactOfVerdicts.{checked-text, faulty-text, unread-trace}
 use Rattle.vsync_runs.proofs.checks.run_check.Goals as goal
 
 pub returns-in-Err-Memory : goal.returns-in-Err-Memory

@@ -1,5 +1,5 @@
 use Rattle.vsync_runs.specs.Outcomes.Ends.{Whole, Cut}
-use Rattle.vsync_runs.proofs.Ending.{appends-kept, ends-late}
+use Rattle.vsync_runs.proofs.FactOfTexts.{appends-kept, ends-late}
 use Rattle.vsync_runs.proofs.ends.end_with.Goals as goal
 
 -- the writer took a beginning and failed

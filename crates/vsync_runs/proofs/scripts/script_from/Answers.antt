@@ -1,7 +1,7 @@
 use Rattle.std.proofs.Common.{◌∙◌, ap, sym}
 use Rattle.script_reader.specs.Script.{script_of}
 use Rattle.vsync_runs.specs.Outcomes.IsAnswer.{ReaderFails}
-use Rattle.vsync_runs.proofs.Ending.{appends-none, unread-text, fault-text}
+use Rattle.vsync_runs.proofs.FactOfTexts.{appends-none, unread-text, fault-text}
 use Rattle.vsync_runs.proofs.scripts.script_from.Goals as goal
 
 pub returns-in-Err-Memory : goal.returns-in-Err-Memory

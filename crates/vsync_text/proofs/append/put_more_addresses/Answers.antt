@@ -1,7 +1,7 @@
 use Rattle.std.proofs.Common.{◌∷◌, rules, arith}
 use Rattle.std.proofs.lemmas.Grind.{common_steps}
 use Rattle.address.specs.Ids.{text_of_address}
-use Rattle.vsync_text.proofs.Appending.{puts_next, goes_on}
+use Rattle.vsync_text.proofs.KeepFront.{puts_next, goes_on}
 use Rattle.vsync_text.proofs.append.put_more_addresses.Goals as goal
 
 pub loop-member-preserved : goal.loop-member-preserved

@@ -1,7 +1,7 @@
 use Rattle.std.proofs.Common.{◌∷◌, rules, arith}
 use Rattle.std.proofs.lemmas.Grind.{common_steps}
 use Rattle.vsync_text.specs.TraceText.{text_of_numbered}
-use Rattle.vsync_text.proofs.Appending.{puts_next, goes_on}
+use Rattle.vsync_text.proofs.KeepFront.{puts_next, goes_on}
 use Rattle.vsync_text.proofs.append.put_more_numbered.Goals as goal
 
 pub loop-message-preserved : goal.loop-message-preserved

@@ -1,6 +1,6 @@
 use Rattle.std.proofs.Common.{rules, arith}
 use Rattle.std.proofs.lemmas.Grind.{common_steps}
-use Rattle.vsync_text.proofs.Appending.{goes_on}
+use Rattle.vsync_text.proofs.KeepFront.{goes_on}
 use Rattle.vsync_text.proofs.trace_line.put_event.Goals as goal
 
 pub returns-in_err-put-clause-text : goal.returns-in_err-put-clause-text

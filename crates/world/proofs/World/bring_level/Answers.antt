@@ -2,8 +2,8 @@ use Rattle.std.proofs.Common.{ℕ, ap, ◌∙◌, length}
 use Rattle.address.specs.Ids.{Address}
 use Rattle.world.specs.Worlds.{WorldValue, shown}
 use Rattle.world.specs.Gaps.{first_for}
-use Rattle.world.proofs.Counting.{on-err, on-err-map}
-use Rattle.world.proofs.Stopping.{at-tick, at-status, at-request, at-answer}
+use Rattle.world.proofs.FactOfNumbers.{on-err, on-err-map}
+use Rattle.world.proofs.CatchUpStops.{at-tick, at-status, at-request, at-answer}
 use Rattle.world.proofs.World.bring_level.Goals as goal
 
 -- the tick fails
@@ -25,7 +25,7 @@ returns-in_err-deliver_past-clause-err g c =
     on-err c.from_residual-in_err-deliver_past.result _
     (at-request g.R.Receiver.meaning c.args.pair.now (shown c.args.self.now) c.node.result (c.node.ensures ∙ ap (λ (p : Address). p.node) c.creator.ensures) (shown c.play.new.self) c.in_ok-play.ensures.ok c.first_for-status.result
     (c.first_for-status.ensures ∙ ap (λ (w : WorldValue _). first_for c.args.pair.now.member c.count-known.result w.history.pool) c.self-2.view_is ∙ ap (λ (k : ℕ). first_for c.args.pair.now.member k c.play.new.self.history.pool) (c.count-known.ensures ∙ ap (λ (w : WorldValue _). length w.history.pool) c.self.view_is))
-    (shown c.hand.new.self) c.in_ok-hand.ensures.ok c.count-told.result (shown c.deliver_past.new.self) (c.count-told.ensures ∙ ap (λ (w : WorldValue _). length w.history.pool) c.self-2.view_is) c.in_err-deliver_past.ensures.err)
+    (shown c.hand.new.self) c.in_ok-hand.ensures.ok c.count-announced.result (shown c.deliver_past.new.self) (c.count-announced.ensures ∙ ap (λ (w : WorldValue _). length w.history.pool) c.self-2.view_is) c.in_err-deliver_past.ensures.err)
 
 -- or that of an answer
 pub returns-clause-err : goal.returns-clause-err
@@ -33,5 +33,5 @@ returns-clause-err g c =
     on-err-map c.deliver_past-2.result _ _
     (at-answer g.R.Receiver.meaning c.args.pair.now (shown c.args.self.now) c.node.result (c.node.ensures ∙ ap (λ (p : Address). p.node) c.creator.ensures) (shown c.play.new.self) c.in_ok-play.ensures.ok c.first_for-status.result
     (c.first_for-status.ensures ∙ ap (λ (w : WorldValue _). first_for c.args.pair.now.member c.count-known.result w.history.pool) c.self-2.view_is ∙ ap (λ (k : ℕ). first_for c.args.pair.now.member k c.play.new.self.history.pool) (c.count-known.ensures ∙ ap (λ (w : WorldValue _). length w.history.pool) c.self.view_is))
-    (shown c.hand.new.self) c.in_ok-hand.ensures.ok c.count-told.result c.count-asked.result (shown c.deliver_past.new.self) (shown c.deliver_past-2.new.self)
-    (c.count-told.ensures ∙ ap (λ (w : WorldValue _). length w.history.pool) c.self-2.view_is) c.in_ok-deliver_past.ensures.ok (c.count-asked.ensures ∙ ap (λ (w : WorldValue _). length w.history.pool) c.self-3.view_is)) c.deliver_past-2.ensures.err
+    (shown c.hand.new.self) c.in_ok-hand.ensures.ok c.count-announced.result c.count-asked.result (shown c.deliver_past.new.self) (shown c.deliver_past-2.new.self)
+    (c.count-announced.ensures ∙ ap (λ (w : WorldValue _). length w.history.pool) c.self-2.view_is) c.in_ok-deliver_past.ensures.ok (c.count-asked.ensures ∙ ap (λ (w : WorldValue _). length w.history.pool) c.self-3.view_is)) c.deliver_past-2.ensures.err

@@ -5,10 +5,10 @@ use Rattle.world.specs.declared.gaps.Pair.{Pair}
 use Rattle.world.specs.Invariant.{IsWorld}
 use Rattle.world.specs.Worlds.{WorldValue, shown}
 use Rattle.world.specs.Gaps.{pair_at, EndsSo, IsLevel}
-use Rattle.world.proofs.Keeping.{reached-keeps}
-use Rattle.world.proofs.Catching.{levels}
-use Rattle.world.proofs.Stopping.{ends}
-use Rattle.world.proofs.Composing.{catches-longer, stops-longer}
+use Rattle.world.proofs.KeepOfWorlds.{reached-keeps}
+use Rattle.world.proofs.CatchUpEnds.{levels}
+use Rattle.world.proofs.CatchUpStops.{ends}
+use Rattle.world.proofs.CatchUpIsRun.{catches-longer, stops-longer}
 use Rattle.world.proofs.World.catch_up.Goals as goal
 
 -- there are not those two

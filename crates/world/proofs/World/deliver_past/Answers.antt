@@ -1,6 +1,6 @@
 use Rattle.std.proofs.Common.{ap, ◌∙◌, ◌≤◌, ◌<◌, ◌+◌, length, arith}
 use Rattle.world.specs.Worlds.{WorldValue, shown}
-use Rattle.world.proofs.Counting.{on-err, delivers-start, delivers-one, breaks-one}
+use Rattle.world.proofs.FactOfNumbers.{on-err, delivers-start, delivers-one, breaks-one}
 use Rattle.world.proofs.World.deliver_past.Goals as goal
 
 pub loop-number-init : goal.loop-number-init

@@ -6,8 +6,8 @@ use Rattle.trace_props.specs.State.{state_of}
 use Rattle.world_model.specs.Histories.{running}
 use Rattle.world.specs.Worlds.{WorldValue}
 use Rattle.world.specs.Seats.{seat_at, seats_in}
-use Rattle.world.proofs.Keeping.{reached-keeps}
-use Rattle.world.proofs.Carrying.{receiver-is, nobody-yet, nobody-runs}
+use Rattle.world.proofs.KeepOfWorlds.{reached-keeps}
+use Rattle.world.proofs.FactOfWorlds.{receiver-is, nobody-yet, nobody-runs}
 use Rattle.world.proofs.World.receiver.Goals as goal
 
 -- the node is not kept

@@ -5,8 +5,8 @@ use Rattle.std.specs.BTreeMap.{get}
 use Rattle.world_model.specs.Histories.{running}
 use Rattle.world.specs.Worlds.{WorldValue}
 use Rattle.world.specs.Seats.{seat_at, seats_in}
-use Rattle.world.proofs.Keeping.{reached-keeps}
-use Rattle.world.proofs.Carrying.{running-is, nobody-yet, nobody-runs}
+use Rattle.world.proofs.KeepOfWorlds.{reached-keeps}
+use Rattle.world.proofs.FactOfWorlds.{running-is, nobody-yet, nobody-runs}
 use Rattle.world.proofs.World.running.Goals as goal
 
 -- the node is not kept

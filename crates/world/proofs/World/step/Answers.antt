@@ -2,8 +2,8 @@ use Rattle.std.proofs.Common.{sym}
 use Rattle.std.specs.Ordering.{nat_cmp}
 use Rattle.std.specs.BTreeMap.{get}
 use Rattle.world.specs.Seats.{seats_in}
-use Rattle.world.proofs.Doing.{steps-so, stepped-so}
-use Rattle.world.proofs.Running.{reached-on, reached-same}
+use Rattle.world.proofs.StepIsWorldStep.{steps-so, stepped-so}
+use Rattle.world.proofs.FactOfRuns.{reached-on, reached-same}
 use Rattle.world.proofs.World.step.Goals as goal
 
 -- nothing was carried out

@@ -1,4 +1,4 @@
-use Rattle.world.proofs.Handing.{fits}
+use Rattle.world.proofs.FactOfNodes.{fits}
 use Rattle.world.proofs.seat.hand.Goals as goal
 
 pub settle-requires-clause-fits : goal.settle-requires-clause-fits

@@ -1,5 +1,5 @@
 use Rattle.std.proofs.Common.{arith}
-use Rattle.chat_log.proofs.Loops.{number_found}
+use Rattle.chat_log.proofs.FactOfReadNumbers.{number_found}
 use Rattle.chat_log.proofs.reading.Reader.u32.Goals as goal
 
 pub returns-then-number-high-clause-gives : goal.returns-then-number-high-clause-gives

@@ -2,7 +2,7 @@ use Rattle.std.proofs.Common.{◌≡◌, [], Ok, sym, ap, ◌∙◌}
 use Rattle.wire.specs.Reading.{list_at, listed, is_whole}
 use Rattle.wire.specs.Fields.{placed_at}
 use Rattle.wire.specs.Lists.{is_report}
-use Rattle.flush.proofs.Keeping.{kept-held}
+use Rattle.flush.proofs.FactOfKeptReports.{kept-held}
 use Rattle.flush.proofs.kept.Kept.copy_of.Goals as goal
 
 pub invariant_of-result : goal.invariant_of-result

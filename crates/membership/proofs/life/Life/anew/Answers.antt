@@ -1,5 +1,5 @@
 use Rattle.std.proofs.Common.{rules}
-use Rattle.membership.proofs.Proposed.{flush-leads, anew-is}
+use Rattle.membership.proofs.FactOfProposed.{flush-leads, anew-is}
 use Rattle.membership.proofs.life.Life.anew.Goals as goal
 
 pub proposal_after-requires-clause-leads : goal.proposal_after-requires-clause-leads

@@ -1,5 +1,5 @@
 use Rattle.std.proofs.Common.{rules}
-use Rattle.membership.proofs.Behind.{answered-behind}
+use Rattle.membership.proofs.FactOfBehind.{answered-behind}
 use Rattle.membership.proofs.life.Life.answer_behind.Goals as goal
 
 pub returns : goal.returns

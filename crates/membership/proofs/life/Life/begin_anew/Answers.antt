@@ -1,6 +1,6 @@
 use Rattle.std.proofs.Common.{sym, ◌∙◌}
-use Rattle.membership.proofs.Proposed.{anew-is-proposal}
-use Rattle.membership.proofs.Living.{begun-life}
+use Rattle.membership.proofs.FactOfProposed.{anew-is-proposal}
+use Rattle.membership.proofs.KeepLife.{begun-life}
 use Rattle.membership.proofs.life.Life.begin_anew.Goals as goal
 
 pub begin-requires-clause-greater : goal.begin-requires-clause-greater

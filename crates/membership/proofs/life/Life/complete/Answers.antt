@@ -1,8 +1,8 @@
 use Rattle.std.proofs.Common.{refl}
 use Rattle.traffic.specs.Traffics.{view_of}
 use Rattle.membership.specs.Installs.{finished_state}
-use Rattle.membership.proofs.Saying.{all-sayable}
-use Rattle.membership.proofs.Living.{finished-life}
+use Rattle.membership.proofs.FactOfSayable.{all-sayable}
+use Rattle.membership.proofs.KeepLife.{finished-life}
 use Rattle.membership.proofs.life.Life.complete.Goals as goal
 
 pub settle-requires-clause-sound : goal.settle-requires-clause-sound

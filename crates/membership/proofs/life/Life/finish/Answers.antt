@@ -1,5 +1,5 @@
 use Rattle.std.proofs.Common.{rules}
-use Rattle.membership.proofs.Living.{whole-life}
+use Rattle.membership.proofs.KeepLife.{whole-life}
 use Rattle.membership.proofs.life.Life.finish.Goals as goal
 
 pub complete-requires-clause-life : goal.complete-requires-clause-life

@@ -1,6 +1,6 @@
 use Rattle.std.proofs.Common.{sym, ◌∙◌}
-use Rattle.membership.proofs.Proposed.{due-is-proposal}
-use Rattle.membership.proofs.Living.{begun-life}
+use Rattle.membership.proofs.FactOfProposed.{due-is-proposal}
+use Rattle.membership.proofs.KeepLife.{begun-life}
 use Rattle.membership.proofs.life.Life.propose.Goals as goal
 
 pub begin-requires-clause-greater : goal.begin-requires-clause-greater

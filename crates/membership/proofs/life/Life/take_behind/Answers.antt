@@ -1,7 +1,7 @@
 use Rattle.std.proofs.Common.{ap, subst, rules}
 use Rattle.candidates.specs.Notes.{NotesModel}
 use Rattle.membership.specs.Changes.{BeginsAnew}
-use Rattle.membership.proofs.Noting.{heard-life}
+use Rattle.membership.proofs.KeepNotes.{heard-life}
 use Rattle.membership.proofs.life.Life.take_behind.Goals as goal
 
 pub begin_anew-requires : goal.begin_anew-requires

@@ -1,5 +1,5 @@
 use Rattle.std.proofs.Common.{rules}
-use Rattle.membership.proofs.Living.{entered-life}
+use Rattle.membership.proofs.KeepLife.{entered-life}
 use Rattle.membership.proofs.life.Life.take_install.Goals as goal
 
 pub returns-clause-life : goal.returns-clause-life

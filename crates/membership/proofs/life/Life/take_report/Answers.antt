@@ -1,4 +1,4 @@
-use Rattle.membership.proofs.Living.{recorded-life}
+use Rattle.membership.proofs.KeepLife.{recorded-life}
 use Rattle.membership.proofs.life.Life.take_report.Goals as goal
 
 pub go_on-requires : goal.go_on-requires

@@ -1,6 +1,6 @@
 use Rattle.std.proofs.Common.{ap}
 use Rattle.candidates.specs.Notes.{NotesModel}
-use Rattle.membership.proofs.Noting.{suspected-life}
+use Rattle.membership.proofs.KeepNotes.{suspected-life}
 use Rattle.membership.proofs.life.Life.take_suspicion.Goals as goal
 
 pub regroup-requires : goal.regroup-requires

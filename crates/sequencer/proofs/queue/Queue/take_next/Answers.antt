@@ -3,7 +3,7 @@ use Rattle.std.specs.Option.{option_map}
 use Rattle.std.specs.List.{remove}
 use Rattle.trace_props.specs.declared.event.Numbered.{Numbered}
 use Rattle.sequencer.specs.Queues.{Queue, follows, next_of, entry_with, served}
-use Rattle.sequencer.proofs.Firsts.{IsFirst, first-is, none-is, find-none}
+use Rattle.sequencer.proofs.FactOfFirst.{IsFirst, first-is, none-is, find-none}
 use Rattle.sequencer.proofs.Queues.{served-is, next-is}
 use Rattle.sequencer.proofs.queue.Queue.take_next.Goals as goal
 

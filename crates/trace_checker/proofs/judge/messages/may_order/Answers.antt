@@ -1,4 +1,4 @@
-use Rattle.trace_checker.proofs.Deciding.{order-else}
+use Rattle.trace_checker.proofs.TestsOfOneView.{order-else}
 use Rattle.trace_checker.proofs.judge.messages.may_order.Goals as goal
 
 -- the member is not the view's first

@@ -2,7 +2,7 @@ use Rattle.std.proofs.Common.{◌∙◌, sym, ap, refl, arith, true≢false, len
 use Rattle.std.proofs.lemmas.Option.{slice_get_read}
 use Rattle.trace_props.specs.Observed.{sent_in}
 use Rattle.trace_checker.specs.Judged.{are_equal}
-use Rattle.trace_checker.proofs.Agreed.{rest-differs, rest-more, rest-all}
+use Rattle.trace_checker.proofs.TestsOfViewChanges.{rest-differs, rest-more, rest-all}
 use Rattle.trace_checker.proofs.judge.rest.is_rest.Goals as goal
 
 -- a message is another

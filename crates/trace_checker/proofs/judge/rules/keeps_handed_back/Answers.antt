@@ -1,6 +1,6 @@
 use Rattle.std.proofs.Common.{refl}
 use Rattle.trace_props.specs.Agreeing.{MayHandBack}
-use Rattle.trace_checker.proofs.Ruling.{hand-none, of-installed}
+use Rattle.trace_checker.proofs.TestsOfEvents.{hand-none, of-installed}
 use Rattle.trace_checker.proofs.judge.rules.keeps_handed_back.Goals as goal
 
 -- nothing is installed

@@ -1,16 +1,16 @@
 use Rattle.trace_props.specs.Following.{MayCarry}
-use Rattle.trace_checker.proofs.Ruling.{carry-none, of-sent, of-told}
-use Rattle.trace_checker.proofs.Deciding.{send-decides, tell-decides}
+use Rattle.trace_checker.proofs.TestsOfEvents.{carry-none, of-sent, of-delivered}
+use Rattle.trace_checker.proofs.TestsOfOneView.{send-decides, deliver-decides}
 use Rattle.trace_checker.proofs.judge.rules.keeps_messages.Goals as goal
 
 -- a message is sent
 pub returns-in-Some : goal.returns-in-Some
 returns-in-Some c = of-sent (MayCarry c.args.past.now) c.args.event.now c.in-Some.sending.now c.may_send.result _ c.in-Some.ensures c.may_send.ensures (send-decides c.args.past.now c.in-Some.sending.now)
 
--- nothing is sent or told
+-- nothing is sent or delivered
 pub returns-in-None-delivery_in : goal.returns-in-None-delivery_in
 returns-in-None-delivery_in c = carry-none c.args.past.now c.args.event.now c.in-None.ensures c.in-None-delivery_in.ensures
 
--- a message is told
+-- a message is delivered
 pub returns-in-Some-delivery_in : goal.returns-in-Some-delivery_in
-returns-in-Some-delivery_in c = of-told (MayCarry c.args.past.now) c.args.event.now c.in-Some-delivery_in.delivery.now c.may_tell.result _ c.in-Some-delivery_in.ensures c.may_tell.ensures (tell-decides c.args.past.now c.in-Some-delivery_in.delivery.now)
+returns-in-Some-delivery_in c = of-delivered (MayCarry c.args.past.now) c.args.event.now c.in-Some-delivery_in.delivery.now c.may_deliver.result _ c.in-Some-delivery_in.ensures c.may_deliver.ensures (deliver-decides c.args.past.now c.in-Some-delivery_in.delivery.now)

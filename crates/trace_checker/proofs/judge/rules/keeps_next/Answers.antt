@@ -1,6 +1,6 @@
 use Rattle.trace_props.specs.Agreeing.{MayMeet}
-use Rattle.trace_checker.proofs.Ruling.{meet-none, of-installed}
-use Rattle.trace_checker.proofs.Agreed.{meets-decides}
+use Rattle.trace_checker.proofs.TestsOfEvents.{meet-none, of-installed}
+use Rattle.trace_checker.proofs.TestsOfViewChanges.{meets-decides}
 use Rattle.trace_checker.proofs.judge.rules.keeps_next.Goals as goal
 
 -- nothing is installed

@@ -1,7 +1,7 @@
 use Rattle.std.proofs.Common.{Bool, subst, sym}
 use Rattle.std.specs.Bool.{Decides}
 use Rattle.trace_props.specs.Rules.{MayStand}
-use Rattle.trace_checker.proofs.Deciding.{stands-decides}
+use Rattle.trace_checker.proofs.TestsOfOneView.{stands-decides}
 use Rattle.trace_checker.proofs.judge.rules.keeps_placed.Goals as goal
 
 -- the test decides

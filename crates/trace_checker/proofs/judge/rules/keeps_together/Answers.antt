@@ -1,6 +1,6 @@
 use Rattle.trace_props.specs.Agreeing.{MayKnow}
-use Rattle.trace_checker.proofs.Ruling.{know-none, of-installed}
-use Rattle.trace_checker.proofs.Agreed.{knows-decides}
+use Rattle.trace_checker.proofs.TestsOfEvents.{know-none, of-installed}
+use Rattle.trace_checker.proofs.TestsOfViewChanges.{knows-decides}
 use Rattle.trace_checker.proofs.judge.rules.keeps_together.Goals as goal
 
 -- nothing is installed

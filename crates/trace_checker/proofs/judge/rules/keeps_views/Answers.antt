@@ -1,6 +1,6 @@
 use Rattle.trace_props.specs.Following.{MayRise}
-use Rattle.trace_checker.proofs.Ruling.{rise-none, of-installed}
-use Rattle.trace_checker.proofs.Deciding.{rises-decides}
+use Rattle.trace_checker.proofs.TestsOfEvents.{rise-none, of-installed}
+use Rattle.trace_checker.proofs.TestsOfOneView.{rises-decides}
 use Rattle.trace_checker.proofs.judge.rules.keeps_views.Goals as goal
 
 -- nothing is installed

@@ -1,6 +1,6 @@
 use Rattle.std.specs.BTreeMap.{get}
 use Rattle.trace_checker.specs.Known.{seat_cmp}
-use Rattle.trace_checker.proofs.Noting.{no-entry, an-entry}
+use Rattle.trace_checker.proofs.KeepMessages.{no-entry, an-entry}
 use Rattle.trace_checker.proofs.known.notes.note_entry.Goals as goal
 
 -- nothing is installed

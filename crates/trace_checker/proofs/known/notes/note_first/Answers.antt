@@ -1,6 +1,6 @@
 use Rattle.std.specs.BTreeMap.{get}
 use Rattle.address.specs.Ids.{view_id_cmp}
-use Rattle.trace_checker.proofs.Noting.{no-first, a-first}
+use Rattle.trace_checker.proofs.KeepMessages.{no-first, a-first}
 use Rattle.trace_checker.proofs.known.notes.note_first.Goals as goal
 
 -- nothing is installed

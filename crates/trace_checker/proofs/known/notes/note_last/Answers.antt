@@ -1,9 +1,9 @@
 use Rattle.std.specs.BTreeMap.{get}
 use Rattle.trace_checker.specs.Known.{pair_cmp}
-use Rattle.trace_checker.proofs.Noting.{no-number, a-number}
+use Rattle.trace_checker.proofs.KeepMessages.{no-number, a-number}
 use Rattle.trace_checker.proofs.known.notes.note_last.Goals as goal
 
--- nothing is told
+-- nothing is delivered
 pub returns-in-None : goal.returns-in-None
 returns-in-None c = λ t may r. no-number (get pair_cmp c.args.last.now) t c.args.event.now c.in-None.ensures r
 

@@ -1,6 +1,6 @@
 use Rattle.std.specs.BTreeMap.{get}
 use Rattle.trace_checker.specs.Known.{seat_cmp}
-use Rattle.trace_checker.proofs.Noting.{no-sending, a-sending}
+use Rattle.trace_checker.proofs.KeepMessages.{no-sending, a-sending}
 use Rattle.trace_checker.proofs.known.notes.note_sent.Goals as goal
 
 -- nothing is sent

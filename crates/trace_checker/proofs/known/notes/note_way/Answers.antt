@@ -1,6 +1,6 @@
 use Rattle.std.specs.BTreeMap.{get}
 use Rattle.trace_checker.specs.Known.{way_cmp}
-use Rattle.trace_checker.proofs.Noting.{no-way, no-way-from, a-way}
+use Rattle.trace_checker.proofs.KeepMessages.{no-way, no-way-from, a-way}
 use Rattle.trace_checker.proofs.known.notes.note_way.Goals as goal
 
 -- nothing is installed

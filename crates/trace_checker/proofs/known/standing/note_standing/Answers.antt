@@ -1,6 +1,6 @@
 use Rattle.std.specs.BTreeMap.{get}
 use Rattle.address.specs.Ids.{address_cmp}
-use Rattle.trace_checker.proofs.Stands.{standings-noted}
+use Rattle.trace_checker.proofs.KeepStandings.{standings-noted}
 use Rattle.trace_checker.proofs.known.standing.note_standing.Goals as goal
 
 -- the one member's standing is kept

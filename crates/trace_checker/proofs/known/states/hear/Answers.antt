@@ -1,6 +1,6 @@
 use Rattle.std.specs.BTreeMap.{get}
 use Rattle.address.specs.Ids.{address_cmp, view_id_cmp}
-use Rattle.trace_checker.proofs.Copying.{message-heard}
+use Rattle.trace_checker.proofs.KeepStates.{message-heard}
 use Rattle.trace_checker.proofs.known.states.hear.Goals as goal
 
 -- the message is applied

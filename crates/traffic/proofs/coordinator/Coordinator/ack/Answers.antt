@@ -1,7 +1,7 @@
-use Rattle.traffic.proofs.Coordinators.{ack-goes}
-use Rattle.traffic.proofs.Going.{goes-nothing, goes-then}
+use Rattle.traffic.proofs.ActsOfTurns.{ack-goes}
+use Rattle.traffic.proofs.ActsInTurn.{goes-nothing, goes-then}
 use Rattle.std.proofs.Common.{arith}
-use Rattle.traffic.proofs.Rules.{settled-heard, ack-ignored, ack-heard}
+use Rattle.traffic.proofs.KeepBetweenSteps.{settled-heard, ack-ignored, ack-heard}
 use Rattle.traffic.proofs.coordinator.Coordinator.ack.Goals as goal
 
 pub returns-then-count-delivered : goal.returns-then-count-delivered

@@ -1,6 +1,6 @@
-use Rattle.traffic.proofs.Coordinators.{forward-goes}
-use Rattle.traffic.proofs.Going.{goes-then}
-use Rattle.traffic.proofs.Rules.{settled-queued}
+use Rattle.traffic.proofs.ActsOfTurns.{forward-goes}
+use Rattle.traffic.proofs.ActsInTurn.{goes-then}
+use Rattle.traffic.proofs.KeepBetweenSteps.{settled-queued}
 use Rattle.traffic.proofs.coordinator.Coordinator.forward.Goals as goal
 
 pub order-requires : goal.order-requires

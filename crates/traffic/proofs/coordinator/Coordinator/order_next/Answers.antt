@@ -1,6 +1,6 @@
-use Rattle.traffic.proofs.Coordinators.{rest-goes, rest-done, turn-goes, turn-fewer}
-use Rattle.traffic.proofs.Turning.{turn-does, rest-does}
-use Rattle.traffic.proofs.Settling.{settled-next}
+use Rattle.traffic.proofs.ActsOfTurns.{rest-goes, rest-done, turn-goes, turn-fewer}
+use Rattle.traffic.proofs.FactOfTurns.{turn-does, rest-does}
+use Rattle.traffic.proofs.KeepSettled.{settled-next}
 use Rattle.traffic.proofs.coordinator.Coordinator.order_next.Goals as goal
 
 pub returns-in-None-clause-goes : goal.returns-in-None-clause-goes
@@ -11,7 +11,7 @@ returns-in-None-clause-fewer g c = rest-done g.R.Receiver.meaning _ _ _ _ _ _ _ 
 
 pub returns-in_ok-announce-in-Some-clause-goes : goal.returns-in_ok-announce-in-Some-clause-goes
 returns-in_ok-announce-in-Some-clause-goes g c = λ came. turn-goes g.R.Receiver.meaning came _ _ _ _ _ _ _ _ _ _ _ _ _ c.requires.coordinator c.kept.ensures c.members-members.ensures.sound c.in_ok-next.ensures.next
-    c.in-Some.is c.in_ok-next.ensures.does c.in_ok-announce-in-Some.ensures c.delivered-told.ensures c.acknowledge.ensures
+    c.in-Some.is c.in_ok-next.ensures.does c.in_ok-announce-in-Some.ensures c.delivered-reached.ensures c.acknowledge.ensures
 
 pub returns-in_ok-announce-in-Some-clause-fewer : goal.returns-in_ok-announce-in-Some-clause-fewer
 returns-in_ok-announce-in-Some-clause-fewer g c = turn-fewer g.R.Receiver.meaning _ _ _ _ _ _ _ _ _ _ _ _ c.requires.coordinator c.kept.ensures c.members-members.ensures.sound c.in_ok-next.ensures.next
@@ -22,7 +22,7 @@ returns-in-None-clause-does g c = rest-does g.R.Receiver.meaning _ _ _ _ _ _ _ _
 
 pub returns-in_ok-announce-in-Some-clause-does : goal.returns-in_ok-announce-in-Some-clause-does
 returns-in_ok-announce-in-Some-clause-does g c = turn-does g.R.Receiver.meaning _ _ _ _ _ _ _ _ _ _ _ _ _ c.in_ok-next.ensures.does c.in_ok-next.ensures.next c.in-Some.is
-    c.in_ok-announce-in-Some.ensures c.delivered-told.ensures c.acknowledge.ensures
+    c.in_ok-announce-in-Some.ensures c.delivered-reached.ensures c.acknowledge.ensures
 
 pub returns-in-None-clause-settled : goal.returns-in-None-clause-settled
 returns-in-None-clause-settled g c = settled-next g.R.Receiver.meaning _ _ _ _ _ _ _ _ _ c.requires.coordinator c.requires.settled c.rest-rest.ensures.kept
@@ -31,4 +31,4 @@ returns-in-None-clause-settled g c = settled-next g.R.Receiver.meaning _ _ _ _ _
 pub returns-in_ok-announce-in-Some-clause-settled : goal.returns-in_ok-announce-in-Some-clause-settled
 returns-in_ok-announce-in-Some-clause-settled g c = settled-next g.R.Receiver.meaning _ _ _ _ _ _ _ _ _ c.requires.coordinator c.requires.settled c.rest-rest.ensures.kept
     c.kept.ensures.counts c.members-members.ensures.sound (turn-does g.R.Receiver.meaning _ _ _ _ _ _ _ _ _ _ _ _ _ c.in_ok-next.ensures.does c.in_ok-next.ensures.next c.in-Some.is
-    c.in_ok-announce-in-Some.ensures c.delivered-told.ensures c.acknowledge.ensures)
+    c.in_ok-announce-in-Some.ensures c.delivered-reached.ensures c.acknowledge.ensures)

@@ -1,7 +1,7 @@
 use Rattle.std.proofs.Common.{None}
-use Rattle.traffic.proofs.Sends.{send-goes}
-use Rattle.traffic.proofs.Going.{goes-then}
-use Rattle.traffic.proofs.Rules.{settled-sent, sends-orders, tells-at-once, few-more}
+use Rattle.traffic.proofs.FactOfSends.{send-goes}
+use Rattle.traffic.proofs.ActsInTurn.{goes-then}
+use Rattle.traffic.proofs.KeepBetweenSteps.{settled-sent, sends-orders, delivers-own-at-once, few-more}
 use Rattle.traffic.proofs.coordinator.Coordinator.send.Goals as goal
 
 pub order-requires : goal.order-requires
@@ -20,7 +20,7 @@ pub returns-clause-orders : goal.returns-clause-orders
 returns-clause-orders g c = sends-orders g.R.Receiver.meaning _ _ _ _ _ _ _ _ _ _ _ _ _ c.in_ok-number.ensures.number c.in_ok-number.ensures.now c.in_ok-queue.ensures c.in_ok-number.ensures.happens c.in_ok-order.ensures.orders
 
 pub returns-clause-prompt : goal.returns-clause-prompt
-returns-clause-prompt g c = tells-at-once g.R.Receiver.meaning _ _ _ _ _ _ _ _ _ c.rest-rest.ensures.kept c.requires.free c.requires.settled c.requires.rested
+returns-clause-prompt g c = delivers-own-at-once g.R.Receiver.meaning _ _ _ _ _ _ _ _ _ c.rest-rest.ensures.kept c.requires.free c.requires.settled c.requires.rested
     (sends-orders g.R.Receiver.meaning _ _ _ _ _ _ _ _ _ _ _ _ _ c.in_ok-number.ensures.number c.in_ok-number.ensures.now c.in_ok-queue.ensures c.in_ok-number.ensures.happens c.in_ok-order.ensures.orders) c.in_ok-order.ensures.done
 
 pub returns-clause-few : goal.returns-clause-few

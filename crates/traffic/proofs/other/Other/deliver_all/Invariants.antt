@@ -2,12 +2,12 @@ use Rattle.std.proofs.Common.{Option, ◌+◌, ◌-◌}
 use Rattle.limits.specs.declared.TheConstants.{WINDOW}
 use Rattle.agreement.specs.Histories.{Posted}
 use Rattle.traffic.specs.Goings.{OtherGoes}
-use Rattle.traffic.specs.Takes.{Telling}
+use Rattle.traffic.specs.Takes.{DeliversHeld}
 use Rattle.traffic.proofs.other.Other.deliver_all.Given as goal
 
 abbrev pub invariant-loop : goal.invariant-loop
 invariant-loop g l = ((came : Option Posted) → OtherGoes g.R.Receiver.meaning came l.who.address l.who.group l.fn.self l.fn.receiver l.fn.out l.self l.receiver l.out)
-    × Telling g.R.Receiver.meaning l.who.address l.who.group l.fn.self l.fn.receiver l.fn.out l.self l.receiver l.out
+    × DeliversHeld g.R.Receiver.meaning l.who.address l.who.group l.fn.self l.fn.receiver l.fn.out l.self l.receiver l.out
 
 abbrev pub decreases-loop : goal.decreases-loop
 decreases-loop g l = l.self.window.stable + WINDOW - l.self.window.delivered

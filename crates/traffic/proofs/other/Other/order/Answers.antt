@@ -1,7 +1,7 @@
 use Rattle.std.proofs.Common.{arith}
-use Rattle.traffic.proofs.Others.{order-goes}
-use Rattle.traffic.proofs.Going.{other-nothing}
-use Rattle.traffic.proofs.Telling.{order-taken, answers-goes, order-few}
+use Rattle.traffic.proofs.ActsOfOthers.{order-goes}
+use Rattle.traffic.proofs.ActsInTurn.{other-nothing}
+use Rattle.traffic.proofs.FactOfDeliveries.{order-taken, answers-goes, order-few}
 use Rattle.traffic.proofs.other.Other.order.Goals as goal
 
 pub returns : goal.returns
@@ -9,7 +9,7 @@ returns g c = record {
   goes = answers-goes g.R.Receiver.meaning _ _ _ _ _ _ _ _ _ _ _ _ _
       (order-goes g.R.Receiver.meaning _ _ _ _ _ _ _ _ _ _ _ _ c.requires.other c.collect_below.ensures c.in_ok-new.ensures.now c.in_ok-deliver_all.ensures.goes) c.in_ok-answer.ensures;
   takes = order-taken g.R.Receiver.meaning _ _ _ _ _ _ _ _ _ _ _ _ _ _ _ (omega arith) c.delivered-before.ensures c.collect_below.ensures c.in_ok-new.ensures.answer c.in_ok-new.ensures.now
-      c.in_ok-deliver_all.ensures.tells c.in_ok-deliver_all.ensures.done c.in_ok-answer.ensures;
+      c.in_ok-deliver_all.ensures.delivers c.in_ok-deliver_all.ensures.done c.in_ok-answer.ensures;
   few = order-few _ _ _ _ _ _ c.args.out.now c.deliver_all.new.out _ c.in_ok-deliver_all.ensures.few c.in_ok-answer.ensures;
 }
 

@@ -1,4 +1,4 @@
-use Rattle.traffic.proofs.Reporting.{traffic-reported}
+use Rattle.traffic.proofs.FactOfReported.{traffic-reported}
 use Rattle.traffic.specs.Traffics.{view_of, traffic_of}
 use Rattle.traffic.proofs.traffic.Traffic.kept.Goals as goal
 

@@ -1,6 +1,6 @@
 use Rattle.std.proofs.Common.{rules, sym, ap, ◌∙◌}
 use Rattle.std.specs.Option.{option_copied}
-use Rattle.world.proofs.Addressed.{destination-at, found-at}
+use Rattle.world.proofs.FactOfDestinations.{destination-at, found-at}
 use Rattle.world.proofs.pool.Pool.destination.Goals as goal
 
 -- so many were not put out

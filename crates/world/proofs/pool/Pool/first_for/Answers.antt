@@ -1,5 +1,5 @@
 use Rattle.std.proofs.Common.{sym, ◌∙◌, arith, ◌<◌, length}
-use Rattle.world.proofs.Counting.{first-later, first-here}
+use Rattle.world.proofs.FactOfNumbers.{first-later, first-here}
 use Rattle.world.proofs.pool.Pool.first_for.Goals as goal
 
 -- this one is for it

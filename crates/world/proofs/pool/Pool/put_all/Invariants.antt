@@ -2,7 +2,7 @@ use Rattle.std.proofs.Common.{◌≡◌, ◌≤◌, ◌+◌, ◌++◌, map, leng
 use Rattle.std.specs.Vec.Iter.{into_iter_items}
 use Rattle.world.specs.Seats.{bytes_of}
 use Rattle.world.specs.Outputs.{AreAddressed}
-use Rattle.world.proofs.Addressed.{AreKept}
+use Rattle.world.proofs.FactOfDestinations.{AreKept}
 use Rattle.world.proofs.pool.Pool.put_all.Given as goal
 
 -- the packets so far are put out, and there is room for the others

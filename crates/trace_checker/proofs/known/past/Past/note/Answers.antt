@@ -10,7 +10,7 @@ use Rattle.trace_checker.proofs.known.past.Past.note.Goals as goal
 pub invariant_of-self : goal.invariant_of-self
 invariant_of-self c =
     subst
-    (λ (t : List Event). KnowsPast (get address_cmp c.keep.new.tables.standings) (get seat_cmp c.keep.new.tables.sent.lists) (get seat_cmp c.keep.new.tables.told.lists) (get pair_cmp c.keep.new.tables.last)
+    (λ (t : List Event). KnowsPast (get address_cmp c.keep.new.tables.standings) (get seat_cmp c.keep.new.tables.sent.lists) (get seat_cmp c.keep.new.tables.delivered.lists) (get pair_cmp c.keep.new.tables.last)
     (get seat_cmp c.keep.new.tables.entries) (get view_id_cmp c.keep.new.tables.firsts) (get way_cmp c.keep.new.tables.ways) t)
     (sym c.in-Ok.ensures.kept)
     (c.in-Ok.ensures.known _ (subst (λ (t : List Event). MayCarry t c.args.event.now) (sym c.self.view_is) c.requires.may) c.self.invariant)

@@ -4,11 +4,11 @@ use Rattle.address.specs.Ids.{address_cmp, view_id_cmp}
 use Rattle.trace_props.specs.declared.event.Event.{Event}
 use Rattle.trace_props.specs.Agreeing.{MayEnter}
 use Rattle.trace_checker.specs.Copies.{KnowsStates}
-use Rattle.trace_checker.proofs.Copying.{nothing-known}
-use Rattle.trace_checker.proofs.Installing.{of-install}
+use Rattle.trace_checker.proofs.KeepStates.{nothing-known}
+use Rattle.trace_checker.proofs.FactOfEntryState.{of-install}
 use Rattle.trace_checker.proofs.known.states.States.advance.Goals as goal
 
--- nothing is told or installed
+-- nothing is delivered or installed
 pub returns-in-None-install_in : goal.returns-in-None-install_in
 returns-in-None-install_in g c = λ t r.
     nothing-known g.R.Receiver.meaning

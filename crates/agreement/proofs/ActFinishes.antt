@@ -1,0 +1,203 @@
+-- The act Finishes: a member goes into its own proposal, and instructs all others of the list.
+use Rattle.std.proofs.Common.{◌≡◌, ◌+◌, Bool, true, false, cond, Option, Some, None, List, [], ◌∷◌, ◌++◌, length, refl, sym, ap, ◌∙◌, subst, is_some, ◌⊎◌, inl, inr}
+use Rattle.std.specs.Option.{option_map, option_eq}
+use Rattle.std.proofs.lemmas.Option.{none-some, same_Some}
+use Rattle.std.proofs.lemmas.List.{append_assoc, length-append}
+use Rattle.std.proofs.lemmas.List.Sums.{fold-append}
+use Rattle.address.specs.Ids.{Address, ViewId, same_view_id}
+use Rattle.view.specs.Members.{View, stands_in}
+use Rattle.wire.specs.Values.{Entry, Report}
+use Rattle.wire.specs.Values as wire
+use Rattle.state_transfer.specs.Meanings.{Meaning}
+use Rattle.flush.specs.Flushes.{FlushModel}
+use Rattle.trace_props.specs.declared.event.Event.{Event}
+use Rattle.trace_props.specs.declared.event.Event.TheVariants.{Installed}
+use Rattle.trace_props.specs.declared.event.Install.{Install}
+use Rattle.trace_props.specs.Observed.{entry_of}
+use Rattle.trace_props.specs.State.{entry_state}
+use Rattle.trace_props.proofs.FactOfObserved.{same_view_id-true}
+use Rattle.agreement.specs.Words.{list_of}
+use Rattle.agreement.specs.Histories.{Posted, History, install_of}
+use Rattle.agreement.specs.Cores.{Core, id_of, report_with, applied}
+use Rattle.agreement.specs.Acts.{Cuts, Finishes, MayFinish, proposed, others_of, instruction_for, state_after_cut, gone_into, deliveries}
+use Rattle.agreement.specs.Steps.{System, put, acted}
+use Rattle.agreement.specs.Packets.{PacketFact, GivesState, BeginsWith, state_with}
+use Rattle.agreement.specs.Members.{IsNotPast, MemberFact}
+use Rattle.agreement.specs.Invariant.{EachPacket, Invariant}
+use Rattle.agreement.proofs.FactOfTally.{list_of-still}
+use Rattle.agreement.proofs.KeepHistory.{Later, later-trans}
+use Rattle.agreement.proofs.KeepOthers.{IsFrom, flush-later, state_with-later}
+use Rattle.agreement.proofs.KeepTrace.{views-of, entry_state-kept}
+use Rattle.agreement.proofs.FactOfRegisters.{install-fact}
+use Rattle.agreement.proofs.ActDeliversLast.{Law, Follow, GoesOut, delivered_on, goes-out, undelivered-end, undelivered-follow}
+use Rattle.agreement.proofs.KeepByInstall.{entry-now}
+use Rattle.agreement.proofs.FactOfFirstInstall.{none-of, made-state}
+use Rattle.agreement.proofs.KeepByFirstInstall.{made_on, made-later, made}
+use Rattle.agreement.proofs.FactOfInstructions.{kept_by, instructing, kept-there, kept-which, instructing-each, install-kept, install-still, instructing-reports, instructing-announces}
+use Rattle.agreement.proofs.FactOfFinished.{IsFinished, IsPutOut, instructed-report, all-answered, together-as, instructs}
+use Rattle.agreement.proofs.FactMayInstall.{last_entries, maker_install, IsReady, ready, departs}
+
+-- more entries are applied
+state_with-append : {S : Type 0} (meaning : Meaning S) (v : ViewId) (entries more : List Entry) (t : List Event) (s : S)
+    → state_with meaning v entries t ≡ Some s → state_with meaning v (entries ++ more) t ≡ Some (applied meaning s more)
+state_with-append {S} meaning v entries more t s is = by (entry_state meaning v t) is
+  where
+    by : (o : Option S) → option_map (λ z. applied meaning z entries) o ≡ Some s → option_map (λ z. applied meaning z (entries ++ more)) o ≡ Some (applied meaning s more)
+    by None x = absurd (none-some s x)
+    by (Some z) x =
+        ap Some (fold-append (λ y (w : Entry). meaning.apply y w.sender w.payload) z entries more ∙ ap (λ y. applied meaning y more) (same_Some (applied meaning z entries) s x))
+
+-- nobody was instructed to go into a view that its coordinator has not installed
+no-install : (h : History) (w : ViewId) (q : Address) → EachPacket h → entry_of w.creator w h.trace ≡ None → install_of w q h.pool ≡ None
+no-install h w q each none =
+    none-of (install_of w q h.pool) (λ j e.
+    let by = install-fact h w q j each e in
+    let n : false ≡ true = sym (ap (λ (u : ViewId). is_some (entry_of u.creator u h.trace)) by.view ∙ ap is_some none) ∙ by.fact.led.entered in
+    absurd cc)
+
+module _ {S : Type 0} (meaning : Meaning S) where
+  abbrev Fact : History → Address → Core S → Type 0
+  Fact h p c = MemberFact meaning h p c
+
+  abbrev each_by : Core S → View → FlushModel → Cuts → Address → wire.Install
+  each_by c v f cuts q = instruction_for f cuts v.id (meaning.encode (state_after_cut meaning c v cuts)) q
+
+  abbrev packets_by : Core S → View → FlushModel → Cuts → List Posted
+  packets_by c v f cuts = instructing c.me (each_by c v f cuts) (others_of c.me f.members)
+
+  abbrev before_by : History → Core S → View → Cuts → History
+  before_by h c v cuts = delivered_on h c.me c.view (last_entries c v cuts)
+
+  abbrev after_by : History → Core S → View → FlushModel → Cuts → History
+  after_by h c v f cuts = made_on (before_by h c v cuts) (packets_by c v f cuts) (maker_install c v f cuts)
+
+  -- it delivers its last entries
+  finishes-out : (s : System S) (c : Core S) (v : View) (f : FlushModel) (cuts : Cuts) → Law meaning → Invariant meaning s → Fact s.history c.me c
+      → MayFinish c v f cuts → IsReady meaning s.history c v f cuts
+      → GoesOut meaning s.history (before_by s.history c v cuts) c (last_entries c v cuts)
+  finishes-out s c v f cuts law inv x a y =
+      let own = y.cut c.me (report_with c.view c.traffic) v.id y.runs.itself (ap id_of a.view) in
+      goes-out meaning s.history c (last_entries c v cuts) law inv.trace x
+      (λ u e. subst (λ (z : View). Follow s.history.trace c.me z.id (last_entries c v cuts)) (same_Some v u (sym a.view ∙ e))
+      (undelivered-follow s.history.trace c.me v.id c.traffic.delivered (cuts.base v.id) (cuts.items v.id) (y.inside v a.view).counts.delivered_count own.low own.order))
+      (λ none. absurd (none-some v (sym none ∙ a.view)))
+
+  -- an instruction gives the state with which the view begins to all who come from another view than its coordinator
+  gives-to : (k : History) (p q : Address) (mine : Report) (f : FlushModel) (cuts : Cuts) (v : ViewId) (z : S) (i : Install) → IsFinished k p mine f i
+      → IsPutOut k p mine f cuts v (meaning.encode z) → mine.previous ≡ Some v → entry_state meaning f.proposal k.trace ≡ Some z → stands_in q (others_of p f.members) ≡ true
+      → GivesState meaning k q (instruction_for f cuts v (meaning.encode z) q)
+  gives-to k p q mine f cuts v z i x y inside begun there e r entry report =
+      let w = f.proposal in
+      let s = instructed-report k p q mine f cuts v (meaning.encode z) i (instruction_for f cuts v (meaning.encode z) q) x y (y.each q there) in
+      let same : s.0 ≡ r = same_Some s.0 r (sym s.2 ∙ report) in
+      let itself : i ≡ e = same_Some i e (sym x.entry ∙ ap (λ a. entry_of a w k.trace) (sym x.own) ∙ entry) in
+      let from : Some v ≡ e.previous = sym inside ∙ sym x.previous ∙ ap (λ (a : Install). a.previous) itself in
+      ap (λ (j : wire.Install). j.state) s.3
+      ∙ ap (λ (a : Report). cond (option_eq same_view_id a.previous (Some v)) None (Some (meaning.encode z))) same
+      ∙ ap (λ o. cond (option_eq same_view_id r.previous o) None (Some (meaning.encode z))) from
+      ∙ ap (λ o. cond (option_eq same_view_id r.previous e.previous) None (option_map meaning.encode o)) (sym begun)
+
+  -- what was put out for a view was so before, or is an instruction to go into the new one
+  gives-by : (b : Bool) (h k : History) (p q : Address) (mine : Report) (f : FlushModel) (cuts : Cuts) (v : ViewId) (z : S) (i : Install) (u : ViewId) (j : wire.Install) → same_view_id f.proposal u ≡ b
+      → IsFinished k p mine f i → IsPutOut k p mine f cuts v (meaning.encode z) → mine.previous ≡ Some v → entry_state meaning f.proposal k.trace ≡ Some z
+      → (same_view_id f.proposal u ≡ false → install_of u q k.pool ≡ install_of u q h.pool) → install_of u q k.pool ≡ Some j
+      → (install_of u q h.pool ≡ Some j) ⊎ GivesState meaning k q j
+  gives-by true h k p q mine f cuts v z i u j test x y inside begun still there =
+      let same = same_view_id-true f.proposal u test in
+      let instructed_so = y.only q j (ap (λ (a : ViewId). install_of a q k.pool) same ∙ there) in
+      inr (subst (λ (a : wire.Install). GivesState meaning k q a) (sym instructed_so.1) (gives-to k p q mine f cuts v z i x y inside begun instructed_so.0))
+  gives-by false h k p q mine f cuts v z i u j test x y inside begun still there = inl (sym (still test) ∙ there)
+
+  -- the view begins with the state that its coordinator had at the end of the one from which it came
+  begins-as : (h h1 : History) (c : Core S) (v : View) (f : FlushModel) (entries : List Entry) (i : Install) (z : S) → Fact h c.me c → c.view ≡ Some v → f.proposal.creator ≡ c.me
+      → GoesOut meaning h h1 c entries → z ≡ applied meaning c.state entries → i.previous ≡ id_of c.view
+      → entry_state meaning f.proposal (h1.trace ++ Installed i ∷ []) ≡ Some z → BeginsWith meaning (h1.trace ++ Installed i ∷ []) f.proposal i
+  begins-as h h1 c v f entries i z x is own out same from begun u left =
+      let t = h1.trace ++ Installed i ∷ [] in
+      let list = list_of c.me v.id h.trace in
+      let list_now : list_of c.me v.id t ≡ list ++ entries = list_of-still c.me v.id h1.trace (Installed i) refl ∙ (out.view v is).list in
+      let was : state_with meaning v.id list t ≡ Some c.state =
+      state_with-later meaning v.id list h.trace t c.state
+      (λ s e. entry_state-kept meaning v.id h1.trace (Installed i ∷ []) s (out.quiet.state.entered v.id s e)) (x.state.in_view v is) in
+      let now : state_with meaning v.id (list_of f.proposal.creator v.id t) t ≡ entry_state meaning f.proposal t =
+      ap (λ a. state_with meaning v.id (list_of a v.id t) t) own
+      ∙ ap (λ l. state_with meaning v.id l t) list_now
+      ∙ state_with-append meaning v.id list entries t c.state was ∙ ap Some (sym same) ∙ sym begun in
+      subst (λ (a : ViewId). state_with meaning a (list_of f.proposal.creator a t) t ≡ entry_state meaning f.proposal t)
+      (same_Some v.id u (sym (ap id_of is) ∙ sym from ∙ left)) now
+
+  -- the coordinator has delivered its view's order up to the end of its cut
+  ends-at : (h h1 : History) (c : Core S) (v : View) (f : FlushModel) (cuts : Cuts) (i : Install) → c.view ≡ Some v → IsReady meaning h c v f cuts
+      → GoesOut meaning h h1 c (last_entries c v cuts) → (u : ViewId) → id_of c.view ≡ Some u
+      → length (list_of c.me u (h1.trace ++ Installed i ∷ [])) ≡ cuts.base u + length (cuts.items u)
+  ends-at h h1 c v f cuts i is y out u left =
+      let t = h1.trace ++ Installed i ∷ [] in
+      let entries = last_entries c v cuts in
+      let own = y.cut c.me (report_with c.view c.traffic) v.id y.runs.itself (ap id_of is) in
+      let long : length (list_of c.me v.id t) ≡ cuts.base v.id + length (cuts.items v.id) =
+      ap length (list_of-still c.me v.id h1.trace (Installed i) refl ∙ (out.view v is).list)
+      ∙ length-append (list_of c.me v.id h.trace) entries
+      ∙ ap (λ n. n + length entries) (y.inside v is).counts.delivered_count
+      ∙ undelivered-end c.traffic.delivered (cuts.base v.id) (cuts.items v.id) own.low own.high in
+      subst (λ (a : ViewId). length (list_of c.me a t) ≡ cuts.base a + length (cuts.items a)) (same_Some v.id u (sym (ap id_of is) ∙ left)) long
+
+  -- the act keeps the invariant
+  pub finishes-keep : (s : System S) (c : Core S) (v : View) (f : FlushModel) (cuts : Cuts) → Law meaning → Invariant meaning s
+      → Fact s.history c.me c → MayFinish c v f cuts → Invariant meaning (acted meaning s c.me (Finishes v f cuts) c)
+  finishes-keep s c v f cuts law inv x a =
+      let h = s.history in
+      let p = c.me in
+      let w = f.proposal in
+      let list = others_of p f.members in
+      let mine = report_with c.view c.traffic in
+      let z = state_after_cut meaning c v cuts in
+      let g = each_by c v f cuts in
+      let h1 = before_by h c v cuts in
+      let i = maker_install c v f cuts in
+      let more = packets_by c v f cuts in
+      let k = after_by h c v f cuts in
+      let y = ready meaning h c v f cuts inv.packets x a in
+      let runs = y.runs in
+      let out = finishes-out s c v f cuts law inv x a y in
+      let may = departs meaning s h1 c v f cuts inv a y out in
+      let other_installs = λ (u : ViewId) (q : Address) (other : same_view_id w u ≡ false). install-still p u q g list h.pool (λ r. other) in
+      let onward : Later h1 k = made-later meaning h1 more i (views-of meaning h1 out.quiet.trace) may other_installs in
+      let later = later-trans h h1 k out.quiet.later onward in
+      let finished : IsFinished k p mine f i = record {
+        own = runs.own;
+        entry = entry-now h1 i (may.new p);
+        view = refl;
+        previous = refl;
+        itself = runs.itself;
+        recorded = (flush-later h k p c.promise false c.view c.traffic f later runs).recorded;
+        all = a.all;
+      } in
+      let fresh = λ (q : Address). install-kept p w q g list h.pool (λ r. refl)
+      (no-install h w q inv.packets (sym (out.quiet.none.entry w.creator w) ∙ may.new w.creator)) in
+      let put_out : IsPutOut k p mine f cuts v.id (meaning.encode z) = record {
+        each = λ q there. fresh q ∙ kept-there g q list there;
+        only = λ q j there. kept-which g q list j (sym (fresh q) ∙ there);
+        cut = λ q r u said from. let old = y.cut q r u said from in record { low = old.low; high = old.high; order = λ j e at. later.list u.creator u (cuts.base u + j) e (old.order j e at) };
+        own_end = ends-at h h1 c v f cuts i a.view y out;
+      } in
+      let begun : entry_state meaning w k.trace ≡ Some z = made-state meaning h1.trace i may ∙ ap Some out.state in
+      subst (λ (t : List Event). Invariant meaning (record { running = put p (Some (gone_into (proposed f) z (kept_by g list) c)) s.running; history = record { pool = h.pool ++ more; trace = t } }))
+      (append_assoc h.trace (deliveries p c.view (last_entries c v cuts)) (Installed i ∷ []))
+      (made meaning s c h1 more i z (kept_by g list) inv out.quiet refl (record {
+        itself = refl;
+        may = may;
+        state = out.state;
+        is = subst meaning.is_state out.state out.is;
+        from = instructing-each (IsFrom p) p g list (λ q there. record { source = refl; mine = runs.own });
+        other_installs = other_installs;
+        below = record {
+          announced = λ u l own e. subst (λ (o : Option View). IsNotPast o u) runs.promised (x.below.announced u l own (sym (instructing-announces p u g list h.pool) ∙ e));
+          reported = λ u r e. subst (λ (o : Option View). IsNotPast o u) runs.promised (x.below.reported u r (sym (instructing-reports p p u g list h.pool) ∙ e));
+        };
+        keeps = λ q j there. (runs.own, fresh q ∙ there);
+        packets = instructing-each (PacketFact k) p g list (λ q there. instructs k p q mine f cuts v.id (meaning.encode z) i v.id finished (ap id_of a.view) put_out there);
+        complete = all-answered k p mine f i finished;
+        together = together-as k p p mine mine f i finished runs.itself;
+        gives = λ u q j there. gives-by (same_view_id w u) h k p q mine f cuts v.id z i u j refl finished put_out (ap id_of a.view) begun (other_installs u q) there;
+        begins = begins-as h h1 c v f (last_entries c v cuts) i z x a.view runs.own out refl refl begun;
+      }))

@@ -1,0 +1,96 @@
+-- A member that is open in a view, in the words of the law; it stays what a member is where only its messages change.
+use Rattle.std.proofs.Common.{◌≡◌, ℕ, true, Option, None, Some, List, refl, sym, ap, ◌∙◌, subst}
+use Rattle.std.specs.Option.{ForSome}
+use Rattle.std.specs.List.{AllByRecursion}
+use Rattle.std.proofs.lemmas.Bool.{false≢true}
+use Rattle.std.proofs.lemmas.Option.{none-some, same_Some}
+use Rattle.address.specs.Ids.{Address}
+use Rattle.view.specs.Members.{View, stands_in}
+use Rattle.state_transfer.specs.Meanings.{Meaning}
+use Rattle.flush.specs.Flushes.{FlushModel}
+use Rattle.agreement.specs.Histories.{Posted}
+use Rattle.agreement.specs.Cores.{Core}
+use Rattle.agreement.specs.Chains.{Acted}
+use Rattle.agreement.proofs.LawsOfActs.{nothing-acted}
+use Rattle.output.specs.declared.output.Output.{Output}
+use Rattle.output.proofs.FactOfGrows.{grows-nothing}
+use Rattle.traffic.specs.declared.traffic.Traffic.{Traffic}
+use Rattle.traffic.specs.Traffics.{view_of, traffic_of}
+use Rattle.traffic.specs.Goings.{open_core, Goes}
+use Rattle.membership.specs.declared.life.Life.{Life}
+use Rattle.membership.specs.Lives.{IsLife, IsFlushing, core_of, view_in, kept_in}
+use Rattle.membership.specs.Doing.{Did}
+use Rattle.member_messages.specs.Ordered.{IsOrderly}
+
+no-flush-by : {S : Type 0} (me : Address) (l : Life S) (f : Option FlushModel) → l.flush ≡ f → ForSome l.flush (IsFlushing me l) → l.promise.is_installed ≡ true → f ≡ None
+no-flush-by me l None here flushing promised = refl
+no-flush-by me l (Some f) here flushing promised = let own : IsFlushing me l f = flushing f here in absurd (false≢true (sym own.waiting ∙ promised))
+
+no-flush : {S : Type 0} (group : List ℕ) (me : Address) (l : Life S) → IsLife group me l → l.promise.is_installed ≡ true → l.flush ≡ None
+no-flush group me l i promised = no-flush-by me l l.flush refl i.flushing promised
+
+pub there-is : (o : Option Traffic) (f t : Traffic) → o ≡ Some f → f ≡ t → o ≡ Some t
+there-is o f t some is = some ∙ ap (λ (x : Traffic). Some x) is
+
+pub orderly-in : (me : Address) (o : Option Traffic) (t : Traffic) → ForSome o (IsOrderly me) → o ≡ Some t → IsOrderly me t
+orderly-in me o t ordered there = ordered t there
+
+pub ordered-by : (me : Address) (t : Traffic) → IsOrderly me t → ForSome (Some t) (IsOrderly me)
+ordered-by me t orderly = λ u some. subst (λ (x : Traffic). IsOrderly me x) (same_Some _ _ some) orderly
+
+-- with this kept of its view, and this state
+abbrev pub going_on : {S : Type 0} → Life S → Traffic → S → Life S
+going_on l t s = record l { traffic = Some t; receiver = s }
+
+-- it is open in its view
+pub core-open : {S : Type 0} (group : List ℕ) (me : Address) (l : Life S) (t : Traffic) → IsLife group me l → l.promise.is_installed ≡ true → l.traffic ≡ Some t
+    → core_of me l ≡ open_core me (view_of t) (kept_in l.kept.items) (traffic_of t) l.receiver
+core-open group me l t i promised there =
+    let flush : l.flush ≡ None = no-flush group me l i promised in
+    let promise : l.promise.proposal ≡ Some (view_of t) = sym (i.installed promised) ∙ ap view_in there in
+    rw (there, promised, promise, flush) refl
+
+pub life-kept : {S : Type 0} (group : List ℕ) (me : Address) (l : Life S) (t u : Traffic) (s : S) → IsLife group me l → l.promise.is_installed ≡ true → l.traffic ≡ Some t → view_of u ≡ view_of t
+    → IsLife group me (going_on l u s)
+life-kept group me l t u s i promised there same =
+    let inside : view_in l.traffic ≡ Some (view_of u) = ap view_in there ∙ ap (λ (v : View). Some v) (sym same) in
+    record {
+      own = i.own;
+      unsuspected = i.unsuspected;
+      inside = subst (λ (v : Option View). ForSome v (λ w. stands_in me w.members ≡ true)) inside i.inside;
+      listed = i.listed;
+      unconnected = λ none. absurd (false≢true (sym none));
+      waiting = i.waiting;
+      installed = λ x. sym inside ∙ i.installed x;
+      flushing = subst (λ (f : Option FlushModel). ForSome f (IsFlushing me (going_on l u s))) (sym (no-flush group me l i promised)) (λ f some. absurd (none-some _ some));
+      kept = record {
+        given = i.kept.given;
+        spelled = i.kept.spelled;
+        sound = i.kept.sound;
+        current = subst (λ (v : Option View). AllByRecursion (λ p. v ≡ Some p.1.view) i.kept.given) inside i.kept.current;
+      };
+    }
+
+module _ {S : Type 0} (meaning : Meaning S) where
+  pub nothing-did : (came : Option Posted) (group : List ℕ) (me : Address) (l : Life S) (out : Output) → Did meaning came group me l l out out
+  nothing-did came group me l out = record { posted = _; happened = _; grows = grows-nothing group out; acted = nothing-acted meaning came (Some (core_of me l)) }
+
+  pub goes-did : (came : Option Posted) (group : List ℕ) (me : Address) (l : Life S) (t u : Traffic) (s : S) (out later : Output) → IsLife group me l → l.promise.is_installed ≡ true → l.traffic ≡ Some t
+      → view_of u ≡ view_of t → Goes meaning came me group (view_of t) (traffic_of t) l.receiver out (traffic_of u) s later → Did meaning came group me l (going_on l u s) out later
+  goes-did came group me l t u s out later i promised there same x = record {
+    posted = x.posted;
+    happened = x.happened;
+    grows = x.grows;
+    acted =
+        subst (λ (c : Core S). Acted meaning came (Some c) x.posted x.happened (Some (core_of me (going_on l u s)))) (sym (core-open group me l t i promised there))
+        (subst (λ (c : Core S). Acted meaning came (Some (open_core me (view_of t) (kept_in l.kept.items) (traffic_of t) l.receiver)) x.posted x.happened (Some c))
+        (ap (λ (v : View). open_core me v (kept_in l.kept.items) (traffic_of u) s) (sym same) ∙ sym (core-open group me (going_on l u s) u (life-kept group me l t u s i promised there same) promised refl))
+        (x.acted (kept_in l.kept.items)));
+  }
+
+  -- nothing of it but what it puts out
+  pub goes-same : (came : Option Posted) (group : List ℕ) (me : Address) (l : Life S) (t : Traffic) (out later : Output) → IsLife group me l → l.promise.is_installed ≡ true → l.traffic ≡ Some t
+      → Goes meaning came me group (view_of t) (traffic_of t) l.receiver out (traffic_of t) l.receiver later → Did meaning came group me l l out later
+  goes-same came group me l t out later i promised there x =
+      subst (λ (o : Option Traffic). Did meaning came group me l (record l { traffic = o }) out later) (sym there)
+      (goes-did came group me l t t l.receiver out later i promised there refl x)

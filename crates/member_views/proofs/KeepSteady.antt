@@ -1,0 +1,168 @@
+-- In a change of view a member keeps what it keeps of its view, or begins a view anew.
+use Rattle.std.proofs.Common.{◌≡◌, ℕ, Bool, true, false, Option, Some, None, List, ap, ◌∙◌, is_some, ◌&&◌, not}
+use Rattle.std.specs.Prelude.{MatchBool, MatchOption}
+use Rattle.address.specs.Ids.{Address, ViewId, same_address}
+use Rattle.view.specs.Members.{View}
+use Rattle.wire.specs.Values as wire
+use Rattle.state_transfer.specs.Meanings.{Meaning}
+use Rattle.flush.specs.Flushes.{FlushModel}
+use Rattle.view_install.specs.declared.promise.OfferAnswer.{OfferAnswer}
+use Rattle.view_install.specs.declared.promise.OfferAnswer.TheVariants.{Accept, Behind, Ignore}
+use Rattle.view_install.specs.Promises.{offered}
+use Rattle.agreement.specs.Acts.{proposed}
+use Rattle.member_acts.specs.Decisions.{due_proposal, is_entry}
+use Rattle.output.specs.declared.output.Output.{Output}
+use Rattle.traffic.specs.declared.traffic.Traffic.{Traffic}
+use Rattle.traffic.specs.Traffics.{fresh_in}
+use Rattle.membership.specs.declared.life.Life.{Life}
+use Rattle.membership.specs.Lives.{core_of, is_complete}
+use Rattle.membership.specs.Changes.{StaysAs, TakesBy, TakesFlush, Begins, Finishes, GoesOn, Regroups, TakesReport, TakesBehind, TakesSuspicion, TakesInstall, Enters}
+use Rattle.member_views.specs.Views.{OnJoin, OnRedirect, OnSuspect, OnFlush, OnBehind, OnReport, OnMerge, Asks, Redirects, SaysAgain, Admits, Meets, AnnouncesView, outdated, joined, merged, leads_now, has_member, is_less, is_suspectable, is_proposing, expects, is_in}
+
+pub data Steady {S : Type 0} (me : Address) (old new : Life S) : Type 0 where
+  Same : new.traffic ≡ old.traffic → Steady me old new
+  Fresh : (w : View) → new.traffic ≡ Some (fresh_in me w) → Steady me old new
+
+module _ {S : Type 0} (me : Address) where
+  pub steady-then : (a b c : Life S) → Steady me a b → Steady me b c → Steady me a c
+  steady-then a b c (Same x) (Same y) = Same (y ∙ x)
+  steady-then a b c (Fresh w x) (Same y) = Fresh w (y ∙ x)
+  steady-then a b c x (Fresh w y) = Fresh w y
+
+  stays : (old new : Life S) (out later : Output) → StaysAs old new out later → Steady me old new
+  stays old new out later x = Same (ap (λ (l : Life S). l.traffic) x.0)
+
+  module _ (meaning : Meaning S) (group : List ℕ) where
+    begins : (w : View) (old new : Life S) (out later : Output) → Begins group me w old new out later → Steady me old new
+    begins w old new out later x = Same (ap (λ (l : Life S). l.traffic) x.life)
+
+    begins-by : (o : Option View) (old new : Life S) (out later : Output) → MatchOption o (StaysAs old new out later) (λ w. Begins group me w old new out later) → Steady me old new
+    begins-by None old new out later x = stays old new out later x
+    begins-by (Some w) old new out later x = begins w old new out later x
+
+    finishes-at : (traffic : Option Traffic) (f : FlushModel) (old new : Life S) (out later : Output) → MatchOption traffic ⊥ (λ t. Finishes meaning group me f t old new out later) → Steady me old new
+    finishes-at None f old new out later x = absurd x
+    finishes-at (Some t) f old new out later x = Fresh (proposed f) (ap (λ (l : Life S). l.traffic) x.life)
+
+    finishes-when : (b : Bool) (f : FlushModel) (old new : Life S) (out later : Output)
+        → MatchBool b (MatchOption old.traffic ⊥ (λ t. Finishes meaning group me f t old new out later)) (StaysAs old new out later) → Steady me old new
+    finishes-when true f old new out later x = finishes-at old.traffic f old new out later x
+    finishes-when false f old new out later x = stays old new out later x
+
+    finishes-by : (o : Option FlushModel) (old new : Life S) (out later : Output)
+        → MatchOption o (StaysAs old new out later)
+        (λ f. MatchBool (is_complete f) (MatchOption old.traffic ⊥ (λ t. Finishes meaning group me f t old new out later)) (StaysAs old new out later)) → Steady me old new
+    finishes-by None old new out later x = stays old new out later x
+    finishes-by (Some f) old new out later x = finishes-when (is_complete f) f old new out later x
+
+    goes-on : (old new : Life S) (out later : Output) → GoesOn meaning group me old new out later → Steady me old new
+    goes-on old new out later x =
+        steady-then old x.mid new (finishes-by old.flush old x.mid out x.between x.finishes) (begins-by (due_proposal (core_of me x.mid) x.mid.notes) x.mid new x.between later x.proposes)
+
+    pub regroups : (old new : Life S) (out later : Output) → Regroups meaning group me old new out later → Steady me old new
+    regroups old new out later x =
+        steady-then old x.mid new (begins-by (due_proposal (core_of me old) old.notes) old x.mid out x.between x.proposes) (goes-on x.mid new x.between later x.goes_on)
+
+    -- from a life that keeps the same of its view
+    from : (old mid new : Life S) → mid.traffic ≡ old.traffic → Steady me mid new → Steady me old new
+    from old mid new e x = steady-then old mid new (Same e) x
+
+    takes-by : (a : OfferAnswer) (w : View) (old new : Life S) (out later : Output) → TakesBy a group me w old new out later → Steady me old new
+    takes-by Accept w old new out later x = Same (ap (λ (l : Life S). l.traffic) x.life)
+    takes-by (Behind counter) w old new out later x = Same (ap (λ (l : Life S). l.traffic) x.0)
+    takes-by Ignore w old new out later x = stays old new out later x
+
+    behind : (counter : ℕ) (old new : Life S) (out later : Output) → TakesBehind meaning group me counter old new out later → Steady me old new
+    behind counter old new out later x =
+        steady-then old x.mid new (from old _ x.mid (λ i. old.traffic) (begins-by _ _ x.mid out x.between x.begins)) (goes-on x.mid new x.between later x.goes_on)
+
+    entry-by : (b : Bool) (A : Type 0) (i : wire.Install) (old new : Life S) (out later : Output)
+        → MatchBool b (A × Enters meaning group me old.traffic i old new out later) (StaysAs old new out later) → Steady me old new
+    entry-by true A i old new out later x = Fresh i.view (ap (λ (l : Life S). l.traffic) x.1.life)
+    entry-by false A i old new out later x = stays old new out later x
+
+    -- ---- by the packet that came, or the input
+
+    pub install-steady : (q : Address) (i : wire.Install) (old new : Life S) (out later : Output) → TakesInstall meaning group me q i old new out later → Steady me old new
+    install-steady q i old new out later x = entry-by (is_entry (core_of me old) q i) _ i old new out later x
+
+    announces : (p : Address) (old new : Life S) (out later : Output) → AnnouncesView group me p old new out later → Steady me old new
+    announces p old new out later x = Same (ap (λ (l : Life S). l.traffic) x.life)
+
+    admits-by : (b : Bool) (q : Address) (old l new : Life S) (out later : Output) → l.traffic ≡ old.traffic
+        → MatchBool b (Regroups meaning group me (joined me q l) new out later) (Redirects group me q l new out later) → Steady me old new
+    admits-by true q old l new out later e x = from old (joined me q l) new e (regroups (joined me q l) new out later x)
+    admits-by false q old l new out later e x = Same (ap (λ (z : Life S). z.traffic) x.life ∙ e)
+
+    join-by : (b : Bool) (q : Address) (old new : Life S) (out later : Output)
+        → MatchBool b (Admits meaning group me q (outdated me q old) new out later) (StaysAs old new out later) → Steady me old new
+    join-by true q old new out later x = admits-by (leads_now me (outdated me q old)) q old (outdated me q old) new out later (λ i. old.traffic) x
+    join-by false q old new out later x = stays old new out later x
+
+    pub join-steady : (q : Address) (old new : Life S) (out later : Output) → OnJoin meaning group me q old new out later → Steady me old new
+    join-steady q old new out later x = join-by (is_some old.traffic) q old new out later x
+
+    redirect-in : (b : Bool) (c : Address) (old new : Life S) (out later : Output) → MatchBool b (AnnouncesView group me c old new out later) (Asks group me c old new out later) → Steady me old new
+    redirect-in true c old new out later x = announces c old new out later x
+    redirect-in false c old new out later x = Same (ap (λ (l : Life S). l.traffic) x.life)
+
+    redirect-by : (b : Bool) (c : Address) (old new : Life S) (out later : Output)
+        → MatchBool b (StaysAs old new out later) (MatchBool (is_some old.traffic) (AnnouncesView group me c old new out later) (Asks group me c old new out later)) → Steady me old new
+    redirect-by true c old new out later x = stays old new out later x
+    redirect-by false c old new out later x = redirect-in (is_some old.traffic) c old new out later x
+
+    pub redirect-steady : (c : Address) (old new : Life S) (out later : Output) → OnRedirect group me c old new out later → Steady me old new
+    redirect-steady c old new out later x = redirect-by (same_address c me) c old new out later x
+
+    suspect-by : (b : Bool) (p : Address) (old new : Life S) (out later : Output) → MatchBool b (TakesSuspicion meaning group me p old new out later) (StaysAs old new out later) → Steady me old new
+    suspect-by true p old new out later x = from old _ new (λ i. old.traffic) (regroups _ new out later x)
+    suspect-by false p old new out later x = stays old new out later x
+
+    pub suspect-steady : (p : Address) (old new : Life S) (out later : Output) → OnSuspect meaning group me p old new out later → Steady me old new
+    suspect-steady p old new out later x = suspect-by (is_suspectable me p old) p old new out later x
+
+    flush-by : (b : Bool) (w : View) (old new : Life S) (out later : Output) → MatchBool b (TakesFlush group me w old new out later) (StaysAs old new out later) → Steady me old new
+    flush-by true w old new out later x = takes-by (offered w old.promise) w old new out later x
+    flush-by false w old new out later x = stays old new out later x
+
+    pub flush-steady : (q : Address) (w : View) (old new : Life S) (out later : Output) → OnFlush group me q w old new out later → Steady me old new
+    flush-steady q w old new out later x = flush-by (same_address w.id.creator q) w old new out later x
+
+    behind-by : (b : Bool) (counter : ℕ) (old new : Life S) (out later : Output) → MatchBool b (TakesBehind meaning group me counter old new out later) (StaysAs old new out later) → Steady me old new
+    behind-by true counter old new out later x = behind counter old new out later x
+    behind-by false counter old new out later x = stays old new out later x
+
+    pub behind-steady : (w : ViewId) (counter : ℕ) (old new : Life S) (out later : Output) → OnBehind meaning group me w counter old new out later → Steady me old new
+    behind-steady w counter old new out later x = behind-by (is_proposing w old) counter old new out later x
+
+    again-by : (b : Bool) (q : Address) (old new : Life S) (out later : Output)
+        → MatchBool b (SaysAgain q old new out later) (StaysAs old new out later) → Steady me old new
+    again-by true q old new out later x = Same (ap (λ (l : Life S). l.traffic) x.life)
+    again-by false q old new out later x = stays old new out later x
+
+    report-by : (b d : Bool) (q : Address) (w : ViewId) (r : wire.Report) (old new : Life S) (out later : Output)
+        → MatchBool b (TakesReport meaning group me q w r old new out later) (MatchBool d (SaysAgain q old new out later) (StaysAs old new out later)) → Steady me old new
+    report-by true d q w r old new out later x = from old _ new (λ i. old.traffic) (goes-on _ new out later x)
+    report-by false d q w r old new out later x = again-by d q old new out later x
+
+    pub report-steady : (q : Address) (w : ViewId) (r : wire.Report) (old new : Life S) (out later : Output) → OnReport meaning group me q w r old new out later → Steady me old new
+    report-steady q w r old new out later x = report-by (expects q w old) (is_in w old) q w r old new out later x
+
+    meets-by : (b : Bool) (q : Address) (u : View) (old new : Life S) (out later : Output)
+        → MatchBool b (AnnouncesView group me q old new out later) (Regroups meaning group me (merged me u old) new out later) → Steady me old new
+    meets-by true q u old new out later x = announces q old new out later x
+    meets-by false q u old new out later x = from old (merged me u old) new (λ i. old.traffic) (regroups (merged me u old) new out later x)
+
+    merge-in : (b : Bool) (q : Address) (u : View) (old new : Life S) (out later : Output)
+        → MatchBool b (Meets meaning group me q u old new out later) (Redirects group me q old new out later) → Steady me old new
+    merge-in true q u old new out later x = meets-by (is_less q me) q u old new out later x
+    merge-in false q u old new out later x = Same (ap (λ (l : Life S). l.traffic) x.life)
+
+    merge-by : (b : Bool) (q : Address) (u : View) (old new : Life S) (out later : Output)
+        → MatchBool b (MatchBool (leads_now me old) (Meets meaning group me q u old new out later) (Redirects group me q old new out later)) (StaysAs old new out later)
+        → Steady me old new
+    merge-by true q u old new out later x = merge-in (leads_now me old) q u old new out later x
+    merge-by false q u old new out later x = stays old new out later x
+
+    pub merge-steady : (q : Address) (u : View) (old new : Life S) (out later : Output) → OnMerge meaning group me q u old new out later → Steady me old new
+    merge-steady q u old new out later x = merge-by (is_some old.traffic && not (has_member q old)) q u old new out later x

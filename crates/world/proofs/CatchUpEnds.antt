@@ -1,0 +1,236 @@
+-- Whom a catch-up is about, and what comes of it: the two are level, or one has crashed, or both run.
+use Rattle.std.proofs.Common.{◌≡◌, ℕ, ◌+◌, Bool, true, false, cond, not, ◌&&◌, Option, Some, None, [], ◌∷◌, ◌++◌, length, is_some, inl, inr, ◌⊎◌, refl, sym, ap, ◌∙◌, subst}
+use Rattle.std.specs.Prelude.{MatchOption}
+use Rattle.std.specs.Option.{IsSomeAnd, option_map, option_map_or, option_and_then}
+use Rattle.std.proofs.lemmas.Bool.{and_parts}
+use Rattle.std.proofs.lemmas.Option.{none-some, same_Some}
+use Rattle.address.specs.Ids.{Address, ViewId, same_address, same_view_id}
+use Rattle.view.specs.Members.{View}
+use Rattle.wire.specs.declared.packet.Body.TheVariants as bodies
+use Rattle.state_transfer.specs.Meanings.{Meaning}
+use Rattle.trace_props.specs.declared.event.Event.{Event}
+use Rattle.trace_props.specs.declared.event.Event.TheVariants.{Crashed}
+use Rattle.trace_props.proofs.FactOfObserved.{same_address-refl, same_address-true, same_address-sym, same_view_id-true, same_view_id-refl}
+use Rattle.agreement.specs.Cores.{Core, is_frozen}
+use Rattle.agreement.specs.Acts.{packet}
+use Rattle.agreement.proofs.KeepBySteps
+use Rattle.traffic.specs.declared.coordinator.Coordinator.{Coordinator}
+use Rattle.traffic.specs.declared.other.Other.{Other}
+use Rattle.traffic.specs.declared.traffic.Traffic.{Traffic}
+use Rattle.traffic.specs.declared.traffic.Traffic.TheVariants as kinds
+use Rattle.traffic.specs.Traffics.{view_of}
+use Rattle.traffic.specs.Takes.{progress_of}
+use Rattle.membership.specs.declared.life.Life.{Life}
+use Rattle.membership.specs.Lives.{core_of as core_at, view_in}
+use Rattle.member_messages.specs.Ordered.{IsOrderly}
+use Rattle.member.specs.Members.{MemberModel, core_of}
+use Rattle.world_model.specs.declared.WorldEvent.TheVariants.{Deliver, Tick}
+use Rattle.world_model.specs.Histories.{last_of, is_connected}
+use Rattle.world.specs.declared.gaps.Pair.{Pair}
+use Rattle.world.specs.declared.seat.Seat.{Seat}
+use Rattle.world.specs.declared.seat.Seat.TheVariants.{Vacant, Ended, Running}
+use Rattle.world.specs.Seats.{system_of}
+use Rattle.world.specs.Invariant.{IsWorld, IsSeatOf}
+use Rattle.world.specs.Worlds.{WorldModel}
+use Rattle.world.specs.Gaps.{open_view, is_open_in, pair_of, pair_in, pair_at, first_for, lacks_memory, Plays, Hands, CatchesUp, BothRun, IsLevel}
+use Rattle.world.proofs.FactOfPairs
+use Rattle.world.proofs.KeepOfWorlds
+use Rattle.world.proofs.FactOfReplies
+use Rattle.world.proofs.CatchUpLevels
+
+-- ---- one that is open in a view
+
+module _ {S : Type 0} where
+  pub record IsOpen (m : MemberModel S) (v : View) : Type 0 where
+    pub life : Life S
+    pub traffic : Traffic
+    pub lives : m.life ≡ Some life
+    pub keeps : life.traffic ≡ Some traffic
+    pub view : view_of traffic ≡ v
+    pub installed : life.promise.is_installed ≡ true
+
+  open-by : (m : MemberModel S) (v : View) (l : Life S) (t : Traffic) (b : Bool) → m.life ≡ Some l → l.traffic ≡ Some t → l.promise.is_installed ≡ b
+      → cond (is_frozen (Some (view_of t)) b) None (Some (view_of t)) ≡ Some v → IsOpen m v
+  open-by m v l t true lives keeps inst e = record { life = l; traffic = t; lives = lives; keeps = keeps; view = same_Some (view_of t) v e; installed = inst }
+  open-by m v l t false lives keeps inst e = absurd (none-some v e)
+
+  open-life : (m : MemberModel S) (v : View) (l : Life S) (o : Option Traffic) → m.life ≡ Some l → l.traffic ≡ o
+      → cond (is_frozen (option_map view_of o) l.promise.is_installed) None (option_map view_of o) ≡ Some v → IsOpen m v
+  open-life m v l None lives keeps e = absurd (none-some v e)
+  open-life m v l (Some t) lives keeps e = open-by m v l t l.promise.is_installed lives keeps refl e
+
+  pub open-is : (m : MemberModel S) (v : View) → open_view (Running m) ≡ Some v → IsOpen m v
+  open-is m v e = by m.life refl e
+    where
+      by : (o : Option (Life S)) → m.life ≡ o
+          → option_and_then (λ (c : Core S). cond (is_frozen c.view c.installed) None c.view) (option_map (core_at m.address) o) ≡ Some v → IsOpen m v
+      by None lives x = absurd (none-some v x)
+      by (Some l) lives x = open-life m v l l.traffic lives refl x
+
+  -- where a member of an address is open in a view of an id
+  pub record IsOpenIn (p : Address) (v : ViewId) (s : Seat S) : Type 0 where
+    pub member : MemberModel S
+    pub seat : s ≡ Running member
+    pub address : member.address ≡ p
+    pub view : View
+    pub opens : open_view (Running member) ≡ Some view
+    pub id : view.id ≡ v
+
+  viewed : (m : MemberModel S) (p : Address) (v : ViewId) (s : Seat S) (o : Option View) → s ≡ Running m → m.address ≡ p → open_view (Running m) ≡ o
+      → option_map_or (λ (w : View). same_view_id w.id v) o false ≡ true → IsOpenIn p v s
+  viewed m p v s None seat is e x = absurd (let bad : false ≡ true = x in cc)
+  viewed m p v s (Some w) seat is e x = record { member = m; seat = seat; address = is; view = w; opens = e; id = same_view_id-true w.id v x }
+
+  pub open-in : (p : Address) (v : ViewId) (s : Seat S) → is_open_in p v s ≡ true → IsOpenIn p v s
+  open-in p v Vacant x = absurd (let bad : false ≡ true = x in cc)
+  open-in p v (Ended q) x = absurd (let bad : false ≡ true = x in cc)
+  open-in p v (Running m) x =
+      let both = and_parts (same_address m.address p) (option_map_or (λ w. same_view_id w.id v) (open_view (Running m)) false) x in
+      viewed m p v (Running m) (open_view (Running m)) refl (same_address-true m.address p both.0) refl both.1
+
+  -- ---- a pair
+
+  pub record IsPair (at : ℕ → Seat S) (n : ℕ) (pair : Pair) : Type 0 where
+    pub member : MemberModel S
+    pub seat : at n ≡ Running member
+    pub address : member.address ≡ pair.member
+    pub view : View
+    pub opens : open_view (Running member) ≡ Some view
+    pub id : view.id ≡ pair.view
+    pub apart : same_address pair.view.creator pair.member ≡ false
+    pub first : is_open_in pair.view.creator pair.view (at pair.view.creator.node) ≡ true
+
+  paired : (at : ℕ → Seat S) (n : ℕ) (pair : Pair) (m : MemberModel S) (v : View) (a b : Bool) → at n ≡ Running m → open_view (Running m) ≡ Some v
+      → same_address v.id.creator m.address ≡ a → is_open_in v.id.creator v.id (at v.id.creator.node) ≡ b
+      → cond a None (cond b (Some (record { member = m.address; view = v.id })) None) ≡ Some pair → IsPair at n pair
+  paired at n pair m v true b seat opens same first e = absurd (none-some pair e)
+  paired at n pair m v false false seat opens same first e = absurd (none-some pair e)
+  paired at n pair m v false true seat opens same first e =
+      subst (IsPair at n) (same_Some _ pair e)
+      (record { member = m; seat = seat; address = refl; view = v; opens = opens; id = refl; apart = same; first = first })
+
+  pub pair-is : (at : ℕ → Seat S) (n : ℕ) (pair : Pair) → pair_at at n ≡ Some pair → IsPair at n pair
+  pair-is at n pair e = by (at n) refl e
+    where
+      viewed-by : (m : MemberModel S) (o : Option View) → at n ≡ Running m → open_view (Running m) ≡ o → option_and_then (λ (w : View). pair_of at m.address w.id) o ≡ Some pair → IsPair at n pair
+      viewed-by m None seat opens x = absurd (none-some pair x)
+      viewed-by m (Some v) seat opens x = paired at n pair m v _ _ seat opens refl refl x
+
+      by : (s : Seat S) → at n ≡ s → pair_in at s ≡ Some pair → IsPair at n pair
+      by Vacant seat x = absurd (none-some pair x)
+      by (Ended p) seat x = absurd (none-some pair x)
+      by (Running m) seat x = viewed-by m (open_view (Running m)) seat refl x
+
+-- ---- a catch-up
+
+module _ {S : Type 0} (meaning : Meaning S) (laws : KeepBySteps.Laws meaning) where
+  abbrev Keeps : WorldModel S → Type 0
+  Keeps w = IsWorld meaning w.seats w.history
+
+  abbrev Couple : WorldModel S → Address → Address → Life S → Life S → Coordinator → Other → Type 0
+  Couple w c q lc lq kc kq = CatchUpLevels.Couple meaning laws w c q lc lq kc kq
+
+  -- who runs at a node, as it runs
+  seat-of : (w : WorldModel S) (n : ℕ) (m : MemberModel S) → Keeps w → w.seats n ≡ Running m → IsSeatOf n (last_of n w.history.trace) (is_connected n w.history) w.history.trace (Running m)
+  seat-of w n m keeps seat = subst (IsSeatOf n (last_of n w.history.trace) (is_connected n w.history) w.history.trace) seat (keeps.seats n)
+
+  runs-open : (w : WorldModel S) (n : ℕ) (p : Address) (m : MemberModel S) (v : View) → Keeps w → w.seats n ≡ Running m → m.address ≡ p → (o : IsOpen m v)
+      → FactOfReplies.RunsAs meaning w p o.life o.traffic
+  runs-open w n p m v keeps seat is o =
+      let k = seat-of w n m keeps seat in
+      let node : p.node ≡ n = ap (λ (q : Address). q.node) (sym is) ∙ k.1 in
+      record { member = m; seat = ap (λ (j : ℕ). w.seats j) node ∙ seat; address = is; group = k.2.group; life = o.lives; traffic = o.keeps; installed = o.installed }
+
+  orderly-of : (w : WorldModel S) (n : ℕ) (p : Address) (m : MemberModel S) (v : View) → Keeps w → w.seats n ≡ Running m → m.address ≡ p → (o : IsOpen m v) → IsOrderly p o.traffic
+  orderly-of w n p m v keeps seat is o =
+      let k = seat-of w n m keeps seat in
+      subst (λ (q : Address). IsOrderly q o.traffic) is ((k.3 o.life o.lives).ordered o.traffic o.keeps)
+
+  pub record Found (w : WorldModel S) (pair : Pair) : Type 0 where
+    pub first : Life S
+    pub other : Life S
+    pub leads : Coordinator
+    pub follows : Other
+    pub couple : Couple w pair.view.creator pair.member first other leads follows
+    pub id : leads.view.id ≡ pair.view
+
+  module _ (w : WorldModel S) (pair : Pair) (keeps : Keeps w) (apart : same_address pair.view.creator pair.member ≡ false) where
+    abbrev c : Address
+    c = pair.view.creator
+
+    abbrev q : Address
+    q = pair.member
+
+    joined : (lc lq : Life S) (kc : Coordinator) (kq : Other) → FactOfReplies.RunsAs meaning w c lc (kinds.Coordinator kc)
+        → FactOfReplies.RunsAs meaning w q lq (kinds.Other kq) → kc.view.id ≡ pair.view → kq.view.id ≡ pair.view → Found w pair
+    joined lc lq kc kq rc rq ic iq =
+        let one = FactOfPairs.one-view meaning (system_of w.seats w.history.pool w.history.trace) keeps.agreed c q (core_at c lc) (core_at q lq) kc.view kq.view
+        (CatchUpLevels.runs-in meaning laws w c lc (kinds.Coordinator kc) rc) (CatchUpLevels.runs-in meaning laws w q lq (kinds.Other kq) rq)
+        (rw rc.traffic refl) (rw rq.traffic refl) (iq ∙ sym ic) in
+        record {
+          first = lc;
+          other = lq;
+          leads = kc;
+          follows = kq;
+          couple = record { keeps = keeps; first = rc; other = rq; own = ap (λ (v : ViewId). v.creator) ic; same = one; apart = same_address-sym q c ∙ apart };
+          id = ic;
+        }
+
+    -- the coordinator of a view keeps what a coordinator does, and another member what another does
+    kinds-by : (lc lq : Life S) (tc tq : Traffic) → FactOfReplies.RunsAs meaning w c lc tc → FactOfReplies.RunsAs meaning w q lq tq → IsOrderly c tc → IsOrderly q tq
+        → (view_of tc).id ≡ pair.view → (view_of tq).id ≡ pair.view → Found w pair
+    kinds-by lc lq (kinds.Other k) tq rc rq oc oq ic iq =
+        let bad : true ≡ false = sym (same_address-refl c) ∙ ap (λ (v : ViewId). same_address c v.creator) (sym ic) ∙ oc.0 in
+        absurd cc
+    kinds-by lc lq (kinds.Coordinator k) (kinds.Coordinator j) rc rq oc oq ic iq =
+        let bad : true ≡ false = sym oq.0.coordinator ∙ ap (λ (v : ViewId). same_address q v.creator) iq ∙ same_address-sym q c ∙ apart in
+        absurd cc
+    kinds-by lc lq (kinds.Coordinator k) (kinds.Other j) rc rq oc oq ic iq = joined lc lq k j rc rq ic iq
+
+  pub found : (w : WorldModel S) (n : ℕ) (pair : Pair) → Keeps w → pair_at w.seats n ≡ Some pair → Found w pair
+  found w n pair keeps e =
+      let x = pair-is w.seats n pair e in
+      let f = open-in pair.view.creator pair.view (w.seats pair.view.creator.node) x.first in
+      let oq = open-is x.member x.view x.opens in
+      let oc = open-is f.member f.view f.opens in
+      kinds-by w pair keeps x.apart oc.life oq.life oc.traffic oq.traffic
+      (runs-open w pair.view.creator.node pair.view.creator f.member f.view keeps f.seat f.address oc)
+      (runs-open w n pair.member x.member x.view keeps x.seat x.address oq)
+      (orderly-of w pair.view.creator.node pair.view.creator f.member f.view keeps f.seat f.address oc)
+      (orderly-of w n pair.member x.member x.view keeps x.seat x.address oq)
+      (ap (λ (v : View). v.id) oc.view ∙ f.id) (ap (λ (v : View). v.id) oq.view ∙ x.id)
+
+  -- ---- level
+
+  keeps-on : (old new : WorldModel S) (e : _) → Plays meaning old e new → Keeps old → Keeps new
+  keeps-on old new e x w = KeepOfWorlds.step-keeps meaning laws old new e x.step w
+
+  -- after the tick
+  pub announced-so : (old announced : WorldModel S) (pair : Pair) (f : Found old pair) → Plays meaning old (Tick pair.view.creator.node) announced
+      → CatchUpLevels.AnnouncedSo meaning laws old announced pair.view.creator pair.member f.first f.other f.leads f.follows
+  announced-so old announced pair f x =
+      let t = CatchUpLevels.sure meaning laws (lacks_memory x.step.answer) x.whole (FactOfReplies.ticked meaning old announced pair.view.creator f.first f.leads f.couple.first x.step) in
+      CatchUpLevels.announced-by meaning laws old announced pair.view.creator pair.member f.first f.other f.leads f.follows f.couple
+      (keeps-on old announced (Tick pair.view.creator.node) x f.couple.keeps) t
+
+  -- after the STATUS
+  pub asked-so : (old announced asked : WorldModel S) (pair : Pair) (f : Found old pair) (t : CatchUpLevels.AnnouncedSo meaning laws old announced pair.view.creator pair.member f.first f.other f.leads f.follows)
+      → Hands meaning (first_for pair.member (length old.history.pool) announced.history.pool) announced asked
+      → CatchUpLevels.AskedSo meaning laws announced asked pair.view.creator pair.member f.first f.leads
+  asked-so old announced asked pair f t hands =
+      let x : Plays meaning announced (Deliver t.number) asked =
+      subst (λ (o : Option ℕ). Hands meaning o announced asked) t.found hands in
+      let m = packet pair.view.creator (bodies.Status f.leads.view.id (progress_of f.leads.window)) pair.member in
+      let h = CatchUpLevels.sure meaning laws (lacks_memory x.step.answer) x.whole
+      (FactOfReplies.heard meaning announced asked t.number pair.member f.other (kinds.Other f.follows) t.couple.other m t.status x.step) in
+      CatchUpLevels.asked-by meaning laws announced asked pair.view.creator pair.member f.first f.other f.leads f.follows t.couple
+      (keeps-on announced asked (Deliver t.number) x t.couple.keeps) h
+
+  -- what the member delivered in the view is what its coordinator delivered there
+  pub levels : (old new : WorldModel S) (n : ℕ) (pair : Pair) → Keeps old → pair_at old.seats n ≡ Some pair → CatchesUp meaning pair old new → IsLevel pair new.history.trace
+  levels old new n pair keeps e x =
+      let f = found old n pair keeps e in
+      let t = announced-so old x.announced pair f x.ticks in
+      let s = asked-so old x.announced x.asked pair f t x.hears in
+      subst (λ (v : ViewId). CatchUpLevels.Level meaning laws new pair.view.creator pair.member v) f.id
+      (CatchUpLevels.levelled meaning laws x.announced x.asked x.answered pair.view.creator pair.member f.first f.leads s x.asks new x.answers)

@@ -1,0 +1,554 @@
+-- A catch-up brings a member level with the coordinator of its view.
+use Rattle.std.proofs.Common.{◌≡◌, ℕ, zero, suc, ◌+◌, ◌-◌, ◌<◌, ◌≤◌, Bool, true, false, cond, not, ◌&&◌, Option, Some, None, Ok, List, [], ◌∷◌, ◌++◌, map, drop, length, is_some, nat_eq, nat_lt, inl, inr, ◌⊎◌, refl, sym, ap, ◌∙◌, subst, arith}
+use Rattle.std.specs.Prelude.{◌||◌, IsSome}
+use Rattle.std.specs.List.{slice_get, position_from, AllByRecursion}
+use Rattle.std.specs.Option.{option_map, option_map_or}
+use Rattle.std.proofs.lemmas.Bool.{cond-true, cond-false, eqb-true}
+use Rattle.std.proofs.lemmas.Bool.Decides.{nat_tests}
+use Rattle.std.proofs.lemmas.Option.{none-some, same_Some, slice_get-map}
+use Rattle.std.proofs.lemmas.List.{append-nil, length-append, length-map}
+use Rattle.std.proofs.Math.Seq.{drop-append_seam}
+use Rattle.limits.specs.declared.TheConstants.{WINDOW}
+use Rattle.address.specs.Ids.{Address, ViewId, same_address}
+use Rattle.view.specs.Members.{View, stands_in}
+use Rattle.wire.specs.Values.{Entry, Missing, held_at}
+use Rattle.state_transfer.specs.Meanings.{Meaning}
+use Rattle.nak_stream.specs.Windows.{WindowModel, IsLeastGap, IsGreatestGap}
+use Rattle.wire.specs.declared.packet.Body.{Body}
+use Rattle.wire.specs.declared.packet.Body.TheVariants as bodies
+use Rattle.trace_props.specs.declared.event.Event.{Event}
+use Rattle.trace_props.specs.Observed.{delivered_in}
+use Rattle.trace_props.proofs.FactOfObserved.{same_address-refl, same_address-true, same_address-sym}
+use Rattle.trace_props.proofs.FactOfPlaces.{slice_get-before}
+use Rattle.agreement.specs.Histories.{Posted}
+use Rattle.agreement.specs.Cores.{Core, Traffic as CoreTraffic}
+use Rattle.agreement.specs.Acts.{packet, others_of}
+use Rattle.agreement.specs.Packets.{HoldsAll}
+use Rattle.agreement.proofs.Lists.{slice_get-right}
+use Rattle.agreement.proofs.ActBegins.{others-there}
+use Rattle.agreement.proofs.KeepBySteps
+use Rattle.output.specs.declared.output.Output.{Output}
+use Rattle.output.specs.Outputs.{Puts, Grows, spelled}
+use Rattle.traffic.specs.declared.coordinator.Coordinator.{Coordinator}
+use Rattle.traffic.specs.declared.other.Other.{Other}
+use Rattle.traffic.specs.declared.traffic.Traffic.{Traffic}
+use Rattle.traffic.specs.declared.traffic.Traffic.TheVariants as kinds
+use Rattle.traffic.specs.Traffics.{coordinator_traffic, other_traffic}
+use Rattle.traffic.specs.Others.{collected_to, held_too}
+use Rattle.traffic.specs.Takes.{Asks, AsksUpTo, IsComplete, progress_of, orders_held}
+use Rattle.membership.specs.declared.life.Life.{Life}
+use Rattle.membership.specs.Lives.{core_of as core_at, traffic_in}
+use Rattle.member_messages.specs.Hears.{is_near}
+use Rattle.member_messages.specs.Ordered.{IsOrderly, HasNoneNext}
+use Rattle.member.specs.Members.{MemberModel, core_of}
+use Rattle.world_model.specs.declared.WorldEvent.TheVariants.{Deliver, Tick}
+use Rattle.world_model.specs.Histories.{last_of, is_connected}
+use Rattle.world_model.specs.Packets.{world_group, packet_numbered, destination_of}
+use Rattle.world.specs.declared.seat.Seat.{Seat}
+use Rattle.world.specs.declared.seat.Seat.TheVariants.{Running}
+use Rattle.world.specs.Seats.{bytes_of, core_here, system_of}
+use Rattle.world.specs.Turns.{OthersStand}
+use Rattle.world.specs.Invariant.{IsWorld, IsSeatOf}
+use Rattle.world.specs.Worlds.{WorldModel, WorldStep}
+use Rattle.world.specs.Gaps.{is_destined, first_for, lacks_memory, Plays, Delivers, DeliversPast}
+use Rattle.world.specs.Gaps.Delivers.{Still, Next}
+use Rattle.world.proofs.WindowFills.{MissesWithin, asked-within, nothing-missing, collected-delivered, filled}
+use Rattle.world.proofs.FactOfPairs
+use Rattle.world.proofs.FactOfSystem.{runs, core-running}
+use Rattle.world.proofs.FactOfPosts.{EachSound, bytes_for}
+use Rattle.world.proofs.KeepOfWorlds
+use Rattle.world.proofs.FactOfPlayed
+use Rattle.world.proofs.FactOfReplies
+use Rattle.world.proofs.FactOfReplies.{bytes_as, IsSound, goes-to}
+
+-- ---- packets by their numbers
+
+-- these packets are the next past so many
+abbrev pub AreNext : ℕ → List Posted → List (List ℕ) → Type 0
+AreNext past posted pool = (j : ℕ) (m : Posted) → slice_get posted j ≡ Some m → packet_numbered (past + 1 + j) pool ≡ Some (bytes_as m)
+
+numbered : (k : ℕ) (pool : List (List ℕ)) → packet_numbered (k + 1) pool ≡ slice_get pool k
+numbered k pool = let e : nat_eq (k + 1) 0 ≡ false = grind (arith, nat_tests) in let f : (k + 1) - 1 ≡ k = omega arith in rw (e, f) refl
+
+pub put-next : (pool : List (List ℕ)) (posted : List Posted) → AreNext (length pool) posted (pool ++ bytes_for posted)
+put-next pool posted j m at =
+    let e : length pool + 1 + j ≡ length pool + j + 1 = omega arith in
+    ap (λ (k : ℕ). packet_numbered k (pool ++ bytes_for posted)) e ∙ numbered (length pool + j) (pool ++ bytes_for posted)
+    ∙ slice_get-right pool (bytes_for posted) j ∙ by posted j at
+  where
+    by : (l : List Posted) (i : ℕ) → slice_get l i ≡ Some m → slice_get (bytes_for l) i ≡ Some (bytes_as m)
+    by [] i e = absurd (none-some m e)
+    by (x ∷ l) zero e = ap (λ (o : Option Posted). option_map bytes_as o) e
+    by (x ∷ l) (suc i) e = by l i e
+
+stays-by : (k : ℕ) (pool more : List (List ℕ)) (bytes : List ℕ) (b : Bool) → nat_eq k 0 ≡ b → packet_numbered k pool ≡ Some bytes → packet_numbered k (pool ++ more) ≡ Some bytes
+stays-by k pool more bytes true zero_is at = absurd (none-some bytes (sym (cond-true (nat_eq k 0) None (slice_get pool (k - 1)) zero_is) ∙ at))
+stays-by k pool more bytes false some at =
+    cond-false (nat_eq k 0) None (slice_get (pool ++ more) (k - 1)) some
+    ∙ slice_get-before pool more (k - 1) bytes (sym (cond-false (nat_eq k 0) None (slice_get pool (k - 1)) some) ∙ at)
+
+pub number-stays : (k : ℕ) (pool more : List (List ℕ)) (bytes : List ℕ) → packet_numbered k pool ≡ Some bytes → packet_numbered k (pool ++ more) ≡ Some bytes
+number-stays k pool more bytes at = stays-by k pool more bytes (nat_eq k 0) refl at
+
+-- the rest of them, past one more
+pub next-rest : (past : ℕ) (m : Posted) (posted : List Posted) (pool more : List (List ℕ)) → AreNext past (m ∷ posted) pool → AreNext (past + 1) posted (pool ++ more)
+next-rest past m posted pool more each j x at =
+    let e : past + 1 + 1 + j ≡ past + 1 + suc j = omega arith in
+    ap (λ (k : ℕ). packet_numbered k (pool ++ more)) e ∙ number-stays (past + 1 + suc j) pool more (bytes_as x) (each (suc j) x at)
+
+pub next-first : (past : ℕ) (m : Posted) (posted : List Posted) (pool : List (List ℕ)) → AreNext past (m ∷ posted) pool → packet_numbered (past + 1) pool ≡ Some (bytes_as m)
+next-first past m posted pool each = let e : past + 1 ≡ past + 1 + 0 = omega arith in ap (λ (k : ℕ). packet_numbered k pool) e ∙ each 0 m refl
+
+-- the first packet for a member, where each of a list is put out one
+pub record FirstFor (q : Address) (m : Posted) (start : ℕ) (posted : List Posted) : Type 0 where
+  pub place : ℕ
+  pub found : position_from (is_destined q) start (bytes_for posted) ≡ Some (start + place)
+  pub there : slice_get posted place ≡ Some m
+
+right-of : (a b : Bool) → a ≡ false → (a || b) ≡ true → b ≡ true
+right-of true b e x = absurd (let bad : true ≡ false = e in cc)
+right-of false b e x = x
+
+pub first-found : (c q : Address) (b : Body) (list : List Address) (start : ℕ) → EachSound (map (packet c b) list) → stands_in q list ≡ true
+    → FirstFor q (packet c b q) start (map (packet c b) list)
+first-found c q b [] start sound there = absurd (let bad : false ≡ true = there in cc)
+first-found c q b (x ∷ list) start sound there = by (same_address x q) refl (first-found c q b list (start + 1) sound.1)
+  where
+    tested : is_destined q (bytes_as (packet c b x)) ≡ same_address x q
+    tested = ap (λ (o : Option Address). option_map_or (λ z. same_address z q) o false) (goes-to (packet c b x) sound.0)
+
+    by : (z : Bool) → same_address x q ≡ z → (stands_in q list ≡ true → FirstFor q (packet c b q) (start + 1) (map (packet c b) list)) → FirstFor q (packet c b q) start (map (packet c b) (x ∷ list))
+    by true e more =
+        let is : x ≡ q = same_address-true x q e in
+        record {
+          place = 0;
+          found = cond-true (is_destined q (bytes_as (packet c b x))) _ _ (tested ∙ e) ∙ (let n : start ≡ start + 0 = omega arith in ap (λ (k : ℕ). Some k) n);
+          there = ap (λ (y : Address). Some (packet c b y)) is;
+        }
+    by false e more =
+        let other : same_address q x ≡ false = same_address-sym q x ∙ e in
+        let later : stands_in q list ≡ true = right-of (same_address q x) (stands_in q list) other there in
+        let r = more later in
+        record {
+          place = suc r.place;
+          found = cond-false (is_destined q (bytes_as (packet c b x))) _ _ (tested ∙ e) ∙ r.found ∙ (let n : start + 1 + r.place ≡ start + suc r.place = omega arith in ap (λ (k : ℕ). Some k) n);
+          there = r.there;
+        }
+
+each-at : (P : Posted → Type 0) (posted : List Posted) (j : ℕ) (m : Posted) → AllByRecursion P posted → slice_get posted j ≡ Some m → P m
+each-at P [] j m all at = absurd (none-some m at)
+each-at P (x ∷ posted) zero m all at = subst P (same_Some x m at) all.0
+each-at P (x ∷ posted) (suc j) m all at = each-at P posted j m all.1 at
+
+-- ---- no deliveries
+
+module _ {S : Type 0} (meaning : Meaning S) where
+  pub delivers-none : (past n : ℕ) (old new : WorldModel S) → n ≡ 0 → Delivers meaning past n old new → new ≡ old
+  delivers-none _ _ old _ e (Still past w) = refl
+  delivers-none _ _ old _ e (Next past count w mid new plays rest) = absurd (omega (arith, e))
+
+  pub record Delivered (past n : ℕ) (old new : WorldModel S) : Type 0 where
+    pub mid : WorldModel S
+    pub plays : Plays meaning old (Deliver (past + 1)) mid
+    pub rest : Delivers meaning (past + 1) n mid new
+
+  pub delivers-next : (past m n : ℕ) (old new : WorldModel S) → m ≡ suc n → Delivers meaning past m old new → Delivered past n old new
+  delivers-next _ _ n old _ e (Still past w) = absurd (omega (arith, e))
+  delivers-next _ _ n _ _ e (Next past count old mid new plays rest) =
+      let same : count ≡ n = omega (arith, e) in
+      record { mid = mid; plays = plays; rest = subst (λ (k : ℕ). Delivers meaning (past + 1) k mid new) same rest }
+
+-- ---- the two
+
+-- different members run at different nodes
+module _ {S : Type 0} (meaning : Meaning S) (laws : KeepBySteps.Laws meaning) where
+  abbrev pub RunsAs : WorldModel S → Address → Life S → Traffic → Type 0
+  RunsAs w p l t = FactOfReplies.RunsAs meaning w p l t
+
+  same-member : (m n : MemberModel S) → Running m ≡ Running n → m ≡ n
+  same-member m n e = cc
+
+  nodes-by : (w : WorldModel S) (p q : Address) (l k : Life S) (t u : Traffic) → RunsAs w p l t → RunsAs w q k u → same_address q p ≡ false → (b : Bool) → nat_eq p.node q.node ≡ b → b ≡ false
+  nodes-by w p q l k t u x y other false e = refl
+  nodes-by w p q l k t u x y other true e =
+      let node : p.node ≡ q.node = eqb-true p.node q.node e in
+      let seat : Running x.member ≡ Running y.member = sym x.seat ∙ ap (λ (n : ℕ). w.seats n) node ∙ y.seat in
+      let is : p ≡ q = sym x.address ∙ ap (λ (m : MemberModel S). m.address) (same-member x.member y.member seat) ∙ y.address in
+      let bad : true ≡ false = sym (same_address-refl q) ∙ ap (same_address q) (sym is) ∙ other in
+      absurd cc
+
+  pub nodes-apart : (w : WorldModel S) (p q : Address) (l k : Life S) (t u : Traffic) → RunsAs w p l t → RunsAs w q k u → same_address q p ≡ false → nat_eq p.node q.node ≡ false
+  nodes-apart w p q l k t u x y other = nodes-by w p q l k t u x y other (nat_eq p.node q.node) refl
+
+  -- the coordinator of a view and another member of it
+  pub record Couple (w : WorldModel S) (c q : Address) (lc lq : Life S) (kc : Coordinator) (kq : Other) : Type 0 where
+    pub keeps : IsWorld meaning w.seats w.history
+    pub first : RunsAs w c lc (kinds.Coordinator kc)
+    pub other : RunsAs w q lq (kinds.Other kq)
+    pub own : kc.view.id.creator ≡ c
+    pub same : kq.view ≡ kc.view
+    pub apart : same_address q c ≡ false
+
+  pub runs-in : (w : WorldModel S) (p : Address) (l : Life S) (t : Traffic) → RunsAs w p l t → runs w.seats p ≡ Some (core_at p l)
+  runs-in w p l t r = ap (core_here p) r.seat ∙ core-running p r.member r.address ∙ FactOfReplies.core-is meaning w p l t r
+
+  -- how far they have come
+  pub record Numbers (w : WorldModel S) (c q : Address) (kc : Coordinator) (kq : Other) : Type 0 where
+    pub stable : kc.window.stable ≤ kq.window.delivered
+    pub reach : kc.window.delivered ≤ kc.window.stable + WINDOW
+    pub top : kq.window.delivered ≤ kc.window.delivered
+    pub holds : HoldsAll kc.window.stable kc.window.delivered kc.window.held
+    pub listed : stands_in q kc.view.members ≡ true
+    pub coordinator : stands_in c kc.view.members ≡ true
+    pub level : kc.window.delivered ≤ kq.window.delivered → delivered_in q kc.view.id w.history.trace ≡ delivered_in c kc.view.id w.history.trace
+
+  pub numbers : (w : WorldModel S) (c q : Address) (lc lq : Life S) (kc : Coordinator) (kq : Other) → Couple w c q lc lq kc kq → Numbers w c q kc kq
+  numbers w c q lc lq kc kq x =
+      let p = FactOfPairs.compared meaning (system_of w.seats w.history.pool w.history.trace) x.keeps.agreed c q (core_at c lc) (core_at q lq) kc.view (record {
+        coordinator = runs-in w c lc (kinds.Coordinator kc) x.first;
+        member = runs-in w q lq (kinds.Other kq) x.other;
+        own = x.own;
+        leads = rw x.first.traffic refl;
+        inside = rw x.other.traffic (ap (λ (v : View). Some v) x.same);
+      }) in
+      let a : traffic_in lc.traffic ≡ coordinator_traffic kc = rw x.first.traffic refl in
+      let b : traffic_in lq.traffic ≡ other_traffic kq = rw x.other.traffic refl in
+      let s : (traffic_in lc.traffic).stable ≡ kc.window.stable = ap (λ (t : CoreTraffic). t.stable) a in
+      let d : (traffic_in lc.traffic).delivered ≡ kc.window.delivered = ap (λ (t : CoreTraffic). t.delivered) a in
+      let e : (traffic_in lq.traffic).delivered ≡ kq.window.delivered = ap (λ (t : CoreTraffic). t.delivered) b in
+      let stable = p.stable in
+      let reach = p.reach in
+      let top = p.top in
+      record {
+        stable = omega (arith, stable, s, e);
+        reach = omega (arith, reach, s, d);
+        top = omega (arith, top, d, e);
+        holds = subst (λ (t : CoreTraffic). HoldsAll t.stable t.delivered t.held) a p.holds;
+        listed = p.listed;
+        coordinator = p.coordinator_listed;
+        level = λ l. p.level (omega (arith, l, d, e));
+      }
+
+  -- the other holds nothing that comes next
+  pub none-next : (w : WorldModel S) (c q : Address) (lc lq : Life S) (kc : Coordinator) (kq : Other) → Couple w c q lc lq kc kq → held_at (kq.window.delivered + 1) kq.window.held ≡ None
+  none-next w c q lc lq kc kq x =
+      let m = x.other.member in
+      let k : IsSeatOf q.node (last_of q.node w.history.trace) (is_connected q.node w.history) w.history.trace (Running m) =
+      subst (IsSeatOf q.node (last_of q.node w.history.trace) (is_connected q.node w.history) w.history.trace) x.other.seat (x.keeps.seats q.node) in
+      let o : IsOrderly m.address (kinds.Other kq) = (k.3 lq x.other.life).ordered (kinds.Other kq) x.other.traffic in
+      o.1
+
+  -- ---- the steps
+
+  abbrev pub Keeps : WorldModel S → Type 0
+  Keeps w = IsWorld meaning w.seats w.history
+
+  pub lost : {A B : Type 0} (b : Bool) → b ≡ true → ((b ≡ false) × A) ⊎ ((b ≡ true) × B) → B
+  lost b e (inl x) = absurd (let bad : false ≡ true = sym x.0 ∙ e in cc)
+  lost b e (inr x) = x.1
+
+  pub sure : {A B : Type 0} (b : Bool) → b ≡ false → ((b ≡ false) × A) ⊎ ((b ≡ true) × B) → A
+  sure b e (inl x) = x.1
+  sure b e (inr x) = absurd (let bad : true ≡ false = sym x.0 ∙ e in cc)
+
+  -- the coordinator did something, and stays as it was
+  pub coordinator-moves : (old new : WorldModel S) (c q : Address) (lc lq : Life S) (kc : Coordinator) (kq : Other) → Couple old c q lc lq kc kq → Keeps new
+      → RunsAs new c lc (kinds.Coordinator kc) → OthersStand c.node old.seats new.seats → Couple new c q lc lq kc kq
+  coordinator-moves old new c q lc lq kc kq x keeps runs others = record {
+    keeps = keeps;
+    first = runs;
+    other = FactOfReplies.runs-still meaning old q lq (kinds.Other kq) x.other new c (nodes-apart old c q lc lq (kinds.Coordinator kc) (kinds.Other kq) x.first x.other x.apart) others;
+    own = x.own;
+    same = x.same;
+    apart = x.apart;
+  }
+
+  -- the other did something
+  pub other-moves : (old new : WorldModel S) (c q : Address) (lc lq after : Life S) (kc : Coordinator) (kq now : Other) → Couple old c q lc lq kc kq → Keeps new
+      → RunsAs new q after (kinds.Other now) → OthersStand q.node old.seats new.seats → now.view ≡ kq.view → Couple new c q lc after kc now
+  other-moves old new c q lc lq after kc kq now x keeps runs others view =
+      let turned : same_address c q ≡ false = same_address-sym c q ∙ x.apart in
+      record {
+        keeps = keeps;
+        first = FactOfReplies.runs-still meaning old c lc (kinds.Coordinator kc) x.first new q (nodes-apart old q c lq lc (kinds.Other kq) (kinds.Coordinator kc) x.other x.first turned) others;
+        other = runs;
+        own = x.own;
+        same = view ∙ x.same;
+        apart = x.apart;
+      }
+
+  -- ---- the tick, and the STATUS
+
+  pub record AnnouncedSo (old announced : WorldModel S) (c q : Address) (lc lq : Life S) (kc : Coordinator) (kq : Other) : Type 0 where
+    pub couple : Couple announced c q lc lq kc kq
+    pub number : ℕ
+    pub found : first_for q (length old.history.pool) announced.history.pool ≡ Some number
+    pub status : FactOfReplies.IsFor meaning announced number q (packet c (bodies.Status kc.view.id (progress_of kc.window)) q)
+
+  pub announced-by : (old announced : WorldModel S) (c q : Address) (lc lq : Life S) (kc : Coordinator) (kq : Other) → Couple old c q lc lq kc kq → Keeps announced
+      → FactOfReplies.Ticked meaning old announced c lc kc → AnnouncedSo old announced c q lc lq kc kq
+  announced-by old announced c q lc lq kc kq x keeps t =
+      let n = numbers old c q lc lq kc kq x in
+      let body = bodies.Status kc.view.id (progress_of kc.window) in
+      let posted = map (packet c body) (others_of c kc.view.members) in
+      let f = first-found c q body (others_of c kc.view.members) (length old.history.pool + 1) t.sound (others-there c q kc.view.members n.listed x.apart) in
+      let rest : drop (length old.history.pool) announced.history.pool ≡ bytes_for posted = ap (drop (length old.history.pool)) t.puts ∙ drop-append_seam old.history.pool (bytes_for posted) in
+      record {
+        couple = coordinator-moves old announced c q lc lq kc kq x keeps t.runs t.others;
+        number = length old.history.pool + 1 + f.place;
+        found = ap (position_from (is_destined q) (length old.history.pool + 1)) rest ∙ f.found;
+        status = record {
+          there = ap (packet_numbered (length old.history.pool + 1 + f.place)) t.puts ∙ put-next old.history.pool posted f.place (packet c body q) f.there;
+          sound = each-at IsSound posted f.place (packet c body q) t.sound f.there;
+          goes = refl;
+          other = same_address-sym c q ∙ x.apart;
+          plain = refl;
+        };
+      }
+
+  near-by : (w : WorldModel S) (c q : Address) (kc : Coordinator) (kq : Other) → Numbers w c q kc kq → is_near (progress_of kc.window) kq ≡ true
+  near-by w c q kc kq n =
+      let stable = n.stable in
+      let reach = n.reach in
+      let a : nat_lt kq.window.delivered kc.window.stable ≡ false = grind (arith, nat_tests) in
+      let far : kc.window.delivered - WINDOW ≤ kq.window.delivered = omega (arith, stable, reach) in
+      let b : nat_lt kq.window.delivered (kc.window.delivered - WINDOW) ≡ false = grind (arith, nat_tests) in
+      rw (a, b) refl
+
+  own-of : (v w : View) (c : Address) → w ≡ v → v.id.creator ≡ c → w.id.creator ≡ c
+  own-of v w c same own = ap (λ (z : View). z.id.creator) same ∙ own
+
+  listed-of : (v w : View) (c : Address) → w ≡ v → stands_in c v.members ≡ true → stands_in c w.members ≡ true
+  listed-of v w c same there = ap (λ (z : View). stands_in c z.members) same ∙ there
+
+  -- it heard the STATUS
+  pub record AskedSo (announced asked : WorldModel S) (c q : Address) (lc : Life S) (kc : Coordinator) : Type 0 where
+    pub after : Life S
+    pub now : Other
+    pub couple : Couple asked c q lc after kc now
+    pub start : Output
+    pub out : Output
+    pub nothing : Puts [] [] start
+    pub asks : AsksUpTo q world_group kc.window.delivered now start out
+    pub puts : asked.history.pool ≡ announced.history.pool ++ map bytes_of out.packets.items
+
+  pub asked-by : (announced asked : WorldModel S) (c q : Address) (lc lq : Life S) (kc : Coordinator) (kq : Other) → Couple announced c q lc lq kc kq → Keeps asked
+      → FactOfReplies.Heard meaning announced asked q lq (packet c (bodies.Status kc.view.id (progress_of kc.window)) q) → AskedSo announced asked c q lc kc
+  asked-by announced asked c q lc lq kc kq x keeps h =
+      let n = numbers announced c q lc lq kc kq x in
+      let a = progress_of kc.window in
+      let r = FactOfReplies.asked meaning announced asked c q lq kq a x.other (own-of kc.view kq.view c x.same x.own) (listed-of kc.view kq.view c x.same n.coordinator)
+      (near-by announced c q kc kq n)
+      (subst (λ (v : View). FactOfReplies.Heard meaning announced asked q lq (packet c (bodies.Status v.id a) q)) (sym x.same) h) in
+      record {
+        after = r.after;
+        now = r.now;
+        couple = other-moves announced asked c q lc lq r.after kc kq r.now x keeps r.runs r.others (ap (λ (o : Other). o.view) r.is);
+        start = r.start;
+        out = r.out;
+        nothing = r.nothing;
+        asks = r.asks;
+        puts = r.puts;
+      }
+
+  -- ---- the answers
+
+  pub record Ended (new : WorldModel S) (c q : Address) (lc : Life S) (kc : Coordinator) (last : ℕ) : Type 0 where
+    pub life : Life S
+    pub now : Other
+    pub couple : Couple new c q lc life kc now
+    pub within : MissesWithin (last + 1) last kc.window.delivered now.window
+
+  some-of : (o : Option Entry) → is_some o ≡ true → (e : Entry) × (o ≡ Some e)
+  some-of None x = absurd (let bad : false ≡ true = x in cc)
+  some-of (Some e) x = (e, refl)
+
+  -- one ORDER is heard
+  pub record Round (w mid : WorldModel S) (c q : Address) (lc : Life S) (kc : Coordinator) (g last : ℕ) : Type 0 where
+    pub life : Life S
+    pub now : Other
+    pub couple : Couple mid c q lc life kc now
+    pub within : MissesWithin (g + 1) last kc.window.delivered now.window
+    pub more : List (List ℕ)
+    pub puts : mid.history.pool ≡ w.history.pool ++ more
+
+  pub round : (w mid : WorldModel S) (c q : Address) (lc lq : Life S) (kc : Coordinator) (kq : Other) (g last : ℕ) (e : Entry) → Couple w c q lc lq kc kq
+      → MissesWithin g last kc.window.delivered kq.window → g ≤ kc.window.delivered → IsSound (packet c (bodies.Order kc.view.id g e) q) → Keeps mid
+      → FactOfReplies.Heard meaning w mid q lq (packet c (bodies.Order kc.view.id g e) q) → Round w mid c q lc kc g last
+  round w mid c q lc lq kc kq g last e x within known sound keeps h =
+      let n = numbers w c q lc lq kc kq x in
+      let stable = n.stable in
+      let reach = n.reach in
+      let far : g - WINDOW ≤ kq.window.delivered = omega (arith, stable, reach, known) in
+      let near : nat_lt kq.window.delivered (g - WINDOW) ≡ false = grind (arith, nat_tests) in
+      let r = FactOfReplies.ordered meaning w mid c q lq kq g e x.other (own-of kc.view kq.view c x.same x.own) (listed-of kc.view kq.view c x.same n.coordinator) near
+      (subst (λ (v : View). FactOfReplies.Heard meaning w mid q lq (packet c (bodies.Order v.id g e) q)) (sym x.same) h) in
+      record {
+        life = r.after;
+        now = r.now;
+        couple = other-moves w mid c q lc lq r.after kc kq r.now x keeps r.runs r.others r.takes.delivers.view;
+        within = filled q g last kc.window.delivered e kq (held_too g e (collected_to (g - WINDOW) kq)) r.now r.takes.delivers.entries sound.body.1.1 far refl r.takes.delivers.delivers within;
+        more = map bytes_of r.out.packets.items;
+        puts = r.puts;
+      }
+
+  abbrev pub orders : Address → Address → Coordinator → ℕ → ℕ → List Posted
+  orders c q kc g n = orders_held c kc.view q kc.window.held g n
+
+  pub record OrderAt (c q : Address) (kc : Coordinator) (n g : ℕ) : Type 0 where
+    pub entry : Entry
+    pub is : orders c q kc g (suc n) ≡ packet c (bodies.Order kc.view.id g entry) q ∷ orders c q kc (g + 1) n
+
+  -- the next answer is the ORDER of the next number
+  pub order-at : (w : WorldModel S) (c q : Address) (lc lq : Life S) (kc : Coordinator) (kq : Other) (n g last : ℕ) → Couple w c q lc lq kc kq → g + suc n ≡ last + 1 → kc.window.stable < g
+      → last ≤ kc.window.delivered → OrderAt c q kc n g
+  order-at w c q lc lq kc kq n g last x count low high =
+      let known : g ≤ kc.window.delivered = omega (arith, count, high) in
+      let e = some-of (held_at g kc.window.held) ((numbers w c q lc lq kc kq x).holds g low known) in
+      record {
+        entry = e.0;
+        is = ap (λ (o : Option Entry). option_map_or (λ y. packet c (bodies.Order kc.view.id g y) q ∷ []) o [] ++ orders c q kc (g + 1) n) e.1;
+      }
+
+  pub rounds : (n g past : ℕ) (w new : WorldModel S) (c q : Address) (lc lq : Life S) (kc : Coordinator) (kq : Other) (last : ℕ) → Couple w c q lc lq kc kq
+      → MissesWithin g last kc.window.delivered kq.window → g + n ≡ last + 1 → kc.window.stable < g → last ≤ kc.window.delivered → EachSound (orders c q kc g n)
+      → AreNext past (orders c q kc g n) w.history.pool → Delivers meaning past (length (orders c q kc g n)) w new → Ended new c q lc kc last
+  rounds zero g past w new c q lc lq kc kq last x within count low high sound next all =
+      let is : new ≡ w = delivers-none meaning past 0 w new refl all in
+      let end : g ≡ last + 1 = omega (arith, count) in
+      record {
+        life = lq;
+        now = kq;
+        couple = subst (λ (v : WorldModel S). Couple v c q lc lq kc kq) (sym is) x;
+        within = subst (λ (k : ℕ). MissesWithin k last kc.window.delivered kq.window) end within;
+      }
+  rounds (suc n) g past w new c q lc lq kc kq last x within count low high sound next all =
+      let known : g ≤ kc.window.delivered = omega (arith, count, high) in
+      let o = order-at w c q lc lq kc kq n g last x count low high in
+      let m = packet c (bodies.Order kc.view.id g o.entry) q in
+      let rest = orders c q kc (g + 1) n in
+      let sounds : EachSound (m ∷ rest) = subst EachSound o.is sound in
+      let nexts : AreNext past (m ∷ rest) w.history.pool = subst (λ (l : List Posted). AreNext past l w.history.pool) o.is next in
+      let d = delivers-next meaning past (length (m ∷ rest)) (length rest) w new refl
+      (subst (λ (l : List Posted). Delivers meaning past (length l) w new) o.is all) in
+      let f : FactOfReplies.IsFor meaning w (past + 1) q m =
+      record { there = next-first past m rest w.history.pool nexts; sound = sounds.0; goes = refl; other = same_address-sym c q ∙ x.apart; plain = refl } in
+      let h = sure (lacks_memory d.plays.step.answer) d.plays.whole (FactOfReplies.heard meaning w d.mid (past + 1) q lq (kinds.Other kq) x.other m f d.plays.step) in
+      let keeps = KeepOfWorlds.step-keeps meaning laws w d.mid (Deliver (past + 1)) d.plays.step x.keeps in
+      let r = round w d.mid c q lc lq kc kq g last o.entry x within known sounds.0 keeps h in
+      rounds n (g + 1) (past + 1) d.mid new c q lc r.life kc r.now last r.couple r.within (omega (arith, count)) (omega (arith, low)) high sounds.1
+      (subst (AreNext (past + 1) rest) (sym r.puts) (next-rest past m rest w.history.pool r.more nexts)) d.rest
+
+  -- ---- the whole
+
+  abbrev pub Level : WorldModel S → Address → Address → ViewId → Type 0
+  Level w c q v = delivered_in q v w.history.trace ≡ delivered_in c v w.history.trace
+
+  ended-level : (new : WorldModel S) (c q : Address) (lc : Life S) (kc : Coordinator) (last : ℕ) → Ended new c q lc kc last → Level new c q kc.view.id
+  ended-level new c q lc kc last x =
+      (numbers new c q lc x.life kc x.now x.couple).level
+      (nothing-missing x.now.window kc.window.delivered (λ g past known. x.within g past known (by g (nat_lt last g) refl)) (none-next new c q lc x.life kc x.now x.couple))
+    where
+      by : (g : ℕ) (b : Bool) → nat_lt last g ≡ b → (g < last + 1) ⊎ (last < g)
+      by g true e = let z : last < g = grind (arith, nat_tests) in inr z
+      by g false e = let z : g < last + 1 = grind (arith, nat_tests) in inl z
+
+  pub no-more : (xs ys : List (List ℕ)) → xs ≡ ys → length xs - length ys ≡ 0
+  no-more xs ys e = let l : length xs ≡ length ys = ap length e in omega (arith, l)
+
+  some-more : (xs ys : List (List ℕ)) (posted : List Posted) → xs ≡ ys ++ bytes_for posted → length xs - length ys ≡ length posted
+  some-more xs ys posted e =
+      let l : length xs ≡ length ys + length (bytes_for posted) = ap length e ∙ length-append ys (bytes_for posted) in
+      let m : length (bytes_for posted) ≡ length posted = length-map (map (spelled world_group) posted) bytes_of ∙ length-map posted (spelled world_group) in
+      omega (arith, l, m)
+
+  -- the NAK that it put out, if it asks
+  pub record Nak (announced asked : WorldModel S) (c q : Address) (lc : Life S) (kc : Coordinator) (missing : Missing) : Type 0 where
+    pub many : length asked.history.pool - length announced.history.pool ≡ 1
+    pub packet : FactOfReplies.IsFor meaning asked (length announced.history.pool + 1) c (packet q (bodies.Nak kc.view.id missing) c)
+
+  module _ (announced asked : WorldModel S) (c q : Address) (lc : Life S) (kc : Coordinator) (s : AskedSo announced asked c q lc kc) where
+    pub silent-pool : s.out ≡ s.start → asked.history.pool ≡ announced.history.pool
+    silent-pool silent =
+        s.puts ∙ ap (λ (l : List _). announced.history.pool ++ map bytes_of l) (ap (λ (o : Output). o.packets.items) silent ∙ s.nothing.packets) ∙ append-nil announced.history.pool
+
+    pub nak-of : (k : Asks q world_group kc.window.delivered s.now s.start s.out) → Nak announced asked c q lc kc k.missing
+    nak-of k =
+        let nak = packet q (bodies.Nak kc.view.id k.missing) c in
+        let is : packet q (bodies.Nak s.now.view.id k.missing) s.now.view.id.creator ≡ nak =
+        ap (λ (v : View). packet q (bodies.Nak v.id k.missing) v.id.creator) s.couple.same ∙ ap (packet q (bodies.Nak kc.view.id k.missing)) s.couple.own in
+        let grows : Grows world_group s.start s.out (nak ∷ []) [] = subst (λ (m : Posted). Grows world_group s.start s.out (m ∷ []) []) is k.grows in
+        let pool : asked.history.pool ≡ announced.history.pool ++ bytes_for (nak ∷ []) =
+        s.puts ∙ ap (λ (ps : List (List ℕ)). announced.history.pool ++ ps) (FactOfReplies.put-out meaning s.start s.out s.nothing (nak ∷ []) [] grows) in
+        let next : AreNext (length announced.history.pool) (nak ∷ []) asked.history.pool = subst (AreNext (length announced.history.pool) (nak ∷ [])) (sym pool) (put-next announced.history.pool (nak ∷ [])) in
+        record {
+          many = some-more asked.history.pool announced.history.pool (nak ∷ []) pool;
+          packet = record { there = next-first (length announced.history.pool) nak [] asked.history.pool next; sound = grows.sound.0; goes = refl; other = s.couple.apart; plain = refl };
+        }
+
+  module _ (announced asked replied : WorldModel S) (c q : Address) (lc : Life S) (kc : Coordinator) (s : AskedSo announced asked c q lc kc)
+      (asks : DeliversPast meaning (length announced.history.pool) asked replied) where
+    -- nothing was missing, and nothing is asked
+    pub none-asked : s.out ≡ s.start → replied ≡ asked
+    none-asked silent =
+        delivers-none meaning (length announced.history.pool) (length asked.history.pool - length announced.history.pool) asked replied
+        (no-more asked.history.pool announced.history.pool (silent-pool announced asked c q lc kc s silent)) asks
+
+    -- or it asked, and was answered by the ORDERs of all that it misses
+    pub record Replied : Type 0 where
+      pub first : ℕ
+      pub last : ℕ
+      pub couple : Couple replied c q lc s.after kc s.now
+      pub within : MissesWithin first last kc.window.delivered s.now.window
+      pub count : first + (last + 1 - first) ≡ last + 1
+      pub low : kc.window.stable < first
+      pub high : last ≤ kc.window.delivered
+      pub sound : EachSound (orders c q kc first (last + 1 - first))
+      pub next : AreNext (length asked.history.pool) (orders c q kc first (last + 1 - first)) replied.history.pool
+      pub many : length replied.history.pool - length asked.history.pool ≡ length (orders c q kc first (last + 1 - first))
+
+    pub replied-so : (k : Asks q world_group kc.window.delivered s.now s.start s.out) → Replied
+    replied-so k =
+        let n = numbers asked c q lc s.after kc s.now s.couple in
+        let nak = nak-of announced asked c q lc kc s k in
+        let d = delivers-next meaning (length announced.history.pool) (length asked.history.pool - length announced.history.pool) 0 asked replied nak.many asks in
+        let mid : replied ≡ d.mid = delivers-none meaning (length announced.history.pool + 1) 0 d.mid replied refl d.rest in
+        let h = sure (lacks_memory d.plays.step.answer) d.plays.whole
+        (FactOfReplies.heard meaning asked d.mid (length announced.history.pool + 1) c lc (kinds.Coordinator kc) s.couple.first _ nak.packet d.plays.step) in
+        let keeps = KeepOfWorlds.step-keeps meaning laws asked d.mid (Deliver (length announced.history.pool + 1)) d.plays.step s.couple.keeps in
+        let r = FactOfReplies.answered meaning asked d.mid c q lc kc k.missing s.couple.first n.listed h in
+        let first = k.missing.first in
+        let last = k.missing.last in
+        let list = orders c q kc first (last + 1 - first) in
+        let low : s.now.window.delivered < first = k.least.missing.undelivered in
+        let rising : first ≤ last = k.least.least last k.greatest.missing in
+        let stable = n.stable in
+        record {
+          first = first;
+          last = last;
+          couple = subst (λ (w : WorldModel S). Couple w c q lc s.after kc s.now) (sym mid) (coordinator-moves asked d.mid c q lc s.after kc s.now s.couple keeps r.runs r.others);
+          within = asked-within s.now.window kc.window.delivered first last k.least k.greatest;
+          count = omega (arith, rising);
+          low = omega (arith, low, stable);
+          high = k.greatest.missing.known;
+          sound = r.sound;
+          next = subst (λ (w : WorldModel S). AreNext (length asked.history.pool) list w.history.pool) (sym mid)
+              (subst (AreNext (length asked.history.pool) list) (sym r.puts) (put-next asked.history.pool list));
+          many = some-more replied.history.pool asked.history.pool list (ap (λ (w : WorldModel S). w.history.pool) mid ∙ r.puts);
+        }
+
+    pub levelled : (new : WorldModel S) → DeliversPast meaning (length asked.history.pool) replied new → Level new c q kc.view.id
+    levelled new answers = by s.asks
+      where
+        by : AsksUpTo q world_group kc.window.delivered s.now s.start s.out → Level new c q kc.view.id
+        by (inl k) =
+            let r = replied-so k in
+            ended-level new c q lc kc r.last
+            (rounds (r.last + 1 - r.first) r.first (length asked.history.pool) replied new c q lc s.after kc s.now r.last r.couple r.within r.count r.low r.high r.sound r.next
+            (subst (λ (j : ℕ). Delivers meaning (length asked.history.pool) j replied new) r.many answers))
+        by (inr k) =
+            let a = none-asked k.1 in
+            let b : new ≡ replied = delivers-none meaning (length asked.history.pool) (length replied.history.pool - length asked.history.pool) replied new
+            (no-more replied.history.pool asked.history.pool (ap (λ (w : WorldModel S). w.history.pool) a)) answers in
+            subst (λ (w : WorldModel S). Level w c q kc.view.id) (sym (b ∙ a))
+            ((numbers asked c q lc s.after kc s.now s.couple).level (nothing-missing s.now.window kc.window.delivered k.0 (none-next asked c q lc s.after kc s.now s.couple)))

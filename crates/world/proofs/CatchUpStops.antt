@@ -1,0 +1,209 @@
+-- A catch-up that ends in an error: the coordinator or the member has crashed at last, or both run as before.
+use Rattle.std.proofs.Common.{◌≡◌, ℕ, zero, suc, ◌+◌, ◌-◌, ◌<◌, ◌≤◌, Bool, true, false, cond, Option, Some, None, List, [], ◌∷◌, ◌++◌, length, inl, inr, ◌⊎◌, refl, sym, ap, ◌∙◌, subst, arith, ⊎_elim}
+use Rattle.std.specs.Option.{IsSomeAnd, option_map_or, option_and_then}
+use Rattle.std.proofs.lemmas.Bool.{and_from}
+use Rattle.address.specs.Ids.{Address, ViewId, same_address, same_view_id}
+use Rattle.view.specs.Members.{View}
+use Rattle.wire.specs.Values.{Entry, held_at}
+use Rattle.wire.specs.declared.packet.Body.TheVariants as bodies
+use Rattle.state_transfer.specs.Meanings.{Meaning}
+use Rattle.trace_props.specs.declared.event.Event.TheVariants.{Crashed}
+use Rattle.trace_props.proofs.FactOfObserved.{same_address-refl, same_address-sym, same_view_id-refl}
+use Rattle.agreement.specs.Histories.{Posted}
+use Rattle.agreement.specs.Cores.{Core, is_frozen}
+use Rattle.agreement.specs.Acts.{packet}
+use Rattle.agreement.proofs.KeepBySteps
+use Rattle.traffic.specs.declared.coordinator.Coordinator.{Coordinator}
+use Rattle.traffic.specs.declared.other.Other.{Other}
+use Rattle.traffic.specs.declared.traffic.Traffic.{Traffic}
+use Rattle.traffic.specs.declared.traffic.Traffic.TheVariants as kinds
+use Rattle.traffic.specs.Traffics.{view_of}
+use Rattle.traffic.specs.Takes.{AsksUpTo, progress_of}
+use Rattle.membership.specs.declared.life.Life.{Life}
+use Rattle.member.specs.Members.{core_of}
+use Rattle.world_model.specs.declared.WorldEvent.{WorldEvent}
+use Rattle.world_model.specs.declared.WorldEvent.TheVariants.{Deliver, Tick}
+use Rattle.world_model.specs.Packets.{world_group}
+use Rattle.world.specs.declared.gaps.Pair.{Pair}
+use Rattle.world.specs.declared.seat.Seat.{Seat}
+use Rattle.world.specs.declared.seat.Seat.TheVariants.{Running}
+use Rattle.world.specs.Invariant.{IsWorld}
+use Rattle.world.specs.Worlds.{WorldModel}
+use Rattle.world.specs.Gaps.{open_view, is_open_in, pair_at, first_for, lacks_memory, Plays, Hands, Fails, Breaks, BreaksPast, DeliversPast, Stops, LosesOne, BothRun, EndsSo}
+use Rattle.world.specs.Gaps.Breaks.{Here, Later}
+use Rattle.world.specs.Gaps.Stops.{AtTick, AtStatus, AtRequest, AtAnswer}
+use Rattle.world.proofs.WindowFills.{MissesWithin}
+use Rattle.world.proofs.FactOfPosts.{EachSound}
+use Rattle.world.proofs.KeepOfWorlds
+use Rattle.world.proofs.FactOfReplies
+use Rattle.world.proofs.CatchUpLevels
+use Rattle.world.proofs.CatchUpLevels.{AreNext, next-first, next-rest}
+use Rattle.world.proofs.CatchUpEnds
+
+module _ {S : Type 0} (meaning : Meaning S) where
+  pub breaks-none : (past n : ℕ) (old new : WorldModel S) → n ≡ 0 → Breaks meaning past n old new → ⊥
+  breaks-none _ _ _ _ e (Here past count old new fails) = absurd (omega (arith, e))
+  breaks-none _ _ _ _ e (Later past count old mid new plays rest) = absurd (omega (arith, e))
+
+  pub record BreaksLater (past n : ℕ) (old new : WorldModel S) : Type 0 where
+    pub mid : WorldModel S
+    pub plays : Plays meaning old (Deliver (past + 1)) mid
+    pub rest : Breaks meaning (past + 1) n mid new
+
+  pub breaks-next : (past m n : ℕ) (old new : WorldModel S) → m ≡ suc n → Breaks meaning past m old new
+      → Fails meaning old (Deliver (past + 1)) new ⊎ BreaksLater past n old new
+  breaks-next _ _ n _ _ e (Here past count old new fails) = inl fails
+  breaks-next _ _ n _ _ e (Later past count old mid new plays rest) =
+      let same : count ≡ n = omega (arith, e) in
+      inr (record { mid = mid; plays = plays; rest = subst (λ (k : ℕ). Breaks meaning (past + 1) k mid new) same rest })
+
+  -- who runs in a view is open there
+  open-run : (w : WorldModel S) (p : Address) (l : Life S) (t : Traffic) (v : ViewId) (r : FactOfReplies.RunsAs meaning w p l t) → (view_of t).id ≡ v → is_open_in p v (w.seats p.node) ≡ true
+  open-run w p l t v r id =
+      let view : open_view (Running r.member) ≡ Some (view_of t) = rw (FactOfReplies.core-is meaning w p l t r, r.traffic, r.installed) refl in
+      let same : same_address r.member.address p ≡ true = ap (λ z. same_address z p) r.address ∙ same_address-refl p in
+      let seen : option_map_or (λ (x : View). same_view_id x.id v) (open_view (Running r.member)) false ≡ true =
+      ap (λ (o : Option View). option_map_or (λ (x : View). same_view_id x.id v) o false) view ∙ ap (λ (x : ViewId). same_view_id x v) id ∙ same_view_id-refl v in
+      subst (λ (s : Seat S). is_open_in p v s ≡ true) (sym r.seat) (and_from (same_address r.member.address p) _ same seen)
+
+module _ {S : Type 0} (meaning : Meaning S) (laws : KeepBySteps.Laws meaning) where
+  abbrev Couple : WorldModel S → Address → Address → Life S → Life S → Coordinator → Other → Type 0
+  Couple w c q lc lq kc kq = CatchUpLevels.Couple meaning laws w c q lc lq kc kq
+
+  -- both of a couple run
+  both-run : (w : WorldModel S) (pair : Pair) (lc lq : Life S) (kc : Coordinator) (kq : Other) → Couple w pair.view.creator pair.member lc lq kc kq → kc.view.id ≡ pair.view → BothRun pair w
+  both-run w pair lc lq kc kq x id = record {
+    coordinator = open-run meaning w pair.view.creator lc (kinds.Coordinator kc) pair.view x.first id;
+    member = open-run meaning w pair.member lq (kinds.Other kq) pair.view x.other (ap (λ (v : View). v.id) x.same ∙ id);
+  }
+
+  -- ---- one step that fails
+
+  ends-tick : (old new : WorldModel S) (pair : Pair) (lc lq : Life S) (kc : Coordinator) (kq : Other) → Couple old pair.view.creator pair.member lc lq kc kq → kc.view.id ≡ pair.view
+      → Fails meaning old (Tick pair.view.creator.node) new → EndsSo pair new
+  ends-tick old new pair lc lq kc kq x id (inl same) = inr (subst (BothRun pair) (sym same) (both-run old pair lc lq kc kq x id))
+  ends-tick old new pair lc lq kc kq x id (inr f) =
+      let y = CatchUpLevels.lost meaning laws (lacks_memory f.0.answer) f.1 (FactOfReplies.ticked meaning old new pair.view.creator lc kc x.first f.0) in
+      inl (record { before = old.history.trace; crash = inl y.trace })
+
+  -- a packet to the coordinator
+  ends-first : (w new : WorldModel S) (pair : Pair) (lc lq : Life S) (kc : Coordinator) (kq : Other) (k : ℕ) (m : Posted) → Couple w pair.view.creator pair.member lc lq kc kq
+      → kc.view.id ≡ pair.view → FactOfReplies.IsFor meaning w k pair.view.creator m → Fails meaning w (Deliver k) new → EndsSo pair new
+  ends-first w new pair lc lq kc kq k m x id f (inl same) = inr (subst (BothRun pair) (sym same) (both-run w pair lc lq kc kq x id))
+  ends-first w new pair lc lq kc kq k m x id f (inr y) =
+      let z = CatchUpLevels.lost meaning laws (lacks_memory y.0.answer) y.1
+      (FactOfReplies.heard meaning w new k pair.view.creator lc (kinds.Coordinator kc) x.first m f y.0) in
+      inl (record { before = w.history.trace; crash = inl z.trace })
+
+  -- and one to the member
+  ends-other : (w new : WorldModel S) (pair : Pair) (lc lq : Life S) (kc : Coordinator) (kq : Other) (k : ℕ) (m : Posted) → Couple w pair.view.creator pair.member lc lq kc kq
+      → kc.view.id ≡ pair.view → FactOfReplies.IsFor meaning w k pair.member m → Fails meaning w (Deliver k) new → EndsSo pair new
+  ends-other w new pair lc lq kc kq k m x id f (inl same) = inr (subst (BothRun pair) (sym same) (both-run w pair lc lq kc kq x id))
+  ends-other w new pair lc lq kc kq k m x id f (inr y) =
+      let z = CatchUpLevels.lost meaning laws (lacks_memory y.0.answer) y.1
+      (FactOfReplies.heard meaning w new k pair.member lq (kinds.Other kq) x.other m f y.0) in
+      inl (record { before = w.history.trace; crash = inr z.trace })
+
+  -- ---- the answers
+
+  rounds-break : (n g past : ℕ) (w new : WorldModel S) (pair : Pair) (lc lq : Life S) (kc : Coordinator) (kq : Other) (last : ℕ) → Couple w pair.view.creator pair.member lc lq kc kq
+      → kc.view.id ≡ pair.view → MissesWithin g last kc.window.delivered kq.window → g + n ≡ last + 1 → kc.window.stable < g → last ≤ kc.window.delivered
+      → EachSound (CatchUpLevels.orders meaning laws pair.view.creator pair.member kc g n)
+      → AreNext past (CatchUpLevels.orders meaning laws pair.view.creator pair.member kc g n) w.history.pool
+      → Breaks meaning past (length (CatchUpLevels.orders meaning laws pair.view.creator pair.member kc g n)) w new → EndsSo pair new
+  rounds-break zero g past w new pair lc lq kc kq last x id within count low high sound next all = absurd (breaks-none meaning past 0 w new refl all)
+  rounds-break (suc n) g past w new pair lc lq kc kq last x id within count low high sound next all =
+      let c = pair.view.creator in
+      let q = pair.member in
+      let o = CatchUpLevels.order-at meaning laws w c q lc lq kc kq n g last x count low high in
+      let m = packet c (bodies.Order kc.view.id g o.entry) q in
+      let rest = CatchUpLevels.orders meaning laws c q kc (g + 1) n in
+      let sounds : EachSound (m ∷ rest) = subst EachSound o.is sound in
+      let nexts : AreNext past (m ∷ rest) w.history.pool = subst (λ (l : List Posted). AreNext past l w.history.pool) o.is next in
+      let f : FactOfReplies.IsFor meaning w (past + 1) q m =
+      record { there = next-first past m rest w.history.pool nexts; sound = sounds.0; goes = refl; other = same_address-sym c q ∙ x.apart; plain = refl } in
+      ⊎_elim (λ fails. ends-other w new pair lc lq kc kq (past + 1) m x id f fails)
+      (λ d.
+      let h = CatchUpLevels.sure meaning laws (lacks_memory d.plays.step.answer) d.plays.whole
+      (FactOfReplies.heard meaning w d.mid (past + 1) q lq (kinds.Other kq) x.other m f d.plays.step) in
+      let keeps = KeepOfWorlds.step-keeps meaning laws w d.mid (Deliver (past + 1)) d.plays.step x.keeps in
+      let known : g ≤ kc.window.delivered = omega (arith, count, high) in
+      let r = CatchUpLevels.round meaning laws w d.mid c q lc lq kc kq g last o.entry x within known sounds.0 keeps h in
+      rounds-break n (g + 1) (past + 1) d.mid new pair lc r.life kc r.now last r.couple id r.within (omega (arith, count)) (omega (arith, low)) high sounds.1
+      (subst (AreNext (past + 1) rest) (sym r.puts) (next-rest past m rest w.history.pool r.more nexts)) d.rest)
+      (breaks-next meaning past (length (m ∷ rest)) (length rest) w new refl (subst (λ (l : List Posted). Breaks meaning past (length l) w new) o.is all))
+
+  -- ---- all stages
+
+  pub ends : (old new : WorldModel S) (n : ℕ) (pair : Pair) → IsWorld meaning old.seats old.history → pair_at old.seats n ≡ Some pair
+      → Stops meaning pair old new → EndsSo pair new
+  ends old _ n pair keeps e (AtTick new fails) =
+      let f = CatchUpEnds.found meaning laws old n pair keeps e in
+      ends-tick old new pair f.first f.other f.leads f.follows f.couple f.id fails
+  ends old _ n pair keeps e (AtStatus announced new ticks fails) =
+      let f = CatchUpEnds.found meaning laws old n pair keeps e in
+      let t = CatchUpEnds.announced-so meaning laws old announced pair f ticks in
+      let x : Fails meaning announced (Deliver t.number) new =
+      subst (λ (o : Option ℕ). IsSomeAnd o (λ k. Fails meaning announced (Deliver k) new)) t.found fails in
+      ends-other announced new pair f.first f.other f.leads f.follows t.number _ t.couple f.id t.status x
+  ends old _ n pair keeps e (AtRequest announced asked new ticks hands breaks) =
+      let f = CatchUpEnds.found meaning laws old n pair keeps e in
+      let t = CatchUpEnds.announced-so meaning laws old announced pair f ticks in
+      let s = CatchUpEnds.asked-so meaning laws old announced asked pair f t hands in
+      by f s s.asks
+    where
+      by : (f : CatchUpEnds.Found meaning laws old pair)
+          (s : CatchUpLevels.AskedSo meaning laws announced asked pair.view.creator pair.member f.first f.leads)
+          → AsksUpTo pair.member world_group f.leads.window.delivered s.now s.start s.out → EndsSo pair new
+      by f s (inl k) =
+          let nak = CatchUpLevels.nak-of meaning laws announced asked pair.view.creator pair.member f.first f.leads s k in
+          ⊎_elim (λ fails. ends-first asked new pair f.first s.after f.leads s.now (length announced.history.pool + 1) (packet pair.member (bodies.Nak f.leads.view.id k.missing) pair.view.creator) s.couple f.id nak.packet fails)
+          (λ d. absurd (breaks-none meaning (length announced.history.pool + 1) 0 d.mid new refl d.rest))
+          (breaks-next meaning (length announced.history.pool) (length asked.history.pool - length announced.history.pool) 0 asked new nak.many breaks)
+      by f s (inr k) =
+          absurd (breaks-none meaning (length announced.history.pool) (length asked.history.pool - length announced.history.pool) asked new
+          (CatchUpLevels.no-more meaning laws asked.history.pool announced.history.pool
+          (CatchUpLevels.silent-pool meaning laws announced asked pair.view.creator pair.member f.first f.leads s k.1)) breaks)
+  ends old _ n pair keeps e (AtAnswer announced asked replied new ticks hands asks breaks) =
+      let f = CatchUpEnds.found meaning laws old n pair keeps e in
+      let t = CatchUpEnds.announced-so meaning laws old announced pair f ticks in
+      let s = CatchUpEnds.asked-so meaning laws old announced asked pair f t hands in
+      by f s s.asks
+    where
+      by : (f : CatchUpEnds.Found meaning laws old pair)
+          (s : CatchUpLevels.AskedSo meaning laws announced asked pair.view.creator pair.member f.first f.leads)
+          → AsksUpTo pair.member world_group f.leads.window.delivered s.now s.start s.out → EndsSo pair new
+      by f s (inl k) =
+          let r = CatchUpLevels.replied-so meaning laws announced asked replied pair.view.creator pair.member f.first f.leads s asks k in
+          rounds-break (r.last + 1 - r.first) r.first (length asked.history.pool) replied new pair f.first s.after f.leads s.now r.last r.couple f.id r.within r.count r.low r.high r.sound r.next
+          (subst (λ (j : ℕ). Breaks meaning (length asked.history.pool) j replied new) r.many breaks)
+      by f s (inr k) =
+          let a : replied ≡ asked = CatchUpLevels.none-asked meaning laws announced asked replied pair.view.creator pair.member f.first f.leads s asks k.1 in
+          absurd (breaks-none meaning (length asked.history.pool) (length replied.history.pool - length asked.history.pool) replied new
+          (CatchUpLevels.no-more meaning laws replied.history.pool asked.history.pool (ap (λ (w : WorldModel S). w.history.pool) a)) breaks)
+
+-- ---- from what the code did
+
+module _ {S : Type 0} (meaning : Meaning S) (pair : Pair) (old : WorldModel S) (n : ℕ) (node : n ≡ pair.view.creator.node) where
+  pub at-tick : (new : WorldModel S) → Fails meaning old (Tick n) new → Stops meaning pair old new
+  at-tick new x = AtTick new (subst (λ (k : ℕ). Fails meaning old (Tick k) new) node x)
+
+  module _ (announced : WorldModel S) (ticks : Plays meaning old (Tick n) announced) (o : Option ℕ) (first : o ≡ first_for pair.member (length old.history.pool) announced.history.pool) where
+    ticked : Plays meaning old (Tick pair.view.creator.node) announced
+    ticked = subst (λ (k : ℕ). Plays meaning old (Tick k) announced) node ticks
+
+    pub at-status : (new : WorldModel S) → IsSomeAnd o (λ k. Fails meaning announced (Deliver k) new) → Stops meaning pair old new
+    at-status new x = AtStatus announced new ticked (subst (λ (p : Option ℕ). IsSomeAnd p (λ k. Fails meaning announced (Deliver k) new)) first x)
+
+    module _ (asked : WorldModel S) (hands : Hands meaning o announced asked) where
+      handed : Hands meaning (first_for pair.member (length old.history.pool) announced.history.pool) announced asked
+      handed = subst (λ (p : Option ℕ). Hands meaning p announced asked) first hands
+
+      pub at-request : (past : ℕ) (new : WorldModel S) → past ≡ length announced.history.pool → BreaksPast meaning past asked new → Stops meaning pair old new
+      at-request past new is x = AtRequest announced asked new ticked handed (subst (λ (k : ℕ). BreaksPast meaning k asked new) is x)
+
+      pub at-answer : (past more : ℕ) (answered new : WorldModel S) → past ≡ length announced.history.pool → DeliversPast meaning past asked answered → more ≡ length asked.history.pool
+          → BreaksPast meaning more answered new → Stops meaning pair old new
+      at-answer past more answered new is asks so x =
+          AtAnswer announced asked answered new ticked handed (subst (λ (k : ℕ). DeliversPast meaning k asked answered) is asks)
+          (subst (λ (k : ℕ). BreaksPast meaning k answered new) so x)

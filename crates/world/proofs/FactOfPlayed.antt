@@ -1,0 +1,118 @@
+-- One event that is played: where no growth was refused in it the member took its input, and did by it what its rules say; else it crashed.
+use Rattle.std.proofs.Common.{◌≡◌, ℕ, Bool, true, false, cond, Option, Some, None, Result, Ok, Err, List, [], ◌∷◌, ◌++◌, map, inl, inr, ◌⊎◌, refl, sym, ap, ◌∙◌, subst}
+use Rattle.std.specs.Prelude.{if◌then◌else◌}
+use Rattle.std.specs.Borrow.{Bor}
+use Rattle.std.specs.Option.{IsSomeAnd, option_map}
+use Rattle.std.proofs.lemmas.Option.{none-some}
+use Rattle.address.specs.Ids.{Address}
+use Rattle.state_transfer.specs.Meanings.{Meaning}
+use Rattle.trace_props.specs.declared.event.Event.{Event}
+use Rattle.trace_props.specs.declared.event.Event.TheVariants.{Started, Delivered, Blocked, Installed, Left, Crashed}
+use Rattle.trace_props.specs.declared.event.Event.TheVariants as event
+use Rattle.agreement.specs.Histories.{Posted}
+use Rattle.agreement.specs.Cores.{Core}
+use Rattle.output.specs.declared.output.Output.{Output}
+use Rattle.output.specs.Outputs.{Puts}
+use Rattle.membership.specs.declared.life.Life.{Life}
+use Rattle.member.specs.declared.error.Error.{Error}
+use Rattle.member.specs.declared.input.Input.{Input}
+use Rattle.member.specs.declared.input.Input.TheVariants as input
+use Rattle.member.specs.Errors.{is_memory}
+use Rattle.member.specs.Members.{MemberModel, core_of, leaves, came_at, refusal_of, is_unreadable}
+use Rattle.member.specs.Doing.{DoesBy}
+use Rattle.member.specs.Handling.{Handled}
+use Rattle.world_model.specs.declared.WorldEvent.TheVariants.{Deliver, Tick}
+use Rattle.world_model.specs.declared.Answer.{Answer}
+use Rattle.world_model.specs.Packets.{packet_numbered, destination_of}
+use Rattle.world.specs.declared.seat.Seat.{Seat}
+use Rattle.world.specs.declared.seat.Seat.TheVariants.{Ended, Running}
+use Rattle.world.specs.Seats.{bytes_of, answer_to}
+use Rattle.world.specs.Turns.{OthersStand, Gives, HandsHere, Hands, HandsOver, Delivers, Hears}
+use Rattle.world.specs.Worlds.{WorldModel, WorldStep}
+use Rattle.world.specs.Gaps.{lacks_memory}
+use Rattle.world.proofs.FactOfTaken.{when-true, when-false}
+
+-- what happened is no want of memory
+lacks-nothing : (hs : List Event) → lacks_memory (answer_to hs) ≡ false
+lacks-nothing [] = refl
+lacks-nothing (Started p ∷ hs) = refl
+lacks-nothing (event.Sent s ∷ hs) = refl
+lacks-nothing (Delivered d ∷ hs) = refl
+lacks-nothing (Blocked p ∷ hs) = refl
+lacks-nothing (Installed i ∷ hs) = refl
+lacks-nothing (Left p ∷ hs) = refl
+lacks-nothing (Crashed p ∷ hs) = refl
+
+module _ {S : Type 0} (meaning : Meaning S) where
+  -- a running member took an input, and runs on
+  pub record Taken (input : Input) (m : MemberModel S) (t : List Event) (pool : List (List ℕ)) (new : Seat S) (t' : List Event) (pool' : List (List ℕ)) : Type 0 where
+    pub out : Output
+    pub left : MemberModel S
+    pub handled : Handled meaning m input (Ok out) left
+    pub seat : new ≡ (if leaves input then Ended m.address else Running left)
+    pub trace : t' ≡ t ++ out.events.items
+    pub puts : pool' ≡ pool ++ map bytes_of out.packets.items
+
+  -- or it crashed for want of memory
+  pub record Lost (p : Address) (t : List Event) (pool : List (List ℕ)) (t' : List Event) (pool' : List (List ℕ)) : Type 0 where
+    pub trace : t' ≡ t ++ Crashed p ∷ []
+    pub puts : pool' ≡ pool
+
+  abbrev pub Outcome : Input → MemberModel S → List Event → List (List ℕ) → Answer → Seat S → List Event → List (List ℕ) → Type 0
+  Outcome input m t pool a new t' pool' = ((lacks_memory a ≡ false) × Taken input m t pool new t' pool') ⊎ ((lacks_memory a ≡ true) × Lost m.address t pool t' pool')
+
+  module _ (input : Input) (m : MemberModel S) (t : List Event) (pool : List (List ℕ)) (a : Answer) (new : Seat S) (t' : List Event) (pool' : List (List ℕ))
+      (free : refusal_of m input ≡ None) (readable : is_unreadable meaning m input ≡ false) where
+    by-error : (b : Bool) (e : Error) (left : MemberModel S) → is_memory e ≡ b → Handled meaning m input (Err e) left → Gives m.address input (Err e) left t pool a new t' pool'
+        → Outcome input m t pool a new t' pool'
+    by-error true e left is handled g =
+        let x = when-true (is_memory e) _ _ is g in
+        inr (ap lacks_memory x.answer, record { trace = x.trace; puts = x.puts })
+    by-error false e left is handled g =
+        let x = when-false (is_unreadable meaning m input) _ _ readable (when-false (is_memory e) _ _ is handled.refused) in
+        absurd (none-some e (sym free ∙ x.0))
+
+    by-result : (result : Result Output Error) (left : MemberModel S) → Handled meaning m input result left → Gives m.address input result left t pool a new t' pool'
+        → Outcome input m t pool a new t' pool'
+    by-result (Ok out) left handled (inl g) =
+        inl (ap lacks_memory g.answer ∙ lacks-nothing out.events.items, record { out = out; left = left; handled = handled; seat = g.seat; trace = g.trace; puts = g.puts })
+    by-result (Ok out) left handled (inr g) = inr (ap lacks_memory g.1.answer, record { trace = g.1.trace; puts = g.1.puts })
+    by-result (Err e) left handled g = by-error (is_memory e) e left refl handled g
+
+    pub outcome : HandsHere meaning input m t pool a new t' pool' → Outcome input m t pool a new t' pool'
+    outcome g = by-result g.result g.left g.handled g.gives
+
+  -- ---- a tick
+
+  pub tick-here : (old new : WorldModel S) (n : ℕ) (m : MemberModel S) (step : WorldStep meaning old (Tick n) new) → old.seats n ≡ Running m
+      → HandsHere meaning input.Tick m old.history.trace old.history.pool step.answer (new.seats n) new.history.trace new.history.pool
+  tick-here old new n m step there =
+      subst (λ (s : Seat S). Hands meaning input.Tick s old.history.trace old.history.pool step.answer (new.seats n) new.history.trace new.history.pool) there step.does.0
+
+  pub tick-others : (old new : WorldModel S) (n : ℕ) → WorldStep meaning old (Tick n) new → OthersStand n old.seats new.seats
+  tick-others old new n step = step.does.1
+
+  -- ---- a delivery
+
+  pub record Handed (m : MemberModel S) (bytes : List ℕ) (old new : WorldModel S) (a : Answer) (n : ℕ) : Type 0 where
+    pub lent : Bor (List ℕ)
+    pub is : lent.now ≡ bytes
+    pub here : HandsHere meaning (input.Datagram lent) m old.history.trace old.history.pool a (new.seats n) new.history.trace new.history.pool
+    pub others : OthersStand n old.seats new.seats
+
+  pub delivered-here : (old new : WorldModel S) (k : ℕ) (bytes : List ℕ) (q : Address) (m : MemberModel S) (step : WorldStep meaning old (Deliver k) new)
+      → packet_numbered k old.history.pool ≡ Some bytes → destination_of bytes ≡ Some q → old.seats q.node ≡ Running m → Handed m bytes old new step.answer q.node
+  delivered-here old new k bytes q m step there goes seat =
+      let x : Delivers meaning (Some bytes) old.seats old.history.trace old.history.pool step.answer new.seats new.history.trace new.history.pool =
+      subst (λ (o : Option (List ℕ)). Delivers meaning o old.seats old.history.trace old.history.pool step.answer new.seats new.history.trace new.history.pool) there step.does in
+      let y : HandsOver meaning bytes (Some q) old.seats old.history.trace old.history.pool step.answer new.seats new.history.trace new.history.pool =
+      subst (λ (o : Option Address). HandsOver meaning bytes o old.seats old.history.trace old.history.pool step.answer new.seats new.history.trace new.history.pool) goes x in
+      let z : Hears meaning bytes (Running m) old.history.trace old.history.pool step.answer (new.seats q.node) new.history.trace new.history.pool =
+      subst (λ (s : Seat S). Hears meaning bytes s old.history.trace old.history.pool step.answer (new.seats q.node) new.history.trace new.history.pool) seat y.0 in
+      record { lent = z.0; is = z.1; here = z.2; others = y.1 }
+
+  -- ---- what it did
+
+  life-there : (p : Address) (o : Option (Life S)) (f : Life S → Core S) (P : Core S → Type 0) → IsSomeAnd (option_map f o) P → (l : Life S) × (o ≡ Some l)
+  life-there p None f P x = absurd x
+  life-there p (Some l) f P x = (l, refl)
