@@ -10,11 +10,10 @@ use crate::progress::Progress;
 use address::{Address, ViewId};
 use indexmap::IndexMap;
 use indexmap::map::Slice;
-use wire::{Count, Entry};
 use std::alloc::{AllocError, Global};
 use std::marker::Model;
 use view::Addresses;
-use wire::Report;
+use wire::{Count, Entry, Report};
 
 /// A flush: a proposal, its list, and the reports of those of the list who reported, in order of arrival (docs/PROTOCOL.md, "Flush").
 #[derive(Drop)]

@@ -5,9 +5,9 @@ ghost use Rattle.wire.specs.Lists.{is_report};
 ghost use Rattle.flush.specs.Flushes.{comes_from};
 
 use address::ViewId;
-use wire::{Count, Entry, Held, Report};
 use std::alloc::{AllocError, Global};
 use std::marker::Model;
+use wire::{Count, Entry, Held, Report};
 
 /// A report as a flush keeps it: its counts, and a copy of the bytes that spell its entries.
 #[derive(Drop)]

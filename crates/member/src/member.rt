@@ -17,11 +17,11 @@ use address::Address;
 use limits::STEP_EVENTS;
 use membership::Life;
 use output::{Identity, KeptName, Output};
-use wire::GroupName;
 use state_transfer::Receiver;
 use std::alloc::{AllocError, Global};
 use std::marker::Model;
 use view::View;
+use wire::GroupName;
 
 /// A member of a group, with the receiver that it gives messages and views. Contracts see its address, its group and, while it runs, what it keeps
 /// (docs/PROTOCOL.md, "What a member keeps") and the core by which it decides (docs/PROOF.md, "Agreement over acts").

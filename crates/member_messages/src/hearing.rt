@@ -6,9 +6,9 @@ ghost use Rattle.member_messages.specs.Hears.{hears, takes_forward, takes_ack, t
 use address::{Address, ViewId};
 use limits::WINDOW;
 use membership::Life;
-use wire::{Number, Progress};
 use state_transfer::Receiver;
 use traffic::{Other, Traffic};
+use wire::{Number, Progress};
 
 /// Whether a packet of messages is heard: of the view that the member is in, while that is the promised one, from a member of it.
 pub fn hears<R: Receiver>(life: &Life<R>, source: &Address, view: ViewId) -> bool

@@ -16,10 +16,10 @@ use crate::hearing::{takes_ack, takes_forward};
 use address::{Address, ViewId};
 use membership::Life;
 use output::{Identity, Output};
-use wire::{Count, Missing, Number, Payload};
 use state_transfer::Receiver;
 use std::alloc::AllocError;
 use traffic::Traffic;
+use wire::{Count, Missing, Number, Payload};
 
 /// A FORWARD: where it is taken, its message waits where it is new and at most `OUTSTANDING` past its source's ordered ones, and all is ordered that may be. Any
 /// other is ignored, and takes no memory. After an error for want of memory nothing is said of the member.

@@ -10,10 +10,10 @@ ghost use Rattle.member_messages.specs.Messages.{Sends, SendsFirst, DeliversAtOn
 
 use membership::Life;
 use output::{Identity, Output};
-use wire::Payload;
 use state_transfer::Receiver;
 use std::alloc::AllocError;
 use traffic::Traffic;
+use wire::Payload;
 
 /// Sends a message that is not refused: the coordinator orders all that it may, and delivers this one at once where there is room; another member puts
 /// out its FORWARD. After an error for want of memory nothing is said of the member.

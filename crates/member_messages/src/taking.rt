@@ -16,10 +16,10 @@ use crate::hearing::{takes_order, takes_status};
 use address::{Address, ViewId};
 use membership::Life;
 use output::{Identity, Output};
-use wire::{Entry, Number, Progress};
 use state_transfer::Receiver;
 use std::alloc::AllocError;
 use traffic::Traffic;
+use wire::{Entry, Number, Progress};
 
 /// An ORDER: where it is taken, what lies `WINDOW` below it is stable, it is held where it is new, what is held in turn is delivered, and it is answered by an
 /// ACK or a NAK, or not at all. Any other is ignored, and takes no memory. After an error for want of memory nothing is said of the member.

@@ -10,10 +10,9 @@ ghost use Rattle.member_views.specs.Ignoring.{is_flush_ignored, is_report_ignore
 use address::{Address, ViewId};
 use membership::Life;
 use output::{Identity, Output};
-use wire::Number;
 use state_transfer::Receiver;
 use std::alloc::AllocError;
-use wire::{Report, Roster};
+use wire::{Number, Report, Roster};
 
 /// FLUSH: another proposes a view. It counts where its source is who proposes; then a greater one is promised and reported for, and one that is behind is
 /// answered (docs/PROTOCOL.md, "Promise"). After an error for want of memory nothing is said of the member.

@@ -17,12 +17,12 @@ use crate::finishing::{behind, deliver_all, own_of};
 use crate::{Life, Stop};
 use address::ViewId;
 use output::{Identity, Output};
-use wire::{Entry, State, Install, Items, Roster};
 use state_transfer::Receiver;
 use std::alloc::{AllocError, Global};
 use trace_props::{Bytes, Event, HandedBack, Install as Installed};
 use traffic::Traffic;
 use view::{Addresses, View};
+use wire::{Entry, Install, Items, Roster, State};
 
 // The entries of an INSTALL.
 fn all_of<'a>(alloc: Global, items: Items<'a>) -> Result<Vec<Entry<'a>>, AllocError>

@@ -17,13 +17,12 @@ use crate::beginning::others_of;
 use address::{Address, ViewId};
 use flush::Flush;
 use output::{Identity, Output};
-use wire::{Count, Entry, State, Body, Install, Items, Members, Roster};
 use state_transfer::Receiver;
 use std::alloc::{AllocError, Global};
 use trace_props::{Bytes, Delivery, Event, Install as Installed, Message};
 use traffic::Traffic;
 use view::{Addresses, View};
-use wire::put_entry;
+use wire::{Body, Count, Entry, Install, Items, Members, Roster, State, put_entry};
 
 // A cut as an INSTALL lists it.
 #[derive(Drop)]

@@ -12,11 +12,10 @@ use crate::entering::is_fitting;
 use crate::{Life, Stop};
 use address::Address;
 use output::{Identity, Output};
-use wire::Number;
 use state_transfer::Receiver;
 use std::alloc::AllocError;
 use view_install::{OfferAnswer, Promise};
-use wire::{Body, Install, Roster};
+use wire::{Body, Install, Number, Roster};
 
 impl<R: Receiver> Life<R> {
     // Says to who proposed less than what it promised how far it is.

@@ -2,9 +2,9 @@ ghost use Rattle.std.specs.Prelude.{◌≡◌, IfOk};
 
 use crate::KeptPayload;
 use address::Address;
-use wire::{Entry as LentEntry, Number};
 use std::alloc::{AllocError, Global};
 use std::marker::Model;
+use wire::{Entry as LentEntry, Number};
 
 /// A message as the view's one order has it, kept: its sender, its number among that sender's messages of the view, from 1 to `GREATEST_NUMBER`, and its
 /// payload of at most `PAYLOAD` bytes. Contracts see it as they see a lent one.

@@ -1,8 +1,8 @@
 ghost use Rattle.std.specs.Prelude.{◌≡◌, IfOk};
 
-use wire::Payload;
 use std::alloc::{AllocError, Global};
 use std::marker::Model;
+use wire::Payload;
 
 /// A message's payload that is kept: at most `PAYLOAD` bytes.
 #[derive(Debug, Drop)]

@@ -8,10 +8,10 @@ ghost use Rattle.nak_stream.specs.Windows.{WindowModel, empty_window, held_above
 
 use crate::Entry;
 use limits::{GREATEST_NUMBER, WINDOW};
-use wire::Entry as LentEntry;
 use std::alloc::{AllocError, Global};
 use std::collections::BTreeMap;
 use std::marker::Model;
+use wire::Entry as LentEntry;
 
 /// A window of a view: how many messages are known to be stable, how many were delivered here, and the entries
 /// that are held, each at its number in the view's one order. Numbers run from 1 to `GREATEST_NUMBER`.

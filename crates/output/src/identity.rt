@@ -8,8 +8,7 @@ use crate::{KeptName, Outgoing, Output};
 use address::Address;
 use std::alloc::{AllocError, Global};
 use trace_props::{Bytes, Event};
-use wire::{Body, Packet};
-use wire::encode;
+use wire::{Body, Packet, encode};
 
 /// Who a member is, its address and its group, and from where it takes memory.
 #[derive(Debug, Drop)]

@@ -2,8 +2,8 @@ ghost use Rattle.std.specs.Prelude.{◌≡◌};
 ghost use Rattle.output.specs.Names.{same_name};
 
 use limits::GROUP_NAME;
-use wire::GroupName;
 use std::marker::Model;
+use wire::GroupName;
 
 /// The name of a group, kept: 1 to `GROUP_NAME` bytes.
 #[derive(Debug, Drop)]

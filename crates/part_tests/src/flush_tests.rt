@@ -3,8 +3,8 @@ ghost use Rattle.std.specs.Prelude.{◌≤◌};
 use crate::fixtures::{first_of, listed, view_id};
 use address::ViewId;
 use flush::{Flush, Progress, cut_covers};
-use wire::{Count, Entry, Held, Report};
 use std::alloc::Global;
+use wire::{Count, Entry, Held, Report};
 
 /// The flush for `9@1.1` with the first addresses of these nodes as its list.
 fn started(alloc: Global, nodes: &[u16]) -> Option<Flush> {
@@ -240,7 +240,10 @@ fn a_refused_growth_changes_nothing(rt: HostRuntime) {
     if let Some(mut flush) = started(rt.alloc(), &[1, 2]) {
         let held = [spelled(1, 10)];
         let reported = report(3, 0, 1, &held).expect(&rt, "a report");
-        assert!(rt; reported_or_unchanged(&mut flush, 1, &reported), "the first report");
+        assert!(rt;
+            reported_or_unchanged(&mut flush, 1, &reported),
+            "the first report"
+        );
         assert!(rt;
             reported_or_unchanged(&mut flush, 2, &reported),
             "the second report"

@@ -1,7 +1,7 @@
 use crate::fixtures::first_of;
 use nak_stream::{Entry, KeptPayload, Window, beginnings_agree, windows_agree};
-use wire::{Entry as LentEntry, Number, Payload};
 use std::alloc::{AllocError, Global};
+use wire::{Entry as LentEntry, Number, Payload};
 
 /// The entry of 1.1 with a number and a payload, as packets lend it.
 fn lent(number: u64, payload: &[u8]) -> Option<LentEntry<'_>> {

@@ -1,9 +1,9 @@
 use crate::fixtures::{first_of, view_of};
 use address::Address;
 use nak_stream::KeptPayload;
-use wire::{Number, Payload};
 use sequencer::{Forwards, Orderer};
 use std::alloc::{AllocError, Global};
+use wire::{Number, Payload};
 
 /// The orderer of the view of 1.1 and 2.1.
 fn of_two(alloc: Global) -> Option<Orderer> {

@@ -1,6 +1,6 @@
 use nak_stream::KeptPayload;
-use wire::Number;
 use std::marker::Model;
+use wire::Number;
 
 /// A message on its way into the order: its number among its sender's messages of the view, from 1 to `GREATEST_NUMBER`, and its payload of at most `PAYLOAD`
 /// bytes.

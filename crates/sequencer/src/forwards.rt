@@ -6,10 +6,10 @@ ghost use Rattle.sequencer.specs.Forwards.{ForwardsModel, no_forwards, pushed, d
 use crate::Forward;
 use limits::{GREATEST_NUMBER, OUTSTANDING, Refusal};
 use nak_stream::KeptPayload;
-use wire::Number;
 use std::alloc::{AllocError, Global};
 use std::marker::Model;
 use trace_props::{Bytes, HandedBack, Numbered};
+use wire::Number;
 
 /// A member's own messages of a view that were sent and not delivered here, at most `OUTSTANDING` of them, by their numbers. Numbers run from 1 to `GREATEST_NUMBER`.
 #[derive(Debug, Drop)]

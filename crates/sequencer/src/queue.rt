@@ -6,9 +6,9 @@ use crate::Forward;
 use address::Address;
 use limits::OUTSTANDING;
 use nak_stream::{Entry, KeptPayload};
-use wire::{Number, Payload};
 use std::alloc::{AllocError, Global};
 use std::marker::Model;
+use wire::{Number, Payload};
 
 /// The messages of one sender: how many were ordered, and those that wait, each once, in the order in which they came.
 #[derive(Debug, Drop)]

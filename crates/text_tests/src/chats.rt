@@ -1,9 +1,8 @@
 use crate::fixtures::{address, is};
 use chat_log::ChatLog;
-use vsync_text::append_chat;
 use state_transfer::Receiver;
 use std::alloc::{AllocError, Global};
-use vsync_text::{put, put_address, put_hex};
+use vsync_text::{append_chat, put, put_address, put_hex};
 
 /// The line of a chat of two lines, as a member of node 2 holds it.
 fn two_said(alloc: Global) -> Result<Vec<u8>, AllocError> {

@@ -1,8 +1,7 @@
 use crate::fixtures::is;
-use vsync_text::{append_packet, append_packets};
 use std::alloc::{AllocError, Global};
 use trace_props::Bytes;
-use vsync_text::put_decimal;
+use vsync_text::{append_packet, append_packets, put_decimal};
 
 /// A LEAVE of 3.1 to 1.2.
 const LEAVE: [u8; 22] = [

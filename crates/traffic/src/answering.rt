@@ -10,9 +10,8 @@ use crate::Coordinator;
 use address::Address;
 use limits::WINDOW;
 use output::{Identity, Output};
-use wire::{Count, Missing, Number, Progress};
 use std::alloc::AllocError;
-use wire::Body;
+use wire::{Body, Count, Missing, Number, Progress};
 
 impl Coordinator {
     // Puts out the ORDER of a number to a member again, where a message is held there.

@@ -19,10 +19,9 @@ use crate::delivering::deliver;
 use address::Address;
 use nak_stream::Entry;
 use output::{Identity, Output};
-use wire::{Number, Payload};
 use state_transfer::Receiver;
 use std::alloc::AllocError;
-use wire::Body;
+use wire::{Body, Number, Payload};
 
 impl Coordinator {
     // Takes a message of a member among those that are to be ordered, where it is new.

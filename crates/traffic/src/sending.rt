@@ -15,11 +15,11 @@ use crate::Coordinator;
 use address::ViewId;
 use nak_stream::KeptPayload;
 use output::{Identity, Output};
-use wire::{Number, Payload};
 use sequencer::Forwards;
 use state_transfer::Receiver;
 use std::alloc::AllocError;
 use trace_props::{Bytes, Event, Numbered, Sending};
+use wire::{Number, Payload};
 
 // The event of a message that is sent.
 fn sending(

@@ -21,11 +21,10 @@ use crate::delivering::deliver;
 use crate::sending::say;
 use limits::WINDOW;
 use output::{Identity, Output};
-use wire::{Count, Entry as LentEntry, Missing, Number, Payload, Progress};
 use sequencer::Forward;
 use state_transfer::Receiver;
 use std::alloc::AllocError;
-use wire::Body;
+use wire::{Body, Count, Entry as LentEntry, Missing, Number, Payload, Progress};
 
 impl Other {
     // Delivers the next message, where it is held. Answers whether it is.

@@ -10,12 +10,11 @@ ghost use Rattle.traffic.specs.Traffics.{fresh_in, traffic_of, view_of};
 use crate::{Coordinator, Other};
 use address::Address;
 use nak_stream::{Entry, Window};
-use wire::{Count, Number};
 use sequencer::Forwards;
 use std::alloc::{AllocError, Global};
 use trace_props::HandedBack;
 use view::View;
-use wire::put_entry;
+use wire::{Count, Number, put_entry};
 
 /// What a member keeps of its view: as its coordinator, or as another of its members.
 #[derive(Debug, Drop)]

@@ -3,6 +3,7 @@ ghost use Rattle.clap.specs.Words.{fault_of, kind_of};
 ghost use Rattle.vsync_cli.specs.Ends.{Does, EndsBy, EndsByFault};
 ghost use Rattle.vsync_cli.specs.Grammar.{program_app};
 
+use crate::{Invocation, command};
 use chat_log::ChatLog;
 use clap::Error;
 use clap::error::ErrorKind;
@@ -11,7 +12,6 @@ use std::io::{Read, Write};
 use std::rt::{Env, Files};
 use std::{env, fs, io};
 use vsync_runs::{Status, run_chat, run_check, run_packets, run_script};
-use crate::{Invocation, command};
 
 /// Says on the standard error why the program ends with status 5.
 fn complain<R: Eprint>(rt: &R, what: &str, path: &str) -> Status

@@ -8,10 +8,10 @@ use crate::ends::{end_in_memory, end_with_lines};
 use crate::scripts::script_from;
 use address::Node;
 use chat_log::Chat;
-use vsync_text::append_chat;
 use script_reader::Script;
 use std::alloc::{AllocError, Global};
 use std::io::{Read, Write};
+use vsync_text::append_chat;
 use world::World;
 
 /// Appends the chat line of the member that runs at the node of a number, if one does.

@@ -6,11 +6,11 @@ ghost use Rattle.vsync_runs.specs.Packets.{IsPacketText, RunsPackets};
 use crate::Status;
 use crate::ends::{end_in_memory, end_with_lines};
 use crate::scripts::script_from;
-use vsync_text::append_packets;
 use script_reader::Script;
 use state_transfer::Receiver;
 use std::alloc::Global;
 use std::io::{Read, Write};
+use vsync_text::append_packets;
 use world::World;
 
 /// Writes the packets of a world.

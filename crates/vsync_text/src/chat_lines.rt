@@ -4,10 +4,10 @@ ghost use Rattle.std.specs.Prelude.{◌≡◌, ◌++◌, ◌∷◌, OnOk, OnErr,
 ghost use Rattle.vsync_text.specs.TraceText.{GoesOnFrom};
 ghost use Rattle.vsync_text.specs.ChatText.{text_of_said, text_of_lines, text_of_more, chat_line};
 
+use crate::{put, put_address, put_hex};
 use address::Address;
 use chat_log::Chat;
 use std::alloc::AllocError;
-use crate::{put, put_address, put_hex};
 
 /// Appends who said a line, and what in hexadecimal, behind one byte.
 #[tactic(auto, using(crate::proofs::KeepFront::goes_on))]

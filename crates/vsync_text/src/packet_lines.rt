@@ -6,9 +6,9 @@ ghost use Rattle.wire.specs.Packets.{packet_of};
 ghost use Rattle.vsync_text.specs.TraceText.{GoesOnFrom, field, hex_of};
 ghost use Rattle.vsync_text.specs.PacketText.{kind_name, packet_fields, packet_line, packet_lines};
 
+use crate::{put, put_address, put_decimal, put_hex};
 use std::alloc::AllocError;
 use trace_props::Bytes;
-use crate::{put, put_address, put_decimal, put_hex};
 use wire::{Body, Packet, decode};
 
 /// The name of what a packet says.

@@ -10,8 +10,8 @@ use crate::error::WireError;
 use crate::fields::Reader;
 use crate::numbers::number_at;
 use crate::text::payload_at;
-use limits::{GREATEST_NUMBER, WINDOW};
 use crate::{Entry, Number};
+use limits::{GREATEST_NUMBER, WINDOW};
 use std::marker::Model;
 
 #[tactic(auto, unfolding(crate::specs::Fields::entry_at))]

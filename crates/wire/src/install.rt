@@ -9,9 +9,9 @@ use crate::fields::Reader;
 use crate::members::{Members, Roster, rest_after, together_at, view_at};
 use crate::numbers::count_at;
 use crate::text::state_at;
+use crate::{Count, State};
 use address::Address;
 use limits::{GREATEST_NUMBER, MEMBERS, WINDOW};
-use crate::{Count, State};
 use std::marker::Model;
 
 /// A view to be installed: who of its members come from the same view, the messages of that one from the

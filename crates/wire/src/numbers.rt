@@ -4,8 +4,8 @@ ghost use Rattle.wire.specs.Reading.{Gives, number_at as value_at};
 
 use crate::error::WireError;
 use crate::fields::Reader;
-use limits::GREATEST_NUMBER;
 use crate::{Count, Number};
+use limits::GREATEST_NUMBER;
 
 pub(crate) fn number_at(low: u64, high: u64, from: &mut Reader<'_>) -> Result<Number, WireError>
     requires low { 1 ≤ low }

@@ -4,8 +4,8 @@ ghost use Rattle.wire.specs.Packets.{kind_of};
 use crate::install::Install;
 use crate::members::Roster;
 use crate::report::Report;
-use address::{Address, ViewId};
 use crate::{Count, Entry, GroupName, Missing, Number, Payload, Progress};
+use address::{Address, ViewId};
 
 /// What a packet says, by its kind.
 #[derive(Drop)]

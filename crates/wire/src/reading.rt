@@ -14,8 +14,8 @@ use crate::numbers::{count_at, number_at};
 use crate::packet::{Body, Packet};
 use crate::report::report_at;
 use crate::text::{group_at, payload_at};
-use limits::{DATAGRAM, GREATEST_NUMBER, KINDS, MAGIC, VERSION, WINDOW};
 use crate::{Missing, Progress};
+use limits::{DATAGRAM, GREATEST_NUMBER, KINDS, MAGIC, VERSION, WINDOW};
 
 #[tactic(auto, unfolding(crate::specs::Packets::redirect_at))]
 fn redirect_at<'a>(from: &mut Reader<'a>) -> Result<Body<'a>, WireError>

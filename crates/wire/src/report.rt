@@ -4,13 +4,13 @@ ghost use Rattle.wire.specs.Values.{nothing_reported};
 ghost use Rattle.wire.specs.Reading.{Gives};
 ghost use Rattle.wire.specs.Lists.{are_held, is_filled, is_report, held_count_at, filled_at, report_at};
 
+use crate::Count;
 use crate::entries::{Held, held_at, highest_next};
 use crate::error::WireError;
 use crate::fields::Reader;
 use crate::numbers::count_at;
 use address::ViewId;
 use limits::{GREATEST_NUMBER, WINDOW};
-use crate::Count;
 use std::marker::Model;
 
 /// What a member reports of the view that it comes from: its id, how far it has the view's order, and the

@@ -5,8 +5,8 @@ ghost use Rattle.wire.specs.Texts.{group_at};
 
 use crate::error::WireError;
 use crate::fields::Reader;
-use limits::{GROUP_NAME, PAYLOAD, STATE};
 use crate::{GroupName, Payload, State};
+use limits::{GROUP_NAME, PAYLOAD, STATE};
 
 #[tactic(auto, using(crate::proofs::PacketLaws::name_is), unfolding(crate::specs::Texts::group_at))]
 pub(crate) fn group_at<'a>(from: &mut Reader<'a>) -> Result<GroupName<'a>, WireError>

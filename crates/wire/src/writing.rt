@@ -9,10 +9,12 @@ ghost use Rattle.wire.specs.Texts.{group_bytes};
 ghost use Rattle.limits.specs.declared.TheConstants.{MEMBERS, PAYLOAD, STATE};
 ghost use Rattle.wire.specs.Packets.{IsBody, Spells, front_bytes, header_bytes, body_bytes, spelling, listed_bytes};
 
+use crate::{
+    Body, Entry, GroupName, Held, Install, Items, Number, Packet, Payload, Report, Roster, State,
+};
 use address::{Address, ViewId};
 use big_endian::{put, put_address, put_u8, put_u16, put_u32, put_u64};
 use limits::{MAGIC, VERSION};
-use crate::{Entry, GroupName, Number, Payload, State, Body, Held, Install, Items, Packet, Report, Roster};
 use std::alloc::AllocError;
 
 fn put_view_id(id: ViewId, out: &mut Vec<u8>)

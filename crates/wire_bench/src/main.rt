@@ -4,8 +4,7 @@
 
 use std::io::{self, Read};
 use std::time::Instant;
-use wire::{Packet, decode};
-use wire::encode;
+use wire::{Packet, decode, encode};
 
 const ROUNDS: u64 = 20_000;
 

@@ -1,7 +1,6 @@
 use crate::samples::{EACH, JOIN, ORDER, entry, is_spelled, number, refusal, unhex};
 use std::alloc::{AllocError, Global};
-use wire::decode;
-use wire::{encode, put_entry};
+use wire::{decode, encode, put_entry};
 
 /// Some bytes with one of them changed.
 fn with_byte(alloc: Global, bytes: &[u8], index: usize, value: u8) -> Result<Vec<u8>, AllocError> {

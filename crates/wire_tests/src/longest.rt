@@ -1,7 +1,10 @@
 use crate::samples::{address, is_exact, second_view};
 use address::{Address, Node};
-use wire::{Count, Entry, GroupName, Number, Payload, State, Body, Held, Install, Items, Members, Packet, Report, Roster, encode, put_entry};
 use std::alloc::Global;
+use wire::{
+    Body, Count, Entry, GroupName, Held, Install, Items, Members, Number, Packet, Payload, Report,
+    Roster, State, encode, put_entry,
+};
 
 /// The bytes of a packet with the longest name, from the greatest address.
 fn spelled(alloc: Global, body: Body<'_>) -> Option<Vec<u8>> {

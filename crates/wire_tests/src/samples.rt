@@ -2,9 +2,8 @@ ghost use Rattle.std.specs.Prelude.{◌≤◌, length};
 ghost use Rattle.limits.specs.declared.TheConstants.{GREATEST_NUMBER, PAYLOAD};
 
 use address::{Address, Node, ViewId};
-use wire::{Entry, Number, Payload, Packet, decode};
 use std::alloc::{AllocError, Global};
-use wire::encode;
+use wire::{Entry, Number, Packet, Payload, decode, encode};
 
 // One packet of each kind in the group `world`, between 1.1 and 2.1, spelled by hand from the tables of
 // docs/WIRE.md. JOIN, ORDER and FLUSH are vectors of the format.

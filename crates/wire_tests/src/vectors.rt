@@ -3,8 +3,10 @@ use crate::samples::{
     is_spelled, number, second_view, unhex,
 };
 use address::Address;
-use wire::{Count, GroupName, State, Body, Held, Install, Items, Members, Packet, Report, Roster, decode};
 use std::alloc::Global;
+use wire::{
+    Body, Count, GroupName, Held, Install, Items, Members, Packet, Report, Roster, State, decode,
+};
 
 /// Whether a packet of the group `world` is written as a text says in hexadecimal.
 fn is_written(

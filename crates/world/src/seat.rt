@@ -21,10 +21,10 @@ use address::{Address, Node};
 use limits::Refusal;
 use member::{Error, Input, Member};
 use output::Output;
-use wire::GroupName;
 use state_transfer::Receiver;
 use std::alloc::Global;
 use trace_props::{Event, Trace};
+use wire::GroupName;
 use world_model::{Answer, WorldEvent};
 
 /// What runs at a node.
