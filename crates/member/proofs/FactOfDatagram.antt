@@ -26,8 +26,8 @@ use Rattle.membership.specs.declared.stop.Stop.TheVariants as stop
 use Rattle.membership.specs.Lives.{core_of as core_at, is_connected}
 use Rattle.membership.specs.Changes.{StaysAs, Enters}
 use Rattle.membership.specs.Doing.{Did}
-use Rattle.member_hearing.specs.Hearing.{Hears, ignores, entry_of, is_unreadable_by}
-use Rattle.member_hearing.specs.Running.{IsRunning}
+use Rattle.member.specs.Hearing.{Hears, ignores, entry_of, is_unreadable_by}
+use Rattle.member.specs.Running.{IsRunning}
 use Rattle.member.specs.declared.error.Error.{Error}
 use Rattle.member.specs.declared.error.Error.TheVariants.{Refused, Wire}
 use Rattle.member.specs.declared.input.Input.TheVariants.{Datagram}

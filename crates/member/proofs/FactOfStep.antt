@@ -29,8 +29,8 @@ use Rattle.membership.specs.Doing.{Did}
 use Rattle.member_messages.specs.Ordered.{IsOrderly, IsOrdered}
 use Rattle.member_messages.specs.Messages.{ByKind, SendsNext, SendsFirst, has_room, DeliversNext, DeliversAtOnce, Sends}
 use Rattle.member_views.specs.Firsts.{lone_install}
-use Rattle.member_hearing.specs.Running.{IsRunning, IsAlive}
-use Rattle.member_hearing.proofs.KeepOrder.{steady-ordered, not-so}
+use Rattle.member.specs.Running.{IsRunning, IsAlive}
+use Rattle.member.proofs.KeepOrder.{steady-ordered, not-so}
 use Rattle.member_views.proofs.KeepSteady.{Steady}
 use Rattle.member_views.specs.Ignoring.{is_hint_ignored}
 use Rattle.member_views.specs.Views.{Creates, Asks, OnSuspect, AnnouncesView, Leaves, is_suspectable, has_member, has_promised}

@@ -1,3 +1,4 @@
+pub mod KeepOrder
 pub mod FactOfRefusals
 pub mod KeepConnected
 pub mod FactOfStep

@@ -13,7 +13,7 @@ use Rattle.membership.specs.Changes.{StaysAs}
 use Rattle.member_messages.specs.Messages.{Sends, TicksInView}
 use Rattle.member_views.specs.Views.{Creates, Asks, OnSuspect, AnnouncesView, Leaves, is_suspectable, asks_again, flushes_again}
 use Rattle.member_views.specs.Ignoring.{is_hint_ignored}
-use Rattle.member_hearing.specs.Hearing.{Hears, ignores}
+use Rattle.member.specs.Hearing.{Hears, ignores}
 use Rattle.member.specs.declared.input.Input.{Input}
 use Rattle.member.specs.declared.input.Input.TheVariants.{Create, Join, Send, Datagram, Tick, Suspect, MergeHint, Leave}
 use Rattle.member.specs.Members.{MemberModel, came_at}

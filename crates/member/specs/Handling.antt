@@ -16,7 +16,7 @@ use Rattle.agreement.specs.Chains.{Acted}
 use Rattle.output.specs.declared.output.Output.{Output}
 use Rattle.output.specs.Outputs.{Puts, packet_in, spelled}
 pub use Rattle.output.specs.Calm.{is_quiet}
-use Rattle.member_hearing.specs.Running.{IsAlive}
+use Rattle.member.specs.Running.{IsAlive}
 use Rattle.member.specs.declared.error.Error.{Error}
 use Rattle.member.specs.declared.error.Error.TheVariants.{Refused}
 use Rattle.member.specs.declared.input.Input.{Input}

@@ -1,3 +1,5 @@
+pub mod Running
+pub mod Hearing
 pub mod Errors
 pub mod Members
 pub mod Doing

@@ -16,7 +16,7 @@ use Rattle.output.specs.Names.{same_name}
 use Rattle.membership.specs.declared.life.Life.{Life}
 use Rattle.membership.specs.Lives.{core_of as core_at}
 pub use Rattle.membership.specs.Lives.{install_said}
-pub use Rattle.member_hearing.specs.Hearing.{entry_of}
+pub use Rattle.member.specs.Hearing.{entry_of}
 pub use Rattle.member_views.specs.Firsts.{lone_install}
 pub use Rattle.member_messages.specs.Refusals.{send_refusal}
 use Rattle.member.specs.declared.error.Error.{Error}

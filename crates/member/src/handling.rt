@@ -1,7 +1,7 @@
 //! What a member does by each input. After its end it answers 6; want of memory ends it.
 
 ghost use Rattle.std.specs.Prelude.{◌≡◌, Some};
-ghost use Rattle.member_hearing.specs.Running.{IsAlive};
+ghost use Rattle.member.specs.Running.{IsAlive};
 ghost use Rattle.member.specs.declared.input.Input.TheVariants as input;
 ghost use Rattle.member.specs.Handling.{Handled};
 

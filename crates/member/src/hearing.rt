@@ -9,12 +9,12 @@ ghost use Rattle.membership.specs.declared.stop.Stop.TheVariants as stop;
 ghost use Rattle.membership.specs.Lives.{core_of, is_connected};
 ghost use Rattle.membership.specs.Changes.{StaysAs};
 ghost use Rattle.membership.specs.Doing.{Did};
-ghost use Rattle.member_hearing.specs.Running.{IsRunning};
-ghost use Rattle.member_hearing.specs.Hearing.{Hears, is_unreadable_by};
+ghost use Rattle.member.specs.Running.{IsRunning};
+ghost use Rattle.member.specs.Hearing.{Hears, is_unreadable_by};
 ghost use Rattle.member.specs.Members.{came_in};
 ghost use Rattle.member.specs.Doing.{Ticks, ignores_packet};
 
-use member_hearing::hear;
+use crate::rules::hear;
 use member_messages::tick_in_view;
 use member_views::{ask_again, flush_again};
 use membership::{Life, Stop};

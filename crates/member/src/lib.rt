@@ -8,6 +8,7 @@ mod handling;
 mod hearing;
 mod input;
 mod member;
+mod rules;
 mod watching;
 
 pub use error::Error;

@@ -2,7 +2,7 @@ ghost use Rattle.std.specs.Prelude.{◌≡◌, ◌≤◌, length, false, Some, I
 ghost use Rattle.std.specs.Option.{IsSomeAnd, option_copied, option_and_then, option_map, option_map_or};
 ghost use Rattle.trace_props.specs.Recorded.{IsRecordable};
 ghost use Rattle.agreement.specs.Cores.{idle, is_frozen};
-ghost use Rattle.member_hearing.specs.Running.{IsAlive};
+ghost use Rattle.member.specs.Running.{IsAlive};
 ghost use Rattle.member.specs.Members.{core_of, refusal_of, is_unreadable};
 ghost use Rattle.member.specs.Doing.{Does};
 ghost use Rattle.member.specs.Handling.{HasActed, RefusesAs, EndsWithout, IsClosed, Replies, IsPrompt, Ignores};
@@ -32,7 +32,7 @@ pub struct Member<R: Receiver> {
 }
 
 impl<R: Receiver> Model for Member<R> {
-    ghost use Rattle.member_hearing.specs.Running.{IsAlive};
+    ghost use Rattle.member.specs.Running.{IsAlive};
     ghost use Rattle.member.specs.Members.{MemberModel};
 
     ghost Value = { MemberModel R };

@@ -27,7 +27,7 @@ use Rattle.world_model.specs.Packets.{packet_numbered, destination_of}
 use Rattle.world.specs.declared.seat.Seat.{Seat}
 use Rattle.world.specs.declared.seat.Seat.TheVariants.{Ended, Running}
 use Rattle.world.specs.Seats.{bytes_of, answer_to}
-use Rattle.world.specs.Turns.{OthersStand, Gives, HandsHere, Hands, HandsOver, Delivers, Hears}
+use Rattle.world.specs.Turns.{about, OthersStand, Gives, HandsHere, Hands, HandsOver, Delivers, Hears}
 use Rattle.world.specs.Worlds.{WorldModel, WorldStep}
 use Rattle.world.specs.Gaps.{lacks_memory}
 use Rattle.world.proofs.FactOfTaken.{when-true, when-false}
@@ -63,7 +63,7 @@ module _ {S : Type 0} (meaning : Meaning S) where
 
   module _ (input : Input) (m : MemberModel S) (t : List Event) (pool : List (List ℕ)) (a : Answer) (new : Seat S) (t' : List Event) (pool' : List (List ℕ))
       (free : refusal_of m input ≡ None) (readable : is_unreadable meaning m input ≡ false) where
-    by-error : (b : Bool) (e : Error) (left : MemberModel S) → is_memory e ≡ b → Handled meaning m input (Err e) left → Gives m.address input (Err e) left t pool a new t' pool'
+    by-error : (b : Bool) (e : Error) (left : MemberModel S) → is_memory e ≡ b → Handled meaning m input (Err e) left → Gives m.address input (Err e) left (about (Running m) t pool) a (about new t' pool')
         → Outcome input m t pool a new t' pool'
     by-error true e left is handled g =
         let x = when-true (is_memory e) _ _ is g in
@@ -72,22 +72,22 @@ module _ {S : Type 0} (meaning : Meaning S) where
         let x = when-false (is_unreadable meaning m input) _ _ readable (when-false (is_memory e) _ _ is handled.refused) in
         absurd (none-some e (sym free ∙ x.0))
 
-    by-result : (result : Result Output Error) (left : MemberModel S) → Handled meaning m input result left → Gives m.address input result left t pool a new t' pool'
+    by-result : (result : Result Output Error) (left : MemberModel S) → Handled meaning m input result left → Gives m.address input result left (about (Running m) t pool) a (about new t' pool')
         → Outcome input m t pool a new t' pool'
     by-result (Ok out) left handled (inl g) =
         inl (ap lacks_memory g.answer ∙ lacks-nothing out.events.items, record { out = out; left = left; handled = handled; seat = g.seat; trace = g.trace; puts = g.puts })
     by-result (Ok out) left handled (inr g) = inr (ap lacks_memory g.1.answer, record { trace = g.1.trace; puts = g.1.puts })
     by-result (Err e) left handled g = by-error (is_memory e) e left refl handled g
 
-    pub outcome : HandsHere meaning input m t pool a new t' pool' → Outcome input m t pool a new t' pool'
+    pub outcome : HandsHere meaning input m (about (Running m) t pool) a (about new t' pool') → Outcome input m t pool a new t' pool'
     outcome g = by-result g.result g.left g.handled g.gives
 
   -- ---- a tick
 
   pub tick-here : (old new : WorldModel S) (n : ℕ) (m : MemberModel S) (step : WorldStep meaning old (Tick n) new) → old.seats n ≡ Running m
-      → HandsHere meaning input.Tick m old.history.trace old.history.pool step.answer (new.seats n) new.history.trace new.history.pool
+      → HandsHere meaning input.Tick m (about (Running m) old.history.trace old.history.pool) step.answer (about (new.seats n) new.history.trace new.history.pool)
   tick-here old new n m step there =
-      subst (λ (s : Seat S). Hands meaning input.Tick s old.history.trace old.history.pool step.answer (new.seats n) new.history.trace new.history.pool) there step.does.0
+      subst (λ (s : Seat S). Hands meaning input.Tick (about s old.history.trace old.history.pool) step.answer (about (new.seats n) new.history.trace new.history.pool)) there step.does.0
 
   pub tick-others : (old new : WorldModel S) (n : ℕ) → WorldStep meaning old (Tick n) new → OthersStand n old.seats new.seats
   tick-others old new n step = step.does.1
@@ -97,18 +97,18 @@ module _ {S : Type 0} (meaning : Meaning S) where
   pub record Handed (m : MemberModel S) (bytes : List ℕ) (old new : WorldModel S) (a : Answer) (n : ℕ) : Type 0 where
     pub lent : Bor (List ℕ)
     pub is : lent.now ≡ bytes
-    pub here : HandsHere meaning (input.Datagram lent) m old.history.trace old.history.pool a (new.seats n) new.history.trace new.history.pool
+    pub here : HandsHere meaning (input.Datagram lent) m (about (Running m) old.history.trace old.history.pool) a (about (new.seats n) new.history.trace new.history.pool)
     pub others : OthersStand n old.seats new.seats
 
   pub delivered-here : (old new : WorldModel S) (k : ℕ) (bytes : List ℕ) (q : Address) (m : MemberModel S) (step : WorldStep meaning old (Deliver k) new)
       → packet_numbered k old.history.pool ≡ Some bytes → destination_of bytes ≡ Some q → old.seats q.node ≡ Running m → Handed m bytes old new step.answer q.node
   delivered-here old new k bytes q m step there goes seat =
-      let x : Delivers meaning (Some bytes) old.seats old.history.trace old.history.pool step.answer new.seats new.history.trace new.history.pool =
-      subst (λ (o : Option (List ℕ)). Delivers meaning o old.seats old.history.trace old.history.pool step.answer new.seats new.history.trace new.history.pool) there step.does in
-      let y : HandsOver meaning bytes (Some q) old.seats old.history.trace old.history.pool step.answer new.seats new.history.trace new.history.pool =
-      subst (λ (o : Option Address). HandsOver meaning bytes o old.seats old.history.trace old.history.pool step.answer new.seats new.history.trace new.history.pool) goes x in
-      let z : Hears meaning bytes (Running m) old.history.trace old.history.pool step.answer (new.seats q.node) new.history.trace new.history.pool =
-      subst (λ (s : Seat S). Hears meaning bytes s old.history.trace old.history.pool step.answer (new.seats q.node) new.history.trace new.history.pool) seat y.0 in
+      let x : Delivers meaning (Some bytes) (about old.seats old.history.trace old.history.pool) step.answer (about new.seats new.history.trace new.history.pool) =
+      subst (λ (o : Option (List ℕ)). Delivers meaning o (about old.seats old.history.trace old.history.pool) step.answer (about new.seats new.history.trace new.history.pool)) there step.does in
+      let y : HandsOver meaning bytes (Some q) (about old.seats old.history.trace old.history.pool) step.answer (about new.seats new.history.trace new.history.pool) =
+      subst (λ (o : Option Address). HandsOver meaning bytes o (about old.seats old.history.trace old.history.pool) step.answer (about new.seats new.history.trace new.history.pool)) goes x in
+      let z : Hears meaning bytes (about (Running m) old.history.trace old.history.pool) step.answer (about (new.seats q.node) new.history.trace new.history.pool) =
+      subst (λ (s : Seat S). Hears meaning bytes (about s old.history.trace old.history.pool) step.answer (about (new.seats q.node) new.history.trace new.history.pool)) seat y.0 in
       record { lent = z.0; is = z.1; here = z.2; others = y.1 }
 
   -- ---- what it did

@@ -33,8 +33,8 @@ use Rattle.membership.specs.declared.life.Life.{Life}
 use Rattle.membership.specs.Lives.{core_of as core_at, install_said, view_in}
 use Rattle.member_messages.specs.Hears.{takes_nak, takes_order, takes_status, is_near}
 use Rattle.member_messages.specs.Messages.{ByKind, IsSameBeside, AtOther, OnNak, OnOrder, OnStatus, TicksInView}
-use Rattle.member_hearing.specs.Hearing as hearing
-use Rattle.member_hearing.specs.Running.{IsAlive}
+use Rattle.member.specs.Hearing as hearing
+use Rattle.member.specs.Running.{IsAlive}
 use Rattle.member.specs.declared.input.Input.{Input}
 use Rattle.member.specs.declared.input.Input.TheVariants as input
 use Rattle.member.specs.Members.{MemberModel, core_of, leaves, came_at, refusal_of, is_unreadable}

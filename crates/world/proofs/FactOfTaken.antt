@@ -15,7 +15,7 @@ use Rattle.agreement.specs.Histories.{Posted}
 use Rattle.agreement.specs.Cores.{Core}
 use Rattle.agreement.specs.Chains.{Acted}
 use Rattle.agreement.proofs.KeepBySteps
-use Rattle.member_hearing.specs.Running.{IsAlive}
+use Rattle.member.specs.Running.{IsAlive}
 use Rattle.member.specs.declared.error.Error.{Error}
 use Rattle.member.specs.declared.error.Error.TheVariants as error
 use Rattle.member.specs.declared.input.Input.{Input}
@@ -37,7 +37,7 @@ use Rattle.world_model.specs.Faithful.{Answers, SendsPromptly}
 use Rattle.world.specs.declared.seat.Seat.{Seat}
 use Rattle.world.specs.declared.seat.Seat.TheVariants.{Ended, Running}
 use Rattle.world.specs.Seats.{core_here, bytes_of, posts_in, answer_for, is_closed, answer_to, system_of}
-use Rattle.world.specs.Turns.{OthersStand, Takes, Crashes, Refuses, Gives, HandsHere}
+use Rattle.world.specs.Turns.{about, OthersStand, Takes, Crashes, Refuses, Gives, HandsHere}
 use Rattle.world.specs.Invariant.{IsMember, IsSeatOf, EachSpelled}
 use Rattle.world.proofs.FactOfConnected.{refused-prompt}
 use Rattle.world.proofs.FactOfOwnEvents.{EachOwn, own-acted}
@@ -205,7 +205,7 @@ module _ {S : Type 0} (meaning : Meaning S) where
     readable = FactOfReadable.never-unreadable meaning laws (system_of at h.pool h.trace) m c input w.agreed x.core table.comes
 
     taken : (out : Output) (left : MemberModel S) (a : Answer) (now : Seat S) (t : List Event) (pool : List (List ℕ)) → new n ≡ now → Handled meaning m input (Ok out) left
-        → Takes m.address input out left h.trace h.pool a now t pool → Turned new n h e a t pool
+        → Takes m.address input out left (about (Running m) h.trace h.pool) a (about now t pool) → Turned new n h e a t pool
     taken out left a now t pool is handled g = record {
       ps = map bytes_of out.packets.items;
       s = out.events.items;
@@ -215,7 +215,7 @@ module _ {S : Type 0} (meaning : Meaning S) where
           (taken-turn out left now is g.seat handled (is-free handled.refused.0));
     }
 
-    lost : (a : Answer) (now : Seat S) (t : List Event) (pool : List (List ℕ)) → new n ≡ now → refusal_of m input ≡ None → Crashes m.address h.trace h.pool a now t pool
+    lost : (a : Answer) (now : Seat S) (t : List Event) (pool : List (List ℕ)) → new n ≡ now → refusal_of m input ≡ None → Crashes m.address (about (Running m) h.trace h.pool) a (about now t pool)
         → Turned new n h e a t pool
     lost a now t pool is free g = record {
       ps = [];
@@ -227,7 +227,7 @@ module _ {S : Type 0} (meaning : Meaning S) where
     }
 
     refused : (err : Error) (left : MemberModel S) (a : Answer) (now : Seat S) (t : List Event) (pool : List (List ℕ)) → new n ≡ now → is_closed err ≡ false
-        → (refusal_of m input ≡ Some err) × (left ≡ m) → Refuses m.address err left h.trace h.pool a now t pool → Turned new n h e a t pool
+        → (refusal_of m input ≡ Some err) × (left ≡ m) → Refuses m.address err left (about (Running m) h.trace h.pool) a (about now t pool) → Turned new n h e a t pool
     refused err left a now t pool is runs says g =
         let so : RefusesSo h e (answer_for err) = table.not err (FactOfMembers.free-is meaning h n m c x input (Some err) says.0) in
         let stays : now ≡ Running m = g.seat ∙ ap {B = Seat S} (λ (b : Bool). cond b (Ended m.address) (Running left)) runs ∙ ap {B = Seat S} Running says.1 in
@@ -249,7 +249,7 @@ module _ {S : Type 0} (meaning : Meaning S) where
         by (inr bad) = let n : true ≡ false = sym bad ∙ readable in absurd (cc)
 
     not-taken : (err : Error) (left : MemberModel S) (a : Answer) (now : Seat S) (t : List Event) (pool : List (List ℕ)) (b k : Bool) → new n ≡ now → is_memory err ≡ b → is_closed err ≡ k
-        → Handled meaning m input (Err err) left → Gives m.address input (Err err) left h.trace h.pool a now t pool → Turned new n h e a t pool
+        → Handled meaning m input (Err err) left → Gives m.address input (Err err) left (about (Running m) h.trace h.pool) a (about now t pool) → Turned new n h e a t pool
     not-taken err left a now t pool true k is memory closed handled g =
         lost a now t pool is (when-true (is_memory err) (refusal_of m input ≡ None) _ memory handled.refused) (when-true (is_memory err) _ _ memory g)
     not-taken err left a now t pool false true is memory closed handled g = absurd (never-closed err left handled closed)
@@ -257,12 +257,12 @@ module _ {S : Type 0} (meaning : Meaning S) where
         refused err left a now t pool is closed (when-false (is_unreadable meaning m input) _ _ readable (when-false (is_memory err) _ _ memory handled.refused)) (when-false (is_memory err) _ _ memory g)
 
     called : (result : Result Output Error) (left : MemberModel S) (a : Answer) (now : Seat S) (t : List Event) (pool : List (List ℕ)) → new n ≡ now
-        → Handled meaning m input result left → Gives m.address input result left h.trace h.pool a now t pool → Turned new n h e a t pool
+        → Handled meaning m input result left → Gives m.address input result left (about (Running m) h.trace h.pool) a (about now t pool) → Turned new n h e a t pool
     called (Ok out) left a now t pool is handled (inl g) = taken out left a now t pool is handled g
     called (Ok out) left a now t pool is handled (inr g) = lost a now t pool is handled.refused.0 g.1
     called (Err err) left a now t pool is handled g = not-taken err left a now t pool (is_memory err) (is_closed err) is refl refl handled g
 
     -- one call of `handle` is a turn
-    pub hands-turn : (a : Answer) (now : Seat S) (t : List Event) (pool : List (List ℕ)) → new n ≡ now → HandsHere meaning input m h.trace h.pool a now t pool
+    pub hands-turn : (a : Answer) (now : Seat S) (t : List Event) (pool : List (List ℕ)) → new n ≡ now → HandsHere meaning input m (about (Running m) h.trace h.pool) a (about now t pool)
         → Turned new n h e a t pool
     hands-turn a now t pool is g = called g.result g.left a now t pool is g.handled g.gives

@@ -4,7 +4,7 @@ use Rattle.state_transfer.specs.Meanings.{Meaning}
 use Rattle.agreement.proofs.KeepBySteps
 use Rattle.world_model.specs.declared.WorldEvent.{WorldEvent}
 use Rattle.world_model.specs.Histories.{History, target_of, after}
-use Rattle.world.specs.Turns.{Carries}
+use Rattle.world.specs.Turns.{about, Carries}
 use Rattle.world.specs.Invariant.{IsWorld}
 use Rattle.world.specs.Worlds.{WorldModel, WorldStep, Runs, IsReached, no_world}
 use Rattle.world.specs.Worlds.Runs.{Still, Next}
@@ -21,7 +21,7 @@ module _ {S : Type 0} (meaning : Meaning S) (laws : KeepBySteps.Laws meaning) wh
       let h = after old.history e g.answer g.packets g.stretch in
       subst (IsWorld meaning new.seats) (sym g.goes_on)
       (FactOfWorlds.world-carries meaning laws old.seats new.seats old.history e g.answer h.trace h.pool w
-      (subst (λ (k : History). Carries meaning (target_of e) e old.seats old.history.trace old.history.pool g.answer new.seats k.trace k.pool) g.goes_on g.does))
+      (subst (λ (k : History). Carries meaning (target_of e) e (about old.seats old.history.trace old.history.pool) g.answer (about new.seats k.trace k.pool)) g.goes_on g.does))
 
   -- and so do steps one after another
   pub runs-keep : (from new : WorldModel S) (events : List WorldEvent) → Runs meaning from events new → Keeps from → Keeps new

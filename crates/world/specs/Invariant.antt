@@ -7,7 +7,7 @@ use Rattle.state_transfer.specs.Meanings.{Meaning}
 use Rattle.trace_props.specs.declared.event.Event.{Event}
 use Rattle.trace_props.specs.Observed.{has_started, has_ended}
 use Rattle.agreement.specs.Invariant.{Invariant}
-use Rattle.member_hearing.specs.Running.{IsAlive}
+use Rattle.member.specs.Running.{IsAlive}
 use Rattle.member.specs.Members.{MemberModel, core_of}
 use Rattle.output.specs.Outputs.{packet_in}
 use Rattle.world_model.specs.Histories.{History, last_of, is_connected}

@@ -7,7 +7,7 @@ use Rattle.state_transfer.specs.Meanings.{Meaning}
 use Rattle.trace_props.specs.declared.event.Event.{Event}
 use Rattle.trace_props.specs.declared.event.Event.TheVariants.{Started, Crashed}
 use Rattle.agreement.specs.Cores.{idle}
-use Rattle.member_hearing.specs.Running.{IsAlive}
+use Rattle.member.specs.Running.{IsAlive}
 use Rattle.member.specs.declared.error.Error.{Error}
 use Rattle.member.specs.declared.error.Error.TheVariants as error
 use Rattle.member.specs.declared.input.Input.{Input}
@@ -58,6 +58,17 @@ abbrev pub Steps : {S Z : Type 0} → Meaning S → Input → MemberModel S → 
 Steps meaning input m pool (Ok happened) left pool' = HasPut meaning input m pool happened.items left pool'
 Steps meaning input m pool (Err e) left pool' = HasFailed meaning input m pool e left pool'
 
+-- ---- what an event is about
+
+-- what stands at a node, or at all of them; what happened; the packets that were put out
+pub record About (X : Type 0) : Type 0 where
+  pub at : X
+  pub trace : List Event
+  pub pool : List (List ℕ)
+
+abbrev pub about : {X : Type 0} → X → List Event → List (List ℕ) → About X
+about x t pool = record { at = x; trace = t; pool = pool }
+
 -- ---- a node is handed an input
 
 -- nothing changes
@@ -67,45 +78,49 @@ pub record Stays {S : Type 0} (r : Refusal) (old : Seat S) (t : List Event) (a :
   pub trace : t' ≡ t
 
 -- TAKEN: what happened joins the trace, what was put out joins the pool; the member runs on, or has left
-pub record Takes {S : Type 0} (p : Address) (input : Input) (out : Output) (left : MemberModel S) (t : List Event) (pool : List (List ℕ)) (a : Answer) (new : Seat S)
-    (t' : List Event) (pool' : List (List ℕ)) : Type 0 where
+pub record Takes {S : Type 0} (p : Address) (input : Input) (out : Output) (left : MemberModel S) (old : About (Seat S)) (a : Answer) (new : About (Seat S)) : Type 0 where
   pub answer : a ≡ answer_to out.events.items
-  pub seat : new ≡ (if leaves input then Ended p else Running left)
-  pub trace : t' ≡ t ++ out.events.items
-  pub puts : pool' ≡ pool ++ map bytes_of out.packets.items
+  pub seat : new.at ≡ (if leaves input then Ended p else Running left)
+  pub trace : new.trace ≡ old.trace ++ out.events.items
+  pub puts : new.pool ≡ old.pool ++ map bytes_of out.packets.items
 
 -- LOST: memory was refused, and the member has crashed
-pub record Crashes {S : Type 0} (p : Address) (t : List Event) (pool : List (List ℕ)) (a : Answer) (new : Seat S) (t' : List Event) (pool' : List (List ℕ)) : Type 0 where
+pub record Crashes {S : Type 0} (p : Address) (old : About (Seat S)) (a : Answer) (new : About (Seat S)) : Type 0 where
   pub answer : a ≡ Refused Memory
-  pub seat : new ≡ Ended p
-  pub trace : t' ≡ t ++ Crashed p ∷ []
-  pub puts : pool' ≡ pool
+  pub seat : new.at ≡ Ended p
+  pub trace : new.trace ≡ old.trace ++ Crashed p ∷ []
+  pub puts : new.pool ≡ old.pool
 
 -- REFUSED: nothing happened; the member runs on as the call left it, or has ended, if it is closed
-pub record Refuses {S : Type 0} (p : Address) (e : Error) (left : MemberModel S) (t : List Event) (pool : List (List ℕ)) (a : Answer) (new : Seat S) (t' : List Event)
-    (pool' : List (List ℕ)) : Type 0 where
+pub record Refuses {S : Type 0} (p : Address) (e : Error) (left : MemberModel S) (old : About (Seat S)) (a : Answer) (new : About (Seat S)) : Type 0 where
   pub answer : a ≡ answer_for e
-  pub seat : new ≡ (if is_closed e then Ended p else Running left)
-  pub trace : t' ≡ t
-  pub puts : pool' ≡ pool
+  pub seat : new.at ≡ (if is_closed e then Ended p else Running left)
+  pub trace : new.trace ≡ old.trace
+  pub puts : new.pool ≡ old.pool
 
 -- what comes of a call at the node, by what it answered; what it would put out is lost where the pool is refused growth for it
-abbrev pub Gives : {S : Type 0} → Address → Input → Result Output Error → MemberModel S → List Event → List (List ℕ) → Answer → Seat S → List Event → List (List ℕ) → Type 0
-Gives p input (Ok out) left t pool a new t' pool' = Takes p input out left t pool a new t' pool' ⊎ ((out.packets.items ≡ [] → ⊥) × Crashes p t pool a new t' pool')
-Gives p input (Err e) left t pool a new t' pool' = MatchBool (is_memory e) (Crashes p t pool a new t' pool') (Refuses p e left t pool a new t' pool')
+abbrev pub Gives : {S : Type 0} → Address → Input → Result Output Error → MemberModel S → About (Seat S) → Answer → About (Seat S) → Type 0
+Gives p input (Ok out) left old a new = Takes p input out left old a new ⊎ ((out.packets.items ≡ [] → ⊥) × Crashes p old a new)
+Gives p input (Err e) left old a new = MatchBool (is_memory e) (Crashes p old a new) (Refuses p e left old a new)
 
 -- one call of `handle` on the member that runs there, with its whole contract, and what comes of it
-pub record HandsHere {S : Type 0} (meaning : Meaning S) (input : Input) (m : MemberModel S) (t : List Event)
-    (pool : List (List ℕ)) (a : Answer) (new : Seat S) (t' : List Event) (pool' : List (List ℕ)) : Type 0 where
+pub record HandsHere {S : Type 0} (meaning : Meaning S) (input : Input) (m : MemberModel S) (old : About (Seat S)) (a : Answer) (new : About (Seat S)) : Type 0 where
   pub result : Result Output Error
   pub left : MemberModel S
   pub handled : Handled meaning m input result left
-  pub gives : Gives m.address input result left t pool a new t' pool'
+  pub gives : Gives m.address input result left old a new
 
-abbrev pub Hands : {S : Type 0} → Meaning S → Input → Seat S → List Event → List (List ℕ) → Answer → Seat S → List Event → List (List ℕ) → Type 0
-Hands meaning input Vacant t pool a new t' pool' = Stays NotConnected Vacant t a new t' × (pool' ≡ pool)
-Hands meaning input (Ended p) t pool a new t' pool' = Stays Closed (Ended p) t a new t' × (pool' ≡ pool)
-Hands meaning input (Running m) t pool a new t' pool' = HandsHere meaning input m t pool a new t' pool'
+-- refused, and no packet is put out
+abbrev pub StaysSo : {S : Type 0} → Refusal → About (Seat S) → Answer → About (Seat S) → Type 0
+StaysSo r old a new = Stays r old.at old.trace a new.at new.trace × (new.pool ≡ old.pool)
+
+abbrev pub HandsAt : {S : Type 0} → Meaning S → Input → Seat S → About (Seat S) → Answer → About (Seat S) → Type 0
+HandsAt meaning input Vacant old a new = StaysSo NotConnected old a new
+HandsAt meaning input (Ended p) old a new = StaysSo Closed old a new
+HandsAt meaning input (Running m) old a new = HandsHere meaning input m old a new
+
+abbrev pub Hands : {S : Type 0} → Meaning S → Input → About (Seat S) → Answer → About (Seat S) → Type 0
+Hands meaning input old a new = HandsAt meaning input old.at old a new
 
 -- ---- starts and crashes
 
@@ -149,44 +164,52 @@ CrashGives (Running m) t a new t' = Ends m.address (Crashed m.address) t a new t
 -- ---- events
 
 -- what is handed to the member at the node, with a payload that is lent
-abbrev pub HandsLent : {S : Type 0} → Meaning S → (Bor (List ℕ) → Input) → List ℕ → Seat S → List Event → List (List ℕ) → Answer → Seat S
-    → List Event → List (List ℕ) → Type 0
-HandsLent meaning input bytes Vacant t pool a new t' pool' = Stays NotConnected Vacant t a new t' × (pool' ≡ pool)
-HandsLent meaning input bytes (Ended p) t pool a new t' pool' = Stays Closed (Ended p) t a new t' × (pool' ≡ pool)
-HandsLent meaning input bytes (Running m) t pool a new t' pool' = (b : Bor (List ℕ)) × (b.now ≡ bytes) × HandsHere meaning (input b) m t pool a new t' pool'
+abbrev pub HandsLentAt : {S : Type 0} → Meaning S → (Bor (List ℕ) → Input) → List ℕ → Seat S → About (Seat S) → Answer → About (Seat S) → Type 0
+HandsLentAt meaning input bytes Vacant old a new = StaysSo NotConnected old a new
+HandsLentAt meaning input bytes (Ended p) old a new = StaysSo Closed old a new
+HandsLentAt meaning input bytes (Running m) old a new = (b : Bor (List ℕ)) × (b.now ≡ bytes) × HandsHere meaning (input b) m old a new
+
+abbrev pub HandsLent : {S : Type 0} → Meaning S → (Bor (List ℕ) → Input) → List ℕ → About (Seat S) → Answer → About (Seat S) → Type 0
+HandsLent meaning input bytes old a new = HandsLentAt meaning input bytes old.at old a new
 
 -- an event at its node
-abbrev pub Acts : {S : Type 0} → Meaning S → WorldEvent → Seat S → List Event → List (List ℕ) → Answer → Seat S → List Event → List (List ℕ) → Type 0
-Acts meaning (Start n) old t pool a new t' pool' = StartGives meaning n old t a new t' × (pool' ≡ pool)
-Acts meaning (Create n) old t pool a new t' pool' = Hands meaning input.Create old t pool a new t' pool'
-Acts meaning (Join n contact) old t pool a new t' pool' = Hands meaning (input.Join contact) old t pool a new t' pool'
-Acts meaning (Send n payload) old t pool a new t' pool' = HandsLent meaning input.Send payload old t pool a new t' pool'
-Acts meaning (Deliver k) old t pool a new t' pool' = (a ≡ Done) × (new ≡ old) × (t' ≡ t) × (pool' ≡ pool)
-Acts meaning (Tick n) old t pool a new t' pool' = Hands meaning input.Tick old t pool a new t' pool'
-Acts meaning (Suspect n q) old t pool a new t' pool' = Hands meaning (input.Suspect q) old t pool a new t' pool'
-Acts meaning (MergeHint n q) old t pool a new t' pool' = Hands meaning (input.MergeHint q) old t pool a new t' pool'
-Acts meaning (Leave n) old t pool a new t' pool' = Hands meaning input.Leave old t pool a new t' pool'
-Acts meaning (Crash n) old t pool a new t' pool' = CrashGives old t a new t' × (pool' ≡ pool)
+abbrev pub Acts : {S : Type 0} → Meaning S → WorldEvent → About (Seat S) → Answer → About (Seat S) → Type 0
+Acts meaning (Start n) old a new = StartGives meaning n old.at old.trace a new.at new.trace × (new.pool ≡ old.pool)
+Acts meaning (Create n) old a new = Hands meaning input.Create old a new
+Acts meaning (Join n contact) old a new = Hands meaning (input.Join contact) old a new
+Acts meaning (Send n payload) old a new = HandsLent meaning input.Send payload old a new
+Acts meaning (Deliver k) old a new = (a ≡ Done) × (new.at ≡ old.at) × (new.trace ≡ old.trace) × (new.pool ≡ old.pool)
+Acts meaning (Tick n) old a new = Hands meaning input.Tick old a new
+Acts meaning (Suspect n q) old a new = Hands meaning (input.Suspect q) old a new
+Acts meaning (MergeHint n q) old a new = Hands meaning (input.MergeHint q) old a new
+Acts meaning (Leave n) old a new = Hands meaning input.Leave old a new
+Acts meaning (Crash n) old a new = CrashGives old.at old.trace a new.at new.trace × (new.pool ≡ old.pool)
 
 -- nothing is done
-pub record Idles {S : Type 0} (old : Seat S) (t : List Event) (pool : List (List ℕ)) (a : Answer) (new : Seat S) (t' : List Event) (pool' : List (List ℕ)) : Type 0 where
+pub record Idles {S : Type 0} (old : About (Seat S)) (a : Answer) (new : About (Seat S)) : Type 0 where
   pub answer : a ≡ Done
-  pub seat : new ≡ old
-  pub trace : t' ≡ t
-  pub puts : pool' ≡ pool
+  pub seat : new.at ≡ old.at
+  pub trace : new.trace ≡ old.trace
+  pub puts : new.pool ≡ old.pool
 
 -- the bytes of a packet at a node
-abbrev pub Hears : {S : Type 0} → Meaning S → List ℕ → Seat S → List Event → List (List ℕ) → Answer → Seat S → List Event → List (List ℕ) → Type 0
-Hears meaning bytes Vacant t pool a new t' pool' = Idles Vacant t pool a new t' pool'
-Hears meaning bytes (Ended p) t pool a new t' pool' = Idles (Ended p) t pool a new t' pool'
-Hears meaning bytes (Running m) t pool a new t' pool' = HandsLent meaning input.Datagram bytes (Running m) t pool a new t' pool'
+abbrev pub HearsAt : {S : Type 0} → Meaning S → List ℕ → Seat S → About (Seat S) → Answer → About (Seat S) → Type 0
+HearsAt meaning bytes Vacant old a new = Idles old a new
+HearsAt meaning bytes (Ended p) old a new = Idles old a new
+HearsAt meaning bytes (Running m) old a new = HandsLentAt meaning input.Datagram bytes (Running m) old a new
+
+abbrev pub Hears : {S : Type 0} → Meaning S → List ℕ → About (Seat S) → Answer → About (Seat S) → Type 0
+Hears meaning bytes old a new = HearsAt meaning bytes old.at old a new
 
 -- ---- nodes
 
 -- an event at its node, which may not be kept yet
-abbrev pub ActsAt : {S : Type 0} → Meaning S → WorldEvent → Option (Seat S) → List Event → List (List ℕ) → Answer → Option (Seat S) → List Event → List (List ℕ) → Type 0
-ActsAt meaning e None t pool a new t' pool' = (a ≡ Refused NotConnected) × (new ≡ None) × (t' ≡ t) × (pool' ≡ pool)
-ActsAt meaning e (Some s) t pool a new t' pool' = Acts meaning e s t pool a (seat_at new) t' pool'
+abbrev pub ActsAtKept : {S : Type 0} → Meaning S → WorldEvent → Option (Seat S) → About (Option (Seat S)) → Answer → About (Option (Seat S)) → Type 0
+ActsAtKept meaning e None old a new = (a ≡ Refused NotConnected) × (new.at ≡ None) × (new.trace ≡ old.trace) × (new.pool ≡ old.pool)
+ActsAtKept meaning e (Some s) old a new = Acts meaning e (about s old.trace old.pool) a (about (seat_at new.at) new.trace new.pool)
+
+abbrev pub ActsAt : {S : Type 0} → Meaning S → WorldEvent → About (Option (Seat S)) → Answer → About (Option (Seat S)) → Type 0
+ActsAt meaning e old a new = ActsAtKept meaning e old.at old a new
 
 -- a node that is not kept is kept, and vacant
 abbrev pub KeepsSeat : {S : Type 0} → Option (Seat S) → Option (Seat S) → Type 0
@@ -194,10 +217,9 @@ KeepsSeat None new = new ≡ Some Vacant
 KeepsSeat (Some s) new = new ≡ Some s
 
 -- a start finds its node kept, and vacant if it is new
-abbrev pub CarriesOut : {S : Type 0} → Meaning S → WorldEvent → Option (Seat S) → List Event → List (List ℕ) → Answer → Option (Seat S)
-    → List Event → List (List ℕ) → Type 0
-CarriesOut meaning e o t pool a new t' pool' =
-    MatchBool (starts e) (Acts meaning e (seat_at o) t pool a (seat_at new) t' pool') (ActsAt meaning e o t pool a new t' pool')
+abbrev pub CarriesOut : {S : Type 0} → Meaning S → WorldEvent → About (Option (Seat S)) → Answer → About (Option (Seat S)) → Type 0
+CarriesOut meaning e old a new =
+    MatchBool (starts e) (Acts meaning e (about (seat_at old.at) old.trace old.pool) a (about (seat_at new.at) new.trace new.pool)) (ActsAt meaning e old a new)
 
 -- ---- all nodes
 
@@ -209,25 +231,27 @@ abbrev pub OthersStand : {S : Type 0} → ℕ → (ℕ → Seat S) → (ℕ → 
 OthersStand n at new = (m : ℕ) → nat_eq n m ≡ false → new m ≡ at m
 
 -- no node, no event and no packet changes
-pub record Rests {S : Type 0} (at : ℕ → Seat S) (t : List Event) (pool : List (List ℕ)) (a : Answer) (new : ℕ → Seat S) (t' : List Event) (pool' : List (List ℕ)) : Type 0 where
+pub record Rests {S : Type 0} (old : About (ℕ → Seat S)) (a : Answer) (new : About (ℕ → Seat S)) : Type 0 where
   pub answer : a ≡ Done
-  pub seats : SameSeats at new
-  pub trace : t' ≡ t
-  pub puts : pool' ≡ pool
+  pub seats : SameSeats old.at new.at
+  pub trace : new.trace ≡ old.trace
+  pub puts : new.pool ≡ old.pool
+
+-- what it is about at one of the nodes
+abbrev pub about_node : {S : Type 0} → ℕ → About (ℕ → Seat S) → About (Seat S)
+about_node n w = about (w.at n) w.trace w.pool
 
 -- some bytes are handed to the member that runs at the node of whom they are for
-abbrev pub HandsOver : {S : Type 0} → Meaning S → List ℕ → Option Address → (ℕ → Seat S) → List Event → List (List ℕ) → Answer
-    → (ℕ → Seat S) → List Event → List (List ℕ) → Type 0
-HandsOver meaning bytes None at t pool a new t' pool' = Rests at t pool a new t' pool'
-HandsOver meaning bytes (Some p) at t pool a new t' pool' = Hears meaning bytes (at p.node) t pool a (new p.node) t' pool' × OthersStand p.node at new
+abbrev pub HandsOver : {S : Type 0} → Meaning S → List ℕ → Option Address → About (ℕ → Seat S) → Answer → About (ℕ → Seat S) → Type 0
+HandsOver meaning bytes None old a new = Rests old a new
+HandsOver meaning bytes (Some p) old a new = Hears meaning bytes (about_node p.node old) a (about_node p.node new) × OthersStand p.node old.at new.at
 
 -- a packet is delivered, if there is one of that number
-abbrev pub Delivers : {S : Type 0} → Meaning S → Option (List ℕ) → (ℕ → Seat S) → List Event → List (List ℕ) → Answer → (ℕ → Seat S) → List Event → List (List ℕ) → Type 0
-Delivers meaning None at t pool a new t' pool' = Rests at t pool a new t' pool'
-Delivers meaning (Some bytes) at t pool a new t' pool' = HandsOver meaning bytes (destination_of bytes) at t pool a new t' pool'
+abbrev pub Delivers : {S : Type 0} → Meaning S → Option (List ℕ) → About (ℕ → Seat S) → Answer → About (ℕ → Seat S) → Type 0
+Delivers meaning None old a new = Rests old a new
+Delivers meaning (Some bytes) old a new = HandsOver meaning bytes (destination_of bytes) old a new
 
 -- one event: at its node, or with the packet of its number
-abbrev pub Carries : {S : Type 0} → Meaning S → Target → WorldEvent → (ℕ → Seat S) → List Event → List (List ℕ) → Answer
-    → (ℕ → Seat S) → List Event → List (List ℕ) → Type 0
-Carries meaning (target.Member n) e at t pool a new t' pool' = Acts meaning e (at n) t pool a (new n) t' pool' × OthersStand n at new
-Carries meaning (target.Packet k) e at t pool a new t' pool' = Delivers meaning (packet_numbered k pool) at t pool a new t' pool'
+abbrev pub Carries : {S : Type 0} → Meaning S → Target → WorldEvent → About (ℕ → Seat S) → Answer → About (ℕ → Seat S) → Type 0
+Carries meaning (target.Member n) e old a new = Acts meaning e (about_node n old) a (about_node n new) × OthersStand n old.at new.at
+Carries meaning (target.Packet k) e old a new = Delivers meaning (packet_numbered k old.pool) old a new

@@ -12,7 +12,7 @@ use Rattle.world_model.specs.Histories.{History, no_history, target_of, after}
 use Rattle.world.specs.declared.seat.Seat.{Seat}
 use Rattle.world.specs.declared.seat.Seat.TheVariants.{Vacant}
 use Rattle.world.specs.Seats.{seat_at}
-use Rattle.world.specs.Turns.{Carries}
+use Rattle.world.specs.Turns.{about, Carries}
 
 -- the history, and what stands at each node: nothing yet, one that has ended, or the member that runs, as contracts see it
 pub record WorldModel (S : Type 0) : Type 0 where
@@ -45,7 +45,7 @@ module _ {S : Type 0} (meaning : Meaning S) where
     pub packets : List (List ℕ)
     pub stretch : List Event
     pub goes_on : new.history ≡ after old.history e answer packets stretch
-    pub does : Carries meaning (target_of e) e old.seats old.history.trace old.history.pool answer new.seats new.history.trace new.history.pool
+    pub does : Carries meaning (target_of e) e (about old.seats old.history.trace old.history.pool) answer (about new.seats new.history.trace new.history.pool)
 
   -- one world comes from another by a world step for each of these events, in order
   pub data Runs (from : WorldModel S) : List WorldEvent → WorldModel S → Type 0 where

@@ -13,7 +13,7 @@ ghost use Rattle.world.specs.Worlds.{shown, no_world, IsLonger, WorldStep, Runs}
 ghost use Rattle.world_model.specs.Packets.{packet_numbered};
 ghost use Rattle.world_model.specs.Faithful.{IsFaithful};
 ghost use Rattle.world.specs.Seats.{seat_at, seats_in};
-ghost use Rattle.world.specs.Turns.{ActsAt, KeepsSeat, CarriesOut, Carries, Hears, Delivers, SameSeats};
+ghost use Rattle.world.specs.Turns.{about, ActsAt, KeepsSeat, CarriesOut, Carries, Hears, Delivers, SameSeats};
 
 mod gaps;
 mod pool;
@@ -78,7 +78,7 @@ fn act_at<R: Receiver>(
     event: &WorldEvent,
 ) -> Answer
     requires room { STEP_EVENTS ≤ trace.old.room }
-    ensures acts { ActsAt R.meaning event.now (get nat_cmp seats.old node) trace.old.events pool.old result (get nat_cmp seats.new node) trace.new.events pool.new }
+    ensures acts { ActsAt R.meaning event.now (about (get nat_cmp seats.old node) trace.old.events pool.old) result (about (get nat_cmp seats.new node) trace.new.events pool.new) }
     ensures others { (m : ℕ) → nat_eq node m ≡ false → get nat_cmp seats.new m ≡ get nat_cmp seats.old m }
 {
     match seats.get_mut(&node) {
@@ -97,7 +97,7 @@ fn carry_out<R: Receiver>(
     event: &WorldEvent,
 ) -> Result<Answer, AllocError>
     requires room { STEP_EVENTS ≤ trace.old.room }
-    ensures ok { IfOk result (λ a. CarriesOut R.meaning event.now (get nat_cmp seats.old node) trace.old.events pool.old a (get nat_cmp seats.new node) trace.new.events pool.new) }
+    ensures ok { IfOk result (λ a. CarriesOut R.meaning event.now (about (get nat_cmp seats.old node) trace.old.events pool.old) a (about (get nat_cmp seats.new node) trace.new.events pool.new)) }
     ensures others { (m : ℕ) → nat_eq node m ≡ false → get nat_cmp seats.new m ≡ get nat_cmp seats.old m }
     ensures err { OnErr result (get nat_cmp seats.new node ≡ get nat_cmp seats.old node) }
     ensures err_trace { OnErr result (trace.new.events ≡ trace.old.events) }
@@ -120,7 +120,7 @@ fn hear_at<R: Receiver>(
     number: u64,
 ) -> Answer
     requires room { STEP_EVENTS ≤ trace.old.room }
-    ensures hears { (bytes : List ℕ) → packet_numbered number pool.old ≡ Some bytes → Hears R.meaning bytes (seat_at (get nat_cmp seats.old node)) trace.old.events pool.old result (seat_at (get nat_cmp seats.new node)) trace.new.events pool.new }
+    ensures hears { (bytes : List ℕ) → packet_numbered number pool.old ≡ Some bytes → Hears R.meaning bytes (about (seat_at (get nat_cmp seats.old node)) trace.old.events pool.old) result (about (seat_at (get nat_cmp seats.new node)) trace.new.events pool.new) }
     ensures others { (m : ℕ) → nat_eq node m ≡ false → get nat_cmp seats.new m ≡ get nat_cmp seats.old m }
 {
     match seats.get_mut(&node) {
@@ -137,7 +137,7 @@ fn deliver<R: Receiver>(
     number: u64,
 ) -> Answer
     requires room { STEP_EVENTS ≤ trace.old.room }
-    ensures { Delivers R.meaning (packet_numbered number pool.old) (seats_in (get nat_cmp seats.old)) trace.old.events pool.old result (seats_in (get nat_cmp seats.new)) trace.new.events pool.new }
+    ensures { Delivers R.meaning (packet_numbered number pool.old) (about (seats_in (get nat_cmp seats.old)) trace.old.events pool.old) result (about (seats_in (get nat_cmp seats.new)) trace.new.events pool.new) }
 {
     match pool.destination(number) {
         Some(destination) => hear_at(seats, trace, pool, destination.node(), number),
@@ -154,7 +154,7 @@ fn carry<R: Receiver>(
     event: &WorldEvent,
 ) -> Result<Answer, AllocError>
     requires room { STEP_EVENTS ≤ trace.old.room }
-    ensures ok { IfOk result (λ a. Carries R.meaning (target_of event.now) event.now (seats_in (get nat_cmp seats.old)) trace.old.events pool.old a (seats_in (get nat_cmp seats.new)) trace.new.events pool.new) }
+    ensures ok { IfOk result (λ a. Carries R.meaning (target_of event.now) event.now (about (seats_in (get nat_cmp seats.old)) trace.old.events pool.old) a (about (seats_in (get nat_cmp seats.new)) trace.new.events pool.new)) }
     ensures err { OnErr result (SameSeats (seats_in (get nat_cmp seats.old)) (seats_in (get nat_cmp seats.new))) }
     ensures err_trace { OnErr result (trace.new.events ≡ trace.old.events) }
     ensures err_pool { OnErr result (pool.new ≡ pool.old) }

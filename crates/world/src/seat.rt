@@ -14,7 +14,7 @@ ghost use Rattle.world_model.specs.Packets.{packet_numbered};
 ghost use Rattle.world.specs.declared.seat.Seat.TheVariants.{Ended, Running};
 ghost use Rattle.world.specs.Seats.{answer_for, answer_to};
 ghost use Rattle.world.specs.Outputs.{Fits};
-ghost use Rattle.world.specs.Turns.{Hands, Gives, Begins, StartGives, CrashGives, Acts, Hears};
+ghost use Rattle.world.specs.Turns.{about, Hands, Gives, Begins, StartGives, CrashGives, Acts, Hears};
 
 use crate::pool::Pool;
 use address::{Address, Node};
@@ -121,7 +121,7 @@ fn settle<R: Receiver>(
 ) -> Answer
     requires room { STEP_EVENTS ≤ trace.old.room }
     requires fits { IfOk called Fits }
-    ensures { (input : Input) (left : MemberModel R) → leaves input ≡ leaving → seat.old ≡ Running left → Gives address input called left trace.old.events pool.old result seat.new trace.new.events pool.new }
+    ensures { (input : Input) (m left : MemberModel R) → leaves input ≡ leaving → seat.old ≡ Running left → Gives address input called left (about (Running m) trace.old.events pool.old) result (about seat.new trace.new.events pool.new) }
 {
     match called {
         Ok(Output { packets, events }) => {
@@ -154,7 +154,7 @@ fn hand<R: Receiver>(
     input: &Input<'_>,
 ) -> Answer
     requires room { STEP_EVENTS ≤ trace.old.room }
-    ensures { Hands R.meaning input.now seat.old trace.old.events pool.old result seat.new trace.new.events pool.new }
+    ensures { Hands R.meaning input.now (about seat.old trace.old.events pool.old) result (about seat.new trace.new.events pool.new) }
 {
     match seat {
         Seat::Vacant => Answer::Refused(Refusal::NotConnected),
@@ -232,7 +232,7 @@ pub fn hear<R: Receiver>(
     number: u64,
 ) -> Answer
     requires room { STEP_EVENTS ≤ trace.old.room }
-    ensures { (bytes : List ℕ) → packet_numbered number pool.old ≡ Some bytes → Hears R.meaning bytes seat.old trace.old.events pool.old result seat.new trace.new.events pool.new }
+    ensures { (bytes : List ℕ) → packet_numbered number pool.old ≡ Some bytes → Hears R.meaning bytes (about seat.old trace.old.events pool.old) result (about seat.new trace.new.events pool.new) }
 {
     match seat {
         Seat::Vacant | Seat::Ended(_) => Answer::Done,
@@ -256,7 +256,7 @@ pub fn act<R: Receiver>(
     event: &WorldEvent,
 ) -> Answer
     requires room { STEP_EVENTS ≤ trace.old.room }
-    ensures { Acts R.meaning event.now seat.old trace.old.events pool.old result seat.new trace.new.events pool.new }
+    ensures { Acts R.meaning event.now (about seat.old trace.old.events pool.old) result (about seat.new trace.new.events pool.new) }
 {
     match event {
         WorldEvent::Start(node) => start(alloc, seat, trace, *node),

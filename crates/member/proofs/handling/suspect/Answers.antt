@@ -3,7 +3,7 @@ use Rattle.member.specs.declared.input.Input.TheVariants.{Suspect}
 use Rattle.member_views.specs.Views.{is_suspectable}
 use Rattle.member_views.proofs.KeepSteady.{suspect-steady}
 use Rattle.member_views.proofs.FactOfCalm.{suspect-calm}
-use Rattle.member_hearing.proofs.KeepOrder.{not-so}
+use Rattle.member.proofs.KeepOrder.{not-so}
 use Rattle.member.proofs.FactOfStep.{from-some, still, steady-runs, suspect-handled, memory-handled, unless}
 use Rattle.member.proofs.handling.suspect.Goals as goal
 

@@ -12,4 +12,4 @@ pub returns-in-Some : goal.returns-in-Some
 returns-in-Some g c bytes is =
     heard g.R.Receiver.meaning c.in-Some.bytes bytes _ c.in-Running.member _ _ _ _ _ _ c.in-Running.is
     (same_Some _ _ (sym (ap option_copied c.in-Some.is) ∙ c.packet.ensures ∙ is))
-    (handed-here g.R.Receiver.meaning _ c.in-Running.member _ _ _ _ _ _ _ _ _ c.handled-called.ensures c.address-address.ensures (c.settle.ensures _ _ refl refl))
+    (handed-here g.R.Receiver.meaning _ c.in-Running.member _ _ _ _ _ _ _ _ _ c.handled-called.ensures c.address-address.ensures (c.settle.ensures _ _ _ refl refl))

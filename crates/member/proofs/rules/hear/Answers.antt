@@ -3,12 +3,12 @@ use Rattle.std.proofs.Common.{Some, sym, ap, ◌∙◌, refl}
 use Rattle.wire.specs.declared.packet.Body.{Body}
 use Rattle.agreement.specs.Acts.{packet}
 use Rattle.membership.proofs.ActsOfChanges.{takes-install-did}
-use Rattle.member_hearing.specs.Hearing.{ignores}
-use Rattle.member_hearing.proofs.KeepOrder.{steady-ordered, items-few, not-so}
+use Rattle.member.specs.Hearing.{ignores}
+use Rattle.member.proofs.KeepOrder.{steady-ordered, items-few, not-so}
 use Rattle.member_views.proofs.KeepSteady as steady
 use Rattle.member_views.proofs.ActsOfRules as acts
 use Rattle.member_views.proofs.FactOfCalm as calm
-use Rattle.member_hearing.proofs.hearing.hear.Goals as goal
+use Rattle.member.proofs.rules.hear.Goals as goal
 
 pub returns-in_ok-on_join-in-Join-clause-ordered : goal.returns-in_ok-on_join-in-Join-clause-ordered
 returns-in_ok-on_join-in-Join-clause-ordered g c =

@@ -1,3 +1,5 @@
+//! Which rule a packet has, by its kind.
+
 ghost use Rattle.std.specs.Prelude.{◌≡◌, ◌+◌, Some, Ok, Err, OnOk, true, false};
 ghost use Rattle.limits.specs.declared.TheConstants.{WINDOW};
 ghost use Rattle.address.specs.Ids.{same_address};
@@ -8,7 +10,7 @@ ghost use Rattle.membership.specs.Lives.{IsLife, core_of, is_connected};
 ghost use Rattle.membership.specs.Changes.{StaysAs};
 ghost use Rattle.membership.specs.Doing.{Did};
 ghost use Rattle.member_messages.specs.Ordered.{IsOrdered};
-ghost use Rattle.member_hearing.specs.Hearing.{Hears, ignores, is_unreadable_by};
+ghost use Rattle.member.specs.Hearing.{Hears, ignores, is_unreadable_by};
 
 use address::Address;
 use member_messages::{on_ack, on_forward, on_nak, on_order, on_status};
@@ -20,7 +22,7 @@ use wire::Body;
 
 /// Takes a packet of its group that is for this member, and from another. Which are ignored, and what each kind does, docs/PROTOCOL.md says by the name
 /// of the packet; one that is ignored takes no memory. After an error nothing is said of the member.
-pub fn hear<R: Receiver>(
+pub(crate) fn hear<R: Receiver>(
     life: &mut Life<R>,
     who: &Identity,
     source: Address,
