@@ -9,7 +9,7 @@ use crate::Error;
 use crate::hearing::{pass_time, take_packet};
 use address::Address;
 use member_messages::{send, send_refusal};
-use member_views::{ask, create, leave, on_suspect, announce_view};
+use member_views::{announce_view, ask, create, leave, on_suspect};
 use membership::Life;
 use output::{Identity, Output};
 use state_transfer::Receiver;

@@ -11,5 +11,5 @@ mod ticking;
 pub use flushing::{on_behind, on_flush, on_report};
 pub use joining::{ask, create, on_join, on_redirect};
 pub use leaving::{leave, on_suspect};
-pub use merging::{on_merge, announce_view};
+pub use merging::{announce_view, on_merge};
 pub use ticking::{ask_again, flush_again};

@@ -241,7 +241,10 @@ fn a_refused_growth_changes_nothing(rt: HostRuntime) {
     if let Some(mut flush) = started(rt.alloc(), &[1, 2]) {
         let held = [spelled(1, 10)];
         let reported = report(3, 0, 1, &held).expect(&rt, "a report");
-        assert!(rt; reported_or_unchanged(&mut flush, 1, &reported), "the first report");
+        assert!(rt;
+            reported_or_unchanged(&mut flush, 1, &reported),
+            "the first report"
+        );
         assert!(rt;
             reported_or_unchanged(&mut flush, 2, &reported),
             "the second report"

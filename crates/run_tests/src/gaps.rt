@@ -75,7 +75,10 @@ const STATUS: u8 = 8;
 #[test]
 fn two_lost_messages_are_recovered(rt: HostRuntime) {
     let mut world = behind(rt.alloc(), &[b"a", b"b"]).expect(&rt, "the events are done");
-    assert!(rt; delivered_to_second(&world) == 0, "nothing was delivered to 2.1");
+    assert!(rt;
+        delivered_to_second(&world) == 0,
+        "nothing was delivered to 2.1"
+    );
     assert!(rt; world.packets().len() == 6, "six packets are there");
     assert!(rt;
         world.catch_up(node(2)) == Ok(true),
@@ -153,7 +156,10 @@ fn thirty_two_lost_messages_are_recovered(rt: HostRuntime) {
         world.catch_up(node(2)) == Ok(true),
         "the catch-up is played"
     );
-    assert!(rt; delivered_to_second(&world) == 32, "all are delivered to 2.1");
+    assert!(rt;
+        delivered_to_second(&world) == 32,
+        "all are delivered to 2.1"
+    );
     assert!(rt;
         world.packets().len() == 102,
         "a STATUS, a NAK, 32 ORDERs, 32 ACKs"

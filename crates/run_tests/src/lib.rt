@@ -9,6 +9,6 @@ mod gaps;
 #[cfg(test)]
 mod last;
 #[cfg(test)]
-mod scripts;
-#[cfg(test)]
 mod receiver_calls;
+#[cfg(test)]
+mod scripts;

@@ -64,8 +64,5 @@ fn a_receiver_is_given_each_view_and_each_block_once(rt: HostRuntime) {
 fn a_flush_that_comes_again_blocks_once(rt: HostRuntime) {
     let world = flushed_twice(rt.alloc()).expect(&rt, "the events are done");
     let second = calls_at(&world, 2);
-    assert!(rt;
-        second == Some((1, 1)),
-        "2.1 is blocked once"
-    );
+    assert!(rt; second == Some((1, 1)), "2.1 is blocked once");
 }

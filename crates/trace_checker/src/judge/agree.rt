@@ -16,7 +16,8 @@ fn is_as_far(past: &Past, other: Option<&Install>, view: ViewId, member: Address
 {
     match other {
         None => true,
-        Some(other) => past.delivered_count(other.member, view) == past.delivered_count(member, view),
+        Some(other) => past.delivered_count(other.member, view)
+            == past.delivered_count(member, view),
     }
 }
 

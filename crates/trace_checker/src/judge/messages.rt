@@ -71,7 +71,10 @@ fn is_next_of(past: &Past, other: Address, delivery: &Delivery) -> bool
         ≡ is_message (slice_get (delivered_in other delivery.now.view past.now) (length (delivered_in delivery.now.member delivery.now.view past.now))) delivery.now.message }
 {
     let count = past.delivered_count(delivery.member, delivery.view);
-    is_same_message(past.delivered_at(other, delivery.view, count), &delivery.message)
+    is_same_message(
+        past.delivered_at(other, delivery.view, count),
+        &delivery.message,
+    )
 }
 
 /// Whether a message that is delivered is the next that the view's coordinator delivered.

@@ -7,7 +7,7 @@ ghost use Rattle.trace_props.specs.Agreeing.{MayMeet, MayKnow, MayHandBack};
 ghost use Rattle.trace_props.specs.Verdicts.{May, MayEach, rules_before};
 
 use super::agree::{may_know, may_meet};
-use super::messages::{may_order, may_send, may_deliver};
+use super::messages::{may_deliver, may_order, may_send};
 use super::placed::may_stand;
 use super::rest::may_hand_back;
 use super::views::may_rise;
