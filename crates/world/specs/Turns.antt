@@ -26,9 +26,9 @@ use Rattle.world_model.specs.declared.Target.{Target}
 use Rattle.world_model.specs.declared.Target.TheVariants as target
 use Rattle.world_model.specs.Histories.{starts}
 use Rattle.world_model.specs.Packets.{world_group, destination_of, packet_numbered}
-use Rattle.world.specs.declared.seat.Seat.{Seat}
-use Rattle.world.specs.declared.seat.Seat.TheVariants.{Vacant, Ended, Running}
-use Rattle.world.specs.Seats.{answer_for, is_closed, answer_to, seat_at, bytes_of}
+use Rattle.world.specs.declared.node_state.NodeState.{NodeState}
+use Rattle.world.specs.declared.node_state.NodeState.TheVariants.{Vacant, Ended, Running}
+use Rattle.world.specs.NodeStates.{answer_for, is_closed, answer_to, node_state_at, bytes_of}
 
 -- ---- a member is handed an input
 
@@ -61,48 +61,48 @@ Steps meaning input m pool (Err e) left pool' = HasFailed meaning input m pool e
 -- ---- a node is handed an input
 
 -- nothing changes
-pub record Stays {S : Type 0} (r : Refusal) (old : Seat S) (t : List Event) (a : Answer) (new : Seat S) (t' : List Event) : Type 0 where
+pub record Stays {S : Type 0} (r : Refusal) (old : NodeState S) (t : List Event) (a : Answer) (new : NodeState S) (t' : List Event) : Type 0 where
   pub answer : a ≡ Refused r
-  pub seat : new ≡ old
+  pub node_state : new ≡ old
   pub trace : t' ≡ t
 
 -- TAKEN: what happened joins the trace, what was put out joins the pool; the member runs on, or has left
-pub record Takes {S : Type 0} (p : Address) (input : Input) (out : Output) (left : MemberModel S) (t : List Event) (pool : List (List ℕ)) (a : Answer) (new : Seat S)
+pub record Takes {S : Type 0} (p : Address) (input : Input) (out : Output) (left : MemberModel S) (t : List Event) (pool : List (List ℕ)) (a : Answer) (new : NodeState S)
     (t' : List Event) (pool' : List (List ℕ)) : Type 0 where
   pub answer : a ≡ answer_to out.events.items
-  pub seat : new ≡ (if leaves input then Ended p else Running left)
+  pub node_state : new ≡ (if leaves input then Ended p else Running left)
   pub trace : t' ≡ t ++ out.events.items
   pub puts : pool' ≡ pool ++ map bytes_of out.packets.items
 
 -- LOST: memory was refused, and the member has crashed
-pub record Crashes {S : Type 0} (p : Address) (t : List Event) (pool : List (List ℕ)) (a : Answer) (new : Seat S) (t' : List Event) (pool' : List (List ℕ)) : Type 0 where
+pub record Crashes {S : Type 0} (p : Address) (t : List Event) (pool : List (List ℕ)) (a : Answer) (new : NodeState S) (t' : List Event) (pool' : List (List ℕ)) : Type 0 where
   pub answer : a ≡ Refused Memory
-  pub seat : new ≡ Ended p
+  pub node_state : new ≡ Ended p
   pub trace : t' ≡ t ++ Crashed p ∷ []
   pub puts : pool' ≡ pool
 
 -- REFUSED: nothing happened; the member runs on as the call left it, or has ended, if it is closed
-pub record Refuses {S : Type 0} (p : Address) (e : Error) (left : MemberModel S) (t : List Event) (pool : List (List ℕ)) (a : Answer) (new : Seat S) (t' : List Event)
+pub record Refuses {S : Type 0} (p : Address) (e : Error) (left : MemberModel S) (t : List Event) (pool : List (List ℕ)) (a : Answer) (new : NodeState S) (t' : List Event)
     (pool' : List (List ℕ)) : Type 0 where
   pub answer : a ≡ answer_for e
-  pub seat : new ≡ (if is_closed e then Ended p else Running left)
+  pub node_state : new ≡ (if is_closed e then Ended p else Running left)
   pub trace : t' ≡ t
   pub puts : pool' ≡ pool
 
 -- what comes of a call at the node, by what it answered; what it would put out is lost where the pool is refused growth for it
-abbrev pub Gives : {S : Type 0} → Address → Input → Result Output Error → MemberModel S → List Event → List (List ℕ) → Answer → Seat S → List Event → List (List ℕ) → Type 0
+abbrev pub Gives : {S : Type 0} → Address → Input → Result Output Error → MemberModel S → List Event → List (List ℕ) → Answer → NodeState S → List Event → List (List ℕ) → Type 0
 Gives p input (Ok out) left t pool a new t' pool' = Takes p input out left t pool a new t' pool' ⊎ ((out.packets.items ≡ [] → ⊥) × Crashes p t pool a new t' pool')
 Gives p input (Err e) left t pool a new t' pool' = MatchBool (is_memory e) (Crashes p t pool a new t' pool') (Refuses p e left t pool a new t' pool')
 
 -- one call of `handle` on the member that runs there, with its whole contract, and what comes of it
 pub record HandsHere {S : Type 0} (meaning : Meaning S) (input : Input) (m : MemberModel S) (t : List Event)
-    (pool : List (List ℕ)) (a : Answer) (new : Seat S) (t' : List Event) (pool' : List (List ℕ)) : Type 0 where
+    (pool : List (List ℕ)) (a : Answer) (new : NodeState S) (t' : List Event) (pool' : List (List ℕ)) : Type 0 where
   pub result : Result Output Error
   pub left : MemberModel S
   pub handled : Handled meaning m input result left
   pub gives : Gives m.address input result left t pool a new t' pool'
 
-abbrev pub Hands : {S : Type 0} → Meaning S → Input → Seat S → List Event → List (List ℕ) → Answer → Seat S → List Event → List (List ℕ) → Type 0
+abbrev pub Hands : {S : Type 0} → Meaning S → Input → NodeState S → List Event → List (List ℕ) → Answer → NodeState S → List Event → List (List ℕ) → Type 0
 Hands meaning input Vacant t pool a new t' pool' = Stays NotConnected Vacant t a new t' × (pool' ≡ pool)
 Hands meaning input (Ended p) t pool a new t' pool' = Stays Closed (Ended p) t a new t' × (pool' ≡ pool)
 Hands meaning input (Running m) t pool a new t' pool' = HandsHere meaning input m t pool a new t' pool'
@@ -110,9 +110,9 @@ Hands meaning input (Running m) t pool a new t' pool' = HandsHere meaning input 
 -- ---- starts and crashes
 
 -- the member of an address runs, and nothing happened to it yet
-pub record Begun {S : Type 0} (meaning : Meaning S) (p : Address) (t : List Event) (new : Seat S) (t' : List Event) : Type 0 where
+pub record Begun {S : Type 0} (meaning : Meaning S) (p : Address) (t : List Event) (new : NodeState S) (t' : List Event) : Type 0 where
   pub member : MemberModel S
-  pub seat : new ≡ Running member
+  pub node_state : new ≡ Running member
   pub address : member.address ≡ p
   pub group : member.group ≡ world_group
   pub core : core_of member ≡ Some (idle meaning.opening p)
@@ -120,16 +120,16 @@ pub record Begun {S : Type 0} (meaning : Meaning S) (p : Address) (t : List Even
   pub trace : t' ≡ t ++ Started p ∷ []
 
 -- the member of an address begins, or begins and crashes
-abbrev pub BeginsSo : {S : Type 0} → Meaning S → Address → List Event → Answer → Seat S → List Event → Type 0
+abbrev pub BeginsSo : {S : Type 0} → Meaning S → Address → List Event → Answer → NodeState S → List Event → Type 0
 BeginsSo meaning p t Done new t' = Begun meaning p t new t'
 BeginsSo meaning p t (Sent n) new t' = ⊥
 BeginsSo meaning p t (Refused Memory) new t' = (new ≡ Ended p) × (t' ≡ t ++ Started p ∷ [] ++ Crashed p ∷ [])
 BeginsSo meaning p t (Refused r) new t' = ⊥
 
-abbrev pub Begins : {S : Type 0} → Meaning S → Address → List Event → Answer → Seat S → List Event → Type 0
+abbrev pub Begins : {S : Type 0} → Meaning S → Address → List Event → Answer → NodeState S → List Event → Type 0
 Begins meaning p t a new t' = IsAddress p × BeginsSo meaning p t a new t'
 
-abbrev pub StartGives : {S : Type 0} → Meaning S → ℕ → Seat S → List Event → Answer → Seat S → List Event → Type 0
+abbrev pub StartGives : {S : Type 0} → Meaning S → ℕ → NodeState S → List Event → Answer → NodeState S → List Event → Type 0
 StartGives meaning n Vacant t a new t' = Begins meaning (record { node = n; incarnation = 1 }) t a new t'
 StartGives meaning n (Ended p) t a new t' =
     MatchBool (nat_lt (p.incarnation + 1) (2 ^ 32))
@@ -138,10 +138,10 @@ StartGives meaning n (Ended p) t a new t' =
 StartGives meaning n (Running m) t a new t' = Stays AlreadyConnected (Running m) t a new t'
 
 -- the member ends in this event
-abbrev pub Ends : {S : Type 0} → Address → Event → List Event → Answer → Seat S → List Event → Type 0
+abbrev pub Ends : {S : Type 0} → Address → Event → List Event → Answer → NodeState S → List Event → Type 0
 Ends p h t a new t' = (a ≡ Done) × (new ≡ Ended p) × (t' ≡ t ++ h ∷ [])
 
-abbrev pub CrashGives : {S : Type 0} → Seat S → List Event → Answer → Seat S → List Event → Type 0
+abbrev pub CrashGives : {S : Type 0} → NodeState S → List Event → Answer → NodeState S → List Event → Type 0
 CrashGives Vacant t a new t' = Stays NotConnected Vacant t a new t'
 CrashGives (Ended p) t a new t' = Stays Closed (Ended p) t a new t'
 CrashGives (Running m) t a new t' = Ends m.address (Crashed m.address) t a new t'
@@ -149,14 +149,14 @@ CrashGives (Running m) t a new t' = Ends m.address (Crashed m.address) t a new t
 -- ---- events
 
 -- what is handed to the member at the node, with a payload that is lent
-abbrev pub HandsLent : {S : Type 0} → Meaning S → (Bor (List ℕ) → Input) → List ℕ → Seat S → List Event → List (List ℕ) → Answer → Seat S
+abbrev pub HandsLent : {S : Type 0} → Meaning S → (Bor (List ℕ) → Input) → List ℕ → NodeState S → List Event → List (List ℕ) → Answer → NodeState S
     → List Event → List (List ℕ) → Type 0
 HandsLent meaning input bytes Vacant t pool a new t' pool' = Stays NotConnected Vacant t a new t' × (pool' ≡ pool)
 HandsLent meaning input bytes (Ended p) t pool a new t' pool' = Stays Closed (Ended p) t a new t' × (pool' ≡ pool)
 HandsLent meaning input bytes (Running m) t pool a new t' pool' = (b : Bor (List ℕ)) × (b.now ≡ bytes) × HandsHere meaning (input b) m t pool a new t' pool'
 
 -- an event at its node
-abbrev pub Acts : {S : Type 0} → Meaning S → WorldEvent → Seat S → List Event → List (List ℕ) → Answer → Seat S → List Event → List (List ℕ) → Type 0
+abbrev pub Acts : {S : Type 0} → Meaning S → WorldEvent → NodeState S → List Event → List (List ℕ) → Answer → NodeState S → List Event → List (List ℕ) → Type 0
 Acts meaning (Start n) old t pool a new t' pool' = StartGives meaning n old t a new t' × (pool' ≡ pool)
 Acts meaning (Create n) old t pool a new t' pool' = Hands meaning input.Create old t pool a new t' pool'
 Acts meaning (Join n contact) old t pool a new t' pool' = Hands meaning (input.Join contact) old t pool a new t' pool'
@@ -169,14 +169,14 @@ Acts meaning (Leave n) old t pool a new t' pool' = Hands meaning input.Leave old
 Acts meaning (Crash n) old t pool a new t' pool' = CrashGives old t a new t' × (pool' ≡ pool)
 
 -- nothing is done
-pub record Idles {S : Type 0} (old : Seat S) (t : List Event) (pool : List (List ℕ)) (a : Answer) (new : Seat S) (t' : List Event) (pool' : List (List ℕ)) : Type 0 where
+pub record Idles {S : Type 0} (old : NodeState S) (t : List Event) (pool : List (List ℕ)) (a : Answer) (new : NodeState S) (t' : List Event) (pool' : List (List ℕ)) : Type 0 where
   pub answer : a ≡ Done
-  pub seat : new ≡ old
+  pub node_state : new ≡ old
   pub trace : t' ≡ t
   pub puts : pool' ≡ pool
 
 -- the bytes of a packet at a node
-abbrev pub Hears : {S : Type 0} → Meaning S → List ℕ → Seat S → List Event → List (List ℕ) → Answer → Seat S → List Event → List (List ℕ) → Type 0
+abbrev pub Hears : {S : Type 0} → Meaning S → List ℕ → NodeState S → List Event → List (List ℕ) → Answer → NodeState S → List Event → List (List ℕ) → Type 0
 Hears meaning bytes Vacant t pool a new t' pool' = Idles Vacant t pool a new t' pool'
 Hears meaning bytes (Ended p) t pool a new t' pool' = Idles (Ended p) t pool a new t' pool'
 Hears meaning bytes (Running m) t pool a new t' pool' = HandsLent meaning input.Datagram bytes (Running m) t pool a new t' pool'
@@ -184,50 +184,50 @@ Hears meaning bytes (Running m) t pool a new t' pool' = HandsLent meaning input.
 -- ---- nodes
 
 -- an event at its node, which may not be kept yet
-abbrev pub ActsAt : {S : Type 0} → Meaning S → WorldEvent → Option (Seat S) → List Event → List (List ℕ) → Answer → Option (Seat S) → List Event → List (List ℕ) → Type 0
+abbrev pub ActsAt : {S : Type 0} → Meaning S → WorldEvent → Option (NodeState S) → List Event → List (List ℕ) → Answer → Option (NodeState S) → List Event → List (List ℕ) → Type 0
 ActsAt meaning e None t pool a new t' pool' = (a ≡ Refused NotConnected) × (new ≡ None) × (t' ≡ t) × (pool' ≡ pool)
-ActsAt meaning e (Some s) t pool a new t' pool' = Acts meaning e s t pool a (seat_at new) t' pool'
+ActsAt meaning e (Some s) t pool a new t' pool' = Acts meaning e s t pool a (node_state_at new) t' pool'
 
 -- a node that is not kept is kept, and vacant
-abbrev pub KeepsSeat : {S : Type 0} → Option (Seat S) → Option (Seat S) → Type 0
-KeepsSeat None new = new ≡ Some Vacant
-KeepsSeat (Some s) new = new ≡ Some s
+abbrev pub KeepsNodeState : {S : Type 0} → Option (NodeState S) → Option (NodeState S) → Type 0
+KeepsNodeState None new = new ≡ Some Vacant
+KeepsNodeState (Some s) new = new ≡ Some s
 
 -- a start finds its node kept, and vacant if it is new
-abbrev pub CarriesOut : {S : Type 0} → Meaning S → WorldEvent → Option (Seat S) → List Event → List (List ℕ) → Answer → Option (Seat S)
+abbrev pub CarriesOut : {S : Type 0} → Meaning S → WorldEvent → Option (NodeState S) → List Event → List (List ℕ) → Answer → Option (NodeState S)
     → List Event → List (List ℕ) → Type 0
 CarriesOut meaning e o t pool a new t' pool' =
-    MatchBool (starts e) (Acts meaning e (seat_at o) t pool a (seat_at new) t' pool') (ActsAt meaning e o t pool a new t' pool')
+    MatchBool (starts e) (Acts meaning e (node_state_at o) t pool a (node_state_at new) t' pool') (ActsAt meaning e o t pool a new t' pool')
 
 -- ---- all nodes
 
-abbrev pub SameSeats : {S : Type 0} → (ℕ → Seat S) → (ℕ → Seat S) → Type 0
-SameSeats at new = (m : ℕ) → new m ≡ at m
+abbrev pub SameNodeStates : {S : Type 0} → (ℕ → NodeState S) → (ℕ → NodeState S) → Type 0
+SameNodeStates at new = (m : ℕ) → new m ≡ at m
 
 -- all nodes but one stand as they stood
-abbrev pub OthersStand : {S : Type 0} → ℕ → (ℕ → Seat S) → (ℕ → Seat S) → Type 0
+abbrev pub OthersStand : {S : Type 0} → ℕ → (ℕ → NodeState S) → (ℕ → NodeState S) → Type 0
 OthersStand n at new = (m : ℕ) → nat_eq n m ≡ false → new m ≡ at m
 
 -- no node, no event and no packet changes
-pub record Rests {S : Type 0} (at : ℕ → Seat S) (t : List Event) (pool : List (List ℕ)) (a : Answer) (new : ℕ → Seat S) (t' : List Event) (pool' : List (List ℕ)) : Type 0 where
+pub record Rests {S : Type 0} (at : ℕ → NodeState S) (t : List Event) (pool : List (List ℕ)) (a : Answer) (new : ℕ → NodeState S) (t' : List Event) (pool' : List (List ℕ)) : Type 0 where
   pub answer : a ≡ Done
-  pub seats : SameSeats at new
+  pub node_states : SameNodeStates at new
   pub trace : t' ≡ t
   pub puts : pool' ≡ pool
 
 -- some bytes are handed to the member that runs at the node of whom they are for
-abbrev pub HandsOver : {S : Type 0} → Meaning S → List ℕ → Option Address → (ℕ → Seat S) → List Event → List (List ℕ) → Answer
-    → (ℕ → Seat S) → List Event → List (List ℕ) → Type 0
+abbrev pub HandsOver : {S : Type 0} → Meaning S → List ℕ → Option Address → (ℕ → NodeState S) → List Event → List (List ℕ) → Answer
+    → (ℕ → NodeState S) → List Event → List (List ℕ) → Type 0
 HandsOver meaning bytes None at t pool a new t' pool' = Rests at t pool a new t' pool'
 HandsOver meaning bytes (Some p) at t pool a new t' pool' = Hears meaning bytes (at p.node) t pool a (new p.node) t' pool' × OthersStand p.node at new
 
 -- a packet is delivered, if there is one of that number
-abbrev pub Delivers : {S : Type 0} → Meaning S → Option (List ℕ) → (ℕ → Seat S) → List Event → List (List ℕ) → Answer → (ℕ → Seat S) → List Event → List (List ℕ) → Type 0
+abbrev pub Delivers : {S : Type 0} → Meaning S → Option (List ℕ) → (ℕ → NodeState S) → List Event → List (List ℕ) → Answer → (ℕ → NodeState S) → List Event → List (List ℕ) → Type 0
 Delivers meaning None at t pool a new t' pool' = Rests at t pool a new t' pool'
 Delivers meaning (Some bytes) at t pool a new t' pool' = HandsOver meaning bytes (destination_of bytes) at t pool a new t' pool'
 
 -- one event: at its node, or with the packet of its number
-abbrev pub Carries : {S : Type 0} → Meaning S → Target → WorldEvent → (ℕ → Seat S) → List Event → List (List ℕ) → Answer
-    → (ℕ → Seat S) → List Event → List (List ℕ) → Type 0
+abbrev pub Carries : {S : Type 0} → Meaning S → Target → WorldEvent → (ℕ → NodeState S) → List Event → List (List ℕ) → Answer
+    → (ℕ → NodeState S) → List Event → List (List ℕ) → Type 0
 Carries meaning (target.Member n) e at t pool a new t' pool' = Acts meaning e (at n) t pool a (new n) t' pool' × OthersStand n at new
 Carries meaning (target.Packet k) e at t pool a new t' pool' = Delivers meaning (packet_numbered k pool) at t pool a new t' pool'
