@@ -166,15 +166,15 @@ module _ {S : Type 0} (meaning : Meaning S) where
       let more = announcing p w in
       let h1 = with_blocked h p c.view c.installed in
       let k = grown h more (blocking c) in
-      let halted = halts meaning h p c.view c.installed c.traffic c.kept c.state i.trace x.promise.inside x.seat x.view x.state in
+      let halted = halts meaning h p c.view c.installed c.traffic c.kept c.state i.trace x.promise.inside x.standing x.view x.state in
       let mine : same_address w.id.creator p ≡ true = same_address-from w.id.creator p a.own in
       let none : flush_of w.id h.pool ≡ None = none-by (flush_of w.id h.pool) h.pool w.id refl (λ l e. is-past c.promise w.id a.above (x.below.announced w.id l mine e)) in
-      let posted = quiet-packets meaning p h1 more halted.seat.running.started
+      let posted = quiet-packets meaning p h1 more halted.standing.running.started
       (map-each (IsFrom p) (packet p (bodies.Flush w)) (others_of p w.members) (λ q. record { source = refl; mine = a.own }))
       (λ n y v at. map-each (λ (z : Posted). install_in v z.body ≡ None) (packet p (bodies.Flush w)) (others_of p w.members) (λ q. refl) n y at) halted.quiet.trace in
       let quiet = quiet-trans meaning p h h1 k halted.quiet posted in
       let fact : Fact k p (promised w (Some (begun w c)) c) = record {
-        seat = halted.seat;
+        standing = halted.standing;
         promise = record {
           inside = λ e. absurd (let n : false ≡ true = e in cc);
           is = λ e. absurd (let n : false ≡ true = e in cc);
@@ -222,7 +222,7 @@ module _ {S : Type 0} (meaning : Meaning S) where
       })
   begins-keep s p c w i runs a =
       let x = i.members p c runs in
-      let itself : c.me ≡ p = x.seat.itself in
+      let itself : c.me ≡ p = x.standing.itself in
       let mine : Fact s.history c.me c = subst (λ (q : Address). Fact s.history q c) (sym itself) x in
       subst (λ (q : Address). Invariant meaning (record {
         running = put q (Some (promised w (Some (begun w c)) c)) s.running;

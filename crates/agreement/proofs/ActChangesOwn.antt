@@ -37,7 +37,7 @@ pub open-fact : {S : Type 0} (meaning : Meaning S) (h : History) (p : Address) (
     (t : Traffic) → MemberFact meaning h p c → IsOpenIn c v → ViewFact h p c.installed t c.kept v
     → MemberFact meaning h p (with_traffic t c)
 open-fact meaning h p c v t x o fact = record {
-  seat = x.seat;
+  standing = x.standing;
   promise = x.promise;
   announced = x.announced;
   below = x.below;
@@ -60,7 +60,7 @@ members-are t v x = by (entry_of v.id.creator v.id t) x
 pub joins-fact : {S : Type 0} (meaning : Meaning S) (h : History) (p : Address) (c : Core S)
     → MemberFact meaning h p c → MemberFact meaning h p (record c { connected = true })
 joins-fact meaning h p c x = record {
-  seat = x.seat;
+  standing = x.standing;
   promise = x.promise;
   announced = x.announced;
   below = x.below;
@@ -255,7 +255,7 @@ records-fact meaning h c which f q r each x a =
     let old = x.flush f a.flush in
     let said = said-of h c which q (bodies.Report f.proposal r) each a.received in
     record {
-      seat = x.seat;
+      standing = x.standing;
       promise = x.promise;
       announced = x.announced;
       below = x.below;

@@ -64,7 +64,7 @@ module _ {S : Type 0} (meaning : Meaning S) where
       let i = lone_install p in
       let w = i.view.id in
       let k = made_on h [] i in
-      let outside : current_view p t ≡ None = x.seat.current ∙ ap id_of a.outside in
+      let outside : current_view p t ≡ None = x.standing.current ∙ ap id_of a.outside in
       let alone : stands_in p (p ∷ []) ≡ true = or_left (same_address p p) false (same_address-refl p) in
       let above : EntersAbove t i = record { inside = alone; previous = sym outside; rises = λ v e. absurd (none-some v e) } in
       let none : entry_of p w t ≡ None = none-of (entry_of p w t) (not-entered t i (views-of meaning h inv.trace) above) in
@@ -76,7 +76,7 @@ module _ {S : Type 0} (meaning : Meaning S) where
         itself = refl;
         may = record {
           mine = refl;
-          running = x.seat.running;
+          running = x.standing.running;
           above = above;
           new = unentered h w inv.entries none;
           inside = λ q there. there;

@@ -113,7 +113,7 @@ module _ {S : Type 0} (meaning : Meaning S) where
   delivers-goes : (h : History) (c : Core S) (v : View) (e : Entry) → c.view ≡ Some v → Fact h c.me c → IsNext h.trace c.me v.id (message_for e)
       → GoesOn meaning h.trace (Delivered (delivery_of c v e))
   delivers-goes h c v e is x next = record {
-    seven = (tt, (tt, (tt, ((λ other. next.order), ((next.number, next.sent), (tt, ((x.seat.running, x.seat.current ∙ ap id_of is), tt)))))));
+    seven = (tt, (tt, (tt, ((λ other. next.order), ((next.number, next.sent), (tt, ((x.standing.running, x.standing.current ∙ ap id_of is), tt)))))));
     enters = tt;
   }
 
@@ -166,11 +166,11 @@ module _ {S : Type 0} (meaning : Meaning S) where
         keeps = λ q j there. let was = f.keeps q j there in (was.0, m.install v.id q j was.1);
       } in
       let new : Fact k me (delivered_next c e) = record {
-        seat = record {
+        standing = record {
           itself = refl;
-          running = record { started = has_started-stays me t (happened ∷ []) x.seat.running.started; going = has_ended-still me t happened refl ∙ x.seat.running.going };
-          current = current_view-push me t happened ∙ x.seat.current;
-          block = is_blocked-push me t happened ∙ x.seat.block;
+          running = record { started = has_started-stays me t (happened ∷ []) x.standing.running.started; going = has_ended-still me t happened refl ∙ x.standing.running.going };
+          current = current_view-push me t happened ∙ x.standing.current;
+          block = is_blocked-push me t happened ∙ x.standing.block;
         };
         promise = x.promise;
         announced = x.announced;

@@ -219,8 +219,8 @@ module _ {S : Type 0} (meaning : Meaning S) where
       subst (λ (o : Option View). GoesOut h (delivered_on h c.me o entries) c entries) (sym is)
       (subst (λ (t : List Event). GoesOut h (record { pool = h.pool; trace = t }) c entries) (sym (append-nil h.trace)) (record {
         quiet = quiet-refl meaning c.me h trace;
-        running = x.seat.running;
-        current = x.seat.current;
+        running = x.standing.running;
+        current = x.standing.current;
         view = λ v e. absurd (none-some v (sym is ∙ e));
         state = x.state.now ∙ ap (applied meaning c.state) (sym none);
         is = subst meaning.is_state (sym x.state.now) x.state.is;
@@ -234,8 +234,8 @@ module _ {S : Type 0} (meaning : Meaning S) where
       let f = x.view v is in
       let stands : Stands h c.me v.id c.traffic.outstanding c.state = record {
         trace = trace;
-        running = x.seat.running;
-        current = x.seat.current ∙ ap id_of is;
+        running = x.standing.running;
+        current = x.standing.current ∙ ap id_of is;
         sent = f.mine.sent;
         state = x.state.now;
         is = x.state.is;

@@ -55,11 +55,11 @@ module _ {S : Type 0} (meaning : Meaning S) where
   leaves-keeps s c i x =
       subst (λ (k : History). Holds (record { running = put c.me None s.running; history = k })) (sym (grown-trace meaning s.history (Left c.me ∷ [])))
       (ends-keeps s c.me (record { pool = s.history.pool; trace = s.history.trace ++ Left c.me ∷ [] }) i
-      (quiet-event meaning c.me s.history (Left c.me) refl refl i.trace (left-goes s.history.trace c.me x.seat.running) tt) refl)
+      (quiet-event meaning c.me s.history (Left c.me) refl refl i.trace (left-goes s.history.trace c.me x.standing.running) tt) refl)
 
   pub crashed-keeps : (s : System S) (p : Address) (c : Core S) → Holds s → s.running p ≡ Some c
       → Holds (record { running = put p None s.running; history = grown s.history [] (Crashed p ∷ []) })
   crashed-keeps s p c i runs =
       subst (λ (k : History). Holds (record { running = put p None s.running; history = k })) (sym (grown-trace meaning s.history (Crashed p ∷ [])))
       (ends-keeps s p (record { pool = s.history.pool; trace = s.history.trace ++ Crashed p ∷ [] }) i
-      (quiet-event meaning p s.history (Crashed p) refl refl i.trace (crashed-goes s.history.trace p (i.members p c runs).seat.running) tt) refl)
+      (quiet-event meaning p s.history (Crashed p) refl refl i.trace (crashed-goes s.history.trace p (i.members p c runs).standing.running) tt) refl)

@@ -110,7 +110,7 @@ module _ {S : Type 0} (meaning : Meaning S) where
   orders-goes : (h : History) (c : Core S) (v : View) (e : Entry) → c.view ≡ Some v → same_address c.me v.id.creator ≡ true → Fact h c.me c → IsDue h.trace c.me v.id (message_for e)
       → GoesOn meaning h.trace (Delivered (delivery_of c v e))
   orders-goes h c v e is first x due = record {
-    seven = (tt, (tt, (tt, ((λ other. absurd (let n : true ≡ false = sym first ∙ other in cc)), ((due.number, due.sent), (tt, ((x.seat.running, x.seat.current ∙ ap id_of is), tt)))))));
+    seven = (tt, (tt, (tt, ((λ other. absurd (let n : true ≡ false = sym first ∙ other in cc)), ((due.number, due.sent), (tt, ((x.standing.running, x.standing.current ∙ ap id_of is), tt)))))));
     enters = tt;
   }
 
@@ -160,11 +160,11 @@ module _ {S : Type 0} (meaning : Meaning S) where
       } in
       let after : Core S = with_ordered c e waiting held in
       let new : Fact k me after = record {
-        seat = record {
+        standing = record {
           itself = refl;
-          running = record { started = has_started-stays me t (happened ∷ []) x.seat.running.started; going = has_ended-still me t happened refl ∙ x.seat.running.going };
-          current = current_view-push me t happened ∙ x.seat.current;
-          block = is_blocked-push me t happened ∙ x.seat.block;
+          running = record { started = has_started-stays me t (happened ∷ []) x.standing.running.started; going = has_ended-still me t happened refl ∙ x.standing.running.going };
+          current = current_view-push me t happened ∙ x.standing.current;
+          block = is_blocked-push me t happened ∙ x.standing.block;
         };
         promise = x.promise;
         announced = x.announced;

@@ -163,10 +163,10 @@ module _ {S : Type 0} (meaning : Meaning S) where
       let k = grown h (m ∷ []) (blocking c) in
       let said = said-of h c which w.id.creator (bodies.Flush w) i.packets a.asked in
       let asked : IsProposal h w.id.creator w = said.fact in
-      let halted = halts meaning h p c.view c.installed c.traffic c.kept c.state i.trace x.promise.inside x.seat x.view x.state in
+      let halted = halts meaning h p c.view c.installed c.traffic c.kept c.state i.trace x.promise.inside x.standing x.view x.state in
       let other = same_address-sym p w.id.creator ∙ said.other in
       let first : report_of p w.id k.pool ≡ Some r = report-risen h.pool p c.promise c.view c.installed c.traffic w.id a.above x.below said.other x.reported in
-      let posted = quiet-packets meaning p h1 (m ∷ []) halted.seat.running.started
+      let posted = quiet-packets meaning p h1 (m ∷ []) halted.standing.running.started
       (slice_get-one (IsFrom p) m (record { source = refl; mine = tt }))
       (λ n y v at. slice_get-one (λ (z : Posted). install_in v z.body ≡ None) m refl n y at) halted.quiet.trace in
       let quiet = quiet-trans meaning p h h1 k halted.quiet posted in
@@ -177,7 +177,7 @@ module _ {S : Type 0} (meaning : Meaning S) where
         true_of = says_of h1 p c.view c.traffic c.kept halted.inside;
       } in
       let fact : Fact k p (promised w None c) = record {
-        seat = halted.seat;
+        standing = halted.standing;
         promise = record {
           inside = λ e. absurd (let n : false ≡ true = e in cc);
           is = λ e. absurd (let n : false ≡ true = e in cc);
@@ -211,7 +211,7 @@ module _ {S : Type 0} (meaning : Meaning S) where
       })
   promises-keep s p c which w i runs a =
       let x = i.members p c runs in
-      let itself : c.me ≡ p = x.seat.itself in
+      let itself : c.me ≡ p = x.standing.itself in
       let mine : Fact s.history c.me c = subst (λ (q : Address). Fact s.history q c) (sym itself) x in
       subst (λ (q : Address). Invariant meaning (record {
         running = put q (Some (promised w None c)) s.running;

@@ -176,9 +176,9 @@ module _ {S : Type 0} (meaning : Meaning S) where
       let m = packet c.me b q in
       let true_now = describes-true h c q b i.trace i.packets x a in
       let k : History = record { pool = h.pool ++ m ∷ []; trace = h.trace } in
-      let quiet = again-quiet h c q b i.trace x.seat.running.started true_now in
+      let quiet = again-quiet h c q b i.trace x.standing.running.started true_now in
       let fact : Fact k c.me c = record {
-        seat = x.seat;
+        standing = x.standing;
         promise = x.promise;
         announced = λ w e other. quiet.later.flush w.id w.members (x.announced w e other);
         below = record {

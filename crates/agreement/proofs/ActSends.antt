@@ -38,7 +38,7 @@ module _ {S : Type 0} (meaning : Meaning S) where
 
   sends-goes : (h : History) (c : Core S) (v : View) (payload : List ℕ) → Fact h c.me c → MaySend c v payload → GoesOn meaning h.trace (Sent (sending_of c v payload))
   sends-goes h c v payload x a = record {
-    seven = (tt, (tt, (tt, (tt, (number, (tt, ((x.seat.running, x.seat.current ∙ ap id_of a.open_in.view, x.seat.block ∙ ap (is_frozen c.view) a.open_in.installed ∙ free), tt)))))));
+    seven = (tt, (tt, (tt, (tt, (number, (tt, ((x.standing.running, x.standing.current ∙ ap id_of a.open_in.view, x.standing.block ∙ ap (is_frozen c.view) a.open_in.installed ∙ free), tt)))))));
     enters = tt;
   }
     where
@@ -85,11 +85,11 @@ module _ {S : Type 0} (meaning : Meaning S) where
         keeps = λ q j there. let was = f.keeps q j there in (was.0, m.install v.id q j was.1);
       } in
       let new : Fact k me (with_traffic (sending payload c.traffic) c) = record {
-        seat = record {
+        standing = record {
           itself = refl;
-          running = record { started = has_started-stays me t (happened ∷ []) x.seat.running.started; going = has_ended-still me t happened refl ∙ x.seat.running.going };
-          current = current_view-push me t happened ∙ x.seat.current;
-          block = is_blocked-push me t happened ∙ x.seat.block;
+          running = record { started = has_started-stays me t (happened ∷ []) x.standing.running.started; going = has_ended-still me t happened refl ∙ x.standing.running.going };
+          current = current_view-push me t happened ∙ x.standing.current;
+          block = is_blocked-push me t happened ∙ x.standing.block;
         };
         promise = x.promise;
         announced = x.announced;

@@ -24,7 +24,7 @@ use Rattle.agreement.specs.Histories.{History}
 use Rattle.agreement.specs.Cores.{Traffic, is_open, id_of, report_with}
 use Rattle.agreement.specs.Acts.{IsAbovePromise}
 use Rattle.agreement.specs.Packets.{SaysOf, state_with}
-use Rattle.agreement.specs.Members.{HasSeat, ViewFact, HasState, PromiseOf, IsNotPast}
+use Rattle.agreement.specs.Members.{HasStanding, ViewFact, HasState, PromiseOf, IsNotPast}
 use Rattle.agreement.specs.Invariant.{TraceFact}
 use Rattle.agreement.proofs.FactOfTally.{list_of-still, tally_of-push}
 use Rattle.agreement.proofs.KeepOthers.{inside-later, window-later, acks-later, waiting-later, first-entered}
@@ -42,12 +42,12 @@ with_blocked h p view installed = record { pool = h.pool; trace = h.trace ++ blo
 pub record IsHalted {S : Type 0} (meaning : Meaning S) (h k : History) (p : Address)
     (view : Option View) (traffic : Traffic) (kept : List (Address × wire.Install)) (state : S) : Type 0 where
   pub quiet : Quiet meaning p h k
-  pub seat : HasSeat k.trace p p view false
+  pub standing : HasStanding k.trace p p view false
   pub inside : ForSome view (ViewFact k p false traffic kept)
   pub own : HasState meaning k.trace p view state
 
 module _ {S : Type 0} (meaning : Meaning S) where
-  blocked-goes : (t : List Event) (p : Address) (v : View) → HasSeat t p p (Some v) true → GoesOn meaning t (Blocked p)
+  blocked-goes : (t : List Event) (p : Address) (v : View) → HasStanding t p p (Some v) true → GoesOn meaning t (Blocked p)
   blocked-goes t p v x = record {
     seven = (tt, (tt, (tt, (tt, (tt, (tt, ((x.running, there, x.block), tt)))))));
     enters = tt;
@@ -57,14 +57,14 @@ module _ {S : Type 0} (meaning : Meaning S) where
       there = ap is_some x.current
 
   -- an open member is blocked
-  halts-open : (h : History) (p : Address) (v : View) (traffic : Traffic) (kept : List (Address × wire.Install)) (state : S) → TraceFact meaning h → HasSeat h.trace p p (Some v) true
+  halts-open : (h : History) (p : Address) (v : View) (traffic : Traffic) (kept : List (Address × wire.Install)) (state : S) → TraceFact meaning h → HasStanding h.trace p p (Some v) true
       → ForSome (Some v) (ViewFact h p true traffic kept) → HasState meaning h.trace p (Some v) state
       → IsHalted meaning h (record { pool = h.pool; trace = h.trace ++ Blocked p ∷ [] }) p (Some v) traffic kept state
-  halts-open h p v traffic kept state trace seat view own_state =
+  halts-open h p v traffic kept state trace standing view own_state =
       let t = h.trace in
       let x = Blocked p in
       let k : History = record { pool = h.pool; trace = t ++ x ∷ [] } in
-      let quiet = quiet-event meaning p h x refl refl trace (blocked-goes t p v seat) tt in
+      let quiet = quiet-event meaning p h x refl refl trace (blocked-goes t p v standing) tt in
       let m = quiet.later in
       let f = view v refl in
       let list = list_of-still p v.id t x refl in
@@ -87,10 +87,10 @@ module _ {S : Type 0} (meaning : Meaning S) where
       } in
       record {
         quiet = quiet;
-        seat = record {
+        standing = record {
           itself = refl;
-          running = record { started = has_started-stays p t (x ∷ []) seat.running.started; going = has_ended-still p t x refl ∙ seat.running.going };
-          current = current_view-push p t x ∙ seat.current;
+          running = record { started = has_started-stays p t (x ∷ []) standing.running.started; going = has_ended-still p t x refl ∙ standing.running.going };
+          current = current_view-push p t x ∙ standing.current;
           block = is_blocked-now p t;
         };
         inside = λ u e. subst (λ (w : View). ViewFact k p false traffic kept w) (same_Some v u e) fact;
@@ -105,20 +105,20 @@ module _ {S : Type 0} (meaning : Meaning S) where
 
   -- a member without a view, or one that waits, already is
   halts-still : (h : History) (p : Address) (view : Option View) (traffic : Traffic) (kept : List (Address × wire.Install)) (state : S) → TraceFact meaning h
-      → HasSeat h.trace p p view false → ForSome view (ViewFact h p false traffic kept) → HasState meaning h.trace p view state
+      → HasStanding h.trace p p view false → ForSome view (ViewFact h p false traffic kept) → HasState meaning h.trace p view state
       → IsHalted meaning h (record { pool = h.pool; trace = h.trace ++ [] }) p view traffic kept state
-  halts-still h p view traffic kept state trace seat fact own_state =
+  halts-still h p view traffic kept state trace standing fact own_state =
       subst (λ (t : List Event). IsHalted meaning h (record { pool = h.pool; trace = t }) p view traffic kept state) (sym (append-nil h.trace))
-      (record { quiet = quiet-refl meaning p h trace; seat = seat; inside = fact; own = own_state })
+      (record { quiet = quiet-refl meaning p h trace; standing = standing; inside = fact; own = own_state })
 
   pub halts : (h : History) (p : Address) (view : Option View) (installed : Bool) (traffic : Traffic) (kept : List (Address × wire.Install)) (state : S) → TraceFact meaning h
-      → (installed ≡ true → is_some view ≡ true) → HasSeat h.trace p p view installed → ForSome view (ViewFact h p installed traffic kept)
+      → (installed ≡ true → is_some view ≡ true) → HasStanding h.trace p p view installed → ForSome view (ViewFact h p installed traffic kept)
       → HasState meaning h.trace p view state
       → IsHalted meaning h (with_blocked h p view installed) p view traffic kept state
-  halts h p None true traffic kept state trace there seat fact own_state = absurd (let n : false ≡ true = there refl in cc)
-  halts h p None false traffic kept state trace there seat fact own_state = halts-still h p None traffic kept state trace seat fact own_state
-  halts h p (Some v) true traffic kept state trace there seat fact own_state = halts-open h p v traffic kept state trace seat fact own_state
-  halts h p (Some v) false traffic kept state trace there seat fact own_state = halts-still h p (Some v) traffic kept state trace seat fact own_state
+  halts h p None true traffic kept state trace there standing fact own_state = absurd (let n : false ≡ true = there refl in cc)
+  halts h p None false traffic kept state trace there standing fact own_state = halts-still h p None traffic kept state trace standing fact own_state
+  halts h p (Some v) true traffic kept state trace there standing fact own_state = halts-open h p v traffic kept state trace standing fact own_state
+  halts h p (Some v) false traffic kept state trace there standing fact own_state = halts-still h p (Some v) traffic kept state trace standing fact own_state
 
 -- ---- what it reports then is so
 

@@ -85,7 +85,7 @@ module _ {S : Type 0} (meaning : Meaning S) where
         keeps = x.keeps;
       } in
       record {
-        seat = record {
+        standing = record {
           itself = refl;
           running = record { started = has_started-stays me t (happened ∷ []) x.running.started; going = has_ended-still me t happened refl ∙ x.running.going };
           current = ap (λ q. current_view q k.trace) (sym x.itself) ∙ current_view-now t i;

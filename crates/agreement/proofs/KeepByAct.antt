@@ -45,8 +45,8 @@ module _ {S : Type 0} (meaning : Meaning S) where
       → Holding (acted meaning s c.me act c)) → Keeps act
   at-own act shown s p c which i runs a =
       let x = i.members p c runs in
-      subst (λ (q : Address). Holding (acted meaning s q act c)) x.seat.itself
-      (shown s c which i (subst (λ (q : Address). Fact s.history q c) (sym x.seat.itself) x) a)
+      subst (λ (q : Address). Holding (acted meaning s q act c)) x.standing.itself
+      (shown s c which i (subst (λ (q : Address). Fact s.history q c) (sym x.standing.itself) x) a)
 
   pub creates-keeps : Keeps Creates
   creates-keeps = at-own Creates (λ s c which i x a. creates-keep meaning s c i x a)

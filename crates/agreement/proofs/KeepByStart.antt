@@ -116,7 +116,7 @@ module _ {S : Type 0} (meaning : Meaning S) where
       let quiet = quiet-event meaning p h (Started p) refl refl i.trace (starts-goes t p fresh) proper in
       let was = nobody meaning p t rules.ordered.placed fresh in
       let fact : MemberFact meaning k p (idle meaning.opening p) = record {
-        seat = record {
+        standing = record {
           itself = refl;
           running = record { started = has_started-now p t; going = has_ended-still p t (Started p) refl ∙ was.going };
           current = current_view-push p t (Started p) ∙ was.outside;

@@ -25,7 +25,7 @@ use Rattle.agreement.specs.Words.{list_of, tally_of}
 use Rattle.agreement.specs.Histories.{Posted, History, flush_in, install_in, flush_of, report_of, install_of}
 use Rattle.agreement.specs.Cores.{Traffic, Core, applied}
 use Rattle.agreement.specs.Packets.{state_with}
-use Rattle.agreement.specs.Members.{HasSeat, installed_as, IsInside, LiesBelow, RunsFlush, HasCounts, HasOwn, HasWindow, HasAcks, HasWaiting, ViewFact, MemberFact}
+use Rattle.agreement.specs.Members.{HasStanding, installed_as, IsInside, LiesBelow, RunsFlush, HasCounts, HasOwn, HasWindow, HasAcks, HasWaiting, ViewFact, MemberFact}
 use Rattle.agreement.proofs.Lists.{first_of-still}
 use Rattle.agreement.proofs.FactOfTally.{list_of-other, tally_of-other}
 use Rattle.agreement.proofs.KeepHistory.{Later}
@@ -228,9 +228,9 @@ pub record OnlyState {S : Type 0} (meaning : Meaning S) (p : Address) (t u : Lis
 
 -- ---- what holds of another
 
-pub seat-other : (p q me : Address) (h k : History) (view : Option View) (installed : Bool) → same_address q p ≡ false → Only p h k
-    → HasSeat h.trace q me view installed → HasSeat k.trace q me view installed
-seat-other p q me h k view installed o only x = record {
+pub standing-other : (p q me : Address) (h k : History) (view : Option View) (installed : Bool) → same_address q p ≡ false → Only p h k
+    → HasStanding h.trace q me view installed → HasStanding k.trace q me view installed
+standing-other p q me h k view installed o only x = record {
   itself = x.itself;
   running = only.running q o x.running;
   current = only.current q o ∙ x.current;
@@ -335,7 +335,7 @@ pub member-other : {S : Type 0} (meaning : Meaning S) (p q : Address) (h k : His
     → same_address q p ≡ false → Later h k → Only p h k → OnlyState meaning p h.trace k.trace
     → MemberFact meaning h q c → MemberFact meaning k q c
 member-other meaning p q h k c o m only states x = record {
-  seat = seat-other p q c.me h k c.view c.installed o only x.seat;
+  standing = standing-other p q c.me h k c.view c.installed o only x.standing;
   promise = x.promise;
   announced = λ w e other. m.flush w.id w.members (x.announced w e other);
   below = below-other p q h k c.promise o only x.below;

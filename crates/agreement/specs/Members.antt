@@ -22,7 +22,7 @@ use Rattle.agreement.specs.Packets.{IsSent, AllHave, HoldsOrder, HoldsAll, state
 
 -- ---- what the trace says of it
 
-pub record HasSeat (t : List Event) (p me : Address) (view : Option View) (installed : Bool) : Type 0 where
+pub record HasStanding (t : List Event) (p me : Address) (view : Option View) (installed : Bool) : Type 0 where
   pub itself : me ≡ p
   pub running : IsRunning p t
   pub current : current_view p t ≡ id_of view
@@ -140,7 +140,7 @@ pub record HasState {S : Type 0} (meaning : Meaning S) (t : List Event) (p : Add
 -- ---- all of it
 
 pub record MemberFact {S : Type 0} (meaning : Meaning S) (h : History) (p : Address) (c : Core S) : Type 0 where
-  pub seat : HasSeat h.trace p c.me c.view c.installed
+  pub standing : HasStanding h.trace p c.me c.view c.installed
   pub promise : PromiseOf p c.promise c.view c.installed
   pub announced : IsAnnounced h.pool p c.promise
   pub below : LiesBelow h.pool p c.promise

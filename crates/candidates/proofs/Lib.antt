@@ -1,2 +1,2 @@
 pub mod FactOfAddressList
-pub mod FactOfLeader
+pub mod FactOfLeads

@@ -84,13 +84,13 @@ module _ {S : Type 0} (meaning : Meaning S) where
       one-acted meaning came c (Begins w) (record { inside = inside; own = x.own; above = x.above; view = sound })
 
   pub proposes-acted : ProposesActed meaning
-  proposes-acted came c b v w inside leader free next =
-      let sound = proposal-is-view c b v w leader free next in
+  proposes-acted came c b v w inside it_leads free next =
+      let sound = proposal-is-view c b v w it_leads free next in
       let x = next-means c b _ w next in
       (sound, one-acted meaning came c (Begins w) (record { inside = ap is_some inside; own = x.own; above = x.above; view = sound }))
 
   pub due-acted : DueActed meaning
-  due-acted came c b w due free = let x = due-means c b w due in proposes-acted came c b x.before w x.inside x.leader free x.next
+  due-acted came c b w due free = let x = due-means c b w due in proposes-acted came c b x.before w x.inside x.it_leads free x.next
 
   pub records-acted : RecordsActed meaning
   records-acted came c f q r received flush awaited =

@@ -12,7 +12,7 @@ use Rattle.view.specs.View.{view_refusal}
 use Rattle.suspicion.specs.Suspicion.{leads}
 use Rattle.candidates.specs.Notes.{NotesModel}
 use Rattle.candidates.specs.Candidates.{candidates, next_counter}
-use Rattle.candidates.proofs.FactOfLeader.{candidates-are-a-view}
+use Rattle.candidates.proofs.FactOfLeads.{candidates-are-a-view}
 use Rattle.trace_props.specs.Rules.{IsBelow}
 use Rattle.agreement.specs.Cores.{Core}
 use Rattle.agreement.specs.Acts.{IsAbovePromise}
@@ -53,9 +53,9 @@ next-means c b list w e = next-by c.promise c.me list (next_counter (promised_co
 -- the candidates of one who leads are a view of its next id
 pub proposal-is-view : {S : Type 0} (c : Core S) (b : NotesModel) (v w : View) → leads b.suspects v.members c.me ≡ true → stands_in c.me b.suspects ≡ false
     → proposal_after c b v ≡ Some w → view_refusal w.id w.members ≡ None
-proposal-is-view c b v w leader free e =
+proposal-is-view c b v w it_leads free e =
     let x = next-means c b (candidates c.me v.members b) w e in
-    let leads-it : leads b.suspects v.members w.id.creator ≡ true = subst (λ (p : Address). leads b.suspects v.members p ≡ true) (sym x.own) leader in
+    let leads-it : leads b.suspects v.members w.id.creator ≡ true = subst (λ (p : Address). leads b.suspects v.members p ≡ true) (sym x.own) it_leads in
     let free-it : stands_in w.id.creator b.suspects ≡ false = subst (λ (p : Address). stands_in p b.suspects ≡ false) (sym x.own) free in
     let listed : candidates w.id.creator v.members b ≡ w.members = ap (λ p. candidates p v.members b) x.own ∙ sym x.listed in
     subst (λ (l : List Address). view_refusal w.id l ≡ None) listed (candidates-are-a-view w.id v.members b leads-it free-it)
@@ -66,11 +66,11 @@ proposal-is-view c b v w leader free e =
 pub record IsDueAfter {S : Type 0} (c : Core S) (b : NotesModel) (w : View) : Type 0 where
   pub before : View
   pub inside : c.view ≡ Some before
-  pub leader : leads b.suspects before.members c.me ≡ true
+  pub it_leads : leads b.suspects before.members c.me ≡ true
   pub next : proposal_after c b before ≡ Some w
 
 due-by : {S : Type 0} (t : Bool) (c : Core S) (b : NotesModel) (v w : View) → c.view ≡ Some v → regroups_in c b v ≡ t → (if t then proposal_after c b v else None) ≡ Some w → IsDueAfter c b w
-due-by true c b v w inside q e = record { before = v; inside = inside; leader = (and_parts (leads b.suspects v.members c.me) (is_due c b v) q).0; next = e }
+due-by true c b v w inside q e = record { before = v; inside = inside; it_leads = (and_parts (leads b.suspects v.members c.me) (is_due c b v) q).0; next = e }
 due-by false c b v w inside q e = absurd (none-some w e)
 
 due-in : {S : Type 0} (view : Option View) (c : Core S) (b : NotesModel) (w : View) → c.view ≡ view → option_and_then (due_at c b) view ≡ Some w → IsDueAfter c b w

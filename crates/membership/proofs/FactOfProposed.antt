@@ -85,7 +85,7 @@ module _ {S : Type 0} (group : List ℕ) (me : Address) where
 
   -- what is due is one
   pub due-is-proposal : (l : Life S) (w : View) → IsLife group me l → due_proposal (core_of me l) l.notes ≡ Some w → IsProposal me l w
-  due-is-proposal l w kept e = let d = due-means (core_of me l) l.notes w e in is-proposal l d.before w kept d.inside d.leader d.next
+  due-is-proposal l w kept e = let d = due-means (core_of me l) l.notes w e in is-proposal l d.before w kept d.inside d.it_leads d.next
 
   flush-by : (flush : Option FlushModel) (l : Life S) (v w : View) → IsLife group me l → l.flush ≡ flush → view_in l.traffic ≡ Some v
       → (if is_some flush then proposal_after (core_of me l) l.notes v else None) ≡ Some w → IsProposal me l w

@@ -12,17 +12,17 @@ use Rattle.trace_props.specs.declared.event.Message.{Message}
 use Rattle.trace_props.specs.declared.event.Sending.{Sending}
 use Rattle.trace_props.specs.declared.event.Delivery.{Delivery}
 use Rattle.trace_props.specs.declared.event.Install.{Install}
-use Rattle.trace_checker.specs.declared.known.seat.Seat.{Seat}
-use Rattle.trace_checker.specs.declared.known.seat.Pair.{Pair}
-use Rattle.trace_checker.specs.declared.known.seat.Way.{Way}
+use Rattle.trace_checker.specs.declared.known.keys.MemberInView.{MemberInView}
+use Rattle.trace_checker.specs.declared.known.keys.Pair.{Pair}
+use Rattle.trace_checker.specs.declared.known.keys.ViewChange.{ViewChange}
 use Rattle.trace_props.specs.Observed.{numbered, delivered_message, said, delivered_in, sent_in, own, install_of, installs_in}
 use Rattle.trace_props.specs.Following.{MayCarry}
 use Rattle.trace_props.specs.Agreeing.{is_view, goes, first_from}
-use Rattle.trace_checker.specs.Known.{sending_of, delivery_of, listed, seat_cmp, same_seat, same_pair, way_cmp, same_way, KnowsSent, KnowsDelivered, KnowsLast, KnowsEntries, KnowsFirsts, KnowsWays}
+use Rattle.trace_checker.specs.Known.{sending_of, delivery_of, listed, in_view_cmp, same_in_view, same_pair, view_change_cmp, same_view_change, KnowsSent, KnowsDelivered, KnowsLast, KnowsEntries, KnowsFirsts, KnowsViewChanges}
 use Rattle.trace_props.proofs.FactOfObserved.{same_address-true, same_view_id-true}
 use Rattle.trace_props.proofs.FactOfDelivered.{is_delivery_to, is_delivery_to-true, delivered_in-still, delivered_in-hit, delivered_in-miss, sent_in-still, sent_in-hit, sent_in-miss, own-hit, own-miss, enters, is_of, register-still, register-push, install_of-some}
 use Rattle.trace_props.proofs.FactOfEqual.{is_eq-then, is_eq-view_id}
-use Rattle.trace_checker.proofs.FactOfTables.{is_eq-seat, same_seat-true}
+use Rattle.trace_checker.proofs.FactOfTables.{is_eq-in_view, same_in_view-true}
 
 and-swap : (a b : Bool) → (a && b) ≡ (b && a)
 and-swap true true = refl
@@ -33,43 +33,43 @@ and-swap false false = refl
 -- MESSAGES
 
 -- what sends nothing leaves what is kept of messages that were sent
-pub sent-still : {Z : Type 0} (m : Seat → Option (Vec (Bor Numbered) Z)) (t : List Event) (h : Event) → ((p : Address) (v : ViewId) → said p v h ≡ None) → KnowsSent m t → KnowsSent m (t ++ h ∷ [])
+pub sent-still : {Z : Type 0} (m : MemberInView → Option (Vec (Bor Numbered) Z)) (t : List Event) (h : Event) → ((p : Address) (v : ViewId) → said p v h ≡ None) → KnowsSent m t → KnowsSent m (t ++ h ∷ [])
 sent-still m t h none r s = r s ∙ sym (sent_in-still s.member s.view t h (none s.member s.view))
 
-sent-at : (t : List Event) (s : Sending) (seat : Seat) (l : List Numbered) (b : Bool) → same_seat (record { view = s.view; member = s.member }) seat ≡ b → l ≡ sent_in seat.member seat.view t
-    → cond b (l ++ s.message ∷ []) l ≡ sent_in seat.member seat.view (t ++ Sent s ∷ [])
-sent-at t s seat l true e r = ap (λ ms. ms ++ s.message ∷ []) r ∙ sym (sent_in-hit seat.member seat.view t s (and-swap (same_address s.member seat.member) (same_view_id s.view seat.view) ∙ e))
-sent-at t s seat l false e r = r ∙ sym (sent_in-miss seat.member seat.view t s (and-swap (same_address s.member seat.member) (same_view_id s.view seat.view) ∙ e))
+sent-at : (t : List Event) (s : Sending) (in_view : MemberInView) (l : List Numbered) (b : Bool) → same_in_view (record { view = s.view; member = s.member }) in_view ≡ b → l ≡ sent_in in_view.member in_view.view t
+    → cond b (l ++ s.message ∷ []) l ≡ sent_in in_view.member in_view.view (t ++ Sent s ∷ [])
+sent-at t s in_view l true e r = ap (λ ms. ms ++ s.message ∷ []) r ∙ sym (sent_in-hit in_view.member in_view.view t s (and-swap (same_address s.member in_view.member) (same_view_id s.view in_view.view) ∙ e))
+sent-at t s in_view l false e r = r ∙ sym (sent_in-miss in_view.member in_view.view t s (and-swap (same_address s.member in_view.member) (same_view_id s.view in_view.view) ∙ e))
 
 -- a message that is sent is kept
-pub sent-noted : {Z : Type 0} (m n : Seat → Option (Vec (Bor Numbered) Z)) (t : List Event) (s : Sending)
-    → ((seat : Seat) → listed (n seat) ≡ cond (same_seat (record { view = s.view; member = s.member }) seat) (listed (m seat) ++ s.message ∷ []) (listed (m seat)))
+pub sent-noted : {Z : Type 0} (m n : MemberInView → Option (Vec (Bor Numbered) Z)) (t : List Event) (s : Sending)
+    → ((in_view : MemberInView) → listed (n in_view) ≡ cond (same_in_view (record { view = s.view; member = s.member }) in_view) (listed (m in_view) ++ s.message ∷ []) (listed (m in_view)))
     → KnowsSent m t → KnowsSent n (t ++ Sent s ∷ [])
-sent-noted m n t s updates r seat = updates seat ∙ sent-at t s seat (listed (m seat)) (same_seat (record { view = s.view; member = s.member }) seat) refl (r seat)
+sent-noted m n t s updates r in_view = updates in_view ∙ sent-at t s in_view (listed (m in_view)) (same_in_view (record { view = s.view; member = s.member }) in_view) refl (r in_view)
 
 -- what delivers nothing leaves what is kept of messages that were delivered
-pub delivered-still : {Z : Type 0} (m : Seat → Option (Vec (Bor Message) Z)) (t : List Event) (h : Event) → ((p : Address) (v : ViewId) → delivered_message p v h ≡ None) → KnowsDelivered m t → KnowsDelivered m (t ++ h ∷ [])
+pub delivered-still : {Z : Type 0} (m : MemberInView → Option (Vec (Bor Message) Z)) (t : List Event) (h : Event) → ((p : Address) (v : ViewId) → delivered_message p v h ≡ None) → KnowsDelivered m t → KnowsDelivered m (t ++ h ∷ [])
 delivered-still m t h none r s = r s ∙ sym (delivered_in-still s.member s.view t h (none s.member s.view))
 
-delivered-at : (t : List Event) (d : Delivery) (seat : Seat) (l : List Message) (b : Bool) → same_seat (record { view = d.view; member = d.member }) seat ≡ b → l ≡ delivered_in seat.member seat.view t
-    → cond b (l ++ d.message ∷ []) l ≡ delivered_in seat.member seat.view (t ++ Delivered d ∷ [])
-delivered-at t d seat l true e r = ap (λ ms. ms ++ d.message ∷ []) r ∙ sym (delivered_in-hit seat.member seat.view t d (and-swap (same_address d.member seat.member) (same_view_id d.view seat.view) ∙ e))
-delivered-at t d seat l false e r = r ∙ sym (delivered_in-miss seat.member seat.view t d (and-swap (same_address d.member seat.member) (same_view_id d.view seat.view) ∙ e))
+delivered-at : (t : List Event) (d : Delivery) (in_view : MemberInView) (l : List Message) (b : Bool) → same_in_view (record { view = d.view; member = d.member }) in_view ≡ b → l ≡ delivered_in in_view.member in_view.view t
+    → cond b (l ++ d.message ∷ []) l ≡ delivered_in in_view.member in_view.view (t ++ Delivered d ∷ [])
+delivered-at t d in_view l true e r = ap (λ ms. ms ++ d.message ∷ []) r ∙ sym (delivered_in-hit in_view.member in_view.view t d (and-swap (same_address d.member in_view.member) (same_view_id d.view in_view.view) ∙ e))
+delivered-at t d in_view l false e r = r ∙ sym (delivered_in-miss in_view.member in_view.view t d (and-swap (same_address d.member in_view.member) (same_view_id d.view in_view.view) ∙ e))
 
 -- a message that is delivered is kept
-pub delivered-noted : {Z : Type 0} (m n : Seat → Option (Vec (Bor Message) Z)) (t : List Event) (d : Delivery)
-    → ((seat : Seat) → listed (n seat) ≡ cond (same_seat (record { view = d.view; member = d.member }) seat) (listed (m seat) ++ d.message ∷ []) (listed (m seat)))
+pub delivered-noted : {Z : Type 0} (m n : MemberInView → Option (Vec (Bor Message) Z)) (t : List Event) (d : Delivery)
+    → ((in_view : MemberInView) → listed (n in_view) ≡ cond (same_in_view (record { view = d.view; member = d.member }) in_view) (listed (m in_view) ++ d.message ∷ []) (listed (m in_view)))
     → KnowsDelivered m t → KnowsDelivered n (t ++ Delivered d ∷ [])
-delivered-noted m n t d updates r seat = updates seat ∙ delivered-at t d seat (listed (m seat)) (same_seat (record { view = d.view; member = d.member }) seat) refl (r seat)
+delivered-noted m n t d updates r in_view = updates in_view ∙ delivered-at t d in_view (listed (m in_view)) (same_in_view (record { view = d.view; member = d.member }) in_view) refl (r in_view)
 
 -- NUMBERS
 
 -- what delivers nothing leaves the numbers
 pub last-still : (m : Pair → Option ℕ) (t : List Event) (h : Event) → ((p : Address) (v : ViewId) → delivered_message p v h ≡ None) → KnowsLast m t → KnowsLast m (t ++ h ∷ [])
-last-still m t h none r s = r s ∙ ap (λ l. length (own s.sender l)) (sym (delivered_in-still s.seat.member s.seat.view t h (none s.seat.member s.seat.view)))
+last-still m t h none r s = r s ∙ ap (λ l. length (own s.sender l)) (sym (delivered_in-still s.in_view.member s.in_view.view t h (none s.in_view.member s.in_view.view)))
 
 abbrev pub pair_of : Delivery → Pair
-pair_of d = record { seat = record { view = d.view; member = d.member }; sender = d.message.sender }
+pair_of d = record { in_view = record { view = d.view; member = d.member }; sender = d.message.sender }
 
 -- the number of a sender's next message is one more than how many were delivered
 number-next : (t : List Event) (d : Delivery) (p q : Address) (v : ViewId) → d.member ≡ p → d.view ≡ v → d.message.sender ≡ q → MayCarry t (Delivered d)
@@ -78,25 +78,25 @@ number-next t d p q v a b c m =
     m.0 ∙ ap (λ x. length (own d.message.sender (delivered_in x d.view t)) + 1) a ∙ ap (λ x. length (own d.message.sender (delivered_in p x t)) + 1) b
     ∙ ap (λ x. length (own x (delivered_in p v t)) + 1) c
 
-last-at : (m : Pair → Option ℕ) (t : List Event) (d : Delivery) (s : Pair) (b c : Bool) → is_delivery_to s.seat.member s.seat.view d ≡ b → same_address d.message.sender s.sender ≡ c → MayCarry t (Delivered d) → KnowsLast m t
-    → unwrap_or (cond (b && c) (Some d.message.number) (m s)) 0 ≡ length (own s.sender (delivered_in s.seat.member s.seat.view (t ++ Delivered d ∷ [])))
-last-at m t d s false c e f may r = r s ∙ ap (λ l. length (own s.sender l)) (sym (delivered_in-miss s.seat.member s.seat.view t d e))
+last-at : (m : Pair → Option ℕ) (t : List Event) (d : Delivery) (s : Pair) (b c : Bool) → is_delivery_to s.in_view.member s.in_view.view d ≡ b → same_address d.message.sender s.sender ≡ c → MayCarry t (Delivered d) → KnowsLast m t
+    → unwrap_or (cond (b && c) (Some d.message.number) (m s)) 0 ≡ length (own s.sender (delivered_in s.in_view.member s.in_view.view (t ++ Delivered d ∷ [])))
+last-at m t d s false c e f may r = r s ∙ ap (λ l. length (own s.sender l)) (sym (delivered_in-miss s.in_view.member s.in_view.view t d e))
 last-at m t d s true false e f may r =
-    r s ∙ ap length (sym (own-miss s.sender (delivered_in s.seat.member s.seat.view t) d.message f)) ∙ ap (λ l. length (own s.sender l)) (sym (delivered_in-hit s.seat.member s.seat.view t d e))
+    r s ∙ ap length (sym (own-miss s.sender (delivered_in s.in_view.member s.in_view.view t) d.message f)) ∙ ap (λ l. length (own s.sender l)) (sym (delivered_in-hit s.in_view.member s.in_view.view t d e))
 last-at m t d s true true e f may r =
-    let same = is_delivery_to-true s.seat.member s.seat.view d e in
-    number-next t d s.seat.member s.sender s.seat.view same.0 same.1 (same_address-true d.message.sender s.sender f) may
-    ∙ sym (length_push (own s.sender (delivered_in s.seat.member s.seat.view t)) (numbered d.message))
-    ∙ ap length (sym (own-hit s.sender (delivered_in s.seat.member s.seat.view t) d.message f))
-    ∙ ap (λ l. length (own s.sender l)) (sym (delivered_in-hit s.seat.member s.seat.view t d e))
+    let same = is_delivery_to-true s.in_view.member s.in_view.view d e in
+    number-next t d s.in_view.member s.sender s.in_view.view same.0 same.1 (same_address-true d.message.sender s.sender f) may
+    ∙ sym (length_push (own s.sender (delivered_in s.in_view.member s.in_view.view t)) (numbered d.message))
+    ∙ ap length (sym (own-hit s.sender (delivered_in s.in_view.member s.in_view.view t) d.message f))
+    ∙ ap (λ l. length (own s.sender l)) (sym (delivered_in-hit s.in_view.member s.in_view.view t d e))
 
 -- the number of a message that is delivered is kept
 pub last-noted : (m n : Pair → Option ℕ) (t : List Event) (d : Delivery)
     → ((s : Pair) → n s ≡ cond (same_pair (pair_of d) s) (Some d.message.number) (m s))
     → MayCarry t (Delivered d) → KnowsLast m t → KnowsLast n (t ++ Delivered d ∷ [])
 last-noted m n t d updates may r s =
-    ap (λ o. unwrap_or o 0) (updates s ∙ ap (λ b. cond (b && same_address d.message.sender s.sender) (Some d.message.number) (m s)) (and-swap (same_view_id d.view s.seat.view) (same_address d.member s.seat.member)))
-    ∙ last-at m t d s (is_delivery_to s.seat.member s.seat.view d) (same_address d.message.sender s.sender) refl refl may r
+    ap (λ o. unwrap_or o 0) (updates s ∙ ap (λ b. cond (b && same_address d.message.sender s.sender) (Some d.message.number) (m s)) (and-swap (same_view_id d.view s.in_view.view) (same_address d.member s.in_view.member)))
+    ∙ last-at m t d s (is_delivery_to s.in_view.member s.in_view.view d) (same_address d.message.sender s.sender) refl refl may r
 
 -- REGISTERS
 
@@ -137,17 +137,17 @@ register-by test equal m n t key i false tests same e updates r k =
     ap option_copied (updates k ∙ ap (λ b. cond b (Some i) (m k)) (tests k)) ∙ written-at m key k i (test k i.now) (same k) e
     ∙ ap (λ o. option_or o (cond (test k i.now) (Some i.now) None)) (r k) ∙ sym (register-push (test k) t i.now)
 
-abbrev seat_of_install : Install → Seat
-seat_of_install i = record { view = i.view.id; member = i.member }
+abbrev in_view_of_install : Install → MemberInView
+in_view_of_install i = record { view = i.view.id; member = i.member }
 
 -- a member's install of a view is kept
-pub entry-noted : (m n : Seat → Option (Bor Install)) (t : List Event) (i : Bor Install)
-    → MatchBool (is_some (m (seat_of_install i.now))) ((k : Seat) → n k ≡ m k) ((k : Seat) → n k ≡ cond (is_eq (seat_cmp (seat_of_install i.now) k)) (Some i) (m k))
+pub entry-noted : (m n : MemberInView → Option (Bor Install)) (t : List Event) (i : Bor Install)
+    → MatchBool (is_some (m (in_view_of_install i.now))) ((k : MemberInView) → n k ≡ m k) ((k : MemberInView) → n k ≡ cond (is_eq (in_view_cmp (in_view_of_install i.now) k)) (Some i) (m k))
     → KnowsEntries m t → KnowsEntries n (t ++ Installed i.now ∷ [])
 entry-noted m n t i updates r =
-    register-by (λ (k : Seat) j. enters k.member k.view j) (λ k. is_eq (seat_cmp (seat_of_install i.now) k)) m n t (seat_of_install i.now) i (is_some (m (seat_of_install i.now)))
-    (λ k. is_eq-seat (seat_of_install i.now) k ∙ and-swap (same_view_id i.now.view.id k.view) (same_address i.now.member k.member))
-    (λ k e. sym (same_seat-true (seat_of_install i.now) k (and-swap (same_view_id i.now.view.id k.view) (same_address i.now.member k.member) ∙ e)))
+    register-by (λ (k : MemberInView) j. enters k.member k.view j) (λ k. is_eq (in_view_cmp (in_view_of_install i.now) k)) m n t (in_view_of_install i.now) i (is_some (m (in_view_of_install i.now)))
+    (λ k. is_eq-in_view (in_view_of_install i.now) k ∙ and-swap (same_view_id i.now.view.id k.view) (same_address i.now.member k.member))
+    (λ k e. sym (same_in_view-true (in_view_of_install i.now) k (and-swap (same_view_id i.now.view.id k.view) (same_address i.now.member k.member) ∙ e)))
     refl updates r
 
 -- the first install of a view is kept
@@ -158,34 +158,34 @@ first-noted m n t i updates r =
     register-by is_of (λ k. is_eq (view_id_cmp i.now.view.id k)) m n t i.now.view.id i (is_some (m i.now.view.id))
     (λ k. is_eq-view_id i.now.view.id k) (λ k e. sym (same_view_id-true i.now.view.id k e)) refl updates r
 
-is_eq-way : (a b : Way) → is_eq (way_cmp a b) ≡ same_way a b
-is_eq-way a b = is_eq-then (view_id_cmp a.from b.from) (view_id_cmp a.to b.to) ∙ ap₂ ◌&&◌ (is_eq-view_id a.from b.from) (is_eq-view_id a.to b.to)
+is_eq-view_change : (a b : ViewChange) → is_eq (view_change_cmp a b) ≡ same_view_change a b
+is_eq-view_change a b = is_eq-then (view_id_cmp a.from b.from) (view_id_cmp a.to b.to) ∙ ap₂ ◌&&◌ (is_eq-view_id a.from b.from) (is_eq-view_id a.to b.to)
 
-same_way-true : (a b : Way) → same_way a b ≡ true → a ≡ b
-same_way-true a b e =
+same_view_change-true : (a b : ViewChange) → same_view_change a b ≡ true → a ≡ b
+same_view_change-true a b e =
     let parts = and_parts (same_view_id a.from b.from) (same_view_id a.to b.to) e in
-    ap {B = Way} (λ (v : ViewId). record { from = v; to = a.to }) (same_view_id-true a.from b.from parts.0)
-    ∙ ap {B = Way} (λ (v : ViewId). record { from = b.from; to = v }) (same_view_id-true a.to b.to parts.1)
+    ap {B = ViewChange} (λ (v : ViewId). record { from = v; to = a.to }) (same_view_id-true a.from b.from parts.0)
+    ∙ ap {B = ViewChange} (λ (v : ViewId). record { from = b.from; to = v }) (same_view_id-true a.to b.to parts.1)
 
-abbrev way_of : ViewId → Install → Way
-way_of v i = record { from = v; to = i.view.id }
+abbrev view_change_of : ViewId → Install → ViewChange
+view_change_of v i = record { from = v; to = i.view.id }
 
-way-tests : (v : ViewId) (i : Install) (k : Way) → i.previous ≡ Some v → same_way (way_of v i) k ≡ goes k.from k.to i
-way-tests v i k e = and-swap (same_view_id v k.from) (same_view_id i.view.id k.to) ∙ ap (λ o. same_view_id i.view.id k.to && is_view k.from o) (sym e)
+view_change-tests : (v : ViewId) (i : Install) (k : ViewChange) → i.previous ≡ Some v → same_view_change (view_change_of v i) k ≡ goes k.from k.to i
+view_change-tests v i k e = and-swap (same_view_id v k.from) (same_view_id i.view.id k.to) ∙ ap (λ o. same_view_id i.view.id k.to && is_view k.from o) (sym e)
 
 -- the first install of a change of view is kept
-pub way-noted : (m n : Way → Option (Bor Install)) (t : List Event) (i : Bor Install) (v : ViewId) → i.now.previous ≡ Some v
-    → MatchBool (is_some (m (way_of v i.now))) ((k : Way) → n k ≡ m k) ((k : Way) → n k ≡ cond (is_eq (way_cmp (way_of v i.now) k)) (Some i) (m k))
-    → KnowsWays m t → KnowsWays n (t ++ Installed i.now ∷ [])
-way-noted m n t i v came updates r =
-    register-by (λ (k : Way) j. goes k.from k.to j) (λ k. is_eq (way_cmp (way_of v i.now) k)) m n t (way_of v i.now) i (is_some (m (way_of v i.now)))
-    (λ k. is_eq-way (way_of v i.now) k ∙ way-tests v i.now k came)
-    (λ k e. sym (same_way-true (way_of v i.now) k (way-tests v i.now k came ∙ e)))
+pub view_change-noted : (m n : ViewChange → Option (Bor Install)) (t : List Event) (i : Bor Install) (v : ViewId) → i.now.previous ≡ Some v
+    → MatchBool (is_some (m (view_change_of v i.now))) ((k : ViewChange) → n k ≡ m k) ((k : ViewChange) → n k ≡ cond (is_eq (view_change_cmp (view_change_of v i.now) k)) (Some i) (m k))
+    → KnowsViewChanges m t → KnowsViewChanges n (t ++ Installed i.now ∷ [])
+view_change-noted m n t i v came updates r =
+    register-by (λ (k : ViewChange) j. goes k.from k.to j) (λ k. is_eq (view_change_cmp (view_change_of v i.now) k)) m n t (view_change_of v i.now) i (is_some (m (view_change_of v i.now)))
+    (λ k. is_eq-view_change (view_change_of v i.now) k ∙ view_change-tests v i.now k came)
+    (λ k e. sym (same_view_change-true (view_change_of v i.now) k (view_change-tests v i.now k came ∙ e)))
     refl updates r
 
 -- an install from no view is no change of view
-pub way-none : (m : Way → Option (Bor Install)) (t : List Event) (i : Install) → i.previous ≡ None → KnowsWays m t → KnowsWays m (t ++ Installed i ∷ [])
-way-none m t i none r k =
+pub view_change-none : (m : ViewChange → Option (Bor Install)) (t : List Event) (i : Install) → i.previous ≡ None → KnowsViewChanges m t → KnowsViewChanges m (t ++ Installed i ∷ [])
+view_change-none m t i none r k =
     r k ∙ sym (register-push (goes k.from k.to) t i ∙ ap (λ b. option_or (first_from k.from k.to t) (cond b (Some i) None)) (ap (λ o. same_view_id i.view.id k.to && is_view k.from o) none ∙ and_right (same_view_id i.view.id k.to) false refl) ∙ or-none (first_from k.from k.to t))
 
 -- BY WHAT AN EVENT SAYS
@@ -229,22 +229,22 @@ delivery-none (Left q) e p v = refl
 delivery-none (Crashed q) e p v = refl
 
 -- an event that sends nothing
-pub no-sending : {Z : Type 0} (m : Seat → Option (Vec (Bor Numbered) Z)) (t : List Event) (h : Event) → None ≡ sending_of h → KnowsSent m t → KnowsSent m (t ++ h ∷ [])
+pub no-sending : {Z : Type 0} (m : MemberInView → Option (Vec (Bor Numbered) Z)) (t : List Event) (h : Event) → None ≡ sending_of h → KnowsSent m t → KnowsSent m (t ++ h ∷ [])
 no-sending m t h e r = sent-still m t h (sending-none h (sym e)) r
 
 -- one that sends
-pub a-sending : {Z : Type 0} (m n : Seat → Option (Vec (Bor Numbered) Z)) (t : List Event) (h : Event) (s : Sending) → Some s ≡ sending_of h
-    → ((seat : Seat) → listed (n seat) ≡ cond (same_seat (record { view = s.view; member = s.member }) seat) (listed (m seat) ++ s.message ∷ []) (listed (m seat)))
+pub a-sending : {Z : Type 0} (m n : MemberInView → Option (Vec (Bor Numbered) Z)) (t : List Event) (h : Event) (s : Sending) → Some s ≡ sending_of h
+    → ((in_view : MemberInView) → listed (n in_view) ≡ cond (same_in_view (record { view = s.view; member = s.member }) in_view) (listed (m in_view) ++ s.message ∷ []) (listed (m in_view)))
     → KnowsSent m t → KnowsSent n (t ++ h ∷ [])
 a-sending m n t h s e updates r = subst (λ (x : Event). KnowsSent n (t ++ x ∷ [])) (sym (sending-is h s (sym e))) (sent-noted m n t s updates r)
 
 -- an event that delivers nothing
-pub no-delivery : {Z : Type 0} (m : Seat → Option (Vec (Bor Message) Z)) (t : List Event) (h : Event) → None ≡ delivery_of h → KnowsDelivered m t → KnowsDelivered m (t ++ h ∷ [])
+pub no-delivery : {Z : Type 0} (m : MemberInView → Option (Vec (Bor Message) Z)) (t : List Event) (h : Event) → None ≡ delivery_of h → KnowsDelivered m t → KnowsDelivered m (t ++ h ∷ [])
 no-delivery m t h e r = delivered-still m t h (delivery-none h (sym e)) r
 
 -- one that delivers
-pub a-delivery : {Z : Type 0} (m n : Seat → Option (Vec (Bor Message) Z)) (t : List Event) (h : Event) (d : Delivery) → Some d ≡ delivery_of h
-    → ((seat : Seat) → listed (n seat) ≡ cond (same_seat (record { view = d.view; member = d.member }) seat) (listed (m seat) ++ d.message ∷ []) (listed (m seat)))
+pub a-delivery : {Z : Type 0} (m n : MemberInView → Option (Vec (Bor Message) Z)) (t : List Event) (h : Event) (d : Delivery) → Some d ≡ delivery_of h
+    → ((in_view : MemberInView) → listed (n in_view) ≡ cond (same_in_view (record { view = d.view; member = d.member }) in_view) (listed (m in_view) ++ d.message ∷ []) (listed (m in_view)))
     → KnowsDelivered m t → KnowsDelivered n (t ++ h ∷ [])
 a-delivery m n t h d e updates r = subst (λ (x : Event). KnowsDelivered n (t ++ x ∷ [])) (sym (delivery-is h d (sym e))) (delivered-noted m n t d updates r)
 
@@ -258,23 +258,23 @@ a-number m n t h d e updates may r =
     (last-noted m n t d updates (subst (λ (x : Event). MayCarry t x) (delivery-is h d (sym e)) may) r)
 
 -- an event that installs nothing
-pub no-entry : (m : Seat → Option (Bor Install)) (t : List Event) (h : Event) → None ≡ install_of h → KnowsEntries m t → KnowsEntries m (t ++ h ∷ [])
-no-entry m t h e r = registers-still (λ (k : Seat) j. enters k.member k.view j) m t h (sym e) r
+pub no-entry : (m : MemberInView → Option (Bor Install)) (t : List Event) (h : Event) → None ≡ install_of h → KnowsEntries m t → KnowsEntries m (t ++ h ∷ [])
+no-entry m t h e r = registers-still (λ (k : MemberInView) j. enters k.member k.view j) m t h (sym e) r
 
 pub no-first : (m : ViewId → Option (Bor Install)) (t : List Event) (h : Event) → None ≡ install_of h → KnowsFirsts m t → KnowsFirsts m (t ++ h ∷ [])
 no-first m t h e r = registers-still is_of m t h (sym e) r
 
-pub no-way : (m : Way → Option (Bor Install)) (t : List Event) (h : Event) → None ≡ install_of h → KnowsWays m t → KnowsWays m (t ++ h ∷ [])
-no-way m t h e r = registers-still (λ (k : Way) j. goes k.from k.to j) m t h (sym e) r
+pub no-view_change : (m : ViewChange → Option (Bor Install)) (t : List Event) (h : Event) → None ≡ install_of h → KnowsViewChanges m t → KnowsViewChanges m (t ++ h ∷ [])
+no-view_change m t h e r = registers-still (λ (k : ViewChange) j. goes k.from k.to j) m t h (sym e) r
 
 -- one that installs; v is the view's id
-pub an-entry : (m n : Seat → Option (Bor Install)) (t : List Event) (h : Event) (i : Bor Install) (v : ViewId) → Some i.now ≡ install_of h → v ≡ i.now.view.id
-    → MatchBool (is_some (m (record { view = v; member = i.now.member }))) ((k : Seat) → n k ≡ m k) ((k : Seat) → n k ≡ cond (is_eq (seat_cmp (record { view = v; member = i.now.member }) k)) (Some i) (m k))
+pub an-entry : (m n : MemberInView → Option (Bor Install)) (t : List Event) (h : Event) (i : Bor Install) (v : ViewId) → Some i.now ≡ install_of h → v ≡ i.now.view.id
+    → MatchBool (is_some (m (record { view = v; member = i.now.member }))) ((k : MemberInView) → n k ≡ m k) ((k : MemberInView) → n k ≡ cond (is_eq (in_view_cmp (record { view = v; member = i.now.member }) k)) (Some i) (m k))
     → KnowsEntries m t → KnowsEntries n (t ++ h ∷ [])
 an-entry m n t h i v e same updates r =
     subst (λ (x : Event). KnowsEntries n (t ++ x ∷ [])) (sym (install_of-some h i.now (sym e)))
     (entry-noted m n t i
-    (subst (λ (x : ViewId). MatchBool (is_some (m (record { view = x; member = i.now.member }))) ((k : Seat) → n k ≡ m k) ((k : Seat) → n k ≡ cond (is_eq (seat_cmp (record { view = x; member = i.now.member }) k)) (Some i) (m k))) same updates) r)
+    (subst (λ (x : ViewId). MatchBool (is_some (m (record { view = x; member = i.now.member }))) ((k : MemberInView) → n k ≡ m k) ((k : MemberInView) → n k ≡ cond (is_eq (in_view_cmp (record { view = x; member = i.now.member }) k)) (Some i) (m k))) same updates) r)
 
 pub a-first : (m n : ViewId → Option (Bor Install)) (t : List Event) (h : Event) (i : Bor Install) (v : ViewId) → Some i.now ≡ install_of h → v ≡ i.now.view.id
     → MatchBool (is_some (m v)) ((k : ViewId) → n k ≡ m k) ((k : ViewId) → n k ≡ cond (is_eq (view_id_cmp v k)) (Some i) (m k))
@@ -284,13 +284,13 @@ a-first m n t h i v e same updates r =
     (first-noted m n t i
     (subst (λ (x : ViewId). MatchBool (is_some (m x)) ((k : ViewId) → n k ≡ m k) ((k : ViewId) → n k ≡ cond (is_eq (view_id_cmp x k)) (Some i) (m k))) same updates) r)
 
-pub a-way : (m n : Way → Option (Bor Install)) (t : List Event) (h : Event) (i : Bor Install) (u v : ViewId) → Some i.now ≡ install_of h → i.now.previous ≡ Some u → v ≡ i.now.view.id
-    → MatchBool (is_some (m (record { from = u; to = v }))) ((k : Way) → n k ≡ m k) ((k : Way) → n k ≡ cond (is_eq (way_cmp (record { from = u; to = v }) k)) (Some i) (m k))
-    → KnowsWays m t → KnowsWays n (t ++ h ∷ [])
-a-way m n t h i u v e came same updates r =
-    subst (λ (x : Event). KnowsWays n (t ++ x ∷ [])) (sym (install_of-some h i.now (sym e)))
-    (way-noted m n t i u came
-    (subst (λ (x : ViewId). MatchBool (is_some (m (record { from = u; to = x }))) ((k : Way) → n k ≡ m k) ((k : Way) → n k ≡ cond (is_eq (way_cmp (record { from = u; to = x }) k)) (Some i) (m k))) same updates) r)
+pub a-view_change : (m n : ViewChange → Option (Bor Install)) (t : List Event) (h : Event) (i : Bor Install) (u v : ViewId) → Some i.now ≡ install_of h → i.now.previous ≡ Some u → v ≡ i.now.view.id
+    → MatchBool (is_some (m (record { from = u; to = v }))) ((k : ViewChange) → n k ≡ m k) ((k : ViewChange) → n k ≡ cond (is_eq (view_change_cmp (record { from = u; to = v }) k)) (Some i) (m k))
+    → KnowsViewChanges m t → KnowsViewChanges n (t ++ h ∷ [])
+a-view_change m n t h i u v e came same updates r =
+    subst (λ (x : Event). KnowsViewChanges n (t ++ x ∷ [])) (sym (install_of-some h i.now (sym e)))
+    (view_change-noted m n t i u came
+    (subst (λ (x : ViewId). MatchBool (is_some (m (record { from = u; to = x }))) ((k : ViewChange) → n k ≡ m k) ((k : ViewChange) → n k ≡ cond (is_eq (view_change_cmp (record { from = u; to = x }) k)) (Some i) (m k))) same updates) r)
 
-pub no-way-from : (m : Way → Option (Bor Install)) (t : List Event) (h : Event) (i : Bor Install) → Some i.now ≡ install_of h → i.now.previous ≡ None → KnowsWays m t → KnowsWays m (t ++ h ∷ [])
-no-way-from m t h i e none r = subst (λ (x : Event). KnowsWays m (t ++ x ∷ [])) (sym (install_of-some h i.now (sym e))) (way-none m t i.now none r)
+pub no-view_change-from : (m : ViewChange → Option (Bor Install)) (t : List Event) (h : Event) (i : Bor Install) → Some i.now ≡ install_of h → i.now.previous ≡ None → KnowsViewChanges m t → KnowsViewChanges m (t ++ h ∷ [])
+no-view_change-from m t h i e none r = subst (λ (x : Event). KnowsViewChanges m (t ++ x ∷ [])) (sym (install_of-some h i.now (sym e))) (view_change-none m t i.now none r)

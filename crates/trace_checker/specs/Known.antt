@@ -12,33 +12,33 @@ use Rattle.trace_props.specs.declared.event.Message.{Message}
 use Rattle.trace_props.specs.declared.event.Install.{Install}
 use Rattle.trace_props.specs.declared.event.Sending.{Sending}
 use Rattle.trace_props.specs.declared.event.Delivery.{Delivery}
-use Rattle.trace_checker.specs.declared.known.seat.Seat.{Seat}
-use Rattle.trace_checker.specs.declared.known.seat.Pair.{Pair}
-use Rattle.trace_checker.specs.declared.known.seat.Way.{Way}
+use Rattle.trace_checker.specs.declared.known.keys.MemberInView.{MemberInView}
+use Rattle.trace_checker.specs.declared.known.keys.Pair.{Pair}
+use Rattle.trace_checker.specs.declared.known.keys.ViewChange.{ViewChange}
 use Rattle.trace_checker.specs.declared.known.standing.Standing.{Standing}
 use Rattle.trace_props.specs.Observed.{has_started, has_ended, is_blocked, current_view, delivered_in, sent_in, own, entry_of, first_install}
 use Rattle.trace_props.specs.Agreeing.{first_from}
 
 -- the order of members in views
-abbrev pub seat_cmp : Seat → Seat → Ordering
-seat_cmp a b = ordering_then (view_id_cmp a.view b.view) (address_cmp a.member b.member)
+abbrev pub in_view_cmp : MemberInView → MemberInView → Ordering
+in_view_cmp a b = ordering_then (view_id_cmp a.view b.view) (address_cmp a.member b.member)
 
-abbrev pub same_seat : Seat → Seat → Bool
-same_seat a b = same_view_id a.view b.view && same_address a.member b.member
+abbrev pub same_in_view : MemberInView → MemberInView → Bool
+same_in_view a b = same_view_id a.view b.view && same_address a.member b.member
 
 -- the order of pairs
 abbrev pub pair_cmp : Pair → Pair → Ordering
-pair_cmp a b = ordering_then (seat_cmp a.seat b.seat) (address_cmp a.sender b.sender)
+pair_cmp a b = ordering_then (in_view_cmp a.in_view b.in_view) (address_cmp a.sender b.sender)
 
 abbrev pub same_pair : Pair → Pair → Bool
-same_pair a b = same_seat a.seat b.seat && same_address a.sender b.sender
+same_pair a b = same_in_view a.in_view b.in_view && same_address a.sender b.sender
 
 -- the order of changes of view
-abbrev pub way_cmp : Way → Way → Ordering
-way_cmp a b = ordering_then (view_id_cmp a.from b.from) (view_id_cmp a.to b.to)
+abbrev pub view_change_cmp : ViewChange → ViewChange → Ordering
+view_change_cmp a b = ordering_then (view_id_cmp a.from b.from) (view_id_cmp a.to b.to)
 
-abbrev pub same_way : Way → Way → Bool
-same_way a b = same_view_id a.from b.from && same_view_id a.to b.to
+abbrev pub same_view_change : ViewChange → ViewChange → Bool
+same_view_change a b = same_view_id a.from b.from && same_view_id a.to b.to
 
 -- the list kept for a member in a view, empty where none is
 abbrev pub listed : {T Z : Type 0} → Option (Vec (Bor T) Z) → List T
@@ -74,26 +74,26 @@ KnowsStandings m t = (p : Address) → stood (m p) ≡ standing_of p t
 
 -- LISTS
 
-abbrev pub KnowsSent : {Z : Type 0} → (Seat → Option (Vec (Bor Numbered) Z)) → List Event → Type 0
-KnowsSent m t = (s : Seat) → listed (m s) ≡ sent_in s.member s.view t
+abbrev pub KnowsSent : {Z : Type 0} → (MemberInView → Option (Vec (Bor Numbered) Z)) → List Event → Type 0
+KnowsSent m t = (s : MemberInView) → listed (m s) ≡ sent_in s.member s.view t
 
-abbrev pub KnowsDelivered : {Z : Type 0} → (Seat → Option (Vec (Bor Message) Z)) → List Event → Type 0
-KnowsDelivered m t = (s : Seat) → listed (m s) ≡ delivered_in s.member s.view t
+abbrev pub KnowsDelivered : {Z : Type 0} → (MemberInView → Option (Vec (Bor Message) Z)) → List Event → Type 0
+KnowsDelivered m t = (s : MemberInView) → listed (m s) ≡ delivered_in s.member s.view t
 
 -- the number of a sender's last message that a member delivered in a view, 0 before the first, is how many these are
 abbrev pub KnowsLast : (Pair → Option ℕ) → List Event → Type 0
-KnowsLast m t = (s : Pair) → unwrap_or (m s) 0 ≡ length (own s.sender (delivered_in s.seat.member s.seat.view t))
+KnowsLast m t = (s : Pair) → unwrap_or (m s) 0 ≡ length (own s.sender (delivered_in s.in_view.member s.in_view.view t))
 
 -- REGISTERS
 
-abbrev pub KnowsEntries : (Seat → Option (Bor Install)) → List Event → Type 0
-KnowsEntries m t = (s : Seat) → option_copied (m s) ≡ entry_of s.member s.view t
+abbrev pub KnowsEntries : (MemberInView → Option (Bor Install)) → List Event → Type 0
+KnowsEntries m t = (s : MemberInView) → option_copied (m s) ≡ entry_of s.member s.view t
 
 abbrev pub KnowsFirsts : (ViewId → Option (Bor Install)) → List Event → Type 0
 KnowsFirsts m t = (v : ViewId) → option_copied (m v) ≡ first_install v t
 
-abbrev pub KnowsWays : (Way → Option (Bor Install)) → List Event → Type 0
-KnowsWays m t = (w : Way) → option_copied (m w) ≡ first_from w.from w.to t
+abbrev pub KnowsViewChanges : (ViewChange → Option (Bor Install)) → List Event → Type 0
+KnowsViewChanges m t = (w : ViewChange) → option_copied (m w) ≡ first_from w.from w.to t
 
 -- WHAT AN EVENT SAYS
 
@@ -118,15 +118,15 @@ delivery_of (Crashed p) = None
 -- ALL OF IT
 
 -- all that is kept says what the trace says
-pub record KnowsPast {Y Z : Type 0} (standings : Address → Option Standing) (sent : Seat → Option (Vec (Bor Numbered) Y)) (delivered : Seat → Option (Vec (Bor Message) Z)) (last : Pair → Option ℕ)
-    (entries : Seat → Option (Bor Install)) (firsts : ViewId → Option (Bor Install)) (ways : Way → Option (Bor Install)) (t : List Event) : Type 0 where
+pub record KnowsPast {Y Z : Type 0} (standings : Address → Option Standing) (sent : MemberInView → Option (Vec (Bor Numbered) Y)) (delivered : MemberInView → Option (Vec (Bor Message) Z)) (last : Pair → Option ℕ)
+    (entries : MemberInView → Option (Bor Install)) (firsts : ViewId → Option (Bor Install)) (view_changes : ViewChange → Option (Bor Install)) (t : List Event) : Type 0 where
   pub standings_known : KnowsStandings standings t
   pub sent_known : KnowsSent sent t
   pub delivered_known : KnowsDelivered delivered t
   pub last_known : KnowsLast last t
   pub entries_known : KnowsEntries entries t
   pub firsts_known : KnowsFirsts firsts t
-  pub ways_known : KnowsWays ways t
+  pub view_changes_known : KnowsViewChanges view_changes t
 
 -- what references point to
 abbrev pub pointed : {T : Type 0} → List (Bor T) → List T

@@ -1,8 +1,8 @@
 //! What a checker keeps of the events so far.
+mod keys;
 mod lists;
 mod notes;
 mod past;
-mod seat;
 mod standing;
 mod states;
 mod tables;

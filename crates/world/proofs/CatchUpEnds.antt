@@ -27,10 +27,10 @@ use Rattle.member.specs.Members.{MemberModel, core_of}
 use Rattle.world_model.specs.declared.WorldEvent.TheVariants.{Deliver, Tick}
 use Rattle.world_model.specs.Histories.{last_of, is_connected}
 use Rattle.world.specs.declared.gaps.Pair.{Pair}
-use Rattle.world.specs.declared.seat.Seat.{Seat}
-use Rattle.world.specs.declared.seat.Seat.TheVariants.{Vacant, Ended, Running}
-use Rattle.world.specs.Seats.{system_of}
-use Rattle.world.specs.Invariant.{IsWorld, IsSeatOf}
+use Rattle.world.specs.declared.node_state.NodeState.{NodeState}
+use Rattle.world.specs.declared.node_state.NodeState.TheVariants.{Vacant, Ended, Running}
+use Rattle.world.specs.NodeStates.{system_of}
+use Rattle.world.specs.Invariant.{IsWorld, IsNodeStateOf}
 use Rattle.world.specs.Worlds.{WorldModel}
 use Rattle.world.specs.Gaps.{open_view, is_open_in, pair_of, pair_in, pair_at, first_for, lacks_memory, Plays, Hands, CatchesUp, BothRun, IsLevel}
 use Rattle.world.proofs.FactOfPairs
@@ -68,20 +68,20 @@ module _ {S : Type 0} where
       by (Some l) lives x = open-life m v l l.traffic lives refl x
 
   -- where a member of an address is open in a view of an id
-  pub record IsOpenIn (p : Address) (v : ViewId) (s : Seat S) : Type 0 where
+  pub record IsOpenIn (p : Address) (v : ViewId) (s : NodeState S) : Type 0 where
     pub member : MemberModel S
-    pub seat : s ≡ Running member
+    pub node_state : s ≡ Running member
     pub address : member.address ≡ p
     pub view : View
     pub opens : open_view (Running member) ≡ Some view
     pub id : view.id ≡ v
 
-  viewed : (m : MemberModel S) (p : Address) (v : ViewId) (s : Seat S) (o : Option View) → s ≡ Running m → m.address ≡ p → open_view (Running m) ≡ o
+  viewed : (m : MemberModel S) (p : Address) (v : ViewId) (s : NodeState S) (o : Option View) → s ≡ Running m → m.address ≡ p → open_view (Running m) ≡ o
       → option_map_or (λ (w : View). same_view_id w.id v) o false ≡ true → IsOpenIn p v s
-  viewed m p v s None seat is e x = absurd (let bad : false ≡ true = x in cc)
-  viewed m p v s (Some w) seat is e x = record { member = m; seat = seat; address = is; view = w; opens = e; id = same_view_id-true w.id v x }
+  viewed m p v s None node_state is e x = absurd (let bad : false ≡ true = x in cc)
+  viewed m p v s (Some w) node_state is e x = record { member = m; node_state = node_state; address = is; view = w; opens = e; id = same_view_id-true w.id v x }
 
-  pub open-in : (p : Address) (v : ViewId) (s : Seat S) → is_open_in p v s ≡ true → IsOpenIn p v s
+  pub open-in : (p : Address) (v : ViewId) (s : NodeState S) → is_open_in p v s ≡ true → IsOpenIn p v s
   open-in p v Vacant x = absurd (let bad : false ≡ true = x in cc)
   open-in p v (Ended q) x = absurd (let bad : false ≡ true = x in cc)
   open-in p v (Running m) x =
@@ -90,9 +90,9 @@ module _ {S : Type 0} where
 
   -- ---- a pair
 
-  pub record IsPair (at : ℕ → Seat S) (n : ℕ) (pair : Pair) : Type 0 where
+  pub record IsPair (at : ℕ → NodeState S) (n : ℕ) (pair : Pair) : Type 0 where
     pub member : MemberModel S
-    pub seat : at n ≡ Running member
+    pub node_state : at n ≡ Running member
     pub address : member.address ≡ pair.member
     pub view : View
     pub opens : open_view (Running member) ≡ Some view
@@ -100,50 +100,50 @@ module _ {S : Type 0} where
     pub apart : same_address pair.view.creator pair.member ≡ false
     pub first : is_open_in pair.view.creator pair.view (at pair.view.creator.node) ≡ true
 
-  paired : (at : ℕ → Seat S) (n : ℕ) (pair : Pair) (m : MemberModel S) (v : View) (a b : Bool) → at n ≡ Running m → open_view (Running m) ≡ Some v
+  paired : (at : ℕ → NodeState S) (n : ℕ) (pair : Pair) (m : MemberModel S) (v : View) (a b : Bool) → at n ≡ Running m → open_view (Running m) ≡ Some v
       → same_address v.id.creator m.address ≡ a → is_open_in v.id.creator v.id (at v.id.creator.node) ≡ b
       → cond a None (cond b (Some (record { member = m.address; view = v.id })) None) ≡ Some pair → IsPair at n pair
-  paired at n pair m v true b seat opens same first e = absurd (none-some pair e)
-  paired at n pair m v false false seat opens same first e = absurd (none-some pair e)
-  paired at n pair m v false true seat opens same first e =
+  paired at n pair m v true b node_state opens same first e = absurd (none-some pair e)
+  paired at n pair m v false false node_state opens same first e = absurd (none-some pair e)
+  paired at n pair m v false true node_state opens same first e =
       subst (IsPair at n) (same_Some _ pair e)
-      (record { member = m; seat = seat; address = refl; view = v; opens = opens; id = refl; apart = same; first = first })
+      (record { member = m; node_state = node_state; address = refl; view = v; opens = opens; id = refl; apart = same; first = first })
 
-  pub pair-is : (at : ℕ → Seat S) (n : ℕ) (pair : Pair) → pair_at at n ≡ Some pair → IsPair at n pair
+  pub pair-is : (at : ℕ → NodeState S) (n : ℕ) (pair : Pair) → pair_at at n ≡ Some pair → IsPair at n pair
   pair-is at n pair e = by (at n) refl e
     where
       viewed-by : (m : MemberModel S) (o : Option View) → at n ≡ Running m → open_view (Running m) ≡ o → option_and_then (λ (w : View). pair_of at m.address w.id) o ≡ Some pair → IsPair at n pair
-      viewed-by m None seat opens x = absurd (none-some pair x)
-      viewed-by m (Some v) seat opens x = paired at n pair m v _ _ seat opens refl refl x
+      viewed-by m None node_state opens x = absurd (none-some pair x)
+      viewed-by m (Some v) node_state opens x = paired at n pair m v _ _ node_state opens refl refl x
 
-      by : (s : Seat S) → at n ≡ s → pair_in at s ≡ Some pair → IsPair at n pair
-      by Vacant seat x = absurd (none-some pair x)
-      by (Ended p) seat x = absurd (none-some pair x)
-      by (Running m) seat x = viewed-by m (open_view (Running m)) seat refl x
+      by : (s : NodeState S) → at n ≡ s → pair_in at s ≡ Some pair → IsPair at n pair
+      by Vacant node_state x = absurd (none-some pair x)
+      by (Ended p) node_state x = absurd (none-some pair x)
+      by (Running m) node_state x = viewed-by m (open_view (Running m)) node_state refl x
 
 -- ---- a catch-up
 
 module _ {S : Type 0} (meaning : Meaning S) (laws : KeepBySteps.Laws meaning) where
   abbrev Keeps : WorldModel S → Type 0
-  Keeps w = IsWorld meaning w.seats w.history
+  Keeps w = IsWorld meaning w.node_states w.history
 
   abbrev Couple : WorldModel S → Address → Address → Life S → Life S → Coordinator → Other → Type 0
   Couple w c q lc lq kc kq = CatchUpLevels.Couple meaning laws w c q lc lq kc kq
 
   -- who runs at a node, as it runs
-  seat-of : (w : WorldModel S) (n : ℕ) (m : MemberModel S) → Keeps w → w.seats n ≡ Running m → IsSeatOf n (last_of n w.history.trace) (is_connected n w.history) w.history.trace (Running m)
-  seat-of w n m keeps seat = subst (IsSeatOf n (last_of n w.history.trace) (is_connected n w.history) w.history.trace) seat (keeps.seats n)
+  node_state-of : (w : WorldModel S) (n : ℕ) (m : MemberModel S) → Keeps w → w.node_states n ≡ Running m → IsNodeStateOf n (last_of n w.history.trace) (is_connected n w.history) w.history.trace (Running m)
+  node_state-of w n m keeps node_state = subst (IsNodeStateOf n (last_of n w.history.trace) (is_connected n w.history) w.history.trace) node_state (keeps.node_states n)
 
-  runs-open : (w : WorldModel S) (n : ℕ) (p : Address) (m : MemberModel S) (v : View) → Keeps w → w.seats n ≡ Running m → m.address ≡ p → (o : IsOpen m v)
+  runs-open : (w : WorldModel S) (n : ℕ) (p : Address) (m : MemberModel S) (v : View) → Keeps w → w.node_states n ≡ Running m → m.address ≡ p → (o : IsOpen m v)
       → FactOfReplies.RunsAs meaning w p o.life o.traffic
-  runs-open w n p m v keeps seat is o =
-      let k = seat-of w n m keeps seat in
+  runs-open w n p m v keeps node_state is o =
+      let k = node_state-of w n m keeps node_state in
       let node : p.node ≡ n = ap (λ (q : Address). q.node) (sym is) ∙ k.1 in
-      record { member = m; seat = ap (λ (j : ℕ). w.seats j) node ∙ seat; address = is; group = k.2.group; life = o.lives; traffic = o.keeps; installed = o.installed }
+      record { member = m; node_state = ap (λ (j : ℕ). w.node_states j) node ∙ node_state; address = is; group = k.2.group; life = o.lives; traffic = o.keeps; installed = o.installed }
 
-  orderly-of : (w : WorldModel S) (n : ℕ) (p : Address) (m : MemberModel S) (v : View) → Keeps w → w.seats n ≡ Running m → m.address ≡ p → (o : IsOpen m v) → IsOrderly p o.traffic
-  orderly-of w n p m v keeps seat is o =
-      let k = seat-of w n m keeps seat in
+  orderly-of : (w : WorldModel S) (n : ℕ) (p : Address) (m : MemberModel S) (v : View) → Keeps w → w.node_states n ≡ Running m → m.address ≡ p → (o : IsOpen m v) → IsOrderly p o.traffic
+  orderly-of w n p m v keeps node_state is o =
+      let k = node_state-of w n m keeps node_state in
       subst (λ (q : Address). IsOrderly q o.traffic) is ((k.3 o.life o.lives).ordered o.traffic o.keeps)
 
   pub record Found (w : WorldModel S) (pair : Pair) : Type 0 where
@@ -164,7 +164,7 @@ module _ {S : Type 0} (meaning : Meaning S) (laws : KeepBySteps.Laws meaning) wh
     joined : (lc lq : Life S) (kc : Coordinator) (kq : Other) → FactOfReplies.RunsAs meaning w c lc (kinds.Coordinator kc)
         → FactOfReplies.RunsAs meaning w q lq (kinds.Other kq) → kc.view.id ≡ pair.view → kq.view.id ≡ pair.view → Found w pair
     joined lc lq kc kq rc rq ic iq =
-        let one = FactOfPairs.one-view meaning (system_of w.seats w.history.pool w.history.trace) keeps.agreed c q (core_at c lc) (core_at q lq) kc.view kq.view
+        let one = FactOfPairs.one-view meaning (system_of w.node_states w.history.pool w.history.trace) keeps.agreed c q (core_at c lc) (core_at q lq) kc.view kq.view
         (CatchUpLevels.runs-in meaning laws w c lc (kinds.Coordinator kc) rc) (CatchUpLevels.runs-in meaning laws w q lq (kinds.Other kq) rq)
         (rw rc.traffic refl) (rw rq.traffic refl) (iq ∙ sym ic) in
         record {
@@ -187,17 +187,17 @@ module _ {S : Type 0} (meaning : Meaning S) (laws : KeepBySteps.Laws meaning) wh
         absurd cc
     kinds-by lc lq (kinds.Coordinator k) (kinds.Other j) rc rq oc oq ic iq = joined lc lq k j rc rq ic iq
 
-  pub found : (w : WorldModel S) (n : ℕ) (pair : Pair) → Keeps w → pair_at w.seats n ≡ Some pair → Found w pair
+  pub found : (w : WorldModel S) (n : ℕ) (pair : Pair) → Keeps w → pair_at w.node_states n ≡ Some pair → Found w pair
   found w n pair keeps e =
-      let x = pair-is w.seats n pair e in
-      let f = open-in pair.view.creator pair.view (w.seats pair.view.creator.node) x.first in
+      let x = pair-is w.node_states n pair e in
+      let f = open-in pair.view.creator pair.view (w.node_states pair.view.creator.node) x.first in
       let oq = open-is x.member x.view x.opens in
       let oc = open-is f.member f.view f.opens in
       kinds-by w pair keeps x.apart oc.life oq.life oc.traffic oq.traffic
-      (runs-open w pair.view.creator.node pair.view.creator f.member f.view keeps f.seat f.address oc)
-      (runs-open w n pair.member x.member x.view keeps x.seat x.address oq)
-      (orderly-of w pair.view.creator.node pair.view.creator f.member f.view keeps f.seat f.address oc)
-      (orderly-of w n pair.member x.member x.view keeps x.seat x.address oq)
+      (runs-open w pair.view.creator.node pair.view.creator f.member f.view keeps f.node_state f.address oc)
+      (runs-open w n pair.member x.member x.view keeps x.node_state x.address oq)
+      (orderly-of w pair.view.creator.node pair.view.creator f.member f.view keeps f.node_state f.address oc)
+      (orderly-of w n pair.member x.member x.view keeps x.node_state x.address oq)
       (ap (λ (v : View). v.id) oc.view ∙ f.id) (ap (λ (v : View). v.id) oq.view ∙ x.id)
 
   -- ---- level
@@ -227,7 +227,7 @@ module _ {S : Type 0} (meaning : Meaning S) (laws : KeepBySteps.Laws meaning) wh
       (keeps-on announced asked (Deliver t.number) x t.couple.keeps) h
 
   -- what the member delivered in the view is what its coordinator delivered there
-  pub levels : (old new : WorldModel S) (n : ℕ) (pair : Pair) → Keeps old → pair_at old.seats n ≡ Some pair → CatchesUp meaning pair old new → IsLevel pair new.history.trace
+  pub levels : (old new : WorldModel S) (n : ℕ) (pair : Pair) → Keeps old → pair_at old.node_states n ≡ Some pair → CatchesUp meaning pair old new → IsLevel pair new.history.trace
   levels old new n pair keeps e x =
       let f = found old n pair keeps e in
       let t = announced-so old x.announced pair f x.ticks in

@@ -44,11 +44,11 @@ use Rattle.member.specs.Members.{MemberModel, core_of}
 use Rattle.world_model.specs.declared.WorldEvent.TheVariants.{Deliver, Tick}
 use Rattle.world_model.specs.Histories.{last_of, is_connected}
 use Rattle.world_model.specs.Packets.{world_group, packet_numbered, destination_of}
-use Rattle.world.specs.declared.seat.Seat.{Seat}
-use Rattle.world.specs.declared.seat.Seat.TheVariants.{Running}
-use Rattle.world.specs.Seats.{bytes_of, core_here, system_of}
+use Rattle.world.specs.declared.node_state.NodeState.{NodeState}
+use Rattle.world.specs.declared.node_state.NodeState.TheVariants.{Running}
+use Rattle.world.specs.NodeStates.{bytes_of, core_here, system_of}
 use Rattle.world.specs.Turns.{OthersStand}
-use Rattle.world.specs.Invariant.{IsWorld, IsSeatOf}
+use Rattle.world.specs.Invariant.{IsWorld, IsNodeStateOf}
 use Rattle.world.specs.Worlds.{WorldModel, WorldStep}
 use Rattle.world.specs.Gaps.{is_destined, first_for, lacks_memory, Plays, Delivers, DeliversPast}
 use Rattle.world.specs.Gaps.Delivers.{Still, Next}
@@ -172,8 +172,8 @@ module _ {S : Type 0} (meaning : Meaning S) (laws : KeepBySteps.Laws meaning) wh
   nodes-by w p q l k t u x y other false e = refl
   nodes-by w p q l k t u x y other true e =
       let node : p.node ≡ q.node = eqb-true p.node q.node e in
-      let seat : Running x.member ≡ Running y.member = sym x.seat ∙ ap (λ (n : ℕ). w.seats n) node ∙ y.seat in
-      let is : p ≡ q = sym x.address ∙ ap (λ (m : MemberModel S). m.address) (same-member x.member y.member seat) ∙ y.address in
+      let node_state : Running x.member ≡ Running y.member = sym x.node_state ∙ ap (λ (n : ℕ). w.node_states n) node ∙ y.node_state in
+      let is : p ≡ q = sym x.address ∙ ap (λ (m : MemberModel S). m.address) (same-member x.member y.member node_state) ∙ y.address in
       let bad : true ≡ false = sym (same_address-refl q) ∙ ap (same_address q) (sym is) ∙ other in
       absurd cc
 
@@ -182,15 +182,15 @@ module _ {S : Type 0} (meaning : Meaning S) (laws : KeepBySteps.Laws meaning) wh
 
   -- the coordinator of a view and another member of it
   pub record Couple (w : WorldModel S) (c q : Address) (lc lq : Life S) (kc : Coordinator) (kq : Other) : Type 0 where
-    pub keeps : IsWorld meaning w.seats w.history
+    pub keeps : IsWorld meaning w.node_states w.history
     pub first : RunsAs w c lc (kinds.Coordinator kc)
     pub other : RunsAs w q lq (kinds.Other kq)
     pub own : kc.view.id.creator ≡ c
     pub same : kq.view ≡ kc.view
     pub apart : same_address q c ≡ false
 
-  pub runs-in : (w : WorldModel S) (p : Address) (l : Life S) (t : Traffic) → RunsAs w p l t → runs w.seats p ≡ Some (core_at p l)
-  runs-in w p l t r = ap (core_here p) r.seat ∙ core-running p r.member r.address ∙ FactOfReplies.core-is meaning w p l t r
+  pub runs-in : (w : WorldModel S) (p : Address) (l : Life S) (t : Traffic) → RunsAs w p l t → runs w.node_states p ≡ Some (core_at p l)
+  runs-in w p l t r = ap (core_here p) r.node_state ∙ core-running p r.member r.address ∙ FactOfReplies.core-is meaning w p l t r
 
   -- how far they have come
   pub record Numbers (w : WorldModel S) (c q : Address) (kc : Coordinator) (kq : Other) : Type 0 where
@@ -204,7 +204,7 @@ module _ {S : Type 0} (meaning : Meaning S) (laws : KeepBySteps.Laws meaning) wh
 
   pub numbers : (w : WorldModel S) (c q : Address) (lc lq : Life S) (kc : Coordinator) (kq : Other) → Couple w c q lc lq kc kq → Numbers w c q kc kq
   numbers w c q lc lq kc kq x =
-      let p = FactOfPairs.compared meaning (system_of w.seats w.history.pool w.history.trace) x.keeps.agreed c q (core_at c lc) (core_at q lq) kc.view (record {
+      let p = FactOfPairs.compared meaning (system_of w.node_states w.history.pool w.history.trace) x.keeps.agreed c q (core_at c lc) (core_at q lq) kc.view (record {
         coordinator = runs-in w c lc (kinds.Coordinator kc) x.first;
         member = runs-in w q lq (kinds.Other kq) x.other;
         own = x.own;
@@ -233,15 +233,15 @@ module _ {S : Type 0} (meaning : Meaning S) (laws : KeepBySteps.Laws meaning) wh
   pub none-next : (w : WorldModel S) (c q : Address) (lc lq : Life S) (kc : Coordinator) (kq : Other) → Couple w c q lc lq kc kq → held_at (kq.window.delivered + 1) kq.window.held ≡ None
   none-next w c q lc lq kc kq x =
       let m = x.other.member in
-      let k : IsSeatOf q.node (last_of q.node w.history.trace) (is_connected q.node w.history) w.history.trace (Running m) =
-      subst (IsSeatOf q.node (last_of q.node w.history.trace) (is_connected q.node w.history) w.history.trace) x.other.seat (x.keeps.seats q.node) in
+      let k : IsNodeStateOf q.node (last_of q.node w.history.trace) (is_connected q.node w.history) w.history.trace (Running m) =
+      subst (IsNodeStateOf q.node (last_of q.node w.history.trace) (is_connected q.node w.history) w.history.trace) x.other.node_state (x.keeps.node_states q.node) in
       let o : IsOrderly m.address (kinds.Other kq) = (k.3 lq x.other.life).ordered (kinds.Other kq) x.other.traffic in
       o.1
 
   -- ---- the steps
 
   abbrev pub Keeps : WorldModel S → Type 0
-  Keeps w = IsWorld meaning w.seats w.history
+  Keeps w = IsWorld meaning w.node_states w.history
 
   pub lost : {A B : Type 0} (b : Bool) → b ≡ true → ((b ≡ false) × A) ⊎ ((b ≡ true) × B) → B
   lost b e (inl x) = absurd (let bad : false ≡ true = sym x.0 ∙ e in cc)
@@ -253,7 +253,7 @@ module _ {S : Type 0} (meaning : Meaning S) (laws : KeepBySteps.Laws meaning) wh
 
   -- the coordinator did something, and stays as it was
   pub coordinator-moves : (old new : WorldModel S) (c q : Address) (lc lq : Life S) (kc : Coordinator) (kq : Other) → Couple old c q lc lq kc kq → Keeps new
-      → RunsAs new c lc (kinds.Coordinator kc) → OthersStand c.node old.seats new.seats → Couple new c q lc lq kc kq
+      → RunsAs new c lc (kinds.Coordinator kc) → OthersStand c.node old.node_states new.node_states → Couple new c q lc lq kc kq
   coordinator-moves old new c q lc lq kc kq x keeps runs others = record {
     keeps = keeps;
     first = runs;
@@ -265,7 +265,7 @@ module _ {S : Type 0} (meaning : Meaning S) (laws : KeepBySteps.Laws meaning) wh
 
   -- the other did something
   pub other-moves : (old new : WorldModel S) (c q : Address) (lc lq after : Life S) (kc : Coordinator) (kq now : Other) → Couple old c q lc lq kc kq → Keeps new
-      → RunsAs new q after (kinds.Other now) → OthersStand q.node old.seats new.seats → now.view ≡ kq.view → Couple new c q lc after kc now
+      → RunsAs new q after (kinds.Other now) → OthersStand q.node old.node_states new.node_states → now.view ≡ kq.view → Couple new c q lc after kc now
   other-moves old new c q lc lq after kc kq now x keeps runs others view =
       let turned : same_address c q ≡ false = same_address-sym c q ∙ x.apart in
       record {

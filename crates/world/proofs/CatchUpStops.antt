@@ -25,8 +25,8 @@ use Rattle.world_model.specs.declared.WorldEvent.{WorldEvent}
 use Rattle.world_model.specs.declared.WorldEvent.TheVariants.{Deliver, Tick}
 use Rattle.world_model.specs.Packets.{world_group}
 use Rattle.world.specs.declared.gaps.Pair.{Pair}
-use Rattle.world.specs.declared.seat.Seat.{Seat}
-use Rattle.world.specs.declared.seat.Seat.TheVariants.{Running}
+use Rattle.world.specs.declared.node_state.NodeState.{NodeState}
+use Rattle.world.specs.declared.node_state.NodeState.TheVariants.{Running}
 use Rattle.world.specs.Invariant.{IsWorld}
 use Rattle.world.specs.Worlds.{WorldModel}
 use Rattle.world.specs.Gaps.{open_view, is_open_in, pair_at, first_for, lacks_memory, Plays, Hands, Fails, Breaks, BreaksPast, DeliversPast, Stops, LosesOne, BothRun, EndsSo}
@@ -58,13 +58,13 @@ module _ {S : Type 0} (meaning : Meaning S) where
       inr (record { mid = mid; plays = plays; rest = subst (λ (k : ℕ). Breaks meaning (past + 1) k mid new) same rest })
 
   -- who runs in a view is open there
-  open-run : (w : WorldModel S) (p : Address) (l : Life S) (t : Traffic) (v : ViewId) (r : FactOfReplies.RunsAs meaning w p l t) → (view_of t).id ≡ v → is_open_in p v (w.seats p.node) ≡ true
+  open-run : (w : WorldModel S) (p : Address) (l : Life S) (t : Traffic) (v : ViewId) (r : FactOfReplies.RunsAs meaning w p l t) → (view_of t).id ≡ v → is_open_in p v (w.node_states p.node) ≡ true
   open-run w p l t v r id =
       let view : open_view (Running r.member) ≡ Some (view_of t) = rw (FactOfReplies.core-is meaning w p l t r, r.traffic, r.installed) refl in
       let same : same_address r.member.address p ≡ true = ap (λ z. same_address z p) r.address ∙ same_address-refl p in
       let seen : option_map_or (λ (x : View). same_view_id x.id v) (open_view (Running r.member)) false ≡ true =
       ap (λ (o : Option View). option_map_or (λ (x : View). same_view_id x.id v) o false) view ∙ ap (λ (x : ViewId). same_view_id x v) id ∙ same_view_id-refl v in
-      subst (λ (s : Seat S). is_open_in p v s ≡ true) (sym r.seat) (and_from (same_address r.member.address p) _ same seen)
+      subst (λ (s : NodeState S). is_open_in p v s ≡ true) (sym r.node_state) (and_from (same_address r.member.address p) _ same seen)
 
 module _ {S : Type 0} (meaning : Meaning S) (laws : KeepBySteps.Laws meaning) where
   abbrev Couple : WorldModel S → Address → Address → Life S → Life S → Coordinator → Other → Type 0
@@ -135,7 +135,7 @@ module _ {S : Type 0} (meaning : Meaning S) (laws : KeepBySteps.Laws meaning) wh
 
   -- ---- all stages
 
-  pub ends : (old new : WorldModel S) (n : ℕ) (pair : Pair) → IsWorld meaning old.seats old.history → pair_at old.seats n ≡ Some pair
+  pub ends : (old new : WorldModel S) (n : ℕ) (pair : Pair) → IsWorld meaning old.node_states old.history → pair_at old.node_states n ≡ Some pair
       → Stops meaning pair old new → EndsSo pair new
   ends old _ n pair keeps e (AtTick new fails) =
       let f = CatchUpEnds.found meaning laws old n pair keeps e in

@@ -19,7 +19,7 @@ use Rattle.world_model.specs.declared.Answer.TheVariants.{Done, Refused}
 use Rattle.limits.specs.declared.refusal.Refusal.TheVariants.{AlreadyConnected, Memory}
 use Rattle.world_model.specs.Histories.{History}
 use Rattle.world_model.specs.Faithful.{AnswersCreate, AnswersJoin, AnswersQuietly, AnswersLeave, is_quiet}
-use Rattle.world.specs.Seats.{answer_for, answer_to}
+use Rattle.world.specs.NodeStates.{answer_for, answer_to}
 use Rattle.world.proofs.FactOfOwnEvents.{EachOwn, own-quiet}
 use Rattle.world.proofs.FactOfMembers
 
@@ -62,7 +62,7 @@ done-here n y z = cond-true (nat_eq n n && true) y z (and_from (nat_eq n n) true
 
 module _ {S : Type 0} (meaning : Meaning S) (h : History) (n : ℕ) (m : MemberModel S) (c : Core S) (x : FactOfMembers.Runs meaning h n m c) where
   me-is : c.me ≡ m.address
-  me-is = x.fact.seat.itself
+  me-is = x.fact.standing.itself
 
   -- ---- a create
 

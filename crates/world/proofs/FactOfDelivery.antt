@@ -26,10 +26,10 @@ use Rattle.world_model.specs.declared.Answer.TheVariants.{Done}
 use Rattle.world_model.specs.Histories.{History}
 use Rattle.world_model.specs.Packets.{world_group, recipient, packet_numbered, destination_of}
 use Rattle.world_model.specs.Faithful.{AnswersDeliver}
-use Rattle.world.specs.declared.seat.Seat.{Seat}
-use Rattle.world.specs.declared.seat.Seat.TheVariants.{Vacant, Ended, Running}
-use Rattle.world.specs.Seats.{answer_to, posts_in}
-use Rattle.world.specs.Turns.{about, OthersStand, SameSeats, Idles, Hears, HandsOver, Delivers}
+use Rattle.world.specs.declared.node_state.NodeState.{NodeState}
+use Rattle.world.specs.declared.node_state.NodeState.TheVariants.{Vacant, Ended, Running}
+use Rattle.world.specs.NodeStates.{answer_to, posts_in}
+use Rattle.world.specs.Turns.{about, OthersStand, SameNodeStates, Idles, Hears, HandsOver, Delivers}
 use Rattle.world.specs.Invariant.{EachSpelled, IsSpelled}
 use Rattle.world.proofs.FactOfOwnEvents.{EachOwn}
 use Rattle.world.proofs.FactOfPosts.{is-read, post-at}
@@ -74,7 +74,7 @@ module _ {S : Type 0} (pool : List (List ℕ)) (m : MemberModel S) (c : Core S) 
 
 -- ---- a delivery
 
-module _ {S : Type 0} (meaning : Meaning S) (at : ℕ → Seat S) (h : History) (w : KeepByTurn.World meaning at h) (k : ℕ) where
+module _ {S : Type 0} (meaning : Meaning S) (at : ℕ → NodeState S) (h : History) (w : KeepByTurn.World meaning at h) (k : ℕ) where
   -- the packet of that number, and whom it is for
   pub record IsPacketFor (bytes : List ℕ) (p : Address) : Type 0 where
     pub there : packet_numbered k h.pool ≡ Some bytes
@@ -115,12 +115,12 @@ module _ {S : Type 0} (meaning : Meaning S) (at : ℕ → Seat S) (h : History) 
       taken = λ out left handled free own. deliver-taken out left handled own;
     }
 
-  module _ (laws : KeepBySteps.Laws meaning) (new : ℕ → Seat S) where
+  module _ (laws : KeepBySteps.Laws meaning) (new : ℕ → NodeState S) where
     abbrev Turned : ℕ → Answer → List Event → List (List ℕ) → Type 0
     Turned n a t pool = FactOfTaken.Turned meaning new n h (Deliver k) a t pool
 
     -- where nothing changes
-    still : (n : ℕ) (a : Answer) (t : List Event) (pool : List (List ℕ)) → a ≡ Done → SameSeats at new → t ≡ h.trace → pool ≡ h.pool → Turned n a t pool
+    still : (n : ℕ) (a : Answer) (t : List Event) (pool : List (List ℕ)) → a ≡ Done → SameNodeStates at new → t ≡ h.trace → pool ≡ h.pool → Turned n a t pool
     still n a t pool answer same trace puts = subst (λ (b : Answer). Turned n b t pool) (sym answer) (record {
       ps = [];
       s = [];
@@ -129,11 +129,11 @@ module _ {S : Type 0} (meaning : Meaning S) (at : ℕ → Seat S) (h : History) 
       turn = KeepByTurn.turn-still meaning at new n h (Deliver k) Done w same (answers-deliver k h (recipient k h) refl) tt (λ m. refl);
     })
 
-    idle : (n : ℕ) (s : Seat S) (a : Answer) (t : List Event) (pool : List (List ℕ)) → at n ≡ s → OthersStand n at new → Idles (about s h.trace h.pool) a (about (new n) t pool) → Turned n a t pool
-    idle n s a t pool was others g = still n a t pool g.answer (same-at at new n others (g.seat ∙ sym was)) g.trace g.puts
+    idle : (n : ℕ) (s : NodeState S) (a : Answer) (t : List Event) (pool : List (List ℕ)) → at n ≡ s → OthersStand n at new → Idles (about s h.trace h.pool) a (about (new n) t pool) → Turned n a t pool
+    idle n s a t pool was others g = still n a t pool g.answer (same-at at new n others (g.node_state ∙ sym was)) g.trace g.puts
 
     -- at the node of whom it is for
-    heard : (bytes : List ℕ) (p : Address) (s : Seat S) (a : Answer) (t : List Event) (pool : List (List ℕ)) → IsPacketFor bytes p → at p.node ≡ s → OthersStand p.node at new
+    heard : (bytes : List ℕ) (p : Address) (s : NodeState S) (a : Answer) (t : List Event) (pool : List (List ℕ)) → IsPacketFor bytes p → at p.node ≡ s → OthersStand p.node at new
         → Hears meaning bytes (about s h.trace h.pool) a (about (new p.node) t pool) → Turned p.node a t pool
     heard bytes p Vacant a t pool f was others g = idle p.node Vacant a t pool was others g
     heard bytes p (Ended q) a t pool f was others g = idle p.node (Ended q) a t pool was others g
@@ -144,11 +144,11 @@ module _ {S : Type 0} (meaning : Meaning S) (at : ℕ → Seat S) (h : History) 
 
     over : (bytes : List ℕ) (d : Option Address) (a : Answer) (t : List Event) (pool : List (List ℕ)) → packet_numbered k h.pool ≡ Some bytes → destination_of bytes ≡ d
         → HandsOver meaning bytes d (about at h.trace h.pool) a (about new t pool) → (n : ℕ) × OthersStand n at new × Turned n a t pool
-    over bytes None a t pool there goes g = (0, λ m o. g.seats m, still 0 a t pool g.answer g.seats g.trace g.puts)
+    over bytes None a t pool there goes g = (0, λ m o. g.node_states m, still 0 a t pool g.answer g.node_states g.trace g.puts)
     over bytes (Some p) a t pool there goes g = (p.node, g.1, heard bytes p (at p.node) a t pool (record { there = there; goes = goes }) refl g.1 g.0)
 
     -- a delivery is a turn at some node
     pub delivered : (o : Option (List ℕ)) (a : Answer) (t : List Event) (pool : List (List ℕ)) → packet_numbered k h.pool ≡ o → Delivers meaning o (about at h.trace h.pool) a (about new t pool)
         → (n : ℕ) × OthersStand n at new × Turned n a t pool
-    delivered None a t pool there g = (0, λ m o. g.seats m, still 0 a t pool g.answer g.seats g.trace g.puts)
+    delivered None a t pool there g = (0, λ m o. g.node_states m, still 0 a t pool g.answer g.node_states g.trace g.puts)
     delivered (Some bytes) a t pool there g = over bytes (destination_of bytes) a t pool there refl g

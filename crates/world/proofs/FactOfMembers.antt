@@ -18,10 +18,10 @@ use Rattle.world_model.specs.Histories.{History, last_of, is_connected, running}
 use Rattle.world_model.specs.Packets.{world_group}
 use Rattle.world_model.specs.Faithful.{outstanding, AtMember}
 use Rattle.world_model.specs.declared.Answer.{Answer}
-use Rattle.world.specs.declared.seat.Seat.{Seat}
-use Rattle.world.specs.declared.seat.Seat.TheVariants.{Running}
-use Rattle.world.specs.Seats.{core_here, posts_in}
-use Rattle.world.specs.Invariant.{IsSeatOf}
+use Rattle.world.specs.declared.node_state.NodeState.{NodeState}
+use Rattle.world.specs.declared.node_state.NodeState.TheVariants.{Running}
+use Rattle.world.specs.NodeStates.{core_here, posts_in}
+use Rattle.world.specs.Invariant.{IsNodeStateOf}
 use Rattle.world.proofs.FactOfSystem.{runs, core-running}
 use Rattle.world.proofs.KeepByTurn
 
@@ -40,13 +40,13 @@ module _ {S : Type 0} (meaning : Meaning S) where
     pub joined : is_connected n h ≡ c.connected
     pub fact : MemberFact meaning (record { pool = posts_in h.pool; trace = h.trace }) m.address c
 
-  runs-at : (at : ℕ → Seat S) (h : History) (n : ℕ) (m : MemberModel S) → KeepByTurn.World meaning at h → at n ≡ Running m → m.address.node ≡ n
+  runs-at : (at : ℕ → NodeState S) (h : History) (n : ℕ) (m : MemberModel S) → KeepByTurn.World meaning at h → at n ≡ Running m → m.address.node ≡ n
       → runs at m.address ≡ core_of m
   runs-at at h n m w there node = subst (λ (k : ℕ). core_here m.address (at k) ≡ core_of m) (sym node) (ap (core_here m.address) there ∙ core-running m.address m refl)
 
-  pub running-here : (at : ℕ → Seat S) (h : History) (n : ℕ) (m : MemberModel S) → KeepByTurn.World meaning at h → at n ≡ Running m → (c : Core S) × Runs h n m c
+  pub running-here : (at : ℕ → NodeState S) (h : History) (n : ℕ) (m : MemberModel S) → KeepByTurn.World meaning at h → at n ≡ Running m → (c : Core S) × Runs h n m c
   running-here at h n m w there =
-      let k : IsSeatOf n (last_of n h.trace) (is_connected n h) h.trace (Running m) = subst (IsSeatOf n (last_of n h.trace) (is_connected n h) h.trace) there (w.seats n) in
+      let k : IsNodeStateOf n (last_of n h.trace) (is_connected n h) h.trace (Running m) = subst (IsNodeStateOf n (last_of n h.trace) (is_connected n h) h.trace) there (w.node_states n) in
       let x = core-there (core_of m) (λ c. is_connected n h ≡ c.connected) k.2.joined in (
         x.0,
         record {
@@ -61,7 +61,7 @@ module _ {S : Type 0} (meaning : Meaning S) where
 
   module _ (h : History) (n : ℕ) (m : MemberModel S) (c : Core S) (x : Runs h n m c) where
     pub going : has_ended m.address h.trace ≡ false
-    going = x.fact.seat.running.going
+    going = x.fact.standing.running.going
 
     pub is-running : running n h.trace ≡ Some m.address
     is-running = rw (x.last, going) refl
@@ -73,7 +73,7 @@ module _ {S : Type 0} (meaning : Meaning S) where
     connected = ap (λ k. is_connected k h) x.node ∙ x.joined
 
     pub view-is : (o : Option View) → c.view ≡ o → current_view m.address h.trace ≡ id_of o
-    view-is o e = x.fact.seat.current ∙ ap id_of e
+    view-is o e = x.fact.standing.current ∙ ap id_of e
 
     pub free-is : (input : Input) (o : Option Error) → refusal_of m input ≡ o → refusal_in c input ≡ o
     free-is input o e = sym (ap (λ (p : Option (Core S)). option_map_or (λ d. refusal_in d input) p (Some (Refused Closed))) x.core) ∙ e

@@ -18,8 +18,8 @@ use Rattle.member.specs.Members.{MemberModel}
 use Rattle.member.specs.Handling.{HasActed, Handled}
 use Rattle.world_model.specs.declared.Answer.{Answer}
 use Rattle.world_model.specs.Packets.{destination_in}
-use Rattle.world.specs.declared.seat.Seat.{Seat}
-use Rattle.world.specs.declared.seat.Seat.TheVariants.{Vacant, Ended, Running}
+use Rattle.world.specs.declared.node_state.NodeState.{NodeState}
+use Rattle.world.specs.declared.node_state.NodeState.TheVariants.{Vacant, Ended, Running}
 use Rattle.world.specs.Outputs.{AreAddressed, Fits}
 use Rattle.world.specs.Turns.{about, Gives, HandsHere, Hands, HandsLent, Hears}
 
@@ -39,7 +39,7 @@ module _ {S : Type 0} (meaning : Meaning S) where
   fits m left input (Err e) h = tt
 
   -- what comes of a call at the node
-  pub handed-here : (input : Input) (m left : MemberModel S) (r : Result Output Error) (p : Address) (t now : List Event) (pool more : List (List ℕ)) (a : Answer) (new : Seat S)
+  pub handed-here : (input : Input) (m left : MemberModel S) (r : Result Output Error) (p : Address) (t now : List Event) (pool more : List (List ℕ)) (a : Answer) (new : NodeState S)
       → Handled meaning m input r left → p ≡ m.address → Gives p input r left (about (Running m) t pool) a (about new now more) → HandsHere meaning input m (about (Running m) t pool) a (about new now more)
   handed-here input m left r p t now pool more a new h is g = record {
     result = r;
@@ -49,12 +49,12 @@ module _ {S : Type 0} (meaning : Meaning S) where
   }
 
   -- bytes that are handed to a member that runs
-  pub heard : (b : Bor (List ℕ)) (bytes : List ℕ) (s : Seat S) (m : MemberModel S) (t : List Event) (pool more : List (List ℕ)) (a : Answer) (new : Seat S) (now : List Event)
+  pub heard : (b : Bor (List ℕ)) (bytes : List ℕ) (s : NodeState S) (m : MemberModel S) (t : List Event) (pool more : List (List ℕ)) (a : Answer) (new : NodeState S) (now : List Event)
       → s ≡ Running m → b.now ≡ bytes → HandsHere meaning (Datagram b) m (about (Running m) t pool) a (about new now more) → Hears meaning bytes (about s t pool) a (about new now more)
   heard b bytes s m t pool more a new now is same g = rw is (b, same, g)
 
   -- what is handed with a payload that is lent
-  pub lent : (input : Bor (List ℕ) → Input) (b : Bor (List ℕ)) (bytes : List ℕ) (s : Seat S) (t : List Event) (pool more : List (List ℕ)) (a : Answer) (new : Seat S) (now : List Event)
+  pub lent : (input : Bor (List ℕ) → Input) (b : Bor (List ℕ)) (bytes : List ℕ) (s : NodeState S) (t : List Event) (pool more : List (List ℕ)) (a : Answer) (new : NodeState S) (now : List Event)
       → b.now ≡ bytes → Hands meaning (input b) (about s t pool) a (about new now more) → HandsLent meaning input bytes (about s t pool) a (about new now more)
   lent input b bytes Vacant t pool more a new now is g = g
   lent input b bytes (Ended p) t pool more a new now is g = g

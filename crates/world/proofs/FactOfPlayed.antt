@@ -24,9 +24,9 @@ use Rattle.member.specs.Handling.{Handled}
 use Rattle.world_model.specs.declared.WorldEvent.TheVariants.{Deliver, Tick}
 use Rattle.world_model.specs.declared.Answer.{Answer}
 use Rattle.world_model.specs.Packets.{packet_numbered, destination_of}
-use Rattle.world.specs.declared.seat.Seat.{Seat}
-use Rattle.world.specs.declared.seat.Seat.TheVariants.{Ended, Running}
-use Rattle.world.specs.Seats.{bytes_of, answer_to}
+use Rattle.world.specs.declared.node_state.NodeState.{NodeState}
+use Rattle.world.specs.declared.node_state.NodeState.TheVariants.{Ended, Running}
+use Rattle.world.specs.NodeStates.{bytes_of, answer_to}
 use Rattle.world.specs.Turns.{about, OthersStand, Gives, HandsHere, Hands, HandsOver, Delivers, Hears}
 use Rattle.world.specs.Worlds.{WorldModel, WorldStep}
 use Rattle.world.specs.Gaps.{lacks_memory}
@@ -45,11 +45,11 @@ lacks-nothing (Crashed p ∷ hs) = refl
 
 module _ {S : Type 0} (meaning : Meaning S) where
   -- a running member took an input, and runs on
-  pub record Taken (input : Input) (m : MemberModel S) (t : List Event) (pool : List (List ℕ)) (new : Seat S) (t' : List Event) (pool' : List (List ℕ)) : Type 0 where
+  pub record Taken (input : Input) (m : MemberModel S) (t : List Event) (pool : List (List ℕ)) (new : NodeState S) (t' : List Event) (pool' : List (List ℕ)) : Type 0 where
     pub out : Output
     pub left : MemberModel S
     pub handled : Handled meaning m input (Ok out) left
-    pub seat : new ≡ (if leaves input then Ended m.address else Running left)
+    pub node_state : new ≡ (if leaves input then Ended m.address else Running left)
     pub trace : t' ≡ t ++ out.events.items
     pub puts : pool' ≡ pool ++ map bytes_of out.packets.items
 
@@ -58,10 +58,10 @@ module _ {S : Type 0} (meaning : Meaning S) where
     pub trace : t' ≡ t ++ Crashed p ∷ []
     pub puts : pool' ≡ pool
 
-  abbrev pub Outcome : Input → MemberModel S → List Event → List (List ℕ) → Answer → Seat S → List Event → List (List ℕ) → Type 0
+  abbrev pub Outcome : Input → MemberModel S → List Event → List (List ℕ) → Answer → NodeState S → List Event → List (List ℕ) → Type 0
   Outcome input m t pool a new t' pool' = ((lacks_memory a ≡ false) × Taken input m t pool new t' pool') ⊎ ((lacks_memory a ≡ true) × Lost m.address t pool t' pool')
 
-  module _ (input : Input) (m : MemberModel S) (t : List Event) (pool : List (List ℕ)) (a : Answer) (new : Seat S) (t' : List Event) (pool' : List (List ℕ))
+  module _ (input : Input) (m : MemberModel S) (t : List Event) (pool : List (List ℕ)) (a : Answer) (new : NodeState S) (t' : List Event) (pool' : List (List ℕ))
       (free : refusal_of m input ≡ None) (readable : is_unreadable meaning m input ≡ false) where
     by-error : (b : Bool) (e : Error) (left : MemberModel S) → is_memory e ≡ b → Handled meaning m input (Err e) left → Gives m.address input (Err e) left (about (Running m) t pool) a (about new t' pool')
         → Outcome input m t pool a new t' pool'
@@ -75,7 +75,7 @@ module _ {S : Type 0} (meaning : Meaning S) where
     by-result : (result : Result Output Error) (left : MemberModel S) → Handled meaning m input result left → Gives m.address input result left (about (Running m) t pool) a (about new t' pool')
         → Outcome input m t pool a new t' pool'
     by-result (Ok out) left handled (inl g) =
-        inl (ap lacks_memory g.answer ∙ lacks-nothing out.events.items, record { out = out; left = left; handled = handled; seat = g.seat; trace = g.trace; puts = g.puts })
+        inl (ap lacks_memory g.answer ∙ lacks-nothing out.events.items, record { out = out; left = left; handled = handled; node_state = g.node_state; trace = g.trace; puts = g.puts })
     by-result (Ok out) left handled (inr g) = inr (ap lacks_memory g.1.answer, record { trace = g.1.trace; puts = g.1.puts })
     by-result (Err e) left handled g = by-error (is_memory e) e left refl handled g
 
@@ -84,12 +84,12 @@ module _ {S : Type 0} (meaning : Meaning S) where
 
   -- ---- a tick
 
-  pub tick-here : (old new : WorldModel S) (n : ℕ) (m : MemberModel S) (step : WorldStep meaning old (Tick n) new) → old.seats n ≡ Running m
-      → HandsHere meaning input.Tick m (about (Running m) old.history.trace old.history.pool) step.answer (about (new.seats n) new.history.trace new.history.pool)
+  pub tick-here : (old new : WorldModel S) (n : ℕ) (m : MemberModel S) (step : WorldStep meaning old (Tick n) new) → old.node_states n ≡ Running m
+      → HandsHere meaning input.Tick m (about (Running m) old.history.trace old.history.pool) step.answer (about (new.node_states n) new.history.trace new.history.pool)
   tick-here old new n m step there =
-      subst (λ (s : Seat S). Hands meaning input.Tick (about s old.history.trace old.history.pool) step.answer (about (new.seats n) new.history.trace new.history.pool)) there step.does.0
+      subst (λ (s : NodeState S). Hands meaning input.Tick (about s old.history.trace old.history.pool) step.answer (about (new.node_states n) new.history.trace new.history.pool)) there step.does.0
 
-  pub tick-others : (old new : WorldModel S) (n : ℕ) → WorldStep meaning old (Tick n) new → OthersStand n old.seats new.seats
+  pub tick-others : (old new : WorldModel S) (n : ℕ) → WorldStep meaning old (Tick n) new → OthersStand n old.node_states new.node_states
   tick-others old new n step = step.does.1
 
   -- ---- a delivery
@@ -97,18 +97,18 @@ module _ {S : Type 0} (meaning : Meaning S) where
   pub record Handed (m : MemberModel S) (bytes : List ℕ) (old new : WorldModel S) (a : Answer) (n : ℕ) : Type 0 where
     pub lent : Bor (List ℕ)
     pub is : lent.now ≡ bytes
-    pub here : HandsHere meaning (input.Datagram lent) m (about (Running m) old.history.trace old.history.pool) a (about (new.seats n) new.history.trace new.history.pool)
-    pub others : OthersStand n old.seats new.seats
+    pub here : HandsHere meaning (input.Datagram lent) m (about (Running m) old.history.trace old.history.pool) a (about (new.node_states n) new.history.trace new.history.pool)
+    pub others : OthersStand n old.node_states new.node_states
 
   pub delivered-here : (old new : WorldModel S) (k : ℕ) (bytes : List ℕ) (q : Address) (m : MemberModel S) (step : WorldStep meaning old (Deliver k) new)
-      → packet_numbered k old.history.pool ≡ Some bytes → destination_of bytes ≡ Some q → old.seats q.node ≡ Running m → Handed m bytes old new step.answer q.node
-  delivered-here old new k bytes q m step there goes seat =
-      let x : Delivers meaning (Some bytes) (about old.seats old.history.trace old.history.pool) step.answer (about new.seats new.history.trace new.history.pool) =
-      subst (λ (o : Option (List ℕ)). Delivers meaning o (about old.seats old.history.trace old.history.pool) step.answer (about new.seats new.history.trace new.history.pool)) there step.does in
-      let y : HandsOver meaning bytes (Some q) (about old.seats old.history.trace old.history.pool) step.answer (about new.seats new.history.trace new.history.pool) =
-      subst (λ (o : Option Address). HandsOver meaning bytes o (about old.seats old.history.trace old.history.pool) step.answer (about new.seats new.history.trace new.history.pool)) goes x in
-      let z : Hears meaning bytes (about (Running m) old.history.trace old.history.pool) step.answer (about (new.seats q.node) new.history.trace new.history.pool) =
-      subst (λ (s : Seat S). Hears meaning bytes (about s old.history.trace old.history.pool) step.answer (about (new.seats q.node) new.history.trace new.history.pool)) seat y.0 in
+      → packet_numbered k old.history.pool ≡ Some bytes → destination_of bytes ≡ Some q → old.node_states q.node ≡ Running m → Handed m bytes old new step.answer q.node
+  delivered-here old new k bytes q m step there goes node_state =
+      let x : Delivers meaning (Some bytes) (about old.node_states old.history.trace old.history.pool) step.answer (about new.node_states new.history.trace new.history.pool) =
+      subst (λ (o : Option (List ℕ)). Delivers meaning o (about old.node_states old.history.trace old.history.pool) step.answer (about new.node_states new.history.trace new.history.pool)) there step.does in
+      let y : HandsOver meaning bytes (Some q) (about old.node_states old.history.trace old.history.pool) step.answer (about new.node_states new.history.trace new.history.pool) =
+      subst (λ (o : Option Address). HandsOver meaning bytes o (about old.node_states old.history.trace old.history.pool) step.answer (about new.node_states new.history.trace new.history.pool)) goes x in
+      let z : Hears meaning bytes (about (Running m) old.history.trace old.history.pool) step.answer (about (new.node_states q.node) new.history.trace new.history.pool) =
+      subst (λ (s : NodeState S). Hears meaning bytes (about s old.history.trace old.history.pool) step.answer (about (new.node_states q.node) new.history.trace new.history.pool)) node_state y.0 in
       record { lent = z.0; is = z.1; here = z.2; others = y.1 }
 
   -- ---- what it did

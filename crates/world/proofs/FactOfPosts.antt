@@ -9,7 +9,7 @@ use Rattle.wire.proofs.OneSpelling.{spelled_read}
 use Rattle.agreement.specs.Histories.{Posted}
 use Rattle.output.specs.Outputs.{packet_in, spelled}
 use Rattle.world_model.specs.Packets.{world_group}
-use Rattle.world.specs.Seats.{bytes_of, posted_in, read_as, posts_in}
+use Rattle.world.specs.NodeStates.{bytes_of, posted_in, read_as, posts_in}
 use Rattle.world.specs.Invariant.{IsSpelled, EachSpelled}
 
 -- some bytes that are read, as what

@@ -21,7 +21,7 @@ use Rattle.limits.specs.declared.refusal.Refusal.TheVariants.{Memory}
 use Rattle.limits.specs.declared.refusal.Refusal.TheVariants as refusal
 use Rattle.world_model.specs.Histories.{History}
 use Rattle.world_model.specs.Faithful.{AnswersSend, IsPrompt, SendsNext, outstanding}
-use Rattle.world.specs.Seats.{answer_to}
+use Rattle.world.specs.NodeStates.{answer_to}
 use Rattle.world.proofs.FactOfOwnEvents.{EachOwn, own-quiet}
 use Rattle.world.proofs.FactOfAnswers.{free-of, quiet-all}
 use Rattle.world.proofs.FactOfMembers
@@ -51,10 +51,10 @@ used-up k n e test = subst (λ (j : ℕ). nat_lt j GREATEST_NUMBER ≡ false) (s
 
 module _ {S : Type 0} (meaning : Meaning S) (h : History) (n : ℕ) (m : MemberModel S) (c : Core S) (x : FactOfMembers.Runs meaning h n m c) (payload : List ℕ) where
   me-is : c.me ≡ m.address
-  me-is = x.fact.seat.itself
+  me-is = x.fact.standing.itself
 
   block-is : (b : Bool) → is_frozen c.view c.installed ≡ b → is_blocked m.address h.trace ≡ b
-  block-is b e = x.fact.seat.block ∙ e
+  block-is b e = x.fact.standing.block ∙ e
 
   -- ---- in a view
 

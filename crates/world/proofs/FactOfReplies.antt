@@ -42,9 +42,9 @@ use Rattle.member.specs.Doing.{DoesAt, DoesBy, Ticks}
 use Rattle.member.specs.Handling.{Handled, StaysSo, Replies}
 use Rattle.world_model.specs.declared.WorldEvent.TheVariants.{Deliver, Tick}
 use Rattle.world_model.specs.Packets.{world_group, packet_numbered, destination_of}
-use Rattle.world.specs.declared.seat.Seat.{Seat}
-use Rattle.world.specs.declared.seat.Seat.TheVariants.{Running}
-use Rattle.world.specs.Seats.{bytes_of}
+use Rattle.world.specs.declared.node_state.NodeState.{NodeState}
+use Rattle.world.specs.declared.node_state.NodeState.TheVariants.{Running}
+use Rattle.world.specs.NodeStates.{bytes_of}
 use Rattle.world.specs.Turns.{OthersStand}
 use Rattle.world.specs.Worlds.{WorldModel, WorldStep}
 use Rattle.world.specs.Gaps.{Plays, lacks_memory}
@@ -71,7 +71,7 @@ module _ {S : Type 0} (meaning : Meaning S) where
   -- the member of an address runs, in a view, and is not blocked
   pub record RunsAs (w : WorldModel S) (p : Address) (l : Life S) (t : Traffic) : Type 0 where
     pub member : MemberModel S
-    pub seat : w.seats p.node ≡ Running member
+    pub node_state : w.node_states p.node ≡ Running member
     pub address : member.address ≡ p
     pub group : member.group ≡ world_group
     pub life : member.life ≡ Some l
@@ -83,10 +83,10 @@ module _ {S : Type 0} (meaning : Meaning S) where
     core-is = rw (r.life, r.address) refl
 
     -- another event leaves it
-    pub runs-still : (new : WorldModel S) (q : Address) → nat_eq q.node p.node ≡ false → OthersStand q.node w.seats new.seats → RunsAs new p l t
+    pub runs-still : (new : WorldModel S) (q : Address) → nat_eq q.node p.node ≡ false → OthersStand q.node w.node_states new.node_states → RunsAs new p l t
     runs-still new q apart others = record {
       member = r.member;
-      seat = others p.node apart ∙ r.seat;
+      node_state = others p.node apart ∙ r.node_state;
       address = r.address;
       group = r.group;
       life = r.life;
@@ -146,7 +146,7 @@ module _ {S : Type 0} (meaning : Meaning S) where
 
   pub record Ticked (old new : WorldModel S) (c : Address) (l : Life S) (k : Coordinator) : Type 0 where
     pub runs : RunsAs new c l (kinds.Coordinator k)
-    pub others : OthersStand c.node old.seats new.seats
+    pub others : OthersStand c.node old.node_states new.node_states
     pub trace : new.history.trace ≡ old.history.trace
     pub puts : new.history.pool ≡ old.history.pool ++ bytes_for (statuses c k)
     pub sound : EachSound (statuses c k)
@@ -165,15 +165,15 @@ module _ {S : Type 0} (meaning : Meaning S) where
   tick-readable : (w : WorldModel S) (c : Address) (l : Life S) (t : Traffic) (r : RunsAs w c l t) → is_unreadable meaning r.member input.Tick ≡ false
   tick-readable w c l t r = rw (core-is w c l t r) refl
 
-  ticked-by : (old new : WorldModel S) (c : Address) (l : Life S) (k : Coordinator) (r : RunsAs old c l (kinds.Coordinator k)) → OthersStand c.node old.seats new.seats
-      → FactOfPlayed.Taken meaning input.Tick r.member old.history.trace old.history.pool (new.seats c.node) new.history.trace new.history.pool → Ticked old new c l k
+  ticked-by : (old new : WorldModel S) (c : Address) (l : Life S) (k : Coordinator) (r : RunsAs old c l (kinds.Coordinator k)) → OthersStand c.node old.node_states new.node_states
+      → FactOfPlayed.Taken meaning input.Tick r.member old.history.trace old.history.pool (new.node_states c.node) new.history.trace new.history.pool → Ticked old new c l k
   ticked-by old new c l k r others x =
       let d = did old c l (kinds.Coordinator k) r input.Tick x.out x.left x.handled (replies-in old c l (kinds.Coordinator k) r input.Tick x.out x.left x.handled).1 in
       let g : Grows world_group d.start x.out (statuses c k) [] = tick-grows c l k d.start x.out r.traffic r.installed d.does.1 in
       record {
         runs = record {
           member = x.left;
-          seat = x.seat;
+          node_state = x.node_state;
           address = x.handled.address ∙ r.address;
           group = x.handled.group ∙ r.group;
           life = d.life ∙ ap Some d.does.0;
@@ -191,10 +191,10 @@ module _ {S : Type 0} (meaning : Meaning S) where
       → ((lacks_memory step.answer ≡ false) × Ticked old new c l k)
       ⊎ ((lacks_memory step.answer ≡ true) × FactOfPlayed.Lost meaning c old.history.trace old.history.pool new.history.trace new.history.pool)
   ticked old new c l k r step =
-      by (FactOfPlayed.outcome meaning input.Tick r.member old.history.trace old.history.pool step.answer (new.seats c.node) new.history.trace new.history.pool
-      (tick-free old c l (kinds.Coordinator k) r) (tick-readable old c l (kinds.Coordinator k) r) (FactOfPlayed.tick-here meaning old new c.node r.member step r.seat))
+      by (FactOfPlayed.outcome meaning input.Tick r.member old.history.trace old.history.pool step.answer (new.node_states c.node) new.history.trace new.history.pool
+      (tick-free old c l (kinds.Coordinator k) r) (tick-readable old c l (kinds.Coordinator k) r) (FactOfPlayed.tick-here meaning old new c.node r.member step r.node_state))
     where
-      by : FactOfPlayed.Outcome meaning input.Tick r.member old.history.trace old.history.pool step.answer (new.seats c.node) new.history.trace new.history.pool
+      by : FactOfPlayed.Outcome meaning input.Tick r.member old.history.trace old.history.pool step.answer (new.node_states c.node) new.history.trace new.history.pool
           → ((lacks_memory step.answer ≡ false) × Ticked old new c l k)
           ⊎ ((lacks_memory step.answer ≡ true) × FactOfPlayed.Lost meaning c old.history.trace old.history.pool new.history.trace new.history.pool)
       by (inl x) = inl (x.0, ticked-by old new c l k r step.does.1 x.1)
@@ -205,7 +205,7 @@ module _ {S : Type 0} (meaning : Meaning S) where
   pub record Heard (old new : WorldModel S) (q : Address) (l : Life S) (m : Posted) : Type 0 where
     pub after : Life S
     pub member : MemberModel S
-    pub seat : new.seats q.node ≡ Running member
+    pub node_state : new.node_states q.node ≡ Running member
     pub address : member.address ≡ q
     pub group : member.group ≡ world_group
     pub life : member.life ≡ Some after
@@ -213,7 +213,7 @@ module _ {S : Type 0} (meaning : Meaning S) where
     pub out : Output
     pub nothing : Puts [] [] start
     pub hears : hearing.Hears meaning world_group q m.source m.body l after start out
-    pub others : OthersStand q.node old.seats new.seats
+    pub others : OthersStand q.node old.node_states new.node_states
     pub trace : new.history.trace ≡ old.history.trace ++ out.events.items
     pub puts : new.history.pool ≡ old.history.pool ++ map bytes_of out.packets.items
 
@@ -242,15 +242,15 @@ module _ {S : Type 0} (meaning : Meaning S) where
     packet-readable = rw (core-is w q l t r, came, f.plain) refl
 
   heard-by : (old new : WorldModel S) (k : ℕ) (q : Address) (l : Life S) (t : Traffic) (r : RunsAs old q l t) (m : Posted) (f : IsFor old k q m) (b : Bor (List ℕ)) → b.now ≡ bytes_as m
-      → OthersStand q.node old.seats new.seats
-      → FactOfPlayed.Taken meaning (input.Datagram b) r.member old.history.trace old.history.pool (new.seats q.node) new.history.trace new.history.pool → Heard old new q l m
+      → OthersStand q.node old.node_states new.node_states
+      → FactOfPlayed.Taken meaning (input.Datagram b) r.member old.history.trace old.history.pool (new.node_states q.node) new.history.trace new.history.pool → Heard old new q l m
   heard-by old new k q l t r m f b is others x =
       let i = input.Datagram b in
       let d = did old q l t r i x.out x.left x.handled (replies-in old q l t r i x.out x.left x.handled).1 in
       record {
         after = d.after;
         member = x.left;
-        seat = x.seat;
+        node_state = x.node_state;
         address = x.handled.address ∙ r.address;
         group = x.handled.group ∙ r.group;
         life = d.life;
@@ -267,12 +267,12 @@ module _ {S : Type 0} (meaning : Meaning S) where
       (step : WorldStep meaning old (Deliver k) new) → ((lacks_memory step.answer ≡ false) × Heard old new q l m)
       ⊎ ((lacks_memory step.answer ≡ true) × FactOfPlayed.Lost meaning q old.history.trace old.history.pool new.history.trace new.history.pool)
   heard old new k q l t r m f step =
-      let h = FactOfPlayed.delivered-here meaning old new k (bytes_as m) q r.member step f.there (goes-to m f.sound ∙ ap Some f.goes) r.seat in
-      by h (FactOfPlayed.outcome meaning (input.Datagram h.lent) r.member old.history.trace old.history.pool step.answer (new.seats q.node) new.history.trace new.history.pool
+      let h = FactOfPlayed.delivered-here meaning old new k (bytes_as m) q r.member step f.there (goes-to m f.sound ∙ ap Some f.goes) r.node_state in
+      by h (FactOfPlayed.outcome meaning (input.Datagram h.lent) r.member old.history.trace old.history.pool step.answer (new.node_states q.node) new.history.trace new.history.pool
       (packet-free old q l t r h.lent m k f h.is) (packet-readable old q l t r h.lent m k f h.is) h.here)
     where
       by : (h : FactOfPlayed.Handed meaning r.member (bytes_as m) old new step.answer q.node)
-          → FactOfPlayed.Outcome meaning (input.Datagram h.lent) r.member old.history.trace old.history.pool step.answer (new.seats q.node) new.history.trace new.history.pool
+          → FactOfPlayed.Outcome meaning (input.Datagram h.lent) r.member old.history.trace old.history.pool step.answer (new.node_states q.node) new.history.trace new.history.pool
           → ((lacks_memory step.answer ≡ false) × Heard old new q l m)
           ⊎ ((lacks_memory step.answer ≡ true) × FactOfPlayed.Lost meaning q old.history.trace old.history.pool new.history.trace new.history.pool)
       by h (inl x) = inl (x.0, heard-by old new k q l t r m f h.lent h.is h.others x.1)
@@ -317,7 +317,7 @@ module _ {S : Type 0} (meaning : Meaning S) where
     pub out : Output
     pub nothing : Puts [] [] start
     pub asks : AsksUpTo q world_group a.highest now start out
-    pub others : OthersStand q.node old.seats new.seats
+    pub others : OthersStand q.node old.node_states new.node_states
     pub puts : new.history.pool ≡ old.history.pool ++ map bytes_of out.packets.items
 
   fits : (a : Progress) (k : Other) → is_near a k ≡ true → (nat_lt k.window.delivered a.stable || nat_lt k.window.delivered (a.highest - WINDOW)) ≡ false
@@ -338,7 +338,7 @@ module _ {S : Type 0} (meaning : Meaning S) where
       record {
         after = h.after;
         now = z.now;
-        runs = record { member = h.member; seat = h.seat; address = h.address; group = h.group; life = h.life; traffic = z.traffic; installed = z.installed ∙ r.installed };
+        runs = record { member = h.member; node_state = h.node_state; address = h.address; group = h.group; life = h.life; traffic = z.traffic; installed = z.installed ∙ r.installed };
         is = u.0;
         start = h.start;
         out = h.out;
@@ -358,7 +358,7 @@ module _ {S : Type 0} (meaning : Meaning S) where
     pub start : Output
     pub out : Output
     pub takes : TakesNear meaning q world_group g e k old_state start now new_state out
-    pub others : OthersStand q.node old.seats new.seats
+    pub others : OthersStand q.node old.node_states new.node_states
     pub puts : new.history.pool ≡ old.history.pool ++ map bytes_of out.packets.items
 
   pub ordered : (old new : WorldModel S) (c q : Address) (l : Life S) (k : Other) (g : ℕ) (e : Entry) (r : RunsAs old q l (kinds.Other k)) → k.view.id.creator ≡ c → stands_in c k.view.members ≡ true
@@ -370,7 +370,7 @@ module _ {S : Type 0} (meaning : Meaning S) where
       record {
         after = h.after;
         now = z.now;
-        runs = record { member = h.member; seat = h.seat; address = h.address; group = h.group; life = h.life; traffic = z.traffic; installed = z.installed ∙ r.installed };
+        runs = record { member = h.member; node_state = h.node_state; address = h.address; group = h.group; life = h.life; traffic = z.traffic; installed = z.installed ∙ r.installed };
         old_state = l.receiver;
         new_state = h.after.receiver;
         start = h.start;
@@ -384,7 +384,7 @@ module _ {S : Type 0} (meaning : Meaning S) where
 
   pub record Answered (old new : WorldModel S) (c q : Address) (l : Life S) (k : Coordinator) (missing : Missing) : Type 0 where
     pub runs : RunsAs new c l (kinds.Coordinator k)
-    pub others : OthersStand c.node old.seats new.seats
+    pub others : OthersStand c.node old.node_states new.node_states
     pub puts : new.history.pool ≡ old.history.pool ++ bytes_for (orders_held c k.view q k.window.held missing.first (missing.last + 1 - missing.first))
     pub sound : EachSound (orders_held c k.view q k.window.held missing.first (missing.last + 1 - missing.first))
 
@@ -401,7 +401,7 @@ module _ {S : Type 0} (meaning : Meaning S) where
       let g : Grows world_group h.start h.out orders [] =
       subst (λ (o : Option Traffic). ByKind (λ m. Grows world_group h.start h.out (orders_held c m.view q m.window.held missing.first (missing.last + 1 - missing.first)) []) (λ m. ⊥) ⊥ o) r.traffic y.1 in
       record {
-        runs = record { member = h.member; seat = h.seat; address = h.address; group = h.group; life = h.life ∙ ap Some y.0; traffic = r.traffic; installed = r.installed };
+        runs = record { member = h.member; node_state = h.node_state; address = h.address; group = h.group; life = h.life ∙ ap Some y.0; traffic = r.traffic; installed = r.installed };
         others = h.others;
         puts = h.puts ∙ ap (λ (ps : List (List ℕ)). old.history.pool ++ ps) (put-out h.start h.out h.nothing orders [] g);
         sound = g.sound;

@@ -6,8 +6,8 @@ use Rattle.trace_props.specs.Places.{IsBeginningOf}
 use Rattle.trace_props.proofs.FactOfPlaces.{IsBeginningOf-same, IsBeginningOf-grow}
 use Rattle.world_model.specs.declared.WorldEvent.{WorldEvent}
 use Rattle.world_model.specs.Histories.{History}
-use Rattle.world.specs.declared.seat.Seat.{Seat}
-use Rattle.world.specs.Turns.{SameSeats}
+use Rattle.world.specs.declared.node_state.NodeState.{NodeState}
+use Rattle.world.specs.Turns.{SameNodeStates}
 use Rattle.world.specs.Worlds.{WorldModel, WorldStep, Runs, IsReached, IsLonger}
 use Rattle.world.specs.Worlds.Runs.{Still, Next}
 
@@ -23,9 +23,9 @@ module _ {S : Type 0} (meaning : Meaning S) where
   pub reached-on : (old new : WorldModel S) (e : WorldEvent) → IsReached meaning old → WorldStep meaning old e new → IsReached meaning new
   reached-on old new e r step = record { events = r.events ++ e ∷ []; runs = Next r.events old e new r.runs step }
 
-  pub reached-same : (h : History) (at new : ℕ → Seat S) → SameSeats at new → IsReached meaning (record { history = h; seats = at })
-      → IsReached meaning (record { history = h; seats = new })
-  reached-same h at new same r = subst (λ (w : WorldModel S). IsReached meaning w) (λ i. record { history = h; seats = λ n. sym (same n) i }) r
+  pub reached-same : (h : History) (at new : ℕ → NodeState S) → SameNodeStates at new → IsReached meaning (record { history = h; node_states = at })
+      → IsReached meaning (record { history = h; node_states = new })
+  reached-same h at new same r = subst (λ (w : WorldModel S). IsReached meaning w) (λ i. record { history = h; node_states = λ n. sym (same n) i }) r
 
   -- what goes on has the same beginnings
   longer-than : {X : Type 0} (xs ys zs all : List X) → IsBeginningOf xs ys → all ≡ ys ++ zs → IsBeginningOf xs all

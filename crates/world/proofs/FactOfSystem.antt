@@ -6,18 +6,18 @@ use Rattle.trace_props.proofs.FactOfObserved.{same_address-true, same_address-re
 use Rattle.agreement.specs.Cores.{Core}
 use Rattle.agreement.specs.Steps.{put}
 use Rattle.member.specs.Members.{MemberModel, core_of}
-use Rattle.world.specs.declared.seat.Seat.{Seat}
-use Rattle.world.specs.declared.seat.Seat.TheVariants.{Ended, Running}
-use Rattle.world.specs.Seats.{core_here}
-use Rattle.world.specs.Turns.{SameSeats, OthersStand}
+use Rattle.world.specs.declared.node_state.NodeState.{NodeState}
+use Rattle.world.specs.declared.node_state.NodeState.TheVariants.{Ended, Running}
+use Rattle.world.specs.NodeStates.{core_here}
+use Rattle.world.specs.Turns.{SameNodeStates, OthersStand}
 
 module _ {S : Type 0} where
   -- the members that run at these nodes
-  abbrev pub runs : (ℕ → Seat S) → Address → Option (Core S)
+  abbrev pub runs : (ℕ → NodeState S) → Address → Option (Core S)
   runs at p = core_here p (at p.node)
 
   -- nobody but this one runs at a node
-  abbrev pub OnlyHere : Address → Seat S → Type 0
+  abbrev pub OnlyHere : Address → NodeState S → Type 0
   OnlyHere p s = (q : Address) → same_address q p ≡ false → core_here q s ≡ None
 
   pub only-ended : (p r : Address) → OnlyHere p (Ended r)
@@ -29,7 +29,7 @@ module _ {S : Type 0} where
   pub core-running : (p : Address) (m : MemberModel S) → m.address ≡ p → core_here p (Running m) ≡ core_of m
   core-running p m is = cond-true (same_address p m.address) (core_of m) None (ap (same_address p) is ∙ same_address-refl p)
 
-  module _ (at new : ℕ → Seat S) (p : Address) (end : Option (Core S)) where
+  module _ (at new : ℕ → NodeState S) (p : Address) (end : Option (Core S)) where
     apart : (q : Address) → OnlyHere p (at p.node) → OnlyHere p (new p.node) → OthersStand p.node at new → same_address q p ≡ false
         → (b : Bool) → nat_eq p.node q.node ≡ b → runs new q ≡ runs at q
     apart q old now others e true b =
@@ -47,12 +47,12 @@ module _ {S : Type 0} where
     runs-put old now others is = λ i q. seen q old now others is (same_address q p) refl i
 
   -- all nodes stand as they stood where one node does and the others do
-  pub same-at : (at new : ℕ → Seat S) (n : ℕ) → OthersStand n at new → new n ≡ at n → SameSeats at new
+  pub same-at : (at new : ℕ → NodeState S) (n : ℕ) → OthersStand n at new → new n ≡ at n → SameNodeStates at new
   same-at at new n others is k = by (nat_eq n k) refl
     where
       by : (b : Bool) → nat_eq n k ≡ b → new k ≡ at k
       by true b = subst (λ (j : ℕ). new j ≡ at j) (eqb-true n k b) is
       by false b = others k b
 
-  pub runs-same : (at new : ℕ → Seat S) → SameSeats at new → runs new ≡ runs at
+  pub runs-same : (at new : ℕ → NodeState S) → SameNodeStates at new → runs new ≡ runs at
   runs-same at new same = λ i q. core_here q (same q.node i)

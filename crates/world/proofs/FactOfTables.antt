@@ -28,7 +28,7 @@ use Rattle.limits.specs.declared.refusal.Refusal.{Refusal}
 use Rattle.limits.specs.declared.refusal.Refusal.TheVariants.{Memory, AlreadyConnected}
 use Rattle.world_model.specs.Histories.{History, is_connected}
 use Rattle.world_model.specs.Faithful.{AnswersCreate, AnswersJoin, AnswersQuietly, AnswersLeave, AnswersSend, IsPrompt}
-use Rattle.world.specs.Seats.{answer_for, answer_to, posts_in}
+use Rattle.world.specs.NodeStates.{answer_for, answer_to, posts_in}
 use Rattle.world.specs.Invariant.{IsMember}
 use Rattle.world.proofs.FactOfConnected.{connects_after-other, refused-connects}
 use Rattle.world.proofs.FactOfOwnEvents.{EachOwn}
@@ -257,7 +257,7 @@ module _ {S : Type 0} (meaning : Meaning S) (h : History) (n : ℕ) (m : MemberM
   leave-taken out left handled =
       let r = replies input.Leave out left handled in
       let s = out.events.items in
-      let is : s ≡ Left m.address ∷ [] = r.0 ∙ ap (λ (p : Address). Left p ∷ []) x.fact.seat.itself in
+      let is : s ≡ Left m.address ∷ [] = r.0 ∙ ap (λ (p : Address). Left p ∷ []) x.fact.standing.itself in
       let done : answer_to s ≡ Done = ap answer_to r.0 in
       subst (λ (a : Answer). TakesSo (Leave n) input.Leave a s left) (sym done) (record {
         answers = FactOfMembers.at-member meaning h n m c x Done s (λ p. AnswersLeave p Done s) (FactOfAnswers.leave-taken meaning h n m c x s r.0);

@@ -34,11 +34,11 @@ use Rattle.limits.specs.declared.refusal.Refusal.TheVariants as refusal
 use Rattle.limits.specs.Refusals as refusals
 use Rattle.world_model.specs.Histories.{History, last_of, is_connected, connects_after}
 use Rattle.world_model.specs.Faithful.{Answers, SendsPromptly}
-use Rattle.world.specs.declared.seat.Seat.{Seat}
-use Rattle.world.specs.declared.seat.Seat.TheVariants.{Ended, Running}
-use Rattle.world.specs.Seats.{core_here, bytes_of, posts_in, answer_for, is_closed, answer_to, system_of}
+use Rattle.world.specs.declared.node_state.NodeState.{NodeState}
+use Rattle.world.specs.declared.node_state.NodeState.TheVariants.{Ended, Running}
+use Rattle.world.specs.NodeStates.{core_here, bytes_of, posts_in, answer_for, is_closed, answer_to, system_of}
 use Rattle.world.specs.Turns.{about, OthersStand, Takes, Crashes, Refuses, Gives, HandsHere}
-use Rattle.world.specs.Invariant.{IsMember, IsSeatOf, EachSpelled}
+use Rattle.world.specs.Invariant.{IsMember, IsNodeStateOf, EachSpelled}
 use Rattle.world.proofs.FactOfConnected.{refused-prompt}
 use Rattle.world.proofs.FactOfOwnEvents.{EachOwn, own-acted}
 use Rattle.world.proofs.FactOfTraces.{last_of-own, starts-own}
@@ -101,17 +101,17 @@ module _ {S : Type 0} (meaning : Meaning S) where
         → TakesSo h n m e input (answer_to out.events.items) out.events.items left
 
   -- an event is a turn: what it put out, what happened
-  pub record Turned (new : ℕ → Seat S) (n : ℕ) (h : History) (e : WorldEvent) (a : Answer) (t : List Event) (pool : List (List ℕ)) : Type 0 where
+  pub record Turned (new : ℕ → NodeState S) (n : ℕ) (h : History) (e : WorldEvent) (a : Answer) (t : List Event) (pool : List (List ℕ)) : Type 0 where
     pub ps : List (List ℕ)
     pub s : List Event
     pub trace : t ≡ h.trace ++ s
     pub puts : pool ≡ h.pool ++ ps
     pub turn : KeepByTurn.Turn meaning new n h e a ps s
 
-  module _ (laws : KeepBySteps.Laws meaning) (at new : ℕ → Seat S) (n : ℕ) (h : History) (e : WorldEvent) (m : MemberModel S) (c : Core S)
+  module _ (laws : KeepBySteps.Laws meaning) (at new : ℕ → NodeState S) (n : ℕ) (h : History) (e : WorldEvent) (m : MemberModel S) (c : Core S)
       (w : KeepByTurn.World meaning at h) (there : at n ≡ Running m) (x : FactOfMembers.Runs meaning h n m c)
       (others : OthersStand n at new) (elsewhere : (a : Answer) (k : ℕ) → nat_eq n k ≡ false → connects_after k (is_connected k h) e a ≡ is_connected k h) where
-    pub moves-to : (now : Seat S) → new n ≡ now → OnlyHere m.address now → KeepAgreement.Moves meaning laws at new n m.address (Running m) now
+    pub moves-to : (now : NodeState S) → new n ≡ now → OnlyHere m.address now → KeepAgreement.Moves meaning laws at new n m.address (Running m) now
     moves-to now is only = record { node = x.node; was = there; is = is; only_old = only-running m.address m refl; only_now = only; others = others }
 
     core-was : core_here m.address (Running m) ≡ Some c
@@ -135,11 +135,11 @@ module _ {S : Type 0} (meaning : Meaning S) where
           starts = starts-own m.address h.trace (Crashed m.address ∷ []) crash-own w.starts;
           lasts = λ k o. last_of-own k m.address h.trace (Crashed m.address ∷ []) crash-own;
           connected = λ k o. elsewhere a k o;
-          seat = subst (IsSeatOf n (last_of n (h.trace ++ Crashed m.address ∷ [])) (connects_after n (is_connected n h) e a) (h.trace ++ Crashed m.address ∷ [])) (sym is)
+          node_state = subst (IsNodeStateOf n (last_of n (h.trace ++ Crashed m.address ∷ [])) (connects_after n (is_connected n h) e a) (h.trace ++ Crashed m.address ∷ [])) (sym is)
               (last, x.node, has_ended-now h.trace (Crashed m.address) refl);
         }
 
-  module _ (laws : KeepBySteps.Laws meaning) (at new : ℕ → Seat S) (n : ℕ) (h : History) (e : WorldEvent) (input : Input) (m : MemberModel S) (c : Core S)
+  module _ (laws : KeepBySteps.Laws meaning) (at new : ℕ → NodeState S) (n : ℕ) (h : History) (e : WorldEvent) (input : Input) (m : MemberModel S) (c : Core S)
       (w : KeepByTurn.World meaning at h) (there : at n ≡ Running m) (x : FactOfMembers.Runs meaning h n m c)
       (table : Tabled h n m c e input) (others : OthersStand n at new) where
     -- ---- it takes the input
@@ -153,11 +153,11 @@ module _ {S : Type 0} (meaning : Meaning S) where
     left-core true left e same ends = sym (ends e)
     left-core false left e same ends = core-running m.address left same
 
-    left-seat : (b connected : Bool) (s : List Event) (left : MemberModel S) → leaves input ≡ b → left.address ≡ m.address → last_of n (h.trace ++ s) ≡ Some m.address
+    left-node_state : (b connected : Bool) (s : List Event) (left : MemberModel S) → leaves input ≡ b → left.address ≡ m.address → last_of n (h.trace ++ s) ≡ Some m.address
         → (leaves input ≡ true → has_ended m.address (h.trace ++ s) ≡ true) → (leaves input ≡ false → IsMember connected left) → IsAlive left.group left.address left.life
-        → IsSeatOf n (last_of n (h.trace ++ s)) connected (h.trace ++ s) (cond b (Ended m.address) (Running left))
-    left-seat true connected s left e same last ended stays alive = (last, x.node, ended e)
-    left-seat false connected s left e same last ended stays alive = (last ∙ ap Some (sym same), ap (λ (p : Address). p.node) same ∙ x.node, stays e, alive)
+        → IsNodeStateOf n (last_of n (h.trace ++ s)) connected (h.trace ++ s) (cond b (Ended m.address) (Running left))
+    left-node_state true connected s left e same last ended stays alive = (last, x.node, ended e)
+    left-node_state false connected s left e same last ended stays alive = (last ∙ ap Some (sym same), ap (λ (p : Address). p.node) same ∙ x.node, stays e, alive)
 
     group-sound : (posted : List Posted) → AllByRecursion (λ k. IsPacket (packet_in m.group k)) posted → EachSound posted
     group-sound posted sound = subst (λ (g : List ℕ). AllByRecursion (λ k. IsPacket (packet_in g k)) posted) x.group sound
@@ -165,10 +165,10 @@ module _ {S : Type 0} (meaning : Meaning S) where
     group-bytes : (packets : List Outgoing) (posted : List Posted) → packets ≡ map (spelled m.group) posted → map bytes_of packets ≡ bytes_for posted
     group-bytes packets posted e = ap (map bytes_of) e ∙ ap (λ (g : List ℕ). map bytes_of (map (spelled g) posted)) x.group
 
-    taken-turn : (out : Output) (left : MemberModel S) (now : Seat S) → new n ≡ now → now ≡ cond (leaves input) (Ended m.address) (Running left)
+    taken-turn : (out : Output) (left : MemberModel S) (now : NodeState S) → new n ≡ now → now ≡ cond (leaves input) (Ended m.address) (Running left)
         → Handled meaning m input (Ok out) left → refusal_in c input ≡ None
         → KeepByTurn.Turn meaning new n h e (answer_to out.events.items) (map bytes_of out.packets.items) out.events.items
-    taken-turn out left now is seat handled free =
+    taken-turn out left now is node_state handled free =
         let s = out.events.items in
         let ps = map bytes_of out.packets.items in
         let did = handled.acted in
@@ -176,24 +176,24 @@ module _ {S : Type 0} (meaning : Meaning S) where
         let same : ps ≡ bytes_for did.posted = group-bytes out.packets.items did.posted did.spelled in
         let acted : Acted meaning (came_at m input) (Some c) did.posted s (core_of left) =
         subst (λ (o : Option (Core S)). Acted meaning (came_at m input) o did.posted s (core_of left)) x.core did.acted in
-        let own : EachOwn m.address s = own-acted meaning m.address c (came_at m input) did.posted s (core_of left) x.fact.seat.itself acted in
+        let own : EachOwn m.address s = own-acted meaning m.address c (came_at m input) did.posted s (core_of left) x.fact.standing.itself acted in
         let so : TakesSo h n m e input (answer_to s) s left = table.taken out left handled free own in
         let last : last_of n (h.trace ++ s) ≡ Some m.address = last_of-own n m.address h.trace s own ∙ x.last in
-        let seated : new n ≡ cond (leaves input) (Ended m.address) (Running left) = is ∙ seat in
+        let node_state_is : new n ≡ cond (leaves input) (Ended m.address) (Running left) = is ∙ node_state in
         record {
           answers = so.answers;
           prompt = so.prompt;
           agreed = subst (λ (l : List (List ℕ)). KeepByTurn.Holding meaning (system_of new (h.pool ++ l) (h.trace ++ s))) (sym same)
               (KeepAgreement.taken-agreed meaning laws at new n m.address (Running m) (cond (leaves input) (Ended m.address) (Running left))
-              (moves-to laws at new n h e m c w there x others table.elsewhere (cond (leaves input) (Ended m.address) (Running left)) seated (left-only (leaves input) left handled.address))
+              (moves-to laws at new n h e m c w there x others table.elsewhere (cond (leaves input) (Ended m.address) (Running left)) node_state_is (left-only (leaves input) left handled.address))
               h.pool h.trace c (core_of left) table.comes.which (came_at m input) did.posted s (core-running m.address m refl ∙ x.core)
               (left-core (leaves input) left refl handled.address (λ l. (so.ends l).0)) table.comes.from table.comes.none sound acted w.agreed);
           spelled = subst (λ (l : List (List ℕ)). EachSpelled (h.pool ++ l)) (sym same) (spelled-more h.pool (bytes_for did.posted) w.spelled (posted-spelled did.posted sound));
           starts = starts-own m.address h.trace s own w.starts;
           lasts = λ k o. last_of-own k m.address h.trace s own;
           connected = λ k o. table.elsewhere (answer_to s) k o;
-          seat = subst (IsSeatOf n (last_of n (h.trace ++ s)) (connects_after n (is_connected n h) e (answer_to s)) (h.trace ++ s)) (sym seated)
-              (left-seat (leaves input) (connects_after n (is_connected n h) e (answer_to s)) s left refl handled.address last (λ l. (so.ends l).1) so.stays handled.alive);
+          node_state = subst (IsNodeStateOf n (last_of n (h.trace ++ s)) (connects_after n (is_connected n h) e (answer_to s)) (h.trace ++ s)) (sym node_state_is)
+              (left-node_state (leaves input) (connects_after n (is_connected n h) e (answer_to s)) s left refl handled.address last (λ l. (so.ends l).1) so.stays handled.alive);
         }
 
     -- ---- whatever it answers
@@ -204,7 +204,7 @@ module _ {S : Type 0} (meaning : Meaning S) where
     readable : is_unreadable meaning m input ≡ false
     readable = FactOfReadable.never-unreadable meaning laws (system_of at h.pool h.trace) m c input w.agreed x.core table.comes
 
-    taken : (out : Output) (left : MemberModel S) (a : Answer) (now : Seat S) (t : List Event) (pool : List (List ℕ)) → new n ≡ now → Handled meaning m input (Ok out) left
+    taken : (out : Output) (left : MemberModel S) (a : Answer) (now : NodeState S) (t : List Event) (pool : List (List ℕ)) → new n ≡ now → Handled meaning m input (Ok out) left
         → Takes m.address input out left (about (Running m) h.trace h.pool) a (about now t pool) → Turned new n h e a t pool
     taken out left a now t pool is handled g = record {
       ps = map bytes_of out.packets.items;
@@ -212,10 +212,10 @@ module _ {S : Type 0} (meaning : Meaning S) where
       trace = g.trace;
       puts = g.puts;
       turn = subst (λ (b : Answer). KeepByTurn.Turn meaning new n h e b (map bytes_of out.packets.items) out.events.items) (sym g.answer)
-          (taken-turn out left now is g.seat handled (is-free handled.refused.0));
+          (taken-turn out left now is g.node_state handled (is-free handled.refused.0));
     }
 
-    lost : (a : Answer) (now : Seat S) (t : List Event) (pool : List (List ℕ)) → new n ≡ now → refusal_of m input ≡ None → Crashes m.address (about (Running m) h.trace h.pool) a (about now t pool)
+    lost : (a : Answer) (now : NodeState S) (t : List Event) (pool : List (List ℕ)) → new n ≡ now → refusal_of m input ≡ None → Crashes m.address (about (Running m) h.trace h.pool) a (about now t pool)
         → Turned new n h e a t pool
     lost a now t pool is free g = record {
       ps = [];
@@ -223,14 +223,14 @@ module _ {S : Type 0} (meaning : Meaning S) where
       trace = g.trace;
       puts = g.puts ∙ sym (append-nil h.pool);
       turn = subst (λ (b : Answer). KeepByTurn.Turn meaning new n h e b [] (Crashed m.address ∷ [])) (sym g.answer)
-          (crash-turn laws at new n h e m c w there x others table.elsewhere (Refused Memory) (is ∙ g.seat) (table.lost (is-free free)) (refused-prompt h.trace e Memory (Crashed m.address ∷ [])));
+          (crash-turn laws at new n h e m c w there x others table.elsewhere (Refused Memory) (is ∙ g.node_state) (table.lost (is-free free)) (refused-prompt h.trace e Memory (Crashed m.address ∷ [])));
     }
 
-    refused : (err : Error) (left : MemberModel S) (a : Answer) (now : Seat S) (t : List Event) (pool : List (List ℕ)) → new n ≡ now → is_closed err ≡ false
+    refused : (err : Error) (left : MemberModel S) (a : Answer) (now : NodeState S) (t : List Event) (pool : List (List ℕ)) → new n ≡ now → is_closed err ≡ false
         → (refusal_of m input ≡ Some err) × (left ≡ m) → Refuses m.address err left (about (Running m) h.trace h.pool) a (about now t pool) → Turned new n h e a t pool
     refused err left a now t pool is runs says g =
         let so : RefusesSo h e (answer_for err) = table.not err (FactOfMembers.free-is meaning h n m c x input (Some err) says.0) in
-        let stays : now ≡ Running m = g.seat ∙ ap {B = Seat S} (λ (b : Bool). cond b (Ended m.address) (Running left)) runs ∙ ap {B = Seat S} Running says.1 in
+        let stays : now ≡ Running m = g.node_state ∙ ap {B = NodeState S} (λ (b : Bool). cond b (Ended m.address) (Running left)) runs ∙ ap {B = NodeState S} Running says.1 in
         record {
           ps = [];
           s = [];
@@ -248,7 +248,7 @@ module _ {S : Type 0} (meaning : Meaning S) where
         by (inl none) = none-some c (sym none ∙ x.core)
         by (inr bad) = let n : true ≡ false = sym bad ∙ readable in absurd (cc)
 
-    not-taken : (err : Error) (left : MemberModel S) (a : Answer) (now : Seat S) (t : List Event) (pool : List (List ℕ)) (b k : Bool) → new n ≡ now → is_memory err ≡ b → is_closed err ≡ k
+    not-taken : (err : Error) (left : MemberModel S) (a : Answer) (now : NodeState S) (t : List Event) (pool : List (List ℕ)) (b k : Bool) → new n ≡ now → is_memory err ≡ b → is_closed err ≡ k
         → Handled meaning m input (Err err) left → Gives m.address input (Err err) left (about (Running m) h.trace h.pool) a (about now t pool) → Turned new n h e a t pool
     not-taken err left a now t pool true k is memory closed handled g =
         lost a now t pool is (when-true (is_memory err) (refusal_of m input ≡ None) _ memory handled.refused) (when-true (is_memory err) _ _ memory g)
@@ -256,13 +256,13 @@ module _ {S : Type 0} (meaning : Meaning S) where
     not-taken err left a now t pool false false is memory closed handled g =
         refused err left a now t pool is closed (when-false (is_unreadable meaning m input) _ _ readable (when-false (is_memory err) _ _ memory handled.refused)) (when-false (is_memory err) _ _ memory g)
 
-    called : (result : Result Output Error) (left : MemberModel S) (a : Answer) (now : Seat S) (t : List Event) (pool : List (List ℕ)) → new n ≡ now
+    called : (result : Result Output Error) (left : MemberModel S) (a : Answer) (now : NodeState S) (t : List Event) (pool : List (List ℕ)) → new n ≡ now
         → Handled meaning m input result left → Gives m.address input result left (about (Running m) h.trace h.pool) a (about now t pool) → Turned new n h e a t pool
     called (Ok out) left a now t pool is handled (inl g) = taken out left a now t pool is handled g
     called (Ok out) left a now t pool is handled (inr g) = lost a now t pool is handled.refused.0 g.1
     called (Err err) left a now t pool is handled g = not-taken err left a now t pool (is_memory err) (is_closed err) is refl refl handled g
 
     -- one call of `handle` is a turn
-    pub hands-turn : (a : Answer) (now : Seat S) (t : List Event) (pool : List (List ℕ)) → new n ≡ now → HandsHere meaning input m (about (Running m) h.trace h.pool) a (about now t pool)
+    pub hands-turn : (a : Answer) (now : NodeState S) (t : List Event) (pool : List (List ℕ)) → new n ≡ now → HandsHere meaning input m (about (Running m) h.trace h.pool) a (about now t pool)
         → Turned new n h e a t pool
     hands-turn a now t pool is g = called g.result g.left a now t pool is g.handled g.gives

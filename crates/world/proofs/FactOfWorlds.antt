@@ -18,11 +18,11 @@ use Rattle.world_model.specs.declared.Answer.{Answer}
 use Rattle.world_model.specs.Histories.{History, no_history, last_of, is_connected, target_of, running}
 use Rattle.world_model.specs.Packets.{packet_numbered}
 use Rattle.world_model.specs.Faithful.IsFaithful.{Nothing}
-use Rattle.world.specs.declared.seat.Seat.{Seat}
-use Rattle.world.specs.declared.seat.Seat.TheVariants.{Vacant, Ended, Running}
+use Rattle.world.specs.declared.node_state.NodeState.{NodeState}
+use Rattle.world.specs.declared.node_state.NodeState.TheVariants.{Vacant, Ended, Running}
 use Rattle.world.specs.Turns.{about, Carries, OthersStand}
 use Rattle.world.specs.Worlds.{no_world}
-use Rattle.world.specs.Invariant.{IsSeatOf}
+use Rattle.world.specs.Invariant.{IsNodeStateOf}
 use Rattle.world.proofs.FactOfTraces.{starts-none}
 use Rattle.world.proofs.FactOfWidening.{then}
 use Rattle.world.proofs.KeepByTurn
@@ -32,32 +32,32 @@ use Rattle.world.proofs.KeepByEvent
 use Rattle.world.proofs.FactOfDelivery
 
 module _ {S : Type 0} (meaning : Meaning S) where
-  abbrev World : (ℕ → Seat S) → History → Type 0
+  abbrev World : (ℕ → NodeState S) → History → Type 0
   World at h = KeepByTurn.World meaning at h
 
   -- ---- the beginning
 
-  pub no-world : World (no_world {S = S}).seats no_history
+  pub no-world : World (no_world {S = S}).node_states no_history
   no-world = record {
     faithful = Nothing;
     paired = refl;
     agreed = nothing-holds meaning;
     spelled = λ k bytes at. absurd (none-some bytes at);
     starts = starts-none;
-    seats = λ n. refl;
+    node_states = λ n. refl;
   }
 
   -- ---- one event
 
   -- what an event comes to: a step of the world, and all that a world keeps
-  pub record Carried (at new : ℕ → Seat S) (h : History) (e : WorldEvent) (a : Answer) (t : List Event) (pool : List (List ℕ)) : Type 0 where
+  pub record Carried (at new : ℕ → NodeState S) (h : History) (e : WorldEvent) (a : Answer) (t : List Event) (pool : List (List ℕ)) : Type 0 where
     pub ps : List (List ℕ)
     pub s : List Event
     pub trace : t ≡ h.trace ++ s
     pub puts : pool ≡ h.pool ++ ps
     pub world : World new (then h e a pool t)
 
-  to-world : (at new : ℕ → Seat S) (n : ℕ) (h : History) (e : WorldEvent) (a : Answer) (t : List Event) (pool : List (List ℕ)) → World at h → OthersStand n at new
+  to-world : (at new : ℕ → NodeState S) (n : ℕ) (h : History) (e : WorldEvent) (a : Answer) (t : List Event) (pool : List (List ℕ)) → World at h → OthersStand n at new
       → FactOfTaken.Turned meaning new n h e a t pool → Carried at new h e a t pool
   to-world at new n h e a t pool w others x = record {
     ps = x.ps;
@@ -82,7 +82,7 @@ module _ {S : Type 0} (meaning : Meaning S) where
   packet-is (Leave m) k e = absurd (let bad : target.Member m ≡ target.Packet k = e in cc)
   packet-is (Crash m) k e = absurd (let bad : target.Member m ≡ target.Packet k = e in cc)
 
-  turned-by : KeepBySteps.Laws meaning → (at new : ℕ → Seat S) (h : History) (e : WorldEvent) (a : Answer) (t : List Event) (pool : List (List ℕ)) (b : Target)
+  turned-by : KeepBySteps.Laws meaning → (at new : ℕ → NodeState S) (h : History) (e : WorldEvent) (a : Answer) (t : List Event) (pool : List (List ℕ)) (b : Target)
       → target_of e ≡ b → World at h → Carries meaning b e (about at h.trace h.pool) a (about new t pool) → Carried at new h e a t pool
   turned-by laws at new h e a t pool (target.Member n) here w g =
       to-world at new n h e a t pool w g.1 (KeepByEvent.acts-turn meaning laws at new n h w g.1 e a t pool here g.0)
@@ -90,35 +90,35 @@ module _ {S : Type 0} (meaning : Meaning S) where
       let x = FactOfDelivery.delivered meaning at h w k laws new (packet_numbered k h.pool) a t pool refl g in
       subst (λ (d : WorldEvent). Carried at new h d a t pool) (sym (packet-is e k here)) (to-world at new x.0 h (Deliver k) a t pool w x.1 x.2)
 
-  pub world-carries : KeepBySteps.Laws meaning → (at new : ℕ → Seat S) (h : History) (e : WorldEvent) (a : Answer) (t : List Event) (pool : List (List ℕ))
+  pub world-carries : KeepBySteps.Laws meaning → (at new : ℕ → NodeState S) (h : History) (e : WorldEvent) (a : Answer) (t : List Event) (pool : List (List ℕ))
       → World at h → Carries meaning (target_of e) e (about at h.trace h.pool) a (about new t pool) → World new (then h e a pool t)
   world-carries laws at new h e a t pool w g = (turned-by laws at new h e a t pool (target_of e) refl w g).world
 
   -- ---- the member that runs at a node
 
-  pub running-is : (at : ℕ → Seat S) (h : History) (n : ℕ) (m : MemberModel S) → World at h → at n ≡ Running m → Some m.address ≡ running n h.trace
+  pub running-is : (at : ℕ → NodeState S) (h : History) (n : ℕ) (m : MemberModel S) → World at h → at n ≡ Running m → Some m.address ≡ running n h.trace
   running-is at h n m w e =
       let x = FactOfMembers.running-here meaning at h n m w e in
       sym (FactOfMembers.is-running meaning h n m x.0 x.1)
 
   -- its receiver
-  pub receiver-is : (at : ℕ → Seat S) (h : History) (n : ℕ) (m : MemberModel S) → World at h → at n ≡ Running m
+  pub receiver-is : (at : ℕ → NodeState S) (h : History) (n : ℕ) (m : MemberModel S) → World at h → at n ≡ Running m
       → option_map (λ (c : Core S). c.state) (core_of m) ≡ option_map (λ p. state_of meaning p h.trace) (running n h.trace)
   receiver-is at h n m w e =
       let x = FactOfMembers.running-here meaning at h n m w e in
       rw (x.1.core, FactOfMembers.is-running meaning h n m x.0 x.1) (ap Some (sym x.1.fact.state.now))
 
   -- where no member runs
-  pub nobody-yet : (at : ℕ → Seat S) (h : History) (n : ℕ) → World at h → at n ≡ Vacant → None ≡ running n h.trace
+  pub nobody-yet : (at : ℕ → NodeState S) (h : History) (n : ℕ) → World at h → at n ≡ Vacant → None ≡ running n h.trace
   nobody-yet at h n w was =
-      let k : last_of n h.trace ≡ None = subst (IsSeatOf n (last_of n h.trace) (is_connected n h) h.trace) was (w.seats n) in
+      let k : last_of n h.trace ≡ None = subst (IsNodeStateOf n (last_of n h.trace) (is_connected n h) h.trace) was (w.node_states n) in
       rw k refl
 
-  nobody-more : (at : ℕ → Seat S) (h : History) (n : ℕ) (p : Address) → World at h → at n ≡ Ended p → None ≡ running n h.trace
+  nobody-more : (at : ℕ → NodeState S) (h : History) (n : ℕ) (p : Address) → World at h → at n ≡ Ended p → None ≡ running n h.trace
   nobody-more at h n p w was =
-      let k : IsSeatOf {S = S} n (last_of n h.trace) (is_connected n h) h.trace (Ended p) = subst (IsSeatOf n (last_of n h.trace) (is_connected n h) h.trace) was (w.seats n) in
+      let k : IsNodeStateOf {S = S} n (last_of n h.trace) (is_connected n h) h.trace (Ended p) = subst (IsNodeStateOf n (last_of n h.trace) (is_connected n h) h.trace) was (w.node_states n) in
       rw (k.0, k.2) refl
 
-  pub nobody-runs : (at : ℕ → Seat S) (h : History) (n : ℕ) (s : Seat S) → World at h → at n ≡ s → (s ≡ Vacant) ⊎ ((p : Address) × (s ≡ Ended p)) → None ≡ running n h.trace
+  pub nobody-runs : (at : ℕ → NodeState S) (h : History) (n : ℕ) (s : NodeState S) → World at h → at n ≡ s → (s ≡ Vacant) ⊎ ((p : Address) × (s ≡ Ended p)) → None ≡ running n h.trace
   nobody-runs at h n s w was (inl e) = nobody-yet at h n w (was ∙ e)
   nobody-runs at h n s w was (inr e) = nobody-more at h n e.0 w (was ∙ e.1)

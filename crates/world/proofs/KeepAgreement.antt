@@ -14,8 +14,8 @@ use Rattle.agreement.specs.Chains.{Acted}
 use Rattle.agreement.specs.Steps.{System, Start, Crash, put, came_of}
 use Rattle.agreement.proofs.KeepBySteps
 use Rattle.agreement.proofs.KeepByCall
-use Rattle.world.specs.declared.seat.Seat.{Seat}
-use Rattle.world.specs.Seats.{core_here, posts_in, system_of}
+use Rattle.world.specs.declared.node_state.NodeState.{NodeState}
+use Rattle.world.specs.NodeStates.{core_here, posts_in, system_of}
 use Rattle.world.specs.Turns.{OthersStand}
 use Rattle.world.proofs.FactOfSystem.{OnlyHere, runs, runs-put}
 use Rattle.world.proofs.FactOfPosts.{EachSound, bytes_for, posts-more}
@@ -29,7 +29,7 @@ module _ {S : Type 0} (meaning : Meaning S) (laws : KeepBySteps.Laws meaning) wh
   system_at running pool t = record { running = running; history = record { pool = pool; trace = t } }
 
   -- what stands at a node before and after: nobody but this member of the node ran or runs there
-  pub record Moves (at new : ℕ → Seat S) (n : ℕ) (p : Address) (old : Seat S) (now : Seat S) : Type 0 where
+  pub record Moves (at new : ℕ → NodeState S) (n : ℕ) (p : Address) (old : NodeState S) (now : NodeState S) : Type 0 where
     pub node : p.node ≡ n
     pub was : at n ≡ old
     pub is : new n ≡ now
@@ -37,7 +37,7 @@ module _ {S : Type 0} (meaning : Meaning S) (laws : KeepBySteps.Laws meaning) wh
     pub only_now : OnlyHere p now
     pub others : OthersStand n at new
 
-  module _ (at new : ℕ → Seat S) (n : ℕ) (p : Address) (old now : Seat S) (x : Moves at new n p old now) where
+  module _ (at new : ℕ → NodeState S) (n : ℕ) (p : Address) (old now : NodeState S) (x : Moves at new n p old now) where
     -- who ran, and who runs
     pub ran : runs at p ≡ core_here p old
     ran = ap (λ (k : ℕ). core_here p (at k)) x.node ∙ ap (core_here p) x.was

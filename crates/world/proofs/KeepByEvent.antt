@@ -20,10 +20,10 @@ use Rattle.limits.specs.declared.refusal.Refusal.{Refusal}
 use Rattle.limits.specs.declared.refusal.Refusal.TheVariants.{NotConnected, Closed}
 use Rattle.world_model.specs.Histories.{History, last_of, is_connected, target_of}
 use Rattle.world_model.specs.Faithful.{Answers, AtMember, AnswersCrash}
-use Rattle.world.specs.declared.seat.Seat.{Seat}
-use Rattle.world.specs.declared.seat.Seat.TheVariants.{Vacant, Ended, Running}
+use Rattle.world.specs.declared.node_state.NodeState.{NodeState}
+use Rattle.world.specs.declared.node_state.NodeState.TheVariants.{Vacant, Ended, Running}
 use Rattle.world.specs.Turns.{about, OthersStand, Stays, Hands, HandsLent, CrashGives, Acts}
-use Rattle.world.specs.Invariant.{IsSeatOf}
+use Rattle.world.specs.Invariant.{IsNodeStateOf}
 use Rattle.world.proofs.FactOfConnected.{refused-connects, refused-prompt, connects_after-other}
 use Rattle.world.proofs.FactOfSystem.{same-at}
 use Rattle.world.proofs.KeepByTurn
@@ -33,21 +33,21 @@ use Rattle.world.proofs.FactOfTables
 use Rattle.world.proofs.KeepByStart
 
 module _ {S : Type 0} (meaning : Meaning S)
-    (laws : KeepBySteps.Laws meaning) (at new : ℕ → Seat S) (n : ℕ) (h : History) (w : KeepByTurn.World meaning at h)
+    (laws : KeepBySteps.Laws meaning) (at new : ℕ → NodeState S) (n : ℕ) (h : History) (w : KeepByTurn.World meaning at h)
     (others : OthersStand n at new) where
   abbrev Turned : WorldEvent → Answer → List Event → List (List ℕ) → Type 0
   Turned e a t pool = FactOfTaken.Turned meaning new n h e a t pool
 
   -- ---- where no member runs
 
-  refused : (e : WorldEvent) (r : Refusal) (old now : Seat S) (a : Answer) (t : List Event) (pool : List (List ℕ)) → at n ≡ old → new n ≡ now → Answers h e (Refused r) []
+  refused : (e : WorldEvent) (r : Refusal) (old now : NodeState S) (a : Answer) (t : List Event) (pool : List (List ℕ)) → at n ≡ old → new n ≡ now → Answers h e (Refused r) []
       → Stays r old h.trace a now t → pool ≡ h.pool → Turned e a t pool
   refused e r old now a t pool was is answers g same = subst (λ (b : Answer). Turned e b t pool) (sym g.answer) (record {
     ps = [];
     s = [];
     trace = g.trace ∙ sym (append-nil h.trace);
     puts = same ∙ sym (append-nil h.pool);
-    turn = KeepByTurn.turn-still meaning at new n h e (Refused r) w (same-at at new n others (is ∙ g.seat ∙ sym was)) answers (refused-prompt h.trace e r [])
+    turn = KeepByTurn.turn-still meaning at new n h e (Refused r) w (same-at at new n others (is ∙ g.node_state ∙ sym was)) answers (refused-prompt h.trace e r [])
         (λ k. refused-connects k (is_connected k h) e r);
   })
 
@@ -56,11 +56,11 @@ module _ {S : Type 0} (meaning : Meaning S)
   -- what has to be known of the event: what it is refused where no member runs, and its table where one does
   record Handed (e : WorldEvent) (i : Input) : Type 0 where
     never : last_of n h.trace ≡ None → Answers h e (Refused NotConnected) []
-    over : (p : Address) → last_of n h.trace ≡ Some p → IsSeatOf {S = S} n (last_of n h.trace) (is_connected n h) h.trace (Ended p) → Answers h e (Refused Closed) []
+    over : (p : Address) → last_of n h.trace ≡ Some p → IsNodeStateOf {S = S} n (last_of n h.trace) (is_connected n h) h.trace (Ended p) → Answers h e (Refused Closed) []
     table : (m : MemberModel S) (c : Core S) → FactOfMembers.Runs meaning h n m c → FactOfTaken.Tabled meaning h n m c e i
 
-  handed-at : (e : WorldEvent) (i : Input) (old now : Seat S) (a : Answer) (t : List Event) (pool : List (List ℕ)) → Handed e i → at n ≡ old → new n ≡ now
-      → IsSeatOf n (last_of n h.trace) (is_connected n h) h.trace old → Hands meaning i (about old h.trace h.pool) a (about now t pool) → Turned e a t pool
+  handed-at : (e : WorldEvent) (i : Input) (old now : NodeState S) (a : Answer) (t : List Event) (pool : List (List ℕ)) → Handed e i → at n ≡ old → new n ≡ now
+      → IsNodeStateOf n (last_of n h.trace) (is_connected n h) h.trace old → Hands meaning i (about old h.trace h.pool) a (about now t pool) → Turned e a t pool
   handed-at e i Vacant now a t pool x was is k g = refused e NotConnected Vacant now a t pool was is (x.never k) g.0 g.1
   handed-at e i (Ended p) now a t pool x was is k g = refused e Closed (Ended p) now a t pool was is (x.over p k.0 k) g.0 g.1
   handed-at e i (Running m) now a t pool x was is k g =
@@ -69,12 +69,12 @@ module _ {S : Type 0} (meaning : Meaning S)
 
   handed : (e : WorldEvent) (i : Input) (a : Answer) (t : List Event) (pool : List (List ℕ)) → Handed e i → Hands meaning i (about (at n) h.trace h.pool) a (about (new n) t pool)
       → Turned e a t pool
-  handed e i a t pool x g = handed-at e i (at n) (new n) a t pool x refl refl (w.seats n) g
+  handed e i a t pool x g = handed-at e i (at n) (new n) a t pool x refl refl (w.node_states n) g
 
   at-none : (At : Address → Type 0) → last_of n h.trace ≡ None → AtMember n h (Refused NotConnected) [] At
   at-none At k = rw k (refl, refl)
 
-  at-ended : (At : Address → Type 0) (p : Address) → IsSeatOf {S = S} n (last_of n h.trace) (is_connected n h) h.trace (Ended p) → AtMember n h (Refused Closed) [] At
+  at-ended : (At : Address → Type 0) (p : Address) → IsNodeStateOf {S = S} n (last_of n h.trace) (is_connected n h) h.trace (Ended p) → AtMember n h (Refused Closed) [] At
   at-ended At p k = rw (k.0, k.2) (refl, refl)
 
   create-handed : Handed (Create n) input.Create
@@ -128,8 +128,8 @@ module _ {S : Type 0} (meaning : Meaning S)
 
   -- ---- a crash
 
-  crash-at : (old now : Seat S) (a : Answer) (t : List Event) (pool : List (List ℕ)) → at n ≡ old → new n ≡ now
-      → IsSeatOf n (last_of n h.trace) (is_connected n h) h.trace old → CrashGives old h.trace a now t → pool ≡ h.pool → Turned (Crash n) a t pool
+  crash-at : (old now : NodeState S) (a : Answer) (t : List Event) (pool : List (List ℕ)) → at n ≡ old → new n ≡ now
+      → IsNodeStateOf n (last_of n h.trace) (is_connected n h) h.trace old → CrashGives old h.trace a now t → pool ≡ h.pool → Turned (Crash n) a t pool
   crash-at Vacant now a t pool was is k g same = refused (Crash n) NotConnected Vacant now a t pool was is (at-none _ k) g same
   crash-at (Ended p) now a t pool was is k g same = refused (Crash n) Closed (Ended p) now a t pool was is (at-ended _ p k) g same
   crash-at (Running m) now a t pool was is k g same =
@@ -152,7 +152,7 @@ module _ {S : Type 0} (meaning : Meaning S)
       member-is j e = let same : target.Member j ≡ target.Member n = e in cc
 
   -- a payload is lent only to one that runs
-  sent-at : (payload : List ℕ) (a : Answer) (t : List Event) (pool : List (List ℕ)) (old : Seat S) → at n ≡ old → IsSeatOf n (last_of n h.trace) (is_connected n h) h.trace old
+  sent-at : (payload : List ℕ) (a : Answer) (t : List Event) (pool : List (List ℕ)) (old : NodeState S) → at n ≡ old → IsNodeStateOf n (last_of n h.trace) (is_connected n h) h.trace old
       → HandsLent meaning input.Send payload (about old h.trace h.pool) a (about (new n) t pool) → Turned (Send n payload) a t pool
   sent-at payload a t pool Vacant was k g = refused (Send n payload) NotConnected Vacant (new n) a t pool was refl (at-none _ k) g.0 g.1
   sent-at payload a t pool (Ended p) was k g = refused (Send n payload) Closed (Ended p) (new n) a t pool was refl (at-ended _ p k) g.0 g.1
@@ -168,11 +168,11 @@ module _ {S : Type 0} (meaning : Meaning S)
   acts-turn (Join k contact) a t pool here g = to-node k (λ j. Turned (Join j contact) a t pool) here (handed (Join n contact) (input.Join contact) a t pool (join-handed contact) g)
   acts-turn (Send k payload) a t pool here g =
       to-node k (λ j. Turned (Send j payload) a t pool) here
-      (sent-at payload a t pool (at n) refl (w.seats n) g)
+      (sent-at payload a t pool (at n) refl (w.node_states n) g)
   acts-turn (Deliver k) a t pool here g = absurd (let bad : target.Packet k ≡ target.Member n = here in cc)
   acts-turn (Tick k) a t pool here g = to-node k (λ j. Turned (Tick j) a t pool) here (handed (Tick n) input.Tick a t pool tick-handed g)
   acts-turn (Suspect k q) a t pool here g = to-node k (λ j. Turned (Suspect j q) a t pool) here (handed (Suspect n q) (input.Suspect q) a t pool (suspect-handed q) g)
   acts-turn (MergeHint k q) a t pool here g = to-node k (λ j. Turned (MergeHint j q) a t pool) here (handed (MergeHint n q) (input.MergeHint q) a t pool (hint-handed q) g)
   acts-turn (Leave k) a t pool here g = to-node k (λ j. Turned (Leave j) a t pool) here (handed (Leave n) input.Leave a t pool leave-handed g)
   acts-turn (Crash k) a t pool here g =
-      to-node k (λ j. Turned (Crash j) a t pool) here (crash-at (at n) (new n) a t pool refl refl (w.seats n) g.0 g.1)
+      to-node k (λ j. Turned (Crash j) a t pool) here (crash-at (at n) (new n) a t pool refl refl (w.node_states n) g.0 g.1)

@@ -18,11 +18,11 @@ use Rattle.limits.specs.declared.refusal.Refusal.{Refusal}
 use Rattle.limits.specs.declared.refusal.Refusal.TheVariants.{NotConnected, Blocked, Busy, TooLong, AlreadyConnected, Closed, Memory, Exhausted, BadName}
 use Rattle.world_model.specs.Histories.{History, last_of, is_connected, connects_after}
 use Rattle.world_model.specs.Faithful.{Answers}
-use Rattle.world.specs.declared.seat.Seat.{Seat}
-use Rattle.world.specs.declared.seat.Seat.TheVariants.{Vacant, Ended, Running}
-use Rattle.world.specs.Seats.{core_here}
+use Rattle.world.specs.declared.node_state.NodeState.{NodeState}
+use Rattle.world.specs.declared.node_state.NodeState.TheVariants.{Vacant, Ended, Running}
+use Rattle.world.specs.NodeStates.{core_here}
 use Rattle.world.specs.Turns.{Begun, BeginsSo, Begins, Stays, StartGives, OthersStand}
-use Rattle.world.specs.Invariant.{IsSeatOf, EachSpelled, StartsInTurn, top_of}
+use Rattle.world.specs.Invariant.{IsNodeStateOf, EachSpelled, StartsInTurn, top_of}
 use Rattle.world.proofs.FactOfConnected.{connects_after-other, refused-connects}
 use Rattle.world.proofs.FactOfTraces.{last_of-push, last_of-still, last_of-other, starts-push}
 use Rattle.world.proofs.FactOfSystem.{OnlyHere, only-ended, only-running, core-running, same-at}
@@ -41,13 +41,13 @@ last-now : (q : Address) (n : ℕ) (t : List Event) → q.node ≡ n → last_of
 last-now q n t e = last_of-push n t (Started q) ∙ cond-true (nat_eq q.node n) (Some q) (last_of n t) (eq-eqb q.node n e)
 
 module _ {S : Type 0} (meaning : Meaning S)
-    (laws : KeepBySteps.Laws meaning) (at new : ℕ → Seat S) (n : ℕ) (h : History) (w : KeepByTurn.World meaning at h)
+    (laws : KeepBySteps.Laws meaning) (at new : ℕ → NodeState S) (n : ℕ) (h : History) (w : KeepByTurn.World meaning at h)
     (others : OthersStand n at new) where
   abbrev Turned : Answer → List Event → List (List ℕ) → Type 0
   Turned a t pool = FactOfTaken.Turned meaning new n h (Start n) a t pool
 
   -- the next member of the node, which nobody is yet
-  record IsNext (q : Address) (old : Seat S) : Type 0 where
+  record IsNext (q : Address) (old : NodeState S) : Type 0 where
     node : q.node ≡ n
     real : IsAddress q
     was : at n ≡ old
@@ -56,14 +56,14 @@ module _ {S : Type 0} (meaning : Meaning S)
     done : Answers h (Start n) Done (Started q ∷ [])
     memory : Answers h (Start n) (Refused Memory) (Started q ∷ Crashed q ∷ [])
 
-  module _ (q : Address) (old : Seat S) (x : IsNext q old) where
+  module _ (q : Address) (old : NodeState S) (x : IsNext q old) where
     higher : top_of q.node h.trace < q.incarnation
     higher = subst (λ (k : ℕ). top_of k h.trace < q.incarnation) (sym x.node) x.above
 
     new-one : has_started q h.trace ≡ false
     new-one = unstarted q h.trace w.starts higher (has_started q h.trace) refl
 
-    moves-to : (now : Seat S) → new n ≡ now → OnlyHere q now → KeepAgreement.Moves meaning laws at new n q old now
+    moves-to : (now : NodeState S) → new n ≡ now → OnlyHere q now → KeepAgreement.Moves meaning laws at new n q old now
     moves-to now is only = record { node = x.node; was = x.was; is = is; only_old = λ p e. x.nobody p; only_now = only; others = others }
 
     starts-now : StartsInTurn (h.trace ++ Started q ∷ [])
@@ -73,10 +73,10 @@ module _ {S : Type 0} (meaning : Meaning S)
     lasts-now k o = last_of-other k h.trace (Started q) (subst (λ (j : ℕ). nat_eq j k ≡ false) (sym x.node) o)
 
     -- it runs
-    begun : (t : List Event) (now : Seat S) → new n ≡ now → Begun meaning q h.trace now t → Turned Done t h.pool
+    begun : (t : List Event) (now : NodeState S) → new n ≡ now → Begun meaning q h.trace now t → Turned Done t h.pool
     begun t now is g =
         let m = g.member in
-        let here : new n ≡ Running g.member = is ∙ g.seat in
+        let here : new n ≡ Running g.member = is ∙ g.node_state in
         record {
           ps = [];
           s = Started q ∷ [];
@@ -91,7 +91,7 @@ module _ {S : Type 0} (meaning : Meaning S)
             starts = starts-now;
             lasts = lasts-now;
             connected = λ k o. connects_after-other k (is_connected k h) (Start n) Done o;
-            seat = subst (IsSeatOf n (last_of n (h.trace ++ Started q ∷ [])) (connects_after n (is_connected n h) (Start n) Done) (h.trace ++ Started q ∷ [])) (sym here) (
+            node_state = subst (IsNodeStateOf n (last_of n (h.trace ++ Started q ∷ [])) (connects_after n (is_connected n h) (Start n) Done) (h.trace ++ Started q ∷ [])) (sym here) (
               last-now q n h.trace x.node ∙ ap Some (sym g.address),
               ap (λ (p : Address). p.node) g.address ∙ x.node,
               record {
@@ -123,12 +123,12 @@ module _ {S : Type 0} (meaning : Meaning S)
             starts = subst StartsInTurn two (starts-push (h.trace ++ Started q ∷ []) (Crashed q) starts-now tt);
             lasts = λ k o. ap (last_of k) (sym two) ∙ last_of-still k (h.trace ++ Started q ∷ []) (Crashed q) refl ∙ lasts-now k o;
             connected = λ k o. connects_after-other k (is_connected k h) (Start n) (Refused Memory) o;
-            seat = subst (IsSeatOf n (last_of n (h.trace ++ Started q ∷ Crashed q ∷ [])) (connects_after n (is_connected n h) (Start n) (Refused Memory)) (h.trace ++ Started q ∷ Crashed q ∷ [])) (sym is)
+            node_state = subst (IsNodeStateOf n (last_of n (h.trace ++ Started q ∷ Crashed q ∷ [])) (connects_after n (is_connected n h) (Start n) (Refused Memory)) (h.trace ++ Started q ∷ Crashed q ∷ [])) (sym is)
                 (last, x.node, subst (λ (t : List Event). has_ended q t ≡ true) two (has_ended-now (h.trace ++ Started q ∷ []) (Crashed q) refl));
           };
         }
 
-    begins : (a : Answer) (t : List Event) (now : Seat S) → new n ≡ now → BeginsSo meaning q h.trace a now t → Turned a t h.pool
+    begins : (a : Answer) (t : List Event) (now : NodeState S) → new n ≡ now → BeginsSo meaning q h.trace a now t → Turned a t h.pool
     begins Done t now is g = begun t now is g
     begins (Sent k) t now is g = absurd g
     begins (Refused Memory) t now is g = failed t (is ∙ g.0) g.1
@@ -147,18 +147,18 @@ module _ {S : Type 0} (meaning : Meaning S)
   top-at o e = ap (λ l. option_map_or (λ (p : Address). p.incarnation) l 0) e
 
   -- it is refused
-  refused : (r : Refusal) (old now : Seat S) (a : Answer) (t : List Event) → at n ≡ old → new n ≡ now → Answers h (Start n) (Refused r) [] → Stays r old h.trace a now t
+  refused : (r : Refusal) (old now : NodeState S) (a : Answer) (t : List Event) → at n ≡ old → new n ≡ now → Answers h (Start n) (Refused r) [] → Stays r old h.trace a now t
       → Turned a t h.pool
   refused r old now a t was is answers g = subst (λ (b : Answer). Turned b t h.pool) (sym g.answer) (record {
     ps = [];
     s = [];
     trace = g.trace ∙ sym (append-nil h.trace);
     puts = sym (append-nil h.pool);
-    turn = KeepByTurn.turn-still meaning at new n h (Start n) (Refused r) w (same-at at new n others (is ∙ g.seat ∙ sym was)) answers tt
+    turn = KeepByTurn.turn-still meaning at new n h (Start n) (Refused r) w (same-at at new n others (is ∙ g.node_state ∙ sym was)) answers tt
         (λ k. refused-connects k (is_connected k h) (Start n) r);
   })
 
-  first-at : (a : Answer) (now : Seat S) (t : List Event) → at n ≡ Vacant → new n ≡ now → last_of n h.trace ≡ None
+  first-at : (a : Answer) (now : NodeState S) (t : List Event) → at n ≡ Vacant → new n ≡ now → last_of n h.trace ≡ None
       → Begins meaning (record { node = n; incarnation = 1 }) h.trace a now t → Turned a t h.pool
   first-at a now t was is k g =
       let top : top_of n h.trace ≡ 0 = top-at None k in
@@ -173,7 +173,7 @@ module _ {S : Type 0} (meaning : Meaning S)
       }) a t now is g.1
 
   -- after an ended member, by whether there is a next incarnation
-  after-ended : (p : Address) (a : Answer) (now : Seat S) (t : List Event) → at n ≡ Ended p → new n ≡ now → IsSeatOf {S = S} n (last_of n h.trace) (is_connected n h) h.trace (Ended p)
+  after-ended : (p : Address) (a : Answer) (now : NodeState S) (t : List Event) → at n ≡ Ended p → new n ≡ now → IsNodeStateOf {S = S} n (last_of n h.trace) (is_connected n h) h.trace (Ended p)
       → (b : Bool) → nat_lt (p.incarnation + 1) (2 ^ 32) ≡ b → StartGives meaning n (Ended p) h.trace a now t → Turned a t h.pool
   after-ended p a now t was is k true e g =
       let top : top_of n h.trace ≡ p.incarnation = top-at (Some p) k.0 in
@@ -191,7 +191,7 @@ module _ {S : Type 0} (meaning : Meaning S)
       let stays : Stays Exhausted (Ended p) h.trace a now t = rw e at g in
       refused Exhausted (Ended p) now a t was is (rw (k.0, k.2, e) (refl, refl)) stays
 
-  start-here : (old : Seat S) (a : Answer) (now : Seat S) (t : List Event) → at n ≡ old → new n ≡ now → IsSeatOf n (last_of n h.trace) (is_connected n h) h.trace old
+  start-here : (old : NodeState S) (a : Answer) (now : NodeState S) (t : List Event) → at n ≡ old → new n ≡ now → IsNodeStateOf n (last_of n h.trace) (is_connected n h) h.trace old
       → StartGives meaning n old h.trace a now t → Turned a t h.pool
   start-here Vacant a now t was is k g = first-at a now t was is k g
   start-here (Ended p) a now t was is k g = after-ended p a now t was is k (nat_lt (p.incarnation + 1) (2 ^ 32)) refl g
@@ -200,4 +200,4 @@ module _ {S : Type 0} (meaning : Meaning S)
       refused AlreadyConnected (Running m) now a t was is (rw (k.0, FactOfMembers.going meaning h n m x.0 x.1) (refl, refl)) g
 
   pub start-turns : (a : Answer) (t : List Event) → StartGives meaning n (at n) h.trace a (new n) t → Turned a t h.pool
-  start-turns a t g = start-here (at n) a (new n) t refl refl (w.seats n) g
+  start-turns a t g = start-here (at n) a (new n) t refl refl (w.node_states n) g

@@ -13,15 +13,15 @@ use Rattle.world.proofs.FactOfWorlds
 module _ {S : Type 0} (meaning : Meaning S) (laws : KeepBySteps.Laws meaning) where
   -- what every world keeps
   abbrev pub Keeps : WorldModel S → Type 0
-  Keeps w = IsWorld meaning w.seats w.history
+  Keeps w = IsWorld meaning w.node_states w.history
 
   -- a step keeps it
   pub step-keeps : (old new : WorldModel S) (e : WorldEvent) → WorldStep meaning old e new → Keeps old → Keeps new
   step-keeps old new e g w =
       let h = after old.history e g.answer g.packets g.stretch in
-      subst (IsWorld meaning new.seats) (sym g.goes_on)
-      (FactOfWorlds.world-carries meaning laws old.seats new.seats old.history e g.answer h.trace h.pool w
-      (subst (λ (k : History). Carries meaning (target_of e) e (about old.seats old.history.trace old.history.pool) g.answer (about new.seats k.trace k.pool)) g.goes_on g.does))
+      subst (IsWorld meaning new.node_states) (sym g.goes_on)
+      (FactOfWorlds.world-carries meaning laws old.node_states new.node_states old.history e g.answer h.trace h.pool w
+      (subst (λ (k : History). Carries meaning (target_of e) e (about old.node_states old.history.trace old.history.pool) g.answer (about new.node_states k.trace k.pool)) g.goes_on g.does))
 
   -- and so do steps one after another
   pub runs-keep : (from new : WorldModel S) (events : List WorldEvent) → Runs meaning from events new → Keeps from → Keeps new

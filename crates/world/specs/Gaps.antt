@@ -17,38 +17,38 @@ use Rattle.world_model.specs.declared.Answer.TheVariants.{Done, Sent, Refused}
 use Rattle.world_model.specs.Packets.{destination_of}
 use Rattle.limits.specs.Refusals.{number_of}
 use Rattle.world.specs.declared.gaps.Pair.{Pair}
-use Rattle.world.specs.declared.seat.Seat.{Seat}
-use Rattle.world.specs.declared.seat.Seat.TheVariants.{Vacant, Ended, Running}
+use Rattle.world.specs.declared.node_state.NodeState.{NodeState}
+use Rattle.world.specs.declared.node_state.NodeState.TheVariants.{Vacant, Ended, Running}
 use Rattle.world.specs.Worlds.{WorldModel, WorldStep}
 
 -- ---- whom it is about
 
 -- the view in which the member that runs at a node is, and is not blocked
-abbrev pub open_view : {S : Type 0} → Seat S → Option View
+abbrev pub open_view : {S : Type 0} → NodeState S → Option View
 open_view Vacant = None
 open_view (Ended p) = None
 open_view (Running m) = option_and_then (λ c. if is_frozen c.view c.installed then None else c.view) (core_of m)
 
 -- whether the member of an address runs there, in a view of this id, and is not blocked
-abbrev pub is_open_in : {S : Type 0} → Address → ViewId → Seat S → Bool
+abbrev pub is_open_in : {S : Type 0} → Address → ViewId → NodeState S → Bool
 is_open_in p v Vacant = false
 is_open_in p v (Ended q) = false
 is_open_in p v (Running m) = same_address m.address p && option_map_or (λ w. same_view_id w.id v) (open_view (Running m)) false
 
 -- the member of an address with the coordinator of its view, if they are two, and the coordinator is open in that view too
-abbrev pub pair_of : {S : Type 0} → (ℕ → Seat S) → Address → ViewId → Option Pair
+abbrev pub pair_of : {S : Type 0} → (ℕ → NodeState S) → Address → ViewId → Option Pair
 pair_of at p v =
     if same_address v.creator p then None
     else if is_open_in v.creator v (at v.creator.node) then Some (record { member = p; view = v })
     else None
 
-abbrev pub pair_in : {S : Type 0} → (ℕ → Seat S) → Seat S → Option Pair
+abbrev pub pair_in : {S : Type 0} → (ℕ → NodeState S) → NodeState S → Option Pair
 pair_in at Vacant = None
 pair_in at (Ended p) = None
 pair_in at (Running m) = option_and_then (λ w. pair_of at m.address w.id) (open_view (Running m))
 
 -- the same of the member that runs at a node: whom a catch-up brings level, in which view
-abbrev pub pair_at : {S : Type 0} → (ℕ → Seat S) → ℕ → Option Pair
+abbrev pub pair_at : {S : Type 0} → (ℕ → NodeState S) → ℕ → Option Pair
 pair_at at n = pair_in at (at n)
 
 -- ---- what it plays
@@ -127,8 +127,8 @@ pub record LosesOne {S : Type 0} (pair : Pair) (w : WorldModel S) : Type 0 where
 
 -- both run, in the view, and are not blocked
 pub record BothRun {S : Type 0} (pair : Pair) (w : WorldModel S) : Type 0 where
-  pub coordinator : is_open_in pair.view.creator pair.view (w.seats pair.view.creator.node) ≡ true
-  pub member : is_open_in pair.member pair.view (w.seats pair.member.node) ≡ true
+  pub coordinator : is_open_in pair.view.creator pair.view (w.node_states pair.view.creator.node) ≡ true
+  pub member : is_open_in pair.member pair.view (w.node_states pair.member.node) ≡ true
 
 abbrev pub EndsSo : {S : Type 0} → Pair → WorldModel S → Type 0
 EndsSo pair w = LosesOne pair w ⊎ BothRun pair w

@@ -13,9 +13,9 @@ use Rattle.output.specs.Outputs.{packet_in}
 use Rattle.world_model.specs.Histories.{History, last_of, is_connected}
 use Rattle.world_model.specs.Faithful.{IsFaithful}
 use Rattle.world_model.specs.Packets.{world_group}
-use Rattle.world.specs.declared.seat.Seat.{Seat}
-use Rattle.world.specs.declared.seat.Seat.TheVariants.{Vacant, Ended, Running}
-use Rattle.world.specs.Seats.{read_as, system_of}
+use Rattle.world.specs.declared.node_state.NodeState.{NodeState}
+use Rattle.world.specs.declared.node_state.NodeState.TheVariants.{Vacant, Ended, Running}
+use Rattle.world.specs.NodeStates.{read_as, system_of}
 
 -- a member runs in the group of the world, and is connected as the answers to its node's events say
 pub record IsMember {S : Type 0} (connected : Bool) (m : MemberModel S) : Type 0 where
@@ -23,10 +23,10 @@ pub record IsMember {S : Type 0} (connected : Bool) (m : MemberModel S) : Type 0
   pub joined : IsSomeAnd (core_of m) (λ c. connected ≡ c.connected)
 
 -- the history says of a node what stands there: the last member there is given by `last`; what holds of a member between its calls holds of one that runs
-abbrev pub IsSeatOf : {S : Type 0} → ℕ → Option Address → Bool → List Event → Seat S → Type 0
-IsSeatOf n last connected t Vacant = last ≡ None
-IsSeatOf n last connected t (Ended p) = (last ≡ Some p) × (p.node ≡ n) × (has_ended p t ≡ true)
-IsSeatOf n last connected t (Running m) = (last ≡ Some m.address) × (m.address.node ≡ n) × IsMember connected m × IsAlive m.group m.address m.life
+abbrev pub IsNodeStateOf : {S : Type 0} → ℕ → Option Address → Bool → List Event → NodeState S → Type 0
+IsNodeStateOf n last connected t Vacant = last ≡ None
+IsNodeStateOf n last connected t (Ended p) = (last ≡ Some p) × (p.node ≡ n) × (has_ended p t ≡ true)
+IsNodeStateOf n last connected t (Running m) = (last ≡ Some m.address) × (m.address.node ≡ n) × IsMember connected m × IsAlive m.group m.address m.life
 
 -- the greatest incarnation of a node so far, 0 for none
 abbrev pub top_of : ℕ → List Event → ℕ
@@ -43,10 +43,10 @@ IsSpelled bytes = IsSomeAnd (read_as bytes) (λ m. packet_of bytes ≡ Ok (packe
 abbrev pub EachSpelled : List (List ℕ) → Type 0
 EachSpelled pool = (k : ℕ) (bytes : List ℕ) → slice_get pool k ≡ Some bytes → IsSpelled bytes
 
-pub record IsWorld {S : Type 0} (meaning : Meaning S) (at : ℕ → Seat S) (h : History) : Type 0 where
+pub record IsWorld {S : Type 0} (meaning : Meaning S) (at : ℕ → NodeState S) (h : History) : Type 0 where
   pub faithful : IsFaithful h
   pub paired : length h.events ≡ length h.replies
   pub agreed : Invariant meaning (system_of at h.pool h.trace)
   pub spelled : EachSpelled h.pool
   pub starts : StartsInTurn h.trace
-  pub seats : (n : ℕ) → IsSeatOf n (last_of n h.trace) (is_connected n h) h.trace (at n)
+  pub node_states : (n : ℕ) → IsNodeStateOf n (last_of n h.trace) (is_connected n h) h.trace (at n)

@@ -1,4 +1,4 @@
-pub mod Seats
+pub mod NodeStates
 pub mod Outputs
 pub mod Turns
 pub mod Invariant

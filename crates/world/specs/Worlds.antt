@@ -9,27 +9,27 @@ use Rattle.trace_props.specs.Places.{IsBeginningOf}
 use Rattle.world_model.specs.declared.WorldEvent.{WorldEvent}
 use Rattle.world_model.specs.declared.Answer.{Answer}
 use Rattle.world_model.specs.Histories.{History, no_history, target_of, after}
-use Rattle.world.specs.declared.seat.Seat.{Seat}
-use Rattle.world.specs.declared.seat.Seat.TheVariants.{Vacant}
-use Rattle.world.specs.Seats.{seat_at}
+use Rattle.world.specs.declared.node_state.NodeState.{NodeState}
+use Rattle.world.specs.declared.node_state.NodeState.TheVariants.{Vacant}
+use Rattle.world.specs.NodeStates.{node_state_at}
 use Rattle.world.specs.Turns.{about, Carries}
 
 -- the history, and what stands at each node: nothing yet, one that has ended, or the member that runs, as contracts see it
 pub record WorldModel (S : Type 0) : Type 0 where
   pub history : History
-  pub seats : ℕ → Seat S
+  pub node_states : ℕ → NodeState S
 
 -- the same as data: what stands there, by node
 pub record WorldValue (S : Type 0) : Type 0 where
   pub history : History
-  pub table : List (ℕ × Seat S)
+  pub table : List (ℕ × NodeState S)
 
 abbrev pub shown : {S : Type 0} → WorldValue S → WorldModel S
-shown w = record { history = w.history; seats = λ n. seat_at (lookup (is_at (nat_cmp n)) w.table) }
+shown w = record { history = w.history; node_states = λ n. node_state_at (lookup (is_at (nat_cmp n)) w.table) }
 
 -- nothing happened, and nobody runs
 abbrev pub no_world : {S : Type 0} → WorldModel S
-no_world = record { history = no_history; seats = λ n. Vacant }
+no_world = record { history = no_history; node_states = λ n. Vacant }
 
 -- the old world events, replies, packets and trace are beginnings of the new ones
 pub record IsLonger (old new : History) : Type 0 where
@@ -45,7 +45,7 @@ module _ {S : Type 0} (meaning : Meaning S) where
     pub packets : List (List ℕ)
     pub stretch : List Event
     pub goes_on : new.history ≡ after old.history e answer packets stretch
-    pub does : Carries meaning (target_of e) e (about old.seats old.history.trace old.history.pool) answer (about new.seats new.history.trace new.history.pool)
+    pub does : Carries meaning (target_of e) e (about old.node_states old.history.trace old.history.pool) answer (about new.node_states new.history.trace new.history.pool)
 
   -- one world comes from another by a world step for each of these events, in order
   pub data Runs (from : WorldModel S) : List WorldEvent → WorldModel S → Type 0 where

@@ -8,12 +8,12 @@ ghost use Rattle.trace_props.specs.Places.{EachPlace};
 ghost use Rattle.trace_props.specs.Synchrony.{IsWellOrdered, IsVirtuallySynchronous};
 ghost use Rattle.world_model.specs.Faithful.{IsFaithful};
 ghost use Rattle.world_model.specs.declared.WorldEvent.TheVariants.{Deliver};
-ghost use Rattle.world.specs.Seats.{seats_in};
+ghost use Rattle.world.specs.NodeStates.{node_states_in};
 ghost use Rattle.world.specs.Worlds.{shown, IsLonger};
 ghost use Rattle.world.specs.Gaps.{open_view, is_open_in, pair_of, pair_at, lacks_memory, Plays, Hands, Fails, DeliversPast, BreaksPast, CatchesUp, Stops, EndsSo, IsLevel};
 
 use crate::World;
-use crate::seat::Seat;
+use crate::node_state::NodeState;
 use address::{Address, Node, ViewId};
 use state_transfer::Receiver;
 use std::alloc::AllocError;
@@ -29,12 +29,12 @@ struct Pair {
 }
 
 /// The view in which the member that runs here is, and is not blocked.
-fn open_view<R: Receiver>(seat: &Seat<R>) -> Option<&View>
-    ensures { option_copied result ≡ open_view seat.now }
+fn open_view<R: Receiver>(node_state: &NodeState<R>) -> Option<&View>
+    ensures { option_copied result ≡ open_view node_state.now }
 {
-    match seat {
-        Seat::Vacant | Seat::Ended(_) => None,
-        Seat::Running(member) => {
+    match node_state {
+        NodeState::Vacant | NodeState::Ended(_) => None,
+        NodeState::Running(member) => {
             if member.is_blocked() {
                 None
             } else {
@@ -45,33 +45,34 @@ fn open_view<R: Receiver>(seat: &Seat<R>) -> Option<&View>
 }
 
 /// Whether the member of an address runs here, in a view of this id, and is not blocked.
-fn is_open_in<R: Receiver>(seat: &Seat<R>, address: Address, view: ViewId) -> bool
-    ensures { result ≡ is_open_in address view seat.now }
+fn is_open_in<R: Receiver>(node_state: &NodeState<R>, address: Address, view: ViewId) -> bool
+    ensures { result ≡ is_open_in address view node_state.now }
 {
-    match seat {
-        Seat::Vacant | Seat::Ended(_) => false,
-        Seat::Running(member) => {
-            member.address() == address && open_view(seat).is_some_and(|open| open.id() == view)
+    match node_state {
+        NodeState::Vacant | NodeState::Ended(_) => false,
+        NodeState::Running(member) => {
+            member.address() == address
+                && open_view(node_state).is_some_and(|open| open.id() == view)
         }
     }
 }
 
 /// The member of an address with the coordinator of its view, if they are two, and the coordinator is open in that view too.
 fn pair_of<R: Receiver>(
-    seats: &BTreeMap<Node, Seat<R>>,
+    node_states: &BTreeMap<Node, NodeState<R>>,
     member: Address,
     view: ViewId,
 ) -> Option<Pair>
-    ensures { result ≡ pair_of (seats_in (get nat_cmp seats.now)) member view }
+    ensures { result ≡ pair_of (node_states_in (get nat_cmp node_states.now)) member view }
 {
     let coordinator = view.creator();
     if coordinator == member {
         return None;
     }
-    match seats.get(&coordinator.node()) {
+    match node_states.get(&coordinator.node()) {
         None => None,
-        Some(seat) => {
-            if is_open_in(seat, coordinator, view) {
+        Some(node_state) => {
+            if is_open_in(node_state, coordinator, view) {
                 Some(Pair { member, view })
             } else {
                 None
@@ -81,17 +82,17 @@ fn pair_of<R: Receiver>(
 }
 
 /// The same of the member that runs at a node.
-fn pair_at<R: Receiver>(seats: &BTreeMap<Node, Seat<R>>, node: Node) -> Option<Pair>
-    ensures { result ≡ pair_at (seats_in (get nat_cmp seats.now)) node }
+fn pair_at<R: Receiver>(node_states: &BTreeMap<Node, NodeState<R>>, node: Node) -> Option<Pair>
+    ensures { result ≡ pair_at (node_states_in (get nat_cmp node_states.now)) node }
 {
-    match seats.get(&node) {
-        None | Some(Seat::Vacant) | Some(Seat::Ended(_)) => None,
-        Some(Seat::Running(member)) => {
+    match node_states.get(&node) {
+        None | Some(NodeState::Vacant) | Some(NodeState::Ended(_)) => None,
+        Some(NodeState::Running(member)) => {
             if member.is_blocked() {
                 return None;
             }
             let view = member.view()?;
-            pair_of(seats, member.address(), view.id())
+            pair_of(node_states, member.address(), view.id())
         }
     }
 }
@@ -169,21 +170,21 @@ impl<R: Receiver> World<R> {
     /// crashes; the steps before it are carried out.
     pub fn catch_up(&mut self, node: Node) -> Result<bool, AllocError>
         // It answers whether there are those two; where there are not, nothing is done.
-        ensures answer { IfOk result (λ b. b ≡ is_some (pair_at (shown self.old).seats node)) }
+        ensures answer { IfOk result (λ b. b ≡ is_some (pair_at (shown self.old).node_states node)) }
         ensures nothing { result ≡ Ok false → shown self.new ≡ shown self.old }
         // Else these steps are played, and the member has delivered in the view what its coordinator has;
-        ensures plays { OnOk result (ForSome (pair_at (shown self.old).seats node) (λ pair. CatchesUp R.meaning pair (shown self.old) (shown self.new))) }
-        ensures level { OnOk result (ForSome (pair_at (shown self.old).seats node) (λ pair. IsLevel pair self.new.history.trace)) }
+        ensures plays { OnOk result (ForSome (pair_at (shown self.old).node_states node) (λ pair. CatchesUp R.meaning pair (shown self.old) (shown self.new))) }
+        ensures level { OnOk result (ForSome (pair_at (shown self.old).node_states node) (λ pair. IsLevel pair self.new.history.trace)) }
         // or a beginning of them, and then one of the two has crashed for want of memory, or a step was not begun and both run.
-        ensures stops { OnErr result (IsSomeAnd (pair_at (shown self.old).seats node) (λ pair. Stops R.meaning pair (shown self.old) (shown self.new))) }
-        ensures ends { OnErr result (IsSomeAnd (pair_at (shown self.old).seats node) (λ pair. EndsSo pair (shown self.new))) }
+        ensures stops { OnErr result (IsSomeAnd (pair_at (shown self.old).node_states node) (λ pair. Stops R.meaning pair (shown self.old) (shown self.new))) }
+        ensures ends { OnErr result (IsSomeAnd (pair_at (shown self.old).node_states node) (λ pair. EndsSo pair (shown self.new))) }
         // What was there is the beginning of what is there, and all rules hold, as after `run`.
         ensures longer { IsLonger self.old.history self.new.history }
         ensures faithful { IsFaithful self.new.history }
         ensures ordered { EachPlace IsWellOrdered self.new.history.trace }
         ensures synchronous { IsVirtuallySynchronous R.meaning self.new.history.trace }
     {
-        let Some(pair) = pair_at(&self.seats, node) else {
+        let Some(pair) = pair_at(&self.node_states, node) else {
             self.kept();
             return Ok(false);
         };

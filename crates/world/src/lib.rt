@@ -12,15 +12,15 @@ ghost use Rattle.world_model.specs.Histories.{target_of, running};
 ghost use Rattle.world.specs.Worlds.{shown, no_world, IsLonger, WorldStep, Runs};
 ghost use Rattle.world_model.specs.Packets.{packet_numbered};
 ghost use Rattle.world_model.specs.Faithful.{IsFaithful};
-ghost use Rattle.world.specs.Seats.{seat_at, seats_in};
-ghost use Rattle.world.specs.Turns.{about, ActsAt, KeepsSeat, CarriesOut, Carries, Hears, Delivers, SameSeats};
+ghost use Rattle.world.specs.NodeStates.{node_state_at, node_states_in};
+ghost use Rattle.world.specs.Turns.{about, ActsAt, KeepsNodeState, CarriesOut, Carries, Hears, Delivers, SameNodeStates};
 
 mod gaps;
+mod node_state;
 mod pool;
-mod seat;
 
+use crate::node_state::NodeState;
 use crate::pool::Pool;
-use crate::seat::Seat;
 use address::{Address, Node};
 use limits::{Refusal, STEP_EVENTS};
 use state_transfer::Receiver;
@@ -35,7 +35,7 @@ use world_model::{Answer, Reply, Target, WorldEvent};
 #[derive(Drop)]
 pub struct World<R: Receiver> {
     alloc: Global,
-    seats: BTreeMap<Node, Seat<R>>,
+    node_states: BTreeMap<Node, NodeState<R>>,
     events: Vec<WorldEvent>,
     replies: Vec<Reply>,
     pool: Pool,
@@ -50,20 +50,23 @@ impl<R: Receiver> Model for World<R> {
     // What stands at its nodes, as data, which `shown` shows by node.
     ghost Value = { WorldValue R };
 
-    ghost view = { λ w. record { history = record { events = w.events.items; replies = w.replies.items; pool = w.pool; trace = w.trace.events }; table = w.seats.entries } };
+    ghost view = { λ w. record { history = record { events = w.events.items; replies = w.replies.items; pool = w.pool; trace = w.trace.events }; table = w.node_states.entries } };
 
     // It came from nothing by world steps. All that is kept follows from that alone (proofs/KeepOfWorlds.antt).
-    ghost invariant = { λ w. IsReached R.meaning (shown (record { history = record { events = w.events.items; replies = w.replies.items; pool = w.pool; trace = w.trace.events }; table = w.seats.entries })) };
+    ghost invariant = { λ w. IsReached R.meaning (shown (record { history = record { events = w.events.items; replies = w.replies.items; pool = w.pool; trace = w.trace.events }; table = w.node_states.entries })) };
 }
 
 /// Makes room for what runs at a node, where there is none yet.
-fn keep_seat<R: Receiver>(seats: &mut BTreeMap<Node, Seat<R>>, node: Node) -> Result<(), AllocError>
-    ensures kept { OnOk result (KeepsSeat (get nat_cmp seats.old node) (get nat_cmp seats.new node)) }
-    ensures others { (m : ℕ) → nat_eq node m ≡ false → get nat_cmp seats.new m ≡ get nat_cmp seats.old m }
-    ensures err { OnErr result (get nat_cmp seats.new node ≡ get nat_cmp seats.old node) }
+fn keep_node_state<R: Receiver>(
+    node_states: &mut BTreeMap<Node, NodeState<R>>,
+    node: Node,
+) -> Result<(), AllocError>
+    ensures kept { OnOk result (KeepsNodeState (get nat_cmp node_states.old node) (get nat_cmp node_states.new node)) }
+    ensures others { (m : ℕ) → nat_eq node m ≡ false → get nat_cmp node_states.new m ≡ get nat_cmp node_states.old m }
+    ensures err { OnErr result (get nat_cmp node_states.new node ≡ get nat_cmp node_states.old node) }
 {
-    if !seats.contains_key(&node) {
-        seats.insert(node, Seat::Vacant)?;
+    if !node_states.contains_key(&node) {
+        node_states.insert(node, NodeState::Vacant)?;
     }
     Ok(())
 }
@@ -71,18 +74,18 @@ fn keep_seat<R: Receiver>(seats: &mut BTreeMap<Node, Seat<R>>, node: Node) -> Re
 /// Carries out an event at its node. A node that is not kept was never started: 1.
 fn act_at<R: Receiver>(
     alloc: Global,
-    seats: &mut BTreeMap<Node, Seat<R>>,
+    node_states: &mut BTreeMap<Node, NodeState<R>>,
     trace: &mut Trace,
     pool: &mut Pool,
     node: Node,
     event: &WorldEvent,
 ) -> Answer
     requires room { STEP_EVENTS ≤ trace.old.room }
-    ensures acts { ActsAt R.meaning event.now (about (get nat_cmp seats.old node) trace.old.events pool.old) result (about (get nat_cmp seats.new node) trace.new.events pool.new) }
-    ensures others { (m : ℕ) → nat_eq node m ≡ false → get nat_cmp seats.new m ≡ get nat_cmp seats.old m }
+    ensures acts { ActsAt R.meaning event.now (about (get nat_cmp node_states.old node) trace.old.events pool.old) result (about (get nat_cmp node_states.new node) trace.new.events pool.new) }
+    ensures others { (m : ℕ) → nat_eq node m ≡ false → get nat_cmp node_states.new m ≡ get nat_cmp node_states.old m }
 {
-    match seats.get_mut(&node) {
-        Some(seat) => seat::act(alloc, seat, trace, pool, event),
+    match node_states.get_mut(&node) {
+        Some(node_state) => node_state::act(alloc, node_state, trace, pool, event),
         None => Answer::Refused(Refusal::NotConnected),
     }
 }
@@ -90,57 +93,57 @@ fn act_at<R: Receiver>(
 /// Carries out an event at its node: for a start the node is kept first, which memory may refuse: then nothing is carried out.
 fn carry_out<R: Receiver>(
     alloc: Global,
-    seats: &mut BTreeMap<Node, Seat<R>>,
+    node_states: &mut BTreeMap<Node, NodeState<R>>,
     trace: &mut Trace,
     pool: &mut Pool,
     node: Node,
     event: &WorldEvent,
 ) -> Result<Answer, AllocError>
     requires room { STEP_EVENTS ≤ trace.old.room }
-    ensures ok { IfOk result (λ a. CarriesOut R.meaning event.now (about (get nat_cmp seats.old node) trace.old.events pool.old) a (about (get nat_cmp seats.new node) trace.new.events pool.new)) }
-    ensures others { (m : ℕ) → nat_eq node m ≡ false → get nat_cmp seats.new m ≡ get nat_cmp seats.old m }
-    ensures err { OnErr result (get nat_cmp seats.new node ≡ get nat_cmp seats.old node) }
+    ensures ok { IfOk result (λ a. CarriesOut R.meaning event.now (about (get nat_cmp node_states.old node) trace.old.events pool.old) a (about (get nat_cmp node_states.new node) trace.new.events pool.new)) }
+    ensures others { (m : ℕ) → nat_eq node m ≡ false → get nat_cmp node_states.new m ≡ get nat_cmp node_states.old m }
+    ensures err { OnErr result (get nat_cmp node_states.new node ≡ get nat_cmp node_states.old node) }
     ensures err_trace { OnErr result (trace.new.events ≡ trace.old.events) }
     ensures err_pool { OnErr result (pool.new ≡ pool.old) }
 {
     if event.is_start() {
-        keep_seat(seats, node)?;
-        Ok(act_at(alloc, seats, trace, pool, node, event))
+        keep_node_state(node_states, node)?;
+        Ok(act_at(alloc, node_states, trace, pool, node, event))
     } else {
-        Ok(act_at(alloc, seats, trace, pool, node, event))
+        Ok(act_at(alloc, node_states, trace, pool, node, event))
     }
 }
 
 /// Hands the packet of a number to the member that runs at a node, if one does.
 fn hear_at<R: Receiver>(
-    seats: &mut BTreeMap<Node, Seat<R>>,
+    node_states: &mut BTreeMap<Node, NodeState<R>>,
     trace: &mut Trace,
     pool: &mut Pool,
     node: Node,
     number: u64,
 ) -> Answer
     requires room { STEP_EVENTS ≤ trace.old.room }
-    ensures hears { (bytes : List ℕ) → packet_numbered number pool.old ≡ Some bytes → Hears R.meaning bytes (about (seat_at (get nat_cmp seats.old node)) trace.old.events pool.old) result (about (seat_at (get nat_cmp seats.new node)) trace.new.events pool.new) }
-    ensures others { (m : ℕ) → nat_eq node m ≡ false → get nat_cmp seats.new m ≡ get nat_cmp seats.old m }
+    ensures hears { (bytes : List ℕ) → packet_numbered number pool.old ≡ Some bytes → Hears R.meaning bytes (about (node_state_at (get nat_cmp node_states.old node)) trace.old.events pool.old) result (about (node_state_at (get nat_cmp node_states.new node)) trace.new.events pool.new) }
+    ensures others { (m : ℕ) → nat_eq node m ≡ false → get nat_cmp node_states.new m ≡ get nat_cmp node_states.old m }
 {
-    match seats.get_mut(&node) {
-        Some(seat) => seat::hear(seat, trace, pool, number),
+    match node_states.get_mut(&node) {
+        Some(node_state) => node_state::hear(node_state, trace, pool, number),
         None => Answer::Done,
     }
 }
 
 /// Hands the packet of a number to the running member of its destination's node, if there are both.
 fn deliver<R: Receiver>(
-    seats: &mut BTreeMap<Node, Seat<R>>,
+    node_states: &mut BTreeMap<Node, NodeState<R>>,
     trace: &mut Trace,
     pool: &mut Pool,
     number: u64,
 ) -> Answer
     requires room { STEP_EVENTS ≤ trace.old.room }
-    ensures { Delivers R.meaning (packet_numbered number pool.old) (about (seats_in (get nat_cmp seats.old)) trace.old.events pool.old) result (about (seats_in (get nat_cmp seats.new)) trace.new.events pool.new) }
+    ensures { Delivers R.meaning (packet_numbered number pool.old) (about (node_states_in (get nat_cmp node_states.old)) trace.old.events pool.old) result (about (node_states_in (get nat_cmp node_states.new)) trace.new.events pool.new) }
 {
     match pool.destination(number) {
-        Some(destination) => hear_at(seats, trace, pool, destination.node(), number),
+        Some(destination) => hear_at(node_states, trace, pool, destination.node(), number),
         None => Answer::Done,
     }
 }
@@ -148,20 +151,20 @@ fn deliver<R: Receiver>(
 /// Carries out an event. Memory may be refused for a new node: then nothing is carried out.
 fn carry<R: Receiver>(
     alloc: Global,
-    seats: &mut BTreeMap<Node, Seat<R>>,
+    node_states: &mut BTreeMap<Node, NodeState<R>>,
     trace: &mut Trace,
     pool: &mut Pool,
     event: &WorldEvent,
 ) -> Result<Answer, AllocError>
     requires room { STEP_EVENTS ≤ trace.old.room }
-    ensures ok { IfOk result (λ a. Carries R.meaning (target_of event.now) event.now (about (seats_in (get nat_cmp seats.old)) trace.old.events pool.old) a (about (seats_in (get nat_cmp seats.new)) trace.new.events pool.new)) }
-    ensures err { OnErr result (SameSeats (seats_in (get nat_cmp seats.old)) (seats_in (get nat_cmp seats.new))) }
+    ensures ok { IfOk result (λ a. Carries R.meaning (target_of event.now) event.now (about (node_states_in (get nat_cmp node_states.old)) trace.old.events pool.old) a (about (node_states_in (get nat_cmp node_states.new)) trace.new.events pool.new)) }
+    ensures err { OnErr result (SameNodeStates (node_states_in (get nat_cmp node_states.old)) (node_states_in (get nat_cmp node_states.new))) }
     ensures err_trace { OnErr result (trace.new.events ≡ trace.old.events) }
     ensures err_pool { OnErr result (pool.new ≡ pool.old) }
 {
     match event.target() {
-        Target::Member(node) => carry_out(alloc, seats, trace, pool, node, event),
-        Target::Packet(number) => Ok(deliver(seats, trace, pool, number)),
+        Target::Member(node) => carry_out(alloc, node_states, trace, pool, node, event),
+        Target::Packet(number) => Ok(deliver(node_states, trace, pool, number)),
     }
 }
 
@@ -190,7 +193,7 @@ impl<R: Receiver> World<R> {
     {
         World {
             alloc,
-            seats: BTreeMap::new(alloc),
+            node_states: BTreeMap::new(alloc),
             events: Vec::new(alloc),
             replies: Vec::new(alloc),
             pool: Pool::new(alloc),
@@ -208,7 +211,7 @@ impl<R: Receiver> World<R> {
         let event = event.copied(alloc)?;
         let answer = carry(
             alloc,
-            &mut self.seats,
+            &mut self.node_states,
             &mut self.trace,
             &mut self.pool,
             &event,
@@ -284,9 +287,9 @@ impl<R: Receiver> World<R> {
     pub fn running(&self, node: Node) -> Option<Address>
         ensures { result ≡ running node self.now.history.trace }
     {
-        match self.seats.get(&node)? {
-            Seat::Running(member) => Some(member.address()),
-            Seat::Vacant | Seat::Ended(_) => None,
+        match self.node_states.get(&node)? {
+            NodeState::Running(member) => Some(member.address()),
+            NodeState::Vacant | NodeState::Ended(_) => None,
         }
     }
 
@@ -294,9 +297,9 @@ impl<R: Receiver> World<R> {
     pub fn receiver(&self, node: Node) -> Option<&R>
         ensures { option_copied result ≡ option_map (λ p. state_of R.meaning p self.now.history.trace) (running node self.now.history.trace) }
     {
-        match self.seats.get(&node)? {
-            Seat::Vacant | Seat::Ended(_) => None,
-            Seat::Running(member) => member.receiver(),
+        match self.node_states.get(&node)? {
+            NodeState::Vacant | NodeState::Ended(_) => None,
+            NodeState::Running(member) => member.receiver(),
         }
     }
 

@@ -4,7 +4,7 @@ ghost use Rattle.std.specs.Prelude.{◌≡◌, ◌++◌, [], length, map, false,
 ghost use Rattle.std.specs.Option.{option_copied, option_and_then, option_map_or};
 ghost use Rattle.world_model.specs.Packets.{packet_numbered, destination_of};
 ghost use Rattle.world.specs.Gaps.{first_for, is_destined};
-ghost use Rattle.world.specs.Seats.{bytes_of};
+ghost use Rattle.world.specs.NodeStates.{bytes_of};
 ghost use Rattle.world.specs.Outputs.{AreAddressed};
 
 use address::Address;

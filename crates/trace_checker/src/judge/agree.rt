@@ -29,7 +29,7 @@ pub fn may_meet(past: &Past, install: &Install) -> bool
         None => true,
         Some(previous) => is_as_far(
             past,
-            past.way(previous, install.view.id()),
+            past.view_change(previous, install.view.id()),
             previous,
             install.member,
         ),

@@ -5,12 +5,12 @@ ghost use Rattle.std.specs.Option.{option_copied};
 ghost use Rattle.trace_props.specs.Observed.{install_of};
 ghost use Rattle.address.specs.Ids.{view_id_cmp};
 ghost use Rattle.trace_props.specs.declared.event.Event.{Event};
-ghost use Rattle.trace_checker.specs.declared.known.seat.Pair.{Pair};
+ghost use Rattle.trace_checker.specs.declared.known.keys.Pair.{Pair};
 ghost use Rattle.trace_props.specs.Following.{MayCarry};
-ghost use Rattle.trace_checker.specs.Known.{sending_of, delivery_of, seat_cmp, pair_cmp, way_cmp, same_pair, KnowsSent, KnowsDelivered, KnowsLast, KnowsEntries, KnowsFirsts, KnowsWays};
+ghost use Rattle.trace_checker.specs.Known.{sending_of, delivery_of, in_view_cmp, pair_cmp, view_change_cmp, same_pair, KnowsSent, KnowsDelivered, KnowsLast, KnowsEntries, KnowsFirsts, KnowsViewChanges};
 
+use super::keys::{MemberInView, Pair, ViewChange};
 use super::lists::Lists;
-use super::seat::{Pair, Seat, Way};
 use address::ViewId;
 use std::alloc::{AllocError, Global};
 use std::collections::BTreeMap;
@@ -67,16 +67,16 @@ pub fn note_sent<'a>(
     sent: &mut Lists<'a, Numbered>,
     event: &'a Event,
 ) -> Result<(), AllocError>
-    ensures { OnOk result ((t : List Event) → KnowsSent (get seat_cmp sent.old.lists) t → KnowsSent (get seat_cmp sent.new.lists) (t ++ event.now ∷ [])) }
+    ensures { OnOk result ((t : List Event) → KnowsSent (get in_view_cmp sent.old.lists) t → KnowsSent (get in_view_cmp sent.new.lists) (t ++ event.now ∷ [])) }
 {
     match sending_in(event) {
         None => Ok(()),
         Some(sending) => {
-            let seat = Seat {
+            let in_view = MemberInView {
                 view: sending.view,
                 member: sending.member,
             };
-            sent.push(alloc, seat, &sending.message)?;
+            sent.push(alloc, in_view, &sending.message)?;
             Ok(())
         }
     }
@@ -88,16 +88,16 @@ pub fn note_delivered<'a>(
     delivered: &mut Lists<'a, Message>,
     event: &'a Event,
 ) -> Result<(), AllocError>
-    ensures { OnOk result ((t : List Event) → KnowsDelivered (get seat_cmp delivered.old.lists) t → KnowsDelivered (get seat_cmp delivered.new.lists) (t ++ event.now ∷ [])) }
+    ensures { OnOk result ((t : List Event) → KnowsDelivered (get in_view_cmp delivered.old.lists) t → KnowsDelivered (get in_view_cmp delivered.new.lists) (t ++ event.now ∷ [])) }
 {
     match delivery_in(event) {
         None => Ok(()),
         Some(delivery) => {
-            let seat = Seat {
+            let in_view = MemberInView {
                 view: delivery.view,
                 member: delivery.member,
             };
-            delivered.push(alloc, seat, &delivery.message)?;
+            delivered.push(alloc, in_view, &delivery.message)?;
             Ok(())
         }
     }
@@ -118,12 +118,12 @@ pub fn note_last(last: &mut BTreeMap<Pair, u64>, event: &Event) -> Result<(), Al
     match delivery_in(event) {
         None => Ok(()),
         Some(delivery) => {
-            let seat = Seat {
+            let in_view = MemberInView {
                 view: delivery.view,
                 member: delivery.member,
             };
             let pair = Pair {
-                seat,
+                in_view,
                 sender: delivery.message.sender,
             };
             keep_last(last, pair, delivery.message.number)?;
@@ -151,19 +151,19 @@ fn write<'a, K: Ord + Copy + Drop>(
 
 /// Keeps a member's install of a view.
 pub fn note_entry<'a>(
-    entries: &mut BTreeMap<Seat, &'a Install>,
+    entries: &mut BTreeMap<MemberInView, &'a Install>,
     event: &'a Event,
 ) -> Result<(), AllocError>
-    ensures { OnOk result ((t : List Event) → KnowsEntries (get seat_cmp entries.old) t → KnowsEntries (get seat_cmp entries.new) (t ++ event.now ∷ [])) }
+    ensures { OnOk result ((t : List Event) → KnowsEntries (get in_view_cmp entries.old) t → KnowsEntries (get in_view_cmp entries.new) (t ++ event.now ∷ [])) }
 {
     match install_in(event) {
         None => Ok(()),
         Some(install) => {
-            let seat = Seat {
+            let in_view = MemberInView {
                 view: install.view.id(),
                 member: install.member,
             };
-            write(entries, seat, install)?;
+            write(entries, in_view, install)?;
             Ok(())
         }
     }
@@ -186,22 +186,22 @@ pub fn note_first<'a>(
 }
 
 /// Keeps the first install that goes from a view to another.
-pub fn note_way<'a>(
-    ways: &mut BTreeMap<Way, &'a Install>,
+pub fn note_view_change<'a>(
+    view_changes: &mut BTreeMap<ViewChange, &'a Install>,
     event: &'a Event,
 ) -> Result<(), AllocError>
-    ensures { OnOk result ((t : List Event) → KnowsWays (get way_cmp ways.old) t → KnowsWays (get way_cmp ways.new) (t ++ event.now ∷ [])) }
+    ensures { OnOk result ((t : List Event) → KnowsViewChanges (get view_change_cmp view_changes.old) t → KnowsViewChanges (get view_change_cmp view_changes.new) (t ++ event.now ∷ [])) }
 {
     match install_in(event) {
         None => Ok(()),
         Some(install) => match install.previous {
             None => Ok(()),
             Some(previous) => {
-                let way = Way {
+                let view_change = ViewChange {
                     from: previous,
                     to: install.view.id(),
                 };
-                write(ways, way, install)?;
+                write(view_changes, view_change, install)?;
                 Ok(())
             }
         }

@@ -5,7 +5,7 @@ ghost use Rattle.trace_props.specs.Agreeing.{first_from};
 ghost use Rattle.trace_props.specs.Following.{MayCarry};
 ghost use Rattle.trace_checker.specs.Known.{standing_of};
 
-use super::seat::{Pair, Seat, Way};
+use super::keys::{MemberInView, Pair, ViewChange};
 use super::standing::{self, Standing};
 use super::tables::{self, Tables};
 use address::{Address, ViewId};
@@ -24,14 +24,14 @@ impl<'a> Model for Past<'a> {
     ghost use Rattle.std.specs.BTreeMap.{get};
     ghost use Rattle.address.specs.Ids.{address_cmp, view_id_cmp};
     ghost use Rattle.trace_props.specs.declared.event.Event.{Event};
-    ghost use Rattle.trace_checker.specs.Known.{KnowsPast, pointed, seat_cmp, pair_cmp, way_cmp};
+    ghost use Rattle.trace_checker.specs.Known.{KnowsPast, pointed, in_view_cmp, pair_cmp, view_change_cmp};
 
     ghost Value = { List Event };
 
     ghost view = { λ p. pointed p.tables.events.items };
 
-    ghost invariant = { λ p. KnowsPast (get address_cmp p.tables.standings) (get seat_cmp p.tables.sent.lists) (get seat_cmp p.tables.delivered.lists) (get pair_cmp p.tables.last)
-        (get seat_cmp p.tables.entries) (get view_id_cmp p.tables.firsts) (get way_cmp p.tables.ways) (pointed p.tables.events.items) };
+    ghost invariant = { λ p. KnowsPast (get address_cmp p.tables.standings) (get in_view_cmp p.tables.sent.lists) (get in_view_cmp p.tables.delivered.lists) (get pair_cmp p.tables.last)
+        (get in_view_cmp p.tables.entries) (get view_id_cmp p.tables.firsts) (get view_change_cmp p.tables.view_changes) (pointed p.tables.events.items) };
 }
 
 impl<'a> Past<'a> {
@@ -55,36 +55,38 @@ impl<'a> Past<'a> {
     pub fn sent_count(&self, member: Address, view: ViewId) -> usize
         ensures { result ≡ length (sent_in member view self.now) }
     {
-        self.tables.sent.count(Seat { view, member })
+        self.tables.sent.count(MemberInView { view, member })
     }
 
     /// A message that a member sent in a view, by its index from 0.
     pub fn sent_at(&self, member: Address, view: ViewId, index: usize) -> Option<&'a Numbered>
         ensures { option_copied result ≡ slice_get (sent_in member view self.now) index }
     {
-        self.tables.sent.at(Seat { view, member }, index)
+        self.tables.sent.at(MemberInView { view, member }, index)
     }
 
     /// How many messages a member delivered in a view.
     pub fn delivered_count(&self, member: Address, view: ViewId) -> usize
         ensures { result ≡ length (delivered_in member view self.now) }
     {
-        self.tables.delivered.count(Seat { view, member })
+        self.tables.delivered.count(MemberInView { view, member })
     }
 
     /// A message that a member delivered in a view, by its index from 0.
     pub fn delivered_at(&self, member: Address, view: ViewId, index: usize) -> Option<&'a Message>
         ensures { option_copied result ≡ slice_get (delivered_in member view self.now) index }
     {
-        self.tables.delivered.at(Seat { view, member }, index)
+        self.tables
+            .delivered
+            .at(MemberInView { view, member }, index)
     }
 
     /// How many messages of a sender a member delivered in a view.
     pub fn own_count(&self, member: Address, sender: Address, view: ViewId) -> u64
         ensures { result ≡ length (own sender (delivered_in member view self.now)) }
     {
-        let seat = Seat { view, member };
-        match self.tables.last.get(&Pair { seat, sender }) {
+        let in_view = MemberInView { view, member };
+        match self.tables.last.get(&Pair { in_view, sender }) {
             Some(number) => *number,
             None => 0,
         }
@@ -94,7 +96,10 @@ impl<'a> Past<'a> {
     pub fn entry(&self, member: Address, view: ViewId) -> Option<&'a Install>
         ensures { option_copied result ≡ entry_of member view self.now }
     {
-        self.tables.entries.get(&Seat { view, member }).copied()
+        self.tables
+            .entries
+            .get(&MemberInView { view, member })
+            .copied()
     }
 
     /// The first install of a view.
@@ -105,10 +110,13 @@ impl<'a> Past<'a> {
     }
 
     /// The first install that goes from a view to another.
-    pub fn way(&self, from: ViewId, to: ViewId) -> Option<&'a Install>
+    pub fn view_change(&self, from: ViewId, to: ViewId) -> Option<&'a Install>
         ensures { option_copied result ≡ first_from from to self.now }
     {
-        self.tables.ways.get(&Way { from, to }).copied()
+        self.tables
+            .view_changes
+            .get(&ViewChange { from, to })
+            .copied()
     }
 
     /// Notes what happened next, whose message, if it delivers one, is its sender's next. On refusal nothing is known any more.

@@ -3,10 +3,10 @@ ghost use Rattle.std.specs.BTreeMap.{get};
 ghost use Rattle.address.specs.Ids.{address_cmp, view_id_cmp};
 ghost use Rattle.trace_props.specs.declared.event.Event.{Event};
 ghost use Rattle.trace_props.specs.Following.{MayCarry};
-ghost use Rattle.trace_checker.specs.Known.{seat_cmp, pair_cmp, way_cmp, KnowsPast, KnowsSent, KnowsDelivered, KnowsLast, KnowsEntries, KnowsFirsts, KnowsWays, pointed};
+ghost use Rattle.trace_checker.specs.Known.{in_view_cmp, pair_cmp, view_change_cmp, KnowsPast, KnowsSent, KnowsDelivered, KnowsLast, KnowsEntries, KnowsFirsts, KnowsViewChanges, pointed};
 
+use super::keys::{MemberInView, Pair, ViewChange};
 use super::lists::Lists;
-use super::seat::{Pair, Seat, Way};
 use super::standing::Standing;
 use super::{notes, standing};
 use address::{Address, ViewId};
@@ -22,17 +22,17 @@ pub struct Tables<'a> {
     pub sent: Lists<'a, Numbered>,
     pub delivered: Lists<'a, Message>,
     pub last: BTreeMap<Pair, u64>,
-    pub entries: BTreeMap<Seat, &'a Install>,
+    pub entries: BTreeMap<MemberInView, &'a Install>,
     pub firsts: BTreeMap<ViewId, &'a Install>,
-    pub ways: BTreeMap<Way, &'a Install>,
+    pub view_changes: BTreeMap<ViewChange, &'a Install>,
 }
 
 impl<'a> Tables<'a> {
     /// Of nothing. Takes no memory.
     pub fn new(alloc: Global) -> Tables<'a>
         ensures nothing { pointed result.events.items ≡ [] }
-        ensures known { KnowsPast (get address_cmp result.standings) (get seat_cmp result.sent.lists) (get seat_cmp result.delivered.lists) (get pair_cmp result.last)
-            (get seat_cmp result.entries) (get view_id_cmp result.firsts) (get way_cmp result.ways) [] }
+        ensures known { KnowsPast (get address_cmp result.standings) (get in_view_cmp result.sent.lists) (get in_view_cmp result.delivered.lists) (get pair_cmp result.last)
+            (get in_view_cmp result.entries) (get view_id_cmp result.firsts) (get view_change_cmp result.view_changes) [] }
     {
         Tables {
             events: Vec::new(alloc),
@@ -42,7 +42,7 @@ impl<'a> Tables<'a> {
             last: BTreeMap::new(alloc),
             entries: BTreeMap::new(alloc),
             firsts: BTreeMap::new(alloc),
-            ways: BTreeMap::new(alloc),
+            view_changes: BTreeMap::new(alloc),
         }
     }
 }
@@ -55,8 +55,8 @@ fn keep_message<'a>(
     last: &mut BTreeMap<Pair, u64>,
     event: &'a Event,
 ) -> Result<(), AllocError>
-    ensures sent { OnOk result ((t : List Event) → KnowsSent (get seat_cmp sent.old.lists) t → KnowsSent (get seat_cmp sent.new.lists) (t ++ event.now ∷ [])) }
-    ensures delivered { OnOk result ((t : List Event) → KnowsDelivered (get seat_cmp delivered.old.lists) t → KnowsDelivered (get seat_cmp delivered.new.lists) (t ++ event.now ∷ [])) }
+    ensures sent { OnOk result ((t : List Event) → KnowsSent (get in_view_cmp sent.old.lists) t → KnowsSent (get in_view_cmp sent.new.lists) (t ++ event.now ∷ [])) }
+    ensures delivered { OnOk result ((t : List Event) → KnowsDelivered (get in_view_cmp delivered.old.lists) t → KnowsDelivered (get in_view_cmp delivered.new.lists) (t ++ event.now ∷ [])) }
     ensures last { OnOk result ((t : List Event) → MayCarry t event.now → KnowsLast (get pair_cmp last.old) t → KnowsLast (get pair_cmp last.new) (t ++ event.now ∷ [])) }
 {
     notes::note_sent(alloc, sent, event)?;
@@ -67,18 +67,18 @@ fn keep_message<'a>(
 
 // Keeps the install that an event is.
 fn keep_install<'a>(
-    entries: &mut BTreeMap<Seat, &'a Install>,
+    entries: &mut BTreeMap<MemberInView, &'a Install>,
     firsts: &mut BTreeMap<ViewId, &'a Install>,
-    ways: &mut BTreeMap<Way, &'a Install>,
+    view_changes: &mut BTreeMap<ViewChange, &'a Install>,
     event: &'a Event,
 ) -> Result<(), AllocError>
-    ensures entries { OnOk result ((t : List Event) → KnowsEntries (get seat_cmp entries.old) t → KnowsEntries (get seat_cmp entries.new) (t ++ event.now ∷ [])) }
+    ensures entries { OnOk result ((t : List Event) → KnowsEntries (get in_view_cmp entries.old) t → KnowsEntries (get in_view_cmp entries.new) (t ++ event.now ∷ [])) }
     ensures firsts { OnOk result ((t : List Event) → KnowsFirsts (get view_id_cmp firsts.old) t → KnowsFirsts (get view_id_cmp firsts.new) (t ++ event.now ∷ [])) }
-    ensures ways { OnOk result ((t : List Event) → KnowsWays (get way_cmp ways.old) t → KnowsWays (get way_cmp ways.new) (t ++ event.now ∷ [])) }
+    ensures view_changes { OnOk result ((t : List Event) → KnowsViewChanges (get view_change_cmp view_changes.old) t → KnowsViewChanges (get view_change_cmp view_changes.new) (t ++ event.now ∷ [])) }
 {
     notes::note_entry(entries, event)?;
     notes::note_first(firsts, event)?;
-    notes::note_way(ways, event)?;
+    notes::note_view_change(view_changes, event)?;
     Ok(())
 }
 
@@ -86,10 +86,10 @@ fn keep_install<'a>(
 pub fn keep<'a>(alloc: Global, tables: &mut Tables<'a>, event: &'a Event) -> Result<(), AllocError>
     ensures kept { OnOk result (pointed tables.new.events.items ≡ pointed tables.old.events.items ++ event.now ∷ []) }
     ensures known { OnOk result ((t : List Event) → MayCarry t event.now
-        → KnowsPast (get address_cmp tables.old.standings) (get seat_cmp tables.old.sent.lists) (get seat_cmp tables.old.delivered.lists) (get pair_cmp tables.old.last)
-        (get seat_cmp tables.old.entries) (get view_id_cmp tables.old.firsts) (get way_cmp tables.old.ways) t
-        → KnowsPast (get address_cmp tables.new.standings) (get seat_cmp tables.new.sent.lists) (get seat_cmp tables.new.delivered.lists) (get pair_cmp tables.new.last)
-        (get seat_cmp tables.new.entries) (get view_id_cmp tables.new.firsts) (get way_cmp tables.new.ways) (t ++ event.now ∷ [])) }
+        → KnowsPast (get address_cmp tables.old.standings) (get in_view_cmp tables.old.sent.lists) (get in_view_cmp tables.old.delivered.lists) (get pair_cmp tables.old.last)
+        (get in_view_cmp tables.old.entries) (get view_id_cmp tables.old.firsts) (get view_change_cmp tables.old.view_changes) t
+        → KnowsPast (get address_cmp tables.new.standings) (get in_view_cmp tables.new.sent.lists) (get in_view_cmp tables.new.delivered.lists) (get pair_cmp tables.new.last)
+        (get in_view_cmp tables.new.entries) (get view_id_cmp tables.new.firsts) (get view_change_cmp tables.new.view_changes) (t ++ event.now ∷ [])) }
 {
     standing::note_standing(&mut tables.standings, event)?;
     keep_message(
@@ -102,7 +102,7 @@ pub fn keep<'a>(alloc: Global, tables: &mut Tables<'a>, event: &'a Event) -> Res
     keep_install(
         &mut tables.entries,
         &mut tables.firsts,
-        &mut tables.ways,
+        &mut tables.view_changes,
         event,
     )?;
     tables.events.push(event)?;

@@ -13,19 +13,19 @@ use Rattle.world.proofs.World.catch_up.Goals as goal
 
 -- there are not those two
 pub returns-in_default-clause-plays : goal.returns-in_default-clause-plays
-returns-in_default-clause-plays g c = λ pair some. absurd (none-some pair (sym c.in_default.is ∙ (c.pair_at.ensures ∙ ap (λ (w : WorldValue _). pair_at (shown w).seats c.args.node) c.self.view_is) ∙ some))
+returns-in_default-clause-plays g c = λ pair some. absurd (none-some pair (sym c.in_default.is ∙ (c.pair_at.ensures ∙ ap (λ (w : WorldValue _). pair_at (shown w).node_states c.args.node) c.self.view_is) ∙ some))
 
 pub returns-in_default-clause-level : goal.returns-in_default-clause-level
-returns-in_default-clause-level g c = λ pair some. absurd (none-some pair (sym c.in_default.is ∙ (c.pair_at.ensures ∙ ap (λ (w : WorldValue _). pair_at (shown w).seats c.args.node) c.self.view_is) ∙ some))
+returns-in_default-clause-level g c = λ pair some. absurd (none-some pair (sym c.in_default.is ∙ (c.pair_at.ensures ∙ ap (λ (w : WorldValue _). pair_at (shown w).node_states c.args.node) c.self.view_is) ∙ some))
 
 -- it ended in an error
 pub returns-in-Err-clause-ends : goal.returns-in-Err-clause-ends
 returns-in-Err-clause-ends g c =
-    subst (λ (o : Option Pair). IsSomeAnd o (λ pair. EndsSo pair (shown c.bring_level.new.self))) (sym (sym (c.pair_at.ensures ∙ ap (λ (w : WorldValue _). pair_at (shown w).seats c.args.node) c.self.view_is) ∙ c.in-Some.is))
+    subst (λ (o : Option Pair). IsSomeAnd o (λ pair. EndsSo pair (shown c.bring_level.new.self))) (sym (sym (c.pair_at.ensures ∙ ap (λ (w : WorldValue _). pair_at (shown w).node_states c.args.node) c.self.view_is) ∙ c.in-Some.is))
     (ends g.R.Receiver.meaning (record { opens = g.met.R.Receiver.opens; applies = g.met.R.Receiver.applies; decodes = g.met.R.Receiver.decodes; reads_back = g.met.R.Receiver.reads_back }) (shown c.args.self.now) (shown c.bring_level.new.self) c.args.node c.in-Some.pair
-    (subst (λ (w : WorldValue _). IsWorld g.R.Receiver.meaning (shown w).seats w.history) c.self.view_is
+    (subst (λ (w : WorldValue _). IsWorld g.R.Receiver.meaning (shown w).node_states w.history) c.self.view_is
     (reached-keeps g.R.Receiver.meaning (record { opens = g.met.R.Receiver.opens; applies = g.met.R.Receiver.applies; decodes = g.met.R.Receiver.decodes; reads_back = g.met.R.Receiver.reads_back }) _ c.self.invariant))
-    (sym (c.pair_at.ensures ∙ ap (λ (w : WorldValue _). pair_at (shown w).seats c.args.node) c.self.view_is) ∙ c.in-Some.is) c.in-Err.ensures.err)
+    (sym (c.pair_at.ensures ∙ ap (λ (w : WorldValue _). pair_at (shown w).node_states c.args.node) c.self.view_is) ∙ c.in-Some.is) c.in-Err.ensures.err)
 
 pub returns-in-Err-clause-longer : goal.returns-in-Err-clause-longer
 returns-in-Err-clause-longer g c = stops-longer g.R.Receiver.meaning c.in-Some.pair (shown c.args.self.now) (shown c.bring_level.new.self) c.in-Err.ensures.err
@@ -33,11 +33,11 @@ returns-in-Err-clause-longer g c = stops-longer g.R.Receiver.meaning c.in-Some.p
 -- it is played
 pub returns-clause-level : goal.returns-clause-level
 returns-clause-level g c = λ pair some.
-    subst (λ (p : Pair). IsLevel p c.bring_level.new.self.history.trace) (same_Some c.in-Some.pair pair (sym (sym (c.pair_at.ensures ∙ ap (λ (w : WorldValue _). pair_at (shown w).seats c.args.node) c.self.view_is) ∙ c.in-Some.is) ∙ some))
+    subst (λ (p : Pair). IsLevel p c.bring_level.new.self.history.trace) (same_Some c.in-Some.pair pair (sym (sym (c.pair_at.ensures ∙ ap (λ (w : WorldValue _). pair_at (shown w).node_states c.args.node) c.self.view_is) ∙ c.in-Some.is) ∙ some))
     (levels g.R.Receiver.meaning (record { opens = g.met.R.Receiver.opens; applies = g.met.R.Receiver.applies; decodes = g.met.R.Receiver.decodes; reads_back = g.met.R.Receiver.reads_back }) (shown c.args.self.now) (shown c.bring_level.new.self) c.args.node c.in-Some.pair
-    (subst (λ (w : WorldValue _). IsWorld g.R.Receiver.meaning (shown w).seats w.history) c.self.view_is
+    (subst (λ (w : WorldValue _). IsWorld g.R.Receiver.meaning (shown w).node_states w.history) c.self.view_is
     (reached-keeps g.R.Receiver.meaning (record { opens = g.met.R.Receiver.opens; applies = g.met.R.Receiver.applies; decodes = g.met.R.Receiver.decodes; reads_back = g.met.R.Receiver.reads_back }) _ c.self.invariant))
-    (sym (c.pair_at.ensures ∙ ap (λ (w : WorldValue _). pair_at (shown w).seats c.args.node) c.self.view_is) ∙ c.in-Some.is) c.in_default-bring_level.ensures.ok)
+    (sym (c.pair_at.ensures ∙ ap (λ (w : WorldValue _). pair_at (shown w).node_states c.args.node) c.self.view_is) ∙ c.in-Some.is) c.in_default-bring_level.ensures.ok)
 
 pub returns-clause-longer : goal.returns-clause-longer
 returns-clause-longer g c = catches-longer g.R.Receiver.meaning c.in-Some.pair (shown c.args.self.now) (shown c.bring_level.new.self) c.in_default-bring_level.ensures.ok

@@ -1,6 +1,6 @@
 use Rattle.std.proofs.Common.{◌≡◌, ◌≤◌, ◌+◌, ◌++◌, map, length, vec_len, vec_capacity}
 use Rattle.std.specs.Vec.Iter.{into_iter_items}
-use Rattle.world.specs.Seats.{bytes_of}
+use Rattle.world.specs.NodeStates.{bytes_of}
 use Rattle.world.specs.Outputs.{AreAddressed}
 use Rattle.world.proofs.FactOfDestinations.{AreKept}
 use Rattle.world.proofs.pool.Pool.put_all.Given as goal

@@ -1,7 +1,7 @@
 use Rattle.std.proofs.Common.{refl}
 use Rattle.member.specs.declared.input.Input.TheVariants.{Send}
 use Rattle.world.proofs.FactOfNodes.{lent}
-use Rattle.world.proofs.seat.act.Goals as goal
+use Rattle.world.proofs.node_state.act.Goals as goal
 
 -- what the one function does that each event is passed on to; a member's events leave the pool to it
 pub returns-in-Start : goal.returns-in-Start
@@ -15,8 +15,8 @@ returns-in-Join g c = rw c.in-Join.is c.hand-in-Join.ensures
 
 pub returns-in-Send : goal.returns-in-Send
 returns-in-Send g c =
-    rw c.in-Send.is (lent g.R.Receiver.meaning Send c.as_slice.result _ c.args.seat.now c.args.trace.now.events c.args.pool.now c.hand-in-Send.new.pool
-    c.hand-in-Send.result c.hand-in-Send.new.seat c.hand-in-Send.new.trace.events c.as_slice.ensures c.hand-in-Send.ensures)
+    rw c.in-Send.is (lent g.R.Receiver.meaning Send c.as_slice.result _ c.args.node_state.now c.args.trace.now.events c.args.pool.now c.hand-in-Send.new.pool
+    c.hand-in-Send.result c.hand-in-Send.new.node_state c.hand-in-Send.new.trace.events c.as_slice.ensures c.hand-in-Send.ensures)
 
 pub returns-in-Tick : goal.returns-in-Tick
 returns-in-Tick g c = rw c.in-Tick.is c.hand-in-Tick.ensures

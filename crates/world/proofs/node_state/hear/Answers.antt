@@ -2,7 +2,7 @@ use Rattle.std.proofs.Common.{refl, sym, ap, ◌∙◌}
 use Rattle.std.specs.Option.{option_copied}
 use Rattle.std.proofs.lemmas.Option.{same_Some}
 use Rattle.world.proofs.FactOfNodes.{fits, heard, handed-here}
-use Rattle.world.proofs.seat.hear.Goals as goal
+use Rattle.world.proofs.node_state.hear.Goals as goal
 
 pub settle-requires-clause-fits : goal.settle-requires-clause-fits
 settle-requires-clause-fits g c = fits g.R.Receiver.meaning _ _ _ _ c.handled-called.ensures

@@ -18,8 +18,8 @@ use Rattle.output.specs.declared.output.Outgoing.{Outgoing}
 use Rattle.member.specs.Members.{core_of}
 use Rattle.world_model.specs.declared.Answer.{Answer}
 use Rattle.world_model.specs.declared.Answer.TheVariants.{Done, Sent, Refused}
-use Rattle.world.specs.declared.seat.Seat.{Seat}
-use Rattle.world.specs.declared.seat.Seat.TheVariants.{Vacant, Ended, Running}
+use Rattle.world.specs.declared.node_state.NodeState.{NodeState}
+use Rattle.world.specs.declared.node_state.NodeState.TheVariants.{Vacant, Ended, Running}
 
 -- ---- answers
 
@@ -42,14 +42,14 @@ answer_to (Crashed p ∷ rest) = Done
 -- ---- nodes
 
 -- what stands at a node: nothing where the node is not kept
-abbrev pub seat_at : {S : Type 0} → Option (Seat S) → Seat S
-seat_at o = unwrap_or o Vacant
+abbrev pub node_state_at : {S : Type 0} → Option (NodeState S) → NodeState S
+node_state_at o = unwrap_or o Vacant
 
-abbrev pub seats_in : {S : Type 0} → (ℕ → Option (Seat S)) → ℕ → Seat S
-seats_in at n = seat_at (at n)
+abbrev pub node_states_in : {S : Type 0} → (ℕ → Option (NodeState S)) → ℕ → NodeState S
+node_states_in at n = node_state_at (at n)
 
 -- the core of the member that runs at a node, if it has this address
-abbrev pub core_here : {S : Type 0} → Address → Seat S → Option (Core S)
+abbrev pub core_here : {S : Type 0} → Address → NodeState S → Option (Core S)
 core_here p Vacant = None
 core_here p (Ended q) = None
 core_here p (Running m) = if same_address p m.address then core_of m else None
@@ -73,5 +73,5 @@ posts_in pool = filter_map read_as pool
 -- ---- both
 
 -- the system of agreement: the members at these nodes, the packets that the pool's bytes spell, what happened
-abbrev pub system_of : {S : Type 0} → (ℕ → Seat S) → List (List ℕ) → List Event → System S
+abbrev pub system_of : {S : Type 0} → (ℕ → NodeState S) → List (List ℕ) → List Event → System S
 system_of at pool t = record { running = λ p. core_here p (at p.node); history = record { pool = posts_in pool; trace = t } }

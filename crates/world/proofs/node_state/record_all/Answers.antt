@@ -1,6 +1,6 @@
 use Rattle.std.specs.Vec.Iter.{into_iter_items}
 use Rattle.world.proofs.FactOfRecorded.{recorded-on, room-on, short-on}
-use Rattle.world.proofs.seat.record_all.Goals as goal
+use Rattle.world.proofs.node_state.record_all.Goals as goal
 
 pub loop-event-preserved : goal.loop-event-preserved
 loop-event-preserved c = record {

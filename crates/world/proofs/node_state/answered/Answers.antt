@@ -1,5 +1,5 @@
 use Rattle.std.proofs.Common.{rules}
-use Rattle.world.proofs.seat.answered.Goals as goal
+use Rattle.world.proofs.node_state.answered.Goals as goal
 
 pub returns-in-Some-Sent : goal.returns-in-Some-Sent
 returns-in-Some-Sent c = search rules

@@ -11,8 +11,8 @@ ghost use Rattle.member.specs.Members.{MemberModel, leaves};
 ghost use Rattle.world_model.specs.declared.Answer.TheVariants.{Refused};
 ghost use Rattle.limits.specs.declared.refusal.Refusal.TheVariants.{Memory};
 ghost use Rattle.world_model.specs.Packets.{packet_numbered};
-ghost use Rattle.world.specs.declared.seat.Seat.TheVariants.{Ended, Running};
-ghost use Rattle.world.specs.Seats.{answer_for, answer_to};
+ghost use Rattle.world.specs.declared.node_state.NodeState.TheVariants.{Ended, Running};
+ghost use Rattle.world.specs.NodeStates.{answer_for, answer_to};
 ghost use Rattle.world.specs.Outputs.{Fits};
 ghost use Rattle.world.specs.Turns.{about, Hands, Gives, Begins, StartGives, CrashGives, Acts, Hears};
 
@@ -29,7 +29,7 @@ use world_model::{Answer, WorldEvent};
 
 /// What runs at a node.
 #[derive(Drop)]
-pub enum Seat<R: Receiver> {
+pub enum NodeState<R: Receiver> {
     Vacant,
     Ended(Address),
     Running(Member<R>),
@@ -91,20 +91,20 @@ fn leaves(input: &Input<'_>) -> bool
 }
 
 /// Nothing runs at a node any more.
-fn end<R: Receiver>(seat: &mut Seat<R>, last: Address)
-    ensures { seat.new ≡ Ended last }
+fn end<R: Receiver>(node_state: &mut NodeState<R>, last: Address)
+    ensures { node_state.new ≡ Ended last }
 {
-    *seat = Seat::Ended(last);
+    *node_state = NodeState::Ended(last);
 }
 
 /// Its member has crashed, since memory was refused.
-fn lose<R: Receiver>(seat: &mut Seat<R>, trace: &mut Trace, address: Address) -> Answer
+fn lose<R: Receiver>(node_state: &mut NodeState<R>, trace: &mut Trace, address: Address) -> Answer
     requires room { 1 ≤ trace.old.room }
     ensures answer { result ≡ Refused Memory }
-    ensures seat { seat.new ≡ Ended address }
+    ensures node_state { node_state.new ≡ Ended address }
     ensures trace { trace.new.events ≡ trace.old.events ++ Crashed address ∷ [] }
 {
-    end(seat, address);
+    end(node_state, address);
     trace.record(Event::Crashed(address));
     Answer::Refused(Refusal::Memory)
 }
@@ -112,7 +112,7 @@ fn lose<R: Receiver>(seat: &mut Seat<R>, trace: &mut Trace, address: Address) ->
 /// What a call of the member at a node answered: what it puts out joins the pool, what happened joins the trace, and the member runs on or has left. Where memory
 /// was refused it has crashed, and with 6 it has ended.
 fn settle<R: Receiver>(
-    seat: &mut Seat<R>,
+    node_state: &mut NodeState<R>,
     trace: &mut Trace,
     pool: &mut Pool,
     address: Address,
@@ -121,24 +121,24 @@ fn settle<R: Receiver>(
 ) -> Answer
     requires room { STEP_EVENTS ≤ trace.old.room }
     requires fits { IfOk called Fits }
-    ensures { (input : Input) (m left : MemberModel R) → leaves input ≡ leaving → seat.old ≡ Running left → Gives address input called left (about (Running m) trace.old.events pool.old) result (about seat.new trace.new.events pool.new) }
+    ensures { (input : Input) (m left : MemberModel R) → leaves input ≡ leaving → node_state.old ≡ Running left → Gives address input called left (about (Running m) trace.old.events pool.old) result (about node_state.new trace.new.events pool.new) }
 {
     match called {
         Ok(Output { packets, events }) => {
             if pool.put_all(packets).is_err() {
-                return lose(seat, trace, address);
+                return lose(node_state, trace, address);
             }
             let answer = answered(&events);
             record_all(trace, events);
             if leaving {
-                end(seat, address);
+                end(node_state, address);
             }
             answer
         }
-        Err(Error::Refused(Refusal::Memory)) => lose(seat, trace, address),
+        Err(Error::Refused(Refusal::Memory)) => lose(node_state, trace, address),
         // It was to enter a view with a state that cannot be read, which no packet of a world says.
         Err(Error::Refused(Refusal::Closed)) => {
-            end(seat, address);
+            end(node_state, address);
             Answer::Refused(Refusal::Closed)
         }
         Err(error) => refused(error),
@@ -148,75 +148,80 @@ fn settle<R: Receiver>(
 /// Hands an input to the member at a node: refused with 1 where none ever ran there, with 6 where it has ended, and else as the member
 /// refuses; with 6 it has ended. Where memory is refused the member has crashed.
 fn hand<R: Receiver>(
-    seat: &mut Seat<R>,
+    node_state: &mut NodeState<R>,
     trace: &mut Trace,
     pool: &mut Pool,
     input: &Input<'_>,
 ) -> Answer
     requires room { STEP_EVENTS ≤ trace.old.room }
-    ensures { Hands R.meaning input.now (about seat.old trace.old.events pool.old) result (about seat.new trace.new.events pool.new) }
+    ensures { Hands R.meaning input.now (about node_state.old trace.old.events pool.old) result (about node_state.new trace.new.events pool.new) }
 {
-    match seat {
-        Seat::Vacant => Answer::Refused(Refusal::NotConnected),
-        Seat::Ended(_) => Answer::Refused(Refusal::Closed),
-        Seat::Running(member) => {
+    match node_state {
+        NodeState::Vacant => Answer::Refused(Refusal::NotConnected),
+        NodeState::Ended(_) => Answer::Refused(Refusal::Closed),
+        NodeState::Running(member) => {
             let address = member.address();
             let called = handled(member, input);
-            settle(seat, trace, pool, address, leaves(input), called)
+            settle(node_state, trace, pool, address, leaves(input), called)
         }
     }
 }
 
 /// Starts the node's next incarnation. Refused with 5 where a member runs, and with 8 after the last incarnation; with 7 where
 /// memory is refused: then the member has started and crashed.
-fn start<R: Receiver>(alloc: Global, seat: &mut Seat<R>, trace: &mut Trace, node: Node) -> Answer
+fn start<R: Receiver>(
+    alloc: Global,
+    node_state: &mut NodeState<R>,
+    trace: &mut Trace,
+    node: Node,
+) -> Answer
     requires room { 2 ≤ trace.old.room }
-    ensures { StartGives R.meaning node seat.old trace.old.events result seat.new trace.new.events }
+    ensures { StartGives R.meaning node node_state.old trace.old.events result node_state.new trace.new.events }
 {
-    let next = match seat {
-        Seat::Running(_) => return Answer::Refused(Refusal::AlreadyConnected),
-        Seat::Vacant => Address::first_at(node),
-        Seat::Ended(last) => {
+    let next = match node_state {
+        NodeState::Running(_) => return Answer::Refused(Refusal::AlreadyConnected),
+        NodeState::Vacant => Address::first_at(node),
+        NodeState::Ended(last) => {
             let Some(next) = last.next_incarnation() else {
                 return Answer::Refused(Refusal::Exhausted);
             };
             next
         }
     };
-    started(alloc, seat, trace, next)
+    started(alloc, node_state, trace, next)
 }
 
 fn started<R: Receiver>(
     alloc: Global,
-    seat: &mut Seat<R>,
+    node_state: &mut NodeState<R>,
     trace: &mut Trace,
     address: Address,
 ) -> Answer
     requires room { 2 ≤ trace.old.room }
-    ensures { Begins R.meaning address trace.old.events result seat.new trace.new.events }
+    ensures { Begins R.meaning address trace.old.events result node_state.new trace.new.events }
 {
     trace.record(Event::Started(address));
     match R::opening(alloc) {
         Ok(receiver) => {
             let group = GroupName::new(b"world").unwrap();
-            *seat = Seat::Running(Member::new(alloc, address, group, receiver));
+            *node_state = NodeState::Running(Member::new(alloc, address, group, receiver));
             Answer::Done
         }
-        Err(_) => lose(seat, trace, address),
+        Err(_) => lose(node_state, trace, address),
     }
 }
 
 /// The member of the node crashes: refused with 1 and 6.
-fn crash<R: Receiver>(seat: &mut Seat<R>, trace: &mut Trace) -> Answer
+fn crash<R: Receiver>(node_state: &mut NodeState<R>, trace: &mut Trace) -> Answer
     requires room { 1 ≤ trace.old.room }
-    ensures { CrashGives seat.old trace.old.events result seat.new trace.new.events }
+    ensures { CrashGives node_state.old trace.old.events result node_state.new trace.new.events }
 {
-    match seat {
-        Seat::Vacant => Answer::Refused(Refusal::NotConnected),
-        Seat::Ended(_) => Answer::Refused(Refusal::Closed),
-        Seat::Running(member) => {
+    match node_state {
+        NodeState::Vacant => Answer::Refused(Refusal::NotConnected),
+        NodeState::Ended(_) => Answer::Refused(Refusal::Closed),
+        NodeState::Running(member) => {
             let address = member.address();
-            end(seat, address);
+            end(node_state, address);
             trace.record(Event::Crashed(address));
             Answer::Done
         }
@@ -226,23 +231,23 @@ fn crash<R: Receiver>(seat: &mut Seat<R>, trace: &mut Trace) -> Answer
 /// Hands the packet of a number to the member that runs here, if one does: the bytes as they lie in the pool, to which what the member puts out is
 /// added afterwards. Where memory is refused the member has crashed.
 pub fn hear<R: Receiver>(
-    seat: &mut Seat<R>,
+    node_state: &mut NodeState<R>,
     trace: &mut Trace,
     pool: &mut Pool,
     number: u64,
 ) -> Answer
     requires room { STEP_EVENTS ≤ trace.old.room }
-    ensures { (bytes : List ℕ) → packet_numbered number pool.old ≡ Some bytes → Hears R.meaning bytes (about seat.old trace.old.events pool.old) result (about seat.new trace.new.events pool.new) }
+    ensures { (bytes : List ℕ) → packet_numbered number pool.old ≡ Some bytes → Hears R.meaning bytes (about node_state.old trace.old.events pool.old) result (about node_state.new trace.new.events pool.new) }
 {
-    match seat {
-        Seat::Vacant | Seat::Ended(_) => Answer::Done,
-        Seat::Running(member) => {
+    match node_state {
+        NodeState::Vacant | NodeState::Ended(_) => Answer::Done,
+        NodeState::Running(member) => {
             let address = member.address();
             let Some(bytes) = pool.packet(number) else {
                 return Answer::Done;
             };
             let called = handled(member, &Input::Datagram(bytes));
-            settle(seat, trace, pool, address, false, called)
+            settle(node_state, trace, pool, address, false, called)
         }
     }
 }
@@ -250,24 +255,34 @@ pub fn hear<R: Receiver>(
 /// Carries out an event at its node. A delivery has none, and does nothing here.
 pub fn act<R: Receiver>(
     alloc: Global,
-    seat: &mut Seat<R>,
+    node_state: &mut NodeState<R>,
     trace: &mut Trace,
     pool: &mut Pool,
     event: &WorldEvent,
 ) -> Answer
     requires room { STEP_EVENTS ≤ trace.old.room }
-    ensures { Acts R.meaning event.now (about seat.old trace.old.events pool.old) result (about seat.new trace.new.events pool.new) }
+    ensures { Acts R.meaning event.now (about node_state.old trace.old.events pool.old) result (about node_state.new trace.new.events pool.new) }
 {
     match event {
-        WorldEvent::Start(node) => start(alloc, seat, trace, *node),
-        WorldEvent::Create(_) => hand(seat, trace, pool, &Input::Create),
-        WorldEvent::Join(_, contact) => hand(seat, trace, pool, &Input::Join(*contact)),
-        WorldEvent::Send(_, payload) => hand(seat, trace, pool, &Input::Send(payload.as_slice())),
+        WorldEvent::Start(node) => start(alloc, node_state, trace, *node),
+        WorldEvent::Create(_) => hand(node_state, trace, pool, &Input::Create),
+        WorldEvent::Join(_, contact) => hand(node_state, trace, pool, &Input::Join(*contact)),
+        WorldEvent::Send(_, payload) => hand(
+            node_state,
+            trace,
+            pool,
+            &Input::Send(payload.as_slice()),
+        ),
         WorldEvent::Deliver(_) => Answer::Done,
-        WorldEvent::Tick(_) => hand(seat, trace, pool, &Input::Tick),
-        WorldEvent::Suspect(_, address) => hand(seat, trace, pool, &Input::Suspect(*address)),
-        WorldEvent::MergeHint(_, address) => hand(seat, trace, pool, &Input::MergeHint(*address)),
-        WorldEvent::Leave(_) => hand(seat, trace, pool, &Input::Leave),
-        WorldEvent::Crash(_) => crash(seat, trace),
+        WorldEvent::Tick(_) => hand(node_state, trace, pool, &Input::Tick),
+        WorldEvent::Suspect(_, address) => hand(node_state, trace, pool, &Input::Suspect(*address)),
+        WorldEvent::MergeHint(_, address) => hand(
+            node_state,
+            trace,
+            pool,
+            &Input::MergeHint(*address),
+        ),
+        WorldEvent::Leave(_) => hand(node_state, trace, pool, &Input::Leave),
+        WorldEvent::Crash(_) => crash(node_state, trace),
     }
 }

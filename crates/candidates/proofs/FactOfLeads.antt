@@ -60,20 +60,20 @@ same-true a b e =
 
 first-by : (b : Bool) (s : List Address) (p m : Address) (members more : List Address) → same_address p m ≡ b → leads s (m ∷ members) p ≡ true → stands_in p s ≡ false
     → (leads s members p ≡ true → begins_with p (fold (with_one s) [] (members ++ more)) ≡ true) → begins_with p (fold (with_one s) (with_one s [] m) (members ++ more)) ≡ true
-first-by true s p m members more q leader free later =
+first-by true s p m members more q it_leads free later =
     let out : stands_in m s ≡ false = subst (λ a. stands_in a s ≡ false) (same-true p m q) free in
     let here : with_one s [] m ≡ m ∷ [] = rw (out) refl in
     subst (λ (l : List Address). begins_with p (fold (with_one s) l (members ++ more)) ≡ true) (sym here) (first-fold s p (m ∷ []) (members ++ more) q)
-first-by false s p m members more q leader free later =
-    let behind = leads-behind s m p members q leader in
+first-by false s p m members more q it_leads free later =
+    let behind = leads-behind s m p members q it_leads in
     let here : with_one s [] m ≡ [] = rw (behind.0) refl in
     subst (λ (l : List Address). begins_with p (fold (with_one s) l (members ++ more)) ≡ true) (sym here) (later behind.1)
 
--- of those who are not suspected the leader is the first
+-- of those who are not suspected the one that leads is the first
 first-unsuspected : (s : List Address) (p : Address) (members more : List Address) → leads s members p ≡ true → stands_in p s ≡ false → begins_with p (unsuspected s (members ++ more)) ≡ true
-first-unsuspected s p [] more leader free = absurd (let n : false ≡ true = leader in cc)
-first-unsuspected s p (m ∷ members) more leader free =
-    first-by (same_address p m) s p m members more refl leader free (λ l. first-unsuspected s p members more l free)
+first-unsuspected s p [] more it_leads free = absurd (let n : false ≡ true = it_leads in cc)
+first-unsuspected s p (m ∷ members) more it_leads free =
+    first-by (same_address p m) s p m members more refl it_leads free (λ l. first-unsuspected s p members more l free)
 
 first-filter-by : (b : Bool) (t : Address → Bool) (p x : Address) (xs : List Address) → t x ≡ b → b ≡ true → same_address p x ≡ true
     → begins_with p (cond b (x ∷ filter t xs) (filter t xs)) ≡ true
@@ -101,12 +101,12 @@ view-by id (x ∷ list) first once few =
     rw (some, short, once, first) refl
 
 pub candidates-are-a-view : CandidatesAreAView
-candidates-are-a-view id members b leader free =
+candidates-are-a-view id members b it_leads free =
     let list = unsuspected b.suspects (members ++ b.joiners ++ b.merging) in
     let all = all_candidates id.creator members b in
     let first : begins_with id.creator list ≡ true =
     subst (λ l. begins_with id.creator (unsuspected b.suspects l) ≡ true) (sym (append_assoc members b.joiners b.merging))
-    (first-unsuspected b.suspects id.creator members (b.joiners ++ b.merging) leader free) in
+    (first-unsuspected b.suspects id.creator members (b.joiners ++ b.merging) it_leads free) in
     view-by id (take MEMBERS all)
     (first-take 15 id.creator all (first-current id.creator list list first))
     (distinct-take MEMBERS all (distinct-filter (is_current id.creator list) list (distinct-unsuspected b.suspects (members ++ b.joiners ++ b.merging))))

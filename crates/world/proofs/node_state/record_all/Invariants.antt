@@ -1,7 +1,7 @@
 use Rattle.std.proofs.Common.{◌≡◌, ◌≤◌, ◌++◌, length}
 use Rattle.std.specs.Vec.Iter.{into_iter_items}
 use Rattle.trace_props.specs.Recorded.{IsRecordable}
-use Rattle.world.proofs.seat.record_all.Given as goal
+use Rattle.world.proofs.node_state.record_all.Given as goal
 
 -- what happened so far is recorded, and there is room for the rest
 abbrev pub invariant-loop-event : goal.invariant-loop-event
