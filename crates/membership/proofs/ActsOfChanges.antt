@@ -312,7 +312,7 @@ module _ {S : Type 0} (meaning : Meaning S) (group : List ℕ) (me : Address) wh
         happened = _;
         grows = z.grows;
         acted = subst (λ (k : Core S). Acted meaning came (Some c) [] (enter_events me old.traffic i) (Some k)) (sym core)
-            (entered-by old.traffic came old i (enters-acted meaning came c q i same_packets enters reads));
+            (entered-by old.traffic came old i (enters-acted meaning came c q i came_so enters reads));
       }
 
   pub takes-install-did : (came : Option Posted) (old new : Life S) (q : Address) (i : wire.Install) (out later : Output) → IsLife group me old → TakesInstall meaning group me q i old new out later
