@@ -146,6 +146,10 @@ module _ {S : Type 0} (meaning : Meaning S) (h : History) (n : ℕ) (m : MemberM
   send-prompt (error.Refused r) payload = tt
   send-prompt (error.Wire e) payload = tt
 
+  send-free : (b : Bor (List ℕ)) (o : Option Refusal) → option_map error.Refused o ≡ None → o ≡ None
+  send-free b None e = refl
+  send-free b (Some r) e = absurd (none-some (error.Refused r) (sym e))
+
   send-taken : (b : Bor (List ℕ)) (out : Output) (left : MemberModel S) → Handled meaning m (input.Send b) (Ok out) left → refusal_in c (input.Send b) ≡ None
       → EachOwn m.address out.events.items → TakesSo (Send n b.now) (input.Send b) (answer_to out.events.items) out.events.items left
   send-taken b out left handled free own =
@@ -171,16 +175,12 @@ module _ {S : Type 0} (meaning : Meaning S) (h : History) (n : ℕ) (m : MemberM
   send-not : (b : Bor (List ℕ)) (err : Error) → refusal_in c (input.Send b) ≡ Some err → RefusesSo (Send n b.now) (answer_for err)
   send-not b err refused = send-not-for b err (send_refusal c b.now) refl refused
 
-  send-free : (b : Bor (List ℕ)) (o : Option Refusal) → option_map error.Refused o ≡ None → o ≡ None
-  send-free b None e = refl
-  send-free b (Some r) e = absurd (none-some (error.Refused r) (sym e))
-
   pub send-table : (b : Bor (List ℕ)) → Tabled (Send n b.now) (input.Send b)
   send-table b = record {
     elsewhere = λ a k o. connects_after-other k (is_connected k h) (Send n b.now) a o;
     comes = nothing-comes (posts_in h.pool) c;
     lost = λ free. FactOfMembers.at-member meaning h n m c x (Refused Memory) (Crashed m.address ∷ []) (λ p. AnswersSend b.now p h (Refused Memory) (Crashed m.address ∷ []))
-        (FactOfPromptSend.send-lost meaning h n m c x b.now free);
+        (FactOfPromptSend.send-lost meaning h n m c x b.now (send-free b (send_refusal c b.now) free));
     not = λ err refused. send-not b err refused;
     taken = λ out left handled free own. send-taken b out left handled free own;
   }
