@@ -1,0 +1,4 @@
+mod FactOfQueues
+mod FactOfSteps
+mod FactOfConnects
+mod KeepAddress
