@@ -1,4 +1,3 @@
 mod FactOfQueues
 mod FactOfSteps
 mod FactOfConnects
-mod KeepAddress
