@@ -1,10 +1,10 @@
 use crate::silence::Silence;
-use crate::{Fault, Net};
 use address::{Address, ViewId};
 use channel::{Channel, Error};
 use limits::{DATAGRAM, Refusal};
 use state_transfer::Receiver;
 use std::alloc::{AllocError, Global};
+use udp_net::{Fault, Net};
 use view::View;
 use wire::{Body, decode};
 

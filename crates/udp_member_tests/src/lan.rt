@@ -6,7 +6,8 @@ use chat_log::ChatLog;
 use state_transfer::Receiver;
 use std::alloc::{AllocError, Global};
 use trace_props::Bytes;
-use udp_member::{Error, MemoryNet, Runner};
+use udp_member::{Error, Runner};
+use udp_net::MemoryNet;
 
 /// A member over a net in memory.
 pub(crate) type Member = Runner<MemoryNet, ChatLog>;

@@ -5,7 +5,8 @@ use channel::Channel;
 use chat_log::ChatLog;
 use state_transfer::Receiver;
 use std::alloc::{AllocError, Global};
-use udp_member::{MemoryNet, Runner};
+use udp_member::Runner;
+use udp_net::MemoryNet;
 
 #[test]
 fn four_come_into_one_view(rt: HostRuntime) {

@@ -5,7 +5,8 @@ use channel::Channel;
 use chat_log::ChatLog;
 use state_transfer::Receiver;
 use std::alloc::{AllocError, Global};
-use udp_member::{BindError, Runner, Settings, SocketNet, settings};
+use udp_member::Runner;
+use udp_net::{BindError, Settings, SocketNet, settings};
 
 /// A member over a socket.
 type Member = Runner<SocketNet, ChatLog>;

@@ -2,7 +2,7 @@
 
 use address::Node;
 use std::alloc::{AllocError, Global};
-use udp_member::settings;
+use udp_net::settings;
 
 const TWO: &str =
     "group = \"chat\"\nsilent = 50\n[[node]]\nnumber = 1\nport = 47001\n[[node]]\nnumber = 2\nport = 47002\n";

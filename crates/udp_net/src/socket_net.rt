@@ -44,6 +44,12 @@ impl SocketNet {
 }
 
 impl Net for SocketNet {
+    ghost use Rattle.std.specs.Prelude.{None};
+
+    ghost log = { λ _. None };
+
+    ghost failed = { λ n. n.failures };
+
     /// Sends it to the node's port; one for a node that the settings do not list is lost.
     fn send(&mut self, node: Node, bytes: &[u8]) {
         if let Some(port) = port_in(self.nodes.as_slice(), node) {
