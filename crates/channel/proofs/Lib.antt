@@ -1,0 +1,3 @@
+mod FactOfQueues
+mod FactOfSteps
+mod FactOfConnects

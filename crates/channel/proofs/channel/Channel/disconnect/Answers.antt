@@ -1,0 +1,5 @@
+use Rattle.channel.proofs.FactOfSteps.{has-left}
+use Rattle.channel.proofs.channel.Channel.disconnect.Goals as goal
+
+pub returns-clause-ended : goal.returns-clause-ended
+returns-clause-ended g c = has-left g.R.Receiver.meaning _ _ c.in_ok-call.ensures.calls

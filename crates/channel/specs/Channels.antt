@@ -1,0 +1,70 @@
+-- A channel as contracts see it.
+use Rattle.std.specs.Prelude.{◌≡◌, ℕ, Bool, false, is_some, List, Option, None, Some, IfSome, if◌then◌else◌}
+use Rattle.std.specs.Option.{option_map, option_map_or, option_and_then}
+use Rattle.address.specs.Ids.{Address}
+use Rattle.view.specs.Members.{View}
+use Rattle.trace_props.specs.declared.event.Event.{Event}
+use Rattle.agreement.specs.Cores.{Core, is_frozen}
+use Rattle.output.specs.declared.output.Outgoing.{Outgoing}
+use Rattle.output.specs.Names.{same_name}
+use Rattle.member.specs.declared.error.Error.{Error}
+use Rattle.member.specs.Members.{MemberModel, core_of}
+use Rattle.channel.specs.declared.stage.Stage.{Stage}
+use Rattle.channel.specs.declared.stage.Stage.TheVariants.{Apart, Connected, Ended}
+use Rattle.channel.specs.Errors.{is_end}
+use Rattle.channel.specs.Sources.{source_of}
+
+-- its address; what it is: apart, with its receiver's state, or a member, or ended; the packets and the events that wait
+pub record ChannelModel (S : Type 0) : Type 0 where
+  pub address : Address
+  pub stage : Stage S
+  pub outgoing : List Outgoing
+  pub happened : List Event
+
+-- what is left by a refused call: after 6 and 7 it has ended, and after any other nothing has changed
+abbrev pub left_by : {S : Type 0} → Error → ChannelModel S → ChannelModel S
+left_by e c = if is_end e then record c { stage = Ended } else c
+
+-- where a call leaves its member: one that has ended is let go
+abbrev pub stage_of : {S : Type 0} → MemberModel S → Stage S
+stage_of m = if is_some m.life then Connected m else Ended
+
+-- its member, while that runs
+abbrev pub member_in : {S : Type 0} → Stage S → Option (MemberModel S)
+member_in (Apart s) = None
+member_in (Connected m) = Some m
+member_in Ended = None
+
+-- where its member runs, that is the member of this address
+abbrev pub RunsAt : {S : Type 0} → Address → Stage S → Type 0
+RunsAt p stage = IfSome (member_in stage) (λ m. m.address ≡ p)
+
+-- ---- what is asked of a channel
+
+-- what its member decides by
+abbrev pub core_in : {S : Type 0} → Stage S → Option (Core S)
+core_in stage = option_and_then core_of (member_in stage)
+
+abbrev pub view_in : {S : Type 0} → Stage S → Option View
+view_in stage = option_and_then (λ c. c.view) (core_in stage)
+
+abbrev pub is_blocked : {S : Type 0} → Stage S → Bool
+is_blocked stage = option_map_or (λ c. is_frozen c.view c.installed) (core_in stage) false
+
+-- its receiver's state, before a connect and while its member runs
+abbrev pub receiver_in : {S : Type 0} → Stage S → Option S
+receiver_in (Apart s) = Some s
+receiver_in (Connected m) = option_map (λ c. c.state) (core_of m)
+receiver_in Ended = None
+
+-- the name that it is connected by
+abbrev pub group_in : {S : Type 0} → Stage S → Option (List ℕ)
+group_in stage = option_map (λ m. m.group) (member_in stage)
+
+-- whether it is connected under a name
+abbrev pub is_in : {S : Type 0} → List ℕ → Stage S → Bool
+is_in name stage = option_map_or (same_name name) (group_in stage) false
+
+-- from whom a datagram came that is for it: of the group that it is connected to, to its address, and from another
+abbrev pub source_at : {S : Type 0} → List ℕ → ChannelModel S → Option Address
+source_at bytes c = option_and_then (λ group. source_of c.address group bytes) (group_in c.stage)

@@ -1,0 +1,6 @@
+pub mod Errors
+pub mod Sources
+pub mod Queues
+pub mod Channels
+pub mod Calls
+pub mod Stages

@@ -1,0 +1,16 @@
+-- From whom a packet came that is for a member.
+use Rattle.std.specs.Prelude.{ℕ, List, Option, None, Some, Result, Ok, Err, if◌then◌else◌}
+use Rattle.address.specs.Ids.{Address}
+use Rattle.wire.specs.declared.error.WireError.{WireError}
+use Rattle.wire.specs.declared.packet.Packet.{Packet}
+use Rattle.wire.specs.Packets.{packet_of}
+use Rattle.output.specs.Outputs.{is_for}
+
+-- its source, where it is of this group, to this address, and from another
+abbrev pub source_in : Address → List ℕ → Result Packet WireError → Option Address
+source_in p group (Ok packet) = if is_for p group packet then Some packet.source else None
+source_in p group (Err e) = None
+
+-- the same of the bytes of a datagram
+abbrev pub source_of : Address → List ℕ → List ℕ → Option Address
+source_of p group bytes = source_in p group (packet_of bytes)

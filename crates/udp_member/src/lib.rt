@@ -1,0 +1,8 @@
+//! A member over datagrams: a runner drives a channel over a net, and hands in as suspected whom it does not hear any more (docs/PROTOCOL.md, "Silence").
+#![tactic(auto)]
+
+mod runner;
+mod silence;
+
+pub use channel::Error;
+pub use runner::{RECEIVES, Runner};

@@ -1,0 +1,30 @@
+ghost use Rattle.std.specs.Prelude.{◌≡◌, ◌≤◌, ℕ, Option, length, IfOk, IfSome};
+ghost use Rattle.udp_net.specs.Logs.{Log, Lists, offering, Receives, failures_after};
+
+use crate::Fault;
+use address::Node;
+
+/// What carries datagrams between nodes: each may be lost, repeated, late, or come out of order (docs/PROTOCOL.md, "Members over datagrams").
+pub trait Net: Drop {
+    /// What it lists of itself: what it gave and was offered since it was made; none, where it lists nothing, as a socket does, or does so no longer.
+    ghost log: { Self → Option Log };
+
+    /// How many receives failed, at most 2^64 - 1.
+    ghost failed: { Self → ℕ };
+
+    /// Offers a datagram for a node. Where it cannot be sent, it is lost.
+    fn send(&mut self, node: Node, bytes: &[u8])
+        ensures lists { Lists (log self.old) (offering node bytes.now) (log self.new) }
+        ensures failed { failed self.new ≡ failed self.old };
+
+    /// Takes the next datagram that came, into the front of the buffer, and answers its length; `None` where none waits. Of one that is longer than the buffer
+    /// the rest is lost.
+    fn receive(&mut self, buffer: &mut [u8]) -> Result<Option<usize>, Fault>
+        ensures within { IfOk result (λ count. IfSome count (λ n. n ≤ length buffer.new)) }
+        ensures lists { Receives (log self.old) result buffer.new (log self.new) }
+        ensures failed { failed self.new ≡ failures_after (failed self.old) result };
+
+    /// How many receives failed, at most 2^64 - 1.
+    fn failures(&self) -> u64
+        ensures { result ≡ failed self.now };
+}

@@ -1,0 +1,59 @@
+use address::Node;
+use output::KeptName;
+use wire::GroupName;
+
+/// The most nodes that settings list.
+pub const MOST_NODES: usize = 16;
+
+/// The most rounds without a packet that settings can let pass before a suspicion.
+pub const MOST_SILENT: u16 = 10_000;
+
+/// A node and its port at 127.0.0.1.
+#[derive(Clone, Copy, Debug, PartialEq, Eq)]
+pub struct NodePort {
+    /// The node.
+    pub node: Node,
+    /// Its port, 1 to 65535.
+    pub port: u16,
+}
+
+/// What all nodes of a group agree on before they run: the group's name, after how many rounds of silence a member is suspected, and at which ports the nodes
+/// are.
+#[derive(Drop)]
+pub struct Settings {
+    pub(crate) group: KeptName,
+    pub(crate) silent: u16,
+    pub(crate) nodes: Vec<NodePort>,
+}
+
+impl Settings {
+    /// The name of the group.
+    pub fn group(&self) -> GroupName<'_> {
+        self.group.lent()
+    }
+
+    /// After how many rounds without a packet an address is suspected, 1 to 10,000.
+    pub fn silent(&self) -> u16 {
+        self.silent
+    }
+
+    /// The nodes and their ports, 1 to 16 of them, in the order of the text. No two have the same number or the same port.
+    pub fn nodes(&self) -> &[NodePort] {
+        self.nodes.as_slice()
+    }
+
+    /// The port of a node; `None` for one that is not listed.
+    pub fn port(&self, node: Node) -> Option<u16> {
+        port_in(self.nodes.as_slice(), node)
+    }
+}
+
+// The port of a node of a list.
+pub(crate) fn port_in(nodes: &[NodePort], node: Node) -> Option<u16> {
+    for listed in nodes {
+        if listed.node == node {
+            return Some(listed.port);
+        }
+    }
+    None
+}
