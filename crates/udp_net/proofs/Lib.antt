@@ -1,1 +1,2 @@
 pub mod KeepLog
+pub mod FactOfTables

@@ -1,5 +1,12 @@
 //! Settings from text.
 
+ghost use Rattle.std.specs.Prelude.{◌≡◌, ◌≤◌, ◌++◌, ◌∷◌, [], ℕ, true, nat_eq, length, codes, Some, None, OnOk, IfErr, if◌then◌else◌};
+ghost use Rattle.std.specs.Option.{option_and_then};
+ghost use Rattle.toml.specs.Data.{Data, get_member};
+ghost use Rattle.toml.specs.Parse.{parse_document};
+ghost use Rattle.toml.specs.View.{table_view, view, items_view};
+ghost use Rattle.udp_net.specs.Settings.{Reads, key_count, number_of, number_at, group_of, node_of, may_be_nodes, nodes_of, nodes_behind, is_new, settings_in};
+
 use crate::node_ports::{MOST_NODES, MOST_SILENT};
 use crate::{NodePort, Settings, SettingsError};
 use address::Node;
@@ -10,7 +17,9 @@ use toml::{Table, Value};
 
 /// The settings of a text: a document of TOML with a `group`, a number `silent` from 1 to 10,000, and 1 to 16 tables `[[node]]`, each with a `number` and a `port`
 /// from 1 to 65535, of which no two are the same. Refused with 50 where it is none, also for any other key, and with 7 where memory was refused.
-pub fn settings(alloc: Global, text: &str) -> Result<Settings, SettingsError> {
+pub fn settings(alloc: Global, text: &str) -> Result<Settings, SettingsError>
+    ensures { Reads (λ s. s) result (option_and_then settings_in (parse_document text.now)) }
+{
     let table = table_of(alloc, text)?;
     only_keys(&table, 3)?;
     let group = group_in(&table)?;
@@ -24,7 +33,9 @@ pub fn settings(alloc: Global, text: &str) -> Result<Settings, SettingsError> {
 }
 
 // The table of a document.
-fn table_of(alloc: Global, text: &str) -> Result<Table, SettingsError> {
+fn table_of(alloc: Global, text: &str) -> Result<Table, SettingsError>
+    ensures { Reads table_view result (parse_document text.now) }
+{
     match toml::table_from_str(alloc, text) {
         Ok(table) => Ok(table),
         Err(error) if error.is_memory() => Err(SettingsError::Memory),
@@ -33,7 +44,9 @@ fn table_of(alloc: Global, text: &str) -> Result<Table, SettingsError> {
 }
 
 // That a table has so many keys, and so none but those that are looked up in it.
-fn only_keys(table: &Table, count: usize) -> Result<(), SettingsError> {
+fn only_keys(table: &Table, count: usize) -> Result<(), SettingsError>
+    ensures { Reads (λ u. u) result (if nat_eq (key_count (table_view table.now)) count then Some tt else None) }
+{
     if table.len() != count {
         return Err(SettingsError::Config);
     }
@@ -41,25 +54,44 @@ fn only_keys(table: &Table, count: usize) -> Result<(), SettingsError> {
 }
 
 // What a table has under a key.
-fn value_at<'a>(table: &'a Table, key: &str) -> Result<&'a Value, SettingsError> {
+fn value_at<'a>(table: &'a Table, key: &str) -> Result<&'a Value, SettingsError>
+    ensures { Reads (λ v. view v.now) result (get_member key.now (table_view table.now)) }
+{
     match table.get(key) {
         Some(value) => Ok(value),
         None => Err(SettingsError::Config),
     }
 }
 
+// The number from 1 to a highest one that a value is.
+fn number_of(value: &Value, highest: u16) -> Option<u16>
+    ensures { result ≡ number_of highest (view value.now) }
+{
+    let Value::Integer(number) = value else {
+        return None;
+    };
+    let number = u16::try_from(*number).ok()?;
+    if number == 0 || highest < number {
+        return None;
+    }
+    Some(number)
+}
+
 // The number from 1 to a highest one that a table has under a key.
-fn number_in(table: &Table, key: &str, highest: u16) -> Result<u16, SettingsError> {
-    match value_at(table, key)? {
-        Value::Integer(number) if 1 <= *number && *number <= i64::from(highest) => {
-            Ok(*number as u16)
-        }
-        _ => Err(SettingsError::Config),
+fn number_in(table: &Table, key: &str, highest: u16) -> Result<u16, SettingsError>
+    ensures { Reads (λ n. n) result (number_at key.now highest (table_view table.now)) }
+{
+    let value = value_at(table, key)?;
+    match number_of(value, highest) {
+        Some(number) => Ok(number),
+        None => Err(SettingsError::Config),
     }
 }
 
 // The name of the group.
-fn group_in(table: &Table) -> Result<KeptName, SettingsError> {
+fn group_in(table: &Table) -> Result<KeptName, SettingsError>
+    ensures { Reads (λ g. g) result (option_and_then group_of (get_member (codes "group") (table_view table.now))) }
+{
     let Some(text) = value_at(table, "group")?.as_str() else {
         return Err(SettingsError::Config);
     };
@@ -69,28 +101,64 @@ fn group_in(table: &Table) -> Result<KeptName, SettingsError> {
     }
 }
 
-// The nodes and their ports.
-fn nodes_in(alloc: Global, table: &Table) -> Result<Vec<NodePort>, SettingsError> {
-    let Some(values) = value_at(table, "node")?.as_array() else {
+// Whether there are as many values as there may be nodes.
+fn may_be_nodes(values: &[Value]) -> bool
+    ensures { result ≡ may_be_nodes (items_view values.now) }
+{
+    1 <= values.len() && values.len() <= MOST_NODES
+}
+
+// The nodes of a value, and their ports.
+fn nodes_of(alloc: Global, value: &Value) -> Result<Vec<NodePort>, SettingsError>
+    ensures { Reads (λ l. l.items) result (nodes_of (view value.now)) }
+{
+    let Value::Array(values) = value else {
         return Err(SettingsError::Config);
     };
-    if values.is_empty() || values.len() > MOST_NODES {
+    if !may_be_nodes(values.as_slice()) {
         return Err(SettingsError::Config);
     }
     let mut nodes = Vec::with_capacity(alloc, values.len())?;
-    for value in values.as_slice() {
-        add_node(value, &mut nodes)?;
-    }
+    add_nodes(values.as_slice(), &mut nodes)?;
     Ok(nodes)
 }
 
+// The nodes and their ports.
+fn nodes_in(alloc: Global, table: &Table) -> Result<Vec<NodePort>, SettingsError>
+    ensures { Reads (λ l. l.items) result (option_and_then nodes_of (get_member (codes "node") (table_view table.now))) }
+{
+    let value = value_at(table, "node")?;
+    nodes_of(alloc, value)
+}
+
+// Adds the nodes of some values, in turn.
+fn add_nodes(values: &[Value], nodes: &mut Vec<NodePort>) -> Result<(), SettingsError>
+    ensures { Reads (λ u. nodes.new.items) result (nodes_behind nodes.old.items (items_view values.now)) }
+{
+    let Some((first, rest)) = values.split_first() else {
+        return Ok(());
+    };
+    add_node(first, nodes)?;
+    add_nodes(rest, nodes)
+}
+
+// Whether no listed node has the number or the port of this one.
+fn is_new(added: &NodePort, nodes: &[NodePort]) -> bool
+    ensures { result ≡ is_new added.now nodes.now }
+{
+    let Some((first, rest)) = nodes.split_first() else {
+        return true;
+    };
+    first.node != added.node && first.port != added.port && is_new(added, rest)
+}
+
 // Adds the node of a value, unless its number or its port is there.
-fn add_node(value: &Value, nodes: &mut Vec<NodePort>) -> Result<(), SettingsError> {
+fn add_node(value: &Value, nodes: &mut Vec<NodePort>) -> Result<(), SettingsError>
+    ensures { Reads (λ u. nodes.new.items) result (option_and_then (λ n. if is_new n nodes.old.items then Some (nodes.old.items ++ n ∷ []) else None) (node_of (view value.now))) }
+{
     let added = node_of(value)?;
-    for listed in nodes.as_slice() {
-        if listed.node == added.node || listed.port == added.port {
-            return Err(SettingsError::Config);
-        }
+    if !is_new(&added, nodes.as_slice()) {
+        return Err(SettingsError::Config);
     }
     match nodes.push(added) {
         Ok(()) => Ok(()),
@@ -99,7 +167,9 @@ fn add_node(value: &Value, nodes: &mut Vec<NodePort>) -> Result<(), SettingsErro
 }
 
 // The node of a value, and its port.
-fn node_of(value: &Value) -> Result<NodePort, SettingsError> {
+fn node_of(value: &Value) -> Result<NodePort, SettingsError>
+    ensures { Reads (λ n. n) result (node_of (view value.now)) }
+{
     let Some(table) = value.as_table() else {
         return Err(SettingsError::Config);
     };

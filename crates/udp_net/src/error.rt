@@ -1,3 +1,8 @@
+ghost use Rattle.std.specs.Prelude.{◌≡◌};
+ghost use Rattle.udp_net.specs.declared.error.SettingsError.TheVariants as settings;
+ghost use Rattle.udp_net.specs.declared.error.BindError.TheVariants as bind;
+ghost use Rattle.udp_net.specs.Errors.{settings_number, bind_number};
+
 use limits::Refusal;
 use std::alloc::AllocError;
 
@@ -13,6 +18,8 @@ pub enum SettingsError {
 }
 
 impl From<AllocError> for SettingsError {
+    ghost from_gives = { λ _ e. e ≡ settings.Memory };
+
     fn from(_refused: AllocError) -> SettingsError {
         SettingsError::Memory
     }
@@ -20,7 +27,9 @@ impl From<AllocError> for SettingsError {
 
 impl SettingsError {
     /// Its number, 50 or 7.
-    pub fn number(self) -> u8 {
+    pub fn number(self) -> u8
+        ensures { result ≡ settings_number self }
+    {
         match self {
             SettingsError::Config => 50,
             SettingsError::Memory => Refusal::Memory.number(),
@@ -43,6 +52,8 @@ pub enum BindError {
 }
 
 impl From<AllocError> for BindError {
+    ghost from_gives = { λ _ e. e ≡ bind.Memory };
+
     fn from(_refused: AllocError) -> BindError {
         BindError::Memory
     }
@@ -50,7 +61,9 @@ impl From<AllocError> for BindError {
 
 impl BindError {
     /// Its number, 50, 51 or 7.
-    pub fn number(self) -> u8 {
+    pub fn number(self) -> u8
+        ensures { result ≡ bind_number self }
+    {
         match self {
             BindError::Config => 50,
             BindError::Bind => 51,
@@ -69,7 +82,9 @@ pub enum Fault {
 
 impl Fault {
     /// Its number, 52.
-    pub fn number(self) -> u8 {
+    pub fn number(self) -> u8
+        ensures { result ≡ 52 }
+    {
         match self {
             Fault::Receive => 52,
         }

@@ -1,5 +1,9 @@
+ghost use Rattle.std.specs.Prelude.{◌≡◌};
+ghost use Rattle.udp_net.specs.Settings.{port_of};
+
 use address::Node;
 use output::KeptName;
+use std::marker::Model;
 use wire::GroupName;
 
 /// The most nodes that settings list.
@@ -26,34 +30,51 @@ pub struct Settings {
     pub(crate) nodes: Vec<NodePort>,
 }
 
+impl Model for Settings {
+    ghost use Rattle.udp_net.specs.Settings.{SettingsModel};
+
+    ghost Value = { SettingsModel };
+
+    ghost view = { λ s. record { group = s.group; silent = s.silent; nodes = s.nodes.items } };
+}
+
 impl Settings {
     /// The name of the group.
-    pub fn group(&self) -> GroupName<'_> {
+    pub fn group(&self) -> GroupName<'_>
+        ensures { result ≡ self.now.group }
+    {
         self.group.lent()
     }
 
     /// After how many rounds without a packet an address is suspected, 1 to 10,000.
-    pub fn silent(&self) -> u16 {
+    pub fn silent(&self) -> u16
+        ensures { result ≡ self.now.silent }
+    {
         self.silent
     }
 
     /// The nodes and their ports, 1 to 16 of them, in the order of the text. No two have the same number or the same port.
-    pub fn nodes(&self) -> &[NodePort] {
+    pub fn nodes(&self) -> &[NodePort]
+        ensures { result.now ≡ self.now.nodes }
+    {
         self.nodes.as_slice()
     }
 
     /// The port of a node; `None` for one that is not listed.
-    pub fn port(&self, node: Node) -> Option<u16> {
+    pub fn port(&self, node: Node) -> Option<u16>
+        ensures { result ≡ port_of node self.now.nodes }
+    {
         port_in(self.nodes.as_slice(), node)
     }
 }
 
 // The port of a node of a list.
-pub(crate) fn port_in(nodes: &[NodePort], node: Node) -> Option<u16> {
-    for listed in nodes {
-        if listed.node == node {
-            return Some(listed.port);
-        }
+pub(crate) fn port_in(nodes: &[NodePort], node: Node) -> Option<u16>
+    ensures { result ≡ port_of node nodes.now }
+{
+    let (first, rest) = nodes.split_first()?;
+    if first.node == node {
+        return Some(first.port);
     }
-    None
+    port_in(rest, node)
 }
