@@ -109,7 +109,8 @@ impl<N: Net, R: Receiver> Runner<N, R> {
             (driven self.new.net self.new.channel self.new.faults) }
     {
         for _turn in 0..RECEIVES {
-            if !self.receive_one()? {
+            let came = self.receive_one()?;
+            if !came {
                 return Ok(());
             }
         }
