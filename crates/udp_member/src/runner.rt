@@ -72,7 +72,7 @@ impl<N: Net, R: Receiver> Runner<N, R> {
 
     /// One round. What waited in the channel is offered to the net. Then datagrams are received, at most `RECEIVES`, until none waits or a receive fails, and each
     /// is handed to the channel. Then the round counts for each address that the channel watches and from which no packet came: after `silent` such rounds, and
-    /// twice as many while the channel is blocked, the address is handed in as suspected. Last the channel is told that time passes. What the channel puts out by
+    /// twice as many while the channel is blocked, the address is handed in as suspected. Last comes a tick of the channel. What the channel puts out by
     /// each of these steps is offered to the net at once, in order.
     ///
     /// Counts begin anew with each view and after each suspicion. A JOIN of a member of the view counts as no packet from it.
