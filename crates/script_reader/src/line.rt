@@ -160,7 +160,11 @@ fn sent(alloc: Global, rest: Option<&[u8]>) -> Result<WorldEvent, Unheard>
 }
 
 /// The event of a word and of what is left behind it.
-pub(crate) fn event_of(alloc: Global, word: Word, rest: Option<&[u8]>) -> Result<WorldEvent, Unheard>
+pub(crate) fn event_of(
+    alloc: Global,
+    word: Word,
+    rest: Option<&[u8]>,
+) -> Result<WorldEvent, Unheard>
     ensures { MatchResult result (λ e. event_of word (option_copied rest.entry) ≡ Ok e) (IsUnheard (event_of word (option_copied rest.entry))) }
 {
     match word {

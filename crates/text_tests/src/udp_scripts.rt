@@ -14,17 +14,22 @@ fn fault_of(alloc: Global, text: &[u8]) -> (u64, u8) {
 /// The number of a line, and its rounds; `(0, 0)` where it says something else or there is none.
 fn rounds_of(line: Option<&UdpLine>) -> (u64, u64) {
     match line {
-        Some(UdpLine {
-            number,
-            event: UdpEvent::Rounds(count),
-        }) => (*number, *count),
+        Some(
+            UdpLine {
+                number,
+                event: UdpEvent::Rounds(count),
+            },
+        ) => (*number, *count),
         _ => (0, 0),
     }
 }
 
 #[test]
 fn rounds_are_read_with_the_numbers_of_their_lines(rt: HostRuntime) {
-    match read_udp_script(rt.alloc(), b"rounds 5\n\n# a comment\nrounds 0\nrounds 1000000") {
+    match read_udp_script(
+        rt.alloc(),
+        b"rounds 5\n\n# a comment\nrounds 0\nrounds 1000000",
+    ) {
         Ok(lines) => {
             assert!(rt; lines.len() == 3, "three lines");
             assert!(rt; rounds_of(lines.get(0)) == (1, 5), "the first");
@@ -43,9 +48,16 @@ fn events_of_nodes_are_read_as_in_a_world(rt: HostRuntime) {
     let lines = read_udp_script(rt.alloc(), b"start 3\nhint 3 1.1");
     let node = match lines {
         Ok(lines) => match lines.as_slice() {
-            [UdpLine { event: UdpEvent::Node(WorldEvent::Start(node)), .. }, UdpLine { event: UdpEvent::Node(WorldEvent::MergeHint(_, _)), .. }] => {
-                node.number()
-            }
+            [
+                UdpLine {
+                    event: UdpEvent::Node(WorldEvent::Start(node)),
+                    ..
+                },
+                UdpLine {
+                    event: UdpEvent::Node(WorldEvent::MergeHint(_, _)),
+                    ..
+                },
+            ] => { node.number() }
             _ => 0,
         },
         Err(_) => 0,
@@ -79,7 +91,10 @@ fn a_world_has_no_rounds(rt: HostRuntime) {
     assert!(rt;
         matches!(
             read,
-            Err(Unread::Fault { line: 1, fault: Fault::UnknownWord })
+            Err(Unread::Fault {
+                line: 1,
+                fault: Fault::UnknownWord
+            })
         ),
         "an unknown word"
     );
