@@ -2,7 +2,7 @@
 
 use std::alloc::{AllocError, Global};
 use std::io::Write;
-use udp_member::BindError;
+use udp_net::BindError;
 use vsync_runs::{Status, end_in_memory, end_with};
 use vsync_text::put_all;
 

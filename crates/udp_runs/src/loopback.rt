@@ -3,7 +3,7 @@ use address::Node;
 use std::alloc::Global;
 use std::thread;
 use std::time::{Clock, Duration};
-use udp_member::{BindError, Settings, SocketNet};
+use udp_net::{BindError, Settings, SocketNet};
 
 /// How long a node that runs by itself sleeps between two rounds, in milliseconds.
 const PAUSE: u64 = 1;
@@ -14,6 +14,7 @@ pub struct Loopback<'a, R> {
     alloc: Global,
     runtime: &'a R,
     settings: &'a Settings,
+    is_unbound: bool,
 }
 
 impl<'a, R> Loopback<'a, R> {
@@ -23,7 +24,13 @@ impl<'a, R> Loopback<'a, R> {
             alloc,
             runtime,
             settings,
+            is_unbound: false,
         }
+    }
+
+    /// Whether a socket could not be bound.
+    pub fn is_unbound(&self) -> bool {
+        self.is_unbound
     }
 }
 
@@ -31,7 +38,11 @@ impl<'a, R: std::net::Net + Clock> Machine for Loopback<'a, R> {
     type Net = SocketNet;
 
     fn net(&mut self, node: Node) -> Result<SocketNet, BindError> {
-        SocketNet::bind(self.alloc, self.runtime, self.settings, node)
+        let bound = SocketNet::bind(self.alloc, self.runtime, self.settings, node);
+        if matches!(&bound, Err(BindError::Bind)) {
+            self.is_unbound = true;
+        }
+        bound
     }
 
     /// Sleeps.

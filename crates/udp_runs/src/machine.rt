@@ -1,5 +1,5 @@
 use address::Node;
-use udp_member::{BindError, Net};
+use udp_net::{BindError, Net};
 
 /// What members over datagrams need of the machine that they run on.
 pub trait Machine {

@@ -11,7 +11,8 @@ use limits::Refusal;
 use std::alloc::{AllocError, Global};
 use std::io::Write;
 use trace_props::Event;
-use udp_member::{BindError, Net, Runner, Settings};
+use udp_member::Runner;
+use udp_net::{BindError, Net, Settings};
 use vsync_runs::Status;
 use vsync_text::append_event;
 

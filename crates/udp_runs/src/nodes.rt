@@ -7,7 +7,7 @@ use address::{Address, Node};
 use chat_log::Chat;
 use script_reader::{UdpEvent, UdpLine};
 use std::alloc::{AllocError, Global};
-use udp_member::{BindError, Net, Settings};
+use udp_net::{BindError, Net, Settings};
 use vsync_text::append_refusal;
 use world_model::{Target, WorldEvent};
 

@@ -7,7 +7,7 @@ use chat_log::Chat;
 use script_reader::{UdpLine, Unread, read_udp_script};
 use std::alloc::Global;
 use std::io::{Read, Write};
-use udp_member::Settings;
+use udp_net::Settings;
 use vsync_runs::{Status, Unreadable, end_in_fault, end_in_memory, read_all};
 use vsync_text::put_all;
 

@@ -6,7 +6,8 @@ use chat_log::Chat;
 use limits::Refusal;
 use std::alloc::{AllocError, Global};
 use trace_props::{Bytes, Event};
-use udp_member::{Net, Runner};
+use udp_member::Runner;
+use udp_net::Net;
 use vsync_text::{append_chat, append_event, append_refusal};
 use world_model::WorldEvent;
 

@@ -5,7 +5,7 @@ use std::alloc::{AllocError, Global};
 use std::cell::RefCell;
 use std::collections::VecDeque;
 use trace_props::Bytes;
-use udp_member::{BindError, Fault, Net, Settings, settings};
+use udp_net::{BindError, Fault, Net, Settings, settings};
 use udp_runs::Machine;
 
 /// The settings of nodes 1 to 4, with 50 rounds of silence.
