@@ -45,8 +45,8 @@ abbrev pub udp_spoken : List ℕ → Option (List ℕ) → Result UdpEvent Fault
 udp_spoken name rest = if bytes_eq name (codes "rounds") then of_rounds (only (rounds_field rest)) else of_a_node (node_event name rest)
 
 -- a line that is not skipped: its length is tested first
-abbrev pub udp_told : List ℕ → Result UdpEvent Fault
-udp_told line = if nat_lt SCRIPT_LINE (length line) then Err LineTooLong else udp_spoken (field_of line) (behind_field line)
+abbrev pub udp_said : List ℕ → Result UdpEvent Fault
+udp_said line = if nat_lt SCRIPT_LINE (length line) then Err LineTooLong else udp_spoken (field_of line) (behind_field line)
 
 abbrev pub udp_heard : Result UdpEvent Fault → Result (Option UdpEvent) Fault
 udp_heard (Ok e) = Ok (Some e)
@@ -54,7 +54,7 @@ udp_heard (Err f) = Err f
 
 -- what a line says: nothing, an event or a fault
 abbrev pub udp_reading_of : List ℕ → Result (Option UdpEvent) Fault
-udp_reading_of line = if is_skipped line then Ok None else udp_heard (udp_told line)
+udp_reading_of line = if is_skipped line then Ok None else udp_heard (udp_said line)
 
 abbrev pub udp_fault_in : ℕ → Result (Option UdpEvent) Fault → Option FaultAt
 udp_fault_in k (Ok e) = None

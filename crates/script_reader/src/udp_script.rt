@@ -1,7 +1,7 @@
 ghost use Rattle.std.specs.Prelude.{◌≡◌, MatchResult};
 ghost use Rattle.std.specs.Option.{option_copied};
 ghost use Rattle.script_reader.specs.Script.{only, IsUnheard, IsUnread};
-ghost use Rattle.script_reader.specs.UdpScript.{rounds_field, node_event, udp_told, udp_reading_of, udp_script_of, HasReadUdp};
+ghost use Rattle.script_reader.specs.UdpScript.{rounds_field, node_event, udp_said, udp_reading_of, udp_script_of, HasReadUdp};
 
 use crate::field::{first_field, first_line, rounds_field};
 use crate::line::{Unheard, Word, event_of, is_skipped, word_of};
@@ -53,8 +53,8 @@ fn node_event(alloc: Global, name: &[u8], rest: Option<&[u8]>) -> Result<WorldEv
 }
 
 /// What a line says that is not skipped.
-fn told(alloc: Global, line: &[u8]) -> Result<UdpEvent, Unheard>
-    ensures { MatchResult result (λ e. udp_told line.now ≡ Ok e) (IsUnheard (udp_told line.now)) }
+fn said(alloc: Global, line: &[u8]) -> Result<UdpEvent, Unheard>
+    ensures { MatchResult result (λ e. udp_said line.now ≡ Ok e) (IsUnheard (udp_said line.now)) }
 {
     if line.len() > SCRIPT_LINE {
         return Err(Unheard::Fault(Fault::LineTooLong));
@@ -73,7 +73,7 @@ fn read_udp_line(alloc: Global, line: &[u8]) -> Result<Option<UdpEvent>, Unheard
     if is_skipped(line) {
         return Ok(None);
     }
-    Ok(Some(told(alloc, line)?))
+    Ok(Some(said(alloc, line)?))
 }
 
 /// Adds what a line of this number says.

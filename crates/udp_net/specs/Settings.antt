@@ -67,7 +67,7 @@ abbrev pub settings_in : Members → Option SettingsModel
 settings_in t =
     if nat_eq (key_count t) 3
     then option_and_then (λ g. option_and_then (λ s. option_and_then (λ n. Some (record { group = g; silent = s; nodes = n }))
-        (option_and_then nodes_of (get_member (codes "node") t))) (number_at (codes "silent") MOST_SILENT t)) (option_and_then group_of (get_member (codes "group") t))
+    (option_and_then nodes_of (get_member (codes "node") t))) (number_at (codes "silent") MOST_SILENT t)) (option_and_then group_of (get_member (codes "group") t))
     else None
 
 -- what was read is what is there; 50 where nothing is, or 7

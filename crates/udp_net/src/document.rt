@@ -11,9 +11,9 @@ use crate::node_ports::{MOST_NODES, MOST_SILENT};
 use crate::{NodePort, Settings, SettingsError};
 use address::Node;
 use output::KeptName;
-use wire::GroupName;
 use std::alloc::Global;
 use toml::{Table, Value};
+use wire::GroupName;
 
 /// The settings of a text: a document of TOML with a `group`, a number `silent` from 1 to 10,000, and 1 to 16 tables `[[node]]`, each with a `number` and a `port`
 /// from 1 to 65535, of which no two are the same. Refused with 50 where it is none, also for any other key, and with 7 where memory was refused.

@@ -43,8 +43,15 @@ impl Model for MemoryNet {
     ghost Value = { MemoryModel };
 
     ghost view = { λ n. record {
-        waiting = n.waiting.items; given = n.given.items; offered = n.offered.items; is_listed = n.is_listed; receives = n.receives;
-        failing_receive = n.failing_receive; sends = n.sends; failing_send = n.failing_send; failures = n.failures
+      waiting = n.waiting.items;
+      given = n.given.items;
+      offered = n.offered.items;
+      is_listed = n.is_listed;
+      receives = n.receives;
+      failing_receive = n.failing_receive;
+      sends = n.sends;
+      failing_send = n.failing_send;
+      failures = n.failures;
     } };
 }
 

@@ -5,9 +5,9 @@ mod ends;
 mod loopback;
 mod machine;
 mod member;
+mod node_state;
 mod nodes;
 mod script;
-mod seat;
 
 pub use loopback::Loopback;
 pub use machine::Machine;

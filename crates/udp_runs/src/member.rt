@@ -2,8 +2,8 @@
 
 use crate::Machine;
 use crate::ends::{Stop, end_text};
+use crate::node_state::{append_chat_of, append_events, member_at};
 use crate::script::settle;
-use crate::seat::{append_chat_of, append_events, member_at};
 use address::Address;
 use channel::Error;
 use chat_log::Chat;

@@ -2,7 +2,7 @@
 
 use crate::Machine;
 use crate::ends::Stop;
-use crate::seat::Seat;
+use crate::node_state::NodeState;
 use address::{Address, Node};
 use chat_log::Chat;
 use script_reader::{UdpEvent, UdpLine};
@@ -15,7 +15,7 @@ use world_model::{Target, WorldEvent};
 #[derive(Drop)]
 pub(crate) struct Nodes<N: Net, C: Chat> {
     alloc: Global,
-    seats: Vec<Seat<N, C>>,
+    node_states: Vec<NodeState<N, C>>,
 }
 
 // The nodes that settings list, by number.
@@ -39,11 +39,11 @@ fn node_of(event: &WorldEvent) -> Option<Node> {
 impl<N: Net, C: Chat> Nodes<N, C> {
     // The nodes that settings list; no member runs.
     pub(crate) fn new(alloc: Global, settings: &Settings) -> Result<Nodes<N, C>, AllocError> {
-        let mut seats = Vec::with_capacity(alloc, settings.nodes().len())?;
+        let mut node_states = Vec::with_capacity(alloc, settings.nodes().len())?;
         for node in sorted(alloc, settings)? {
-            seats.push(Seat::new(node))?;
+            node_states.push(NodeState::new(node))?;
         }
-        Ok(Nodes { alloc, seats })
+        Ok(Nodes { alloc, node_states })
     }
 
     // Does what a line says, and appends what happened.
@@ -71,8 +71,8 @@ impl<N: Net, C: Chat> Nodes<N, C> {
 
     // Appends the chat line of each member that runs, by node.
     pub(crate) fn append_chats(&mut self, text: &mut Vec<u8>) -> Result<(), AllocError> {
-        for seat in self.seats.as_mut_slice() {
-            seat.append_chat(text)?;
+        for node_state in self.node_states.as_mut_slice() {
+            node_state.append_chat(text)?;
         }
         Ok(())
     }
@@ -80,8 +80,8 @@ impl<N: Net, C: Chat> Nodes<N, C> {
     // So many rounds of each member that runs, in each of them by node.
     fn rounds(&mut self, count: u64, text: &mut Vec<u8>) -> Result<(), AllocError> {
         for _ in 0..count {
-            for seat in self.seats.as_mut_slice() {
-                seat.round(text)?;
+            for node_state in self.node_states.as_mut_slice() {
+                node_state.round(text)?;
             }
         }
         Ok(())
@@ -89,10 +89,10 @@ impl<N: Net, C: Chat> Nodes<N, C> {
 
     // The index of a node; `None` for one that the settings do not list.
     fn index_of(&self, node: Node) -> Option<usize> {
-        self.seats
+        self.node_states
             .as_slice()
             .iter()
-            .position(|seat| seat.node() == node)
+            .position(|node_state| node_state.node() == node)
     }
 
     // Starts the next member of a node. Refused with 50 where the settings do not list the node, with 5 where one runs, and with 8 after the last incarnation.
@@ -108,7 +108,7 @@ impl<N: Net, C: Chat> Nodes<N, C> {
             append_refusal(text, line, BindError::Config.number())?;
             return Ok(());
         };
-        match self.seats[index].next_address() {
+        match self.node_states[index].next_address() {
             Ok(address) => self.start_at(settings, machine, line, index, address, text),
             Err(refusal) => {
                 append_refusal(text, line, refusal.number())?;
@@ -129,7 +129,7 @@ impl<N: Net, C: Chat> Nodes<N, C> {
     ) -> Result<(), Stop> {
         match machine.net(address.node()) {
             Ok(net) => {
-                self.seats[index].start(self.alloc, address, net, settings.silent(), text)?;
+                self.node_states[index].start(self.alloc, address, net, settings.silent(), text)?;
                 Ok(())
             }
             Err(error) => Err(Stop::NoNet(line, error)),
@@ -148,7 +148,7 @@ impl<N: Net, C: Chat> Nodes<N, C> {
             return Ok(());
         };
         match self.index_of(node) {
-            Some(index) => self.seats[index].carry_out(
+            Some(index) => self.node_states[index].carry_out(
                 self.alloc,
                 settings.group().as_slice(),
                 line,

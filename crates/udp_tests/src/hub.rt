@@ -94,6 +94,12 @@ fn copied(bytes: &[u8], buffer: &mut [u8]) -> usize {
 }
 
 impl Net for Wire<'_> {
+    ghost use Rattle.std.specs.Prelude.{None};
+
+    ghost log = { λ _. None };
+
+    ghost failed = { λ n. n.failures };
+
     fn send(&mut self, node: Node, bytes: &[u8]) {
         if let Ok(mut wires) = self.wires.try_borrow_mut() {
             wires.send(node, bytes);

@@ -4,6 +4,7 @@ ghost use Rattle.vsync_cli.specs.Ends.{Does, EndsBy, EndsByFault};
 ghost use Rattle.vsync_cli.specs.Grammar.{program_app};
 ghost use Rattle.vsync_cli.specs.Words.{HasOneInput};
 
+use crate::udp_programs::{member, udp};
 use crate::{Invocation, command};
 use chat_log::ChatLog;
 use clap::Error;
@@ -15,7 +16,6 @@ use std::rt::{Env, Files};
 use std::time::Clock;
 use std::{env, fs, io};
 use vsync_runs::{Status, run_chat, run_check, run_packets, run_script};
-use crate::udp_programs::{member, udp};
 
 /// Says on the standard error why the program ends with status 5.
 pub(crate) fn complain<R: Eprint>(rt: &R, what: &str, path: &str) -> Status
@@ -36,7 +36,12 @@ pub(crate) fn without_memory<R: Print>(rt: &R) -> Status
 }
 
 /// Says why the outside answered an error: for want of memory, or it failed.
-pub(crate) fn failed<R: Print + Eprint>(rt: &R, error: &io::Error, what: &str, path: &str) -> Status {
+pub(crate) fn failed<R: Print + Eprint>(
+    rt: &R,
+    error: &io::Error,
+    what: &str,
+    path: &str,
+) -> Status {
     if error.kind() == io::ErrorKind::OutOfMemory {
         return without_memory(rt);
     }
@@ -141,7 +146,9 @@ fn obey<R: Files + Input + Net + Clock + Print + Eprint + AllocGlobal>(
 }
 
 /// The program `vsync`: does what its words ask for, and answers the exit status (docs/FORMATS.md).
-pub fn program<R: Env + Files + Input + Net + Clock + Print + Eprint + AllocGlobal>(rt: &R) -> Status {
+pub fn program<R: Env + Files + Input + Net + Clock + Print + Eprint + AllocGlobal>(
+    rt: &R,
+) -> Status {
     let mut words = Vec::new(rt.alloc());
     match env::args(rt) {
         Ok(all) => {

@@ -49,7 +49,7 @@ fn settings_at<R: Files + Print + Eprint + AllocGlobal>(
 }
 
 // What a command's status says where it ended outside, on the standard error; but not where the text says that a socket could not be bound.
-fn told<R: Eprint>(rt: &R, status: Status, is_unbound: bool, path: &str) -> Status {
+fn ended<R: Eprint>(rt: &R, status: Status, is_unbound: bool, path: &str) -> Status {
     if status == Status::Outside && !is_unbound {
         return complain(rt, "a read or a write failed:", path);
     }
@@ -72,7 +72,7 @@ fn run_script_of<I: Read, R: Net + Clock + Print + Eprint + AllocGlobal>(
         reader,
         &mut output,
     );
-    told(rt, status, machine.is_unbound(), path)
+    ended(rt, status, machine.is_unbound(), path)
 }
 
 /// Does `udp`: reads the settings, and runs the script; `-` is the standard input.
@@ -122,5 +122,5 @@ pub(crate) fn member<R: Files + Net + Clock + Print + Eprint + AllocGlobal>(
         &mut machine,
         &mut output,
     );
-    told(rt, status, machine.is_unbound(), "the standard output")
+    ended(rt, status, machine.is_unbound(), "the standard output")
 }

@@ -100,7 +100,10 @@ fn number<'a>(alloc: Global, name: &'a str, low: u64, high: u64, help: &'a str) 
 fn option<'a>(alloc: Global, name: &'a str, value: &'a str, help: &'a str) -> Arg<'a>
     ensures { rule_of result ≡ option_rule name.now }
 {
-    Arg::new(alloc, name).long(name).value_name(value).help(help)
+    Arg::new(alloc, name)
+        .long(name)
+        .value_name(value)
+        .help(help)
 }
 
 // The argument that names the settings.
@@ -123,9 +126,15 @@ pub(crate) fn with_udp<'a>(
 {
     let command = clap::Command::new(alloc, "udp")
         .about("Runs nodes over UDP in one process by a script, and prints the trace and the chats")
-        .after_help("The script has a line for each event: start N, create N, join N ADDR, send N TEXT, suspect N ADDR, hint N ADDR, leave N, crash N,\nand rounds K for K rounds of each running node.\n\nExample:\n  vsync udp examples/four.toml examples/merge.udp")
+        .after_help(
+            "The script has a line for each event: start N, create N, join N ADDR, send N TEXT, suspect N ADDR, hint N ADDR, leave N, crash N,\nand rounds K for K rounds of each running node.\n\nExample:\n  vsync udp examples/four.toml examples/merge.udp",
+        )
         .arg(config(alloc))?
-        .arg(required(alloc, "SCRIPT", "The script's path, or - for the standard input"))?;
+        .arg(required(
+            alloc,
+            "SCRIPT",
+            "The script's path, or - for the standard input",
+        ))?;
     program.subcommand(command)
 }
 
@@ -133,10 +142,18 @@ pub(crate) fn with_udp<'a>(
 fn member_numbers<'a>(alloc: Global) -> Result<clap::Command<'a>, AllocError> {
     clap::Command::new(alloc, "member")
         .about("Runs one node over UDP by itself, and prints its trace as it happens and its chat")
-        .after_help("It joins the group of the contact's member, or makes a group of itself alone. A round takes a millisecond or more.\n\nExample, in two terminals:\n  vsync member examples/four.toml 1 1 20000 --send hello\n  vsync member examples/four.toml 2 1 20000 --contact 1.1")
+        .after_help(
+            "It joins the group of the contact's member, or makes a group of itself alone. A round takes a millisecond or more.\n\nExample, in two terminals:\n  vsync member examples/four.toml 1 1 20000 --send hello\n  vsync member examples/four.toml 2 1 20000 --contact 1.1",
+        )
         .arg(config(alloc))?
         .arg(number(alloc, "NODE", 1, 65535, "The node's number in the settings"))?
-        .arg(number(alloc, "INCARNATION", 1, 4_294_967_295, "Its incarnation: a greater one at each start"))?
+        .arg(number(
+            alloc,
+            "INCARNATION",
+            1,
+            4_294_967_295,
+            "Its incarnation: a greater one at each start",
+        ))?
         .arg(number(alloc, "ROUNDS", 0, ROUNDS, "How many rounds it runs"))
 }
 

@@ -13,7 +13,7 @@ use world_model::WorldEvent;
 
 /// A node, and the member that runs there. Each call appends to a text what happened by it.
 #[derive(Drop)]
-pub(crate) struct Seat<N: Net, C: Chat> {
+pub(crate) struct NodeState<N: Net, C: Chat> {
     node: Node,
     // The address of the member that was started there last.
     last: Option<Address>,
@@ -93,10 +93,10 @@ fn call<C: Chat>(
     }
 }
 
-impl<N: Net, C: Chat> Seat<N, C> {
+impl<N: Net, C: Chat> NodeState<N, C> {
     // A node where no member was started yet.
-    pub(crate) fn new(node: Node) -> Seat<N, C> {
-        Seat {
+    pub(crate) fn new(node: Node) -> NodeState<N, C> {
+        NodeState {
             node,
             last: None,
             member: None,
