@@ -1,6 +1,7 @@
 //! A member over datagrams: a runner drives a channel over a net, and hands in as suspected whom it does not hear any more (docs/PROTOCOL.md, "Silence").
 #![tactic(auto)]
 
+mod offering;
 mod runner;
 mod silence;
 

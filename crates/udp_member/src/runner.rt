@@ -1,3 +1,6 @@
+ghost use Rattle.std.specs.Prelude.{◌≡◌, ◌≤◌, vec_len};
+
+use crate::offering::offer_all;
 use crate::silence::Silence;
 use address::{Address, ViewId};
 use channel::{Channel, Error};
@@ -80,7 +83,7 @@ impl<N: Net, R: Receiver> Runner<N, R> {
     ///
     /// The round is cut short with 6 where the channel has ended, and with 7 where memory was refused. All that the channel refuses else is passed over.
     pub fn round(&mut self) -> Result<(), Error> {
-        self.offer_all();
+        offer_all(&mut self.net, &mut self.channel);
         self.receive_all()?;
         self.suspect_silent()?;
         self.tick()
@@ -99,14 +102,6 @@ impl<N: Net, R: Receiver> Runner<N, R> {
     /// Its net.
     pub fn net(&mut self) -> &mut N {
         &mut self.net
-    }
-
-    // Offers the net what waits in the channel.
-    fn offer_all(&mut self) {
-        while let Some(packet) = self.channel.outgoing() {
-            self.net
-                .send(packet.destination.node(), packet.bytes.as_slice());
-        }
     }
 
     // Receives datagrams and hands them in.
@@ -135,9 +130,11 @@ impl<N: Net, R: Receiver> Runner<N, R> {
     }
 
     // Hands in the datagram of this length at the front of the buffer.
-    fn hand_in(&mut self, count: usize) -> Result<(), Error> {
+    fn hand_in(&mut self, count: usize) -> Result<(), Error>
+        requires { count ≤ vec_len self.old.buffer }
+    {
         let answer = self.channel.incoming(&self.buffer.as_slice()[..count]);
-        self.offer_all();
+        offer_all(&mut self.net, &mut self.channel);
         if let Some(Some(source)) = passed_over(answer)? {
             self.hear(source, count)?;
         }
@@ -145,7 +142,9 @@ impl<N: Net, R: Receiver> Runner<N, R> {
     }
 
     // The datagram of this length at the front of the buffer came from an address.
-    fn hear(&mut self, source: Address, count: usize) -> Result<(), AllocError> {
+    fn hear(&mut self, source: Address, count: usize) -> Result<(), AllocError>
+        requires { count ≤ vec_len self.old.buffer }
+    {
         let bytes = &self.buffer.as_slice()[..count];
         if is_sign_of_life(&source, bytes, self.channel.view()) {
             self.silence.hear(source)?;
@@ -170,7 +169,7 @@ impl<N: Net, R: Receiver> Runner<N, R> {
     // Hands in an address as suspected.
     fn suspect(&mut self, address: Address) -> Result<(), Error> {
         let answer = self.channel.suspect(address);
-        self.offer_all();
+        offer_all(&mut self.net, &mut self.channel);
         passed_over(answer)?;
         Ok(())
     }
@@ -178,7 +177,7 @@ impl<N: Net, R: Receiver> Runner<N, R> {
     // Tells the channel that time passes.
     fn tick(&mut self) -> Result<(), Error> {
         let answer = self.channel.tick();
-        self.offer_all();
+        offer_all(&mut self.net, &mut self.channel);
         passed_over(answer)?;
         Ok(())
     }

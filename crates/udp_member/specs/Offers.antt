@@ -1,0 +1,19 @@
+-- What a net is offered of a channel's packets.
+use Rattle.std.specs.Prelude.{◌≡◌, ℕ, List, [], ◌++◌, map, Option}
+use Rattle.output.specs.declared.output.Outgoing.{Outgoing}
+use Rattle.channel.specs.Channels.{ChannelModel}
+use Rattle.udp_net.specs.Logs.{Log, Offer, Lists}
+
+-- a packet, as a net is offered it: for the node of its destination
+abbrev pub offer_of : Outgoing → Offer
+offer_of packet = record { node = packet.destination.node; bytes = packet.bytes }
+
+-- each of these packets was offered, in order
+abbrev pub offering_all : List Outgoing → Log → Log
+offering_all packets l = record { given = l.given; offered = l.offered ++ map offer_of packets }
+
+-- what waited in the channel was offered to the net, in order, and nothing else
+pub record Offers {N S : Type 0} (log : N → Option Log) (failed : N → ℕ) (net : N) (channel : ChannelModel S) (new_net : N) (new_channel : ChannelModel S) : Type 0 where
+  pub lists : Lists (log net) (offering_all channel.outgoing) (log new_net)
+  pub failed_is : failed new_net ≡ failed net
+  pub channel_is : new_channel ≡ record channel { outgoing = [] }
