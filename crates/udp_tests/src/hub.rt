@@ -86,6 +86,17 @@ pub(crate) struct Wire<'a> {
     failures: u64,
 }
 
+impl<'a> Wire<'a> {
+    /// The net of a node at these wires.
+    pub(crate) fn new(wires: &'a RefCell<Wires>, node: Node) -> Wire<'a> {
+        Wire {
+            wires,
+            node,
+            failures: 0,
+        }
+    }
+}
+
 // Copies bytes to the front of a buffer, as many as it has room for.
 fn copied(bytes: &[u8], buffer: &mut [u8]) -> usize {
     let count = bytes.len().min(buffer.len());
@@ -141,11 +152,7 @@ impl<'a> Machine for Hub<'a> {
                 return Err(BindError::Bind);
             }
         }
-        Ok(Wire {
-            wires: self.wires,
-            node,
-            failures: 0,
-        })
+        Ok(Wire::new(self.wires, node))
     }
 
     fn pause(&mut self) {

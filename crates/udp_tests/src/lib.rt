@@ -4,6 +4,8 @@
 #[cfg(test)]
 mod alone;
 #[cfg(test)]
+mod failing;
+#[cfg(test)]
 mod hub;
 #[cfg(test)]
 mod scripts;
