@@ -120,7 +120,8 @@ impl<R: Receiver> Stage<R> {
             Stage::Apart(_) => Err(Error::Refused(Refusal::NotConnected)),
             Stage::Connected(connection) => {
                 let called = connection.handle(input);
-                if connection.has_ended() {
+                let has_ended = connection.has_ended();
+                if has_ended {
                     *self = Stage::Ended;
                 }
                 called

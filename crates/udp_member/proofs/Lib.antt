@@ -1,1 +1,2 @@
 mod FactOfOffers
+mod FactOfRounds

@@ -1,1 +1,3 @@
 pub mod Offers
+pub mod Turns
+pub mod Rounds

@@ -4,6 +4,7 @@
 mod offering;
 mod runner;
 mod silence;
+mod turns;
 
 pub use channel::Error;
 pub use runner::{RECEIVES, Runner};

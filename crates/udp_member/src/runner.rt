@@ -1,10 +1,16 @@
-ghost use Rattle.std.specs.Prelude.{◌≡◌, ◌≤◌, vec_len};
+ghost use Rattle.std.specs.Prelude.{◌≡◌, ◌≤◌, take, vec_len, IfErr};
+ghost use Rattle.std.specs.Result.{result_err};
+ghost use Rattle.limits.specs.declared.refusal.Refusal.TheVariants as refusal;
+ghost use Rattle.member.specs.declared.error.Error.TheVariants as error;
+ghost use Rattle.udp_member.specs.Turns.{Datagram, Suspect, Tick, driven};
+ghost use Rattle.udp_member.specs.Rounds.{HandsIn, Receives, Hears, Suspects, Rounds};
 
 use crate::offering::offer_all;
 use crate::silence::Silence;
+use crate::turns::{passed_over, suspect, take_in, tick};
 use address::{Address, ViewId};
 use channel::{Channel, Error};
-use limits::{DATAGRAM, Refusal};
+use limits::DATAGRAM;
 use state_transfer::Receiver;
 use std::alloc::{AllocError, Global};
 use udp_net::{Fault, Net};
@@ -22,16 +28,6 @@ pub struct Runner<N: Net, R: Receiver> {
     silence: Silence,
     buffer: Vec<u8>,
     faults: u64,
-}
-
-// What the channel answered, where the round goes on: a call that it refused with anything but 6 and 7 is passed over.
-fn passed_over<T: Drop>(answer: Result<T, Error>) -> Result<Option<T>, Error> {
-    match answer {
-        Ok(value) => Ok(Some(value)),
-        Err(Error::Refused(Refusal::Closed)) => Err(Error::Refused(Refusal::Closed)),
-        Err(Error::Refused(Refusal::Memory)) => Err(Error::Refused(Refusal::Memory)),
-        Err(_) => Ok(None),
-    }
 }
 
 // Whether a datagram is a JOIN.
@@ -76,13 +72,16 @@ impl<N: Net, R: Receiver> Runner<N, R> {
 
     /// One round. What waited in the channel is offered to the net. Then datagrams are received, at most `RECEIVES`, until none waits or a receive fails, and each
     /// is handed to the channel. Then the round counts for each address that the channel watches and from which no packet came: after `silent` such rounds, and
-    /// twice as many while the channel is blocked, the address is handed in as suspected. Last the channel is told that time passes. What the channel puts out by
+    /// twice as many while the channel is blocked, the address is handed in as suspected. Last comes a tick of the channel. What the channel puts out by
     /// each of these steps is offered to the net at once, in order.
     ///
     /// Counts begin anew with each view and after each suspicion. A JOIN of a member of the view counts as no packet from it.
     ///
     /// The round is cut short with 6 where the channel has ended, and with 7 where memory was refused. All that the channel refuses else is passed over.
-    pub fn round(&mut self) -> Result<(), Error> {
+    pub fn round(&mut self) -> Result<(), Error>
+        ensures { Rounds N.log N.failed R.meaning (driven self.old.net self.old.channel self.old.faults) (result_err result)
+            (driven self.new.net self.new.channel self.new.faults) }
+    {
         offer_all(&mut self.net, &mut self.channel);
         self.receive_all()?;
         self.suspect_silent()?;
@@ -105,17 +104,24 @@ impl<N: Net, R: Receiver> Runner<N, R> {
     }
 
     // Receives datagrams and hands them in.
-    fn receive_all(&mut self) -> Result<(), Error> {
-        for _ in 0..RECEIVES {
-            if !self.receive_one()? {
-                break;
+    fn receive_all(&mut self) -> Result<(), Error>
+        ensures { Hears N.log N.failed R.meaning (driven self.old.net self.old.channel self.old.faults) (result_err result)
+            (driven self.new.net self.new.channel self.new.faults) }
+    {
+        for _turn in 0..RECEIVES {
+            let came = self.receive_one()?;
+            if !came {
+                return Ok(());
             }
         }
         Ok(())
     }
 
     // Receives a datagram and hands it in; answers whether there was one.
-    fn receive_one(&mut self) -> Result<bool, Error> {
+    fn receive_one(&mut self) -> Result<bool, Error>
+        ensures { Receives N.log N.failed R.meaning (driven self.old.net self.old.channel self.old.faults) result
+            (driven self.new.net self.new.channel self.new.faults) }
+    {
         match self.net.receive(self.buffer.as_mut_slice()) {
             Ok(Some(count)) => {
                 self.hand_in(count)?;
@@ -132,18 +138,23 @@ impl<N: Net, R: Receiver> Runner<N, R> {
     // Hands in the datagram of this length at the front of the buffer.
     fn hand_in(&mut self, count: usize) -> Result<(), Error>
         requires { count ≤ vec_len self.old.buffer }
+        ensures hands { HandsIn N.log N.failed R.meaning (Datagram (take count self.old.buffer.items)) self.old.net self.old.channel (result_err result)
+            self.new.net self.new.channel }
+        ensures faults { self.new.faults ≡ self.old.faults }
     {
-        let answer = self.channel.incoming(&self.buffer.as_slice()[..count]);
-        offer_all(&mut self.net, &mut self.channel);
-        if let Some(Some(source)) = passed_over(answer)? {
-            self.hear(source, count)?;
+        let bytes = &self.buffer.as_slice()[..count];
+        let answer = take_in(&mut self.net, &mut self.channel, bytes);
+        match passed_over(answer)? {
+            Some(Some(source)) => self.hear(source, count),
+            _ => Ok(()),
         }
-        Ok(())
     }
 
     // The datagram of this length at the front of the buffer came from an address.
-    fn hear(&mut self, source: Address, count: usize) -> Result<(), AllocError>
+    fn hear(&mut self, source: Address, count: usize) -> Result<(), Error>
         requires { count ≤ vec_len self.old.buffer }
+        ensures rest { self.new ≡ record self.old { silence = self.new.silence } }
+        ensures memory { IfErr result (λ e. e ≡ error.Refused refusal.Memory) }
     {
         let bytes = &self.buffer.as_slice()[..count];
         if is_sign_of_life(&source, bytes, self.channel.view()) {
@@ -153,7 +164,10 @@ impl<N: Net, R: Receiver> Runner<N, R> {
     }
 
     // Counts the round for those who are watched, and hands in whom it has not heard for too long.
-    fn suspect_silent(&mut self) -> Result<(), Error> {
+    fn suspect_silent(&mut self) -> Result<(), Error>
+        ensures { Suspects N.log N.failed R.meaning (driven self.old.net self.old.channel self.old.faults) (result_err result)
+            (driven self.new.net self.new.channel self.new.faults) }
+    {
         let Some(watched) = passed_over(self.channel.watched())? else {
             return Ok(());
         };
@@ -167,17 +181,21 @@ impl<N: Net, R: Receiver> Runner<N, R> {
     }
 
     // Hands in an address as suspected.
-    fn suspect(&mut self, address: Address) -> Result<(), Error> {
-        let answer = self.channel.suspect(address);
-        offer_all(&mut self.net, &mut self.channel);
+    fn suspect(&mut self, address: Address) -> Result<(), Error>
+        ensures hands { HandsIn N.log N.failed R.meaning (Suspect address) self.old.net self.old.channel (result_err result) self.new.net self.new.channel }
+        ensures faults { self.new.faults ≡ self.old.faults }
+    {
+        let answer = suspect(&mut self.net, &mut self.channel, address);
         passed_over(answer)?;
         Ok(())
     }
 
     // Tells the channel that time passes.
-    fn tick(&mut self) -> Result<(), Error> {
-        let answer = self.channel.tick();
-        offer_all(&mut self.net, &mut self.channel);
+    fn tick(&mut self) -> Result<(), Error>
+        ensures hands { HandsIn N.log N.failed R.meaning Tick self.old.net self.old.channel (result_err result) self.new.net self.new.channel }
+        ensures faults { self.new.faults ≡ self.old.faults }
+    {
+        let answer = tick(&mut self.net, &mut self.channel);
         passed_over(answer)?;
         Ok(())
     }

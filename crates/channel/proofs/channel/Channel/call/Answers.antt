@@ -1,4 +1,4 @@
-use Rattle.std.proofs.Common.{sym, ◌∙◌}
+use Rattle.std.proofs.Common.{rules, sym, ◌∙◌}
 use Rattle.std.proofs.lemmas.Result.{err_from_is_err_and}
 use Rattle.channel.proofs.FactOfSteps.{left-refused, taken}
 use Rattle.channel.proofs.FactOfQueues.{first-behind, on-ok}
@@ -22,3 +22,7 @@ pub returns-clause-number : goal.returns-clause-number
 returns-clause-number g c =
     let done = sym c.is_err.ensures.value ∙ c.if-is_err.false in
     rw (← c.self.view_is) (first-behind _ _ _ _ _ c.number_sent-number.ensures c.deref.ensures.value (on-ok c.put_all.result done c.put_all.ensures.events))
+
+-- where room is refused for what it put out it has ended
+pub returns-then-is_err-clause-left : goal.returns-then-is_err-clause-left
+returns-then-is_err-clause-left g c = search rules

@@ -1,0 +1,143 @@
+-- How the parts of a round go on, and come together.
+use Rattle.std.proofs.Common.{◌≡◌, ℕ, ◌+◌, ◌<◌, ◌≤◌, ◌++◌, Bool, true, false, length, List, [], ◌∷◌, Option, Some, None, Result, Ok, Err, inl, inr, ◌⊎◌, refl, sym, ap, ◌∙◌, subst, arith, length-append}
+use Rattle.limits.specs.declared.refusal.Refusal.TheVariants.{Memory}
+use Rattle.address.specs.Ids.{Address}
+use Rattle.state_transfer.specs.Meanings.{Meaning}
+use Rattle.member.specs.declared.error.Error.{Error}
+use Rattle.member.specs.declared.error.Error.TheVariants.{Refused}
+use Rattle.channel.specs.Errors.{is_end}
+use Rattle.channel.specs.Channels.{ChannelModel}
+use Rattle.udp_net.specs.Logs.{Log}
+use Rattle.udp_member.specs.declared.runner.TheConstants.{RECEIVES}
+use Rattle.udp_member.specs.Offers.{Offers}
+use Rattle.udp_member.specs.Turns.{Handed, Datagram, Suspect, Tick, Turn, Driven, driven, Takes, TakesAll, Nothing, Next, goes_on}
+use Rattle.udp_member.specs.Rounds.{IsWhy, PassesOver, HandsIn, HearsOne, Receives, Cuts, HearsAll, Hears, SuspectsAll, Suspects, Ticks, SuspectsAndTicks, Rounds}
+
+module _ {N S : Type 0} (log : N → Option Log) (failed : N → ℕ) (meaning : Meaning S) where
+  -- so many datagrams were handed in
+  pub record HeardSoFar (old : Driven N S) (count : ℕ) (new : Driven N S) : Type 0 where
+    pub datagrams : List (List ℕ)
+    pub many : length datagrams ≡ count
+    pub takes : TakesAll log failed meaning Datagram old datagrams new
+
+  pub heard-none : (old : Driven N S) → HeardSoFar old 0 old
+  heard-none old = record { datagrams = []; many = refl; takes = Nothing }
+
+  one-longer : (xs : List (List ℕ)) (x : List ℕ) (n : ℕ) → length xs ≡ n → length (xs ++ x ∷ []) ≡ n + 1
+  one-longer xs x n is = length-append xs (x ∷ []) ∙ ap (λ k. k + 1) is
+
+  pub heard-one : (old mid new : Driven N S) (n : ℕ) (came : Bool) → HeardSoFar old n mid → Receives log failed meaning mid (Ok came) new → came ≡ true → HeardSoFar old (n + 1) new
+  heard-one old mid new n true so h is = record {
+    datagrams = so.datagrams ++ h.bytes ∷ [];
+    many = one-longer so.datagrams h.bytes n so.many;
+    takes = Next so.datagrams mid h.bytes h.answer new so.takes h.takes h.why;
+  }
+  heard-one old mid new n false so h is = absurd (cc)
+
+  pub heard-until : (old mid new : Driven N S) (n : ℕ) (came : Bool) → HeardSoFar old n mid → n < RECEIVES → Receives log failed meaning mid (Ok came) new → came ≡ false
+      → Hears log failed meaning old None new
+  heard-until old mid new n false so few h is = record {
+    datagrams = so.datagrams;
+    heard = mid;
+    takes = so.takes;
+    until = inr (subst (λ (k : ℕ). k < RECEIVES) (sym so.many) few, h);
+  }
+  heard-until old mid new n true so few h is = absurd (cc)
+
+  pub heard-full : (old new : Driven N S) (n : ℕ) → HeardSoFar old n new → RECEIVES ≤ n → n ≤ RECEIVES → Hears log failed meaning old None new
+  heard-full old new n so most few =
+      let e : n ≡ RECEIVES = omega (arith, most, few) in
+      record { datagrams = so.datagrams; heard = new; takes = so.takes; until = inl (so.many ∙ e, refl) }
+
+  -- a part that is cut short by a turn, by its answer or for want of memory
+  cut-by : {X : Type 0} (as_handed : X → Handed) (old mid new : Driven N S) (xs : List X) (x : X) (answer : Option Error) (e : Error) → TakesAll log failed meaning as_handed old xs mid
+      → Takes log failed meaning (as_handed x) mid answer new → is_end e ≡ true → (answer ≡ Some e) ⊎ (goes_on answer ≡ true) → Cuts log failed meaning as_handed old e new
+  cut-by as_handed old mid new xs x answer e all t ends (inl is) = record {
+    handed = xs;
+    mid = mid;
+    takes = all;
+    ends = ends;
+    last = inr (x, subst (λ (a : Option Error). Takes log failed meaning (as_handed x) mid a new) is t);
+  }
+  cut-by as_handed old mid new xs x answer e all t ends (inr on) = record {
+    handed = xs ++ x ∷ [];
+    mid = new;
+    takes = Next xs mid x answer new all t on;
+    ends = ends;
+    last = inl refl;
+  }
+
+  pub heard-cut : (old mid new : Driven N S) (n : ℕ) (e : Error) → HeardSoFar old n mid → Receives log failed meaning mid (Err e) new → Hears log failed meaning old (Some e) new
+  heard-cut old mid new n e so h = cut-by Datagram old mid new so.datagrams h.bytes h.answer e so.takes h.takes h.why.0 h.why.1
+
+  -- ---- suspicions
+
+  pub none-suspected : (old : Driven N S) → SuspectsAll log failed meaning old old
+  none-suspected old = record { suspects = []; takes = Nothing }
+
+  pub cut-at-once : (old : Driven N S) (answer : Option Error) (e : Error) → PassesOver answer (Some e) → Suspects log failed meaning old (Some e) old
+  cut-at-once old answer e x = record { handed = []; mid = old; takes = Nothing; ends = x.1; last = inl refl }
+
+  pub cut-by-memory : (old : Driven N S) → Suspects log failed meaning old (Some (Refused Memory)) old
+  cut-by-memory old = record { handed = []; mid = old; takes = Nothing; ends = refl; last = inl refl }
+
+  pub suspected-one : (old mid : Driven N S) (p : Address) (net : N) (channel : ChannelModel S) (faults : ℕ) → SuspectsAll log failed meaning old mid
+      → HandsIn log failed meaning (Suspect p) mid.net mid.channel None net channel → faults ≡ mid.faults → SuspectsAll log failed meaning old (driven net channel faults)
+  suspected-one old mid p net channel faults so h same = record {
+    suspects = so.suspects ++ p ∷ [];
+    takes = Next so.suspects mid p h.answer (driven net channel faults) so.takes (record { net = mid.net; comes = refl; turn = h.turn; faults = same }) h.why;
+  }
+
+  pub suspected-cut : (old mid : Driven N S) (p : Address) (e : Error) (net : N) (channel : ChannelModel S) (faults : ℕ) → SuspectsAll log failed meaning old mid
+      → HandsIn log failed meaning (Suspect p) mid.net mid.channel (Some e) net channel → faults ≡ mid.faults
+      → Suspects log failed meaning old (Some e) (driven net channel faults)
+  suspected-cut old mid p e net channel faults so h same =
+      cut-by Suspect old mid (driven net channel faults) so.suspects p h.answer e so.takes (record { net = mid.net; comes = refl; turn = h.turn; faults = same }) h.why.0 h.why.1
+
+  -- ---- a whole round
+
+  pub cut-while-hearing : (old begun new : Driven N S) (e : Error) → Offers log failed old.net old.channel begun.net begun.channel → begun.faults ≡ old.faults
+      → Hears log failed meaning begun (Some e) new → Rounds log failed meaning old (Some e) new
+  cut-while-hearing old begun new e offers same h = record {
+    begun = begun;
+    offers = offers;
+    faults = same;
+    cut = Some e;
+    mid = new;
+    hears = h;
+    then_suspects = λ n. absurd (cc);
+    stops = λ k is. (is, refl);
+  }
+
+  pub cut-while-suspecting : (old begun heard new : Driven N S) (e : Error) → Offers log failed old.net old.channel begun.net begun.channel → begun.faults ≡ old.faults
+      → Hears log failed meaning begun None heard → Suspects log failed meaning heard (Some e) new → Rounds log failed meaning old (Some e) new
+  cut-while-suspecting old begun heard new e offers same h x = record {
+    begun = begun;
+    offers = offers;
+    faults = same;
+    cut = None;
+    mid = heard;
+    hears = h;
+    then_suspects = λ n. record { cut = Some e; mid = new; suspects = x; ticks = λ m. absurd (cc); stops = λ k is. (is, refl) };
+    stops = λ k n. absurd (cc);
+  }
+
+  pub ticked : (old begun heard mid : Driven N S) (failure : Option Error) (net : N) (channel : ChannelModel S) (faults : ℕ) → Offers log failed old.net old.channel begun.net begun.channel
+      → begun.faults ≡ old.faults → Hears log failed meaning begun None heard → Suspects log failed meaning heard None mid
+      → HandsIn log failed meaning Tick mid.net mid.channel failure net channel → faults ≡ mid.faults → Rounds log failed meaning old failure (driven net channel faults)
+  ticked old begun heard mid failure net channel faults offers same h x t faults_same = record {
+    begun = begun;
+    offers = offers;
+    faults = same;
+    cut = None;
+    mid = heard;
+    hears = h;
+    then_suspects = λ n. record {
+      cut = None;
+      mid = mid;
+      suspects = x;
+      ticks = λ m. record { answer = t.answer; takes = record { net = mid.net; comes = refl; turn = t.turn; faults = faults_same }; why = t.why };
+      stops = λ k m. absurd (cc);
+    };
+    stops = λ k n. absurd (cc);
+  }

@@ -1,0 +1,102 @@
+-- A round of a runner.
+use Rattle.std.specs.Prelude.{◌≡◌, ℕ, ◌<◌, Bool, true, false, length, List, Option, None, Some, Result, Ok, Err, ◌⊎◌}
+use Rattle.address.specs.Ids.{Address}
+use Rattle.state_transfer.specs.Meanings.{Meaning}
+use Rattle.member.specs.declared.error.Error.{Error}
+use Rattle.channel.specs.Errors.{is_end}
+use Rattle.channel.specs.Channels.{ChannelModel}
+use Rattle.udp_net.specs.Logs.{Log, Lists, same_log, one_more}
+use Rattle.udp_member.specs.declared.runner.TheConstants.{RECEIVES}
+use Rattle.udp_member.specs.Offers.{Offers}
+use Rattle.udp_member.specs.Turns.{Handed, Datagram, Suspect, Tick, Turn, Driven, Takes, TakesAll, goes_on}
+
+-- what a failure of a turn comes from: the channel's answer, or memory that the runner itself was refused
+abbrev pub IsWhy : Option Error → Option Error → Type 0
+IsWhy answer None = goes_on answer ≡ true
+IsWhy answer (Some e) = (is_end e ≡ true) × ((answer ≡ Some e) ⊎ (goes_on answer ≡ true))
+
+-- the answers 6 and 7 cut a round short, and no others
+abbrev pub PassesOver : Option Error → Option Error → Type 0
+PassesOver answer None = goes_on answer ≡ true
+PassesOver answer (Some e) = (answer ≡ Some e) × (is_end e ≡ true)
+
+-- a turn by a datagram, and whether the round goes on
+pub record HandsIn {N S : Type 0} (log : N → Option Log) (failed : N → ℕ) (meaning : Meaning S) (handed : Handed) (net : N) (channel : ChannelModel S)
+    (failure : Option Error) (new_net : N) (new_channel : ChannelModel S) : Type 0 where
+  pub answer : Option Error
+  pub turn : Turn log failed meaning handed net channel answer new_net new_channel
+  pub why : IsWhy answer failure
+
+-- a receive that gives none, or fails, which is counted
+pub record ComesNone {N S : Type 0} (log : N → Option Log) (failed : N → ℕ) (old new : Driven N S) : Type 0 where
+  pub lists : Lists (log old.net) same_log (log new.net)
+  pub channel : new.channel ≡ old.channel
+  pub count : ((failed new.net ≡ failed old.net) × (new.faults ≡ old.faults)) ⊎ ((failed new.net ≡ one_more (failed old.net)) × (new.faults ≡ one_more old.faults))
+
+-- a datagram is received and handed in
+pub record HearsOne {N S : Type 0} (log : N → Option Log) (failed : N → ℕ) (meaning : Meaning S) (old : Driven N S) (failure : Option Error) (new : Driven N S) : Type 0 where
+  pub bytes : List ℕ
+  pub answer : Option Error
+  pub takes : Takes log failed meaning (Datagram bytes) old answer new
+  pub why : IsWhy answer failure
+
+-- one receive
+abbrev pub Receives : {N S : Type 0} → (N → Option Log) → (N → ℕ) → Meaning S → Driven N S → Result Bool Error → Driven N S → Type 0
+Receives log failed meaning old (Ok true) new = HearsOne log failed meaning old None new
+Receives log failed meaning old (Ok false) new = ComesNone log failed old new
+Receives log failed meaning old (Err e) new = HearsOne log failed meaning old (Some e) new
+
+-- ---- the parts of a round
+
+-- it is cut short: these were handed in; and then one that is answered 6 or 7, or the runner itself was refused
+pub record Cuts {N S X : Type 0} (log : N → Option Log) (failed : N → ℕ) (meaning : Meaning S) (as_handed : X → Handed) (old : Driven N S) (e : Error) (new : Driven N S) : Type 0 where
+  pub handed : List X
+  pub mid : Driven N S
+  pub takes : TakesAll log failed meaning as_handed old handed mid
+  pub ends : is_end e ≡ true
+  pub last : (new ≡ mid) ⊎ ((x : X) × Takes log failed meaning (as_handed x) mid (Some e) new)
+
+-- the datagrams are handed in that come, up to `RECEIVES`, or until a receive gives none, or fails
+pub record HearsAll {N S : Type 0} (log : N → Option Log) (failed : N → ℕ) (meaning : Meaning S) (old new : Driven N S) : Type 0 where
+  pub datagrams : List (List ℕ)
+  pub heard : Driven N S
+  pub takes : TakesAll log failed meaning Datagram old datagrams heard
+  pub until : ((length datagrams ≡ RECEIVES) × (new ≡ heard)) ⊎ ((length datagrams < RECEIVES) × ComesNone log failed heard new)
+
+abbrev pub Hears : {N S : Type 0} → (N → Option Log) → (N → ℕ) → Meaning S → Driven N S → Option Error → Driven N S → Type 0
+Hears log failed meaning old None new = HearsAll log failed meaning old new
+Hears log failed meaning old (Some e) new = Cuts log failed meaning Datagram old e new
+
+-- then suspicions
+pub record SuspectsAll {N S : Type 0} (log : N → Option Log) (failed : N → ℕ) (meaning : Meaning S) (old new : Driven N S) : Type 0 where
+  pub suspects : List Address
+  pub takes : TakesAll log failed meaning Suspect old suspects new
+
+abbrev pub Suspects : {N S : Type 0} → (N → Option Log) → (N → ℕ) → Meaning S → Driven N S → Option Error → Driven N S → Type 0
+Suspects log failed meaning old None new = SuspectsAll log failed meaning old new
+Suspects log failed meaning old (Some e) new = Cuts log failed meaning Suspect old e new
+
+-- last a tick
+pub record Ticks {N S : Type 0} (log : N → Option Log) (failed : N → ℕ) (meaning : Meaning S) (old : Driven N S) (failure : Option Error) (new : Driven N S) : Type 0 where
+  pub answer : Option Error
+  pub takes : Takes log failed meaning Tick old answer new
+  pub why : IsWhy answer failure
+
+-- the suspicions, and where they are not cut short the tick
+pub record SuspectsAndTicks {N S : Type 0} (log : N → Option Log) (failed : N → ℕ) (meaning : Meaning S) (old : Driven N S) (failure : Option Error) (new : Driven N S) : Type 0 where
+  pub cut : Option Error
+  pub mid : Driven N S
+  pub suspects : Suspects log failed meaning old cut mid
+  pub ticks : cut ≡ None → Ticks log failed meaning mid failure new
+  pub stops : (e : Error) → cut ≡ Some e → (failure ≡ Some e) × (new ≡ mid)
+
+-- what waits is offered; then the datagrams that come are handed in; and where that is not cut short, suspicions and a tick
+pub record Rounds {N S : Type 0} (log : N → Option Log) (failed : N → ℕ) (meaning : Meaning S) (old : Driven N S) (failure : Option Error) (new : Driven N S) : Type 0 where
+  pub begun : Driven N S
+  pub offers : Offers log failed old.net old.channel begun.net begun.channel
+  pub faults : begun.faults ≡ old.faults
+  pub cut : Option Error
+  pub mid : Driven N S
+  pub hears : Hears log failed meaning begun cut mid
+  pub then_suspects : cut ≡ None → SuspectsAndTicks log failed meaning mid failure new
+  pub stops : (e : Error) → cut ≡ Some e → (failure ≡ Some e) × (new ≡ mid)

@@ -1,0 +1,66 @@
+-- What a runner hands to its channel, and what the channel does by it.
+use Rattle.std.specs.Prelude.{◌≡◌, ℕ, Bool, true, not, List, [], ◌∷◌, ◌++◌, Option, None, Some, IfSome}
+use Rattle.address.specs.Ids.{Address}
+use Rattle.state_transfer.specs.Meanings.{Meaning}
+use Rattle.member.specs.declared.error.Error.{Error}
+use Rattle.member.specs.declared.input.Input.TheVariants as input
+use Rattle.channel.specs.Errors.{is_end}
+use Rattle.channel.specs.Channels.{ChannelModel, left_by}
+use Rattle.channel.specs.Calls.{Calls, CallsLent}
+use Rattle.udp_net.specs.Logs.{Log, Lists, giving}
+use Rattle.udp_member.specs.Offers.{Offers}
+
+-- what a round hands in: a datagram that came, a suspicion, a tick
+pub data Handed : Type 0 where
+  Datagram : List ℕ → Handed
+  Suspect : Address → Handed
+  Tick : Handed
+
+-- one call of the channel
+abbrev pub CallsBy : {S : Type 0} → Meaning S → Handed → ChannelModel S → Option Error → ChannelModel S → Type 0
+CallsBy meaning (Datagram bytes) old answer new = CallsLent meaning input.Datagram bytes old answer new
+CallsBy meaning (Suspect p) old answer new = Calls meaning (input.Suspect p) old answer new
+CallsBy meaning Tick old answer new = Calls meaning input.Tick old answer new
+
+-- a turn: one call of the channel, answered so; then all that waits in it is offered to the net
+pub record Turn {N S : Type 0} (log : N → Option Log) (failed : N → ℕ) (meaning : Meaning S) (handed : Handed) (net : N) (channel : ChannelModel S)
+    (answer : Option Error) (new_net : N) (new_channel : ChannelModel S) : Type 0 where
+  pub called : ChannelModel S
+  pub calls : CallsBy meaning handed channel answer called
+  pub left : IfSome answer (λ e. called ≡ left_by e channel)
+  pub offers : Offers log failed net called new_net new_channel
+
+-- after any answer but 6 and 7 the round goes on
+abbrev pub goes_on : Option Error → Bool
+goes_on None = true
+goes_on (Some e) = not (is_end e)
+
+-- ---- a net, a channel, and the count of failed receives
+
+pub record Driven (N S : Type 0) : Type 0 where
+  pub net : N
+  pub channel : ChannelModel S
+  pub faults : ℕ
+
+abbrev pub driven : {N S : Type 0} → N → ChannelModel S → ℕ → Driven N S
+driven net channel faults = record { net = net; channel = channel; faults = faults }
+
+-- a datagram is what a receive gave; all else comes from the runner
+abbrev pub Comes : {N : Type 0} → (N → Option Log) → (N → ℕ) → Handed → N → N → Type 0
+Comes log failed (Datagram bytes) old new = Lists (log old) (giving bytes) (log new) × (failed new ≡ failed old)
+Comes log failed (Suspect p) old new = new ≡ old
+Comes log failed Tick old new = new ≡ old
+
+-- what is handed in comes, and there is a turn by it
+pub record Takes {N S : Type 0} (log : N → Option Log) (failed : N → ℕ) (meaning : Meaning S) (handed : Handed) (old : Driven N S) (answer : Option Error)
+    (new : Driven N S) : Type 0 where
+  pub net : N
+  pub comes : Comes log failed handed old.net net
+  pub turn : Turn log failed meaning handed net old.channel answer new.net new.channel
+  pub faults : new.faults ≡ old.faults
+
+-- these are handed in, one after another, and none is answered 6 or 7
+pub data TakesAll {N S X : Type 0} (log : N → Option Log) (failed : N → ℕ) (meaning : Meaning S) (as_handed : X → Handed) (old : Driven N S) : List X → Driven N S → Type 0 where
+  Nothing : TakesAll log failed meaning as_handed old [] old
+  Next : (xs : List X) (mid : Driven N S) (x : X) (answer : Option Error) (new : Driven N S) → TakesAll log failed meaning as_handed old xs mid
+      → Takes log failed meaning (as_handed x) mid answer new → goes_on answer ≡ true → TakesAll log failed meaning as_handed old (xs ++ x ∷ []) new

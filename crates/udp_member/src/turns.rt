@@ -1,0 +1,59 @@
+//! Turns: the channel takes what is handed in, and what waits in it then is offered to the net.
+
+ghost use Rattle.std.specs.Result.{result_err};
+ghost use Rattle.udp_member.specs.Turns.{Datagram, Suspect, Tick, Turn};
+ghost use Rattle.udp_member.specs.Rounds.{PassesOver};
+
+use crate::offering::offer_all;
+use address::Address;
+use channel::{Channel, Error};
+use limits::Refusal;
+use state_transfer::Receiver;
+use udp_net::Net;
+
+// A turn by a datagram; it answers from whom that came, where it was for the channel.
+pub(crate) fn take_in<N: Net, R: Receiver>(
+    net: &mut N,
+    channel: &mut Channel<R>,
+    bytes: &[u8],
+) -> Result<Option<Address>, Error>
+    ensures { Turn N.log N.failed R.meaning (Datagram bytes.now) net.old channel.old (result_err result) net.new channel.new }
+{
+    let answer = channel.incoming(bytes);
+    offer_all(net, channel);
+    answer
+}
+
+// A turn by a suspicion.
+pub(crate) fn suspect<N: Net, R: Receiver>(
+    net: &mut N,
+    channel: &mut Channel<R>,
+    address: Address,
+) -> Result<(), Error>
+    ensures { Turn N.log N.failed R.meaning (Suspect address) net.old channel.old (result_err result) net.new channel.new }
+{
+    let answer = channel.suspect(address);
+    offer_all(net, channel);
+    answer
+}
+
+// A turn by a tick.
+pub(crate) fn tick<N: Net, R: Receiver>(net: &mut N, channel: &mut Channel<R>) -> Result<(), Error>
+    ensures { Turn N.log N.failed R.meaning Tick net.old channel.old (result_err result) net.new channel.new }
+{
+    let answer = channel.tick();
+    offer_all(net, channel);
+    answer
+}
+
+// What the channel answered, where the round goes on: a call that it refused with anything but 6 and 7 is passed over.
+pub(crate) fn passed_over<T: Drop>(answer: Result<T, Error>) -> Result<Option<T>, Error>
+    ensures { PassesOver (result_err answer) (result_err result) }
+{
+    match answer {
+        Ok(value) => Ok(Some(value)),
+        Err(Error::Refused(Refusal::Closed)) => Err(Error::Refused(Refusal::Closed)),
+        Err(Error::Refused(Refusal::Memory)) => Err(Error::Refused(Refusal::Memory)),
+        Err(_) => Ok(None),
+    }
+}
