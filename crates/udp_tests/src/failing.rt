@@ -1,7 +1,7 @@
 //! Nets that fail in a call: four members that part and merge, with each receive and each send failing in turn.
 
 use crate::hub::{Wire, Wires};
-use crate::scripts::{MERGE, holds, over_wires};
+use crate::scripts::{MERGED, holds, over_wires};
 use address::{Address, Node};
 use channel::Channel;
 use chat_log::ChatLog;
@@ -15,6 +15,13 @@ use vsync_text::append_event;
 
 /// One of the four.
 type Member<'a> = Runner<Wire<'a>, ChatLog>;
+
+/// How many rounds each of them has between two steps of the story: fewer than in `MERGE`, since each call fails in turn.
+const ROUNDS: u16 = 5;
+
+/// The story as a script.
+const SHORT: &[u8] =
+    b"start 1\nstart 2\nstart 3\nstart 4\ncreate 1\njoin 2 1.1\njoin 3 1.1\njoin 4 1.1\nrounds 5\nsuspect 1 3.1\nsuspect 1 4.1\nsuspect 3 1.1\nsuspect 3 2.1\nrounds 5\nsend 1 a\nsend 3 b\nrounds 5\nhint 3 1.1\nrounds 5\n";
 
 /// What was counted after a round of one of the four.
 #[derive(Clone, Copy, Debug, PartialEq, Eq)]
@@ -105,9 +112,9 @@ impl<'a> Four<'a> {
         Ok(())
     }
 
-    /// Twenty rounds of each, in turn.
+    /// Rounds of each, in turn, which are enough for a view to be made.
     fn rounds(&mut self) -> Result<(), AllocError> {
-        for _ in 0..20u16 {
+        for _ in 0..ROUNDS {
             for index in 0..4usize {
                 self.round(index)?;
             }
@@ -183,7 +190,7 @@ fn is_counted_once(after: &[After], number: u64) -> bool {
 fn a_failed_receive_is_counted_and_is_the_last_of_its_round(rt: HostRuntime) {
     let (_, whole) = story(rt.alloc(), 0, 0).expect(&rt, "memory");
     let (receives, _) = last(whole.as_slice());
-    assert!(rt; receives > 400, "there are many receives");
+    assert!(rt; receives > 100, "there are many receives");
     for number in 1..=receives {
         let (_, after) = story(rt.alloc(), number, 0).expect(&rt, "memory");
         assert!(rt;
@@ -194,7 +201,11 @@ fn a_failed_receive_is_counted_and_is_the_last_of_its_round(rt: HostRuntime) {
 }
 
 /// Whether both are the same up to and with the round of this send.
-fn are_same_up_to(whole: &(Vec<u8>, Vec<After>), less: &(Vec<u8>, Vec<After>), number: u64) -> bool {
+fn are_same_up_to(
+    whole: &(Vec<u8>, Vec<After>),
+    less: &(Vec<u8>, Vec<After>),
+    number: u64,
+) -> bool {
     let Some(index) = whole.1.iter().position(|after| after.sends >= number) else {
         return false;
     };
@@ -213,14 +224,15 @@ fn are_same_up_to(whole: &(Vec<u8>, Vec<After>), less: &(Vec<u8>, Vec<After>), n
 fn a_failed_send_changes_nothing_else_in_its_round(rt: HostRuntime) {
     let whole = story(rt.alloc(), 0, 0).expect(&rt, "memory");
     let (_, sends) = last(whole.1.as_slice());
-    assert!(rt; sends > 200, "there are many sends");
+    assert!(rt; sends > 60, "there are many sends");
     for number in 1..=sends {
         let less = story(rt.alloc(), 0, number).expect(&rt, "memory");
         assert!(rt; are_same_up_to(&whole, &less, number), "send {number}");
     }
 }
 
-/// Whether the script is done over wires on which one call fails, and its trace holds.
+/// Whether the script is done over wires on which one call fails, and its trace holds; where none fails, the views merge too. Then how many receives and sends
+/// there were.
 fn is_done(
     alloc: Global,
     failing_receive: u64,
@@ -229,27 +241,85 @@ fn is_done(
     let mut wires = Wires::new(alloc);
     wires.failing_receive = failing_receive;
     wires.failing_send = failing_send;
-    let (text, status, wires) = over_wires(alloc, wires, MERGE)?;
-    let is_right = status == Status::Done && holds(alloc, text.as_slice());
+    let (text, status, wires) = over_wires(alloc, wires, SHORT)?;
+    let is_merged = failing_receive > 0 || failing_send > 0 || text.as_slice().ends_with(MERGED);
+    let is_right = status == Status::Done && is_merged && holds(alloc, text.as_slice());
     Ok((is_right, wires.receives, wires.sends))
 }
 
-#[test]
-fn the_trace_holds_whichever_receive_fails(rt: HostRuntime) {
-    let (_, receives, _) = is_done(rt.alloc(), 0, 0).expect(&rt, "memory");
-    assert!(rt; receives > 400, "there are many receives");
+/// In how many tests the runs are, so that none takes long.
+const PARTS: u64 = 4;
+
+/// Whether the trace holds whichever of the receives fails whose number leaves this when divided by `PARTS`.
+fn holds_by_receives(alloc: Global, part: u64) -> Result<bool, AllocError> {
+    let (mut is_right, receives, _) = is_done(alloc, 0, 0)?;
+    is_right = is_right && receives > 100;
     for number in 1..=receives {
-        let (is_right, _, _) = is_done(rt.alloc(), number, 0).expect(&rt, "memory");
-        assert!(rt; is_right, "receive {number}");
+        if number % PARTS == part {
+            let (is_done, _, _) = is_done(alloc, number, 0)?;
+            is_right = is_right && is_done;
+        }
     }
+    Ok(is_right)
+}
+
+/// The same of the sends.
+fn holds_by_sends(alloc: Global, part: u64) -> Result<bool, AllocError> {
+    let (mut is_right, _, sends) = is_done(alloc, 0, 0)?;
+    is_right = is_right && sends > 60;
+    for number in 1..=sends {
+        if number % PARTS == part {
+            let (is_done, _, _) = is_done(alloc, 0, number)?;
+            is_right = is_right && is_done;
+        }
+    }
+    Ok(is_right)
 }
 
 #[test]
-fn the_trace_holds_whichever_send_fails(rt: HostRuntime) {
-    let (_, _, sends) = is_done(rt.alloc(), 0, 0).expect(&rt, "memory");
-    assert!(rt; sends > 200, "there are many sends");
-    for number in 1..=sends {
-        let (is_right, _, _) = is_done(rt.alloc(), 0, number).expect(&rt, "memory");
-        assert!(rt; is_right, "send {number}");
-    }
+fn the_trace_holds_whichever_receive_fails_part_1(rt: HostRuntime) {
+    let is_right = holds_by_receives(rt.alloc(), 0).expect(&rt, "memory");
+    assert!(rt; is_right);
+}
+
+#[test]
+fn the_trace_holds_whichever_receive_fails_part_2(rt: HostRuntime) {
+    let is_right = holds_by_receives(rt.alloc(), 1).expect(&rt, "memory");
+    assert!(rt; is_right);
+}
+
+#[test]
+fn the_trace_holds_whichever_receive_fails_part_3(rt: HostRuntime) {
+    let is_right = holds_by_receives(rt.alloc(), 2).expect(&rt, "memory");
+    assert!(rt; is_right);
+}
+
+#[test]
+fn the_trace_holds_whichever_receive_fails_part_4(rt: HostRuntime) {
+    let is_right = holds_by_receives(rt.alloc(), 3).expect(&rt, "memory");
+    assert!(rt; is_right);
+}
+
+#[test]
+fn the_trace_holds_whichever_send_fails_part_1(rt: HostRuntime) {
+    let is_right = holds_by_sends(rt.alloc(), 0).expect(&rt, "memory");
+    assert!(rt; is_right);
+}
+
+#[test]
+fn the_trace_holds_whichever_send_fails_part_2(rt: HostRuntime) {
+    let is_right = holds_by_sends(rt.alloc(), 1).expect(&rt, "memory");
+    assert!(rt; is_right);
+}
+
+#[test]
+fn the_trace_holds_whichever_send_fails_part_3(rt: HostRuntime) {
+    let is_right = holds_by_sends(rt.alloc(), 2).expect(&rt, "memory");
+    assert!(rt; is_right);
+}
+
+#[test]
+fn the_trace_holds_whichever_send_fails_part_4(rt: HostRuntime) {
+    let is_right = holds_by_sends(rt.alloc(), 3).expect(&rt, "memory");
+    assert!(rt; is_right);
 }

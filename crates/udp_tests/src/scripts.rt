@@ -8,11 +8,12 @@ use udp_runs::{Loopback, run_udp};
 use vsync_runs::{Status, run_check};
 
 /// Four that part into two pairs, send on each side, and merge.
-pub(crate) const MERGE: &[u8] =
+const MERGE: &[u8] =
     b"start 1\nstart 2\nstart 3\nstart 4\ncreate 1\njoin 2 1.1\njoin 3 1.1\njoin 4 1.1\nrounds 20\nsuspect 1 3.1\nsuspect 1 4.1\nsuspect 3 1.1\nsuspect 3 2.1\nrounds 20\nsend 1 a\nsend 3 b\nrounds 20\nhint 3 1.1\nrounds 20\n";
 
 /// How their text ends.
-pub(crate) const MERGED: &[u8] = b"chat 1.1 1.1:61\nchat 2.1 1.1:61\nchat 3.1 1.1:61\nchat 4.1 1.1:61\n";
+pub(crate) const MERGED: &[u8] =
+    b"chat 1.1 1.1:61\nchat 2.1 1.1:61\nchat 3.1 1.1:61\nchat 4.1 1.1:61\n";
 
 /// What a script writes over wires, and its status.
 pub(crate) fn over_wires(
