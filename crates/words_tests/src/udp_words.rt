@@ -18,7 +18,12 @@ fn is_udp(alloc: Global, line: &[&str], config: &str, script: &str) -> bool {
 fn udp_takes_settings_and_a_script(rt: HostRuntime) {
     let alloc = rt.alloc();
     assert!(rt;
-        is_udp(alloc, &["vsync", "udp", "a.toml", "b.udp"], "a.toml", "b.udp"),
+        is_udp(
+            alloc,
+            &["vsync", "udp", "a.toml", "b.udp"],
+            "a.toml",
+            "b.udp"
+        ),
         "two paths"
     );
     assert!(rt;
@@ -66,8 +71,16 @@ fn member_takes_numbers_and_options(rt: HostRuntime) {
         numbers(
             alloc,
             &[
-                "vsync", "member", "a.toml", "65535", "4294967295", "1000000", "--contact", "7.9",
-                "--send", "hi there",
+                "vsync",
+                "member",
+                "a.toml",
+                "65535",
+                "4294967295",
+                "1000000",
+                "--contact",
+                "7.9",
+                "--send",
+                "hi there",
             ]
         ) == Some((65535, 4_294_967_295, 1_000_000, 7, 8)),
         "the greatest, and both options"
