@@ -6,7 +6,7 @@ use limits::OUTSTANDING;
 use std::alloc::Global;
 use std::io;
 use std::io::ErrorKind;
-use udp_member::{Net, Settings, SocketNet};
+use udp_net::{Net, Settings, SocketNet};
 
 /// The lengths of a FORWARD, an ORDER and an ACK of a payload of 16 bytes in a group with a name of five letters, in bytes.
 const FORWARD: usize = 62;

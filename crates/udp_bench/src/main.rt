@@ -12,7 +12,7 @@ mod race;
 
 use std::io::ErrorKind;
 use std::{env, fs, io};
-use udp_member::{Settings, settings};
+use udp_net::{Settings, settings};
 
 /// What the words ask for.
 #[derive(Drop)]

@@ -9,7 +9,8 @@ use std::alloc::Global;
 use std::io;
 use std::io::ErrorKind;
 use trace_props::Event;
-use udp_member::{Runner, Settings, SocketNet};
+use udp_member::Runner;
+use udp_net::{Settings, SocketNet};
 
 /// A member over a socket, with a chat as its receiver.
 #[derive(Drop)]

@@ -6,7 +6,7 @@ use std::alloc::Global;
 use std::io::{ErrorKind, Write};
 use std::time::{Clock, Duration};
 use std::{io, thread};
-use udp_member::{Settings, SocketNet};
+use udp_net::{Settings, SocketNet};
 use vsync_text::put_decimal;
 
 /// How long the four may take to come together, and all messages to be delivered, in nanoseconds.
