@@ -1,1 +1,2 @@
 pub mod FactOfReading
+pub mod FactOfUdpReading

@@ -2,3 +2,4 @@ pub mod Lines
 pub mod Numbers
 pub mod AddressText
 pub mod Script
+pub mod UdpScript

@@ -6,8 +6,10 @@ ghost use Rattle.script_reader.specs.Lines.{lines_of, before_byte, behind_byte, 
 ghost use Rattle.script_reader.specs.Numbers.{is_plain, has_plain_front, value_of, number_in};
 ghost use Rattle.script_reader.specs.AddressText.{address_of_text};
 ghost use Rattle.script_reader.specs.Script.{node_field, packet_field, address_field};
+ghost use Rattle.script_reader.specs.UdpScript.{rounds_field};
 
 use crate::Fault;
+use crate::udp_script::ROUNDS;
 use address::{Address, Node};
 use limits::GREATEST_NUMBER;
 
@@ -149,6 +151,22 @@ pub(crate) fn packet_field(rest: Option<&[u8]>) -> Result<(u64, Option<&[u8]>), 
     };
     let (field, rest) = first_field(text);
     match number_in(1, GREATEST_NUMBER, field) {
+        None => Err(Fault::BadNumber),
+        Some(number) => Ok((number, rest)),
+    }
+}
+
+/// The next field as a number of rounds, and what is left behind it.
+pub(crate) fn rounds_field(rest: Option<&[u8]>) -> Result<(u64, Option<&[u8]>), Fault>
+    ensures { MatchResult result
+        (λ read. rounds_field (option_copied rest.entry) ≡ Ok (read.0, option_copied read.1))
+        (λ f. rounds_field (option_copied rest.entry) ≡ Err f) }
+{
+    let Some(text) = rest else {
+        return Err(Fault::MissingField);
+    };
+    let (field, rest) = first_field(text);
+    match number_in(0, ROUNDS, field) {
         None => Err(Fault::BadNumber),
         Some(number) => Ok((number, rest)),
     }

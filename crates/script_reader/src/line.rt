@@ -35,7 +35,7 @@ pub(crate) enum Word {
     Crash,
 }
 
-fn word_of(name: &[u8]) -> Option<Word>
+pub(crate) fn word_of(name: &[u8]) -> Option<Word>
     ensures { result ≡ word_of name.now }
 {
     if name == b"start".as_slice() {
@@ -160,7 +160,11 @@ fn sent(alloc: Global, rest: Option<&[u8]>) -> Result<WorldEvent, Unheard>
 }
 
 /// The event of a word and of what is left behind it.
-fn event_of(alloc: Global, word: Word, rest: Option<&[u8]>) -> Result<WorldEvent, Unheard>
+pub(crate) fn event_of(
+    alloc: Global,
+    word: Word,
+    rest: Option<&[u8]>,
+) -> Result<WorldEvent, Unheard>
     ensures { MatchResult result (λ e. event_of word (option_copied rest.entry) ≡ Ok e) (IsUnheard (event_of word (option_copied rest.entry))) }
 {
     match word {
@@ -178,7 +182,7 @@ fn event_of(alloc: Global, word: Word, rest: Option<&[u8]>) -> Result<WorldEvent
 }
 
 /// Whether a line says nothing: it is empty, or begins with `#`.
-fn is_skipped(line: &[u8]) -> bool
+pub(crate) fn is_skipped(line: &[u8]) -> bool
     ensures { result ≡ is_skipped line.now }
 {
     match line.first() {

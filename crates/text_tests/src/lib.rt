@@ -18,3 +18,5 @@ mod runs;
 mod scripts;
 #[cfg(test)]
 mod traces;
+#[cfg(test)]
+mod udp_scripts;

@@ -2,19 +2,23 @@ ghost use Rattle.std.specs.Prelude.{◌≡◌, ◌≢◌, ◌⊎◌, ◌<◌, []
 ghost use Rattle.clap.specs.Words.{fault_of, kind_of};
 ghost use Rattle.vsync_cli.specs.Ends.{Does, EndsBy, EndsByFault};
 ghost use Rattle.vsync_cli.specs.Grammar.{program_app};
+ghost use Rattle.vsync_cli.specs.Words.{HasOneInput};
 
+use crate::udp_programs::{member, udp};
 use crate::{Invocation, command};
 use chat_log::ChatLog;
 use clap::Error;
 use clap::error::ErrorKind;
 use std::alloc::Global;
 use std::io::{Read, Write};
+use std::net::Net;
 use std::rt::{Env, Files};
+use std::time::Clock;
 use std::{env, fs, io};
 use vsync_runs::{Status, run_chat, run_check, run_packets, run_script};
 
 /// Says on the standard error why the program ends with status 5.
-fn complain<R: Eprint>(rt: &R, what: &str, path: &str) -> Status
+pub(crate) fn complain<R: Eprint>(rt: &R, what: &str, path: &str) -> Status
     ensures { result ≡ Status.Outside }
 {
     let _ = eprintln!(rt; "vsync: {what} {path}");
@@ -22,7 +26,7 @@ fn complain<R: Eprint>(rt: &R, what: &str, path: &str) -> Status
 }
 
 /// Ends for want of memory.
-fn without_memory<R: Print>(rt: &R) -> Status
+pub(crate) fn without_memory<R: Print>(rt: &R) -> Status
     ensures { EndsBy Status.Memory result }
 {
     if println!(rt; "# memory").is_err() {
@@ -32,7 +36,12 @@ fn without_memory<R: Print>(rt: &R) -> Status
 }
 
 /// Says why the outside answered an error: for want of memory, or it failed.
-fn failed<R: Print + Eprint>(rt: &R, error: &io::Error, what: &str, path: &str) -> Status {
+pub(crate) fn failed<R: Print + Eprint>(
+    rt: &R,
+    error: &io::Error,
+    what: &str,
+    path: &str,
+) -> Status {
     if error.kind() == io::ErrorKind::OutOfMemory {
         return without_memory(rt);
     }
@@ -46,6 +55,7 @@ fn answer<I: Read, W: Write>(
     reader: &mut I,
     writer: &mut W,
 ) -> Status
+    requires { HasOneInput command.entry }
     ensures { Does command.entry (I.remaining reader.old) (W.contents writer.old) (W.contents writer.new) result }
 {
     match command {
@@ -53,6 +63,7 @@ fn answer<I: Read, W: Write>(
         Invocation::Chat(_) => run_chat::<ChatLog, I, W>(alloc, reader, writer),
         Invocation::Packets(_) => run_packets::<ChatLog, I, W>(alloc, reader, writer),
         Invocation::Check(_) => run_check::<ChatLog, I, W>(alloc, reader, writer),
+        Invocation::Udp(_) | Invocation::Member(_) => unreachable!(),
     }
 }
 
@@ -71,7 +82,9 @@ fn answer_at<R: Files + Input + Print + Eprint + AllocGlobal>(
     rt: &R,
     command: Invocation<'_>,
     path: &str,
-) -> Status {
+) -> Status
+    requires { HasOneInput command.entry }
+{
     let mut output = io::writer(rt);
     if path == "-" {
         let mut input = rt.reader();
@@ -117,18 +130,25 @@ fn explain<R: Print + Eprint>(rt: &R, error: Error) -> Status
 }
 
 /// Does what the words of a command line ask for, or says why they are no command.
-fn obey<R: Files + Input + Print + Eprint + AllocGlobal>(rt: &R, words: &[String]) -> Status
+fn obey<R: Files + Input + Net + Clock + Print + Eprint + AllocGlobal>(
+    rt: &R,
+    words: &[String],
+) -> Status
     ensures { let faults = fault_of program_app (map string_bytes words.now) in
         1 < length words.now → faults ≢ [] → EndsByFault faults result }
 {
     match command(rt.alloc(), words) {
+        Ok(Invocation::Udp(words)) => udp(rt, &words),
+        Ok(Invocation::Member(words)) => member(rt, &words),
         Ok(command) => answer_at(rt, command, command.path()),
         Err(error) => explain(rt, error),
     }
 }
 
 /// The program `vsync`: does what its words ask for, and answers the exit status (docs/FORMATS.md).
-pub fn program<R: Env + Files + Input + Print + Eprint + AllocGlobal>(rt: &R) -> Status {
+pub fn program<R: Env + Files + Input + Net + Clock + Print + Eprint + AllocGlobal>(
+    rt: &R,
+) -> Status {
     let mut words = Vec::new(rt.alloc());
     match env::args(rt) {
         Ok(all) => {

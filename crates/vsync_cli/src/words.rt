@@ -3,6 +3,7 @@ ghost use Rattle.clap.specs.Words.{app_of, fault_of, found_of, rows_of, subcomma
 ghost use Rattle.vsync_cli.specs.Words.{input_of, IsWorldOn, IsChatOn, IsPacketsOn, IsCheckOn, IsOrNoMemory, RunsStandardInput};
 ghost use Rattle.vsync_cli.specs.Grammar.{is_path, program_app, program_of_subcommands, AddsPath, IsSaid, IsSubcommandOn};
 
+use crate::udp_words::{MemberWords, UdpWords, member_words, udp_words, with_member, with_udp};
 use clap::{Arg, ArgMatches, Error};
 use std::alloc::{AllocError, Global};
 
@@ -19,10 +20,14 @@ pub enum Invocation<'a> {
     Packets(&'a str),
     /// `check TRACE`: the trace of this path is checked; `-` is the standard input.
     Check(&'a str),
+    /// `udp CONFIG SCRIPT`: nodes run over datagrams in one process.
+    Udp(UdpWords<'a>),
+    /// `member CONFIG NODE INCARNATION ROUNDS`: one node runs over datagrams by itself.
+    Member(MemberWords<'a>),
 }
 
 impl<'a> Invocation<'a> {
-    /// The path of its input.
+    /// The path of its input; of nodes over datagrams that of their settings.
     pub fn path(&self) -> &'a str
         ensures { result.now ≡ input_of self.now }
     {
@@ -31,6 +36,8 @@ impl<'a> Invocation<'a> {
             Invocation::Chat(path) => path,
             Invocation::Packets(path) => path,
             Invocation::Check(path) => path,
+            Invocation::Udp(words) => words.config,
+            Invocation::Member(words) => words.config,
         }
     }
 }
@@ -161,7 +168,9 @@ fn grammar<'a>(alloc: Global) -> Result<clap::Command<'a>, AllocError>
     let program = with_world(alloc, program)?;
     let program = with_chat(alloc, program)?;
     let program = with_packets(alloc, program)?;
-    with_check(alloc, program)
+    let program = with_check(alloc, program)?;
+    let program = with_udp(alloc, program)?;
+    with_member(alloc, program)
 }
 
 /// The input that a subcommand's matches name.
@@ -179,6 +188,12 @@ fn named<'a>(name: &str, matches: &ArgMatches<'a>) -> Option<Invocation<'a>>
     }
     if name == "check" {
         return Some(Invocation::Check(matches.get_str("TRACE")?));
+    }
+    if name == "udp" {
+        return Some(Invocation::Udp(udp_words(matches)?));
+    }
+    if name == "member" {
+        return Some(Invocation::Member(member_words(matches)?));
     }
     None
 }
@@ -205,7 +220,7 @@ fn parsed<'a>(alloc: Global, words: &'a [String]) -> Result<Invocation<'a>, Erro
 }
 
 /// The command that the words of a command line ask for, the program's name first: `world SCRIPT`, `chat SCRIPT`,
-/// `packets SCRIPT` or `check TRACE`.
+/// `packets SCRIPT`, `check TRACE`, `udp CONFIG SCRIPT` or `member CONFIG NODE INCARNATION ROUNDS` with its options.
 /// No words after the name are `world -`. A path that begins with `-` and is more than that stands behind `--`.
 ///
 /// Words that are no command give clap's error, whose text says what is wrong (`error.kind()` says which kind of

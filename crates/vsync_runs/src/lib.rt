@@ -10,6 +10,7 @@ mod status;
 
 pub use chats::run_chat;
 pub use checks::run_check;
+pub use ends::{Unreadable, end_in_fault, end_in_memory, end_with, read_all};
 pub use packets::run_packets;
 pub use scripts::run_script;
 pub use status::Status;

@@ -3,4 +3,6 @@
 #![tactic(auto)]
 
 #[cfg(test)]
+mod udp_words;
+#[cfg(test)]
 mod words;

@@ -3,7 +3,7 @@ use std::alloc::{AllocError, Global};
 use vsync_cli::{Invocation, command};
 
 /// The words of a command line, as the environment gives them.
-fn words_of(alloc: Global, line: &[&str]) -> Result<Vec<String>, AllocError> {
+pub(crate) fn words_of(alloc: Global, line: &[&str]) -> Result<Vec<String>, AllocError> {
     let mut words = Vec::new(alloc);
     for word in line {
         words.push(String::from_str(alloc, word)?)?;
@@ -18,6 +18,8 @@ fn name_of(command: Invocation<'_>) -> &'static str {
         Invocation::Chat(_) => "chat",
         Invocation::Packets(_) => "packets",
         Invocation::Check(_) => "check",
+        Invocation::Udp(_) => "udp",
+        Invocation::Member(_) => "member",
     }
 }
 
@@ -37,7 +39,7 @@ fn asked(alloc: Global, line: &[&str], path: &str) -> Option<&'static str> {
 }
 
 /// The kind of error that the words give; `None` where they are a command.
-fn refusal(alloc: Global, line: &[&str]) -> Option<ErrorKind> {
+pub(crate) fn refusal(alloc: Global, line: &[&str]) -> Option<ErrorKind> {
     let words = words_of(alloc, line).ok()?;
     match command(alloc, words.as_slice()) {
         Ok(_) => None,

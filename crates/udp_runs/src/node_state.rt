@@ -1,0 +1,218 @@
+//! A node, and the member that runs there.
+
+use address::{Address, Node};
+use channel::{Channel, Error};
+use chat_log::Chat;
+use limits::Refusal;
+use std::alloc::{AllocError, Global};
+use trace_props::{Bytes, Event};
+use udp_member::Runner;
+use udp_net::Net;
+use vsync_text::{append_chat, append_event, append_refusal};
+use world_model::WorldEvent;
+
+/// A node, and the member that runs there. Each call appends to a text what happened by it.
+#[derive(Drop)]
+pub(crate) struct NodeState<N: Net, C: Chat> {
+    node: Node,
+    // The address of the member that was started there last.
+    last: Option<Address>,
+    member: Option<Runner<N, C>>,
+}
+
+/// The member of an address over a net, not connected yet.
+pub(crate) fn member_at<N: Net, C: Chat>(
+    alloc: Global,
+    address: Address,
+    net: N,
+    silent: u16,
+) -> Result<Runner<N, C>, AllocError> {
+    let channel = Channel::new(alloc, address, C::opening(alloc)?);
+    Runner::new(alloc, net, channel, u32::from(silent))
+}
+
+/// Appends the lines of the events of a member that were not taken yet.
+pub(crate) fn append_events<N: Net, C: Chat>(
+    text: &mut Vec<u8>,
+    member: &mut Runner<N, C>,
+) -> Result<(), AllocError> {
+    while let Some(event) = member.channel().happened() {
+        append_event(text, &event)?;
+    }
+    Ok(())
+}
+
+/// Appends the chat line of a member, unless it has ended.
+pub(crate) fn append_chat_of<N: Net, C: Chat>(
+    text: &mut Vec<u8>,
+    member: &mut Runner<N, C>,
+) -> Result<(), AllocError> {
+    let channel = member.channel();
+    let address = channel.address();
+    match channel.receiver() {
+        Some(chat) => append_chat(text, &address, chat),
+        None => Ok(()),
+    }
+}
+
+/// A channel's answer without its value.
+fn plain<T: Drop>(answer: Result<T, (Vec<u8>, Error)>) -> Result<(), Error> {
+    match answer {
+        Ok(_) => Ok(()),
+        Err((_, error)) => Err(error),
+    }
+}
+
+/// Sends a payload by a channel. The outer error says that memory was refused before that.
+fn send<C: Chat>(
+    alloc: Global,
+    channel: &mut Channel<C>,
+    payload: &Bytes,
+) -> Result<Result<(), Error>, AllocError> {
+    let payload = Vec::from_slice(alloc, payload.as_slice())?;
+    Ok(plain(channel.send(payload)))
+}
+
+/// Does an event by a channel in the group of this name. The outer error says that memory was refused before that.
+fn call<C: Chat>(
+    alloc: Global,
+    channel: &mut Channel<C>,
+    group: &[u8],
+    event: &WorldEvent,
+) -> Result<Result<(), Error>, AllocError> {
+    match event {
+        WorldEvent::Create(_) => Ok(channel.connect_new(group)),
+        WorldEvent::Join(_, contact) => Ok(channel.connect_to(group, *contact)),
+        WorldEvent::Send(_, payload) => send(alloc, channel, payload),
+        WorldEvent::Tick(_) => Ok(channel.tick()),
+        WorldEvent::Suspect(_, address) => Ok(channel.suspect(*address)),
+        WorldEvent::MergeHint(_, address) => Ok(channel.merge_hint(*address)),
+        WorldEvent::Leave(_) => Ok(channel.disconnect()),
+        // No call of a channel.
+        WorldEvent::Start(_) | WorldEvent::Deliver(_) | WorldEvent::Crash(_) => Ok(Ok(())),
+    }
+}
+
+impl<N: Net, C: Chat> NodeState<N, C> {
+    // A node where no member was started yet.
+    pub(crate) fn new(node: Node) -> NodeState<N, C> {
+        NodeState {
+            node,
+            last: None,
+            member: None,
+        }
+    }
+
+    // The node.
+    pub(crate) fn node(&self) -> Node {
+        self.node
+    }
+
+    // The address of the next member there. Refused with 5 where one runs, and with 8 after the last incarnation.
+    pub(crate) fn next_address(&self) -> Result<Address, Refusal> {
+        if self.member.is_some() {
+            return Err(Refusal::AlreadyConnected);
+        }
+        match self.last {
+            None => Ok(Address::first_at(self.node)),
+            Some(last) => last.next_incarnation().ok_or(Refusal::Exhausted),
+        }
+    }
+
+    // Starts the member of an address there. It crashes at once where it is refused memory.
+    pub(crate) fn start(
+        &mut self,
+        alloc: Global,
+        address: Address,
+        net: N,
+        silent: u16,
+        text: &mut Vec<u8>,
+    ) -> Result<(), AllocError> {
+        self.last = Some(address);
+        append_event(text, &Event::Started(address))?;
+        match member_at(alloc, address, net, silent) {
+            Ok(member) => {
+                self.member = Some(member);
+                Ok(())
+            }
+            Err(_) => self.crash(text),
+        }
+    }
+
+    // Does the event of a line at the running member, in the group of this name. Refused with 1 where none was started, and with 6 where none runs any more.
+    pub(crate) fn carry_out(
+        &mut self,
+        alloc: Global,
+        group: &[u8],
+        line: u64,
+        event: &WorldEvent,
+        text: &mut Vec<u8>,
+    ) -> Result<(), AllocError> {
+        let Some(member) = self.member.as_mut() else {
+            return append_refusal(text, line, self.absence().number());
+        };
+        if matches!(event, WorldEvent::Crash(_)) {
+            return self.crash(text);
+        }
+        let answer = call(alloc, member.channel(), group, event)?;
+        append_events(text, member)?;
+        match answer {
+            Ok(()) => self.end_if_left(event, text),
+            Err(Error::Refused(Refusal::Memory)) => self.crash(text),
+            Err(error) => append_refusal(text, line, error.number()),
+        }
+    }
+
+    // A round of the member, if one runs. It is gone then where it has ended, and has crashed where it was refused memory.
+    pub(crate) fn round(&mut self, text: &mut Vec<u8>) -> Result<(), AllocError> {
+        let Some(member) = self.member.as_mut() else {
+            return Ok(());
+        };
+        let answer = member.round();
+        append_events(text, member)?;
+        match answer {
+            Ok(()) => Ok(()),
+            Err(Error::Refused(Refusal::Memory)) => self.crash(text),
+            Err(_) => {
+                self.member = None;
+                Ok(())
+            }
+        }
+    }
+
+    // Appends the chat line of the member, if one runs.
+    pub(crate) fn append_chat(&mut self, text: &mut Vec<u8>) -> Result<(), AllocError> {
+        match self.member.as_mut() {
+            Some(member) => append_chat_of(text, member),
+            None => Ok(()),
+        }
+    }
+
+    // Why nothing is done where no member runs.
+    fn absence(&self) -> Refusal {
+        if self.last.is_some() {
+            Refusal::Closed
+        } else {
+            Refusal::NotConnected
+        }
+    }
+
+    // A member that left has one round more, by which its last packets go out; then it is gone.
+    fn end_if_left(&mut self, event: &WorldEvent, text: &mut Vec<u8>) -> Result<(), AllocError> {
+        if !matches!(event, WorldEvent::Leave(_)) {
+            return Ok(());
+        }
+        self.round(text)?;
+        self.member = None;
+        Ok(())
+    }
+
+    // The member is gone, by a crash.
+    fn crash(&mut self, text: &mut Vec<u8>) -> Result<(), AllocError> {
+        self.member = None;
+        match self.last {
+            Some(address) => append_event(text, &Event::Crashed(address)),
+            None => Ok(()),
+        }
+    }
+}

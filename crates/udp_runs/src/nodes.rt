@@ -1,0 +1,161 @@
+//! The nodes of the settings, in one process.
+
+use crate::Machine;
+use crate::ends::Stop;
+use crate::node_state::NodeState;
+use address::{Address, Node};
+use chat_log::Chat;
+use script_reader::{UdpEvent, UdpLine};
+use std::alloc::{AllocError, Global};
+use udp_net::{BindError, Net, Settings};
+use vsync_text::append_refusal;
+use world_model::{Target, WorldEvent};
+
+/// The nodes of the settings, by number.
+#[derive(Drop)]
+pub(crate) struct Nodes<N: Net, C: Chat> {
+    alloc: Global,
+    node_states: Vec<NodeState<N, C>>,
+}
+
+// The nodes that settings list, by number.
+fn sorted(alloc: Global, settings: &Settings) -> Result<Vec<Node>, AllocError> {
+    let mut nodes = Vec::with_capacity(alloc, settings.nodes().len())?;
+    for listed in settings.nodes() {
+        nodes.push(listed.node)?;
+    }
+    nodes.sort()?;
+    Ok(nodes)
+}
+
+// The node that an event concerns; `None` for a packet.
+fn node_of(event: &WorldEvent) -> Option<Node> {
+    match event.target() {
+        Target::Member(node) => Some(node),
+        Target::Packet(_) => None,
+    }
+}
+
+impl<N: Net, C: Chat> Nodes<N, C> {
+    // The nodes that settings list; no member runs.
+    pub(crate) fn new(alloc: Global, settings: &Settings) -> Result<Nodes<N, C>, AllocError> {
+        let mut node_states = Vec::with_capacity(alloc, settings.nodes().len())?;
+        for node in sorted(alloc, settings)? {
+            node_states.push(NodeState::new(node))?;
+        }
+        Ok(Nodes { alloc, node_states })
+    }
+
+    // Does what a line says, and appends what happened.
+    pub(crate) fn carry_out<M: Machine<Net = N>>(
+        &mut self,
+        settings: &Settings,
+        machine: &mut M,
+        line: &UdpLine,
+        text: &mut Vec<u8>,
+    ) -> Result<(), Stop> {
+        match &line.event {
+            UdpEvent::Rounds(count) => {
+                self.rounds(*count, text)?;
+                Ok(())
+            }
+            UdpEvent::Node(WorldEvent::Start(node)) => {
+                self.start(settings, machine, line.number, *node, text)
+            }
+            UdpEvent::Node(event) => {
+                self.call(settings, line.number, event, text)?;
+                Ok(())
+            }
+        }
+    }
+
+    // Appends the chat line of each member that runs, by node.
+    pub(crate) fn append_chats(&mut self, text: &mut Vec<u8>) -> Result<(), AllocError> {
+        for node_state in self.node_states.as_mut_slice() {
+            node_state.append_chat(text)?;
+        }
+        Ok(())
+    }
+
+    // So many rounds of each member that runs, in each of them by node.
+    fn rounds(&mut self, count: u64, text: &mut Vec<u8>) -> Result<(), AllocError> {
+        for _ in 0..count {
+            for node_state in self.node_states.as_mut_slice() {
+                node_state.round(text)?;
+            }
+        }
+        Ok(())
+    }
+
+    // The index of a node; `None` for one that the settings do not list.
+    fn index_of(&self, node: Node) -> Option<usize> {
+        self.node_states
+            .as_slice()
+            .iter()
+            .position(|node_state| node_state.node() == node)
+    }
+
+    // Starts the next member of a node. Refused with 50 where the settings do not list the node, with 5 where one runs, and with 8 after the last incarnation.
+    fn start<M: Machine<Net = N>>(
+        &mut self,
+        settings: &Settings,
+        machine: &mut M,
+        line: u64,
+        node: Node,
+        text: &mut Vec<u8>,
+    ) -> Result<(), Stop> {
+        let Some(index) = self.index_of(node) else {
+            append_refusal(text, line, BindError::Config.number())?;
+            return Ok(());
+        };
+        match self.node_states[index].next_address() {
+            Ok(address) => self.start_at(settings, machine, line, index, address, text),
+            Err(refusal) => {
+                append_refusal(text, line, refusal.number())?;
+                Ok(())
+            }
+        }
+    }
+
+    // Starts the member of an address at the node of an index.
+    fn start_at<M: Machine<Net = N>>(
+        &mut self,
+        settings: &Settings,
+        machine: &mut M,
+        line: u64,
+        index: usize,
+        address: Address,
+        text: &mut Vec<u8>,
+    ) -> Result<(), Stop> {
+        match machine.net(address.node()) {
+            Ok(net) => {
+                self.node_states[index].start(self.alloc, address, net, settings.silent(), text)?;
+                Ok(())
+            }
+            Err(error) => Err(Stop::NoNet(line, error)),
+        }
+    }
+
+    // Does the event of a line at its node. Refused with 1 where no member was started there.
+    fn call(
+        &mut self,
+        settings: &Settings,
+        line: u64,
+        event: &WorldEvent,
+        text: &mut Vec<u8>,
+    ) -> Result<(), AllocError> {
+        let Some(node) = node_of(event) else {
+            return Ok(());
+        };
+        match self.index_of(node) {
+            Some(index) => self.node_states[index].carry_out(
+                self.alloc,
+                settings.group().as_slice(),
+                line,
+                event,
+                text,
+            ),
+            None => append_refusal(text, line, limits::Refusal::NotConnected.number()),
+        }
+    }
+}

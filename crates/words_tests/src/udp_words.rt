@@ -1,0 +1,149 @@
+use crate::words::{refusal, words_of};
+use clap::error::ErrorKind;
+use std::alloc::Global;
+use vsync_cli::{Invocation, MemberMistake, command};
+
+/// Whether the words ask for the script of this path with the settings of that.
+fn is_udp(alloc: Global, line: &[&str], config: &str, script: &str) -> bool {
+    let Ok(words) = words_of(alloc, line) else {
+        return false;
+    };
+    match command(alloc, words.as_slice()) {
+        Ok(Invocation::Udp(udp)) => udp.config == config && udp.script == script,
+        _ => false,
+    }
+}
+
+#[test]
+fn udp_takes_settings_and_a_script(rt: HostRuntime) {
+    let alloc = rt.alloc();
+    assert!(rt;
+        is_udp(
+            alloc,
+            &["vsync", "udp", "a.toml", "b.udp"],
+            "a.toml",
+            "b.udp"
+        ),
+        "two paths"
+    );
+    assert!(rt;
+        is_udp(alloc, &["vsync", "udp", "a.toml", "-"], "a.toml", "-"),
+        "the standard input"
+    );
+    assert!(rt;
+        refusal(alloc, &["vsync", "udp", "a.toml"]) == Some(ErrorKind::MissingRequiredArgument),
+        "one path"
+    );
+}
+
+/// The node, the incarnation, the rounds, the contact's node and the length of the text of `member`; 0 for what does not stand there. `None` for other words.
+fn numbers(alloc: Global, line: &[&str]) -> Option<(u16, u32, u64, u16, usize)> {
+    let words = words_of(alloc, line).ok()?;
+    let Ok(Invocation::Member(member)) = command(alloc, words.as_slice()) else {
+        return None;
+    };
+    let plan = member.plan().ok()?;
+    let contact = match plan.contact {
+        Some(contact) => contact.node().number(),
+        None => 0,
+    };
+    let length = match plan.send {
+        Some(text) => text.len(),
+        None => 0,
+    };
+    Some((
+        plan.address.node().number(),
+        plan.address.incarnation(),
+        plan.rounds,
+        contact,
+        length,
+    ))
+}
+
+#[test]
+fn member_takes_numbers_and_options(rt: HostRuntime) {
+    let alloc = rt.alloc();
+    assert!(rt;
+        numbers(alloc, &["vsync", "member", "a.toml", "1", "1", "0"]) == Some((1, 1, 0, 0, 0)),
+        "the least"
+    );
+    assert!(rt;
+        numbers(
+            alloc,
+            &[
+                "vsync",
+                "member",
+                "a.toml",
+                "65535",
+                "4294967295",
+                "1000000",
+                "--contact",
+                "7.9",
+                "--send",
+                "hi there",
+            ]
+        ) == Some((65535, 4_294_967_295, 1_000_000, 7, 8)),
+        "the greatest, and both options"
+    );
+}
+
+#[test]
+fn a_number_out_of_range_is_a_usage_fault(rt: HostRuntime) {
+    let alloc = rt.alloc();
+    for (node, incarnation, rounds) in [
+        ("0", "1", "1"),
+        ("65536", "1", "1"),
+        ("1", "0", "1"),
+        ("1", "4294967296", "1"),
+        ("1", "1", "1000001"),
+        ("one", "1", "1"),
+    ] {
+        let line = ["vsync", "member", "a.toml", node, incarnation, rounds];
+        assert!(rt;
+            refusal(alloc, &line) == Some(ErrorKind::ValueValidation),
+            "{node} {incarnation} {rounds}"
+        );
+    }
+}
+
+/// What is wrong with an option of `member` that clap takes.
+fn mistake(alloc: Global, option: &str, value: &str) -> Option<MemberMistake> {
+    let line = ["vsync", "member", "a.toml", "1", "1", "1", option, value];
+    let words = words_of(alloc, &line).ok()?;
+    match command(alloc, words.as_slice()) {
+        Ok(Invocation::Member(member)) => member.plan().err(),
+        _ => None,
+    }
+}
+
+#[test]
+fn a_contact_is_an_address(rt: HostRuntime) {
+    let alloc = rt.alloc();
+    for (value, want) in [
+        ("1.1", None),
+        ("1", Some(MemberMistake::NoAddress)),
+        ("0.1", Some(MemberMistake::NoAddress)),
+        ("1.01", Some(MemberMistake::NoAddress)),
+        ("", Some(MemberMistake::NoAddress)),
+    ] {
+        let got = mistake(alloc, "--contact", value);
+        assert!(rt; got == want, "{value}");
+    }
+}
+
+#[test]
+fn a_text_has_at_most_512_bytes(rt: HostRuntime) {
+    let alloc = rt.alloc();
+    let bytes = vec![in alloc; b'a'; 513].expect(&rt, "memory");
+    let (Ok(whole), Ok(longer)) = (
+        str::from_utf8(bytes.as_slice().split_at(512).0),
+        str::from_utf8(bytes.as_slice()),
+    ) else {
+        return;
+    };
+    assert!(rt; mistake(alloc, "--send", whole).is_none(), "512");
+    assert!(rt;
+        mistake(alloc, "--send", longer) == Some(MemberMistake::LongText),
+        "513"
+    );
+}
