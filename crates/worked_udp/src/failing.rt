@@ -1,15 +1,16 @@
 //! Nets that fail in a call: four members that part and merge, with each receive and each send failing in turn.
 
-use crate::hub::{Wire, Wires};
-use crate::scripts::{MERGED, holds, over_wires};
-use address::{Address, Node};
+use crate::channels::first_at;
+use crate::lan::member;
+use crate::lines::{put_number, put_truth};
+use crate::sockets::{FOUR, MERGED, holds, settings_of};
 use channel::Channel;
 use chat_log::ChatLog;
-use state_transfer::Receiver;
 use std::alloc::{AllocError, Global};
 use std::cell::RefCell;
+use udp_hub::{Hub, Wire, Wires};
 use udp_member::Runner;
-use udp_net::Net;
+use udp_runs::run_udp;
 use vsync_runs::Status;
 use vsync_text::append_event;
 
@@ -47,36 +48,13 @@ struct Four<'a> {
     after: Vec<After>,
 }
 
-/// The first address at the node of a number.
-fn first_at(number: u16) -> Address {
-    Address::first_at(Node::new(number).unwrap_or(Node::new(1).unwrap()))
-}
-
-/// The member of a node: 1.1 makes a group, and others ask it to be let in.
-fn member<'a>(
-    alloc: Global,
-    wires: &'a RefCell<Wires>,
-    number: u16,
-) -> Result<Member<'a>, AllocError> {
-    let address = first_at(number);
-    let mut channel = Channel::new(alloc, address, ChatLog::opening(alloc)?);
-    let connected = if number == 1 {
-        channel.connect_new(b"chat")
-    } else {
-        channel.connect_to(b"chat", first_at(1))
-    };
-    if connected.is_err() {
-        return Err(AllocError);
-    }
-    Runner::new(alloc, Wire::new(wires, address.node()), channel, 50)
-}
-
 impl<'a> Four<'a> {
     /// The four, before their first round.
     fn new(alloc: Global, wires: &'a RefCell<Wires>) -> Result<Four<'a>, AllocError> {
         let mut members = Vec::new(alloc);
         for number in 1..=4u16 {
-            members.push(member(alloc, wires, number)?)?;
+            let net = Wire::new(wires, first_at(number).node());
+            members.push(member(alloc, net, number, 50)?)?;
         }
         Ok(Four {
             alloc,
@@ -149,11 +127,11 @@ impl<'a> Four<'a> {
     }
 }
 
-/// The text of what happened to the four, and what was counted after each round, where one call fails; 0 for none.
+/// The text of what happened to the four, and what was counted after each round, where one call fails.
 fn story(
     alloc: Global,
-    failing_receive: u64,
-    failing_send: u64,
+    failing_receive: Option<u64>,
+    failing_send: Option<u64>,
 ) -> Result<(Vec<u8>, Vec<After>), AllocError> {
     let mut wires = Wires::new(alloc);
     wires.failing_receive = failing_receive;
@@ -186,20 +164,6 @@ fn is_counted_once(after: &[After], number: u64) -> bool {
     is_right
 }
 
-#[test]
-fn a_failed_receive_is_counted_and_is_the_last_of_its_round(rt: HostRuntime) {
-    let (_, whole) = story(rt.alloc(), 0, 0).expect(&rt, "memory");
-    let (receives, _) = last(whole.as_slice());
-    assert!(rt; receives > 100, "there are many receives");
-    for number in 1..=receives {
-        let (_, after) = story(rt.alloc(), number, 0).expect(&rt, "memory");
-        assert!(rt;
-            is_counted_once(after.as_slice(), number),
-            "receive {number}"
-        );
-    }
-}
-
 /// Whether both are the same up to and with the round of this send.
 fn are_same_up_to(
     whole: &(Vec<u8>, Vec<After>),
@@ -220,106 +184,74 @@ fn are_same_up_to(
     before == after && whole.0.get(..length) == less.0.get(..length)
 }
 
-#[test]
-fn a_failed_send_changes_nothing_else_in_its_round(rt: HostRuntime) {
-    let whole = story(rt.alloc(), 0, 0).expect(&rt, "memory");
-    let (_, sends) = last(whole.1.as_slice());
-    assert!(rt; sends > 60, "there are many sends");
-    for number in 1..=sends {
-        let less = story(rt.alloc(), 0, number).expect(&rt, "memory");
-        assert!(rt; are_same_up_to(&whole, &less, number), "send {number}");
-    }
-}
-
-/// Whether the script is done over wires on which one call fails, and its trace holds; where none fails, the views merge too. Then how many receives and sends
-/// there were.
+/// Whether the script is done over wires on which one call fails, and its trace holds; where none fails, the views merge too.
 fn is_done(
     alloc: Global,
-    failing_receive: u64,
-    failing_send: u64,
-) -> Result<(bool, u64, u64), AllocError> {
+    failing_receive: Option<u64>,
+    failing_send: Option<u64>,
+) -> Result<bool, AllocError> {
+    let settings = settings_of(alloc, FOUR)?;
     let mut wires = Wires::new(alloc);
     wires.failing_receive = failing_receive;
     wires.failing_send = failing_send;
-    let (text, status, wires) = over_wires(alloc, wires, SHORT)?;
-    let is_merged = failing_receive > 0 || failing_send > 0 || text.as_slice().ends_with(MERGED);
-    let is_right = status == Status::Done && is_merged && holds(alloc, text.as_slice());
-    Ok((is_right, wires.receives, wires.sends))
+    let wires = RefCell::new(wires);
+    let mut text = Vec::new(alloc);
+    let mut reader = SHORT;
+    let mut hub = Hub { wires: &wires };
+    let status = run_udp::<ChatLog, _, _, _>(alloc, &settings, &mut hub, &mut reader, &mut text);
+    let is_merged = failing_receive.is_some()
+        || failing_send.is_some()
+        || text.as_slice().ends_with(MERGED);
+    Ok(status == Status::Done && is_merged && holds(alloc, text.as_slice()))
 }
 
-/// In how many tests the runs are, so that none takes long.
-const PARTS: u64 = 4;
-
-/// Whether the trace holds whichever of the receives fails whose number leaves this when divided by `PARTS`.
-fn holds_by_receives(alloc: Global, part: u64) -> Result<bool, AllocError> {
-    let (mut is_right, receives, _) = is_done(alloc, 0, 0)?;
-    is_right = is_right && receives > 100;
-    for number in 1..=receives {
-        if number % PARTS == part {
-            let (is_done, _, _) = is_done(alloc, number, 0)?;
-            is_right = is_right && is_done;
+/// Each receive fails in turn: it is counted once, and is the last of its round, and the trace holds.
+pub fn receives(alloc: Global) -> Result<Vec<u8>, AllocError> {
+    let mut text = Vec::new(alloc);
+    let whole = story(alloc, None, None)?;
+    let count = match whole.1.last() {
+        Some(after) => after.receives,
+        None => 0,
+    };
+    put_truth(&mut text, "more than a hundred", count > 100)?;
+    for number in 1..=count {
+        let (_, after) = story(alloc, Some(number), None)?;
+        if !is_counted_once(after.as_slice(), number) {
+            put_number(
+                &mut text,
+                "not counted once, as the last of its round",
+                number,
+            )?;
+        }
+        if !is_done(alloc, Some(number), None)? {
+            put_number(&mut text, "the trace does not hold", number)?;
         }
     }
-    Ok(is_right)
+    Ok(text)
 }
 
-/// The same of the sends.
-fn holds_by_sends(alloc: Global, part: u64) -> Result<bool, AllocError> {
-    let (mut is_right, _, sends) = is_done(alloc, 0, 0)?;
-    is_right = is_right && sends > 60;
-    for number in 1..=sends {
-        if number % PARTS == part {
-            let (is_done, _, _) = is_done(alloc, 0, number)?;
-            is_right = is_right && is_done;
+/// Each send fails in turn: nothing else changes in its round, and the trace holds.
+pub fn sends(alloc: Global) -> Result<Vec<u8>, AllocError> {
+    let mut text = Vec::new(alloc);
+    let whole = story(alloc, None, None)?;
+    let count = match whole.1.last() {
+        Some(after) => after.sends,
+        None => 0,
+    };
+    put_truth(&mut text, "more than sixty", count > 60)?;
+    put_truth(
+        &mut text,
+        "where none fails the views merge",
+        is_done(alloc, None, None)?,
+    )?;
+    for number in 1..=count {
+        let less = story(alloc, None, Some(number))?;
+        if !are_same_up_to(&whole, &less, number) {
+            put_number(&mut text, "something else changes in its round", number)?;
+        }
+        if !is_done(alloc, None, Some(number))? {
+            put_number(&mut text, "the trace does not hold", number)?;
         }
     }
-    Ok(is_right)
-}
-
-#[test]
-fn the_trace_holds_whichever_receive_fails_part_1(rt: HostRuntime) {
-    let is_right = holds_by_receives(rt.alloc(), 0).expect(&rt, "memory");
-    assert!(rt; is_right);
-}
-
-#[test]
-fn the_trace_holds_whichever_receive_fails_part_2(rt: HostRuntime) {
-    let is_right = holds_by_receives(rt.alloc(), 1).expect(&rt, "memory");
-    assert!(rt; is_right);
-}
-
-#[test]
-fn the_trace_holds_whichever_receive_fails_part_3(rt: HostRuntime) {
-    let is_right = holds_by_receives(rt.alloc(), 2).expect(&rt, "memory");
-    assert!(rt; is_right);
-}
-
-#[test]
-fn the_trace_holds_whichever_receive_fails_part_4(rt: HostRuntime) {
-    let is_right = holds_by_receives(rt.alloc(), 3).expect(&rt, "memory");
-    assert!(rt; is_right);
-}
-
-#[test]
-fn the_trace_holds_whichever_send_fails_part_1(rt: HostRuntime) {
-    let is_right = holds_by_sends(rt.alloc(), 0).expect(&rt, "memory");
-    assert!(rt; is_right);
-}
-
-#[test]
-fn the_trace_holds_whichever_send_fails_part_2(rt: HostRuntime) {
-    let is_right = holds_by_sends(rt.alloc(), 1).expect(&rt, "memory");
-    assert!(rt; is_right);
-}
-
-#[test]
-fn the_trace_holds_whichever_send_fails_part_3(rt: HostRuntime) {
-    let is_right = holds_by_sends(rt.alloc(), 2).expect(&rt, "memory");
-    assert!(rt; is_right);
-}
-
-#[test]
-fn the_trace_holds_whichever_send_fails_part_4(rt: HostRuntime) {
-    let is_right = holds_by_sends(rt.alloc(), 3).expect(&rt, "memory");
-    assert!(rt; is_right);
+    Ok(text)
 }

@@ -1,31 +1,23 @@
 //! Members over nets in memory, and what carries their datagrams.
 
-use address::{Address, Node};
-use channel::Channel;
+use crate::channels::{apart, first_at};
 use chat_log::ChatLog;
-use state_transfer::Receiver;
 use std::alloc::{AllocError, Global};
 use trace_props::Bytes;
 use udp_member::{Error, Runner};
-use udp_net::MemoryNet;
+use udp_net::{MemoryNet, Net};
 
 /// A member over a net in memory.
-pub(crate) type Member = Runner<MemoryNet, ChatLog>;
+pub type Member = Runner<MemoryNet, ChatLog>;
 
-/// The node of a number.
-pub(crate) fn node(number: u16) -> Node {
-    Node::new(number).unwrap_or(Node::new(1).unwrap())
-}
-
-/// The first address at the node of a number.
-pub(crate) fn first_at(number: u16) -> Address {
-    Address::first_at(node(number))
-}
-
-/// The member 1.1 of a group of its own, or another that asks 1.1 to be let in.
-pub(crate) fn member(alloc: Global, number: u16, silent: u32) -> Result<Member, AllocError> {
-    let address = first_at(number);
-    let mut channel = Channel::new(alloc, address, ChatLog::opening(alloc)?);
+/// A member over a net: that of 1.1, with a group of its own, or another that asks 1.1 to be let in.
+pub fn member<N: Net>(
+    alloc: Global,
+    net: N,
+    number: u16,
+    silent: u32,
+) -> Result<Runner<N, ChatLog>, AllocError> {
+    let mut channel = apart(alloc, number)?;
     let connected = if number == 1 {
         channel.connect_new(b"chat")
     } else {
@@ -34,11 +26,11 @@ pub(crate) fn member(alloc: Global, number: u16, silent: u32) -> Result<Member, 
     if connected.is_err() {
         return Err(AllocError);
     }
-    Runner::new(alloc, MemoryNet::new(alloc), channel, silent)
+    Runner::new(alloc, net, channel, silent)
 }
 
 /// How many members its view has; 0 without a view.
-pub(crate) fn members(member: &mut Member) -> usize {
+pub fn members(member: &mut Member) -> usize {
     match member.channel().view() {
         Some(view) => view.members().len(),
         None => 0,
@@ -47,7 +39,7 @@ pub(crate) fn members(member: &mut Member) -> usize {
 
 /// Members 1.1, 2.1 and so on, and how many datagrams of each were carried.
 #[derive(Drop)]
-pub(crate) struct Lan {
+pub struct Lan {
     alloc: Global,
     members: Vec<Member>,
     carried: Vec<usize>,
@@ -55,33 +47,34 @@ pub(crate) struct Lan {
 
 impl Lan {
     /// As many members as `count`. Nobody but 1.1 has a view yet.
-    pub(crate) fn new(alloc: Global, count: u16, silent: u32) -> Result<Lan, AllocError> {
+    pub fn new(alloc: Global, count: u16, silent: u32) -> Result<Lan, AllocError> {
         let mut lan = Lan {
             alloc,
             members: Vec::new(alloc),
             carried: Vec::new(alloc),
         };
         for number in 1..=count {
-            lan.members.push(member(alloc, number, silent)?)?;
+            lan.members
+                .push(member(alloc, MemoryNet::new(alloc), number, silent)?)?;
             lan.carried.push(0)?;
         }
         Ok(lan)
     }
 
     /// The same, after rounds by which all are in one view.
-    pub(crate) fn together(alloc: Global, count: u16, silent: u32) -> Result<Lan, AllocError> {
+    pub fn together(alloc: Global, count: u16, silent: u32) -> Result<Lan, AllocError> {
         let mut lan = Lan::new(alloc, count, silent)?;
         lan.rounds(20, count)?;
         Ok(lan)
     }
 
     /// The member of a node.
-    pub(crate) fn at(&mut self, number: u16) -> Option<&mut Member> {
+    pub fn at(&mut self, number: u16) -> Option<&mut Member> {
         self.members.get_mut(usize::from(number).checked_sub(1)?)
     }
 
     /// A round of the member of a node; then its datagrams are carried.
-    pub(crate) fn round(&mut self, number: u16) -> Result<Result<(), Error>, AllocError> {
+    pub fn round(&mut self, number: u16) -> Result<Result<(), Error>, AllocError> {
         let Some(member) = self.at(number) else {
             return Ok(Ok(()));
         };
@@ -95,7 +88,7 @@ impl Lan {
     }
 
     /// So many rounds of each of the members up to a node, in turn.
-    pub(crate) fn rounds(&mut self, count: u16, last: u16) -> Result<(), AllocError> {
+    pub fn rounds(&mut self, count: u16, last: u16) -> Result<(), AllocError> {
         for _ in 0..count {
             for number in 1..=last {
                 let _ = self.round(number)?;
@@ -105,7 +98,7 @@ impl Lan {
     }
 
     /// Puts a datagram into the net of a node.
-    pub(crate) fn put(&mut self, number: u16, bytes: &[u8]) -> Result<(), AllocError> {
+    pub fn put(&mut self, number: u16, bytes: &[u8]) -> Result<(), AllocError> {
         match self.at(number) {
             Some(member) => member.net().put(bytes),
             None => Ok(()),
@@ -113,7 +106,7 @@ impl Lan {
     }
 
     /// What the member of a node offered as its datagram of this index.
-    pub(crate) fn offered(&mut self, number: u16, index: usize) -> Result<Bytes, AllocError> {
+    pub fn offered(&mut self, number: u16, index: usize) -> Result<Bytes, AllocError> {
         let alloc = self.alloc;
         let Some(member) = self.at(number) else {
             return Err(AllocError);
@@ -124,8 +117,19 @@ impl Lan {
         }
     }
 
+    /// How many datagrams the member of a node offered.
+    pub fn sends(&mut self, number: u16) -> usize {
+        match self.at(number) {
+            Some(member) => match member.net().offered() {
+                Some(offered) => offered.len(),
+                None => 0,
+            },
+            None => 0,
+        }
+    }
+
     /// How many members the view of a node's member has; 0 without a view.
-    pub(crate) fn members(&mut self, number: u16) -> usize {
+    pub fn members(&mut self, number: u16) -> usize {
         match self.at(number) {
             Some(member) => members(member),
             None => 0,
@@ -133,7 +137,7 @@ impl Lan {
     }
 
     /// Whether the member of a node is blocked.
-    pub(crate) fn is_blocked(&mut self, number: u16) -> bool {
+    pub fn is_blocked(&mut self, number: u16) -> bool {
         match self.at(number) {
             Some(member) => member.channel().is_blocked(),
             None => false,
@@ -141,7 +145,7 @@ impl Lan {
     }
 
     /// The chat's lines at a node, as text: each payload and a stroke.
-    pub(crate) fn lines(&mut self, number: u16) -> Result<Vec<u8>, AllocError> {
+    pub fn lines(&mut self, number: u16) -> Result<Vec<u8>, AllocError> {
         let mut text = Vec::new(self.alloc);
         let Some(member) = self.at(number) else {
             return Ok(text);
@@ -159,7 +163,7 @@ impl Lan {
     }
 
     /// The member of a node sends a payload; 0, or the number of the refusal.
-    pub(crate) fn send(&mut self, number: u16, payload: &[u8]) -> Result<u8, AllocError> {
+    pub fn send(&mut self, number: u16, payload: &[u8]) -> Result<u8, AllocError> {
         let payload = Vec::from_slice(self.alloc, payload)?;
         let Some(member) = self.at(number) else {
             return Ok(255);

@@ -1,52 +1,41 @@
-//! Nets in memory that carry datagrams between the nodes of one process.
-
 use address::Node;
-use std::alloc::{AllocError, Global};
+use std::alloc::Global;
 use std::cell::RefCell;
 use std::collections::VecDeque;
 use trace_props::Bytes;
-use udp_net::{BindError, Fault, Net, Settings, settings};
-use udp_runs::Machine;
-
-/// The settings of nodes 1 to 4, with 50 rounds of silence.
-pub(crate) const FOUR: &str =
-    "group = \"chat\"\nsilent = 50\n[[node]]\nnumber = 1\nport = 47401\n[[node]]\nnumber = 2\nport = 47402\n[[node]]\nnumber = 3\nport = 47403\n[[node]]\nnumber = 4\nport = 47404\n";
-
-/// Settings of a text that is one of settings.
-pub(crate) fn settings_of(alloc: Global, text: &str) -> Result<Settings, AllocError> {
-    match settings(alloc, text) {
-        Ok(found) => Ok(found),
-        Err(_) => Err(AllocError),
-    }
-}
+use udp_net::{Fault, Net};
 
 /// What waits for the nodes, how often they asked and sent, and which call fails.
 #[derive(Drop)]
-pub(crate) struct Wires {
+pub struct Wires {
     alloc: Global,
-    // Each datagram that waits, and for which node, the first first.
+    // Each datagram that waits, and for which node, in the order of their sends.
     waiting: VecDeque<(Node, Bytes)>,
-    pub(crate) receives: u64,
-    pub(crate) failing_receive: u64,
-    pub(crate) sends: u64,
-    pub(crate) failing_send: u64,
-    // The node for which no net is made.
-    pub(crate) taken: u16,
-    // The round of the pauses.
-    pub(crate) pauses: u64,
+    /// How many receives there were, of all nodes.
+    pub receives: u64,
+    /// The receive that fails, the first being numbered 1.
+    pub failing_receive: Option<u64>,
+    /// How many sends there were, of all nodes.
+    pub sends: u64,
+    /// The send that fails, the first being numbered 1.
+    pub failing_send: Option<u64>,
+    /// The node for which no net can be made.
+    pub taken: Option<Node>,
+    /// How many pauses there were.
+    pub pauses: u64,
 }
 
 impl Wires {
     /// Wires on which nothing waits, and where no call fails.
-    pub(crate) fn new(alloc: Global) -> Wires {
+    pub fn new(alloc: Global) -> Wires {
         Wires {
             alloc,
             waiting: VecDeque::new(alloc),
             receives: 0,
-            failing_receive: 0,
+            failing_receive: None,
             sends: 0,
-            failing_send: 0,
-            taken: 0,
+            failing_send: None,
+            taken: None,
             pauses: 0,
         }
     }
@@ -54,7 +43,7 @@ impl Wires {
     // Puts a datagram for a node behind the others, unless this send fails.
     fn send(&mut self, node: Node, bytes: &[u8]) {
         self.sends = self.sends.wrapping_add(1);
-        if self.sends != self.failing_send {
+        if self.failing_send != Some(self.sends) {
             if let Ok(bytes) = Bytes::from_slice(self.alloc, bytes) {
                 let _ = self.waiting.push_back((node, bytes));
             }
@@ -71,7 +60,7 @@ impl Wires {
     // The next datagram for a node, unless this receive fails.
     fn receive(&mut self, node: Node) -> Result<Option<Bytes>, Fault> {
         self.receives = self.receives.wrapping_add(1);
-        if self.receives == self.failing_receive {
+        if self.failing_receive == Some(self.receives) {
             return Err(Fault::Receive);
         }
         Ok(self.take(node))
@@ -80,7 +69,7 @@ impl Wires {
 
 /// The net of one node.
 #[derive(Drop)]
-pub(crate) struct Wire<'a> {
+pub struct Wire<'a> {
     wires: &'a RefCell<Wires>,
     node: Node,
     failures: u64,
@@ -88,7 +77,7 @@ pub(crate) struct Wire<'a> {
 
 impl<'a> Wire<'a> {
     /// The net of a node at these wires.
-    pub(crate) fn new(wires: &'a RefCell<Wires>, node: Node) -> Wire<'a> {
+    pub fn new(wires: &'a RefCell<Wires>, node: Node) -> Wire<'a> {
         Wire {
             wires,
             node,
@@ -134,30 +123,5 @@ impl Net for Wire<'_> {
 
     fn failures(&self) -> u64 {
         self.failures
-    }
-}
-
-/// The machine whose nodes these wires join.
-#[derive(Drop)]
-pub(crate) struct Hub<'a> {
-    pub(crate) wires: &'a RefCell<Wires>,
-}
-
-impl<'a> Machine for Hub<'a> {
-    type Net = Wire<'a>;
-
-    fn net(&mut self, node: Node) -> Result<Wire<'a>, BindError> {
-        if let Ok(wires) = self.wires.try_borrow() {
-            if wires.taken == node.number() {
-                return Err(BindError::Bind);
-            }
-        }
-        Ok(Wire::new(self.wires, node))
-    }
-
-    fn pause(&mut self) {
-        if let Ok(mut wires) = self.wires.try_borrow_mut() {
-            wires.pauses = wires.pauses.wrapping_add(1);
-        }
     }
 }
