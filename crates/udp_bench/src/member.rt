@@ -19,14 +19,9 @@ pub(crate) struct Member {
     member: Runner<SocketNet, ChatLog>,
 }
 
-impl Member {
-    /// The member of a node: that of node 1 makes the group, and the others join it.
-    pub(crate) fn new(
-        alloc: Global,
-        settings: &Settings,
-        node: Node,
-        net: SocketNet,
-    ) -> io::Result<Member> {
+impl Party for Member {
+    // The member of a node: that of node 1 makes the group, and the others join it.
+    fn new(alloc: Global, settings: &Settings, node: Node, net: SocketNet) -> io::Result<Member> {
         let group = settings.group();
         let mut channel = Channel::new(alloc, Address::first_at(node), ChatLog::opening(alloc)?);
         let connected = if node.number() == 1 {
@@ -41,9 +36,7 @@ impl Member {
         let member = Runner::new(alloc, net, channel, u32::from(settings.silent()))?;
         Ok(Member { alloc, member })
     }
-}
 
-impl Party for Member {
     fn is_ready(&mut self) -> bool {
         match self.member.channel().view() {
             Some(view) => view.members().len() == 4,
