@@ -54,9 +54,11 @@ impl Party for Member {
             return Err(io::Error::from(ErrorKind::Other));
         }
         let mut count = 0usize;
-        while let Some(event) = self.member.channel().happened() {
-            if matches!(&event, Event::Delivered(_)) {
-                count = count.wrapping_add(1);
+        for _ in 0..u64::MAX {
+            match self.member.channel().happened() {
+                Some(Event::Delivered(_)) => count = count.wrapping_add(1),
+                Some(_) => {}
+                None => break,
             }
         }
         Ok(count)

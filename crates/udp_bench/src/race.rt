@@ -24,7 +24,7 @@ pub(crate) struct Runs<P: Party> {
 
 // The nanoseconds since some moment that is the same for all processes.
 fn now(rt: &HostRuntime) -> io::Result<u64> {
-    Ok(rt.monotonic()?.as_nanos() as u64)
+    Ok(u64::try_from(rt.monotonic()?.as_nanos()).unwrap_or(u64::MAX))
 }
 
 // One party at a node.
