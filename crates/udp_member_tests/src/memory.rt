@@ -1,12 +1,12 @@
 //! Members over nets in memory.
 
-use crate::lan::{Lan, first_at};
+use crate::lan::{Lan, Member, first_at};
 use channel::Channel;
 use chat_log::ChatLog;
 use state_transfer::Receiver;
 use std::alloc::{AllocError, Global};
 use udp_member::Runner;
-use udp_net::MemoryNet;
+use udp_net::{MemoryNet, Received};
 
 #[test]
 fn four_come_into_one_view(rt: HostRuntime) {
@@ -29,6 +29,21 @@ fn a_message_comes_to_all(rt: HostRuntime) {
     }
 }
 
+/// How many datagrams a member was given, and how long the first of them is; 99 where it was given none.
+fn given_to(member: &mut Member) -> Result<(usize, usize), AllocError> {
+    let mut count = 0usize;
+    let mut first = 99;
+    for answer in member.net().received().ok_or(AllocError)? {
+        if let Received::Datagram(bytes) = answer {
+            if count == 0 {
+                first = bytes.as_slice().len();
+            }
+            count = count.saturating_add(1);
+        }
+    }
+    Ok((count, first))
+}
+
 /// A round of 1.1 for which an empty datagram and then those of 2.1 wait: how many datagrams it was given, how long the first of them is, and the number of the
 /// round's refusal.
 fn with_an_empty_one(alloc: Global) -> Result<(usize, usize, u8), AllocError> {
@@ -40,15 +55,8 @@ fn with_an_empty_one(alloc: Global) -> Result<(usize, usize, u8), AllocError> {
         Ok(()) => 0,
         Err(error) => error.number(),
     };
-    let Some(member) = lan.at(1) else {
-        return Err(AllocError);
-    };
-    let given = member.net().given().ok_or(AllocError)?;
-    let first = match given.first() {
-        Some(bytes) => bytes.as_slice().len(),
-        None => 99,
-    };
-    Ok((given.len(), first, answer))
+    let (given, first) = given_to(lan.at(1).ok_or(AllocError)?)?;
+    Ok((given, first, answer))
 }
 
 #[test]
@@ -108,7 +116,7 @@ fn behind_a_failed_receive(alloc: Global) -> Result<(usize, usize), AllocError> 
     let _ = lan.round(1)?;
     let member = lan.at(1).ok_or(AllocError)?;
     let waiting = member.net().waiting();
-    let given = member.net().given().ok_or(AllocError)?.len();
+    let (given, _) = given_to(member)?;
     Ok((waiting, given))
 }
 
@@ -220,16 +228,8 @@ fn with_a_long_one(alloc: Global, len: usize) -> Result<(usize, u8), AllocError>
         Ok(()) => 0,
         Err(error) => error.number(),
     };
-    let given = lan
-        .at(1)
-        .ok_or(AllocError)?
-        .net()
-        .given()
-        .ok_or(AllocError)?;
-    match given.first() {
-        Some(bytes) => Ok((bytes.as_slice().len(), answer)),
-        None => Err(AllocError),
-    }
+    let (_, first) = given_to(lan.at(1).ok_or(AllocError)?)?;
+    Ok((first, answer))
 }
 
 #[test]
