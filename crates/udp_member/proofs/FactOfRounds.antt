@@ -10,7 +10,7 @@ use Rattle.udp_net.specs.Logs.{Log, Lists, receiving, answer_of}
 use Rattle.udp_member.specs.declared.runner.TheConstants.{RECEIVES}
 use Rattle.udp_member.specs.Offers.{Offers}
 use Rattle.udp_member.specs.Turns.{Handed, Datagram, Suspect, Tick, Turn, Driven, Takes, TakesAll, Nothing, Next, Any, IsWatched, goes_on}
-use Rattle.udp_member.specs.Rounds.{IsWhy, PassesOver, HandsIn, HearsOne, Receives, Cuts, HearsAll, Hears, SuspectsAll, Suspects, Ticks, SuspectsAndTicks, Rounds}
+use Rattle.udp_member.specs.Rounds.{IsWhy, PassesOver, HandsIn, HearsOne, Receives, Cuts, HearsAll, Hears, SuspectsAll, Suspects, Ticks, SuspectsAndTicks, Listens, Rounds}
 
 module _ {N S : Type 0} (log : N → Option Log) (failed : N → ℕ) (meaning : Meaning S) where
   -- so many datagrams were handed in
@@ -105,42 +105,35 @@ module _ {N S : Type 0} (log : N → Option Log) (failed : N → ℕ) (meaning :
 
   -- ---- a whole round
 
-  pub cut-while-hearing : (old begun new : Driven N S) (e : Error) → Offers log failed old.net old.channel begun.net begun.channel → begun.faults ≡ old.faults
-      → Hears log failed meaning begun (Some e) new → Rounds log failed meaning old (Some e) new
-  cut-while-hearing old begun new e offers same h = record {
-    begun = begun;
-    offers = offers;
-    faults = same;
+  pub listened : (old begun new : Driven N S) (failure : Option Error) → Offers log failed old.net old.channel begun.net begun.channel → begun.faults ≡ old.faults
+      → Hears log failed meaning begun failure new → Listens log failed meaning old failure new
+  listened old begun new failure offers same h = record { begun = begun; offers = offers; faults = same; hears = h }
+
+  pub cut-while-hearing : (old new : Driven N S) (e : Error) → Listens log failed meaning old (Some e) new → Rounds log failed meaning old (Some e) new
+  cut-while-hearing old new e l = record {
     cut = Some e;
     mid = new;
-    hears = h;
+    listens = l;
     then_suspects = λ n. absurd (cc);
     stops = λ k is. (is, refl);
   }
 
-  pub cut-while-suspecting : (old begun heard new : Driven N S) (e : Error) → Offers log failed old.net old.channel begun.net begun.channel → begun.faults ≡ old.faults
-      → Hears log failed meaning begun None heard → Suspects log failed meaning heard (Some e) new → Rounds log failed meaning old (Some e) new
-  cut-while-suspecting old begun heard new e offers same h x = record {
-    begun = begun;
-    offers = offers;
-    faults = same;
+  pub cut-while-suspecting : (old heard new : Driven N S) (e : Error) → Listens log failed meaning old None heard → Suspects log failed meaning heard (Some e) new
+      → Rounds log failed meaning old (Some e) new
+  cut-while-suspecting old heard new e l x = record {
     cut = None;
     mid = heard;
-    hears = h;
+    listens = l;
     then_suspects = λ n. record { cut = Some e; mid = new; suspects = x; ticks = λ m. absurd (cc); stops = λ k is. (is, refl) };
     stops = λ k n. absurd (cc);
   }
 
-  pub ticked : (old begun heard mid new : Driven N S) (failure : Option Error) → Offers log failed old.net old.channel begun.net begun.channel → begun.faults ≡ old.faults
-      → Hears log failed meaning begun None heard → Suspects log failed meaning heard None mid → HandsIn log failed meaning Tick mid.net mid.channel failure new.net new.channel
-      → new.faults ≡ mid.faults → Rounds log failed meaning old failure new
-  ticked old begun heard mid new failure offers same h x t faults_same = record {
-    begun = begun;
-    offers = offers;
-    faults = same;
+  pub ticked : (old heard mid new : Driven N S) (failure : Option Error) → Listens log failed meaning old None heard → Suspects log failed meaning heard None mid
+      → HandsIn log failed meaning Tick mid.net mid.channel failure new.net new.channel → new.faults ≡ mid.faults → Rounds log failed meaning old failure new
+  ticked old heard mid new failure l x t faults_same = record {
     cut = None;
     mid = heard;
-    hears = h;
+    listens = l;
     then_suspects = λ n. record {
       cut = None;
       mid = mid;

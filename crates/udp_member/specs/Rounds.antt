@@ -104,13 +104,17 @@ pub record SuspectsAndTicks {N S : Type 0} (log : N → Option Log) (failed : N 
   pub ticks : cut ≡ None → Ticks log failed meaning mid failure new
   pub stops : (e : Error) → cut ≡ Some e → (failure ≡ Some e) × (new ≡ mid)
 
--- what waits is offered; then the datagrams that come are handed in; and where that is not cut short, suspicions and a tick
-pub record Rounds {N S : Type 0} (log : N → Option Log) (failed : N → ℕ) (meaning : Meaning S) (old : Driven N S) (failure : Option Error) (new : Driven N S) : Type 0 where
+-- what waits is offered; then the datagrams that come are handed in
+pub record Listens {N S : Type 0} (log : N → Option Log) (failed : N → ℕ) (meaning : Meaning S) (old : Driven N S) (failure : Option Error) (new : Driven N S) : Type 0 where
   pub begun : Driven N S
   pub offers : Offers log failed old.net old.channel begun.net begun.channel
   pub faults : begun.faults ≡ old.faults
+  pub hears : Hears log failed meaning begun failure new
+
+-- it listens; and where that is not cut short, suspicions and a tick
+pub record Rounds {N S : Type 0} (log : N → Option Log) (failed : N → ℕ) (meaning : Meaning S) (old : Driven N S) (failure : Option Error) (new : Driven N S) : Type 0 where
   pub cut : Option Error
   pub mid : Driven N S
-  pub hears : Hears log failed meaning begun cut mid
+  pub listens : Listens log failed meaning old cut mid
   pub then_suspects : cut ≡ None → SuspectsAndTicks log failed meaning mid failure new
   pub stops : (e : Error) → cut ≡ Some e → (failure ≡ Some e) × (new ≡ mid)

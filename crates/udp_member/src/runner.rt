@@ -3,7 +3,7 @@ ghost use Rattle.std.specs.Result.{result_err};
 ghost use Rattle.std.specs.Borrow.{sem};
 ghost use Rattle.udp_member.specs.Offers.{Offers};
 ghost use Rattle.udp_member.specs.Turns.{Datagram, Suspect, Tick, driven};
-ghost use Rattle.udp_member.specs.Rounds.{HandsIn, Receives, Hears, Suspects, Rounds};
+ghost use Rattle.udp_member.specs.Rounds.{HandsIn, Receives, Hears, Suspects, Listens, Rounds};
 ghost use Rattle.udp_member.specs.Lends.{lends_channel, lends_net};
 
 use crate::offering::offer_all;
@@ -86,10 +86,20 @@ impl<N: Net, R: Receiver> Runner<N, R> {
     pub fn round(&mut self) -> Result<(), Error>
         ensures { Rounds N.log N.failed R.meaning self.old (result_err result) self.new }
     {
-        self.offer();
-        self.receive_all()?;
+        self.listen()?;
         self.suspect_silent()?;
         self.tick()
+    }
+
+    /// The first part of a round, for who wants to hear more often than it has rounds: what waited in the channel is offered to the net, and datagrams are received and
+    /// handed in as in a round. Nothing is counted for the silent, and no time passes.
+    ///
+    /// It is cut short as a round is.
+    pub fn listen(&mut self) -> Result<(), Error>
+        ensures { Listens N.log N.failed R.meaning self.old (result_err result) self.new }
+    {
+        self.offer();
+        self.receive_all()
     }
 
     /// How many receives failed, at most 2^64 - 1.

@@ -65,7 +65,7 @@ impl Silence {
         bytes: &[u8],
         view: Option<&View>,
     ) -> Result<(), AllocError> {
-        if is_sign_of_life(&source, bytes, view) && !self.heard.contains(&source) {
+        if !self.heard.contains(&source) && is_sign_of_life(&source, bytes, view) {
             self.heard.push(source)?;
         }
         Ok(())
@@ -126,11 +126,7 @@ impl Silence {
     }
 
     // Those of these addresses whose count is too high at the end of the round: twice as much is borne while a view is being made.
-    fn silent_of(
-        &self,
-        watched: &[Address],
-        is_blocked: bool,
-    ) -> Result<Vec<Address>, AllocError>
+    fn silent_of(&self, watched: &[Address], is_blocked: bool) -> Result<Vec<Address>, AllocError>
         ensures { IfOk result (λ silent. AreAmong silent.items watched.now) }
     {
         let most = self.most(is_blocked);
