@@ -12,11 +12,15 @@ use trace_props::Event;
 use udp_member::Runner;
 use udp_net::{Settings, SocketNet};
 
+/// How often it listens before it has a round, by which what was lost comes again.
+const LISTENS: u64 = 64;
+
 /// A member over a socket, with a chat as its receiver.
 #[derive(Drop)]
 pub(crate) struct Member {
     alloc: Global,
     member: Runner<SocketNet, ChatLog>,
+    listens: u64,
 }
 
 impl Party for Member {
@@ -34,7 +38,11 @@ impl Party for Member {
             return Err(io::Error::from(ErrorKind::InvalidInput));
         }
         let member = Runner::new(alloc, net, channel, u32::from(settings.silent()))?;
-        Ok(Member { alloc, member })
+        Ok(Member {
+            alloc,
+            member,
+            listens: 0,
+        })
     }
 
     fn is_ready(&mut self) -> bool {
@@ -50,7 +58,13 @@ impl Party for Member {
     }
 
     fn round(&mut self) -> io::Result<usize> {
-        if self.member.round().is_err() {
+        self.listens = self.listens.wrapping_add(1);
+        let answer = if self.listens % LISTENS == 0 {
+            self.member.round()
+        } else {
+            self.member.listen()
+        };
+        if answer.is_err() {
             return Err(io::Error::from(ErrorKind::Other));
         }
         let mut count = 0usize;

@@ -8,7 +8,7 @@ use chat_log::ChatLog;
 use state_transfer::Receiver;
 use std::alloc::{AllocError, Global};
 use udp_member::{Error, Runner};
-use udp_net::MemoryNet;
+use udp_net::{MemoryNet, Received};
 
 /// The chats' lines and the views' lengths of the members up to a node.
 fn put_chats(text: &mut Vec<u8>, lan: &mut Lan, last: u16) -> Result<(), AllocError> {
@@ -60,18 +60,26 @@ fn number(answer: Result<(), Error>) -> u8 {
     }
 }
 
-/// How many datagrams a member was given, and how long the first of them was.
-fn put_given(text: &mut Vec<u8>, member: &mut Member) -> Result<(), AllocError> {
-    let given = member.net().given().ok_or(AllocError)?;
-    match given.first() {
-        Some(first) => put_number(
-            text,
-            "bytes of the first that it was given",
-            first.as_slice().len() as u64,
-        )?,
-        None => put_number(text, "given", 0)?,
+/// How many datagrams a member was given, and how long the first of them is.
+fn given_to(member: &mut Member) -> Result<(u64, usize), AllocError> {
+    let mut count = 0u64;
+    let mut first = 0usize;
+    for answer in member.net().received().ok_or(AllocError)? {
+        if let Received::Datagram(bytes) = answer {
+            if count == 0 {
+                first = bytes.as_slice().len();
+            }
+            count = count.wrapping_add(1);
+        }
     }
-    put_truth(text, "more were given", given.len() > 1)
+    Ok((count, first))
+}
+
+/// What a member was given: how long the first datagram is, and whether there were more.
+fn put_given(text: &mut Vec<u8>, member: &mut Member) -> Result<(), AllocError> {
+    let (count, first) = given_to(member)?;
+    put_number(text, "bytes of the first that it was given", first as u64)?;
+    put_truth(text, "more were given", count > 1)
 }
 
 /// A datagram of no bytes comes to 1.1 before those of 2.1.
@@ -223,8 +231,8 @@ fn behind_a_failed_receive(alloc: Global, text: &mut Vec<u8>) -> Result<(), Allo
     let _ = lan.round(1)?;
     let member = lan.at(1).ok_or(AllocError)?;
     put_truth(text, "a datagram waits on", member.net().waiting() > 0)?;
-    let given = member.net().given().ok_or(AllocError)?.len();
-    put_number(text, "given", given as u64)?;
+    let (given, _) = given_to(member)?;
+    put_number(text, "given", given)?;
     put_number(text, "faults", member.faults())
 }
 
