@@ -1,15 +1,21 @@
 -- What the grammar makes of words, by computing.
-use Rattle.std.proofs.Common.{◌≡◌, ◌==◌, ℕ, Bool, true, false, refl, codes, List, [], ◌∷◌, Option, Some, None, option_map, subst, Result, Ok, Err, inl, inr, IsSomeAnd, IfOk, eqb-true, ap, arith, length, slice_index}
+use Rattle.std.proofs.Common.{◌≡◌, ◌==◌, ℕ, Bool, true, false, refl, codes, List, [], ◌∷◌, Option, Some, None, option_map, subst, Result, Ok, Err, inl, inr, IsSomeAnd, IfOk, eqb-true, ap, arith, length, sym, ◌∙◌}
+use Rattle.std.specs.Option.{option_map_or}
+use Rattle.std.specs.Str.{bytes_eq}
+use Rattle.std.proofs.lemmas.Slice.Eq.{bytes_eq-Decides}
 use Rattle.std.proofs.lemmas.Result.{IfOk-weaker}
+use Rattle.std.specs.Result.{IsErrAnd}
+use Rattle.clap.specs.Kinds.{HasKind}
 use Rattle.clap.specs.Words.{FailsBy, Kinds, Row, Text, fault_of, first_of, is_simple_and_free, is_simple, kind_of, subcommand_of}
 use Rattle.clap.specs.declared.error.Error.{Error}
 use Rattle.clap.specs.declared.error.kind.ErrorKind.TheVariants.{OutOfMemory}
 use Rattle.clap.specs.Walk.{is_empty}
 use Rattle.clap.proofs.OnLiterals.{clap_on_literals}
 use Rattle.vsync_cli.specs.declared.words.Invocation.{Invocation}
-use Rattle.vsync_cli.specs.declared.words.Invocation.TheVariants.{World, Chat, Packets, Check}
+use Rattle.vsync_cli.specs.declared.words.Invocation.TheVariants.{Text as TextOf, Udp, Member}
+use Rattle.vsync_cli.specs.declared.words.TextCommand.TheVariants.{World, Chat, Packets, Check}
 use Rattle.vsync_cli.specs.Grammar.{IsSaid, is_path, program_app}
-use Rattle.vsync_cli.specs.Words.{IsChatOn, IsCheckOn, IsOrNoMemory, IsPacketsOn, IsWorldOn}
+use Rattle.vsync_cli.specs.Words.{IsChatOn, IsCheckOn, IsOrNoMemory, IsPacketsOn, IsUdpOn, IsWorldOn}
 
 pub simple : is_simple_and_free program_app ≡ true
 unfolding clap_on_literals
@@ -108,91 +114,143 @@ reads_packets name = by_first (Reads (codes "packets") (codes "SCRIPT") name) (e
 pub reads_check : (name path : Text) → is_path path ≡ true → Reads (codes "check") (codes "TRACE") name path
 reads_check name = by_first (Reads (codes "check") (codes "TRACE") name) (empty_check name) (dash_check name) (other_check name)
 
--- one letter of the name of a subcommand that was said
-abbrev letter : ℕ → Option (Text × Option Text) → ℕ
-letter k None = 0
-letter k (Some said) = slice_index said.0 k
+-- a subcommand that was said with one name was not said with another
+other_name : (said : Text × List Row) (name other : Text) → said.0 ≡ name → said.0 ≡ other → bytes_eq name other ≡ false → ⊥
+other_name said name other is was differs =
+    let same : bytes_eq name other ≡ true = (bytes_eq-Decides name other).1 (sym is ∙ was) in
+    absurd cc
+
+-- what a subcommand that was said has by `value_in`
+name_in : (argument : Text) (said : Text × List Row) (name path : Text) → value_in argument (Some said) ≡ Some (name, Some path) → said.0 ≡ name
+name_in argument said name path e = ap (λ (o : Option (Text × Option Text)). option_map_or (λ q. q.0) o []) e
+
+path_in : (argument : Text) (said : Text × List Row) (name path : Text) → value_in argument (Some said) ≡ Some (name, Some path)
+    → first_of argument said.1 ≡ Some path
+path_in argument said name path e = ap (λ (o : Option (Text × Option Text)). option_map_or (λ q. q.1) o None) e
+
+-- the path of the command is that of the words
+same_path : (path : Text) (p : Text) (value : Option Text) → value ≡ Some path → value ≡ Some p → p ≡ path
+same_path path p value is was = cc
 
 -- a subcommand that was said, with this name and value, is this command
 said_world : (o : Option (Text × List Row)) (path : Text) (i : Invocation)
     → value_in (codes "SCRIPT") o ≡ Some (codes "world", Some path) → IsSomeAnd o (λ said. IsSaid said i) → IsWorldOn path i
 said_world None path i e h = absurd h
-said_world (Some said) path (World p) e h =
-    let name : Some said.0 ≡ Some (codes "world") = ap (option_map (λ q. q.0)) e in
-    let value : Some (first_of (codes "SCRIPT") said.1) ≡ Some (Some path) = ap (option_map (λ q. q.1)) e in
-    cc
-said_world (Some said) path (Chat p) e h =
-    let first : slice_index said.0 0 ≡ 119 = ap (letter 0) e in
-    let other : slice_index said.0 0 ≡ 99 = ap (λ (t : Text). slice_index t 0) h.0 in
-    absurd (omega arith)
-said_world (Some said) path (Packets p) e h =
-    let first : slice_index said.0 0 ≡ 119 = ap (letter 0) e in
-    let other : slice_index said.0 0 ≡ 112 = ap (λ (t : Text). slice_index t 0) h.0 in
-    absurd (omega arith)
-said_world (Some said) path (Check p) e h =
-    let first : slice_index said.0 0 ≡ 119 = ap (letter 0) e in
-    let other : slice_index said.0 0 ≡ 99 = ap (λ (t : Text). slice_index t 0) h.0 in
-    absurd (omega arith)
+said_world (Some said) path (TextOf (World p)) e h = same_path path p.now _ (path_in (codes "SCRIPT") said (codes "world") path e) h.1
+said_world (Some said) path (TextOf (Chat p)) e h = absurd (other_name said (codes "world") (codes "chat") (name_in (codes "SCRIPT") said (codes "world") path e) h.0 refl)
+said_world (Some said) path (TextOf (Packets p)) e h = absurd (other_name said (codes "world") (codes "packets") (name_in (codes "SCRIPT") said (codes "world") path e) h.0 refl)
+said_world (Some said) path (TextOf (Check p)) e h = absurd (other_name said (codes "world") (codes "check") (name_in (codes "SCRIPT") said (codes "world") path e) h.0 refl)
+said_world (Some said) path (Udp w) e h = absurd (other_name said (codes "world") (codes "udp") (name_in (codes "SCRIPT") said (codes "world") path e) h.0 refl)
+said_world (Some said) path (Member w) e h = absurd (other_name said (codes "world") (codes "member") (name_in (codes "SCRIPT") said (codes "world") path e) h.0 refl)
 
 said_chat : (o : Option (Text × List Row)) (path : Text) (i : Invocation)
     → value_in (codes "SCRIPT") o ≡ Some (codes "chat", Some path) → IsSomeAnd o (λ said. IsSaid said i) → IsChatOn path i
 said_chat None path i e h = absurd h
-said_chat (Some said) path (World p) e h =
-    let first : slice_index said.0 0 ≡ 99 = ap (letter 0) e in
-    let other : slice_index said.0 0 ≡ 119 = ap (λ (t : Text). slice_index t 0) h.0 in
-    absurd (omega arith)
-said_chat (Some said) path (Chat p) e h =
-    let name : Some said.0 ≡ Some (codes "chat") = ap (option_map (λ q. q.0)) e in
-    let value : Some (first_of (codes "SCRIPT") said.1) ≡ Some (Some path) = ap (option_map (λ q. q.1)) e in
-    cc
-said_chat (Some said) path (Packets p) e h =
-    let first : slice_index said.0 0 ≡ 99 = ap (letter 0) e in
-    let other : slice_index said.0 0 ≡ 112 = ap (λ (t : Text). slice_index t 0) h.0 in
-    absurd (omega arith)
-said_chat (Some said) path (Check p) e h =
-    let third : slice_index said.0 2 ≡ 97 = ap (letter 2) e in
-    let other : slice_index said.0 2 ≡ 101 = ap (λ (t : Text). slice_index t 2) h.0 in
-    absurd (omega arith)
+said_chat (Some said) path (TextOf (World p)) e h = absurd (other_name said (codes "chat") (codes "world") (name_in (codes "SCRIPT") said (codes "chat") path e) h.0 refl)
+said_chat (Some said) path (TextOf (Chat p)) e h = same_path path p.now _ (path_in (codes "SCRIPT") said (codes "chat") path e) h.1
+said_chat (Some said) path (TextOf (Packets p)) e h = absurd (other_name said (codes "chat") (codes "packets") (name_in (codes "SCRIPT") said (codes "chat") path e) h.0 refl)
+said_chat (Some said) path (TextOf (Check p)) e h = absurd (other_name said (codes "chat") (codes "check") (name_in (codes "SCRIPT") said (codes "chat") path e) h.0 refl)
+said_chat (Some said) path (Udp w) e h = absurd (other_name said (codes "chat") (codes "udp") (name_in (codes "SCRIPT") said (codes "chat") path e) h.0 refl)
+said_chat (Some said) path (Member w) e h = absurd (other_name said (codes "chat") (codes "member") (name_in (codes "SCRIPT") said (codes "chat") path e) h.0 refl)
 
 said_packets : (o : Option (Text × List Row)) (path : Text) (i : Invocation)
     → value_in (codes "SCRIPT") o ≡ Some (codes "packets", Some path) → IsSomeAnd o (λ said. IsSaid said i) → IsPacketsOn path i
 said_packets None path i e h = absurd h
-said_packets (Some said) path (World p) e h =
-    let first : slice_index said.0 0 ≡ 112 = ap (letter 0) e in
-    let other : slice_index said.0 0 ≡ 119 = ap (λ (t : Text). slice_index t 0) h.0 in
-    absurd (omega arith)
-said_packets (Some said) path (Chat p) e h =
-    let first : slice_index said.0 0 ≡ 112 = ap (letter 0) e in
-    let other : slice_index said.0 0 ≡ 99 = ap (λ (t : Text). slice_index t 0) h.0 in
-    absurd (omega arith)
-said_packets (Some said) path (Packets p) e h =
-    let name : Some said.0 ≡ Some (codes "packets") = ap (option_map (λ q. q.0)) e in
-    let value : Some (first_of (codes "SCRIPT") said.1) ≡ Some (Some path) = ap (option_map (λ q. q.1)) e in
-    cc
-said_packets (Some said) path (Check p) e h =
-    let first : slice_index said.0 0 ≡ 112 = ap (letter 0) e in
-    let other : slice_index said.0 0 ≡ 99 = ap (λ (t : Text). slice_index t 0) h.0 in
-    absurd (omega arith)
+said_packets (Some said) path (TextOf (World p)) e h = absurd (other_name said (codes "packets") (codes "world") (name_in (codes "SCRIPT") said (codes "packets") path e) h.0 refl)
+said_packets (Some said) path (TextOf (Chat p)) e h = absurd (other_name said (codes "packets") (codes "chat") (name_in (codes "SCRIPT") said (codes "packets") path e) h.0 refl)
+said_packets (Some said) path (TextOf (Packets p)) e h = same_path path p.now _ (path_in (codes "SCRIPT") said (codes "packets") path e) h.1
+said_packets (Some said) path (TextOf (Check p)) e h = absurd (other_name said (codes "packets") (codes "check") (name_in (codes "SCRIPT") said (codes "packets") path e) h.0 refl)
+said_packets (Some said) path (Udp w) e h = absurd (other_name said (codes "packets") (codes "udp") (name_in (codes "SCRIPT") said (codes "packets") path e) h.0 refl)
+said_packets (Some said) path (Member w) e h = absurd (other_name said (codes "packets") (codes "member") (name_in (codes "SCRIPT") said (codes "packets") path e) h.0 refl)
 
 said_check : (o : Option (Text × List Row)) (path : Text) (i : Invocation)
     → value_in (codes "TRACE") o ≡ Some (codes "check", Some path) → IsSomeAnd o (λ said. IsSaid said i) → IsCheckOn path i
 said_check None path i e h = absurd h
-said_check (Some said) path (World p) e h =
-    let first : slice_index said.0 0 ≡ 99 = ap (letter 0) e in
-    let other : slice_index said.0 0 ≡ 119 = ap (λ (t : Text). slice_index t 0) h.0 in
-    absurd (omega arith)
-said_check (Some said) path (Chat p) e h =
-    let third : slice_index said.0 2 ≡ 101 = ap (letter 2) e in
-    let other : slice_index said.0 2 ≡ 97 = ap (λ (t : Text). slice_index t 2) h.0 in
-    absurd (omega arith)
-said_check (Some said) path (Packets p) e h =
-    let first : slice_index said.0 0 ≡ 99 = ap (letter 0) e in
-    let other : slice_index said.0 0 ≡ 112 = ap (λ (t : Text). slice_index t 0) h.0 in
-    absurd (omega arith)
-said_check (Some said) path (Check p) e h =
-    let name : Some said.0 ≡ Some (codes "check") = ap (option_map (λ q. q.0)) e in
-    let value : Some (first_of (codes "TRACE") said.1) ≡ Some (Some path) = ap (option_map (λ q. q.1)) e in
-    cc
+said_check (Some said) path (TextOf (World p)) e h = absurd (other_name said (codes "check") (codes "world") (name_in (codes "TRACE") said (codes "check") path e) h.0 refl)
+said_check (Some said) path (TextOf (Chat p)) e h = absurd (other_name said (codes "check") (codes "chat") (name_in (codes "TRACE") said (codes "check") path e) h.0 refl)
+said_check (Some said) path (TextOf (Packets p)) e h = absurd (other_name said (codes "check") (codes "packets") (name_in (codes "TRACE") said (codes "check") path e) h.0 refl)
+said_check (Some said) path (TextOf (Check p)) e h = same_path path p.now _ (path_in (codes "TRACE") said (codes "check") path e) h.1
+said_check (Some said) path (Udp w) e h = absurd (other_name said (codes "check") (codes "udp") (name_in (codes "TRACE") said (codes "check") path e) h.0 refl)
+said_check (Some said) path (Member w) e h = absurd (other_name said (codes "check") (codes "member") (name_in (codes "TRACE") said (codes "check") path e) h.0 refl)
+
+-- `udp` and two paths
+abbrev words_of_udp : Text → Text → Text → List Text
+words_of_udp name config script = name ∷ codes "udp" ∷ config ∷ script ∷ []
+
+-- the subcommand, with the first values of both arguments
+abbrev pub paths_in : Option (Text × List Row) → Option (Text × Option Text × Option Text)
+paths_in = option_map (λ said. (said.0, first_of (codes "CONFIG") said.1, first_of (codes "SCRIPT") said.1))
+
+-- the words pass, and are `udp` with these paths
+abbrev ReadsUdp : Text → Text → Text → Type 0
+ReadsUdp name config script =
+    (fault_of program_app (words_of_udp name config script) ≡ [])
+    × (paths_in (subcommand_of program_app (words_of_udp name config script)) ≡ Some (codes "udp", Some config, Some script))
+
+empty_empty : (name : Text) → ReadsUdp name [] []
+unfolding clap_on_literals
+empty_empty name = (refl, refl)
+
+empty_dash : (name : Text) → ReadsUdp name [] (45 ∷ [])
+unfolding clap_on_literals
+empty_dash name = (refl, refl)
+
+empty_other : (name : Text) (y : ℕ) (ys : Text) → (y == 45) ≡ false → ReadsUdp name [] (y ∷ ys)
+unfolding clap_on_literals
+empty_other name y ys d = (simp d refl, simp d refl)
+
+dash_empty : (name : Text) → ReadsUdp name (45 ∷ []) []
+unfolding clap_on_literals
+dash_empty name = (refl, refl)
+
+dash_dash : (name : Text) → ReadsUdp name (45 ∷ []) (45 ∷ [])
+unfolding clap_on_literals
+dash_dash name = (refl, refl)
+
+dash_other : (name : Text) (y : ℕ) (ys : Text) → (y == 45) ≡ false → ReadsUdp name (45 ∷ []) (y ∷ ys)
+unfolding clap_on_literals
+dash_other name y ys d = (simp d refl, simp d refl)
+
+other_empty : (name : Text) (x : ℕ) (xs : Text) → (x == 45) ≡ false → ReadsUdp name (x ∷ xs) []
+unfolding clap_on_literals
+other_empty name x xs e = (simp e refl, simp e refl)
+
+other_dash : (name : Text) (x : ℕ) (xs : Text) → (x == 45) ≡ false → ReadsUdp name (x ∷ xs) (45 ∷ [])
+unfolding clap_on_literals
+other_dash name x xs e = (simp e refl, simp e refl)
+
+other_other : (name : Text) (x : ℕ) (xs : Text) (y : ℕ) (ys : Text) → (x == 45) ≡ false → (y == 45) ≡ false → ReadsUdp name (x ∷ xs) (y ∷ ys)
+unfolding clap_on_literals
+other_other name x xs y ys e d = (simp (e, d) refl, simp (e, d) refl)
+
+pub reads_udp : (name config script : Text) → is_path config ≡ true → is_path script ≡ true → ReadsUdp name config script
+reads_udp name config script one two =
+    by_first (λ (c : Text). ReadsUdp name c script)
+    (by_first (ReadsUdp name []) (empty_empty name) (empty_dash name) (empty_other name) script two)
+    (by_first (ReadsUdp name (45 ∷ [])) (dash_empty name) (dash_dash name) (dash_other name) script two)
+    (λ x xs e. by_first (ReadsUdp name (x ∷ xs)) (other_empty name x xs e) (other_dash name x xs e) (λ y ys d. other_other name x xs y ys e d) script two)
+    config one
+
+udp_name : (said : Text × List Row) (config script : Text) → paths_in (Some said) ≡ Some (codes "udp", Some config, Some script) → said.0 ≡ codes "udp"
+udp_name said config script e = ap (λ (o : Option (Text × Option Text × Option Text)). option_map_or (λ q. q.0) o []) e
+
+said_udp : (o : Option (Text × List Row)) (config script : Text) (i : Invocation)
+    → paths_in o ≡ Some (codes "udp", Some config, Some script) → IsSomeAnd o (λ said. IsSaid said i) → IsUdpOn config script i
+said_udp None config script i e h = absurd h
+said_udp (Some said) config script (TextOf (World p)) e h = absurd (other_name said (codes "udp") (codes "world") (udp_name said config script e) h.0 refl)
+said_udp (Some said) config script (TextOf (Chat p)) e h = absurd (other_name said (codes "udp") (codes "chat") (udp_name said config script e) h.0 refl)
+said_udp (Some said) config script (TextOf (Packets p)) e h = absurd (other_name said (codes "udp") (codes "packets") (udp_name said config script e) h.0 refl)
+said_udp (Some said) config script (TextOf (Check p)) e h = absurd (other_name said (codes "udp") (codes "check") (udp_name said config script e) h.0 refl)
+said_udp (Some said) config script (Member w) e h = absurd (other_name said (codes "udp") (codes "member") (udp_name said config script e) h.0 refl)
+said_udp (Some said) config script (Udp w) e h = (
+  same_path config w.config.now _ (ap (λ (o : Option (Text × Option Text × Option Text)). option_map_or (λ q. q.1) o None) e) h.1.config,
+  same_path script w.script.now _ (ap (λ (o : Option (Text × Option Text × Option Text)). option_map_or (λ q. q.2) o None) e) h.1.script,
+)
+
+-- an error that is handed on keeps its kind
+pub fails_as : (kinds : Kinds) (r : Result Invocation Error) (e : Error) → IsErrAnd r (λ x. x ≡ e) → HasKind kinds e → FailsBy kinds r
+fails_as kinds (Ok i) e is has = absurd is
+fails_as kinds (Err x) e is has = subst (HasKind kinds) (sym is) has
 
 -- where the words have no fault, an error is for want of memory
 pub is_or_no_memory : (IsIt : Invocation → Type 0) (r : Result Invocation Error) (kinds : Kinds) → kinds ≡ [] → IfOk r IsIt → FailsBy kinds r
@@ -227,3 +285,9 @@ pub check_or_no_memory : (r : Result Invocation Error) (o : Option (Text × List
     → IsOrNoMemory (IsCheckOn path) r
 check_or_no_memory r o kinds path none value is fails =
     is_or_no_memory (IsCheckOn path) r kinds none (IfOk-weaker r _ _ (λ i said. said_check o path i value said) is) fails
+
+pub udp_or_no_memory : (r : Result Invocation Error) (o : Option (Text × List Row)) (kinds : Kinds) (config script : Text) → kinds ≡ []
+    → paths_in o ≡ Some (codes "udp", Some config, Some script) → IfOk r (λ i. IsSomeAnd o (λ said. IsSaid said i)) → FailsBy kinds r
+    → IsOrNoMemory (IsUdpOn config script) r
+udp_or_no_memory r o kinds config script none value is fails =
+    is_or_no_memory (IsUdpOn config script) r kinds none (IfOk-weaker r _ _ (λ i said. said_udp o config script i value said) is) fails

@@ -1,1 +1,4 @@
 pub mod Computing
+pub mod Grammars
+pub mod Numbers
+pub mod SettingsOfBytes

@@ -10,18 +10,16 @@ use Rattle.vsync_runs.specs.Packets.{RunsPackets}
 use Rattle.vsync_runs.specs.Checks.{ChecksTrace}
 use Rattle.vsync_runs.specs.declared.status.Status.{Status}
 use Rattle.vsync_runs.specs.declared.status.Status.TheVariants.{Done, Memory, Outside, Usage}
-use Rattle.vsync_cli.specs.declared.words.Invocation.{Invocation}
-use Rattle.vsync_cli.specs.declared.words.Invocation.TheVariants.{World, Chat, Packets, Check, Udp, Member}
+use Rattle.vsync_cli.specs.declared.words.TextCommand.{TextCommand}
+use Rattle.vsync_cli.specs.declared.words.TextCommand.TheVariants.{World, Chat, Packets, Check}
 
 -- the command is done, from a reader with these bytes left to a writer: a script is run; or it is run and the chats, or the packets, are
--- printed; or a trace is checked. Its members keep a chat. Nodes over datagrams have another input than a reader alone
-abbrev pub Does : Invocation → Option (List ℕ) → Option (List ℕ) → Option (List ℕ) → Status → Type 0
+-- printed; or a trace is checked. Its members keep a chat
+abbrev pub Does : TextCommand → Option (List ℕ) → Option (List ℕ) → Option (List ℕ) → Status → Type 0
 Does (World path) left old new status = RunsScript chat_meaning left old new status
 Does (Chat path) left old new status = RunsChat chat_meaning (λ s. s) left old new status
 Does (Packets path) left old new status = RunsPackets chat_meaning left old new status
 Does (Check path) left old new status = ChecksTrace chat_meaning left old new status
-Does (Udp words) left old new status = ⊥
-Does (Member words) left old new status = ⊥
 
 -- it ends with this status, or with 5 where the output failed
 abbrev pub EndsBy : Status → Status → Type 0

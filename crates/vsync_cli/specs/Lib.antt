@@ -1,3 +1,5 @@
 pub mod Ends
 pub mod Grammar
+pub mod Plans
+pub mod Settings
 pub mod Words

@@ -11,4 +11,4 @@ pub use programs::program;
 pub use udp_runs::{MemberPlan, run_member, run_udp};
 pub use udp_words::{MemberMistake, MemberWords, UdpWords};
 pub use vsync_runs::{Status, run_chat, run_check, run_packets, run_script};
-pub use words::{Invocation, command};
+pub use words::{Invocation, TextCommand, command};

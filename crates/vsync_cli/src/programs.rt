@@ -2,10 +2,9 @@ ghost use Rattle.std.specs.Prelude.{◌≡◌, ◌≢◌, ◌⊎◌, ◌<◌, []
 ghost use Rattle.clap.specs.Words.{fault_of, kind_of};
 ghost use Rattle.vsync_cli.specs.Ends.{Does, EndsBy, EndsByFault};
 ghost use Rattle.vsync_cli.specs.Grammar.{program_app};
-ghost use Rattle.vsync_cli.specs.Words.{HasOneInput};
 
 use crate::udp_programs::{member, udp};
-use crate::{Invocation, command};
+use crate::{Invocation, TextCommand, command};
 use chat_log::ChatLog;
 use clap::Error;
 use clap::error::ErrorKind;
@@ -36,12 +35,9 @@ pub(crate) fn without_memory<R: Print>(rt: &R) -> Status
 }
 
 /// Says why the outside answered an error: for want of memory, or it failed.
-pub(crate) fn failed<R: Print + Eprint>(
-    rt: &R,
-    error: &io::Error,
-    what: &str,
-    path: &str,
-) -> Status {
+pub(crate) fn failed<R: Print + Eprint>(rt: &R, error: &io::Error, what: &str, path: &str) -> Status
+    ensures { EndsBy Status.Memory result }
+{
     if error.kind() == io::ErrorKind::OutOfMemory {
         return without_memory(rt);
     }
@@ -51,19 +47,17 @@ pub(crate) fn failed<R: Print + Eprint>(
 /// Does a command on its input, to a writer.
 fn answer<I: Read, W: Write>(
     alloc: Global,
-    command: Invocation<'_>,
+    command: TextCommand<'_>,
     reader: &mut I,
     writer: &mut W,
 ) -> Status
-    requires { HasOneInput command.entry }
     ensures { Does command.entry (I.remaining reader.old) (W.contents writer.old) (W.contents writer.new) result }
 {
     match command {
-        Invocation::World(_) => run_script::<ChatLog, I, W>(alloc, reader, writer),
-        Invocation::Chat(_) => run_chat::<ChatLog, I, W>(alloc, reader, writer),
-        Invocation::Packets(_) => run_packets::<ChatLog, I, W>(alloc, reader, writer),
-        Invocation::Check(_) => run_check::<ChatLog, I, W>(alloc, reader, writer),
-        Invocation::Udp(_) | Invocation::Member(_) => unreachable!(),
+        TextCommand::World(_) => run_script::<ChatLog, I, W>(alloc, reader, writer),
+        TextCommand::Chat(_) => run_chat::<ChatLog, I, W>(alloc, reader, writer),
+        TextCommand::Packets(_) => run_packets::<ChatLog, I, W>(alloc, reader, writer),
+        TextCommand::Check(_) => run_check::<ChatLog, I, W>(alloc, reader, writer),
     }
 }
 
@@ -77,14 +71,12 @@ fn explained<R: Eprint>(rt: &R, status: Status, path: &str) -> Status
     status
 }
 
-/// Does a command on the file of a path; `-` is the standard input.
+/// Does a command on the file of its path; `-` is the standard input.
 fn answer_at<R: Files + Input + Print + Eprint + AllocGlobal>(
     rt: &R,
-    command: Invocation<'_>,
-    path: &str,
-) -> Status
-    requires { HasOneInput command.entry }
-{
+    command: TextCommand<'_>,
+) -> Status {
+    let path = command.path();
     let mut output = io::writer(rt);
     if path == "-" {
         let mut input = rt.reader();
@@ -138,9 +130,9 @@ fn obey<R: Files + Input + Net + Clock + Print + Eprint + AllocGlobal>(
         1 < length words.now → faults ≢ [] → EndsByFault faults result }
 {
     match command(rt.alloc(), words) {
+        Ok(Invocation::Text(command)) => answer_at(rt, command),
         Ok(Invocation::Udp(words)) => udp(rt, &words),
         Ok(Invocation::Member(words)) => member(rt, &words),
-        Ok(command) => answer_at(rt, command, command.path()),
         Err(error) => explain(rt, error),
     }
 }

@@ -1,5 +1,11 @@
 //! The commands for members over datagrams, on files and sockets.
 
+ghost use Rattle.std.specs.Prelude.{◌≡◌, ◌⊎◌, Err, IfErr};
+ghost use Rattle.vsync_cli.specs.declared.udp_words.MemberMistake.{MemberMistake};
+ghost use Rattle.vsync_cli.specs.Ends.{EndsBy};
+ghost use Rattle.vsync_cli.specs.Plans.{contact_of, payload_of, text_of};
+ghost use Rattle.vsync_cli.specs.Settings.{EndsWithout, GivesSettings};
+
 use crate::programs::{complain, failed, without_memory};
 use crate::udp_words::{MemberWords, UdpWords};
 use chat_log::ChatLog;
@@ -13,7 +19,9 @@ use udp_runs::{Loopback, run_member, run_udp};
 use vsync_runs::{Status, Unreadable, read_all};
 
 // Says that the input is refused as a whole.
-fn refuse<R: Print>(rt: &R, number: u8) -> Status {
+fn refuse<R: Print>(rt: &R, number: u8) -> Status
+    ensures { EndsBy Status.Refused result }
+{
     if println!(rt; "fault 0 {number}").is_err() {
         return Status::Outside;
     }
@@ -21,7 +29,9 @@ fn refuse<R: Print>(rt: &R, number: u8) -> Status {
 }
 
 // The settings of a file's bytes; or the status with which the program ends.
-fn settings_in<R: Print + AllocGlobal>(rt: &R, bytes: &[u8]) -> Result<Settings, Status> {
+fn settings_in<R: Print + AllocGlobal>(rt: &R, bytes: &[u8]) -> Result<Settings, Status>
+    ensures { GivesSettings bytes.now result }
+{
     let Ok(text) = str::from_utf8(bytes) else {
         return Err(refuse(rt, SettingsError::Config.number()));
     };
@@ -36,7 +46,9 @@ fn settings_in<R: Print + AllocGlobal>(rt: &R, bytes: &[u8]) -> Result<Settings,
 fn settings_at<R: Files + Print + Eprint + AllocGlobal>(
     rt: &R,
     path: &str,
-) -> Result<Settings, Status> {
+) -> Result<Settings, Status>
+    ensures { IfErr result EndsWithout }
+{
     let mut file = match fs::open(rt, path) {
         Ok(file) => file,
         Err(error) => return Err(failed(rt, &error, "cannot open", path)),
@@ -49,7 +61,9 @@ fn settings_at<R: Files + Print + Eprint + AllocGlobal>(
 }
 
 // What a command's status says where it ended outside, on the standard error; but not where the text says that a socket could not be bound.
-fn ended<R: Eprint>(rt: &R, status: Status, is_unbound: bool, path: &str) -> Status {
+fn ended<R: Eprint>(rt: &R, status: Status, is_unbound: bool, path: &str) -> Status
+    ensures { result ≡ status }
+{
     if status == Status::Outside && !is_unbound {
         return complain(rt, "a read or a write failed:", path);
     }
@@ -101,7 +115,10 @@ pub(crate) fn udp<R: Files + Input + Net + Clock + Print + Eprint + AllocGlobal>
 pub(crate) fn member<R: Files + Net + Clock + Print + Eprint + AllocGlobal>(
     rt: &R,
     words: &MemberWords<'_>,
-) -> Status {
+) -> Status
+    ensures { (e : MemberMistake) → (contact_of (text_of words.now.contact) ≡ Err e) ⊎ (payload_of (text_of words.now.send) ≡ Err e)
+        → result ≡ Status.Usage }
+{
     let plan = match words.plan() {
         Ok(plan) => plan,
         Err(mistake) => {

@@ -1,8 +1,10 @@
 //! The words of the commands for members over datagrams.
 
-ghost use Rattle.std.specs.Prelude.{◌≡◌, codes, IfOk, IfSome};
-ghost use Rattle.clap.specs.Words.{found_of, rows_of, rule_of};
-ghost use Rattle.vsync_cli.specs.Grammar.{required_rule, number_rule, option_rule, udp_shape, member_shape, AddsShape, AreUdpWords, AreMemberWords};
+ghost use Rattle.std.specs.Prelude.{◌≡◌, codes, IfOk, IfSome, MatchResult, Ok, Err};
+ghost use Rattle.clap.specs.Words.{found_of, one_of, rows_of};
+ghost use Rattle.script_reader.specs.declared.udp_script.TheConstants.{ROUNDS};
+ghost use Rattle.vsync_cli.specs.Grammar.{required_rule, number_rule, option_rule, udp_app, member_numbers_app, member_app, AddsCommand, AreUdpWords, AreMemberWords, IsArg, IsCommand, IsNumberIn};
+ghost use Rattle.vsync_cli.specs.Plans.{contact_of, payload_of, text_of, IsMistaken, IsPlan};
 
 use address::{Address, Node};
 use clap::builder::ValueParser;
@@ -50,18 +52,24 @@ pub enum MemberMistake {
 
 impl<'a> MemberWords<'a> {
     /// What the node does: refused where ADDR is no address, and then where TEXT is too long.
-    pub fn plan(&self) -> Result<MemberPlan<'a>, MemberMistake> {
+    pub fn plan(&self) -> Result<MemberPlan<'a>, MemberMistake>
+        ensures { MatchResult result (IsPlan self.now) (IsMistaken self.now) }
+    {
+        let contact = contact_in(self.contact)?;
+        let send = payload_in(self.send)?;
         Ok(MemberPlan {
             address: self.address,
             rounds: self.rounds,
-            contact: contact_in(self.contact)?,
-            send: payload_in(self.send)?,
+            contact,
+            send,
         })
     }
 }
 
 // The contact that a word spells, if there is one.
-fn contact_in(word: Option<&str>) -> Result<Option<Address>, MemberMistake> {
+fn contact_in(word: Option<&str>) -> Result<Option<Address>, MemberMistake>
+    ensures { result ≡ contact_of (text_of word.entry) }
+{
     let Some(word) = word else {
         return Ok(None);
     };
@@ -72,7 +80,9 @@ fn contact_in(word: Option<&str>) -> Result<Option<Address>, MemberMistake> {
 }
 
 // The payload that a word is, if there is one.
-fn payload_in(word: Option<&str>) -> Result<Option<&[u8]>, MemberMistake> {
+fn payload_in(word: Option<&str>) -> Result<Option<&[u8]>, MemberMistake>
+    ensures { MatchResult result (λ payload. payload_of (text_of word.entry) ≡ Ok (text_of payload)) (λ e. payload_of (text_of word.entry) ≡ Err e) }
+{
     let Some(word) = word else {
         return Ok(None);
     };
@@ -84,21 +94,21 @@ fn payload_in(word: Option<&str>) -> Result<Option<&[u8]>, MemberMistake> {
 
 // An argument that is required.
 fn required<'a>(alloc: Global, name: &'a str, help: &'a str) -> Arg<'a>
-    ensures { rule_of result ≡ required_rule name.now }
+    ensures { IsArg (required_rule name.now) result }
 {
     Arg::new(alloc, name).required(true).help(help)
 }
 
 // An argument that is a number in a range, and is required.
 fn number<'a>(alloc: Global, name: &'a str, low: u64, high: u64, help: &'a str) -> Arg<'a>
-    ensures { rule_of result ≡ number_rule name.now low high }
+    ensures { IsArg (number_rule name.now low high) result }
 {
     required(alloc, name, help).value_parser(ValueParser::unsigned(low, high))
 }
 
 // An option with a value.
 fn option<'a>(alloc: Global, name: &'a str, value: &'a str, help: &'a str) -> Arg<'a>
-    ensures { rule_of result ≡ option_rule name.now }
+    ensures { IsArg (option_rule name.now) result }
 {
     Arg::new(alloc, name)
         .long(name)
@@ -108,7 +118,7 @@ fn option<'a>(alloc: Global, name: &'a str, value: &'a str, help: &'a str) -> Ar
 
 // The argument that names the settings.
 fn config<'a>(alloc: Global) -> Arg<'a>
-    ensures { rule_of result ≡ required_rule (codes "CONFIG") }
+    ensures { IsArg (required_rule (codes "CONFIG")) result }
 {
     required(
         alloc,
@@ -117,14 +127,11 @@ fn config<'a>(alloc: Global) -> Arg<'a>
     )
 }
 
-/// The program with `udp CONFIG SCRIPT` as well.
-pub(crate) fn with_udp<'a>(
-    alloc: Global,
-    program: clap::Command<'a>,
-) -> Result<clap::Command<'a>, AllocError>
-    ensures { IfOk result (AddsShape program.entry udp_shape) }
+// The subcommand `udp`.
+fn udp_command<'a>(alloc: Global) -> Result<clap::Command<'a>, AllocError>
+    ensures { IfOk result (IsCommand udp_app) }
 {
-    let command = clap::Command::new(alloc, "udp")
+    clap::Command::new(alloc, "udp")
         .about("Runs nodes over UDP in one process by a script, and prints the trace and the chats")
         .after_help(
             "The script has a line for each event: start N, create N, join N ADDR, send N TEXT, suspect N ADDR, hint N ADDR, leave N, crash N,\nand rounds K for K rounds of each running node.\n\nExample:\n  vsync udp examples/four.toml examples/merge.udp",
@@ -134,12 +141,24 @@ pub(crate) fn with_udp<'a>(
             alloc,
             "SCRIPT",
             "The script's path, or - for the standard input",
-        ))?;
+        ))
+}
+
+/// The program with `udp CONFIG SCRIPT` as well.
+pub(crate) fn with_udp<'a>(
+    alloc: Global,
+    program: clap::Command<'a>,
+) -> Result<clap::Command<'a>, AllocError>
+    ensures { IfOk result (AddsCommand program.entry udp_app) }
+{
+    let command = udp_command(alloc)?;
     program.subcommand(command)
 }
 
 // The subcommand `member` with its numbers.
-fn member_numbers<'a>(alloc: Global) -> Result<clap::Command<'a>, AllocError> {
+fn member_numbers<'a>(alloc: Global) -> Result<clap::Command<'a>, AllocError>
+    ensures { IfOk result (IsCommand member_numbers_app) }
+{
     clap::Command::new(alloc, "member")
         .about("Runs one node over UDP by itself, and prints its trace as it happens and its chat")
         .after_help(
@@ -157,14 +176,11 @@ fn member_numbers<'a>(alloc: Global) -> Result<clap::Command<'a>, AllocError> {
         .arg(number(alloc, "ROUNDS", 0, ROUNDS, "How many rounds it runs"))
 }
 
-/// The program with `member CONFIG NODE INCARNATION ROUNDS [--contact ADDR] [--send TEXT]` as well.
-pub(crate) fn with_member<'a>(
-    alloc: Global,
-    program: clap::Command<'a>,
-) -> Result<clap::Command<'a>, AllocError>
-    ensures { IfOk result (AddsShape program.entry member_shape) }
+// The subcommand `member`.
+fn member_command<'a>(alloc: Global) -> Result<clap::Command<'a>, AllocError>
+    ensures { IfOk result (IsCommand member_app) }
 {
-    let command = member_numbers(alloc)?
+    member_numbers(alloc)?
         .arg(option(
             alloc,
             "contact",
@@ -176,7 +192,17 @@ pub(crate) fn with_member<'a>(
             "send",
             "TEXT",
             "What it sends, once, as soon as it may: at most 512 bytes",
-        ))?;
+        ))
+}
+
+/// The program with `member CONFIG NODE INCARNATION ROUNDS [--contact ADDR] [--send TEXT]` as well.
+pub(crate) fn with_member<'a>(
+    alloc: Global,
+    program: clap::Command<'a>,
+) -> Result<clap::Command<'a>, AllocError>
+    ensures { IfOk result (AddsCommand program.entry member_app) }
+{
+    let command = member_command(alloc)?;
     program.subcommand(command)
 }
 
@@ -189,16 +215,38 @@ pub(crate) fn udp_words<'a>(matches: &ArgMatches<'a>) -> Option<UdpWords<'a>>
     Some(UdpWords { config, script })
 }
 
+// The address of NODE and INCARNATION.
+fn address_of(matches: &ArgMatches<'_>) -> Option<Address>
+    ensures { IfSome result (λ a. IsNumberIn 1 65535 (one_of (codes "NODE") (rows_of (found_of matches.now))) a.node
+        × IsNumberIn 1 4294967295 (one_of (codes "INCARNATION") (rows_of (found_of matches.now))) a.incarnation) }
+{
+    let node: u16 = matches.get_one("NODE")?;
+    let incarnation: u32 = matches.get_one("INCARNATION")?;
+    Address::new(Node::new(node)?, incarnation)
+}
+
+// ROUNDS, which clap has found to be at most `ROUNDS`.
+fn rounds_of(matches: &ArgMatches<'_>) -> Option<u64>
+    ensures { IfSome result (IsNumberIn 0 ROUNDS (one_of (codes "ROUNDS") (rows_of (found_of matches.now)))) }
+{
+    let rounds: u64 = matches.get_one("ROUNDS")?;
+    if rounds > ROUNDS {
+        return None;
+    }
+    Some(rounds)
+}
+
 /// The words of `member` in its matches.
 pub(crate) fn member_words<'a>(matches: &ArgMatches<'a>) -> Option<MemberWords<'a>>
     ensures { IfSome result (AreMemberWords (rows_of (found_of matches.now))) }
 {
-    let node = Node::new(matches.get_one("NODE")?)?;
-    let address = Address::new(node, matches.get_one("INCARNATION")?)?;
+    let config = matches.get_str("CONFIG")?;
+    let address = address_of(matches)?;
+    let rounds = rounds_of(matches)?;
     Some(MemberWords {
-        config: matches.get_str("CONFIG")?,
+        config,
         address,
-        rounds: matches.get_one("ROUNDS")?,
+        rounds,
         contact: matches.get_str("contact"),
         send: matches.get_str("send"),
     })

@@ -1,45 +1,48 @@
 ghost use Rattle.std.specs.Prelude.{◌≡◌, ◌≤◌, ◌<◌, ◌∷◌, [], true, length, map, codes, string_bytes, IfOk, IfSome, IsOkAnd, IsSomeAnd};
 ghost use Rattle.clap.specs.Words.{app_of, fault_of, found_of, rows_of, subcommand_of, subcommand_rows_of, FailsBy, Text};
-ghost use Rattle.vsync_cli.specs.Words.{input_of, IsWorldOn, IsChatOn, IsPacketsOn, IsCheckOn, IsOrNoMemory, RunsStandardInput};
-ghost use Rattle.vsync_cli.specs.Grammar.{is_path, program_app, program_of_subcommands, AddsPath, IsSaid, IsSubcommandOn};
+ghost use Rattle.vsync_cli.specs.Words.{input_of, IsWorldOn, IsChatOn, IsPacketsOn, IsCheckOn, IsUdpOn, IsOrNoMemory, RunsStandardInput};
+ghost use Rattle.vsync_cli.specs.Grammar.{is_path, program_app, program_of_subcommands, path_app, AddsCommand, IsCommand, IsSaid, IsTextSaid};
 
 use crate::udp_words::{MemberWords, UdpWords, member_words, udp_words, with_member, with_udp};
 use clap::{Arg, ArgMatches, Error};
 use std::alloc::{AllocError, Global};
 
-/// What the words of a command line ask for.
+/// A command over one text, a script or a trace, which it reads at a path; `-` is the standard input.
 #[derive(Clone, Copy, Debug)]
-pub enum Invocation<'a> {
-    /// `world SCRIPT`: the script of this path is run; `-` is the standard input.
+pub enum TextCommand<'a> {
+    /// `world SCRIPT`: the script is run.
     World(&'a str),
-    /// `chat SCRIPT`: the script of this path is run, and the chats of the running members are printed; `-` is the standard
-    /// input.
+    /// `chat SCRIPT`: the script is run, and the chats of the running members are printed.
     Chat(&'a str),
-    /// `packets SCRIPT`: the script of this path is run, and the packets that were put out are printed; `-` is the standard
-    /// input.
+    /// `packets SCRIPT`: the script is run, and the packets that were put out are printed.
     Packets(&'a str),
-    /// `check TRACE`: the trace of this path is checked; `-` is the standard input.
+    /// `check TRACE`: the trace is checked.
     Check(&'a str),
-    /// `udp CONFIG SCRIPT`: nodes run over datagrams in one process.
-    Udp(UdpWords<'a>),
-    /// `member CONFIG NODE INCARNATION ROUNDS`: one node runs over datagrams by itself.
-    Member(MemberWords<'a>),
 }
 
-impl<'a> Invocation<'a> {
-    /// The path of its input; of nodes over datagrams that of their settings.
+impl<'a> TextCommand<'a> {
+    /// The path of its input.
     pub fn path(&self) -> &'a str
         ensures { result.now ≡ input_of self.now }
     {
         match self {
-            Invocation::World(path) => path,
-            Invocation::Chat(path) => path,
-            Invocation::Packets(path) => path,
-            Invocation::Check(path) => path,
-            Invocation::Udp(words) => words.config,
-            Invocation::Member(words) => words.config,
+            TextCommand::World(path) => path,
+            TextCommand::Chat(path) => path,
+            TextCommand::Packets(path) => path,
+            TextCommand::Check(path) => path,
         }
     }
+}
+
+/// What the words of a command line ask for.
+#[derive(Clone, Copy, Debug)]
+pub enum Invocation<'a> {
+    /// `world SCRIPT`, `chat SCRIPT`, `packets SCRIPT` or `check TRACE`.
+    Text(TextCommand<'a>),
+    /// `udp CONFIG SCRIPT`: nodes run over datagrams in one process.
+    Udp(UdpWords<'a>),
+    /// `member CONFIG NODE INCARNATION ROUNDS`: one node runs over datagrams by itself.
+    Member(MemberWords<'a>),
 }
 
 /// A subcommand with one argument, the path of its input.
@@ -55,7 +58,7 @@ struct PathCommand<'a> {
 impl<'a> PathCommand<'a> {
     /// The subcommand as clap reads it.
     fn grammar(&self, alloc: Global) -> Result<clap::Command<'a>, AllocError>
-        ensures { IfOk result (IsSubcommandOn self.now.name.now self.now.argument.now) }
+        ensures { IfOk result (IsCommand (path_app self.now.name.now self.now.argument.now)) }
     {
         let path = Arg::new(alloc, self.argument)
             .required(true)
@@ -72,7 +75,7 @@ impl<'a> PathCommand<'a> {
         alloc: Global,
         program: clap::Command<'a>,
     ) -> Result<clap::Command<'a>, AllocError>
-        ensures { IfOk result (AddsPath program.entry self.now.name.now self.now.argument.now) }
+        ensures { IfOk result (AddsCommand program.entry (path_app self.now.name.now self.now.argument.now)) }
     {
         let command = self.grammar(alloc)?;
         program.subcommand(command)
@@ -84,7 +87,7 @@ fn with_world<'a>(
     alloc: Global,
     program: clap::Command<'a>,
 ) -> Result<clap::Command<'a>, AllocError>
-    ensures { IfOk result (AddsPath program.entry (codes "world") (codes "SCRIPT")) }
+    ensures { IfOk result (AddsCommand program.entry (path_app (codes "world") (codes "SCRIPT"))) }
 {
     let command = PathCommand {
         name: "world",
@@ -98,7 +101,7 @@ fn with_world<'a>(
 
 /// The program with `chat SCRIPT` as well.
 fn with_chat<'a>(alloc: Global, program: clap::Command<'a>) -> Result<clap::Command<'a>, AllocError>
-    ensures { IfOk result (AddsPath program.entry (codes "chat") (codes "SCRIPT")) }
+    ensures { IfOk result (AddsCommand program.entry (path_app (codes "chat") (codes "SCRIPT"))) }
 {
     let command = PathCommand {
         name: "chat",
@@ -115,7 +118,7 @@ fn with_packets<'a>(
     alloc: Global,
     program: clap::Command<'a>,
 ) -> Result<clap::Command<'a>, AllocError>
-    ensures { IfOk result (AddsPath program.entry (codes "packets") (codes "SCRIPT")) }
+    ensures { IfOk result (AddsCommand program.entry (path_app (codes "packets") (codes "SCRIPT"))) }
 {
     let command = PathCommand {
         name: "packets",
@@ -132,7 +135,7 @@ fn with_check<'a>(
     alloc: Global,
     program: clap::Command<'a>,
 ) -> Result<clap::Command<'a>, AllocError>
-    ensures { IfOk result (AddsPath program.entry (codes "check") (codes "TRACE")) }
+    ensures { IfOk result (AddsCommand program.entry (path_app (codes "check") (codes "TRACE"))) }
 {
     let command = PathCommand {
         name: "check",
@@ -173,29 +176,39 @@ fn grammar<'a>(alloc: Global) -> Result<clap::Command<'a>, AllocError>
     with_member(alloc, program)
 }
 
-/// The input that a subcommand's matches name.
+/// The command over a text that a subcommand's matches name.
+fn text_command<'a>(name: &str, matches: &ArgMatches<'a>) -> Option<TextCommand<'a>>
+    ensures { IfSome result (IsTextSaid (name.now, rows_of (found_of matches.now))) }
+{
+    if name == "world" {
+        return Some(TextCommand::World(matches.get_str("SCRIPT")?));
+    }
+    if name == "chat" {
+        return Some(TextCommand::Chat(matches.get_str("SCRIPT")?));
+    }
+    if name == "packets" {
+        return Some(TextCommand::Packets(matches.get_str("SCRIPT")?));
+    }
+    if name == "check" {
+        return Some(TextCommand::Check(matches.get_str("TRACE")?));
+    }
+    None
+}
+
+/// The command that a subcommand's matches name.
 fn named<'a>(name: &str, matches: &ArgMatches<'a>) -> Option<Invocation<'a>>
     ensures { IfSome result (IsSaid (name.now, rows_of (found_of matches.now))) }
 {
-    if name == "world" {
-        return Some(Invocation::World(matches.get_str("SCRIPT")?));
-    }
-    if name == "chat" {
-        return Some(Invocation::Chat(matches.get_str("SCRIPT")?));
-    }
-    if name == "packets" {
-        return Some(Invocation::Packets(matches.get_str("SCRIPT")?));
-    }
-    if name == "check" {
-        return Some(Invocation::Check(matches.get_str("TRACE")?));
-    }
     if name == "udp" {
         return Some(Invocation::Udp(udp_words(matches)?));
     }
     if name == "member" {
-        return Some(Invocation::Member(member_words(matches)?));
+        return match member_words(matches) {
+            Some(words) => Some(Invocation::Member(words)),
+            None => None,
+        };
     }
-    None
+    Some(Invocation::Text(text_command(name, matches)?))
 }
 
 /// What matches of the whole command line ask for.
@@ -244,9 +257,12 @@ pub fn command<'a>(alloc: Global, words: &'a [String]) -> Result<Invocation<'a>,
     ensures check { (name path : Text) → is_path path ≡ true
         → map string_bytes words.now ≡ name ∷ codes "check" ∷ path ∷ []
         → IsOrNoMemory (IsCheckOn path) result }
+    ensures udp { (name config script : Text) → is_path config ≡ true → is_path script ≡ true
+        → map string_bytes words.now ≡ name ∷ codes "udp" ∷ config ∷ script ∷ []
+        → IsOrNoMemory (IsUdpOn config script) result }
 {
     if words.len() <= 1 {
-        return Ok(Invocation::World("-"));
+        return Ok(Invocation::Text(TextCommand::World("-")));
     }
     parsed(alloc, words)
 }

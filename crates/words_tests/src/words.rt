@@ -1,6 +1,6 @@
 use clap::error::ErrorKind;
 use std::alloc::{AllocError, Global};
-use vsync_cli::{Invocation, command};
+use vsync_cli::{Invocation, TextCommand, command};
 
 /// The words of a command line, as the environment gives them.
 pub(crate) fn words_of(alloc: Global, line: &[&str]) -> Result<Vec<String>, AllocError> {
@@ -11,15 +11,13 @@ pub(crate) fn words_of(alloc: Global, line: &[&str]) -> Result<Vec<String>, Allo
     Ok(words)
 }
 
-/// The subcommand that a command is.
-fn name_of(command: Invocation<'_>) -> &'static str {
+/// The subcommand that a command over a text is.
+fn name_of(command: TextCommand<'_>) -> &'static str {
     match command {
-        Invocation::World(_) => "world",
-        Invocation::Chat(_) => "chat",
-        Invocation::Packets(_) => "packets",
-        Invocation::Check(_) => "check",
-        Invocation::Udp(_) => "udp",
-        Invocation::Member(_) => "member",
+        TextCommand::World(_) => "world",
+        TextCommand::Chat(_) => "chat",
+        TextCommand::Packets(_) => "packets",
+        TextCommand::Check(_) => "check",
     }
 }
 
@@ -27,14 +25,14 @@ fn name_of(command: Invocation<'_>) -> &'static str {
 fn asked(alloc: Global, line: &[&str], path: &str) -> Option<&'static str> {
     let words = words_of(alloc, line).ok()?;
     match command(alloc, words.as_slice()) {
-        Ok(command) => {
+        Ok(Invocation::Text(command)) => {
             if command.path() == path {
                 Some(name_of(command))
             } else {
                 None
             }
         }
-        Err(_) => None,
+        _ => None,
     }
 }
 

@@ -1,7 +1,7 @@
 use Rattle.std.proofs.Common.{rules, ◌∙◌, ap, sym, codes, option_map}
 use Rattle.clap.specs.Words.{found_of}
 use Rattle.clap.proofs.WalkLemmas.{first_value-rows}
-use Rattle.vsync_cli.proofs.words.named.Goals as goal
+use Rattle.vsync_cli.proofs.words.text_command.Goals as goal
 
 pub returns-then-eq : goal.returns-then-eq
 returns-then-eq c = (
