@@ -98,10 +98,10 @@ impl Silence {
     // The counts of these addresses at the end of the round.
     fn counts_of(&self, watched: &[Address]) -> Result<Vec<Count>, AllocError> {
         let mut counts = Vec::with_capacity(self.alloc, watched.len())?;
-        for address in watched {
+        for member in watched {
             counts.push(Count {
-                address: *address,
-                rounds: self.rounds_of(address),
+                address: *member,
+                rounds: self.rounds_of(member),
             })?;
         }
         Ok(counts)
@@ -126,11 +126,7 @@ impl Silence {
     }
 
     // Those of these addresses whose count is too high at the end of the round: twice as much is borne while a view is being made.
-    fn silent_of(
-        &self,
-        watched: &[Address],
-        is_blocked: bool,
-    ) -> Result<Vec<Address>, AllocError>
+    fn silent_of(&self, watched: &[Address], is_blocked: bool) -> Result<Vec<Address>, AllocError>
         ensures { IfOk result (λ silent. AreAmong silent.items watched.now) }
     {
         let most = self.most(is_blocked);
