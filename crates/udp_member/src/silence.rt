@@ -98,10 +98,10 @@ impl Silence {
     // The counts of these addresses at the end of the round.
     fn counts_of(&self, watched: &[Address]) -> Result<Vec<Count>, AllocError> {
         let mut counts = Vec::with_capacity(self.alloc, watched.len())?;
-        for address in watched {
+        for member in watched {
             counts.push(Count {
-                address: *address,
-                rounds: self.rounds_of(address),
+                address: *member,
+                rounds: self.rounds_of(member),
             })?;
         }
         Ok(counts)
