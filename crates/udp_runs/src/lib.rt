@@ -1,6 +1,7 @@
 //! The commands of the program for members over datagrams, as functions over a machine's nets, a reader and a writer.
 #![tactic(auto)]
 
+mod calls;
 mod ends;
 mod loopback;
 mod machine;

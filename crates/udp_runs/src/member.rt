@@ -1,14 +1,18 @@
 //! One node that runs by itself.
 
+ghost use Rattle.udp_net.specs.Settings.{port_of};
+ghost use Rattle.vsync_runs.specs.Outcomes.{Written};
+ghost use Rattle.udp_runs.specs.Ends.{TakesMore};
+ghost use Rattle.udp_runs.specs.Members.{IsListedText, RunsMember, StartsUp, WritesStart};
+
 use crate::Machine;
-use crate::ends::{Stop, end_text};
+use crate::ends::{Cut, end, end_without_net, settle};
 use crate::node_state::{append_chat_of, append_events, member_at};
-use crate::script::settle;
 use address::Address;
 use channel::Error;
 use chat_log::Chat;
 use limits::Refusal;
-use std::alloc::{AllocError, Global};
+use std::alloc::Global;
 use std::io::Write;
 use trace_props::Event;
 use udp_member::Runner;
@@ -29,7 +33,7 @@ pub struct MemberPlan<'a> {
     pub send: Option<&'a [u8]>,
 }
 
-/// A member that runs by itself, and what happened to it that was not written yet.
+/// A member that runs by itself.
 #[derive(Drop)]
 struct Lone<'a, N: Net, C: Chat> {
     alloc: Global,
@@ -38,19 +42,35 @@ struct Lone<'a, N: Net, C: Chat> {
     unsent: Option<&'a [u8]>,
     // Whether it has ended.
     has_ended: bool,
+    // What happened to it that was not written yet.
+    text: Vec<u8>,
 }
 
 // What is left of an answer of a channel to one that runs by itself: want of memory ends it, and what is refused else is passed over.
-fn unless_memory(answer: Result<(), Error>) -> Result<(), Stop> {
+fn unless_memory(answer: Result<(), Error>) -> Result<(), Cut> {
     match answer {
-        Err(Error::Refused(Refusal::Memory)) => Err(Stop::Memory),
+        Err(Error::Refused(Refusal::Memory)) => Err(Cut::Memory),
         _ => Ok(()),
     }
 }
 
+// Writes what a text holds, so that it is seen at once, and empties it.
+fn show<W: Write>(writer: &mut W, text: &mut Vec<u8>) -> Result<(), Cut>
+    ensures { TakesMore (W.contents writer.old) (W.contents writer.new) }
+{
+    if text.is_empty() {
+        return Ok(());
+    }
+    settle(writer, text)?;
+    if writer.flush().is_err() {
+        return Err(Cut::Failed);
+    }
+    Ok(())
+}
+
 impl<'a, N: Net, C: Chat> Lone<'a, N, C> {
     // Makes a group, or asks the contact to be let into one.
-    fn connect(&mut self, settings: &Settings, contact: Option<Address>) -> Result<(), Stop> {
+    fn connect(&mut self, settings: &Settings, contact: Option<Address>) -> Result<(), Cut> {
         let group = settings.group();
         let channel = self.member.channel();
         unless_memory(match contact {
@@ -60,7 +80,7 @@ impl<'a, N: Net, C: Chat> Lone<'a, N, C> {
     }
 
     // Sends what it has to send yet, if it may.
-    fn send(&mut self) -> Result<(), Stop> {
+    fn send(&mut self) -> Result<(), Cut> {
         let Some(payload) = self.unsent else {
             return Ok(());
         };
@@ -75,7 +95,7 @@ impl<'a, N: Net, C: Chat> Lone<'a, N, C> {
     }
 
     // A round, which begins with what it has to send yet.
-    fn round(&mut self) -> Result<(), Stop> {
+    fn round(&mut self) -> Result<(), Cut> {
         self.send()?;
         match self.member.round() {
             Err(Error::Refused(Refusal::Closed)) => {
@@ -86,84 +106,128 @@ impl<'a, N: Net, C: Chat> Lone<'a, N, C> {
         }
     }
 
-    // Writes what happened, so that it is seen at once. `ended` is what is answered, where that is an error.
-    fn show<W: Write>(
-        &mut self,
-        ended: Result<(), Stop>,
-        text: &mut Vec<u8>,
-        writer: &mut W,
-    ) -> Result<(), Stop> {
-        append_events(text, &mut self.member)?;
-        ended?;
-        if text.is_empty() {
-            return Ok(());
-        }
-        settle(writer, text)?;
-        if writer.flush().is_err() {
-            return Err(Stop::Failed);
-        }
+    // Writes what happened.
+    fn show_events<W: Write>(&mut self, writer: &mut W) -> Result<(), Cut>
+        ensures { TakesMore (W.contents writer.old) (W.contents writer.new) }
+    {
+        let appended = append_events(&mut self.text, self.member.channel());
+        show(writer, &mut self.text)?;
+        appended?;
         Ok(())
     }
 
-    // All of its rounds, with a pause between two, and then its chat.
-    fn run<M: Machine, W: Write>(
+    // Writes its chat, unless it has ended.
+    fn show_chat<W: Write>(&mut self, writer: &mut W) -> Result<(), Cut>
+        ensures { TakesMore (W.contents writer.old) (W.contents writer.new) }
+    {
+        let appended = append_chat_of(&mut self.text, self.member.channel());
+        show(writer, &mut self.text)?;
+        appended?;
+        Ok(())
+    }
+
+    // One of its rounds, and what happened by it.
+    fn turn<W: Write>(&mut self, writer: &mut W) -> Result<(), Cut>
+        ensures { TakesMore (W.contents writer.old) (W.contents writer.new) }
+    {
+        let went = self.round();
+        self.show_events(writer)?;
+        went
+    }
+
+    // All of its rounds, with a pause between two.
+    fn turns<M: Machine, W: Write>(
         &mut self,
         rounds: u64,
         machine: &mut M,
-        text: &mut Vec<u8>,
         writer: &mut W,
-    ) -> Result<(), Stop> {
+    ) -> Result<(), Cut>
+        ensures { TakesMore (W.contents writer.old) (W.contents writer.new) }
+    {
         for round in 0..rounds {
+            if self.has_ended {
+                return Ok(());
+            }
             if round > 0 {
                 machine.pause();
             }
-            let ended = self.round();
-            self.show(ended, text, writer)?;
-            if self.has_ended {
-                break;
-            }
+            self.turn(writer)?;
         }
-        append_chat_of(text, &mut self.member)?;
         Ok(())
     }
 }
 
-// The net of a node that the settings list.
-fn net_of<M: Machine>(
-    settings: &Settings,
-    machine: &mut M,
-    address: Address,
-) -> Result<M::Net, Stop> {
-    if settings.port(address.node()).is_none() {
-        return Err(Stop::NoNet(0, BindError::Config));
-    }
-    match machine.net(address.node()) {
-        Ok(net) => Ok(net),
-        Err(error) => Err(Stop::NoNet(0, error)),
-    }
-}
-
-// Does what the plan says.
-fn play<C: Chat, M: Machine, W: Write>(
+// Does what the plan says at a member that was started.
+fn go_on<C: Chat, M: Machine, W: Write>(
     alloc: Global,
     settings: &Settings,
     plan: &MemberPlan<'_>,
     machine: &mut M,
-    text: &mut Vec<u8>,
+    net: M::Net,
     writer: &mut W,
-) -> Result<(), Stop> {
-    let net = net_of(settings, machine, plan.address)?;
-    append_event(text, &Event::Started(plan.address))?;
+) -> Result<(), Cut>
+    ensures { TakesMore (W.contents writer.old) (W.contents writer.new) }
+{
     let member: Runner<M::Net, C> = member_at(alloc, plan.address, net, settings.silent())?;
     let mut lone = Lone {
         alloc,
         member,
         unsent: plan.send,
         has_ended: false,
+        text: Vec::new(alloc),
     };
-    let ended = lone.connect(settings, plan.contact);
-    lone.show(ended, text, writer)?;
-    lone.run(plan.rounds, machine, text, writer)
+    let connected = lone.connect(settings, plan.contact);
+    lone.show_events(writer)?;
+    connected?;
+    lone.turns(plan.rounds, machine, writer)?;
+    lone.show_chat(writer)
+}
+
+// Writes that a member was started.
+fn write_start<W: Write>(alloc: Global, member: Address, writer: &mut W) -> Result<(), Cut>
+    ensures { WritesStart member (W.contents writer.old) (W.contents writer.new) result }
+{
+    let mut text = Vec::new(alloc);
+    if append_event(&mut text, &Event::Started(member)).is_err() {
+        return Err(Cut::Memory);
+    }
+    settle(writer, &mut text)
+}
+
+// Starts the member of the plan over a net, and does what the plan says.
+fn start<C: Chat, M: Machine, W: Write>(
+    alloc: Global,
+    settings: &Settings,
+    plan: &MemberPlan<'_>,
+    machine: &mut M,
+    net: M::Net,
+    writer: &mut W,
+) -> Result<(), Cut>
+    ensures { StartsUp plan.now.address (W.contents writer.old) (W.contents writer.new) result }
+{
+    match write_start(alloc, plan.address, writer) {
+        Ok(()) => go_on::<C, M, W>(alloc, settings, plan, machine, net, writer),
+        Err(why) => Err(why),
+    }
+}
+
+// Runs the member of the plan at a node that the settings list.
+fn run_listed<C: Chat, M: Machine, W: Write>(
+    alloc: Global,
+    settings: &Settings,
+    plan: &MemberPlan<'_>,
+    machine: &mut M,
+    writer: &mut W,
+) -> Status
+    ensures { Written (IsListedText plan.now.address) (W.contents writer.old) (W.contents writer.new) result }
+{
+    match machine.net(plan.address.node()) {
+        Ok(net) => {
+            let written = start::<C, M, W>(alloc, settings, plan, machine, net, writer);
+            end(writer, written)
+        }
+        Err(error) => end_without_net(alloc, writer, 0, error),
+    }
 }
 
 /// Runs one node of the settings by itself, over its net, with a chat `C` as its receiver: it makes a group or joins its contact's, and has its rounds. Writes what
@@ -177,8 +241,11 @@ pub fn run_member<C: Chat, M: Machine, W: Write>(
     plan: &MemberPlan<'_>,
     machine: &mut M,
     writer: &mut W,
-) -> Status {
-    let mut text = Vec::new(alloc);
-    let ended = play::<C, M, W>(alloc, settings, plan, machine, &mut text, writer);
-    end_text(alloc, writer, text.as_slice(), ended)
+) -> Status
+    ensures { RunsMember plan.now.address (port_of plan.now.address.node settings.now.nodes) (W.contents writer.old) (W.contents writer.new) result }
+{
+    match settings.port(plan.address.node()) {
+        Some(_) => run_listed::<C, M, W>(alloc, settings, plan, machine, writer),
+        None => end_without_net(alloc, writer, 0, BindError::Config),
+    }
 }
