@@ -5,12 +5,12 @@ mod calls;
 mod ends;
 mod loopback;
 mod machine;
-mod member;
 mod node_state;
 mod nodes;
+mod one_node;
 mod script;
 
 pub use loopback::Loopback;
 pub use machine::Machine;
-pub use member::{MemberPlan, run_member};
+pub use one_node::{MemberPlan, run_member};
 pub use script::run_udp;

@@ -67,7 +67,28 @@ fn write_chats<N: Net, C: Chat, W: Write>(
     Ok(())
 }
 
-// Does what lines say, and then writes the chats.
+// Does what lines say, and writes what happened.
+fn play_lines<N: Net, C: Chat, M: Machine<Net = N>, W: Write>(
+    nodes: &mut Nodes<N, C>,
+    settings: &Settings,
+    machine: &mut M,
+    lines: &[UdpLine],
+    text: &mut Vec<u8>,
+    writer: &mut W,
+) -> Result<(), Stop>
+    ensures takes { TakesMore (W.contents writer.old) (W.contents writer.new) }
+    ensures stops { IfErr result (StopsIn lines.now) }
+{
+    for line in lines {
+        if let Err(stop) = play_line(nodes, settings, machine, line, text, writer) {
+            return Err(stop);
+        }
+    }
+    write_chats(nodes, text, writer)?;
+    Ok(())
+}
+
+// Does what lines say at nodes where no member runs yet.
 fn play<C: Chat, M: Machine, W: Write>(
     alloc: Global,
     settings: &Settings,
@@ -80,13 +101,7 @@ fn play<C: Chat, M: Machine, W: Write>(
 {
     let mut nodes = Nodes::<M::Net, C>::new(alloc, settings)?;
     let mut text = Vec::new(alloc);
-    for line in lines {
-        if let Err(stop) = play_line(&mut nodes, settings, machine, line, &mut text, writer) {
-            return Err(stop);
-        }
-    }
-    write_chats(&mut nodes, &mut text, writer)?;
-    Ok(())
+    play_lines(&mut nodes, settings, machine, lines, &mut text, writer)
 }
 
 /// Runs the nodes of the settings in this process by a script from a reader, each over a net of its own, with the chats `C` as their receivers. Writes what

@@ -1,5 +1,5 @@
 use Rattle.udp_runs.proofs.FactOfEnds.{takes-then}
-use Rattle.udp_runs.proofs.member.go_on.Goals as goal
+use Rattle.udp_runs.proofs.one_node.Lone.play.Goals as goal
 
 pub returns-in_err-turns : goal.returns-in_err-turns
 returns-in_err-turns g c = takes-then _ _ _ c.show_events.ensures c.turns.ensures

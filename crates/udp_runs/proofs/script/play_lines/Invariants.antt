@@ -1,5 +1,5 @@
 use Rattle.udp_runs.specs.Ends.{TakesMore}
-use Rattle.udp_runs.proofs.script.play.Given as goal
+use Rattle.udp_runs.proofs.script.play_lines.Given as goal
 
 -- what happened by so many lines was written
 abbrev pub invariant-loop-line : goal.invariant-loop-line

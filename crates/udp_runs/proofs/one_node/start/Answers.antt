@@ -1,5 +1,5 @@
 use Rattle.udp_runs.proofs.FactOfMembers.{start-failed, start-went}
-use Rattle.udp_runs.proofs.member.start.Goals as goal
+use Rattle.udp_runs.proofs.one_node.start.Goals as goal
 
 pub returns-in-Ok : goal.returns-in-Ok
 returns-in-Ok g c = start-went _ _ _ _ _ c.in-Ok.ensures c.go_on.ensures

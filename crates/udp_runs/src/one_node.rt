@@ -155,6 +155,23 @@ impl<'a, N: Net, C: Chat> Lone<'a, N, C> {
         }
         Ok(())
     }
+
+    // Connects it, and then has its rounds.
+    fn play<M: Machine, W: Write>(
+        &mut self,
+        settings: &Settings,
+        plan: &MemberPlan<'_>,
+        machine: &mut M,
+        writer: &mut W,
+    ) -> Result<(), Cut>
+        ensures { TakesMore (W.contents writer.old) (W.contents writer.new) }
+    {
+        let connected = self.connect(settings, plan.contact);
+        self.show_events(writer)?;
+        connected?;
+        self.turns(plan.rounds, machine, writer)?;
+        self.show_chat(writer)
+    }
 }
 
 // Does what the plan says at a member that was started.
@@ -176,11 +193,7 @@ fn go_on<C: Chat, M: Machine, W: Write>(
         has_ended: false,
         text: Vec::new(alloc),
     };
-    let connected = lone.connect(settings, plan.contact);
-    lone.show_events(writer)?;
-    connected?;
-    lone.turns(plan.rounds, machine, writer)?;
-    lone.show_chat(writer)
+    lone.play(settings, plan, machine, writer)
 }
 
 // Writes that a member was started.

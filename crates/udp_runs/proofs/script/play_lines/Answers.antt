@@ -1,6 +1,6 @@
 use Rattle.udp_runs.proofs.FactOfEnds.{takes-then}
 use Rattle.udp_runs.proofs.FactOfScripts.{stops-there}
-use Rattle.udp_runs.proofs.script.play.Goals as goal
+use Rattle.udp_runs.proofs.script.play_lines.Goals as goal
 
 pub returns-in-Err-clause-takes : goal.returns-in-Err-clause-takes
 returns-in-Err-clause-takes g c = takes-then _ _ _ c.loop-line.invariant c.play_line.ensures.takes

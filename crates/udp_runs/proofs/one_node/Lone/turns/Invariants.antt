@@ -1,5 +1,5 @@
 use Rattle.udp_runs.specs.Ends.{TakesMore}
-use Rattle.udp_runs.proofs.member.Lone.turns.Given as goal
+use Rattle.udp_runs.proofs.one_node.Lone.turns.Given as goal
 
 -- what happened in so many rounds was written
 abbrev pub invariant-loop-round : goal.invariant-loop-round
