@@ -86,10 +86,12 @@ impl<N: Net, C: Chat> Nodes<N, C> {
     fn index_of(&self, node: Node) -> Option<usize>
         ensures { IfSome result (λ index. index < vec_len self.now.node_states) }
     {
-        self.node_states
-            .as_slice()
-            .iter()
-            .position(|node_state| node_state.node() == node)
+        for (index, node_state) in self.node_states.as_slice().iter().enumerate() {
+            if node_state.node() == node {
+                return Some(index);
+            }
+        }
+        None
     }
 
     // Starts the next member of a node. Refused with 50 where the settings do not list the node, with 5 where one runs, and with 8 after the last incarnation.
