@@ -6,7 +6,7 @@
 #![tactic(auto)]
 
 mod bare;
-mod member;
+mod group_member;
 mod party;
 mod race;
 
@@ -66,7 +66,7 @@ fn main(rt: HostRuntime) -> io::Result<()> {
         let parties = race::parties::<bare::Bare>(&rt, &settings, words.node)?;
         race::run(&rt, parties, words.node, words.count)
     } else {
-        let parties = race::parties::<member::Member>(&rt, &settings, words.node)?;
+        let parties = race::parties::<group_member::Member>(&rt, &settings, words.node)?;
         race::run(&rt, parties, words.node, words.count)
     }
 }

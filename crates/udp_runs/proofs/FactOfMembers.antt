@@ -16,7 +16,7 @@ use Rattle.udp_runs.specs.Ends.{TakesMore, IsEndText, IsEndOf, IsNetlessText}
 use Rattle.udp_runs.specs.Ends.IsEndText.{Finished, Unfinished}
 use Rattle.udp_runs.specs.Ends.IsEndOf.{Over, Lacking, Failing}
 use Rattle.udp_runs.specs.Ends.IsNetlessText.{Unprinted}
-use Rattle.udp_runs.specs.Members.{IsListedText, IsMemberText, StartsUp, WritesStart, started_line}
+use Rattle.udp_runs.specs.Members.{IsListedText, StartsUp, WritesStart, started_line}
 use Rattle.udp_runs.specs.Members.IsListedText.{Netless, Runs}
 use Rattle.udp_runs.specs.Members.StartsUp.{Unstarted, Unwritten, Goes}
 use Rattle.udp_runs.proofs.FactOfEnds.{after-none, ended}
@@ -73,15 +73,3 @@ start-went member a b c r f g = Goes g.text r (appends-then a b c (started_line 
 -- it has no net
 pub netless-ended : (member : Address) (a b : Option (List ℕ)) (error : BindError) (status : Status) → Written (IsNetlessText 0 error) a b status → Written (IsListedText member) a b status
 netless-ended member a b error status w = written-as (IsNetlessText 0 error) (IsListedText member) a b status (λ s t says. Netless error s t says) w
-
--- the settings list it
-pub run-listed : (member : Address) (found there : Option ℕ) (port : ℕ) (a b : Option (List ℕ)) (status : Status) → found ≡ Some port → found ≡ there
-    → Written (IsListedText member) a b status → Written (IsMemberText member there) a b status
-run-listed member found there port a b status is same w =
-    let here : there ≡ Some port = sym same ∙ is in rw here w
-
--- they do not
-pub run-unlisted : (member : Address) (found there : Option ℕ) (a b : Option (List ℕ)) (status : Status) → found ≡ None → found ≡ there
-    → Written (IsNetlessText 0 bind.Config) a b status → Written (IsMemberText member there) a b status
-run-unlisted member found there a b status is same w =
-    let here : there ≡ None = sym same ∙ is in rw here w
