@@ -1,4 +1,4 @@
-//! Whom a member has not heard for how long.
+//! Whom a member has not heard for how long (docs/PROTOCOL.md, "Silence").
 
 ghost use Rattle.std.specs.Prelude.{IfOk};
 ghost use Rattle.udp_member.specs.Turns.{AreAmong};
