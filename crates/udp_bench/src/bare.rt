@@ -2,7 +2,7 @@
 
 use crate::party::Party;
 use address::Node;
-use limits::OUTSTANDING;
+use limits::{OUTSTANDING, WINDOW};
 use std::alloc::Global;
 use std::io;
 use std::io::ErrorKind;
@@ -18,13 +18,23 @@ const ACK: usize = 44;
 /// The most receives of a round, as of a runner's.
 const RECEIVES: usize = 64;
 
-/// A socket with no member. What a datagram is, is told by its length.
+/// How many nodes there are, and one more, since they are numbered from 1.
+const NODES: usize = 5;
+
+/// A socket with no member. What a datagram is, is told by its length; its first byte is the number of who sent it. Node 1 orders no more than members do of what
+/// lacks an acknowledgement, so that no socket's buffer overflows.
 #[derive(Drop)]
 pub(crate) struct Bare {
     net: SocketNet,
     node: Node,
+    // Of node 2: what it sent and was not delivered.
     outstanding: u64,
+    // Of node 1: what came to be ordered, what it ordered of that, and what each node acknowledged.
+    forwarded: u64,
+    ordered: u64,
+    acknowledged: [u64; NODES],
     buffer: Vec<u8>,
+    packet: Vec<u8>,
 }
 
 // The node of a number.
@@ -35,37 +45,76 @@ fn node(number: u16) -> io::Result<Node> {
 impl Bare {
     // Sends so many bytes to a node.
     fn put(&mut self, to: u16, length: usize) -> io::Result<()> {
-        if let Some(bytes) = self.buffer.as_slice().get(..length) {
+        if let Some(bytes) = self.packet.as_slice().get(..length) {
             self.net.send(node(to)?, bytes);
         }
         Ok(())
     }
 
-    // Answers a datagram of this length; whether a message was delivered by it.
-    fn answer(&mut self, length: usize) -> io::Result<bool> {
-        if length == FORWARD {
+    // What all others acknowledged.
+    fn stable(&self) -> u64 {
+        let [_, _, second, third, fourth] = self.acknowledged;
+        second.min(third).min(fourth)
+    }
+
+    // Orders what waits, while there is room; how many messages that are.
+    fn order(&mut self) -> io::Result<usize> {
+        let mut count = 0usize;
+        for _ in self.ordered..self.forwarded {
+            if self.ordered.wrapping_sub(self.stable()) >= WINDOW {
+                break;
+            }
+            self.ordered = self.ordered.wrapping_add(1);
             for to in 2..=4u16 {
                 self.put(to, ORDER)?;
             }
-            return Ok(true);
+            count = count.wrapping_add(1);
         }
-        if length == ORDER {
-            self.outstanding = self.outstanding.saturating_sub(1);
-            self.put(1, ACK)?;
-            return Ok(true);
+        Ok(count)
+    }
+
+    // Notes that a node acknowledged one more message.
+    fn acknowledge(&mut self, from: u8) {
+        if let Some(count) = self.acknowledged.get_mut(usize::from(from)) {
+            *count = count.wrapping_add(1);
         }
-        Ok(false)
+    }
+
+    // Answers a datagram of this length; how many messages were delivered by it.
+    fn answer(&mut self, length: usize) -> io::Result<usize> {
+        let from = self.buffer.first().copied().unwrap_or(0);
+        match length {
+            FORWARD => {
+                self.forwarded = self.forwarded.wrapping_add(1);
+                self.order()
+            }
+            ORDER => {
+                self.outstanding = self.outstanding.saturating_sub(1);
+                self.put(1, ACK)?;
+                Ok(1)
+            }
+            ACK => {
+                self.acknowledge(from);
+                self.order()
+            }
+            _ => Ok(0),
+        }
     }
 }
 
 impl Party for Bare {
     fn new(alloc: Global, _settings: &Settings, node: Node, net: SocketNet) -> io::Result<Bare> {
         let buffer = vec![in alloc; 0; 40_001]?;
+        let packet = vec![in alloc; u8::try_from(node.number()).unwrap_or(0); ORDER]?;
         Ok(Bare {
             net,
             node,
             outstanding: 0,
+            forwarded: 0,
+            ordered: 0,
+            acknowledged: [0; NODES],
             buffer,
+            packet,
         })
     }
 
@@ -86,11 +135,7 @@ impl Party for Bare {
         let mut count = 0usize;
         for _ in 0..RECEIVES {
             match self.net.receive(self.buffer.as_mut_slice()) {
-                Ok(Some(length)) => {
-                    if self.answer(length)? {
-                        count = count.wrapping_add(1);
-                    }
-                }
+                Ok(Some(length)) => count = count.wrapping_add(self.answer(length)?),
                 _ => break,
             }
         }
