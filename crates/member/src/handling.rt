@@ -1,6 +1,8 @@
 //! What a member does by each input. After its end it answers 6; want of memory ends it.
 
-ghost use Rattle.std.specs.Prelude.{◌≡◌, Some};
+ghost use Rattle.std.specs.Prelude.{◌≡◌, Some, None};
+ghost use Rattle.limits.specs.declared.refusal.Refusal.TheVariants as refusal;
+ghost use Rattle.member.specs.declared.error.Error.TheVariants as error;
 ghost use Rattle.member.specs.Running.{IsAlive};
 ghost use Rattle.member.specs.declared.input.Input.TheVariants as input;
 ghost use Rattle.member.specs.Handling.{Handled};
@@ -15,6 +17,15 @@ use membership::Life;
 use output::{Identity, Output};
 use state_transfer::Receiver;
 use wire::decode;
+
+// Ends the member, which was refused memory, and answers that.
+fn end_without_memory<R: Receiver>(life: &mut Option<Life<R>>) -> Error
+    ensures ended { life.new ≡ None }
+    ensures memory { result ≡ error.Refused refusal.Memory }
+{
+    *life = None;
+    Error::Refused(Refusal::Memory)
+}
 
 // It makes a group of itself alone.
 pub(crate) fn create_group<R: Receiver>(
@@ -34,10 +45,7 @@ pub(crate) fn create_group<R: Receiver>(
     let mut out = Output::nothing(who.alloc);
     match create(running, who, &mut out) {
         Ok(()) => Ok(out),
-        Err(_) => {
-            *life = None;
-            Err(Error::Refused(Refusal::Memory))
-        }
+        Err(_) => Err(end_without_memory(life)),
     }
 }
 
@@ -60,10 +68,7 @@ pub(crate) fn join_group<R: Receiver>(
     let mut out = Output::nothing(who.alloc);
     match ask(running, who, contact, &mut out) {
         Ok(()) => Ok(out),
-        Err(_) => {
-            *life = None;
-            Err(Error::Refused(Refusal::Memory))
-        }
+        Err(_) => Err(end_without_memory(life)),
     }
 }
 
@@ -86,10 +91,7 @@ pub(crate) fn send_message<R: Receiver>(
     let mut out = Output::nothing(who.alloc);
     match send(running, who, payload, &mut out) {
         Ok(()) => Ok(out),
-        Err(_) => {
-            *life = None;
-            Err(Error::Refused(Refusal::Memory))
-        }
+        Err(_) => Err(end_without_memory(life)),
     }
 }
 
@@ -133,10 +135,7 @@ pub(crate) fn tick<R: Receiver>(life: &mut Option<Life<R>>, who: &Identity) -> R
     let mut out = Output::nothing(who.alloc);
     match pass_time(running, who, &mut out) {
         Ok(()) => Ok(out),
-        Err(_) => {
-            *life = None;
-            Err(Error::Refused(Refusal::Memory))
-        }
+        Err(_) => Err(end_without_memory(life)),
     }
 }
 
@@ -156,10 +155,7 @@ pub(crate) fn suspect<R: Receiver>(
     let mut out = Output::nothing(who.alloc);
     match on_suspect(running, who, address, &mut out) {
         Ok(()) => Ok(out),
-        Err(_) => {
-            *life = None;
-            Err(Error::Refused(Refusal::Memory))
-        }
+        Err(_) => Err(end_without_memory(life)),
     }
 }
 
@@ -179,10 +175,7 @@ pub(crate) fn merge_hint<R: Receiver>(
     let mut out = Output::nothing(who.alloc);
     match announce_view(running, who, address, &mut out) {
         Ok(()) => Ok(out),
-        Err(_) => {
-            *life = None;
-            Err(Error::Refused(Refusal::Memory))
-        }
+        Err(_) => Err(end_without_memory(life)),
     }
 }
 

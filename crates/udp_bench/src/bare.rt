@@ -33,22 +33,6 @@ fn node(number: u16) -> io::Result<Node> {
 }
 
 impl Bare {
-    /// The socket of a node.
-    pub(crate) fn new(
-        alloc: Global,
-        _settings: &Settings,
-        node: Node,
-        net: SocketNet,
-    ) -> io::Result<Bare> {
-        let buffer = vec![in alloc; 0; 40_001]?;
-        Ok(Bare {
-            net,
-            node,
-            outstanding: 0,
-            buffer,
-        })
-    }
-
     // Sends so many bytes to a node.
     fn put(&mut self, to: u16, length: usize) -> io::Result<()> {
         if let Some(bytes) = self.buffer.as_slice().get(..length) {
@@ -75,6 +59,16 @@ impl Bare {
 }
 
 impl Party for Bare {
+    fn new(alloc: Global, _settings: &Settings, node: Node, net: SocketNet) -> io::Result<Bare> {
+        let buffer = vec![in alloc; 0; 40_001]?;
+        Ok(Bare {
+            net,
+            node,
+            outstanding: 0,
+            buffer,
+        })
+    }
+
     fn is_ready(&mut self) -> bool {
         true
     }

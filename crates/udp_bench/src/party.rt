@@ -1,7 +1,13 @@
+use address::Node;
+use std::alloc::Global;
 use std::io;
+use udp_net::{Settings, SocketNet};
 
 /// One of the four nodes.
-pub(crate) trait Party: Drop {
+pub(crate) trait Party: Drop + Sized {
+    /// The party of a node over its socket.
+    fn new(alloc: Global, settings: &Settings, node: Node, net: SocketNet) -> io::Result<Self>;
+
     /// Whether the four are together.
     fn is_ready(&mut self) -> bool;
 

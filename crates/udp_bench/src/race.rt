@@ -2,7 +2,6 @@
 
 use crate::party::Party;
 use address::Node;
-use std::alloc::Global;
 use std::io::{ErrorKind, Write};
 use std::time::{Clock, Duration};
 use std::{io, thread};
@@ -25,21 +24,16 @@ pub(crate) struct Runs<P: Party> {
 
 // The nanoseconds since some moment that is the same for all processes.
 fn now(rt: &HostRuntime) -> io::Result<u64> {
-    Ok(rt.monotonic()?.as_nanos() as u64)
+    Ok(u64::try_from(rt.monotonic()?.as_nanos()).unwrap_or(u64::MAX))
 }
 
 // One party at a node.
-fn party<P: Party>(
-    rt: &HostRuntime,
-    settings: &Settings,
-    number: u16,
-    new: fn(Global, &Settings, Node, SocketNet) -> io::Result<P>,
-) -> io::Result<Runs<P>> {
+fn party<P: Party>(rt: &HostRuntime, settings: &Settings, number: u16) -> io::Result<Runs<P>> {
     let node = Node::new(number).ok_or(io::Error::from(ErrorKind::InvalidInput))?;
     match SocketNet::bind(rt.alloc(), rt, settings, node) {
         Ok(net) => Ok(Runs {
             number,
-            party: new(rt.alloc(), settings, node, net)?,
+            party: P::new(rt.alloc(), settings, node, net)?,
             delivered: Vec::new(rt.alloc()),
         }),
         Err(_) => Err(io::Error::from(ErrorKind::AddrInUse)),
@@ -51,14 +45,13 @@ pub(crate) fn parties<P: Party>(
     rt: &HostRuntime,
     settings: &Settings,
     node: Option<u16>,
-    new: fn(Global, &Settings, Node, SocketNet) -> io::Result<P>,
 ) -> io::Result<Vec<Runs<P>>> {
     let mut parties = Vec::new(rt.alloc());
     match node {
-        Some(number) => parties.push(party(rt, settings, number, new)?)?,
+        Some(number) => parties.push(party(rt, settings, number)?)?,
         None => {
             for number in 1..=4u16 {
-                parties.push(party(rt, settings, number, new)?)?;
+                parties.push(party(rt, settings, number)?)?;
             }
         }
     }

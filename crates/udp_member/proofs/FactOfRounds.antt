@@ -1,24 +1,33 @@
 -- How the parts of a round go on, and come together.
-use Rattle.std.proofs.Common.{◌≡◌, ℕ, ◌+◌, ◌<◌, ◌≤◌, ◌++◌, Bool, true, false, length, List, [], ◌∷◌, Option, Some, None, Result, Ok, Err, inl, inr, ◌⊎◌, refl, sym, ap, ◌∙◌, subst, arith, length-append}
+use Rattle.std.proofs.Common.{◌≡◌, ℕ, ◌+◌, ◌<◌, ◌≤◌, ◌++◌, Bool, true, false, length, take, List, [], ◌∷◌, Option, Some, None, Ok, Err, inl, inr, ◌⊎◌, refl, sym, ap, ◌∙◌, subst, arith, length-append}
 use Rattle.limits.specs.declared.refusal.Refusal.TheVariants.{Memory}
 use Rattle.address.specs.Ids.{Address}
 use Rattle.state_transfer.specs.Meanings.{Meaning}
 use Rattle.member.specs.declared.error.Error.{Error}
 use Rattle.member.specs.declared.error.Error.TheVariants.{Refused}
 use Rattle.channel.specs.Errors.{is_end}
-use Rattle.channel.specs.Channels.{ChannelModel}
-use Rattle.udp_net.specs.Logs.{Log}
+use Rattle.udp_net.specs.Logs.{Log, Lists, receiving, answer_of}
 use Rattle.udp_member.specs.declared.runner.TheConstants.{RECEIVES}
 use Rattle.udp_member.specs.Offers.{Offers}
-use Rattle.udp_member.specs.Turns.{Handed, Datagram, Suspect, Tick, Turn, Driven, driven, Takes, TakesAll, Nothing, Next, goes_on}
-use Rattle.udp_member.specs.Rounds.{IsWhy, PassesOver, HandsIn, HearsOne, Receives, Cuts, HearsAll, Hears, SuspectsAll, Suspects, Ticks, SuspectsAndTicks, Rounds}
+use Rattle.udp_member.specs.Turns.{Handed, Datagram, Suspect, Tick, Driven, Takes, TakesAll, Nothing, Next, Any, IsWatched, goes_on}
+use Rattle.udp_member.specs.Rounds.{PassesOver, HandsIn, HearsOne, Receives, Cuts, Hears, SuspectsAll, Suspects, Listens, Rounds}
 
 module _ {N S : Type 0} (log : N → Option Log) (failed : N → ℕ) (meaning : Meaning S) where
   -- so many datagrams were handed in
   pub record HeardSoFar (old : Driven N S) (count : ℕ) (new : Driven N S) : Type 0 where
     pub datagrams : List (List ℕ)
     pub many : length datagrams ≡ count
-    pub takes : TakesAll log failed meaning Datagram old datagrams new
+    pub takes : TakesAll log failed meaning Datagram Any old datagrams new
+
+  -- the datagram that a receive gave is handed in
+  pub heard : (old new : Driven N S) (net : N) (buffer lent : List ℕ) (given : Option ℕ) (count : ℕ) (failure : Option Error) → given ≡ Some count → lent ≡ buffer
+      → Lists (log old.net) (receiving (answer_of (Ok given) buffer)) (log net) → failed net ≡ failed old.net
+      → HandsIn log failed meaning (Datagram (take count lent)) net old.channel failure new.net new.channel → new.faults ≡ old.faults
+      → HearsOne log failed meaning old failure new
+  heard old new net buffer lent given count failure is whole lists same h faults =
+      let came = subst (λ (a : Option ℕ). Lists (log old.net) (receiving (answer_of (Ok a) buffer)) (log net)) is lists in
+      let comes = subst (λ (b : List ℕ). Lists (log old.net) (receiving (answer_of (Ok (Some count)) b)) (log net)) (sym whole) came in
+      record { bytes = take count lent; answer = h.answer; takes = record { net = net; comes = (comes, same); turn = h.turn; faults = faults }; why = h.why }
 
   pub heard-none : (old : Driven N S) → HeardSoFar old 0 old
   heard-none old = record { datagrams = []; many = refl; takes = Nothing }
@@ -30,7 +39,7 @@ module _ {N S : Type 0} (log : N → Option Log) (failed : N → ℕ) (meaning :
   heard-one old mid new n true so h is = record {
     datagrams = so.datagrams ++ h.bytes ∷ [];
     many = one-longer so.datagrams h.bytes n so.many;
-    takes = Next so.datagrams mid h.bytes h.answer new so.takes h.takes h.why;
+    takes = Next so.datagrams mid h.bytes h.answer new so.takes tt h.takes h.why;
   }
   heard-one old mid new n false so h is = absurd (cc)
 
@@ -50,25 +59,26 @@ module _ {N S : Type 0} (log : N → Option Log) (failed : N → ℕ) (meaning :
       record { datagrams = so.datagrams; heard = new; takes = so.takes; until = inl (so.many ∙ e, refl) }
 
   -- a part that is cut short by a turn, by its answer or for want of memory
-  cut-by : {X : Type 0} (as_handed : X → Handed) (old mid new : Driven N S) (xs : List X) (x : X) (answer : Option Error) (e : Error) → TakesAll log failed meaning as_handed old xs mid
-      → Takes log failed meaning (as_handed x) mid answer new → is_end e ≡ true → (answer ≡ Some e) ⊎ (goes_on answer ≡ true) → Cuts log failed meaning as_handed old e new
-  cut-by as_handed old mid new xs x answer e all t ends (inl is) = record {
+  cut-by : {X : Type 0} (as_handed : X → Handed) (may : X → Type 0) (old mid new : Driven N S) (xs : List X) (x : X) (answer : Option Error) (e : Error)
+      → TakesAll log failed meaning as_handed may old xs mid → may x → Takes log failed meaning (as_handed x) mid answer new → is_end e ≡ true
+      → (answer ≡ Some e) ⊎ (goes_on answer ≡ true) → Cuts log failed meaning as_handed may old e new
+  cut-by as_handed may old mid new xs x answer e all m t ends (inl is) = record {
     handed = xs;
     mid = mid;
     takes = all;
     ends = ends;
-    last = inr (x, subst (λ (a : Option Error). Takes log failed meaning (as_handed x) mid a new) is t);
+    last = inr (x, m, subst (λ (a : Option Error). Takes log failed meaning (as_handed x) mid a new) is t);
   }
-  cut-by as_handed old mid new xs x answer e all t ends (inr on) = record {
+  cut-by as_handed may old mid new xs x answer e all m t ends (inr on) = record {
     handed = xs ++ x ∷ [];
     mid = new;
-    takes = Next xs mid x answer new all t on;
+    takes = Next xs mid x answer new all m t on;
     ends = ends;
     last = inl refl;
   }
 
   pub heard-cut : (old mid new : Driven N S) (n : ℕ) (e : Error) → HeardSoFar old n mid → Receives log failed meaning mid (Err e) new → Hears log failed meaning old (Some e) new
-  heard-cut old mid new n e so h = cut-by Datagram old mid new so.datagrams h.bytes h.answer e so.takes h.takes h.why.0 h.why.1
+  heard-cut old mid new n e so h = cut-by Datagram Any old mid new so.datagrams h.bytes h.answer e so.takes tt h.takes h.why.0 h.why.1
 
   -- ---- suspicions
 
@@ -81,57 +91,49 @@ module _ {N S : Type 0} (log : N → Option Log) (failed : N → ℕ) (meaning :
   pub cut-by-memory : (old : Driven N S) → Suspects log failed meaning old (Some (Refused Memory)) old
   cut-by-memory old = record { handed = []; mid = old; takes = Nothing; ends = refl; last = inl refl }
 
-  pub suspected-one : (old mid : Driven N S) (p : Address) (net : N) (channel : ChannelModel S) (faults : ℕ) → SuspectsAll log failed meaning old mid
-      → HandsIn log failed meaning (Suspect p) mid.net mid.channel None net channel → faults ≡ mid.faults → SuspectsAll log failed meaning old (driven net channel faults)
-  suspected-one old mid p net channel faults so h same = record {
+  pub suspected-one : (old mid new : Driven N S) (p : Address) → SuspectsAll log failed meaning old mid → IsWatched old.channel.stage p
+      → HandsIn log failed meaning (Suspect p) mid.net mid.channel None new.net new.channel → new.faults ≡ mid.faults → SuspectsAll log failed meaning old new
+  suspected-one old mid new p so m h same = record {
     suspects = so.suspects ++ p ∷ [];
-    takes = Next so.suspects mid p h.answer (driven net channel faults) so.takes (record { net = mid.net; comes = refl; turn = h.turn; faults = same }) h.why;
+    takes = Next so.suspects mid p h.answer new so.takes m (record { net = mid.net; comes = refl; turn = h.turn; faults = same }) h.why;
   }
 
-  pub suspected-cut : (old mid : Driven N S) (p : Address) (e : Error) (net : N) (channel : ChannelModel S) (faults : ℕ) → SuspectsAll log failed meaning old mid
-      → HandsIn log failed meaning (Suspect p) mid.net mid.channel (Some e) net channel → faults ≡ mid.faults
-      → Suspects log failed meaning old (Some e) (driven net channel faults)
-  suspected-cut old mid p e net channel faults so h same =
-      cut-by Suspect old mid (driven net channel faults) so.suspects p h.answer e so.takes (record { net = mid.net; comes = refl; turn = h.turn; faults = same }) h.why.0 h.why.1
+  pub suspected-cut : (old mid new : Driven N S) (p : Address) (e : Error) → SuspectsAll log failed meaning old mid → IsWatched old.channel.stage p
+      → HandsIn log failed meaning (Suspect p) mid.net mid.channel (Some e) new.net new.channel → new.faults ≡ mid.faults → Suspects log failed meaning old (Some e) new
+  suspected-cut old mid new p e so m h same =
+      cut-by Suspect (IsWatched old.channel.stage) old mid new so.suspects p h.answer e so.takes m (record { net = mid.net; comes = refl; turn = h.turn; faults = same }) h.why.0 h.why.1
 
   -- ---- a whole round
 
-  pub cut-while-hearing : (old begun new : Driven N S) (e : Error) → Offers log failed old.net old.channel begun.net begun.channel → begun.faults ≡ old.faults
-      → Hears log failed meaning begun (Some e) new → Rounds log failed meaning old (Some e) new
-  cut-while-hearing old begun new e offers same h = record {
-    begun = begun;
-    offers = offers;
-    faults = same;
+  pub listened : (old begun new : Driven N S) (failure : Option Error) → Offers log failed old.net old.channel begun.net begun.channel → begun.faults ≡ old.faults
+      → Hears log failed meaning begun failure new → Listens log failed meaning old failure new
+  listened old begun new failure offers same h = record { begun = begun; offers = offers; faults = same; hears = h }
+
+  pub cut-while-hearing : (old new : Driven N S) (e : Error) → Listens log failed meaning old (Some e) new → Rounds log failed meaning old (Some e) new
+  cut-while-hearing old new e l = record {
     cut = Some e;
     mid = new;
-    hears = h;
+    listens = l;
     then_suspects = λ n. absurd (cc);
     stops = λ k is. (is, refl);
   }
 
-  pub cut-while-suspecting : (old begun heard new : Driven N S) (e : Error) → Offers log failed old.net old.channel begun.net begun.channel → begun.faults ≡ old.faults
-      → Hears log failed meaning begun None heard → Suspects log failed meaning heard (Some e) new → Rounds log failed meaning old (Some e) new
-  cut-while-suspecting old begun heard new e offers same h x = record {
-    begun = begun;
-    offers = offers;
-    faults = same;
+  pub cut-while-suspecting : (old heard new : Driven N S) (e : Error) → Listens log failed meaning old None heard → Suspects log failed meaning heard (Some e) new
+      → Rounds log failed meaning old (Some e) new
+  cut-while-suspecting old heard new e l x = record {
     cut = None;
     mid = heard;
-    hears = h;
+    listens = l;
     then_suspects = λ n. record { cut = Some e; mid = new; suspects = x; ticks = λ m. absurd (cc); stops = λ k is. (is, refl) };
     stops = λ k n. absurd (cc);
   }
 
-  pub ticked : (old begun heard mid : Driven N S) (failure : Option Error) (net : N) (channel : ChannelModel S) (faults : ℕ) → Offers log failed old.net old.channel begun.net begun.channel
-      → begun.faults ≡ old.faults → Hears log failed meaning begun None heard → Suspects log failed meaning heard None mid
-      → HandsIn log failed meaning Tick mid.net mid.channel failure net channel → faults ≡ mid.faults → Rounds log failed meaning old failure (driven net channel faults)
-  ticked old begun heard mid failure net channel faults offers same h x t faults_same = record {
-    begun = begun;
-    offers = offers;
-    faults = same;
+  pub ticked : (old heard mid new : Driven N S) (failure : Option Error) → Listens log failed meaning old None heard → Suspects log failed meaning heard None mid
+      → HandsIn log failed meaning Tick mid.net mid.channel failure new.net new.channel → new.faults ≡ mid.faults → Rounds log failed meaning old failure new
+  ticked old heard mid new failure l x t faults_same = record {
     cut = None;
     mid = heard;
-    hears = h;
+    listens = l;
     then_suspects = λ n. record {
       cut = None;
       mid = mid;

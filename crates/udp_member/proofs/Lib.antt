@@ -1,2 +1,3 @@
 mod FactOfOffers
 mod FactOfRounds
+mod FactOfSilence

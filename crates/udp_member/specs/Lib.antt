@@ -1,3 +1,4 @@
 pub mod Offers
 pub mod Turns
 pub mod Rounds
+pub mod Lends

@@ -10,7 +10,7 @@ offer_of packet = record { node = packet.destination.node; bytes = packet.bytes 
 
 -- each of these packets was offered, in order
 abbrev pub offering_all : List Outgoing → Log → Log
-offering_all packets l = record { given = l.given; offered = l.offered ++ map offer_of packets }
+offering_all packets l = record { received = l.received; offered = l.offered ++ map offer_of packets }
 
 -- what waited in the channel was offered to the net, in order, and nothing else
 pub record Offers {N S : Type 0} (log : N → Option Log) (failed : N → ℕ) (net : N) (channel : ChannelModel S) (new_net : N) (new_channel : ChannelModel S) : Type 0 where

@@ -5,10 +5,12 @@ use Rattle.state_transfer.specs.Meanings.{Meaning}
 use Rattle.member.specs.declared.error.Error.{Error}
 use Rattle.channel.specs.Errors.{is_end}
 use Rattle.channel.specs.Channels.{ChannelModel}
-use Rattle.udp_net.specs.Logs.{Log, Lists, same_log, one_more}
+use Rattle.udp_net.specs.declared.net.Received.{Received}
+use Rattle.udp_net.specs.declared.net.Received.TheVariants as received
+use Rattle.udp_net.specs.Logs.{Log, Lists, receiving, one_more}
 use Rattle.udp_member.specs.declared.runner.TheConstants.{RECEIVES}
 use Rattle.udp_member.specs.Offers.{Offers}
-use Rattle.udp_member.specs.Turns.{Handed, Datagram, Suspect, Tick, Turn, Driven, Takes, TakesAll, goes_on}
+use Rattle.udp_member.specs.Turns.{Handed, Datagram, Suspect, Tick, Turn, Driven, Takes, TakesAll, Any, IsWatched, goes_on}
 
 -- what a failure of a turn comes from: the channel's answer, or memory that the runner itself was refused
 abbrev pub IsWhy : Option Error → Option Error → Type 0
@@ -27,11 +29,22 @@ pub record HandsIn {N S : Type 0} (log : N → Option Log) (failed : N → ℕ) 
   pub turn : Turn log failed meaning handed net channel answer new_net new_channel
   pub why : IsWhy answer failure
 
--- a receive that gives none, or fails, which is counted
-pub record ComesNone {N S : Type 0} (log : N → Option Log) (failed : N → ℕ) (old new : Driven N S) : Type 0 where
-  pub lists : Lists (log old.net) same_log (log new.net)
+-- a failed receive is counted, and no other
+abbrev pub counted : Received → ℕ → ℕ
+counted (received.Datagram bytes) n = n
+counted received.Nothing n = n
+counted received.Failed n = one_more n
+
+-- a receive that is answered so, and hands nothing in
+pub record Asks {N S : Type 0} (log : N → Option Log) (failed : N → ℕ) (answer : Received) (old new : Driven N S) : Type 0 where
+  pub lists : Lists (log old.net) (receiving answer) (log new.net)
+  pub failed_is : failed new.net ≡ counted answer (failed old.net)
+  pub faults : new.faults ≡ counted answer old.faults
   pub channel : new.channel ≡ old.channel
-  pub count : ((failed new.net ≡ failed old.net) × (new.faults ≡ old.faults)) ⊎ ((failed new.net ≡ one_more (failed old.net)) × (new.faults ≡ one_more old.faults))
+
+-- a receive that gives none, or fails
+abbrev pub ComesNone : {N S : Type 0} → (N → Option Log) → (N → ℕ) → Driven N S → Driven N S → Type 0
+ComesNone log failed old new = Asks log failed received.Nothing old new ⊎ Asks log failed received.Failed old new
 
 -- a datagram is received and handed in
 pub record HearsOne {N S : Type 0} (log : N → Option Log) (failed : N → ℕ) (meaning : Meaning S) (old : Driven N S) (failure : Option Error) (new : Driven N S) : Type 0 where
@@ -49,32 +62,33 @@ Receives log failed meaning old (Err e) new = HearsOne log failed meaning old (S
 -- ---- the parts of a round
 
 -- it is cut short: these were handed in; and then one that is answered 6 or 7, or the runner itself was refused
-pub record Cuts {N S X : Type 0} (log : N → Option Log) (failed : N → ℕ) (meaning : Meaning S) (as_handed : X → Handed) (old : Driven N S) (e : Error) (new : Driven N S) : Type 0 where
+pub record Cuts {N S X : Type 0} (log : N → Option Log) (failed : N → ℕ) (meaning : Meaning S) (as_handed : X → Handed) (may : X → Type 0) (old : Driven N S) (e : Error)
+    (new : Driven N S) : Type 0 where
   pub handed : List X
   pub mid : Driven N S
-  pub takes : TakesAll log failed meaning as_handed old handed mid
+  pub takes : TakesAll log failed meaning as_handed may old handed mid
   pub ends : is_end e ≡ true
-  pub last : (new ≡ mid) ⊎ ((x : X) × Takes log failed meaning (as_handed x) mid (Some e) new)
+  pub last : (new ≡ mid) ⊎ ((x : X) × may x × Takes log failed meaning (as_handed x) mid (Some e) new)
 
 -- the datagrams are handed in that come, up to `RECEIVES`, or until a receive gives none, or fails
 pub record HearsAll {N S : Type 0} (log : N → Option Log) (failed : N → ℕ) (meaning : Meaning S) (old new : Driven N S) : Type 0 where
   pub datagrams : List (List ℕ)
   pub heard : Driven N S
-  pub takes : TakesAll log failed meaning Datagram old datagrams heard
+  pub takes : TakesAll log failed meaning Datagram Any old datagrams heard
   pub until : ((length datagrams ≡ RECEIVES) × (new ≡ heard)) ⊎ ((length datagrams < RECEIVES) × ComesNone log failed heard new)
 
 abbrev pub Hears : {N S : Type 0} → (N → Option Log) → (N → ℕ) → Meaning S → Driven N S → Option Error → Driven N S → Type 0
 Hears log failed meaning old None new = HearsAll log failed meaning old new
-Hears log failed meaning old (Some e) new = Cuts log failed meaning Datagram old e new
+Hears log failed meaning old (Some e) new = Cuts log failed meaning Datagram Any old e new
 
--- then suspicions
+-- then suspicions of addresses that the channel watches, before the first of them
 pub record SuspectsAll {N S : Type 0} (log : N → Option Log) (failed : N → ℕ) (meaning : Meaning S) (old new : Driven N S) : Type 0 where
   pub suspects : List Address
-  pub takes : TakesAll log failed meaning Suspect old suspects new
+  pub takes : TakesAll log failed meaning Suspect (IsWatched old.channel.stage) old suspects new
 
 abbrev pub Suspects : {N S : Type 0} → (N → Option Log) → (N → ℕ) → Meaning S → Driven N S → Option Error → Driven N S → Type 0
 Suspects log failed meaning old None new = SuspectsAll log failed meaning old new
-Suspects log failed meaning old (Some e) new = Cuts log failed meaning Suspect old e new
+Suspects log failed meaning old (Some e) new = Cuts log failed meaning Suspect (IsWatched old.channel.stage) old e new
 
 -- last a tick
 pub record Ticks {N S : Type 0} (log : N → Option Log) (failed : N → ℕ) (meaning : Meaning S) (old : Driven N S) (failure : Option Error) (new : Driven N S) : Type 0 where
@@ -90,13 +104,17 @@ pub record SuspectsAndTicks {N S : Type 0} (log : N → Option Log) (failed : N 
   pub ticks : cut ≡ None → Ticks log failed meaning mid failure new
   pub stops : (e : Error) → cut ≡ Some e → (failure ≡ Some e) × (new ≡ mid)
 
--- what waits is offered; then the datagrams that come are handed in; and where that is not cut short, suspicions and a tick
-pub record Rounds {N S : Type 0} (log : N → Option Log) (failed : N → ℕ) (meaning : Meaning S) (old : Driven N S) (failure : Option Error) (new : Driven N S) : Type 0 where
+-- what waits is offered; then the datagrams that come are handed in
+pub record Listens {N S : Type 0} (log : N → Option Log) (failed : N → ℕ) (meaning : Meaning S) (old : Driven N S) (failure : Option Error) (new : Driven N S) : Type 0 where
   pub begun : Driven N S
   pub offers : Offers log failed old.net old.channel begun.net begun.channel
   pub faults : begun.faults ≡ old.faults
+  pub hears : Hears log failed meaning begun failure new
+
+-- it listens; and where that is not cut short, suspicions and a tick
+pub record Rounds {N S : Type 0} (log : N → Option Log) (failed : N → ℕ) (meaning : Meaning S) (old : Driven N S) (failure : Option Error) (new : Driven N S) : Type 0 where
   pub cut : Option Error
   pub mid : Driven N S
-  pub hears : Hears log failed meaning begun cut mid
+  pub listens : Listens log failed meaning old cut mid
   pub then_suspects : cut ≡ None → SuspectsAndTicks log failed meaning mid failure new
   pub stops : (e : Error) → cut ≡ Some e → (failure ≡ Some e) × (new ≡ mid)

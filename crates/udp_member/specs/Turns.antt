@@ -1,13 +1,17 @@
 -- What a runner hands to its channel, and what the channel does by it.
-use Rattle.std.specs.Prelude.{◌≡◌, ℕ, Bool, true, not, List, [], ◌∷◌, ◌++◌, Option, None, Some, IfSome}
+use Rattle.std.specs.Prelude.{◌≡◌, ⊤, ℕ, Bool, true, not, List, [], ◌∷◌, ◌++◌, All, Contains, Option, None, Some, IfSome}
+use Rattle.std.specs.Option.{option_map_or}
 use Rattle.address.specs.Ids.{Address}
 use Rattle.state_transfer.specs.Meanings.{Meaning}
 use Rattle.member.specs.declared.error.Error.{Error}
 use Rattle.member.specs.declared.input.Input.TheVariants as input
 use Rattle.channel.specs.Errors.{is_end}
-use Rattle.channel.specs.Channels.{ChannelModel, left_by}
+use Rattle.member.specs.Watching.{watched}
+use Rattle.channel.specs.declared.stage.Stage.{Stage}
+use Rattle.channel.specs.Channels.{ChannelModel, left_by, member_in}
 use Rattle.channel.specs.Calls.{Calls, CallsLent}
-use Rattle.udp_net.specs.Logs.{Log, Lists, giving}
+use Rattle.udp_net.specs.declared.net.Received.TheVariants as received
+use Rattle.udp_net.specs.Logs.{Log, Lists, receiving}
 use Rattle.udp_member.specs.Offers.{Offers}
 
 -- what a round hands in: a datagram that came, a suspicion, a tick
@@ -47,7 +51,7 @@ driven net channel faults = record { net = net; channel = channel; faults = faul
 
 -- a datagram is what a receive gave; all else comes from the runner
 abbrev pub Comes : {N : Type 0} → (N → Option Log) → (N → ℕ) → Handed → N → N → Type 0
-Comes log failed (Datagram bytes) old new = Lists (log old) (giving bytes) (log new) × (failed new ≡ failed old)
+Comes log failed (Datagram bytes) old new = Lists (log old) (receiving (received.Datagram bytes)) (log new) × (failed new ≡ failed old)
 Comes log failed (Suspect p) old new = new ≡ old
 Comes log failed Tick old new = new ≡ old
 
@@ -59,8 +63,26 @@ pub record Takes {N S : Type 0} (log : N → Option Log) (failed : N → ℕ) (m
   pub turn : Turn log failed meaning handed net old.channel answer new.net new.channel
   pub faults : new.faults ≡ old.faults
 
--- these are handed in, one after another, and none is answered 6 or 7
-pub data TakesAll {N S X : Type 0} (log : N → Option Log) (failed : N → ℕ) (meaning : Meaning S) (as_handed : X → Handed) (old : Driven N S) : List X → Driven N S → Type 0 where
-  Nothing : TakesAll log failed meaning as_handed old [] old
-  Next : (xs : List X) (mid : Driven N S) (x : X) (answer : Option Error) (new : Driven N S) → TakesAll log failed meaning as_handed old xs mid
-      → Takes log failed meaning (as_handed x) mid answer new → goes_on answer ≡ true → TakesAll log failed meaning as_handed old (xs ++ x ∷ []) new
+-- these are handed in, one after another, each of them one that may be, and none is answered 6 or 7
+pub data TakesAll {N S X : Type 0} (log : N → Option Log) (failed : N → ℕ) (meaning : Meaning S) (as_handed : X → Handed) (may : X → Type 0) (old : Driven N S)
+    : List X → Driven N S → Type 0 where
+  Nothing : TakesAll log failed meaning as_handed may old [] old
+  Next : (xs : List X) (mid : Driven N S) (x : X) (answer : Option Error) (new : Driven N S) → TakesAll log failed meaning as_handed may old xs mid
+      → may x → Takes log failed meaning (as_handed x) mid answer new → goes_on answer ≡ true → TakesAll log failed meaning as_handed may old (xs ++ x ∷ []) new
+
+-- any datagram may be
+abbrev pub Any : List ℕ → Type 0
+Any bytes = ⊤
+
+-- ---- who may be suspected
+
+-- each of these is one of those
+abbrev pub AreAmong : List Address → List Address → Type 0
+AreAmong these those = All (Contains those) these
+
+-- whom the channel watches; nobody before a connect and after its end
+abbrev pub watched_at : {S : Type 0} → Stage S → List Address
+watched_at stage = option_map_or watched (member_in stage) []
+
+abbrev pub IsWatched : {S : Type 0} → Stage S → Address → Type 0
+IsWatched stage p = Contains (watched_at stage) p

@@ -1,9 +1,10 @@
-ghost use Rattle.std.specs.Prelude.{◌≡◌, ◌≤◌, take, vec_len, IfErr};
+ghost use Rattle.std.specs.Prelude.{◌≡◌, IfOk};
 ghost use Rattle.std.specs.Result.{result_err};
-ghost use Rattle.limits.specs.declared.refusal.Refusal.TheVariants as refusal;
-ghost use Rattle.member.specs.declared.error.Error.TheVariants as error;
+ghost use Rattle.std.specs.Borrow.{sem};
+ghost use Rattle.udp_member.specs.Offers.{Offers};
 ghost use Rattle.udp_member.specs.Turns.{Datagram, Suspect, Tick, driven};
-ghost use Rattle.udp_member.specs.Rounds.{HandsIn, Receives, Hears, Suspects, Rounds};
+ghost use Rattle.udp_member.specs.Rounds.{HandsIn, Receives, Hears, Suspects, Listens, Rounds};
+ghost use Rattle.udp_member.specs.Lends.{lends_channel, lends_net};
 
 use crate::offering::offer_all;
 use crate::silence::Silence;
@@ -13,9 +14,8 @@ use channel::{Channel, Error};
 use limits::DATAGRAM;
 use state_transfer::Receiver;
 use std::alloc::{AllocError, Global};
+use std::marker::Model;
 use udp_net::{Fault, Net};
-use view::View;
-use wire::{Body, decode};
 
 /// The most receives of a round.
 pub const RECEIVES: usize = 64;
@@ -30,25 +30,28 @@ pub struct Runner<N: Net, R: Receiver> {
     faults: u64,
 }
 
-// Whether a datagram is a JOIN.
-fn is_join(bytes: &[u8]) -> bool {
-    match decode(bytes) {
-        Ok(packet) => matches!(packet.body, Body::Join),
-        Err(_) => false,
-    }
+impl<N: Net, R: Receiver> Model for Runner<N, R> {
+    ghost use Rattle.udp_member.specs.Turns.{Driven, driven};
+
+    ghost Value = { Driven N R };
+
+    ghost view = { λ r. driven r.net r.channel r.faults };
 }
 
-// Whether an address is a member of the view, if there is one.
-fn is_member(address: &Address, view: Option<&View>) -> bool {
-    match view {
-        Some(view) => view.contains(address),
-        None => false,
+// Hands in a datagram; whoever sent it is not silent.
+fn hand_in<N: Net, R: Receiver>(
+    net: &mut N,
+    channel: &mut Channel<R>,
+    silence: &mut Silence,
+    bytes: &[u8],
+) -> Result<(), Error>
+    ensures { HandsIn N.log N.failed R.meaning (Datagram bytes.now) net.old channel.old (result_err result) net.new channel.new }
+{
+    let answer = take_in(net, channel, bytes);
+    if let Some(Some(source)) = passed_over(answer)? {
+        silence.hear(source, bytes, channel.view())?;
     }
-}
-
-// Whether a datagram shows that the member of its source takes part: not where that is a member of the view that asks to be let in again.
-fn is_sign_of_life(source: &Address, bytes: &[u8], view: Option<&View>) -> bool {
-    !(is_member(source, view) && is_join(bytes))
+    Ok(())
 }
 
 impl<N: Net, R: Receiver> Runner<N, R> {
@@ -59,7 +62,9 @@ impl<N: Net, R: Receiver> Runner<N, R> {
         net: N,
         channel: Channel<R>,
         silent: u32,
-    ) -> Result<Runner<N, R>, AllocError> {
+    ) -> Result<Runner<N, R>, AllocError>
+        ensures { IfOk result (λ runner. runner ≡ driven net channel 0) }
+    {
         let buffer = vec![in alloc; 0; DATAGRAM + 1]?;
         Ok(Runner {
             net,
@@ -79,34 +84,58 @@ impl<N: Net, R: Receiver> Runner<N, R> {
     ///
     /// The round is cut short with 6 where the channel has ended, and with 7 where memory was refused. All that the channel refuses else is passed over.
     pub fn round(&mut self) -> Result<(), Error>
-        ensures { Rounds N.log N.failed R.meaning (driven self.old.net self.old.channel self.old.faults) (result_err result)
-            (driven self.new.net self.new.channel self.new.faults) }
+        ensures { Rounds N.log N.failed R.meaning self.old (result_err result) self.new }
     {
-        offer_all(&mut self.net, &mut self.channel);
-        self.receive_all()?;
+        self.listen()?;
         self.suspect_silent()?;
         self.tick()
     }
 
+    /// The first part of a round, for who wants to hear more often than it has rounds: what waited in the channel is offered to the net, and datagrams are received and
+    /// handed in as in a round. Nothing is counted for the silent, and no time passes.
+    ///
+    /// It is cut short as a round is.
+    pub fn listen(&mut self) -> Result<(), Error>
+        ensures { Listens N.log N.failed R.meaning self.old (result_err result) self.new }
+    {
+        self.offer();
+        self.receive_all()
+    }
+
     /// How many receives failed, at most 2^64 - 1.
-    pub fn faults(&self) -> u64 {
+    pub fn faults(&self) -> u64
+        ensures { result ≡ self.now.faults }
+    {
         self.faults
     }
 
     /// Its channel.
-    pub fn channel(&mut self) -> &mut Channel<R> {
+    pub fn channel(&mut self) -> &mut Channel<R>
+        ensures* writes_back { sem 𝓛 (lends_channel N.row R.row N.Net R.Receiver self.entry result) }
+        ensures value { result.now ≡ self.old.channel }
+    {
         &mut self.channel
     }
 
     /// Its net.
-    pub fn net(&mut self) -> &mut N {
+    pub fn net(&mut self) -> &mut N
+        ensures* writes_back { sem 𝓛 (lends_net N.row R.row N.Net R.Receiver self.entry result) }
+        ensures value { result.now ≡ self.old.net }
+    {
         &mut self.net
+    }
+
+    // Offers what waits in the channel to the net.
+    fn offer(&mut self)
+        ensures offers { Offers N.log N.failed self.old.net self.old.channel self.new.net self.new.channel }
+        ensures faults { self.new.faults ≡ self.old.faults }
+    {
+        offer_all(&mut self.net, &mut self.channel);
     }
 
     // Receives datagrams and hands them in.
     fn receive_all(&mut self) -> Result<(), Error>
-        ensures { Hears N.log N.failed R.meaning (driven self.old.net self.old.channel self.old.faults) (result_err result)
-            (driven self.new.net self.new.channel self.new.faults) }
+        ensures { Hears N.log N.failed R.meaning self.old (result_err result) self.new }
     {
         for _turn in 0..RECEIVES {
             let came = self.receive_one()?;
@@ -119,12 +148,12 @@ impl<N: Net, R: Receiver> Runner<N, R> {
 
     // Receives a datagram and hands it in; answers whether there was one.
     fn receive_one(&mut self) -> Result<bool, Error>
-        ensures { Receives N.log N.failed R.meaning (driven self.old.net self.old.channel self.old.faults) result
-            (driven self.new.net self.new.channel self.new.faults) }
+        ensures { Receives N.log N.failed R.meaning self.old result self.new }
     {
         match self.net.receive(self.buffer.as_mut_slice()) {
             Ok(Some(count)) => {
-                self.hand_in(count)?;
+                let bytes = &self.buffer.as_slice()[..count];
+                hand_in(&mut self.net, &mut self.channel, &mut self.silence, bytes)?;
                 Ok(true)
             }
             Ok(None) => Ok(false),
@@ -135,38 +164,9 @@ impl<N: Net, R: Receiver> Runner<N, R> {
         }
     }
 
-    // Hands in the datagram of this length at the front of the buffer.
-    fn hand_in(&mut self, count: usize) -> Result<(), Error>
-        requires { count ≤ vec_len self.old.buffer }
-        ensures hands { HandsIn N.log N.failed R.meaning (Datagram (take count self.old.buffer.items)) self.old.net self.old.channel (result_err result)
-            self.new.net self.new.channel }
-        ensures faults { self.new.faults ≡ self.old.faults }
-    {
-        let bytes = &self.buffer.as_slice()[..count];
-        let answer = take_in(&mut self.net, &mut self.channel, bytes);
-        match passed_over(answer)? {
-            Some(Some(source)) => self.hear(source, count),
-            _ => Ok(()),
-        }
-    }
-
-    // The datagram of this length at the front of the buffer came from an address.
-    fn hear(&mut self, source: Address, count: usize) -> Result<(), Error>
-        requires { count ≤ vec_len self.old.buffer }
-        ensures rest { self.new ≡ record self.old { silence = self.new.silence } }
-        ensures memory { IfErr result (λ e. e ≡ error.Refused refusal.Memory) }
-    {
-        let bytes = &self.buffer.as_slice()[..count];
-        if is_sign_of_life(&source, bytes, self.channel.view()) {
-            self.silence.hear(source)?;
-        }
-        Ok(())
-    }
-
     // Counts the round for those who are watched, and hands in whom it has not heard for too long.
     fn suspect_silent(&mut self) -> Result<(), Error>
-        ensures { Suspects N.log N.failed R.meaning (driven self.old.net self.old.channel self.old.faults) (result_err result)
-            (driven self.new.net self.new.channel self.new.faults) }
+        ensures { Suspects N.log N.failed R.meaning self.old (result_err result) self.new }
     {
         let Some(watched) = passed_over(self.channel.watched())? else {
             return Ok(());

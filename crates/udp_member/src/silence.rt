@@ -1,7 +1,12 @@
 //! Whom a member has not heard for how long.
 
+ghost use Rattle.std.specs.Prelude.{IfOk};
+ghost use Rattle.udp_member.specs.Turns.{AreAmong};
+
 use address::{Address, ViewId};
 use std::alloc::{AllocError, Global};
+use view::View;
+use wire::{Body, decode};
 
 // For how many rounds no packet came from an address.
 #[derive(Clone, Copy)]
@@ -20,6 +25,27 @@ pub(crate) struct Silence {
     counts: Vec<Count>,
 }
 
+// Whether a datagram is a JOIN.
+fn is_join(bytes: &[u8]) -> bool {
+    match decode(bytes) {
+        Ok(packet) => matches!(packet.body, Body::Join),
+        Err(_) => false,
+    }
+}
+
+// Whether an address is a member of the view, if there is one.
+fn is_member(address: &Address, view: Option<&View>) -> bool {
+    match view {
+        Some(view) => view.contains(address),
+        None => false,
+    }
+}
+
+// Whether a datagram shows that the member of its source takes part: not where that is a member of the view that asks to be let in again.
+fn is_sign_of_life(source: &Address, bytes: &[u8], view: Option<&View>) -> bool {
+    !(is_member(source, view) && is_join(bytes))
+}
+
 impl Silence {
     // Nobody is watched yet; `silent` rounds without a packet are too many. Takes no memory.
     pub(crate) fn new(alloc: Global, silent: u32) -> Silence {
@@ -32,10 +58,15 @@ impl Silence {
         }
     }
 
-    // A packet came from an address in this round.
-    pub(crate) fn hear(&mut self, address: Address) -> Result<(), AllocError> {
-        if !self.heard.contains(&address) {
-            self.heard.push(address)?;
+    // A datagram came from an address in this round.
+    pub(crate) fn hear(
+        &mut self,
+        source: Address,
+        bytes: &[u8],
+        view: Option<&View>,
+    ) -> Result<(), AllocError> {
+        if !self.heard.contains(&source) && is_sign_of_life(&source, bytes, view) {
+            self.heard.push(source)?;
         }
         Ok(())
     }
@@ -46,13 +77,15 @@ impl Silence {
         view: Option<ViewId>,
         is_blocked: bool,
         watched: &[Address],
-    ) -> Result<Vec<Address>, AllocError> {
+    ) -> Result<Vec<Address>, AllocError>
+        ensures { IfOk result (λ silent. AreAmong silent.items watched.now) }
+    {
         if view != self.view {
             self.counts.clear();
             self.view = view;
         }
         let counts = self.counts_of(watched)?;
-        let silent = self.silent_of(counts.as_slice(), is_blocked)?;
+        let silent = self.silent_of(watched, is_blocked)?;
         self.heard.clear();
         if silent.is_empty() {
             self.counts = counts;
@@ -65,10 +98,10 @@ impl Silence {
     // The counts of these addresses at the end of the round.
     fn counts_of(&self, watched: &[Address]) -> Result<Vec<Count>, AllocError> {
         let mut counts = Vec::with_capacity(self.alloc, watched.len())?;
-        for address in watched {
+        for member in watched {
             counts.push(Count {
-                address: *address,
-                rounds: self.rounds_of(address),
+                address: *member,
+                rounds: self.rounds_of(member),
             })?;
         }
         Ok(counts)
@@ -92,13 +125,15 @@ impl Silence {
         0
     }
 
-    // Those whose count is too high: twice as much is borne while a view is being made.
-    fn silent_of(&self, counts: &[Count], is_blocked: bool) -> Result<Vec<Address>, AllocError> {
+    // Those of these addresses whose count is too high at the end of the round: twice as much is borne while a view is being made.
+    fn silent_of(&self, watched: &[Address], is_blocked: bool) -> Result<Vec<Address>, AllocError>
+        ensures { IfOk result (λ silent. AreAmong silent.items watched.now) }
+    {
         let most = self.most(is_blocked);
         let mut silent = Vec::new(self.alloc);
-        for count in counts {
-            if count.rounds >= most {
-                silent.push(count.address)?;
+        for address in watched {
+            if self.rounds_of(address) >= most {
+                silent.push(*address)?;
             }
         }
         Ok(silent)

@@ -1,6 +1,7 @@
 //! Turns: the channel takes what is handed in, and what waits in it then is offered to the net.
 
-ghost use Rattle.std.specs.Result.{result_err};
+ghost use Rattle.std.specs.Prelude.{◌≡◌, IfOk};
+ghost use Rattle.std.specs.Result.{result_err, result_ok};
 ghost use Rattle.udp_member.specs.Turns.{Datagram, Suspect, Tick, Turn};
 ghost use Rattle.udp_member.specs.Rounds.{PassesOver};
 
@@ -48,7 +49,8 @@ pub(crate) fn tick<N: Net, R: Receiver>(net: &mut N, channel: &mut Channel<R>) -
 
 // What the channel answered, where the round goes on: a call that it refused with anything but 6 and 7 is passed over.
 pub(crate) fn passed_over<T: Drop>(answer: Result<T, Error>) -> Result<Option<T>, Error>
-    ensures { PassesOver (result_err answer) (result_err result) }
+    ensures error { PassesOver (result_err answer) (result_err result) }
+    ensures value { IfOk result (λ value. value ≡ result_ok answer) }
 {
     match answer {
         Ok(value) => Ok(Some(value)),

@@ -1,9 +1,9 @@
 -- How many keys a table has, and whether a list may be one of nodes.
-use Rattle.std.proofs.Common.{◌≡◌, ℕ, suc, Bool, true, false, List, [], ◌∷◌, length, map, Option, Some, None, nat_eq, refl, ap, ◌∙◌, sym, if◌then◌else◌}
-use Rattle.std.specs.Prelude.{String, string_bytes}
+use Rattle.std.proofs.Common.{◌≡◌, suc, Bool, true, false, List, [], ◌∷◌, length, refl, ap, if◌then◌else◌}
+use Rattle.std.specs.Prelude.{String}
 use Rattle.std.specs.declared.alloc.Global.{Global}
 use Rattle.toml.specs.declared.value.Value.{Value}
-use Rattle.toml.specs.View.{view, members_view, items_view}
+use Rattle.toml.specs.View.{members_view, items_view}
 use Rattle.udp_net.specs.Settings.{key_count, item_count}
 
 pub keys-are : (es : List (String Global × Value)) → key_count (members_view es) ≡ length es

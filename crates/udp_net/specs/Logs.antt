@@ -1,7 +1,9 @@
 -- What a net lists of itself, and how that goes on.
-use Rattle.std.specs.Prelude.{◌≡◌, ⊤, ℕ, ◌+◌, Bool, List, [], ◌∷◌, ◌++◌, take, min, Option, None, Some, Result, Ok, Err, if◌then◌else◌}
+use Rattle.std.specs.Prelude.{◌≡◌, ⊤, ℕ, ◌+◌, Bool, false, nat_eq, List, [], ◌∷◌, ◌++◌, length, take, min, Option, None, Some, Result, Ok, Err, if◌then◌else◌}
 use Rattle.std.specs.Option.{IsSomeAnd}
 use Rattle.udp_net.specs.declared.error.Fault.{Fault}
+use Rattle.udp_net.specs.declared.net.Received.{Received}
+use Rattle.udp_net.specs.declared.net.Received.TheVariants.{Datagram, Nothing, Failed}
 use Rattle.udp_net.specs.declared.memory_net.Offered.{Offered}
 
 -- a datagram that a net was offered: for which node, and its bytes
@@ -9,9 +11,9 @@ pub record Offer : Type 0 where
   pub node : ℕ
   pub bytes : List ℕ
 
--- the datagrams that a net gave, and those that it was offered, each in order
+-- what each receive of a net answered, and the datagrams that it was offered, each in order
 pub record Log : Type 0 where
-  pub given : List (List ℕ)
+  pub received : List Received
   pub offered : List Offer
 
 -- a net lists nothing, or what it listed before and this more
@@ -21,20 +23,17 @@ Lists old more (Some l) = IsSomeAnd old (λ o. l ≡ more o)
 
 -- it was offered one more
 abbrev pub offering : ℕ → List ℕ → Log → Log
-offering node bytes l = record { given = l.given; offered = l.offered ++ record { node = node; bytes = bytes } ∷ [] }
+offering node bytes l = record { received = l.received; offered = l.offered ++ record { node = node; bytes = bytes } ∷ [] }
 
--- it gave one more
-abbrev pub giving : List ℕ → Log → Log
-giving bytes l = record { given = l.given ++ bytes ∷ []; offered = l.offered }
+-- one more receive was answered
+abbrev pub receiving : Received → Log → Log
+receiving answer l = record { received = l.received ++ answer ∷ []; offered = l.offered }
 
-abbrev pub same_log : Log → Log
-same_log l = l
-
--- what a receive lists, by its answer: the datagram that lies at the front of the buffer, or nothing
-abbrev pub Receives : Option Log → Result (Option ℕ) Fault → List ℕ → Option Log → Type 0
-Receives old (Ok (Some n)) buffer new = Lists old (giving (take n buffer)) new
-Receives old (Ok None) buffer new = Lists old same_log new
-Receives old (Err e) buffer new = Lists old same_log new
+-- what a receive is listed as, by its answer: its datagram lies at the front of the buffer
+abbrev pub answer_of : Result (Option ℕ) Fault → List ℕ → Received
+answer_of (Ok (Some n)) buffer = Datagram (take n buffer)
+answer_of (Ok None) buffer = Nothing
+answer_of (Err e) buffer = Failed
 
 -- one more failed receive; the count stays at 2^64 - 1
 abbrev pub one_more : ℕ → ℕ
@@ -49,7 +48,7 @@ failures_after n (Err e) = one_more n
 -- what waits, what it lists, the numbers of its calls, and which of them fail
 pub record MemoryModel : Type 0 where
   pub waiting : List (List ℕ)
-  pub given : List (List ℕ)
+  pub received : List Received
   pub offered : List Offered
   pub is_listed : Bool
   pub receives : ℕ
@@ -66,4 +65,17 @@ offers_of [] = []
 offers_of (o ∷ rest) = offer_of o ∷ offers_of rest
 
 abbrev pub log_of : MemoryModel → Option Log
-log_of n = if n.is_listed then Some (record { given = n.given; offered = offers_of n.offered }) else None
+log_of n = if n.is_listed then Some (record { received = n.received; offered = offers_of n.offered }) else None
+
+-- whether the next call is the one that is to fail
+abbrev pub fails_next : Option ℕ → ℕ → Bool
+fails_next None calls = false
+fails_next (Some number) calls = nat_eq number (one_more calls)
+
+-- the first that waits is given, as much of it as there is room for, or none waits; a receive that fails takes none
+abbrev pub GivesFirst : List (List ℕ) → Result (Option ℕ) Fault → List ℕ → List (List ℕ) → Type 0
+GivesFirst old (Err e) buffer new = new ≡ old
+GivesFirst [] (Ok None) buffer new = new ≡ []
+GivesFirst [] (Ok (Some n)) buffer new = ⊥
+GivesFirst (first ∷ rest) (Ok None) buffer new = ⊥
+GivesFirst (first ∷ rest) (Ok (Some n)) buffer new = (n ≡ min (length first) (length buffer)) × (take n buffer ≡ take n first) × (new ≡ rest)

@@ -1,8 +1,8 @@
 -- The settings that a document names.
-use Rattle.std.specs.Prelude.{◌≡◌, ⊤, ℕ, zero, suc, ℤ, pos, negsuc, Bool, true, false, not, ◌&&◌, List, [], ◌∷◌, ◌++◌, length, codes, Option, None, Some, Result, Ok, Err, nat_le, nat_eq, if◌then◌else◌}
+use Rattle.std.specs.Prelude.{◌≡◌, ⊤, ℕ, suc, pos, Bool, not, ◌&&◌, List, [], ◌∷◌, ◌++◌, codes, Option, None, Some, Result, Ok, Err, nat_le, nat_eq, if◌then◌else◌}
 use Rattle.std.specs.Option.{option_and_then}
 use Rattle.std.specs.List.{list_all}
-use Rattle.toml.specs.Data.{Data, string, integer, float, boolean, datetime, array, table, Items, no_items, item, Members, no_members, member, get_member}
+use Rattle.toml.specs.Data.{Data, string, integer, array, table, Items, no_items, item, Members, no_members, member, get_member}
 use Rattle.wire.specs.Names.{is_group_name}
 use Rattle.udp_net.specs.declared.error.SettingsError.{SettingsError}
 use Rattle.udp_net.specs.declared.error.SettingsError.TheVariants.{Config, Memory}

@@ -12,6 +12,6 @@ mod socket_net;
 pub use document::settings;
 pub use error::{BindError, Fault, SettingsError};
 pub use memory_net::{MemoryNet, Offered};
-pub use net::Net;
+pub use net::{Net, Received};
 pub use node_ports::{MOST_NODES, MOST_SILENT, NodePort, Settings};
 pub use socket_net::SocketNet;

@@ -1,8 +1,10 @@
-ghost use Rattle.std.specs.Prelude.{◌≡◌, ◌≤◌, ◌++◌, ◌∷◌, [], true, false, None, Some, length, take, drop, OnOk, OnErr, if◌then◌else◌};
+ghost use Rattle.std.specs.Prelude.{◌≡◌, ◌≤◌, ◌++◌, ◌∷◌, [], true, false, None, Some, length, take, min, OnOk, OnErr, IfOk, IfSome, if◌then◌else◌};
 ghost use Rattle.std.specs.Option.{option_map};
-ghost use Rattle.udp_net.specs.Logs.{MemoryModel, log_of};
+ghost use Rattle.std.specs.Result.{is_err};
+ghost use Rattle.udp_net.specs.declared.net.Received.TheVariants.{Datagram};
+ghost use Rattle.udp_net.specs.Logs.{MemoryModel, log_of, Lists, offering, receiving, answer_of, one_more, failures_after, fails_next, GivesFirst};
 
-use crate::{Fault, Net};
+use crate::{Fault, Net, Received};
 use address::Node;
 use std::alloc::{AllocError, Global};
 use std::collections::VecDeque;
@@ -20,15 +22,15 @@ pub struct Offered {
     pub is_lost: bool,
 }
 
-/// A net in memory: it gives the datagrams that are put into it, and lists what it gave and what it was offered. It carries nothing by itself. A receive and
+/// A net in memory: it gives the datagrams that are put into it, and lists what its receives answered and what it was offered. It carries nothing by itself. A receive and
 /// a send of it can be made to fail.
 #[derive(Drop)]
 pub struct MemoryNet {
     alloc: Global,
     waiting: VecDeque<Bytes>,
-    given: Vec<Bytes>,
+    received: Vec<Received>,
     offered: Vec<Offered>,
-    // Whether the lists have all that was given and offered.
+    // Whether the lists have all that was received and offered.
     is_listed: bool,
     receives: u64,
     failing_receive: Option<u64>,
@@ -44,7 +46,7 @@ impl Model for MemoryNet {
 
     ghost view = { λ n. record {
       waiting = n.waiting.items;
-      given = n.given.items;
+      received = n.received.items;
       offered = n.offered.items;
       is_listed = n.is_listed;
       receives = n.receives;
@@ -58,12 +60,12 @@ impl Model for MemoryNet {
 impl MemoryNet {
     /// A net in which nothing waits, and which fails nowhere. Takes no memory.
     pub fn new(alloc: Global) -> MemoryNet
-        ensures { result ≡ record { waiting = []; given = []; offered = []; is_listed = true; receives = 0; failing_receive = None; sends = 0; failing_send = None; failures = 0 } }
+        ensures { result ≡ record { waiting = []; received = []; offered = []; is_listed = true; receives = 0; failing_receive = None; sends = 0; failing_send = None; failures = 0 } }
     {
         MemoryNet {
             alloc,
             waiting: VecDeque::new(alloc),
-            given: Vec::new(alloc),
+            received: Vec::new(alloc),
             offered: Vec::new(alloc),
             is_listed: true,
             receives: 0,
@@ -119,14 +121,14 @@ impl MemoryNet {
         self.waiting.len()
     }
 
-    /// What it gave, in order; `None` once memory was refused for a list.
-    pub fn given(&self) -> Option<&[Bytes]>
-        ensures { option_map (λ l. l.now) result ≡ (if self.now.is_listed then Some self.now.given else None) }
+    /// What its receives answered, in order; `None` once memory was refused for a list.
+    pub fn received(&self) -> Option<&[Received]>
+        ensures { option_map (λ l. l.now) result ≡ (if self.now.is_listed then Some self.now.received else None) }
     {
         if !self.is_listed {
             return None;
         }
-        Some(self.given.as_slice())
+        Some(self.received.as_slice())
     }
 
     /// What it was offered, in order; `None` once memory was refused for a list.
@@ -139,14 +141,25 @@ impl MemoryNet {
         Some(self.offered.as_slice())
     }
 
-    // Lists what was given.
-    fn list_given(&mut self, bytes: &[u8]) -> Result<(), AllocError>
-        ensures ok { OnOk result (self.new ≡ record self.old { given = self.old.given ++ bytes.now ∷ [] }) }
-        ensures err { OnErr result (self.new ≡ self.old) }
+    // Lists what a receive answered, where there is memory for it.
+    fn list_received(&mut self, answer: Received)
+        ensures lists { Lists (log_of self.old) (receiving answer) (log_of self.new) }
+        ensures rest { self.new ≡ record self.old { received = self.new.received; is_listed = self.new.is_listed } }
     {
-        let bytes = Bytes::from_slice(self.alloc, bytes)?;
-        self.given.push(bytes)?;
-        Ok(())
+        if self.received.push(answer).is_err() {
+            self.is_listed = false;
+        }
+    }
+
+    // Lists a datagram that was given, where there is memory for it.
+    fn list_datagram(&mut self, bytes: &[u8])
+        ensures lists { Lists (log_of self.old) (receiving (Datagram bytes.now)) (log_of self.new) }
+        ensures rest { self.new ≡ record self.old { received = self.new.received; is_listed = self.new.is_listed } }
+    {
+        match Bytes::from_slice(self.alloc, bytes) {
+            Ok(bytes) => self.list_received(Received::Datagram(bytes)),
+            Err(_) => self.is_listed = false,
+        }
     }
 
     // Lists what was offered.
@@ -166,7 +179,7 @@ impl MemoryNet {
 
 // Copies the beginning of bytes, as much as there is room for, to the front of a buffer, and answers how much that is.
 fn copy_front(bytes: &[u8], buffer: &mut [u8]) -> usize
-    ensures within { result ≤ length buffer.new }
+    ensures count { result ≡ min (length bytes.now) (length buffer.new) }
     ensures front { take result buffer.new ≡ take result bytes.now }
 {
     let count = bytes.len().min(buffer.len());
@@ -180,7 +193,12 @@ impl Net for MemoryNet {
     ghost failed = { λ n. n.failures };
 
     /// Lists it.
-    fn send(&mut self, node: Node, bytes: &[u8]) {
+    fn send(&mut self, node: Node, bytes: &[u8])
+        ensures lists { Lists (log_of self.old) (offering node bytes.now) (log_of self.new) }
+        ensures failed { self.new.failures ≡ self.old.failures }
+        ensures listed { self.new.is_listed ≡ true → self.new.offered ≡ self.old.offered ++ record { node = node; bytes = bytes.now; is_lost = fails_next self.old.failing_send self.old.sends } ∷ [] }
+        ensures rest { self.new ≡ record self.old { offered = self.new.offered; is_listed = self.new.is_listed; sends = one_more self.old.sends } }
+    {
         self.sends = self.sends.saturating_add(1);
         let is_lost = self.failing_send == Some(self.sends);
         if self.list_offered(node, bytes, is_lost).is_err() {
@@ -189,19 +207,32 @@ impl Net for MemoryNet {
     }
 
     /// Gives the one that was put in first of those that wait.
-    fn receive(&mut self, buffer: &mut [u8]) -> Result<Option<usize>, Fault> {
+    fn receive(&mut self, buffer: &mut [u8]) -> Result<Option<usize>, Fault>
+        ensures within { IfOk result (λ count. IfSome count (λ n. n ≤ length buffer.new)) }
+        ensures lists { Lists (log_of self.old) (receiving (answer_of result buffer.new)) (log_of self.new) }
+        ensures failed { self.new.failures ≡ failures_after self.old.failures result }
+        ensures fails { is_err result ≡ fails_next self.old.failing_receive self.old.receives }
+        ensures rest { self.new ≡ record self.old {
+          waiting = self.new.waiting;
+          received = self.new.received;
+          is_listed = self.new.is_listed;
+          receives = one_more self.old.receives;
+          failures = self.new.failures;
+        } }
+        ensures gives { GivesFirst self.old.waiting result buffer.new self.new.waiting }
+    {
         self.receives = self.receives.saturating_add(1);
         if self.failing_receive == Some(self.receives) {
             self.failures = self.failures.saturating_add(1);
+            self.list_received(Received::Failed);
             return Err(Fault::Receive);
         }
         let Some(datagram) = self.waiting.pop_front() else {
+            self.list_received(Received::Nothing);
             return Ok(None);
         };
         let count = copy_front(datagram.as_slice(), buffer);
-        if self.list_given(&buffer[..count]).is_err() {
-            self.is_listed = false;
-        }
+        self.list_datagram(&buffer[..count]);
         Ok(Some(count))
     }
 

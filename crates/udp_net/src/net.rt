@@ -1,12 +1,24 @@
 ghost use Rattle.std.specs.Prelude.{◌≡◌, ◌≤◌, ℕ, Option, length, IfOk, IfSome};
-ghost use Rattle.udp_net.specs.Logs.{Log, Lists, offering, Receives, failures_after};
+ghost use Rattle.udp_net.specs.Logs.{Log, Lists, offering, receiving, answer_of, failures_after};
 
 use crate::Fault;
 use address::Node;
+use trace_props::Bytes;
+
+/// What a receive answered.
+#[derive(Debug, Drop)]
+pub enum Received {
+    /// A datagram, as much of it as there was room for.
+    Datagram(Bytes),
+    /// That none waited.
+    Nothing,
+    /// That it failed.
+    Failed,
+}
 
 /// What carries datagrams between nodes: each may be lost, repeated, late, or come out of order (docs/PROTOCOL.md, "Members over datagrams").
 pub trait Net: Drop {
-    /// What it lists of itself: what it gave and was offered since it was made; none, where it lists nothing, as a socket does, or does so no longer.
+    /// What it lists of itself: what its receives answered and what it was offered since it was made; none, where it lists nothing, as a socket does, or does so no longer.
     ghost log: { Self → Option Log };
 
     /// How many receives failed, at most 2^64 - 1.
@@ -21,7 +33,7 @@ pub trait Net: Drop {
     /// the rest is lost.
     fn receive(&mut self, buffer: &mut [u8]) -> Result<Option<usize>, Fault>
         ensures within { IfOk result (λ count. IfSome count (λ n. n ≤ length buffer.new)) }
-        ensures lists { Receives (log self.old) result buffer.new (log self.new) }
+        ensures lists { Lists (log self.old) (receiving (answer_of result buffer.new)) (log self.new) }
         ensures failed { failed self.new ≡ failures_after (failed self.old) result };
 
     /// How many receives failed, at most 2^64 - 1.

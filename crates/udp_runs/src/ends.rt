@@ -1,4 +1,11 @@
-//! How a command over datagrams ends before its end.
+//! How what happens is written, and how a command over datagrams ends.
+
+ghost use Rattle.std.specs.Prelude.{◌≡◌, ℕ, take, IfErr, OnOk, OnErr};
+ghost use Rattle.std.specs.Io.KnownBytes.{Appends};
+ghost use Rattle.vsync_runs.specs.Outcomes.{Written};
+ghost use Rattle.udp_runs.specs.declared.ends.Cut.TheVariants as cut;
+ghost use Rattle.udp_runs.specs.declared.ends.Stop.TheVariants as stop;
+ghost use Rattle.udp_runs.specs.Ends.{IsEndOf, IsNetlessText};
 
 use std::alloc::{AllocError, Global};
 use std::io::Write;
@@ -6,43 +13,81 @@ use udp_net::BindError;
 use vsync_runs::{Status, end_in_memory, end_with};
 use vsync_text::put_all;
 
-/// Why a command stopped before its end.
+/// Why what happens is written no further.
 #[derive(Clone, Copy, Debug, PartialEq, Eq)]
-pub(crate) enum Stop {
+pub(crate) enum Cut {
     /// Memory was refused.
     Memory,
-    /// The node of this line, 0 for that of the command's words, has no net.
-    NoNet(u64, BindError),
     /// The writer failed.
     Failed,
 }
 
-impl From<AllocError> for Stop {
-    fn from(_refused: AllocError) -> Stop {
-        Stop::Memory
+impl From<AllocError> for Cut {
+    ghost from_gives = { λ _ c. c ≡ cut.Memory };
+
+    fn from(_refused: AllocError) -> Cut {
+        Cut::Memory
     }
 }
 
-// Writes a text, with what it ends.
-pub(crate) fn end_text<W: Write>(
+/// Why a script is not run to its end.
+#[derive(Clone, Copy, Debug, PartialEq, Eq)]
+pub(crate) enum Stop {
+    /// What happens is written no further.
+    Cut(Cut),
+    /// The node of this line has no net.
+    NoNet(u64, BindError),
+}
+
+impl From<Cut> for Stop {
+    ghost from_gives = { λ c s. s ≡ stop.Cut c };
+
+    fn from(why: Cut) -> Stop {
+        Stop::Cut(why)
+    }
+}
+
+impl From<AllocError> for Stop {
+    ghost from_gives = { λ _ s. s ≡ stop.Cut cut.Memory };
+
+    fn from(_refused: AllocError) -> Stop {
+        Stop::Cut(Cut::Memory)
+    }
+}
+
+// Writes what a text holds, and empties it.
+pub(crate) fn settle<W: Write>(writer: &mut W, text: &mut Vec<u8>) -> Result<(), Cut>
+    ensures ok { OnOk result (Appends (W.contents writer.old) (W.contents writer.new) text.old.items) }
+    ensures err { OnErr result ((count : ℕ) × Appends (W.contents writer.old) (W.contents writer.new) (take count text.old.items)) }
+    ensures cut { IfErr result (λ c. c ≡ cut.Failed) }
+{
+    if put_all(writer, text.as_slice()).is_err() {
+        return Err(Cut::Failed);
+    }
+    text.clear();
+    Ok(())
+}
+
+// Ends a text of what happened, of which no more is to be written.
+pub(crate) fn end<W: Write>(writer: &mut W, written: Result<(), Cut>) -> Status
+    ensures { Written (IsEndOf written) (W.contents writer.old) (W.contents writer.new) result }
+{
+    match written {
+        Ok(()) => end_with(writer, b"", Status::Done),
+        Err(Cut::Memory) => end_in_memory(writer),
+        Err(Cut::Failed) => Status::Outside,
+    }
+}
+
+// Writes that the node of a line has no net, with which the command ends.
+pub(crate) fn end_without_net<W: Write>(
     alloc: Global,
     writer: &mut W,
-    text: &[u8],
-    ended: Result<(), Stop>,
-) -> Status {
-    if put_all(writer, text).is_err() {
-        return Status::Outside;
-    }
-    match ended {
-        Ok(()) => end_with(writer, b"", Status::Done),
-        Err(Stop::Memory) => end_in_memory(writer),
-        Err(Stop::NoNet(line, error)) => end_without_net(alloc, writer, line, error),
-        Err(Stop::Failed) => Status::Outside,
-    }
-}
-
-// Writes that a node has no net, with which the command ends.
-fn end_without_net<W: Write>(alloc: Global, writer: &mut W, line: u64, error: BindError) -> Status {
+    line: u64,
+    error: BindError,
+) -> Status
+    ensures { Written (IsNetlessText line error) (W.contents writer.old) (W.contents writer.new) result }
+{
     let status = match error {
         BindError::Config => Status::Refused,
         BindError::Bind => Status::Outside,

@@ -1,15 +1,16 @@
 //! The commands of the program for members over datagrams, as functions over a machine's nets, a reader and a writer.
 #![tactic(auto)]
 
+mod calls;
 mod ends;
 mod loopback;
 mod machine;
-mod member;
 mod node_state;
 mod nodes;
+mod one_node;
 mod script;
 
 pub use loopback::Loopback;
 pub use machine::Machine;
-pub use member::{MemberPlan, run_member};
+pub use one_node::{MemberPlan, run_member};
 pub use script::run_udp;

@@ -1,15 +1,15 @@
 //! A node, and the member that runs there.
 
+use crate::calls::{Call, do_call};
 use address::{Address, Node};
 use channel::{Channel, Error};
 use chat_log::Chat;
 use limits::Refusal;
 use std::alloc::{AllocError, Global};
-use trace_props::{Bytes, Event};
+use trace_props::Event;
 use udp_member::Runner;
 use udp_net::Net;
 use vsync_text::{append_chat, append_event, append_refusal};
-use world_model::WorldEvent;
 
 /// A node, and the member that runs there. Each call appends to a text what happened by it.
 #[derive(Drop)]
@@ -31,65 +31,25 @@ pub(crate) fn member_at<N: Net, C: Chat>(
     Runner::new(alloc, net, channel, u32::from(silent))
 }
 
-/// Appends the lines of the events of a member that were not taken yet.
-pub(crate) fn append_events<N: Net, C: Chat>(
+/// Appends the lines of the events of a channel that were not taken yet.
+pub(crate) fn append_events<C: Chat>(
     text: &mut Vec<u8>,
-    member: &mut Runner<N, C>,
+    channel: &mut Channel<C>,
 ) -> Result<(), AllocError> {
-    while let Some(event) = member.channel().happened() {
+    while let Some(event) = channel.happened() {
         append_event(text, &event)?;
     }
     Ok(())
 }
 
-/// Appends the chat line of a member, unless it has ended.
-pub(crate) fn append_chat_of<N: Net, C: Chat>(
+/// Appends the chat line of a channel's member, unless it has ended.
+pub(crate) fn append_chat_of<C: Chat>(
     text: &mut Vec<u8>,
-    member: &mut Runner<N, C>,
+    channel: &Channel<C>,
 ) -> Result<(), AllocError> {
-    let channel = member.channel();
-    let address = channel.address();
     match channel.receiver() {
-        Some(chat) => append_chat(text, &address, chat),
+        Some(chat) => append_chat(text, &channel.address(), chat),
         None => Ok(()),
-    }
-}
-
-/// A channel's answer without its value.
-fn plain<T: Drop>(answer: Result<T, (Vec<u8>, Error)>) -> Result<(), Error> {
-    match answer {
-        Ok(_) => Ok(()),
-        Err((_, error)) => Err(error),
-    }
-}
-
-/// Sends a payload by a channel. The outer error says that memory was refused before that.
-fn send<C: Chat>(
-    alloc: Global,
-    channel: &mut Channel<C>,
-    payload: &Bytes,
-) -> Result<Result<(), Error>, AllocError> {
-    let payload = Vec::from_slice(alloc, payload.as_slice())?;
-    Ok(plain(channel.send(payload)))
-}
-
-/// Does an event by a channel in the group of this name. The outer error says that memory was refused before that.
-fn call<C: Chat>(
-    alloc: Global,
-    channel: &mut Channel<C>,
-    group: &[u8],
-    event: &WorldEvent,
-) -> Result<Result<(), Error>, AllocError> {
-    match event {
-        WorldEvent::Create(_) => Ok(channel.connect_new(group)),
-        WorldEvent::Join(_, contact) => Ok(channel.connect_to(group, *contact)),
-        WorldEvent::Send(_, payload) => send(alloc, channel, payload),
-        WorldEvent::Tick(_) => Ok(channel.tick()),
-        WorldEvent::Suspect(_, address) => Ok(channel.suspect(*address)),
-        WorldEvent::MergeHint(_, address) => Ok(channel.merge_hint(*address)),
-        WorldEvent::Leave(_) => Ok(channel.disconnect()),
-        // No call of a channel.
-        WorldEvent::Start(_) | WorldEvent::Deliver(_) | WorldEvent::Crash(_) => Ok(Ok(())),
     }
 }
 
@@ -135,30 +95,35 @@ impl<N: Net, C: Chat> NodeState<N, C> {
                 self.member = Some(member);
                 Ok(())
             }
-            Err(_) => self.crash(text),
+            Err(_) => self.end_by_crash(text),
         }
     }
 
-    // Does the event of a line at the running member, in the group of this name. Refused with 1 where none was started, and with 6 where none runs any more.
-    pub(crate) fn carry_out(
+    // Lets the running member crash. Refused with 1 where none was started, and with 6 where none runs any more.
+    pub(crate) fn crash(&mut self, line: u64, text: &mut Vec<u8>) -> Result<(), AllocError> {
+        if self.member.is_none() {
+            return append_refusal(text, line, self.absence().number());
+        }
+        self.end_by_crash(text)
+    }
+
+    // Does the call of a line at the running member, in the group of this name. Refused with 1 where none was started, and with 6 where none runs any more.
+    pub(crate) fn call(
         &mut self,
         alloc: Global,
         group: &[u8],
         line: u64,
-        event: &WorldEvent,
+        call: &Call<'_>,
         text: &mut Vec<u8>,
     ) -> Result<(), AllocError> {
         let Some(member) = self.member.as_mut() else {
             return append_refusal(text, line, self.absence().number());
         };
-        if matches!(event, WorldEvent::Crash(_)) {
-            return self.crash(text);
-        }
-        let answer = call(alloc, member.channel(), group, event)?;
-        append_events(text, member)?;
+        let answer = do_call(alloc, member.channel(), group, call)?;
+        append_events(text, member.channel())?;
         match answer {
-            Ok(()) => self.end_if_left(event, text),
-            Err(Error::Refused(Refusal::Memory)) => self.crash(text),
+            Ok(()) => self.end_if_left(call, text),
+            Err(Error::Refused(Refusal::Memory)) => self.end_by_crash(text),
             Err(error) => append_refusal(text, line, error.number()),
         }
     }
@@ -169,10 +134,10 @@ impl<N: Net, C: Chat> NodeState<N, C> {
             return Ok(());
         };
         let answer = member.round();
-        append_events(text, member)?;
+        append_events(text, member.channel())?;
         match answer {
             Ok(()) => Ok(()),
-            Err(Error::Refused(Refusal::Memory)) => self.crash(text),
+            Err(Error::Refused(Refusal::Memory)) => self.end_by_crash(text),
             Err(_) => {
                 self.member = None;
                 Ok(())
@@ -183,7 +148,7 @@ impl<N: Net, C: Chat> NodeState<N, C> {
     // Appends the chat line of the member, if one runs.
     pub(crate) fn append_chat(&mut self, text: &mut Vec<u8>) -> Result<(), AllocError> {
         match self.member.as_mut() {
-            Some(member) => append_chat_of(text, member),
+            Some(member) => append_chat_of(text, member.channel()),
             None => Ok(()),
         }
     }
@@ -198,8 +163,8 @@ impl<N: Net, C: Chat> NodeState<N, C> {
     }
 
     // A member that left has one round more, by which its last packets go out; then it is gone.
-    fn end_if_left(&mut self, event: &WorldEvent, text: &mut Vec<u8>) -> Result<(), AllocError> {
-        if !matches!(event, WorldEvent::Leave(_)) {
+    fn end_if_left(&mut self, call: &Call<'_>, text: &mut Vec<u8>) -> Result<(), AllocError> {
+        if !matches!(call, Call::Leave) {
             return Ok(());
         }
         self.round(text)?;
@@ -208,7 +173,7 @@ impl<N: Net, C: Chat> NodeState<N, C> {
     }
 
     // The member is gone, by a crash.
-    fn crash(&mut self, text: &mut Vec<u8>) -> Result<(), AllocError> {
+    fn end_by_crash(&mut self, text: &mut Vec<u8>) -> Result<(), AllocError> {
         self.member = None;
         match self.last {
             Some(address) => append_event(text, &Event::Crashed(address)),

@@ -1,15 +1,20 @@
 //! The nodes of the settings, in one process.
 
+ghost use Rattle.std.specs.Prelude.{ℕ, ◌<◌, vec_len, IfErr, IfSome};
+ghost use Rattle.udp_runs.specs.Scripts.{StopsAt, start_line};
+
 use crate::Machine;
+use crate::calls::{Call, call_of};
 use crate::ends::Stop;
 use crate::node_state::NodeState;
 use address::{Address, Node};
 use chat_log::Chat;
+use limits::Refusal;
 use script_reader::{UdpEvent, UdpLine};
 use std::alloc::{AllocError, Global};
 use udp_net::{BindError, Net, Settings};
 use vsync_text::append_refusal;
-use world_model::{Target, WorldEvent};
+use world_model::WorldEvent;
 
 /// The nodes of the settings, by number.
 #[derive(Drop)]
@@ -26,14 +31,6 @@ fn sorted(alloc: Global, settings: &Settings) -> Result<Vec<Node>, AllocError> {
     }
     nodes.sort()?;
     Ok(nodes)
-}
-
-// The node that an event concerns; `None` for a packet.
-fn node_of(event: &WorldEvent) -> Option<Node> {
-    match event.target() {
-        Target::Member(node) => Some(node),
-        Target::Packet(_) => None,
-    }
 }
 
 impl<N: Net, C: Chat> Nodes<N, C> {
@@ -53,20 +50,18 @@ impl<N: Net, C: Chat> Nodes<N, C> {
         machine: &mut M,
         line: &UdpLine,
         text: &mut Vec<u8>,
-    ) -> Result<(), Stop> {
+    ) -> Result<(), Stop>
+        ensures { IfErr result (StopsAt line.now) }
+    {
         match &line.event {
-            UdpEvent::Rounds(count) => {
-                self.rounds(*count, text)?;
-                Ok(())
-            }
+            UdpEvent::Rounds(count) => self.rounds(*count, text)?,
             UdpEvent::Node(WorldEvent::Start(node)) => {
-                self.start(settings, machine, line.number, *node, text)
+                return self.start(settings, machine, line.number, *node, text);
             }
-            UdpEvent::Node(event) => {
-                self.call(settings, line.number, event, text)?;
-                Ok(())
-            }
+            UdpEvent::Node(WorldEvent::Crash(node)) => self.crash(line.number, *node, text)?,
+            UdpEvent::Node(event) => self.call(settings, line.number, event, text)?,
         }
+        Ok(())
     }
 
     // Appends the chat line of each member that runs, by node.
@@ -88,11 +83,15 @@ impl<N: Net, C: Chat> Nodes<N, C> {
     }
 
     // The index of a node; `None` for one that the settings do not list.
-    fn index_of(&self, node: Node) -> Option<usize> {
-        self.node_states
-            .as_slice()
-            .iter()
-            .position(|node_state| node_state.node() == node)
+    fn index_of(&self, node: Node) -> Option<usize>
+        ensures { IfSome result (λ index. index < vec_len self.now.node_states) }
+    {
+        for (index, node_state) in self.node_states.as_slice().iter().enumerate() {
+            if node_state.node() == node {
+                return Some(index);
+            }
+        }
+        None
     }
 
     // Starts the next member of a node. Refused with 50 where the settings do not list the node, with 5 where one runs, and with 8 after the last incarnation.
@@ -103,7 +102,9 @@ impl<N: Net, C: Chat> Nodes<N, C> {
         line: u64,
         node: Node,
         text: &mut Vec<u8>,
-    ) -> Result<(), Stop> {
+    ) -> Result<(), Stop>
+        ensures { IfErr result (StopsAt (start_line line node)) }
+    {
         let Some(index) = self.index_of(node) else {
             append_refusal(text, line, BindError::Config.number())?;
             return Ok(());
@@ -126,7 +127,10 @@ impl<N: Net, C: Chat> Nodes<N, C> {
         index: usize,
         address: Address,
         text: &mut Vec<u8>,
-    ) -> Result<(), Stop> {
+    ) -> Result<(), Stop>
+        requires { index < vec_len self.old.node_states }
+        ensures { (node : ℕ) → IfErr result (StopsAt (start_line line node)) }
+    {
         match machine.net(address.node()) {
             Ok(net) => {
                 self.node_states[index].start(self.alloc, address, net, settings.silent(), text)?;
@@ -136,7 +140,15 @@ impl<N: Net, C: Chat> Nodes<N, C> {
         }
     }
 
-    // Does the event of a line at its node. Refused with 1 where no member was started there.
+    // Lets the member of a node crash. Refused with 1 where no member was started there.
+    fn crash(&mut self, line: u64, node: Node, text: &mut Vec<u8>) -> Result<(), AllocError> {
+        match self.index_of(node) {
+            Some(index) => self.node_states[index].crash(line, text),
+            None => append_refusal(text, line, Refusal::NotConnected.number()),
+        }
+    }
+
+    // Does the call that an event of a line is. One that is none is left to the net, as a delivery.
     fn call(
         &mut self,
         settings: &Settings,
@@ -144,18 +156,30 @@ impl<N: Net, C: Chat> Nodes<N, C> {
         event: &WorldEvent,
         text: &mut Vec<u8>,
     ) -> Result<(), AllocError> {
-        let Some(node) = node_of(event) else {
-            return Ok(());
-        };
+        match call_of(event) {
+            Some((node, call)) => self.call_at(settings, line, node, &call, text),
+            None => Ok(()),
+        }
+    }
+
+    // Does a call at the member of a node. Refused with 1 where no member was started there.
+    fn call_at(
+        &mut self,
+        settings: &Settings,
+        line: u64,
+        node: Node,
+        call: &Call<'_>,
+        text: &mut Vec<u8>,
+    ) -> Result<(), AllocError> {
         match self.index_of(node) {
-            Some(index) => self.node_states[index].carry_out(
+            Some(index) => self.node_states[index].call(
                 self.alloc,
                 settings.group().as_slice(),
                 line,
-                event,
+                call,
                 text,
             ),
-            None => append_refusal(text, line, limits::Refusal::NotConnected.number()),
+            None => append_refusal(text, line, Refusal::NotConnected.number()),
         }
     }
 }

@@ -1,22 +1,29 @@
 //! Nodes over datagrams in one process, by a script.
 
+ghost use Rattle.std.specs.Prelude.{IfOk, IfErr};
+ghost use Rattle.vsync_runs.specs.Outcomes.{IsAnswer};
+ghost use Rattle.udp_runs.specs.Ends.{TakesMore};
+ghost use Rattle.udp_runs.specs.Scripts.{IsUnreadText, ReadsLines, RunsUdp, StopsAt, StopsIn};
+
 use crate::Machine;
-use crate::ends::{Stop, end_text};
+use crate::ends::{Cut, Stop, end, end_without_net, settle};
 use crate::nodes::Nodes;
 use chat_log::Chat;
 use script_reader::{UdpLine, Unread, read_udp_script};
 use std::alloc::Global;
 use std::io::{Read, Write};
-use udp_net::Settings;
+use udp_net::{Net, Settings};
 use vsync_runs::{Status, Unreadable, end_in_fault, end_in_memory, read_all};
-use vsync_text::put_all;
 
 // The lines of a script; or the status with which the command ended, where it is none or is not read.
 fn lines_from<I: Read, W: Write>(
     alloc: Global,
     reader: &mut I,
     writer: &mut W,
-) -> Result<Vec<UdpLine>, Status> {
+) -> Result<Vec<UdpLine>, Status>
+    ensures ok { IfOk result (λ lines. ReadsLines (I.remaining reader.old) (W.contents writer.old) (W.contents writer.new) lines.items) }
+    ensures err { IfErr result (λ status. IsAnswer IsUnreadText (I.remaining reader.old) (W.contents writer.old) (W.contents writer.new) status) }
+{
     let bytes = match read_all(alloc, reader) {
         Ok(bytes) => bytes,
         Err(Unreadable::Memory) => return Err(end_in_memory(writer)),
@@ -29,31 +36,72 @@ fn lines_from<I: Read, W: Write>(
     }
 }
 
-// Writes what a text holds, and empties it.
-pub(crate) fn settle<W: Write>(writer: &mut W, text: &mut Vec<u8>) -> Result<(), Stop> {
-    if put_all(writer, text.as_slice()).is_err() {
-        return Err(Stop::Failed);
-    }
-    text.clear();
+// Does what a line says, and writes what happened.
+fn play_line<N: Net, C: Chat, M: Machine<Net = N>, W: Write>(
+    nodes: &mut Nodes<N, C>,
+    settings: &Settings,
+    machine: &mut M,
+    line: &UdpLine,
+    text: &mut Vec<u8>,
+    writer: &mut W,
+) -> Result<(), Stop>
+    ensures takes { TakesMore (W.contents writer.old) (W.contents writer.new) }
+    ensures stops { IfErr result (StopsAt line.now) }
+{
+    let done = nodes.carry_out(settings, machine, line, text);
+    settle(writer, text)?;
+    done
+}
+
+// Writes the chats.
+fn write_chats<N: Net, C: Chat, W: Write>(
+    nodes: &mut Nodes<N, C>,
+    text: &mut Vec<u8>,
+    writer: &mut W,
+) -> Result<(), Cut>
+    ensures { TakesMore (W.contents writer.old) (W.contents writer.new) }
+{
+    let appended = nodes.append_chats(text);
+    settle(writer, text)?;
+    appended?;
     Ok(())
 }
 
-// Does what lines say, and then appends the chats. What happened is written after each line.
-fn play<C: Chat, M: Machine, W: Write>(
-    alloc: Global,
+// Does what lines say, and writes what happened.
+fn play_lines<N: Net, C: Chat, M: Machine<Net = N>, W: Write>(
+    nodes: &mut Nodes<N, C>,
     settings: &Settings,
     machine: &mut M,
     lines: &[UdpLine],
     text: &mut Vec<u8>,
     writer: &mut W,
-) -> Result<(), Stop> {
-    let mut nodes = Nodes::<M::Net, C>::new(alloc, settings)?;
+) -> Result<(), Stop>
+    ensures takes { TakesMore (W.contents writer.old) (W.contents writer.new) }
+    ensures stops { IfErr result (StopsIn lines.now) }
+{
     for line in lines {
-        nodes.carry_out(settings, machine, line, text)?;
-        settle(writer, text)?;
+        if let Err(stop) = play_line(nodes, settings, machine, line, text, writer) {
+            return Err(stop);
+        }
     }
-    nodes.append_chats(text)?;
+    write_chats(nodes, text, writer)?;
     Ok(())
+}
+
+// Does what lines say at nodes where no member runs yet.
+fn play<C: Chat, M: Machine, W: Write>(
+    alloc: Global,
+    settings: &Settings,
+    machine: &mut M,
+    lines: &[UdpLine],
+    writer: &mut W,
+) -> Result<(), Stop>
+    ensures takes { TakesMore (W.contents writer.old) (W.contents writer.new) }
+    ensures stops { IfErr result (StopsIn lines.now) }
+{
+    let mut nodes = Nodes::<M::Net, C>::new(alloc, settings)?;
+    let mut text = Vec::new(alloc);
+    play_lines(&mut nodes, settings, machine, lines, &mut text, writer)
 }
 
 /// Runs the nodes of the settings in this process by a script from a reader, each over a net of its own, with the chats `C` as their receivers. Writes what
@@ -68,19 +116,16 @@ pub fn run_udp<C: Chat, M: Machine, I: Read, W: Write>(
     machine: &mut M,
     reader: &mut I,
     writer: &mut W,
-) -> Status {
+) -> Status
+    ensures { RunsUdp (I.remaining reader.old) (W.contents writer.old) (W.contents writer.new) result }
+{
     let lines = match lines_from(alloc, reader, writer) {
         Ok(lines) => lines,
         Err(status) => return status,
     };
-    let mut text = Vec::new(alloc);
-    let ended = play::<C, M, W>(
-        alloc,
-        settings,
-        machine,
-        lines.as_slice(),
-        &mut text,
-        writer,
-    );
-    end_text(alloc, writer, text.as_slice(), ended)
+    match play::<C, M, W>(alloc, settings, machine, lines.as_slice(), writer) {
+        Ok(()) => end(writer, Ok(())),
+        Err(Stop::Cut(why)) => end(writer, Err(why)),
+        Err(Stop::NoNet(line, error)) => end_without_net(alloc, writer, line, error),
+    }
 }

@@ -31,5 +31,5 @@ returns-in-Ok-clause-handled g c =
 
 pub returns-in-Err-clause-handled : goal.returns-in-Err-clause-handled
 returns-in-Err-clause-handled g c =
-    from-some g.R.Receiver.meaning c.args.who.now.address c.args.who.now.group c.args.life.now c.in-Some.running _ _ _ c.in-Some.is
-    (unsaid-handled g.R.Receiver.meaning c.args.who.now.address c.args.who.now.group c.args.payload c.in-Some.running (sym (c.send_refusal.ensures c.args.who.now.address) ∙ c.in_default-send_refusal.is))
+    rw (c.end_without_memory.ensures.memory, c.end_without_memory.ensures.ended) (from-some g.R.Receiver.meaning c.args.who.now.address c.args.who.now.group c.args.life.now c.in-Some.running _ _ _ c.in-Some.is
+    (unsaid-handled g.R.Receiver.meaning c.args.who.now.address c.args.who.now.group c.args.payload c.in-Some.running (sym (c.send_refusal.ensures c.args.who.now.address) ∙ c.in_default-send_refusal.is)))

@@ -31,5 +31,5 @@ returns-in-Ok-clause-handled g c =
 
 pub returns-in-Err-clause-handled : goal.returns-in-Err-clause-handled
 returns-in-Err-clause-handled g c =
-    from-some g.R.Receiver.meaning c.args.who.now.address c.args.who.now.group c.args.life.now c.in-Some.running _ _ _ c.in-Some.is
-    (memory-handled g.R.Receiver.meaning c.args.who.now.address c.args.who.now.group c.in-Some.running (Suspect c.args.address) refl (unless (not (is_suspectable c.args.who.now.address c.args.address c.in-Some.running)) (λ i. let y = c.in-Err.ensures.ignored (not-so _ i) in let n = y.0 in absurd (cc))))
+    rw (c.end_without_memory.ensures.memory, c.end_without_memory.ensures.ended) (from-some g.R.Receiver.meaning c.args.who.now.address c.args.who.now.group c.args.life.now c.in-Some.running _ _ _ c.in-Some.is
+    (memory-handled g.R.Receiver.meaning c.args.who.now.address c.args.who.now.group c.in-Some.running (Suspect c.args.address) refl (unless (not (is_suspectable c.args.who.now.address c.args.address c.in-Some.running)) (λ i. let y = c.in-Err.ensures.ignored (not-so _ i) in let n = y.0 in absurd (cc)))))

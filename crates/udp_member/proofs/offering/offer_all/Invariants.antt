@@ -1,4 +1,4 @@
-use Rattle.std.proofs.Common.{◌≡◌, List, [], length, Option}
+use Rattle.std.proofs.Common.{◌≡◌, [], length, Option}
 use Rattle.udp_net.specs.Logs.{Log, Lists}
 use Rattle.udp_member.specs.Offers.{offering_all}
 use Rattle.udp_member.proofs.offering.offer_all.Given as goal

@@ -1,4 +1,4 @@
-use Rattle.std.proofs.Common.{sym, ap, ◌∙◌, refl}
+use Rattle.std.proofs.Common.{refl}
 use Rattle.std.proofs.lemmas.Bool.{le-leb}
 use Rattle.udp_net.proofs.FactOfTables.{items-are}
 use Rattle.udp_net.proofs.document.may_be_nodes.Goals as goal

@@ -1,4 +1,4 @@
-use Rattle.std.proofs.Common.{sym, ap, ◌∙◌, refl, ne_eqb}
+use Rattle.std.proofs.Common.{sym, ◌∙◌, ne_eqb}
 use Rattle.std.proofs.lemmas.Bool.{eq-eqb}
 use Rattle.udp_net.proofs.FactOfTables.{keys-are, tested, untested}
 use Rattle.udp_net.proofs.document.only_keys.Goals as goal

@@ -1,22 +1,17 @@
-use Rattle.std.proofs.Common.{refl}
 use Rattle.std.proofs.lemmas.Result.{err_from_is_err_and}
-use Rattle.udp_member.specs.Turns.{driven}
 use Rattle.udp_member.proofs.FactOfRounds.{cut-while-hearing, cut-while-suspecting, ticked}
 use Rattle.udp_member.proofs.runner.Runner.round.Goals as goal
 
-pub returns-in_err-receive_all : goal.returns-in_err-receive_all
-returns-in_err-receive_all g c =
+pub returns-in_err-listen : goal.returns-in_err-listen
+returns-in_err-listen g c =
     let p = err_from_is_err_and c.from_residual.result c.from_residual.ensures.1 in
-    rw (p.1, p.2) (cut-while-hearing g.N.Net.log g.N.Net.failed g.R.Receiver.meaning _ (driven c.offer_all.new.net c.offer_all.new.channel c.args.self.now.faults) _ _ c.offer_all.ensures refl
-    c.in_err-receive_all.ensures)
+    rw (p.1, p.2) (cut-while-hearing g.N.Net.log g.N.Net.failed g.R.Receiver.meaning _ _ _ c.in_err-listen.ensures)
 
 pub returns-in_err-suspect_silent : goal.returns-in_err-suspect_silent
 returns-in_err-suspect_silent g c =
     let p = err_from_is_err_and c.from_residual-in_err-suspect_silent.result c.from_residual-in_err-suspect_silent.ensures.1 in
-    rw (p.1, p.2) (cut-while-suspecting g.N.Net.log g.N.Net.failed g.R.Receiver.meaning _ (driven c.offer_all.new.net c.offer_all.new.channel c.args.self.now.faults) _ _ _ c.offer_all.ensures refl
-    c.in_ok-receive_all.ensures c.in_err-suspect_silent.ensures)
+    rw (p.1, p.2) (cut-while-suspecting g.N.Net.log g.N.Net.failed g.R.Receiver.meaning _ _ _ _ c.in_ok-listen.ensures c.in_err-suspect_silent.ensures)
 
 pub returns : goal.returns
 returns g c =
-    ticked g.N.Net.log g.N.Net.failed g.R.Receiver.meaning _ (driven c.offer_all.new.net c.offer_all.new.channel c.args.self.now.faults) _ _ _ _ _ _ c.offer_all.ensures refl
-    c.in_ok-receive_all.ensures c.in_ok-suspect_silent.ensures c.tick.ensures.hands c.tick.ensures.faults
+    ticked g.N.Net.log g.N.Net.failed g.R.Receiver.meaning _ _ _ _ _ c.in_ok-listen.ensures c.in_ok-suspect_silent.ensures c.tick.ensures.hands c.tick.ensures.faults

@@ -1,0 +1,80 @@
+//! A member.
+
+use crate::party::Party;
+use address::{Address, Node};
+use channel::Channel;
+use chat_log::ChatLog;
+use state_transfer::Receiver;
+use std::alloc::Global;
+use std::io;
+use std::io::ErrorKind;
+use trace_props::Event;
+use udp_member::Runner;
+use udp_net::{Settings, SocketNet};
+
+/// How often it listens before it has a round, by which what was lost comes again.
+const LISTENS: u64 = 64;
+
+/// A member over a socket, with a chat as its receiver.
+#[derive(Drop)]
+pub(crate) struct Member {
+    alloc: Global,
+    member: Runner<SocketNet, ChatLog>,
+    listens: u64,
+}
+
+impl Party for Member {
+    // The member of a node: that of node 1 makes the group, and the others join it.
+    fn new(alloc: Global, settings: &Settings, node: Node, net: SocketNet) -> io::Result<Member> {
+        let group = settings.group();
+        let mut channel = Channel::new(alloc, Address::first_at(node), ChatLog::opening(alloc)?);
+        let connected = if node.number() == 1 {
+            channel.connect_new(group.as_slice())
+        } else {
+            let first = Node::new(1).ok_or(io::Error::from(ErrorKind::InvalidInput))?;
+            channel.connect_to(group.as_slice(), Address::first_at(first))
+        };
+        if connected.is_err() {
+            return Err(io::Error::from(ErrorKind::InvalidInput));
+        }
+        let member = Runner::new(alloc, net, channel, u32::from(settings.silent()))?;
+        Ok(Member {
+            alloc,
+            member,
+            listens: 0,
+        })
+    }
+
+    fn is_ready(&mut self) -> bool {
+        match self.member.channel().view() {
+            Some(view) => view.members().len() == 4,
+            None => false,
+        }
+    }
+
+    fn send(&mut self, payload: &[u8]) -> io::Result<bool> {
+        let payload = Vec::from_slice(self.alloc, payload)?;
+        Ok(self.member.channel().send(payload).is_ok())
+    }
+
+    fn round(&mut self) -> io::Result<usize> {
+        self.listens = self.listens.wrapping_add(1);
+        let answer = if self.listens % LISTENS == 0 {
+            self.member.round()
+        } else {
+            self.member.listen()
+        };
+        if answer.is_err() {
+            return Err(io::Error::from(ErrorKind::Other));
+        }
+        let mut count = 0usize;
+        for _ in 0..u64::MAX {
+            match self.member.channel().happened() {
+                Some(Event::Delivered(_)) => count = count.wrapping_add(1),
+                Some(_) => {}
+                None => break,
+            }
+        }
+        Ok(count)
+    }
+}

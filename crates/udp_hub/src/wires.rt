@@ -1,0 +1,127 @@
+use address::Node;
+use std::alloc::Global;
+use std::cell::RefCell;
+use std::collections::VecDeque;
+use trace_props::Bytes;
+use udp_net::{Fault, Net};
+
+/// What waits for the nodes, how often they asked and sent, and which call fails.
+#[derive(Drop)]
+pub struct Wires {
+    alloc: Global,
+    // Each datagram that waits, and for which node, in the order of their sends.
+    waiting: VecDeque<(Node, Bytes)>,
+    /// How many receives there were, of all nodes.
+    pub receives: u64,
+    /// The receive that fails, the first being numbered 1.
+    pub failing_receive: Option<u64>,
+    /// How many sends there were, of all nodes.
+    pub sends: u64,
+    /// The send that fails, the first being numbered 1.
+    pub failing_send: Option<u64>,
+    /// The node for which no net can be made.
+    pub taken: Option<Node>,
+    /// How many pauses there were.
+    pub pauses: u64,
+}
+
+impl Wires {
+    /// Wires on which nothing waits, and where no call fails.
+    pub fn new(alloc: Global) -> Wires {
+        Wires {
+            alloc,
+            waiting: VecDeque::new(alloc),
+            receives: 0,
+            failing_receive: None,
+            sends: 0,
+            failing_send: None,
+            taken: None,
+            pauses: 0,
+        }
+    }
+
+    // Puts a datagram for a node behind the others, unless this send fails.
+    fn send(&mut self, node: Node, bytes: &[u8]) {
+        self.sends = self.sends.wrapping_add(1);
+        if self.failing_send != Some(self.sends) {
+            if let Ok(bytes) = Bytes::from_slice(self.alloc, bytes) {
+                let _ = self.waiting.push_back((node, bytes));
+            }
+        }
+    }
+
+    // Takes the first datagram for a node.
+    fn take(&mut self, node: Node) -> Option<Bytes> {
+        let index = self.waiting.iter().position(|waiting| waiting.0 == node)?;
+        let (_, bytes) = self.waiting.remove(index)?;
+        Some(bytes)
+    }
+
+    // The next datagram for a node, unless this receive fails.
+    fn receive(&mut self, node: Node) -> Result<Option<Bytes>, Fault> {
+        self.receives = self.receives.wrapping_add(1);
+        if self.failing_receive == Some(self.receives) {
+            return Err(Fault::Receive);
+        }
+        Ok(self.take(node))
+    }
+}
+
+/// The net of one node.
+#[derive(Drop)]
+pub struct Wire<'a> {
+    wires: &'a RefCell<Wires>,
+    node: Node,
+    failures: u64,
+}
+
+impl<'a> Wire<'a> {
+    /// The net of a node at these wires.
+    pub fn new(wires: &'a RefCell<Wires>, node: Node) -> Wire<'a> {
+        Wire {
+            wires,
+            node,
+            failures: 0,
+        }
+    }
+}
+
+// Copies bytes to the front of a buffer, as many as it has room for.
+fn copied(bytes: &[u8], buffer: &mut [u8]) -> usize {
+    let count = bytes.len().min(buffer.len());
+    buffer[..count].copy_from_slice(&bytes[..count]);
+    count
+}
+
+impl Net for Wire<'_> {
+    ghost use Rattle.std.specs.Prelude.{None};
+
+    ghost log = { λ _. None };
+
+    ghost failed = { λ n. n.failures };
+
+    fn send(&mut self, node: Node, bytes: &[u8]) {
+        if let Ok(mut wires) = self.wires.try_borrow_mut() {
+            wires.send(node, bytes);
+        }
+    }
+
+    fn receive(&mut self, buffer: &mut [u8]) -> Result<Option<usize>, Fault> {
+        let received = match self.wires.try_borrow_mut() {
+            Ok(mut wires) => wires.receive(self.node),
+            Err(_) => Ok(None),
+        };
+        match received {
+            Ok(Some(bytes)) => Ok(Some(copied(bytes.as_slice(), buffer))),
+            Ok(None) => Ok(None),
+            Err(fault) => {
+                self.failures = self.failures.saturating_add(1);
+                Err(fault)
+            }
+        }
+    }
+
+    fn failures(&self) -> u64 {
+        self.failures
+    }
+}

@@ -1,0 +1,80 @@
+-- How the text of a command over datagrams ends.
+use Rattle.std.proofs.Common.{◌≡◌, ℕ, List, [], ◌++◌, length, take, Option, Result, Ok, Err, sym, ap, ◌∙◌, subst, arith}
+use Rattle.std.proofs.lemmas.List.{append-nil, take_all}
+use Rattle.std.specs.Io.KnownBytes.{Appends}
+use Rattle.udp_net.specs.declared.error.BindError.{BindError}
+use Rattle.udp_net.specs.declared.error.BindError.TheVariants as bind
+use Rattle.udp_net.specs.Errors.{bind_number}
+use Rattle.vsync_runs.specs.declared.status.Status.{Status}
+use Rattle.vsync_runs.specs.declared.status.Status.TheVariants.{Done, Refused, Memory, Outside}
+use Rattle.vsync_runs.specs.Outcomes.{Ends, Written, memory_line, fault_line}
+use Rattle.vsync_runs.specs.Outcomes.Ends.{Whole, Cut}
+use Rattle.vsync_runs.proofs.FactOfTexts.{appends-then, appends-none, ends-then}
+use Rattle.udp_runs.specs.declared.ends.Cut.{Cut as Why}
+use Rattle.udp_runs.specs.declared.ends.Cut.TheVariants as cut
+use Rattle.udp_runs.specs.Ends.{TakesMore, IsEndText, IsEndOf, IsNetlessText}
+use Rattle.udp_runs.specs.Ends.IsEndText.{Finished, Unfinished}
+use Rattle.udp_runs.specs.Ends.IsEndOf.{Over, Lacking, Failing}
+use Rattle.udp_runs.specs.Ends.IsNetlessText.{Unlisted, Unbound, Unprinted}
+
+-- a writer took some, and then more
+pub takes-then : (a b c : Option (List ℕ)) → TakesMore a b → TakesMore b c → TakesMore a c
+takes-then a b c f g = record { text = f.text ++ g.text; appends = appends-then a b c f.text g.text f.appends g.appends }
+
+-- it took nothing
+pub takes-none : (a : Option (List ℕ)) → TakesMore a a
+takes-none a = record { text = []; appends = appends-none a }
+
+-- nothing was written, and then a text
+pub after-none : (P : Status → List ℕ → Type 0) (a b c : Option (List ℕ)) (status : Status) → Appends a b [] → Written P b c status → Written P a c status
+after-none P a b c status none w = record { meant = w.meant; text = w.text; says = w.says; ends = ends-then a b c [] w.text w.meant status none w.ends }
+
+-- a writer that took a text and then failed took a beginning of any text that goes on from it
+pub cut-late : (P : Status → List ℕ → Type 0) (a b c : Option (List ℕ)) (text : List ℕ) → P Done (text ++ []) → Appends a b text → Appends b c [] → Written P a c Outside
+cut-late P a b c text says f g = record {
+  meant = Done;
+  text = text ++ [];
+  says = says;
+  ends = Cut (length (text ++ [])) (subst (λ l. Appends a c l) (sym (take_all (length (text ++ [])) (text ++ []) (omega arith))) (appends-then a b c text [] f g));
+}
+
+ends-so : (P : Status → List ℕ → Type 0) (text : List ℕ) (a b c : Option (List ℕ)) (written : Result Unit Why) (meant status : Status) (end : List ℕ)
+    → ((s : Status) (t : List ℕ) → IsEndText s t → P s (text ++ t)) → Appends a b text → IsEndOf written meant end → Ends b c end meant status → Written P a c status
+ends-so P text a b c written meant status end says f Over e =
+    record { meant = Done; text = text ++ []; says = says Done [] Finished; ends = ends-then a b c text [] Done status f e }
+ends-so P text a b c written meant status end says f Lacking e =
+    record { meant = Memory; text = text ++ memory_line; says = says Memory memory_line Unfinished; ends = ends-then a b c text memory_line Memory status f e }
+ends-so P text a b c written meant status end says f Failing (Whole g) = cut-late P a b c text (says Done [] Finished) f g
+ends-so P text a b c written meant status end says f Failing (Cut count g) =
+    cut-late P a b c text (says Done [] Finished) f (subst (λ l. Appends b c l) (take_all count [] (omega arith)) g)
+
+-- a writer took a text, which then ends by why it was written no further
+pub ended : (P : Status → List ℕ → Type 0) (text : List ℕ) (a b c : Option (List ℕ)) (written : Result Unit Why) (status : Status)
+    → ((s : Status) (t : List ℕ) → IsEndText s t → P s (text ++ t)) → Appends a b text → Written (IsEndOf written) b c status → Written P a c status
+ended P text a b c written status says f w = ends-so P text a b c written w.meant status w.text says f w.says w.ends
+
+-- memory was refused
+pub end-lacking : (a b : Option (List ℕ)) (why : Why) (status : Status) → why ≡ cut.Memory → Ends a b memory_line Memory status → Written (IsEndOf (Err why)) a b status
+end-lacking a b why status is e = record { meant = Memory; text = memory_line; says = rw is Lacking; ends = e }
+
+-- the writer failed
+pub end-failing : (a : Option (List ℕ)) (why : Why) → why ≡ cut.Failed → Written (IsEndOf (Err why)) a a Outside
+end-failing a why is = record { meant = Outside; text = []; says = rw is Failing; ends = Whole (appends-none a) }
+
+-- a node has no net, for it is not listed
+pub unlisted-text : (a b : Option (List ℕ)) (line number : ℕ) (error : BindError) (meant status : Status) (text : List ℕ) → error ≡ bind.Config → meant ≡ Refused
+    → number ≡ bind_number error → text ≡ fault_line line number → Ends a b text meant status → Written (IsNetlessText line error) a b status
+unlisted-text a b line number error meant status text is refused same printed e =
+    let all : text ≡ fault_line line 50 = printed ∙ ap (fault_line line) (same ∙ ap bind_number is) in
+    record { meant = meant; text = text; says = rw (is, refused, all) Unlisted; ends = e }
+
+-- for its socket could not be bound
+pub unbound-text : (a b : Option (List ℕ)) (line number : ℕ) (error : BindError) (meant status : Status) (text : List ℕ) → error ≡ bind.Bind → meant ≡ Outside
+    → number ≡ bind_number error → text ≡ fault_line line number → Ends a b text meant status → Written (IsNetlessText line error) a b status
+unbound-text a b line number error meant status text is outside same printed e =
+    let all : text ≡ fault_line line 51 = printed ∙ ap (fault_line line) (same ∙ ap bind_number is) in
+    record { meant = meant; text = text; says = rw (is, outside, all) Unbound; ends = e }
+
+-- memory was refused for that
+pub unprinted-text : (a b : Option (List ℕ)) (line : ℕ) (error : BindError) (status : Status) → Ends a b memory_line Memory status → Written (IsNetlessText line error) a b status
+unprinted-text a b line error status e = record { meant = Memory; text = memory_line; says = Unprinted error; ends = e }

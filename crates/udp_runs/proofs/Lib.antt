@@ -1,0 +1,3 @@
+pub mod FactOfEnds
+pub mod FactOfScripts
+pub mod FactOfMembers

@@ -1,0 +1,8 @@
+use Rattle.udp_runs.proofs.FactOfMembers.{start-failed, start-went}
+use Rattle.udp_runs.proofs.one_node.start.Goals as goal
+
+pub returns-in-Ok : goal.returns-in-Ok
+returns-in-Ok g c = start-went _ _ _ _ _ c.in-Ok.ensures c.go_on.ensures
+
+pub returns-in-Err : goal.returns-in-Err
+returns-in-Err g c = start-failed _ _ _ c.in-Err.why c.in-Err.ensures

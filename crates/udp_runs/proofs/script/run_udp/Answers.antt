@@ -1,0 +1,16 @@
+use Rattle.udp_runs.proofs.FactOfScripts.{unrun, run-ended, run-stopped}
+use Rattle.udp_runs.proofs.script.run_udp.Goals as goal
+
+pub returns-in-Err : goal.returns-in-Err
+returns-in-Err g c = unrun _ _ _ _ c.in-Err.ensures.err
+
+pub returns-in-Ok-play : goal.returns-in-Ok-play
+returns-in-Ok-play g c = run-ended _ _ _ _ _ _ _ _ _ c.as_slice.ensures.value c.in-Ok.ensures.ok c.play.ensures.takes c.end.ensures
+
+pub returns-in-Err-Cut : goal.returns-in-Err-Cut
+returns-in-Err-Cut g c = run-ended _ _ _ _ _ _ _ _ _ c.as_slice.ensures.value c.in-Ok.ensures.ok c.play.ensures.takes c.end-in-Err-Cut.ensures
+
+pub returns : goal.returns
+returns g c =
+    run-stopped _ _ _ _ _ _ _ _ c.in-Err-NoNet.line c.in-Err-NoNet.error _ c.as_slice.ensures.value c.in-Ok.ensures.ok c.play.ensures.takes c.in-Err-NoNet.field-0-is
+    c.in-Err-NoNet.ensures.stops c.end_without_net.ensures

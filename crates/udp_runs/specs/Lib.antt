@@ -1,0 +1,4 @@
+pub mod Ends
+pub mod Loopbacks
+pub mod Scripts
+pub mod Members

@@ -1,0 +1,112 @@
+//! What the commands for members over datagrams write, over wires in memory.
+
+use crate::lines::put_number;
+use crate::sockets::{FOUR, settings_of};
+use address::{Address, Node};
+use chat_log::ChatLog;
+use std::alloc::{AllocError, Global};
+use std::cell::RefCell;
+use udp_hub::{Hub, Wires};
+use udp_runs::{MemberPlan, run_member, run_udp};
+
+/// Scripts of refused events, of a leave and of faults, with names.
+const SCRIPTS: [(&str, &[u8]); 12] = [
+    ("no member was started at node 1", b"send 1 a"),
+    ("node 9 is not listed", b"send 9 a\nstart 9"),
+    ("one runs at node 1", b"start 1\nstart 1"),
+    ("a send before a connect", b"start 1\n\nsend 1 a"),
+    ("a crash", b"start 1\ncrash 1\ncrash 1\nstart 1"),
+    ("a group of one", b"start 1\ncreate 1\nsend 1 hi"),
+    (
+        "a leave goes out at once",
+        b"start 1\nstart 2\ncreate 1\njoin 2 1.1\nrounds 10\nleave 2\nrounds 10\nsend 1 a\nleave 2",
+    ),
+    (
+        "no rounds",
+        b"start 1\nstart 2\ncreate 1\njoin 2 1.1\nrounds 0",
+    ),
+    ("a tick is no word here", b"start 1\ntick 1\nstart"),
+    ("a delivery is no word here", b"deliver 1"),
+    ("too many rounds", b"rounds 1000000\nrounds 1000001"),
+    ("an empty script", b""),
+];
+
+/// The settings of node 2 alone.
+const OTHERS: &str = "group = \"chat\"\nsilent = 50\n[[node]]\nnumber = 2\nport = 47402\n";
+
+/// Runs a script where node `taken` can have no net, and adds what it writes, and its status.
+fn put_run(
+    alloc: Global,
+    told: &mut Vec<u8>,
+    script: &[u8],
+    taken: Option<Node>,
+) -> Result<(), AllocError> {
+    let settings = settings_of(alloc, FOUR)?;
+    let mut wires = Wires::new(alloc);
+    wires.taken = taken;
+    let wires = RefCell::new(wires);
+    let mut reader = script;
+    let mut hub = Hub { wires: &wires };
+    let status = run_udp::<ChatLog, _, _, _>(alloc, &settings, &mut hub, &mut reader, told);
+    put_number(told, "status", u64::from(status.code()))
+}
+
+/// Each script.
+pub fn all(alloc: Global) -> Result<Vec<u8>, AllocError> {
+    let mut told = Vec::new(alloc);
+    for (name, script) in SCRIPTS {
+        told.extend_from_slice(b"= ")?;
+        told.extend_from_slice(name.as_bytes())?;
+        told.extend_from_slice(b"\n")?;
+        put_run(alloc, &mut told, script, None)?;
+    }
+    told.extend_from_slice(b"= the socket of node 2 cannot be bound\n")?;
+    put_run(
+        alloc,
+        &mut told,
+        b"start 1\n\nstart 2\nstart 3",
+        Node::new(2),
+    )?;
+    Ok(told)
+}
+
+/// Runs node 1 by itself where node `taken` can have no net, and adds what it writes, its status, and how often it paused.
+fn put_member(
+    alloc: Global,
+    told: &mut Vec<u8>,
+    settings: &str,
+    rounds: u64,
+    taken: Option<Node>,
+) -> Result<(), AllocError> {
+    let settings = settings_of(alloc, settings)?;
+    let mut wires = Wires::new(alloc);
+    wires.taken = taken;
+    let wires = RefCell::new(wires);
+    let plan = MemberPlan {
+        address: Address::first_at(Node::new(1).ok_or(AllocError)?),
+        rounds,
+        contact: None,
+        send: Some(b"hi"),
+    };
+    let mut hub = Hub { wires: &wires };
+    let status = run_member::<ChatLog, _, _>(alloc, &settings, &plan, &mut hub, told);
+    put_number(told, "status", u64::from(status.code()))?;
+    if let Ok(wires) = wires.try_borrow() {
+        put_number(told, "pauses", wires.pauses)?;
+    }
+    Ok(())
+}
+
+/// Node 1 by itself, which makes a group and sends `hi`.
+pub fn members(alloc: Global) -> Result<Vec<u8>, AllocError> {
+    let mut told = Vec::new(alloc);
+    told.extend_from_slice(b"= three rounds\n")?;
+    put_member(alloc, &mut told, FOUR, 3, None)?;
+    told.extend_from_slice(b"= no round\n")?;
+    put_member(alloc, &mut told, FOUR, 0, None)?;
+    told.extend_from_slice(b"= a node that is not listed\n")?;
+    put_member(alloc, &mut told, OTHERS, 3, Node::new(1))?;
+    told.extend_from_slice(b"= a socket that cannot be bound\n")?;
+    put_member(alloc, &mut told, FOUR, 3, Node::new(1))?;
+    Ok(told)
+}
