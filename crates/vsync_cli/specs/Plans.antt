@@ -4,7 +4,7 @@ use Rattle.std.specs.Borrow.{Bor}
 use Rattle.address.specs.Ids.{Address}
 use Rattle.limits.specs.declared.TheConstants.{PAYLOAD}
 use Rattle.script_reader.specs.AddressText.{address_of_text}
-use Rattle.udp_runs.specs.declared.member.MemberPlan.{MemberPlan}
+use Rattle.udp_runs.specs.declared.one_node.MemberPlan.{MemberPlan}
 use Rattle.vsync_cli.specs.declared.udp_words.MemberWords.{MemberWords}
 use Rattle.vsync_cli.specs.declared.udp_words.MemberMistake.{MemberMistake}
 use Rattle.vsync_cli.specs.declared.udp_words.MemberMistake.TheVariants.{NoAddress, LongText}
