@@ -1,3 +1,5 @@
+ghost use Rattle.std.specs.Prelude.{◌≤◌, length};
+
 use address::Node;
 use std::alloc::Global;
 use std::cell::RefCell;
@@ -87,7 +89,9 @@ impl<'a> Wire<'a> {
 }
 
 // Copies bytes to the front of a buffer, as many as it has room for.
-fn copied(bytes: &[u8], buffer: &mut [u8]) -> usize {
+fn copied(bytes: &[u8], buffer: &mut [u8]) -> usize
+    ensures { result ≤ length buffer.new }
+{
     let count = bytes.len().min(buffer.len());
     buffer[..count].copy_from_slice(&bytes[..count]);
     count
