@@ -107,7 +107,8 @@ fn put_settings(
 /// The refusal of settings of as many nodes.
 fn of_many(alloc: Global, count: u16) -> Result<u8, AllocError> {
     let mut text = format!(in alloc; "{GROUP}\n{SILENT}\n")?;
-    for number in 1..=count {
+    for before in 0..count {
+        let number = before + 1;
         let node = format!(in alloc; "[[node]]\nnumber = {number}\nport = {number}\n")?;
         text.push_str(node.as_str())?;
     }

@@ -214,7 +214,8 @@ pub fn receives(alloc: Global) -> Result<Vec<u8>, AllocError> {
         None => 0,
     };
     put_truth(&mut text, "more than a hundred", count > 100)?;
-    for number in 1..=count {
+    for before in 0..count {
+        let number = before + 1;
         let (_, after) = story(alloc, Some(number), None)?;
         if !is_counted_once(after.as_slice(), number) {
             put_number(
@@ -244,7 +245,8 @@ pub fn sends(alloc: Global) -> Result<Vec<u8>, AllocError> {
         "where none fails the views merge",
         is_done(alloc, None, None)?,
     )?;
-    for number in 1..=count {
+    for before in 0..count {
+        let number = before + 1;
         let less = story(alloc, None, Some(number))?;
         if !are_same_up_to(&whole, &less, number) {
             put_number(&mut text, "something else changes in its round", number)?;

@@ -53,7 +53,8 @@ impl Lan {
             members: Vec::new(alloc),
             carried: Vec::new(alloc),
         };
-        for number in 1..=count {
+        for before in 0..count {
+            let number = before + 1;
             lan.members
                 .push(member(alloc, MemoryNet::new(alloc), number, silent)?)?;
             lan.carried.push(0)?;
@@ -90,8 +91,8 @@ impl Lan {
     /// So many rounds of each of the members up to a node, in turn.
     pub fn rounds(&mut self, count: u16, last: u16) -> Result<(), AllocError> {
         for _ in 0..count {
-            for number in 1..=last {
-                let _ = self.round(number)?;
+            for before in 0..last {
+                let _ = self.round(before + 1)?;
             }
         }
         Ok(())

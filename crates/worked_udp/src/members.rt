@@ -12,7 +12,8 @@ use udp_net::{MemoryNet, Received};
 
 /// The chats' lines and the views' lengths of the members up to a node.
 fn put_chats(text: &mut Vec<u8>, lan: &mut Lan, last: u16) -> Result<(), AllocError> {
-    for number in 1..=last {
+    for before in 0..last {
+        let number = before + 1;
         let members = lan.members(number);
         put_number(text, "members in its view", members as u64)?;
         let lines = lan.lines(number)?;
