@@ -1,7 +1,7 @@
 use crate::words::{refusal, words_of};
 use clap::error::ErrorKind;
 use std::alloc::Global;
-use vsync_cli::{Invocation, MemberMistake, command};
+use vsync_cli::{Invocation, MemberMistake, MemberPlan, command};
 
 /// Whether the words ask for the script of this path with the settings of that.
 fn is_udp(alloc: Global, line: &[&str], config: &str, script: &str) -> bool {
@@ -36,13 +36,8 @@ fn udp_takes_settings_and_a_script(rt: HostRuntime) {
     );
 }
 
-/// The node, the incarnation, the rounds, the contact's node and the length of the text of `member`; 0 for what does not stand there. `None` for other words.
-fn numbers(alloc: Global, line: &[&str]) -> Option<(u16, u32, u64, u16, usize)> {
-    let words = words_of(alloc, line).ok()?;
-    let Ok(Invocation::Member(member)) = command(alloc, words.as_slice()) else {
-        return None;
-    };
-    let plan = member.plan().ok()?;
+/// The node, the incarnation, the rounds, the contact's node and the length of the text of a plan; 0 for what does not stand there.
+fn numbers_of(plan: &MemberPlan<'_>) -> (u16, u32, u64, u16, usize) {
     let contact = match plan.contact {
         Some(contact) => contact.node().number(),
         None => 0,
@@ -51,13 +46,25 @@ fn numbers(alloc: Global, line: &[&str]) -> Option<(u16, u32, u64, u16, usize)> 
         Some(text) => text.len(),
         None => 0,
     };
-    Some((
+    (
         plan.address.node().number(),
         plan.address.incarnation(),
         plan.rounds,
         contact,
         length,
-    ))
+    )
+}
+
+/// The same of the words of `member`; `None` for other words.
+fn numbers(alloc: Global, line: &[&str]) -> Option<(u16, u32, u64, u16, usize)> {
+    let words = words_of(alloc, line).ok()?;
+    match command(alloc, words.as_slice()) {
+        Ok(Invocation::Member(member)) => match member.plan() {
+            Ok(plan) => Some(numbers_of(&plan)),
+            Err(_) => None,
+        },
+        _ => None,
+    }
 }
 
 #[test]
@@ -107,7 +114,7 @@ fn a_number_out_of_range_is_a_usage_fault(rt: HostRuntime) {
 }
 
 /// What is wrong with an option of `member` that clap takes.
-fn mistake(alloc: Global, option: &str, value: &str) -> Option<MemberMistake> {
+fn mistake<'x>(alloc: Global, option: &'x str, value: &'x str) -> Option<MemberMistake> {
     let line = ["vsync", "member", "a.toml", "1", "1", "1", option, value];
     let words = words_of(alloc, &line).ok()?;
     match command(alloc, words.as_slice()) {
