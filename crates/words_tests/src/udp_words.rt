@@ -118,7 +118,10 @@ fn mistake<'x>(alloc: Global, option: &'x str, value: &'x str) -> Option<MemberM
     let line = ["vsync", "member", "a.toml", "1", "1", "1", option, value];
     let words = words_of(alloc, &line).ok()?;
     match command(alloc, words.as_slice()) {
-        Ok(Invocation::Member(member)) => member.plan().err(),
+        Ok(Invocation::Member(member)) => match member.plan() {
+            Ok(_) => None,
+            Err(mistake) => Some(mistake),
+        },
         _ => None,
     }
 }
