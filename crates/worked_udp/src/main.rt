@@ -7,6 +7,7 @@ mod calls;
 mod channels;
 mod documents;
 mod failing;
+mod files;
 mod lan;
 mod lines;
 mod members;
@@ -15,6 +16,7 @@ mod scripts;
 mod silent;
 mod sockets;
 
+use files::bytes_of;
 use std::alloc::AllocError;
 use std::io::{self, Write};
 use std::process::ExitCode;
@@ -54,7 +56,9 @@ fn print_channels(rt: &HostRuntime) -> io::Result<()> {
 /// Prints the stories of members over nets in memory.
 fn print_members(rt: &HostRuntime) -> io::Result<()> {
     let alloc = rt.alloc();
-    print(rt, "settings", documents::all(alloc))?;
+    print(rt, "settings", documents::found(alloc))?;
+    let file = bytes_of(rt, "settings.txt")?;
+    print(rt, "documents", documents::all(alloc, file.as_slice()))?;
     print(rt, "four members", members::four(alloc))?;
     print(
         rt,
@@ -76,7 +80,12 @@ fn print_members(rt: &HostRuntime) -> io::Result<()> {
 /// Prints the stories in which each call fails in turn, and those over sockets.
 fn print_runs(rt: &HostRuntime) -> io::Result<()> {
     let alloc = rt.alloc();
-    print(rt, "scripts of nodes over datagrams", scripts::all(alloc))?;
+    let file = bytes_of(rt, "scripts.txt")?;
+    print(
+        rt,
+        "scripts of nodes over datagrams",
+        scripts::all(alloc, file.as_slice()),
+    )?;
     print(rt, "a node by itself", scripts::members(alloc))?;
     print(rt, "each receive fails in turn", failing::receives(alloc))?;
     print(rt, "each send fails in turn", failing::sends(alloc))?;

@@ -1,5 +1,6 @@
 //! What the commands for members over datagrams write, over wires in memory.
 
+use crate::files::{first_block, first_line};
 use crate::lines::put_number;
 use crate::sockets::{FOUR, settings_of};
 use address::{Address, Node};
@@ -9,27 +10,8 @@ use std::cell::RefCell;
 use udp_hub::{Hub, Wires};
 use udp_runs::{MemberPlan, run_member, run_udp};
 
-/// Scripts of refused events, of a leave and of faults, with names.
-const SCRIPTS: [(&str, &[u8]); 12] = [
-    ("no member was started at node 1", b"send 1 a"),
-    ("node 9 is not listed", b"send 9 a\nstart 9"),
-    ("one runs at node 1", b"start 1\nstart 1"),
-    ("a send before a connect", b"start 1\n\nsend 1 a"),
-    ("a crash", b"start 1\ncrash 1\ncrash 1\nstart 1"),
-    ("a group of one", b"start 1\ncreate 1\nsend 1 hi"),
-    (
-        "a leave goes out at once",
-        b"start 1\nstart 2\ncreate 1\njoin 2 1.1\nrounds 10\nleave 2\nrounds 10\nsend 1 a\nleave 2",
-    ),
-    (
-        "no rounds",
-        b"start 1\nstart 2\ncreate 1\njoin 2 1.1\nrounds 0",
-    ),
-    ("a tick is no word here", b"start 1\ntick 1\nstart"),
-    ("a delivery is no word here", b"deliver 1"),
-    ("too many rounds", b"rounds 1000000\nrounds 1000001"),
-    ("an empty script", b""),
-];
+/// The most scripts of a file.
+const SCRIPTS: u8 = 100;
 
 /// The settings of node 2 alone.
 const OTHERS: &str = "group = \"chat\"\nsilent = 50\n[[node]]\nnumber = 2\nport = 47402\n";
@@ -51,16 +33,20 @@ fn put_run(
     put_number(told, "status", u64::from(status.code()))
 }
 
-/// Each script.
-pub fn all(alloc: Global) -> Result<Vec<u8>, AllocError> {
+/// Each script of a file, and one that starts a node whose socket cannot be bound.
+pub fn all(alloc: Global, file: &[u8]) -> Result<Vec<u8>, AllocError> {
     let mut told = Vec::new(alloc);
-    for (name, script) in SCRIPTS {
-        told.extend_from_slice(b"= ")?;
-        told.extend_from_slice(name.as_bytes())?;
+    let mut rest = file;
+    for _ in 0..SCRIPTS {
+        let Some((script, behind)) = first_block(rest) else {
+            break;
+        };
+        told.extend_from_slice(first_line(script))?;
         told.extend_from_slice(b"\n")?;
         put_run(alloc, &mut told, script, None)?;
+        rest = behind;
     }
-    told.extend_from_slice(b"= the socket of node 2 cannot be bound\n")?;
+    told.extend_from_slice(b"# the socket of node 2 cannot be bound\n")?;
     put_run(
         alloc,
         &mut told,
@@ -100,13 +86,13 @@ fn put_member(
 /// Node 1 by itself, which makes a group and sends `hi`.
 pub fn members(alloc: Global) -> Result<Vec<u8>, AllocError> {
     let mut told = Vec::new(alloc);
-    told.extend_from_slice(b"= three rounds\n")?;
+    told.extend_from_slice(b"# three rounds\n")?;
     put_member(alloc, &mut told, FOUR, 3, None)?;
-    told.extend_from_slice(b"= no round\n")?;
+    told.extend_from_slice(b"# no round\n")?;
     put_member(alloc, &mut told, FOUR, 0, None)?;
-    told.extend_from_slice(b"= a node that is not listed\n")?;
+    told.extend_from_slice(b"# a node that is not listed\n")?;
     put_member(alloc, &mut told, OTHERS, 3, Node::new(1))?;
-    told.extend_from_slice(b"= a socket that cannot be bound\n")?;
+    told.extend_from_slice(b"# a socket that cannot be bound\n")?;
     put_member(alloc, &mut told, FOUR, 3, Node::new(1))?;
     Ok(told)
 }
