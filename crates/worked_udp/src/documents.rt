@@ -58,29 +58,26 @@ fn put_found(told: &mut Vec<u8>, found: &Settings) -> Result<(), AllocError> {
 }
 
 /// What the settings of nodes 2 and 1 say.
-pub fn found(alloc: Global) -> Result<Vec<u8>, AllocError> {
-    let mut told = Vec::new(alloc);
+pub fn found(alloc: Global, told: &mut Vec<u8>) -> Result<(), AllocError> {
     let text =
         "group = \"chat\"\nsilent = 50\n[[node]]\nnumber = 2\nport = 47002\n[[node]]\nnumber = 1\nport = 47001\n";
     match settings(alloc, text) {
-        Ok(found) => put_found(&mut told, &found)?,
-        Err(error) => put_refusal(&mut told, "settings", error.number())?,
+        Ok(found) => put_found(told, &found),
+        Err(error) => put_refusal(told, "settings", error.number()),
     }
-    Ok(told)
 }
 
 /// How each document of a file is refused, and those of 16 and of 17 nodes.
-pub fn all(alloc: Global, file: &[u8]) -> Result<Vec<u8>, AllocError> {
-    let mut told = Vec::new(alloc);
+pub fn all(alloc: Global, told: &mut Vec<u8>, file: &[u8]) -> Result<(), AllocError> {
     let mut rest = file;
     for _ in 0..DOCUMENTS {
         let Some((document, behind)) = first_block(rest) else {
             break;
         };
-        put_document(alloc, &mut told, document)?;
+        put_document(alloc, told, document)?;
         rest = behind;
     }
-    put_refusal(&mut told, "16 nodes", of_many(alloc, 16)?)?;
-    put_refusal(&mut told, "17 nodes", of_many(alloc, 17)?)?;
-    Ok(told)
+    put_refusal(told, "16 nodes", of_many(alloc, 16)?)?;
+    put_refusal(told, "17 nodes", of_many(alloc, 17)?)?;
+    Ok(())
 }

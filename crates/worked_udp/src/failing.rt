@@ -206,42 +206,36 @@ fn is_done(
 }
 
 /// Each receive fails in turn: it is counted once, and is the last of its round, and the trace holds.
-pub fn receives(alloc: Global) -> Result<Vec<u8>, AllocError> {
-    let mut text = Vec::new(alloc);
+pub fn receives(alloc: Global, text: &mut Vec<u8>) -> Result<(), AllocError> {
     let whole = story(alloc, None, None)?;
     let count = match whole.1.last() {
         Some(after) => after.receives,
         None => 0,
     };
-    put_truth(&mut text, "more than a hundred", count > 100)?;
+    put_truth(text, "more than a hundred", count > 100)?;
     for before in 0..count {
         let number = before + 1;
         let (_, after) = story(alloc, Some(number), None)?;
         if !is_counted_once(after.as_slice(), number) {
-            put_number(
-                &mut text,
-                "not counted once, as the last of its round",
-                number,
-            )?;
+            put_number(text, "not counted once, as the last of its round", number)?;
         }
         if !is_done(alloc, Some(number), None)? {
-            put_number(&mut text, "the trace does not hold", number)?;
+            put_number(text, "the trace does not hold", number)?;
         }
     }
-    Ok(text)
+    Ok(())
 }
 
 /// Each send fails in turn: nothing else changes in its round, and the trace holds.
-pub fn sends(alloc: Global) -> Result<Vec<u8>, AllocError> {
-    let mut text = Vec::new(alloc);
+pub fn sends(alloc: Global, text: &mut Vec<u8>) -> Result<(), AllocError> {
     let whole = story(alloc, None, None)?;
     let count = match whole.1.last() {
         Some(after) => after.sends,
         None => 0,
     };
-    put_truth(&mut text, "more than sixty", count > 60)?;
+    put_truth(text, "more than sixty", count > 60)?;
     put_truth(
-        &mut text,
+        text,
         "where none fails the views merge",
         is_done(alloc, None, None)?,
     )?;
@@ -249,11 +243,11 @@ pub fn sends(alloc: Global) -> Result<Vec<u8>, AllocError> {
         let number = before + 1;
         let less = story(alloc, None, Some(number))?;
         if !are_same_up_to(&whole, &less, number) {
-            put_number(&mut text, "something else changes in its round", number)?;
+            put_number(text, "something else changes in its round", number)?;
         }
         if !is_done(alloc, None, Some(number))? {
-            put_number(&mut text, "the trace does not hold", number)?;
+            put_number(text, "the trace does not hold", number)?;
         }
     }
-    Ok(text)
+    Ok(())
 }

@@ -34,23 +34,22 @@ fn part(lan: &mut Lan) -> Result<(), AllocError> {
 }
 
 /// Four come into one view, a message goes to all of them; they part into two pairs, with a message on each side, and merge.
-pub fn four(alloc: Global) -> Result<Vec<u8>, AllocError> {
-    let mut text = Vec::new(alloc);
+pub fn four(alloc: Global, text: &mut Vec<u8>) -> Result<(), AllocError> {
     let mut lan = Lan::together(alloc, 4, 50)?;
     let sent = lan.send(3, b"hi")?;
-    put_refusal(&mut text, "3.1 sends hi", sent)?;
+    put_refusal(text, "3.1 sends hi", sent)?;
     lan.rounds(5, 4)?;
-    put_chats(&mut text, &mut lan, 4)?;
+    put_chats(text, &mut lan, 4)?;
     part(&mut lan)?;
     let _ = lan.send(1, b"a")?;
     let _ = lan.send(3, b"b")?;
     lan.rounds(20, 4)?;
-    put_chats(&mut text, &mut lan, 4)?;
+    put_chats(text, &mut lan, 4)?;
     let third = lan.at(3).ok_or(AllocError)?;
     let _ = third.channel().merge_hint(first_at(1));
     lan.rounds(20, 4)?;
-    put_chats(&mut text, &mut lan, 4)?;
-    Ok(text)
+    put_chats(text, &mut lan, 4)?;
+    Ok(())
 }
 
 /// The number of a round's refusal; 0 where there is none.
@@ -145,19 +144,17 @@ fn damaged(alloc: Global, text: &mut Vec<u8>) -> Result<(), AllocError> {
 }
 
 /// Datagrams that are no packets are passed over.
-pub fn odd_datagrams(alloc: Global) -> Result<Vec<u8>, AllocError> {
-    let mut text = Vec::new(alloc);
-    an_empty_one(alloc, &mut text)?;
-    a_long_one(alloc, &mut text, 40_000)?;
-    a_long_one(alloc, &mut text, 40_001)?;
-    a_long_one(alloc, &mut text, 50_000)?;
-    damaged(alloc, &mut text)?;
-    Ok(text)
+pub fn odd_datagrams(alloc: Global, text: &mut Vec<u8>) -> Result<(), AllocError> {
+    an_empty_one(alloc, text)?;
+    a_long_one(alloc, text, 40_000)?;
+    a_long_one(alloc, text, 40_001)?;
+    a_long_one(alloc, text, 50_000)?;
+    damaged(alloc, text)?;
+    Ok(())
 }
 
-/// 1.1 in a view of its own, after a round for which as many empty datagrams waited: how many still wait.
-fn left_of(alloc: Global, count: u16) -> Result<usize, AllocError> {
-    let mut lan = Lan::new(alloc, 1, 50)?;
+/// How many datagrams still wait for 1.1 after a round for which as many empty ones waited.
+fn left_in(lan: &mut Lan, count: u16) -> Result<usize, AllocError> {
     for _ in 0..count {
         lan.put(1, b"")?;
     }
@@ -165,13 +162,24 @@ fn left_of(alloc: Global, count: u16) -> Result<usize, AllocError> {
     Ok(lan.at(1).ok_or(AllocError)?.net().waiting())
 }
 
+/// The same of 1.1 in a view of its own.
+fn left_of(alloc: Global, count: u16) -> Result<usize, AllocError> {
+    let mut lan = Lan::new(alloc, 1, 50)?;
+    left_in(&mut lan, count)
+}
+
+/// A round of a member, and how often it asked for a datagram.
+fn put_round(text: &mut Vec<u8>, member: &mut Member) -> Result<(), AllocError> {
+    let answer = number(member.round());
+    put_refusal(text, "a round before a connect", answer)?;
+    put_number(text, "receives", member.net().receives())
+}
+
 /// A round of a member that was never connected.
 fn not_connected(alloc: Global, text: &mut Vec<u8>) -> Result<(), AllocError> {
     let channel = Channel::new(alloc, first_at(1), ChatLog::opening(alloc)?);
     let mut member = Runner::new(alloc, MemoryNet::new(alloc), channel, 1)?;
-    let answer = number(member.round());
-    put_refusal(text, "a round before a connect", answer)?;
-    put_number(text, "receives", member.net().receives())
+    put_round(text, &mut member)
 }
 
 /// A round of a member that left.
@@ -190,21 +198,20 @@ fn after_the_end(alloc: Global, text: &mut Vec<u8>) -> Result<(), AllocError> {
 }
 
 /// Rounds before a connect and after the end, and how much a round takes.
-pub fn edges(alloc: Global) -> Result<Vec<u8>, AllocError> {
-    let mut text = Vec::new(alloc);
-    not_connected(alloc, &mut text)?;
-    after_the_end(alloc, &mut text)?;
+pub fn edges(alloc: Global, text: &mut Vec<u8>) -> Result<(), AllocError> {
+    not_connected(alloc, text)?;
+    after_the_end(alloc, text)?;
     put_number(
-        &mut text,
+        text,
         "of 64 datagrams still wait",
         left_of(alloc, 64)? as u64,
     )?;
     put_number(
-        &mut text,
+        text,
         "of 70 datagrams still wait",
         left_of(alloc, 70)? as u64,
     )?;
-    Ok(text)
+    Ok(())
 }
 
 /// Two that found a view, of which 2.1 has its receive of this number failed: whether that was the last of its round, and is its one fault, and they have a view of
@@ -238,46 +245,49 @@ fn behind_a_failed_receive(alloc: Global, text: &mut Vec<u8>) -> Result<(), Allo
 }
 
 /// Each of the first 30 receives of a member fails in turn.
-pub fn failed_receives(alloc: Global) -> Result<Vec<u8>, AllocError> {
-    let mut text = Vec::new(alloc);
-    behind_a_failed_receive(alloc, &mut text)?;
+pub fn failed_receives(alloc: Global, text: &mut Vec<u8>) -> Result<(), AllocError> {
+    behind_a_failed_receive(alloc, text)?;
     for number in 1..=30u64 {
         if !with_a_failed_receive(alloc, number)? {
-            put_number(&mut text, "not as it must be", number)?;
+            put_number(text, "not as it must be", number)?;
         }
     }
-    Ok(text)
+    Ok(())
 }
 
-/// Two that found a view, of which 1.1 has its send of this number failed: whether just that datagram is lost, and they have a view of both at last.
-fn with_a_failed_send(alloc: Global, number: u64) -> Result<bool, AllocError> {
-    let mut lan = Lan::new(alloc, 2, 50)?;
-    lan.at(1).ok_or(AllocError)?.net().fail_send(number);
-    lan.rounds(20, 2)?;
+/// The numbers of what a member offered and was lost, added up.
+fn lost_of(member: &mut Member) -> Result<u64, AllocError> {
     let mut lost = 0u64;
     let mut count = 0u64;
-    for offered in lan
-        .at(1)
-        .ok_or(AllocError)?
-        .net()
-        .offered()
-        .ok_or(AllocError)?
-    {
+    for offered in member.net().offered().ok_or(AllocError)? {
         count = count.wrapping_add(1);
         if offered.is_lost {
             lost = lost.wrapping_add(count);
         }
     }
+    Ok(lost)
+}
+
+/// Whether just the send of this number of 1.1 is lost, and both have a view of two at last.
+fn loses_one(lan: &mut Lan, number: u64) -> Result<bool, AllocError> {
+    lan.at(1).ok_or(AllocError)?.net().fail_send(number);
+    lan.rounds(20, 2)?;
+    let lost = lost_of(lan.at(1).ok_or(AllocError)?)?;
     Ok(lost == number && lan.members(2) == 2)
 }
 
+/// The same of two that are to found a view.
+fn with_a_failed_send(alloc: Global, number: u64) -> Result<bool, AllocError> {
+    let mut lan = Lan::new(alloc, 2, 50)?;
+    loses_one(&mut lan, number)
+}
+
 /// Each of the first 15 sends of a member fails in turn.
-pub fn failed_sends(alloc: Global) -> Result<Vec<u8>, AllocError> {
-    let mut text = Vec::new(alloc);
+pub fn failed_sends(alloc: Global, text: &mut Vec<u8>) -> Result<(), AllocError> {
     for number in 1..=15u64 {
         if !with_a_failed_send(alloc, number)? {
-            put_number(&mut text, "not as it must be", number)?;
+            put_number(text, "not as it must be", number)?;
         }
     }
-    Ok(text)
+    Ok(())
 }

@@ -1,88 +1,116 @@
 //! Two channels, whose packets are carried by hand.
 
 use crate::channels::{
-    always, apart, carry, connect_new, connect_to, connected, disconnect, happened, merge_hint,
-    outgoing, pass_events, send, suspect, together, view,
+    Chat, always, apart, carry, connect_new, connect_to, connected, disconnect, happened,
+    merge_hint, outgoing, pass_events, send, suspect, together, view,
 };
 use std::alloc::{AllocError, Global};
 
+/// Carries a JOIN, a FLUSH, a REPORT and an INSTALL.
+fn join(text: &mut Vec<u8>, first: &mut Chat, second: &mut Chat) -> Result<(), AllocError> {
+    connect_to(text, second, "chat", 1)?;
+    view(text, second)?;
+    carry(text, second, first)?;
+    carry(text, first, second)?;
+    carry(text, second, first)?;
+    carry(text, first, second)?;
+    view(text, first)?;
+    view(text, second)
+}
+
 /// A second is let in, by a JOIN, a FLUSH, a REPORT and an INSTALL.
-pub fn let_in(alloc: Global) -> Result<Vec<u8>, AllocError> {
-    let mut text = Vec::new(alloc);
+pub fn let_in(alloc: Global, text: &mut Vec<u8>) -> Result<(), AllocError> {
     let mut first = connected(alloc)?;
     let mut second = apart(alloc, 2)?;
-    connect_to(&mut text, &mut second, "chat", 1)?;
-    view(&mut text, &second)?;
-    carry(&mut text, &mut second, &mut first)?;
-    carry(&mut text, &mut first, &mut second)?;
-    carry(&mut text, &mut second, &mut first)?;
-    carry(&mut text, &mut first, &mut second)?;
-    view(&mut text, &first)?;
-    view(&mut text, &second)?;
-    Ok(text)
+    join(text, &mut first, &mut second)
+}
+
+/// Sends at the second, and carries what comes of it.
+fn send_at_second(
+    alloc: Global,
+    text: &mut Vec<u8>,
+    first: &mut Chat,
+    second: &mut Chat,
+) -> Result<(), AllocError> {
+    send(alloc, text, second)?;
+    happened(text, second)?;
+    happened(text, second)?;
+    carry(text, second, first)?;
+    happened(text, first)?;
+    carry(text, first, second)?;
+    happened(text, second)?;
+    carry(text, second, first)
 }
 
 /// A message of the second goes to the coordinator, which orders it.
-pub fn sends(alloc: Global) -> Result<Vec<u8>, AllocError> {
-    let mut text = Vec::new(alloc);
+pub fn sends(alloc: Global, text: &mut Vec<u8>) -> Result<(), AllocError> {
     let (mut first, mut second) = together(alloc)?;
-    send(alloc, &mut text, &mut second)?;
-    happened(&mut text, &mut second)?;
-    happened(&mut text, &mut second)?;
-    carry(&mut text, &mut second, &mut first)?;
-    happened(&mut text, &mut first)?;
-    carry(&mut text, &mut first, &mut second)?;
-    happened(&mut text, &mut second)?;
-    carry(&mut text, &mut second, &mut first)?;
-    Ok(text)
+    send_at_second(alloc, text, &mut first, &mut second)
+}
+
+/// The second asks to be let in, and the first sends.
+fn send_while_joining(
+    alloc: Global,
+    text: &mut Vec<u8>,
+    first: &mut Chat,
+    second: &mut Chat,
+) -> Result<(), AllocError> {
+    connect_to(text, second, "chat", 1)?;
+    carry(text, second, first)?;
+    always(text, first)?;
+    send(alloc, text, first)
 }
 
 /// The coordinator is blocked while it waits for the report of who asked to be let in.
-pub fn blocked(alloc: Global) -> Result<Vec<u8>, AllocError> {
-    let mut text = Vec::new(alloc);
+pub fn blocked(alloc: Global, text: &mut Vec<u8>) -> Result<(), AllocError> {
     let mut first = connected(alloc)?;
     let mut second = apart(alloc, 2)?;
-    connect_to(&mut text, &mut second, "chat", 1)?;
-    carry(&mut text, &mut second, &mut first)?;
-    always(&mut text, &first)?;
-    send(alloc, &mut text, &mut first)?;
-    Ok(text)
+    send_while_joining(alloc, text, &mut first, &mut second)
+}
+
+/// Asks a contact, another one, another group, and makes a group.
+fn ask_again(text: &mut Vec<u8>, second: &mut Chat) -> Result<(), AllocError> {
+    connect_to(text, second, "chat", 1)?;
+    connect_to(text, second, "chat", 3)?;
+    connect_to(text, second, "other", 3)?;
+    connect_new(text, second, "chat")?;
+    outgoing(text, second)?;
+    outgoing(text, second)?;
+    outgoing(text, second)
 }
 
 /// While it joins, another contact may be asked, but no other group.
-pub fn asks_again(alloc: Global) -> Result<Vec<u8>, AllocError> {
-    let mut text = Vec::new(alloc);
+pub fn asks_again(alloc: Global, text: &mut Vec<u8>) -> Result<(), AllocError> {
     let mut second = apart(alloc, 2)?;
-    connect_to(&mut text, &mut second, "chat", 1)?;
-    connect_to(&mut text, &mut second, "chat", 3)?;
-    connect_to(&mut text, &mut second, "other", 3)?;
-    connect_new(&mut text, &mut second, "chat")?;
-    outgoing(&mut text, &mut second)?;
-    outgoing(&mut text, &mut second)?;
-    outgoing(&mut text, &mut second)?;
-    Ok(text)
+    ask_again(text, &mut second)
+}
+
+/// The second leaves.
+fn leave(text: &mut Vec<u8>, first: &mut Chat, second: &mut Chat) -> Result<(), AllocError> {
+    disconnect(text, second)?;
+    carry(text, second, first)?;
+    view(text, first)
 }
 
 /// Who leaves is left out of the next view.
-pub fn leaves(alloc: Global) -> Result<Vec<u8>, AllocError> {
-    let mut text = Vec::new(alloc);
+pub fn leaves(alloc: Global, text: &mut Vec<u8>) -> Result<(), AllocError> {
     let (mut first, mut second) = together(alloc)?;
-    disconnect(&mut text, &mut second)?;
-    carry(&mut text, &mut second, &mut first)?;
-    view(&mut text, &first)?;
-    Ok(text)
+    leave(text, &mut first, &mut second)
+}
+
+/// The first suspects the second, and is told of it.
+fn suspect_second(text: &mut Vec<u8>, first: &mut Chat) -> Result<(), AllocError> {
+    suspect(text, first, 2)?;
+    happened(text, first)?;
+    happened(text, first)?;
+    view(text, first)?;
+    pass_events(first);
+    merge_hint(text, first, 2)?;
+    outgoing(text, first)
 }
 
 /// Who is suspected is left out of the next view; a hint brings a MERGE to it.
-pub fn suspected(alloc: Global) -> Result<Vec<u8>, AllocError> {
-    let mut text = Vec::new(alloc);
+pub fn suspected(alloc: Global, text: &mut Vec<u8>) -> Result<(), AllocError> {
     let (mut first, _) = together(alloc)?;
-    suspect(&mut text, &mut first, 2)?;
-    happened(&mut text, &mut first)?;
-    happened(&mut text, &mut first)?;
-    view(&mut text, &first)?;
-    pass_events(&mut first);
-    merge_hint(&mut text, &mut first, 2)?;
-    outgoing(&mut text, &mut first)?;
-    Ok(text)
+    suspect_second(text, &mut first)
 }

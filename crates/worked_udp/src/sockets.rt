@@ -88,22 +88,27 @@ fn free_settings(rt: &HostRuntime) -> Result<Settings, AllocError> {
     Err(AllocError)
 }
 
-/// Four part and merge over sockets: the trace holds, and then the chats are printed.
-pub fn merge(rt: &HostRuntime) -> Result<Vec<u8>, AllocError> {
-    let mut told = Vec::new(rt.alloc());
-    let settings = free_settings(rt)?;
-    let (text, status) = run(rt, &settings, MERGE);
-    put_number(&mut told, "status", u64::from(status.code()))?;
-    put_truth(
-        &mut told,
-        "the trace holds",
-        holds(rt.alloc(), text.as_slice()),
-    )?;
-    let before = trace_of(text.as_slice()).len();
-    if let Some(chats) = text.as_slice().get(before..) {
+/// The text of a run, of which the trace is judged and the chats are told.
+fn put_judged(
+    alloc: Global,
+    told: &mut Vec<u8>,
+    text: &[u8],
+    status: Status,
+) -> Result<(), AllocError> {
+    put_number(told, "status", u64::from(status.code()))?;
+    put_truth(told, "the trace holds", holds(alloc, text))?;
+    let before = trace_of(text).len();
+    if let Some(chats) = text.get(before..) {
         told.extend_from_slice(chats)?;
     }
-    Ok(told)
+    Ok(())
+}
+
+/// Four part and merge over sockets: the trace holds, and then the chats are printed.
+pub fn merge(rt: &HostRuntime, told: &mut Vec<u8>) -> Result<(), AllocError> {
+    let settings = free_settings(rt)?;
+    let (text, status) = run(rt, &settings, MERGE);
+    put_judged(rt.alloc(), told, text.as_slice(), status)
 }
 
 /// The socket of a node.
@@ -122,18 +127,21 @@ fn number(answer: &Result<SocketNet, BindError>) -> u8 {
     }
 }
 
+/// What comes of the port of node 1 while it is taken, and of a node that is not listed.
+fn put_taken(rt: &HostRuntime, told: &mut Vec<u8>, settings: &Settings) -> Result<(), AllocError> {
+    let second = number(&bound(rt, settings, 1));
+    put_refusal(told, "another at the same port", second)?;
+    let ninth = number(&bound(rt, settings, 9));
+    put_refusal(told, "of a node that is not listed", ninth)?;
+    let (text, status) = run(rt, settings, b"start 2\nstart 1\nstart 3\n");
+    told.extend_from_slice(text.as_slice())?;
+    put_number(told, "status", u64::from(status.code()))
+}
+
 /// A port that is taken, and a node that is not listed.
-pub fn two(rt: &HostRuntime) -> Result<Vec<u8>, AllocError> {
-    let mut told = Vec::new(rt.alloc());
+pub fn two(rt: &HostRuntime, told: &mut Vec<u8>) -> Result<(), AllocError> {
     let settings = free_settings(rt)?;
     let first = bound(rt, &settings, 1);
-    put_refusal(&mut told, "a socket at a port that is free", number(&first))?;
-    let second = bound(rt, &settings, 1);
-    put_refusal(&mut told, "another at the same port", number(&second))?;
-    let ninth = bound(rt, &settings, 9);
-    put_refusal(&mut told, "of a node that is not listed", number(&ninth))?;
-    let (text, status) = run(rt, &settings, b"start 2\nstart 1\nstart 3\n");
-    told.extend_from_slice(text.as_slice())?;
-    put_number(&mut told, "status", u64::from(status.code()))?;
-    Ok(told)
+    put_refusal(told, "a socket at a port that is free", number(&first))?;
+    put_taken(rt, told, &settings)
 }
