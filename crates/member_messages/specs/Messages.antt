@@ -18,7 +18,7 @@ use Rattle.traffic.specs.declared.traffic.Traffic.{Traffic}
 use Rattle.traffic.specs.declared.traffic.Traffic.TheVariants as kinds
 use Rattle.traffic.specs.Coordinators.{queued}
 use Rattle.traffic.specs.Goings.{sending}
-use Rattle.traffic.specs.Turns.{Ordering, AcksOrdering, SendsOrdering}
+use Rattle.traffic.specs.Turns.{OrdersAll, AcksOrdering, SendsOrdering}
 use Rattle.traffic.specs.Takes.{TakesOrder, TakesStatus, forward_of, ack_of, orders_held, progress_of, other_pushing, SendsForward}
 use Rattle.membership.specs.declared.life.Life.{Life}
 use Rattle.member_messages.specs.Hears.{takes_forward, takes_nak, takes_ack, takes_order, takes_status, is_coordinator_that}
@@ -51,7 +51,7 @@ AtOther Does old new = IsSameBeside old new × ByKind (λ m. ⊥) (λ m. ByKind 
 abbrev pub OnForward : {S : Type 0} → Meaning S → List ℕ → Address → Address → ViewId → ℕ → List ℕ → Life S → Life S → Output → Output → Type 0
 OnForward meaning group me source id number payload old new out later =
     MatchBool (takes_forward source id old)
-    (AtCoordinator (λ m n. Ordering meaning me group (queued source number payload m) old.receiver out n new.receiver later) old new)
+    (AtCoordinator (λ m n. OrdersAll meaning me group (queued source number payload m) old.receiver out n new.receiver later) old new)
     (StaysAs old new out later)
 
 -- an ACK: it is noted, and all is ordered that may be

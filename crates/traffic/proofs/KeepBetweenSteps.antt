@@ -222,21 +222,22 @@ delivers-own-by (e ∷ es) p x m a n out more front start done happens = record 
 
 module _ {S : Type 0} (meaning : Meaning S) where
   pub sends-orders : (p : Address) (group : List ℕ) (x : List ℕ) (n : ℕ) (m a b : Coordinator) (s : S) (out between : Output) (new : Coordinator) (t : S) (more : Output) → n ≡ m.forwards.sent + 1 → a ≡ pushing x m → b ≡ queued p n x a
-      → Grows group out between [] (Sent (sending p m.view.id (m.forwards.sent + 1) x) ∷ []) → Ordering meaning p group b s between new t more → SendsOrdering meaning p group x m s out new t more
-  sends-orders p group x n m a b s out between new t more number now end sent orders = record {
+      → Grows group out between [] (Sent (sending p m.view.id (m.forwards.sent + 1) x) ∷ []) → Ordering meaning p group b s between new t more → next_ordered new.window.stable new.orderer ≡ None
+      → SendsOrdering meaning p group x m s out new t more
+  sends-orders p group x n m a b s out between new t more number now end sent orders done = record {
     between = between;
     sent = sent;
+    done = done;
     orders = subst (λ (z : Coordinator). Ordering meaning p group z s between new t more) (end ∙ ap (λ (z : Coordinator). queued p n x z) now ∙ ap (λ (z : ℕ). queued p z x (pushing x m)) number) orders;
   }
 
   pub delivers-own-at-once : (p : Address) (group : List ℕ) (x : List ℕ) (m : Coordinator) (s : S) (out : Output) (new : Coordinator) (t : S) (more : Output) → IsForwards m.forwards → push_refusal m.forwards ≡ None → IsSettled p m
-      → next_ordered m.window.stable m.orderer ≡ None → SendsOrdering meaning p group x m s out new t more → next_ordered new.window.stable new.orderer ≡ None
-      → may_order m.window.stable m.orderer ≡ true → DeliversOwnAtOnce p x m out more
-  delivers-own-at-once p group x m s out new t more f free z rested sends done may =
+      → next_ordered m.window.stable m.orderer ≡ None → SendsOrdering meaning p group x m s out new t more → may_order m.window.stable m.orderer ≡ true → DeliversOwnAtOnce p x m out more
+  delivers-own-at-once p group x m s out new t more f free z rested sends may =
       let start = own-next p x m f free z rested may in
       let o = sends.orders in
       delivers-own-by o.entries p x m (queued p (m.forwards.sent + 1) x (pushing x m)) new out more
-      (front p (own_entry p m x) (queued p (m.forwards.sent + 1) x (pushing x m)) new o.entries o.turns start) start done
+      (front p (own_entry p m x) (queued p (m.forwards.sent + 1) x (pushing x m)) new o.entries o.turns start) start sends.done
       (o.grows.events ∙ ap (λ l. l ++ map (delivery p m.view.id) o.entries) sends.sent.events
       ∙ append_assoc out.events.items (Sent (sending p m.view.id (m.forwards.sent + 1) x) ∷ []) (map (delivery p m.view.id) o.entries))
 

@@ -58,6 +58,10 @@ pub record Ordering {S : Type 0} (meaning : Meaning S) (p : Address) (group : Li
   pub ordered : new.orderer.ordered ≡ old.orderer.ordered + length entries
   pub heard : (q : Address) → same_address q p ≡ false → count_of q new.acks ≡ count_of q old.acks
 
+-- all is ordered that may be: no message is left that may be ordered
+abbrev pub OrdersAll : {S : Type 0} → Meaning S → Address → List ℕ → Coordinator → S → Output → Coordinator → S → Output → Type 0
+OrdersAll meaning p group old s out new t more = Ordering meaning p group old s out new t more × (next_ordered new.window.stable new.orderer ≡ None)
+
 -- ---- what holds between its steps, beside what its acts need
 
 -- the own queue: its messages that are outstanding, all of them, in turn
@@ -79,7 +83,7 @@ IsFew old new = length new.events.items ≤ length old.events.items + WINDOW
 abbrev pub AcksOrdering : {S : Type 0} → Meaning S → Address → List ℕ → Address → ℕ → Coordinator → S → Output → Coordinator → S → Output → Type 0
 AcksOrdering meaning p group q n old s out new t more =
     MatchBool (nat_lt old.window.delivered n) ((new ≡ old) × (t ≡ s) × (more ≡ out))
-    (Ordering meaning p group (acknowledged q n old) s out new t more × (next_ordered new.window.stable new.orderer ≡ None))
+    (OrdersAll meaning p group (acknowledged q n old) s out new t more)
 
 -- ---- a message of its own
 
@@ -91,6 +95,7 @@ pub record SendsOrdering {S : Type 0} (meaning : Meaning S) (p : Address) (group
   pub between : Output
   pub sent : Grows group out between [] (Sent (sending p old.view.id (old.forwards.sent + 1) x) ∷ [])
   pub orders : Ordering meaning p group (queued p (old.forwards.sent + 1) x (pushing x old)) s between new t more
+  pub done : next_ordered new.window.stable new.orderer ≡ None
 
 -- it is delivered at once
 pub record DeliversOwnAtOnce (p : Address) (x : List ℕ) (old : Coordinator) (out more : Output) : Type 0 where
