@@ -1,7 +1,7 @@
 -- In a change of view at most `WINDOW` + 3 events happen, none of which an input asks for by itself.
 use Rattle.std.proofs.Common.{◌≡◌, ℕ, zero, suc, ◌+◌, ◌-◌, ◌≤◌, Bool, true, false, Option, Some, None, List, [], ◌∷◌, ◌++◌, map, refl, sym, ap, ◌∙◌, subst, is_some, ◌&&◌, not, length, arith}
 use Rattle.std.specs.Prelude.{MatchBool, MatchOption, drop, if◌then◌else◌}
-use Rattle.std.specs.Option.{option_map_or}
+use Rattle.std.specs.Option.{option_map, option_map_or}
 use Rattle.std.specs.List.{list_all}
 use Rattle.std.proofs.lemmas.Bool.{and_parts}
 use Rattle.std.proofs.lemmas.List.{append-nil, length-append}
@@ -29,9 +29,10 @@ use Rattle.output.proofs.FactOfCalm.{calm-nothing, calm-grown, calm-then, calm-w
 use Rattle.traffic.specs.declared.traffic.Traffic.{Traffic}
 use Rattle.traffic.specs.Traffics.{view_of, traffic_of}
 use Rattle.membership.specs.declared.life.Life.{Life}
-use Rattle.membership.specs.Lives.{core_of, is_complete, view_in, blocked_by}
+use Rattle.candidates.specs.Notes.{having_heard, suspecting}
+use Rattle.membership.specs.Lives.{core_of, is_complete, recording, anew_proposal, view_in, blocked_by}
 use Rattle.membership.specs.Installs.{delivered_by, lacking, finish_events, enter_events}
-use Rattle.membership.specs.Changes.{StaysAs, TakesBy, TakesFlush, Begins, Finishes, GoesOn, Regroups, TakesReport, TakesBehind, TakesSuspicion, TakesInstall, Enters}
+use Rattle.membership.specs.Changes.{StaysAs, TakesBy, TakesFlush, BeginsAndGoesOn, Begins, FinishesAndProposes, GoesOn, Regroups, TakesReport, TakesBehind, TakesSuspicion, TakesInstall, Enters}
 use Rattle.member_views.specs.Views.{OnJoin, OnRedirect, OnSuspect, OnFlush, OnBehind, OnReport, OnMerge, Asks, Redirects, SaysAgain, Admits, Meets, AnnouncesView, outdated, joined, merged, leads_now, has_member, is_less, is_suspectable, is_proposing, expects, is_in}
 
 -- ---- how much is delivered at most
@@ -108,29 +109,33 @@ module _ {S : Type 0} (me : Address) (group : List ℕ) where
         let k = delivered_by-few f t in
         one-more (map (delivery me (view_of t).id) (delivered_by f t)) _ WINDOW (omega (arith, e, k))
 
-    finishes-at : (traffic : Option Traffic) (f : FlushModel) (old new : Life S) (out later : Output) → MatchOption traffic ⊥ (λ t. Finishes meaning group me f t old new out later) → IsCalm (WINDOW + 1) out later
+    finishes-at : (traffic : Option Traffic) (f : FlushModel) (old new : Life S) (out later : Output) → MatchOption traffic ⊥ (λ t. FinishesAndProposes meaning group me f t old new out later) → IsCalm (WINDOW + 2) out later
     finishes-at None f old new out later x = absurd x
     finishes-at (Some t) f old new out later x =
-        calm-grown group (WINDOW + 1) out later _ (finish_events me f t) x.grows (finishes-events f t) (quiet-then (map (delivery me (view_of t).id) (delivered_by f t)) _ (quiet-deliveries me (view_of t).id (delivered_by f t)) refl)
+        let quiet = quiet-then (map (delivery me (view_of t).id) (delivered_by f t)) _ (quiet-deliveries me (view_of t).id (delivered_by f t)) refl in
+        calm-then (WINDOW + 1) 1 out x.between later (calm-grown group (WINDOW + 1) out x.between _ (finish_events me f t) x.finishes.grows (finishes-events f t) quiet)
+        (begins-by (due_proposal (core_of me x.mid) x.mid.notes) x.mid new x.between later x.proposes)
 
     finishes-when : (b : Bool) (f : FlushModel) (old new : Life S) (out later : Output)
-        → MatchBool b (MatchOption old.traffic ⊥ (λ t. Finishes meaning group me f t old new out later)) (StaysAs old new out later) → IsCalm (WINDOW + 1) out later
+        → MatchBool b (MatchOption old.traffic ⊥ (λ t. FinishesAndProposes meaning group me f t old new out later)) (StaysAs old new out later) → IsCalm (WINDOW + 2) out later
     finishes-when true f old new out later x = finishes-at old.traffic f old new out later x
-    finishes-when false f old new out later x = stays (WINDOW + 1) old new out later x
+    finishes-when false f old new out later x = stays (WINDOW + 2) old new out later x
 
     finishes-by : (o : Option FlushModel) (old new : Life S) (out later : Output)
         → MatchOption o (StaysAs old new out later)
-        (λ f. MatchBool (is_complete f) (MatchOption old.traffic ⊥ (λ t. Finishes meaning group me f t old new out later)) (StaysAs old new out later)) → IsCalm (WINDOW + 1) out later
-    finishes-by None old new out later x = stays (WINDOW + 1) old new out later x
+        (λ f. MatchBool (is_complete f) (MatchOption old.traffic ⊥ (λ t. FinishesAndProposes meaning group me f t old new out later)) (StaysAs old new out later)) → IsCalm (WINDOW + 2) out later
+    finishes-by None old new out later x = stays (WINDOW + 2) old new out later x
     finishes-by (Some f) old new out later x = finishes-when (is_complete f) f old new out later x
 
     goes-on : (old new : Life S) (out later : Output) → GoesOn meaning group me old new out later → IsCalm (WINDOW + 2) out later
-    goes-on old new out later x =
-        calm-then (WINDOW + 1) 1 out x.between later (finishes-by old.flush old x.mid out x.between x.finishes) (begins-by (due_proposal (core_of me x.mid) x.mid.notes) x.mid new x.between later x.proposes)
+    goes-on old new out later x = finishes-by old.flush old new out later x
+
+    goes-on-by : (o : Option View) (old new : Life S) (out later : Output) → MatchOption o (StaysAs old new out later) (λ w. BeginsAndGoesOn meaning group me w old new out later) → IsCalm (WINDOW + 3) out later
+    goes-on-by None old new out later x = stays (WINDOW + 3) old new out later x
+    goes-on-by (Some w) old new out later x = calm-then 1 (WINDOW + 2) out x.between later (blocked _ old out x.between x.begins.grows) (goes-on x.mid new x.between later x.goes_on)
 
     pub regroups : (old new : Life S) (out later : Output) → Regroups meaning group me old new out later → IsCalm (WINDOW + 3) out later
-    regroups old new out later x =
-        calm-then 1 (WINDOW + 2) out x.between later (begins-by (due_proposal (core_of me old) old.notes) old x.mid out x.between x.proposes) (goes-on x.mid new x.between later x.goes_on)
+    regroups old new out later x = goes-on-by (due_proposal (core_of me old) old.notes) old new out later x
 
     takes-by : (a : OfferAnswer) (w : View) (old new : Life S) (out later : Output) → TakesBy a group me w old new out later → IsCalm (WINDOW + 3) out later
     takes-by Accept w old new out later x = calm-wider 1 (WINDOW + 3) out later (omega (arith)) (blocked _ old out later x.grows)
@@ -138,7 +143,8 @@ module _ {S : Type 0} (me : Address) (group : List ℕ) where
     takes-by Ignore w old new out later x = stays (WINDOW + 3) old new out later x
 
     behind : (counter : ℕ) (old new : Life S) (out later : Output) → TakesBehind meaning group me counter old new out later → IsCalm (WINDOW + 3) out later
-    behind counter old new out later x = calm-then 1 (WINDOW + 2) out x.between later (begins-by _ _ x.mid out x.between x.begins) (goes-on x.mid new x.between later x.goes_on)
+    behind counter old new out later x =
+        let heard = record old { notes = having_heard counter old.notes } in goes-on-by (anew_proposal me heard) heard new out later x
 
     enters-in : (traffic : Option Traffic) (i : wire.Install) → length i.items ≤ WINDOW → (length (enter_events me traffic i) ≤ WINDOW + 1) × (list_all is_quiet (enter_events me traffic i) ≡ true)
     enters-in None i few = (omega (arith), refl)
@@ -189,7 +195,7 @@ module _ {S : Type 0} (me : Address) (group : List ℕ) where
     redirect-calm c old new out later x = redirect-by (same_address c me) c old new out later x
 
     suspect-by : (b : Bool) (p : Address) (old new : Life S) (out later : Output) → MatchBool b (TakesSuspicion meaning group me p old new out later) (StaysAs old new out later) → IsCalm (WINDOW + 3) out later
-    suspect-by true p old new out later x = regroups _ new out later x
+    suspect-by true p old new out later x = regroups (record old { notes = suspecting p old.notes }) new out later x
     suspect-by false p old new out later x = stays (WINDOW + 3) old new out later x
 
     pub suspect-calm : (p : Address) (old new : Life S) (out later : Output) → OnSuspect meaning group me p old new out later → IsCalm (WINDOW + 3) out later
@@ -216,7 +222,7 @@ module _ {S : Type 0} (me : Address) (group : List ℕ) where
 
     report-by : (b d : Bool) (q : Address) (w : ViewId) (r : wire.Report) (old new : Life S) (out later : Output)
         → MatchBool b (TakesReport meaning group me q w r old new out later) (MatchBool d (SaysAgain q old new out later) (StaysAs old new out later)) → IsCalm (WINDOW + 3) out later
-    report-by true d q w r old new out later x = calm-wider (WINDOW + 2) (WINDOW + 3) out later (omega (arith)) (goes-on _ new out later x)
+    report-by true d q w r old new out later x = calm-wider (WINDOW + 2) (WINDOW + 3) out later (omega (arith)) (goes-on (record old { flush = option_map (recording q w r) old.flush }) new out later x)
     report-by false d q w r old new out later x = again-by d q old new out later x
 
     pub report-calm : (q : Address) (w : ViewId) (r : wire.Report) (old new : Life S) (out later : Output) → OnReport meaning group me q w r old new out later → IsCalm (WINDOW + 3) out later

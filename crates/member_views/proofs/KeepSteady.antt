@@ -1,6 +1,7 @@
 -- In a change of view a member keeps what it keeps of its view, or begins a view anew.
 use Rattle.std.proofs.Common.{◌≡◌, ℕ, Bool, true, false, Option, Some, None, List, ap, ◌∙◌, is_some, ◌&&◌, not}
 use Rattle.std.specs.Prelude.{MatchBool, MatchOption}
+use Rattle.std.specs.Option.{option_map}
 use Rattle.address.specs.Ids.{Address, ViewId, same_address}
 use Rattle.view.specs.Members.{View}
 use Rattle.wire.specs.Values as wire
@@ -15,8 +16,9 @@ use Rattle.output.specs.declared.output.Output.{Output}
 use Rattle.traffic.specs.declared.traffic.Traffic.{Traffic}
 use Rattle.traffic.specs.Traffics.{fresh_in}
 use Rattle.membership.specs.declared.life.Life.{Life}
-use Rattle.membership.specs.Lives.{core_of, is_complete}
-use Rattle.membership.specs.Changes.{StaysAs, TakesBy, TakesFlush, Begins, Finishes, GoesOn, Regroups, TakesReport, TakesBehind, TakesSuspicion, TakesInstall, Enters}
+use Rattle.candidates.specs.Notes.{having_heard, suspecting}
+use Rattle.membership.specs.Lives.{core_of, is_complete, recording, anew_proposal}
+use Rattle.membership.specs.Changes.{StaysAs, TakesBy, TakesFlush, Begins, BeginsAndGoesOn, FinishesAndProposes, GoesOn, Regroups, TakesReport, TakesBehind, TakesSuspicion, TakesInstall, Enters}
 use Rattle.member_views.specs.Views.{OnJoin, OnRedirect, OnSuspect, OnFlush, OnBehind, OnReport, OnMerge, Asks, Redirects, SaysAgain, Admits, Meets, AnnouncesView, outdated, joined, merged, leads_now, has_member, is_less, is_suspectable, is_proposing, expects, is_in}
 
 pub data Steady {S : Type 0} (me : Address) (old new : Life S) : Type 0 where
@@ -40,28 +42,31 @@ module _ {S : Type 0} (me : Address) where
     begins-by None old new out later x = stays old new out later x
     begins-by (Some w) old new out later x = begins w old new out later x
 
-    finishes-at : (traffic : Option Traffic) (f : FlushModel) (old new : Life S) (out later : Output) → MatchOption traffic ⊥ (λ t. Finishes meaning group me f t old new out later) → Steady me old new
+    finishes-at : (traffic : Option Traffic) (f : FlushModel) (old new : Life S) (out later : Output) → MatchOption traffic ⊥ (λ t. FinishesAndProposes meaning group me f t old new out later) → Steady me old new
     finishes-at None f old new out later x = absurd x
-    finishes-at (Some t) f old new out later x = Fresh (proposed f) (ap (λ (l : Life S). l.traffic) x.life)
+    finishes-at (Some t) f old new out later x =
+        steady-then old x.mid new (Fresh (proposed f) (ap (λ (l : Life S). l.traffic) x.finishes.life)) (begins-by (due_proposal (core_of me x.mid) x.mid.notes) x.mid new x.between later x.proposes)
 
     finishes-when : (b : Bool) (f : FlushModel) (old new : Life S) (out later : Output)
-        → MatchBool b (MatchOption old.traffic ⊥ (λ t. Finishes meaning group me f t old new out later)) (StaysAs old new out later) → Steady me old new
+        → MatchBool b (MatchOption old.traffic ⊥ (λ t. FinishesAndProposes meaning group me f t old new out later)) (StaysAs old new out later) → Steady me old new
     finishes-when true f old new out later x = finishes-at old.traffic f old new out later x
     finishes-when false f old new out later x = stays old new out later x
 
     finishes-by : (o : Option FlushModel) (old new : Life S) (out later : Output)
         → MatchOption o (StaysAs old new out later)
-        (λ f. MatchBool (is_complete f) (MatchOption old.traffic ⊥ (λ t. Finishes meaning group me f t old new out later)) (StaysAs old new out later)) → Steady me old new
+        (λ f. MatchBool (is_complete f) (MatchOption old.traffic ⊥ (λ t. FinishesAndProposes meaning group me f t old new out later)) (StaysAs old new out later)) → Steady me old new
     finishes-by None old new out later x = stays old new out later x
     finishes-by (Some f) old new out later x = finishes-when (is_complete f) f old new out later x
 
     goes-on : (old new : Life S) (out later : Output) → GoesOn meaning group me old new out later → Steady me old new
-    goes-on old new out later x =
-        steady-then old x.mid new (finishes-by old.flush old x.mid out x.between x.finishes) (begins-by (due_proposal (core_of me x.mid) x.mid.notes) x.mid new x.between later x.proposes)
+    goes-on old new out later x = finishes-by old.flush old new out later x
+
+    goes-on-by : (o : Option View) (old new : Life S) (out later : Output) → MatchOption o (StaysAs old new out later) (λ w. BeginsAndGoesOn meaning group me w old new out later) → Steady me old new
+    goes-on-by None old new out later x = stays old new out later x
+    goes-on-by (Some w) old new out later x = steady-then old x.mid new (begins w old x.mid out x.between x.begins) (goes-on x.mid new x.between later x.goes_on)
 
     pub regroups : (old new : Life S) (out later : Output) → Regroups meaning group me old new out later → Steady me old new
-    regroups old new out later x =
-        steady-then old x.mid new (begins-by (due_proposal (core_of me old) old.notes) old x.mid out x.between x.proposes) (goes-on x.mid new x.between later x.goes_on)
+    regroups old new out later x = goes-on-by (due_proposal (core_of me old) old.notes) old new out later x
 
     -- from a life that keeps the same of its view
     from : (old mid new : Life S) → mid.traffic ≡ old.traffic → Steady me mid new → Steady me old new
@@ -74,7 +79,7 @@ module _ {S : Type 0} (me : Address) where
 
     behind : (counter : ℕ) (old new : Life S) (out later : Output) → TakesBehind meaning group me counter old new out later → Steady me old new
     behind counter old new out later x =
-        steady-then old x.mid new (from old _ x.mid (λ i. old.traffic) (begins-by _ _ x.mid out x.between x.begins)) (goes-on x.mid new x.between later x.goes_on)
+        let heard = record old { notes = having_heard counter old.notes } in from old heard new (λ i. old.traffic) (goes-on-by (anew_proposal me heard) heard new out later x)
 
     entry-by : (b : Bool) (A : Type 0) (i : wire.Install) (old new : Life S) (out later : Output)
         → MatchBool b (A × Enters meaning group me old.traffic i old new out later) (StaysAs old new out later) → Steady me old new
@@ -115,7 +120,8 @@ module _ {S : Type 0} (me : Address) where
     redirect-steady c old new out later x = redirect-by (same_address c me) c old new out later x
 
     suspect-by : (b : Bool) (p : Address) (old new : Life S) (out later : Output) → MatchBool b (TakesSuspicion meaning group me p old new out later) (StaysAs old new out later) → Steady me old new
-    suspect-by true p old new out later x = from old _ new (λ i. old.traffic) (regroups _ new out later x)
+    suspect-by true p old new out later x =
+        let noted = record old { notes = suspecting p old.notes } in from old noted new (λ i. old.traffic) (regroups noted new out later x)
     suspect-by false p old new out later x = stays old new out later x
 
     pub suspect-steady : (p : Address) (old new : Life S) (out later : Output) → OnSuspect meaning group me p old new out later → Steady me old new
@@ -142,7 +148,8 @@ module _ {S : Type 0} (me : Address) where
 
     report-by : (b d : Bool) (q : Address) (w : ViewId) (r : wire.Report) (old new : Life S) (out later : Output)
         → MatchBool b (TakesReport meaning group me q w r old new out later) (MatchBool d (SaysAgain q old new out later) (StaysAs old new out later)) → Steady me old new
-    report-by true d q w r old new out later x = from old _ new (λ i. old.traffic) (goes-on _ new out later x)
+    report-by true d q w r old new out later x =
+        let recorded = record old { flush = option_map (recording q w r) old.flush } in from old recorded new (λ i. old.traffic) (goes-on recorded new out later x)
     report-by false d q w r old new out later x = again-by d q old new out later x
 
     pub report-steady : (q : Address) (w : ViewId) (r : wire.Report) (old new : Life S) (out later : Output) → OnReport meaning group me q w r old new out later → Steady me old new

@@ -36,7 +36,7 @@ use Rattle.traffic.proofs.FactOfNewView.{fresh-is, fresh-view}
 use Rattle.membership.specs.declared.life.Life.{Life}
 use Rattle.membership.specs.Lives.{core_of, view_in, traffic_in, kept_in, is_connected, report_in, blocked_by, recording, is_complete, is_kept_for, anew_proposal, install_packet, IsLife}
 use Rattle.membership.specs.Installs.{instructing, finished_state, finish_packets, finish_events, state_by, enter_events}
-use Rattle.membership.specs.Changes.{StaysAs, TakesBy, TakesFlush, Begins, ProposesIf, BeginsAnew, Finishes, FinishesIf, GoesOn, Regroups, TakesReport, InstallsAgain, TakesBehind, TakesSuspicion, Enters, TakesInstall}
+use Rattle.membership.specs.Changes.{StaysAs, TakesBy, TakesFlush, Begins, ProposesIf, BeginsAnew, BeginsAndGoesOn, Finishes, FinishesAndProposes, GoesOn, Regroups, TakesReport, InstallsAgain, TakesBehind, TakesSuspicion, Enters, TakesInstall}
 use Rattle.membership.specs.Doing.{Did}
 use Rattle.membership.proofs.ActsInTurn.{nothing-did, stays-did, did-then, noted-did}
 use Rattle.membership.proofs.FactOfKept.{kept-are, IsAgain, again-in}
@@ -120,24 +120,6 @@ module _ {S : Type 0} (meaning : Meaning S) (group : List ℕ) (me : Address) wh
       (λ s. stays-did meaning came group me old new out later s.0 s.1)
       (λ w e b. begins-did came old new w out later kept (due-is-proposal group me old w kept e) b)
 
-  pub begins-anew-did : (came : Option Posted) (old new : Life S) (out later : Output) → IsLife group me old → BeginsAnew group me old new out later → DidThis came old new out later
-  begins-anew-did came old new out later kept x =
-      match-option (anew_proposal me old) (StaysAs old new out later) (λ w. Begins group me w old new out later) x
-      (λ s. stays-did meaning came group me old new out later s.0 s.1)
-      (λ w e b. begins-did came old new w out later kept (anew-is-proposal group me old w kept e) b)
-
-  pub proposes-life : (old new : Life S) (out later : Output) → IsLife group me old → ProposesIf group me old new out later → IsLife group me new
-  proposes-life old new out later kept x =
-      match-option (due_proposal (core_of me old) old.notes) (StaysAs old new out later) (λ w. Begins group me w old new out later) x
-      (λ s. subst (λ (z : Life S). IsLife group me z) (sym s.0) kept)
-      (λ w e b. begun-life group me old new w out later kept (due-is-proposal group me old w kept e) b)
-
-  pub begins-anew-life : (old new : Life S) (out later : Output) → IsLife group me old → BeginsAnew group me old new out later → IsLife group me new
-  begins-anew-life old new out later kept x =
-      match-option (anew_proposal me old) (StaysAs old new out later) (λ w. Begins group me w old new out later) x
-      (λ s. subst (λ (z : Life S). IsLife group me z) (sym s.0) kept)
-      (λ w e b. begun-life group me old new w out later kept (anew-is-proposal group me old w kept e) b)
-
   -- ---- a flush is finished
 
   -- a member whose flush and view are these
@@ -174,33 +156,41 @@ module _ {S : Type 0} (meaning : Meaning S) (group : List ℕ) (me : Address) wh
       subst (λ (l : Life S). DidThis came l new out later) (sym same) (finished-at came f t old new out later kept flush complete z)
 
   -- whether it finishes or not
-  finishes-either : {P : Type 0} (old new : Life S) (out later : Output) → FinishesIf meaning group me old new out later → (StaysAs old new out later → P)
-      → ((f : FlushModel) (t : Traffic) → old.flush ≡ Some f → old.traffic ≡ Some t → is_complete f ≡ true → Finishes meaning group me f t old new out later → P) → P
+  pub finishes-either : {P : Type 0} (old new : Life S) (out later : Output) → GoesOn meaning group me old new out later → (StaysAs old new out later → P)
+      → ((f : FlushModel) (t : Traffic) → old.flush ≡ Some f → old.traffic ≡ Some t → is_complete f ≡ true → FinishesAndProposes meaning group me f t old new out later → P) → P
   finishes-either old new out later x stays finishes =
-      match-option old.flush (StaysAs old new out later) (λ f. MatchBool (is_complete f) (MatchOption old.traffic ⊥ (λ t. Finishes meaning group me f t old new out later)) (StaysAs old new out later)) x stays
-      (λ f flush y. match-bool (is_complete f) (MatchOption old.traffic ⊥ (λ t. Finishes meaning group me f t old new out later)) (StaysAs old new out later) y
-      (λ complete z. match-option old.traffic ⊥ (λ t. Finishes meaning group me f t old new out later) z (λ none. absurd none) (λ t inside done. finishes f t flush inside complete done))
+      match-option old.flush (StaysAs old new out later)
+      (λ f. MatchBool (is_complete f) (MatchOption old.traffic ⊥ (λ t. FinishesAndProposes meaning group me f t old new out later)) (StaysAs old new out later)) x stays
+      (λ f flush y. match-bool (is_complete f) (MatchOption old.traffic ⊥ (λ t. FinishesAndProposes meaning group me f t old new out later)) (StaysAs old new out later) y
+      (λ complete z. match-option old.traffic ⊥ (λ t. FinishesAndProposes meaning group me f t old new out later) z (λ none. absurd none) (λ t inside done. finishes f t flush inside complete done))
       (λ waits s. stays s))
-
-  pub finishes-did : (came : Option Posted) (old new : Life S) (out later : Output) → IsLife group me old → FinishesIf meaning group me old new out later → DidThis came old new out later
-  finishes-did came old new out later kept x =
-      finishes-either old new out later x (λ s. stays-did meaning came group me old new out later s.0 s.1)
-      (λ f t flush inside complete z. finished-did came f t old new out later kept flush inside complete z)
-
-  pub finishes-life : (old new : Life S) (out later : Output) → IsLife group me old → FinishesIf meaning group me old new out later → IsLife group me new
-  finishes-life old new out later kept x =
-      finishes-either old new out later x (λ s. subst (λ (z : Life S). IsLife group me z) (sym s.0) kept)
-      (λ f t flush inside complete z. finished-life group me meaning f t old old new out later kept flush refl z)
 
   pub goes-on-did : (came : Option Posted) (old new : Life S) (out later : Output) → IsLife group me old → GoesOn meaning group me old new out later → DidThis came old new out later
   goes-on-did came old new out later kept x =
-      did-then meaning came group me old x.mid new out x.between later (finishes-did came old x.mid out x.between kept x.finishes)
-      (proposes-did came x.mid new x.between later (finishes-life old x.mid out x.between kept x.finishes) x.proposes)
+      finishes-either old new out later x (λ s. stays-did meaning came group me old new out later s.0 s.1)
+      (λ f t flush inside complete z.
+      did-then meaning came group me old z.mid new out z.between later (finished-did came f t old z.mid out z.between kept flush inside complete z.finishes)
+      (proposes-did came z.mid new z.between later (finished-life group me meaning f t old old z.mid out z.between kept flush refl z.finishes) z.proposes))
+
+  -- ---- it begins, and goes on
+
+  begins-on-did : (came : Option Posted) (old new : Life S) (w : View) (out later : Output) → IsLife group me old → IsProposal me old w → BeginsAndGoesOn meaning group me w old new out later
+      → DidThis came old new out later
+  begins-on-did came old new w out later kept p x =
+      did-then meaning came group me old x.mid new out x.between later (begins-did came old x.mid w out x.between kept p x.begins)
+      (goes-on-did came x.mid new x.between later (begun-life group me old x.mid w out x.between kept p x.begins) x.goes_on)
 
   pub regroups-did : (came : Option Posted) (old new : Life S) (out later : Output) → IsLife group me old → Regroups meaning group me old new out later → DidThis came old new out later
   regroups-did came old new out later kept x =
-      did-then meaning came group me old x.mid new out x.between later (proposes-did came old x.mid out x.between kept x.proposes)
-      (goes-on-did came x.mid new x.between later (proposes-life old x.mid out x.between kept x.proposes) x.goes_on)
+      match-option (due_proposal (core_of me old) old.notes) (StaysAs old new out later) (λ w. BeginsAndGoesOn meaning group me w old new out later) x
+      (λ s. stays-did meaning came group me old new out later s.0 s.1)
+      (λ w e b. begins-on-did came old new w out later kept (due-is-proposal group me old w kept e) b)
+
+  pub begins-anew-did : (came : Option Posted) (old new : Life S) (out later : Output) → IsLife group me old → BeginsAnew meaning group me old new out later → DidThis came old new out later
+  begins-anew-did came old new out later kept x =
+      match-option (anew_proposal me old) (StaysAs old new out later) (λ w. BeginsAndGoesOn meaning group me w old new out later) x
+      (λ s. stays-did meaning came group me old new out later s.0 s.1)
+      (λ w e b. begins-on-did came old new w out later kept (anew-is-proposal group me old w kept e) b)
 
   -- ---- a REPORT
 
@@ -275,8 +265,7 @@ module _ {S : Type 0} (meaning : Meaning S) (group : List ℕ) (me : Address) wh
       let heard = record old { notes = having_heard counter old.notes } in
       let life = heard-life group me old heard counter kept refl in
       did-then meaning came group me old heard new out out later (noted-did meaning came group me old heard (having_heard counter old.notes) out refl)
-      (did-then meaning came group me heard x.mid new out x.between later (begins-anew-did came heard x.mid out x.between life x.begins)
-      (goes-on-did came x.mid new x.between later (begins-anew-life heard x.mid out x.between life x.begins) x.goes_on))
+      (begins-anew-did came heard new out later life x)
 
   pub takes-suspicion-did : (came : Option Posted) (old new : Life S) (p : Address) (out later : Output) → IsLife group me old → TakesSuspicion meaning group me p old new out later
       → same_address p me ≡ false → DidThis came old new out later

@@ -1,6 +1,6 @@
 -- What always holds of a member goes on to hold, whatever it does in a change of view.
 use Rattle.std.proofs.Common.{◌≡◌, ℕ, Bool, true, false, cond, not, ◌&&◌, ◌||◌, Option, Some, None, List, [], ◌∷◌, ◌++◌, map, refl, sym, ap, ◌∙◌, subst, is_some}
-use Rattle.std.specs.Prelude.{IsSome}
+use Rattle.std.specs.Prelude.{IsSome, MatchOption, MatchBool}
 use Rattle.std.specs.Option.{option_map, option_map_or}
 use Rattle.std.specs.List.{AllByRecursion}
 use Rattle.std.specs.Cmp.Lexicographic.{pointwise}
@@ -26,9 +26,9 @@ use Rattle.traffic.specs.declared.traffic.Traffic.{Traffic}
 use Rattle.traffic.specs.Traffics.{view_of, fresh_in}
 use Rattle.traffic.proofs.FactOfNewView.{fresh-view}
 use Rattle.membership.specs.declared.life.Life.{Life}
-use Rattle.membership.specs.Lives.{core_of, view_in, traffic_in, is_connected, report_in, begun_with, recording, leads_in, idle_life, install_packet, IsFlushing, IsKept, IsLife}
+use Rattle.membership.specs.Lives.{core_of, view_in, traffic_in, is_connected, report_in, begun_with, recording, is_complete, leads_in, idle_life, install_packet, IsFlushing, IsKept, IsLife}
 use Rattle.membership.specs.Installs.{instruction_to, instructing, finished_state}
-use Rattle.membership.specs.Changes.{Promises, Begins, Finishes, Enters}
+use Rattle.membership.specs.Changes.{StaysAs, Promises, Begins, ProposesIf, Finishes, FinishesAndProposes, GoesOn, Enters}
 use Rattle.membership.proofs.FactOfProposed.{IsProposal, creator-stands}
 
 -- ---- small things
@@ -235,6 +235,19 @@ module _ {S : Type 0} (group : List ℕ) (me : Address) where
         sound = subst (λ ps. AllByRecursion (λ m. IsPacket (packet_in group m)) ps) (sym same_packets) z.grows.sound;
         current = all-current f (view_of t).id state (others_of me f.members) (view_in new.traffic) (ap view_in traffic ∙ ap Some (fresh-view me (proposed f)));
       })
+
+  -- all have reported: it goes into its own proposal, and proposes what is due then
+  pub goes-on : (meaning : Meaning S) (old mid new : Life S) (f : FlushModel) (t : Traffic) (out between later : Output) → old.flush ≡ Some f → old.traffic ≡ Some t
+      → option_map_or is_complete old.flush false ≡ true → Finishes meaning group me f t old mid out between → ProposesIf group me mid new between later → GoesOn meaning group me old new out later
+  goes-on meaning old mid new f t out between later flush traffic complete finishes proposes =
+      let all : is_complete f ≡ true = subst (λ (o : Option FlushModel). option_map_or is_complete o false ≡ true) flush complete in
+      let then : FinishesAndProposes meaning group me f t old new out later = record { mid = mid; between = between; finishes = finishes; proposes = proposes } in
+      let inside : MatchOption old.traffic ⊥ (λ u. FinishesAndProposes meaning group me f u old new out later) =
+      subst (λ (o : Option Traffic). MatchOption o ⊥ (λ u. FinishesAndProposes meaning group me f u old new out later)) (sym traffic) then in
+      let done : MatchBool (is_complete f) (MatchOption old.traffic ⊥ (λ u. FinishesAndProposes meaning group me f u old new out later)) (StaysAs old new out later) =
+      subst (λ (b : Bool). MatchBool b (MatchOption old.traffic ⊥ (λ u. FinishesAndProposes meaning group me f u old new out later)) (StaysAs old new out later)) (sym all) inside in
+      subst (λ (o : Option FlushModel). MatchOption o (StaysAs old new out later)
+      (λ g. MatchBool (is_complete g) (MatchOption old.traffic ⊥ (λ u. FinishesAndProposes meaning group me g u old new out later)) (StaysAs old new out later))) (sym flush) done
 
   -- it enters the view of another
   pub entered-life : (meaning : Meaning S) (q : Address) (i : wire.Install) (traffic : Option Traffic) (l old new : Life S) (out later : Output)

@@ -63,10 +63,6 @@ abbrev pub ProposesIf : {S : Type 0} → List ℕ → Address → Life S → Lif
 ProposesIf group me old new out later =
     MatchOption (due_proposal (core_of me old) old.notes) (StaysAs old new out later) (λ w. Begins group me w old new out later)
 
--- it proposes its candidates anew, where the counters are not used up
-abbrev pub BeginsAnew : {S : Type 0} → List ℕ → Address → Life S → Life S → Output → Output → Type 0
-BeginsAnew group me old new out later = MatchOption (anew_proposal me old) (StaysAs old new out later) (λ w. Begins group me w old new out later)
-
 -- it goes into its own proposal: it is delivered what it lacks of its view's cut, and says to each other of the list how to go into the view, with its
 -- state for those who come from another view; what it said is kept
 pub record Finishes {S : Type 0} (meaning : Meaning S) (group : List ℕ) (me : Address) (f : FlushModel) (t : Traffic) (old new : Life S)
@@ -83,25 +79,31 @@ pub record Finishes {S : Type 0} (meaning : Meaning S) (group : List ℕ) (me : 
   pub kept : new.kept.items ≡ map (spelled group) (finish_packets me f t (meaning.encode (finished_state meaning f t old.receiver)))
   pub grows : Grows group out later (finish_packets me f t (meaning.encode (finished_state meaning f t old.receiver))) (finish_events me f t)
 
--- where all have reported it goes into its own proposal
-abbrev pub FinishesIf : {S : Type 0} → Meaning S → List ℕ → Address → Life S → Life S → Output → Output → Type 0
-FinishesIf meaning group me old new out later =
-    MatchOption old.flush (StaysAs old new out later)
-    (λ f. MatchBool (is_complete f) (MatchOption old.traffic ⊥ (λ t. Finishes meaning group me f t old new out later)) (StaysAs old new out later))
-
--- it finishes where all have reported, and proposes what is due then
-pub record GoesOn {S : Type 0} (meaning : Meaning S) (group : List ℕ) (me : Address) (old new : Life S) (out later : Output) : Type 0 where
+-- it goes into its own proposal, and proposes what is due then
+pub record FinishesAndProposes {S : Type 0} (meaning : Meaning S) (group : List ℕ) (me : Address) (f : FlushModel) (t : Traffic) (old new : Life S)
+    (out later : Output) : Type 0 where
   pub mid : Life S
   pub between : Output
-  pub finishes : FinishesIf meaning group me old mid out between
+  pub finishes : Finishes meaning group me f t old mid out between
   pub proposes : ProposesIf group me mid new between later
 
--- it proposes what is due; alone in the list it finishes, and proposes what is due then
-pub record Regroups {S : Type 0} (meaning : Meaning S) (group : List ℕ) (me : Address) (old new : Life S) (out later : Output) : Type 0 where
+-- where all have reported it goes into its own proposal, and proposes what is due then; else it waits on
+abbrev pub GoesOn : {S : Type 0} → Meaning S → List ℕ → Address → Life S → Life S → Output → Output → Type 0
+GoesOn meaning group me old new out later =
+    MatchOption old.flush (StaysAs old new out later)
+    (λ f. MatchBool (is_complete f) (MatchOption old.traffic ⊥ (λ t. FinishesAndProposes meaning group me f t old new out later)) (StaysAs old new out later))
+
+-- it proposes, and alone in the list it goes on at once
+pub record BeginsAndGoesOn {S : Type 0} (meaning : Meaning S) (group : List ℕ) (me : Address) (w : View) (old new : Life S) (out later : Output) : Type 0 where
   pub mid : Life S
   pub between : Output
-  pub proposes : ProposesIf group me old mid out between
+  pub begins : Begins group me w old mid out between
   pub goes_on : GoesOn meaning group me mid new between later
+
+-- it begins what is due, and nothing where nothing is
+abbrev pub Regroups : {S : Type 0} → Meaning S → List ℕ → Address → Life S → Life S → Output → Output → Type 0
+Regroups meaning group me old new out later =
+    MatchOption (due_proposal (core_of me old) old.notes) (StaysAs old new out later) (λ w. BeginsAndGoesOn meaning group me w old new out later)
 
 -- ---- a REPORT
 
@@ -117,12 +119,14 @@ pub record InstallsAgain {S : Type 0} (q : Address) (l : Life S) (out later : Ou
 
 -- ---- a BEHIND
 
--- it has heard of the counter, begins anew, and goes on
-pub record TakesBehind {S : Type 0} (meaning : Meaning S) (group : List ℕ) (me : Address) (counter : ℕ) (old new : Life S) (out later : Output) : Type 0 where
-  pub mid : Life S
-  pub between : Output
-  pub begins : BeginsAnew group me (record old { notes = having_heard counter old.notes }) mid out between
-  pub goes_on : GoesOn meaning group me mid new between later
+-- it begins with its candidates anew, where the counters are not used up
+abbrev pub BeginsAnew : {S : Type 0} → Meaning S → List ℕ → Address → Life S → Life S → Output → Output → Type 0
+BeginsAnew meaning group me old new out later =
+    MatchOption (anew_proposal me old) (StaysAs old new out later) (λ w. BeginsAndGoesOn meaning group me w old new out later)
+
+-- it has heard of the counter, and begins anew
+abbrev pub TakesBehind : {S : Type 0} → Meaning S → List ℕ → Address → ℕ → Life S → Life S → Output → Output → Type 0
+TakesBehind meaning group me counter old new out later = BeginsAnew meaning group me (record old { notes = having_heard counter old.notes }) new out later
 
 -- ---- a suspicion
 

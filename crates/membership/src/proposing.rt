@@ -4,7 +4,7 @@ ghost use Rattle.std.specs.Prelude.{◌≡◌, OnOk, IfOk, None, true, MatchOpti
 ghost use Rattle.std.specs.Option.{option_map_or, option_and_then};
 ghost use Rattle.member_acts.specs.Decisions.{promised_counter, is_due, proposal_after, due_at, due_proposal};
 ghost use Rattle.membership.specs.Lives.{core_of, IsLife, leads_in, anew_proposal};
-ghost use Rattle.membership.specs.Changes.{ProposesIf, BeginsAnew};
+ghost use Rattle.membership.specs.Changes.{ProposesIf, Regroups, BeginsAnew};
 
 use crate::Life;
 use address::ViewId;
@@ -88,7 +88,7 @@ impl<R: Receiver> Life<R> {
         }
     }
 
-    // Begins what is due, if anything is.
+    // Begins what is due after an install, if anything is. Its list has another member then, so it is not alone in it.
     pub(crate) fn propose(&mut self, who: &Identity, out: &mut Output) -> Result<(), AllocError>
         requires life { IsLife who.now.group who.now.address self.old }
         ensures life { OnOk result (IsLife who.now.group who.now.address self.new) }
@@ -98,6 +98,23 @@ impl<R: Receiver> Life<R> {
             None => Ok(()),
             Some(proposal) => {
                 self.begin(who, &proposal, out)?;
+                Ok(())
+            }
+        }
+    }
+
+    /// Begins what is due, if anything is; alone in the list it finishes at once, and begins again what is due then. After an error for want of memory nothing
+    /// is said of the member.
+    pub fn regroup(&mut self, who: &Identity, out: &mut Output) -> Result<(), AllocError>
+        requires life { IsLife who.now.group who.now.address self.old }
+        ensures life { OnOk result (IsLife who.now.group who.now.address self.new) }
+        ensures regroups { OnOk result (Regroups R.meaning who.now.group who.now.address self.old self.new out.old out.new) }
+    {
+        match self.due(who)? {
+            None => Ok(()),
+            Some(proposal) => {
+                self.begin(who, &proposal, out)?;
+                self.go_on(who, out)?;
                 Ok(())
             }
         }
@@ -120,16 +137,17 @@ impl<R: Receiver> Life<R> {
         }
     }
 
-    // Begins its own flush anew, with its candidates, where the counters are not used up.
+    // Begins its own flush anew, with its candidates, where the counters are not used up; alone in the list it goes on at once.
     pub(crate) fn begin_anew(&mut self, who: &Identity, out: &mut Output) -> Result<(), AllocError>
         requires life { IsLife who.now.group who.now.address self.old }
         ensures life { OnOk result (IsLife who.now.group who.now.address self.new) }
-        ensures begins { OnOk result (BeginsAnew who.now.group who.now.address self.old self.new out.old out.new) }
+        ensures begins { OnOk result (BeginsAnew R.meaning who.now.group who.now.address self.old self.new out.old out.new) }
     {
         match self.anew(who)? {
             None => Ok(()),
             Some(proposal) => {
                 self.begin(who, &proposal, out)?;
+                self.go_on(who, out)?;
                 Ok(())
             }
         }

@@ -3,7 +3,7 @@
 ghost use Rattle.std.specs.Prelude.{◌≡◌, OnOk, true, false, Some};
 ghost use Rattle.std.specs.Option.{option_map, option_map_or};
 ghost use Rattle.membership.specs.Lives.{IsLife, is_complete, is_expected, recording};
-ghost use Rattle.membership.specs.Changes.{Finishes, FinishesIf, GoesOn, Regroups, TakesReport};
+ghost use Rattle.membership.specs.Changes.{Finishes, GoesOn, TakesReport};
 
 use crate::Life;
 use address::{Address, ViewId};
@@ -98,11 +98,11 @@ impl<R: Receiver> Life<R> {
         Ok(())
     }
 
-    // Goes into its own proposal, if all have reported.
-    pub(crate) fn finish(&mut self, who: &Identity, out: &mut Output) -> Result<(), AllocError>
+    // Goes into its own proposal, if all have reported, and begins what is due then.
+    pub(crate) fn go_on(&mut self, who: &Identity, out: &mut Output) -> Result<(), AllocError>
         requires life { IsLife who.now.group who.now.address self.old }
         ensures life { OnOk result (IsLife who.now.group who.now.address self.new) }
-        ensures finishes { OnOk result (FinishesIf R.meaning who.now.group who.now.address self.old self.new out.old out.new) }
+        ensures goes_on { OnOk result (GoesOn R.meaning who.now.group who.now.address self.old self.new out.old out.new) }
     {
         if !self.is_complete() {
             return Ok(());
@@ -110,16 +110,6 @@ impl<R: Receiver> Life<R> {
         let flush = self.flush.take().unwrap();
         let traffic = self.traffic.take().unwrap();
         self.complete(who, flush, traffic, out)?;
-        Ok(())
-    }
-
-    // Goes into its own proposal, if all have reported, and begins what is due then.
-    pub(crate) fn go_on(&mut self, who: &Identity, out: &mut Output) -> Result<(), AllocError>
-        requires life { IsLife who.now.group who.now.address self.old }
-        ensures life { OnOk result (IsLife who.now.group who.now.address self.new) }
-        ensures goes_on { OnOk result (GoesOn R.meaning who.now.group who.now.address self.old self.new out.old out.new) }
-    {
-        self.finish(who, out)?;
         self.propose(who, out)?;
         Ok(())
     }
@@ -139,18 +129,6 @@ impl<R: Receiver> Life<R> {
         ensures takes { OnOk result (TakesReport R.meaning who.now.group who.now.address source proposal report.now self.old self.new out.old out.new) }
     {
         self.record(source, proposal, report)?;
-        self.go_on(who, out)?;
-        Ok(())
-    }
-
-    /// Begins what is due. Alone in the list it finishes, and begins again what is due then. After an error for want of memory nothing is said of
-    /// the member.
-    pub fn regroup(&mut self, who: &Identity, out: &mut Output) -> Result<(), AllocError>
-        requires life { IsLife who.now.group who.now.address self.old }
-        ensures life { OnOk result (IsLife who.now.group who.now.address self.new) }
-        ensures regroups { OnOk result (Regroups R.meaning who.now.group who.now.address self.old self.new out.old out.new) }
-    {
-        self.propose(who, out)?;
         self.go_on(who, out)?;
         Ok(())
     }

@@ -77,7 +77,6 @@ impl<R: Receiver> Life<R> {
     {
         self.notes.hear(counter.get());
         self.begin_anew(who, out)?;
-        self.go_on(who, out)?;
         Ok(())
     }
 

@@ -9,7 +9,13 @@ begin-requires-clause-greater g c = (anew-is-proposal c.args.who.now.group c.arg
 pub begin-requires-clause-listed : goal.begin-requires-clause-listed
 begin-requires-clause-listed g c = (anew-is-proposal c.args.who.now.group c.args.who.now.address c.args.self.now c.in-Some.proposal c.requires.life (sym c.in_ok-anew.ensures ∙ c.in-Some.is)).listed
 
-pub returns-in_ok-begin-in-Some-clause-life : goal.returns-in_ok-begin-in-Some-clause-life
-returns-in_ok-begin-in-Some-clause-life g c =
-    begun-life c.args.who.now.group c.args.who.now.address c.args.self.now c.begin.new.self c.in-Some.proposal c.args.out.now c.begin.new.out c.requires.life
-    (anew-is-proposal c.args.who.now.group c.args.who.now.address c.args.self.now c.in-Some.proposal c.requires.life (sym c.in_ok-anew.ensures ∙ c.in-Some.is)) c.in_ok-begin-in-Some.ensures
+pub go_on-requires : goal.go_on-requires
+go_on-requires g c = record {
+  life = begun-life c.args.who.now.group c.args.who.now.address c.args.self.now c.begin.new.self c.in-Some.proposal c.args.out.now c.begin.new.out c.requires.life
+      (anew-is-proposal c.args.who.now.group c.args.who.now.address c.args.self.now c.in-Some.proposal c.requires.life (sym c.in_ok-anew.ensures ∙ c.in-Some.is)) c.in_ok-begin-in-Some.ensures;
+}
+
+pub returns-in_ok-go_on-in-Some-clause-begins : goal.returns-in_ok-go_on-in-Some-clause-begins
+returns-in_ok-go_on-in-Some-clause-begins g c =
+    rw (sym c.in_ok-anew.ensures ∙ c.in-Some.is)
+    (record { mid = c.begin.new.self; between = c.begin.new.out; begins = c.in_ok-begin-in-Some.ensures; goes_on = c.in_ok-go_on-in-Some.ensures.goes_on })

@@ -10,10 +10,6 @@ begin_anew-requires g c = record {
 }
 
 pub returns-clause-takes : goal.returns-clause-takes
-returns-clause-takes g c = record {
-  mid = c.begin_anew.new.self;
-  between = c.begin_anew.new.out;
-  begins = subst (λ (b : NotesModel). BeginsAnew c.args.who.now.group c.args.who.now.address (record c.args.self.now { notes = b }) c.begin_anew.new.self c.args.out.now c.begin_anew.new.out)
-      (search rules) c.in_ok-begin_anew.ensures.begins;
-  goes_on = c.in_ok-go_on.ensures.goes_on;
-}
+returns-clause-takes g c =
+    subst (λ (b : NotesModel). BeginsAnew g.R.Receiver.meaning c.args.who.now.group c.args.who.now.address (record c.args.self.now { notes = b }) c.begin_anew.new.self c.args.out.now c.begin_anew.new.out)
+    (search rules) c.in_ok-begin_anew.ensures.begins
