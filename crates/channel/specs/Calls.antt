@@ -1,16 +1,19 @@
 -- What a call does: it is one call of its member's `handle`, whose packets and events stand behind those that wait.
 use Rattle.std.specs.Prelude.{◌≡◌, ℕ, List, [], ◌++◌, Option, None, Some, Result, Ok, Err, Vec, MatchBool, MatchResult}
 use Rattle.std.specs.Borrow.{Bor}
+use Rattle.std.specs.Option.{IsSomeAnd}
 use Rattle.limits.specs.declared.refusal.Refusal.TheVariants.{NotConnected, AlreadyConnected, Closed, Memory, BadName}
 use Rattle.state_transfer.specs.Meanings.{Meaning}
 use Rattle.address.specs.Ids.{Address}
 use Rattle.wire.specs.Names.{is_group_name}
-use Rattle.agreement.specs.Cores.{idle}
+use Rattle.agreement.specs.Cores as cores
+use Rattle.membership.specs.Lives.{idle_life}
 use Rattle.output.specs.declared.output.Output.{Output}
 use Rattle.output.specs.Outputs.{Puts}
 use Rattle.member.specs.declared.error.Error.{Error}
 use Rattle.member.specs.declared.error.Error.TheVariants.{Refused}
 use Rattle.member.specs.declared.input.Input.{Input}
+use Rattle.member.specs.Running.{IsAlive}
 use Rattle.member.specs.Members.{MemberModel, core_of}
 use Rattle.member.specs.Handling.{Handled}
 use Rattle.member.specs.Watching.{watched}
@@ -73,11 +76,13 @@ pub record CallsLent {S : Type 0} (meaning : Meaning S) (input : Bor (List ℕ) 
 
 -- ---- a connect
 
--- a member that has just started
+-- a member that has just started: idle, with nothing noted
 pub record IsStarted {S : Type 0} (address : Address) (group : List ℕ) (receiver : S) (m : MemberModel S) : Type 0 where
   pub address_is : m.address ≡ address
   pub group_is : m.group ≡ group
-  pub core_is : core_of m ≡ Some (idle receiver address)
+  pub life : IsSomeAnd m.life (idle_life address receiver)
+  pub core_is : core_of m ≡ Some (cores.idle receiver address)
+  pub alive : IsAlive m.group m.address m.life
 
 -- a member starts, with this input as its first step
 pub record StartsWith {S : Type 0} (meaning : Meaning S) (input : Input) (name : List ℕ) (receiver : S) (old : ChannelModel S)

@@ -1,5 +1,8 @@
-ghost use Rattle.std.specs.Prelude.{◌≡◌, not, is_some};
+ghost use Rattle.std.specs.Prelude.{◌≡◌, Some, not, is_some};
+ghost use Rattle.std.specs.Option.{IsSomeAnd};
 ghost use Rattle.agreement.specs.Cores.{idle};
+ghost use Rattle.membership.specs.Lives.{idle_life};
+ghost use Rattle.member.specs.Running.{IsAlive};
 ghost use Rattle.member.specs.Members.{core_of};
 ghost use Rattle.member.specs.Handling.{Handled};
 ghost use Rattle.output.specs.Names.{same_name};
@@ -41,7 +44,9 @@ impl<R: Receiver> Connection<R> {
     ) -> Connection<R>
         ensures address { result.address ≡ address }
         ensures group { result.group ≡ group.now }
+        ensures life { IsSomeAnd result.life (idle_life address receiver) }
         ensures core { core_of result ≡ Some (idle receiver address) }
+        ensures alive { IsAlive result.group result.address result.life }
     {
         let identity = Identity {
             alloc,

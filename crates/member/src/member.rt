@@ -2,6 +2,7 @@ ghost use Rattle.std.specs.Prelude.{◌≡◌, ◌≤◌, length, false, Some, I
 ghost use Rattle.std.specs.Option.{IsSomeAnd, option_copied, option_and_then, option_map, option_map_or};
 ghost use Rattle.trace_props.specs.Recorded.{IsRecordable};
 ghost use Rattle.agreement.specs.Cores.{idle, is_frozen};
+ghost use Rattle.membership.specs.Lives.{idle_life};
 ghost use Rattle.member.specs.Running.{IsAlive};
 ghost use Rattle.member.specs.Members.{core_of, refusal_of, is_unreadable};
 ghost use Rattle.member.specs.Doing.{Does};
@@ -43,10 +44,11 @@ impl<R: Receiver> Model for Member<R> {
 }
 
 impl<R: Receiver> Member<R> {
-    /// The member of an address in a group: idle, with this receiver. Takes no memory; what it takes later is from `alloc`.
+    /// The member of an address in a group: idle, with this receiver, and nothing noted. Takes no memory; what it takes later is from `alloc`.
     pub fn new(alloc: Global, address: Address, group: GroupName<'_>, receiver: R) -> Member<R>
         ensures address { result.address ≡ address }
         ensures group { result.group ≡ group.entry }
+        ensures life { IsSomeAnd result.life (idle_life address receiver) }
         ensures core { core_of result ≡ Some (idle receiver address) }
         ensures alive { IsAlive result.group result.address result.life }
     {

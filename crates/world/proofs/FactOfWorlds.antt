@@ -114,7 +114,7 @@ module _ {S : Type 0} (meaning : Meaning S) where
       let k : last_of n h.trace ≡ None = subst (IsNodeStateOf n (last_of n h.trace) (is_connected n h) h.trace) was (w.node_states n) in
       rw k refl
 
-  nobody-more : (at : ℕ → NodeState S) (h : History) (n : ℕ) (p : Address) → World at h → at n ≡ Ended p → None ≡ running n h.trace
+  pub nobody-more : (at : ℕ → NodeState S) (h : History) (n : ℕ) (p : Address) → World at h → at n ≡ Ended p → None ≡ running n h.trace
   nobody-more at h n p w was =
       let k : IsNodeStateOf {S = S} n (last_of n h.trace) (is_connected n h) h.trace (Ended p) = subst (IsNodeStateOf n (last_of n h.trace) (is_connected n h) h.trace) was (w.node_states n) in
       rw (k.0, k.2) refl

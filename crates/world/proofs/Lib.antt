@@ -30,4 +30,5 @@ pub mod CatchUpLevels
 pub mod CatchUpEnds
 pub mod CatchUpStops
 pub mod FactOfNumbers
+pub mod FactOfOpenPairs
 pub mod CatchUpIsRun

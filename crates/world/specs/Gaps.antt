@@ -1,19 +1,20 @@
 -- Gaps close: whom a catch-up is about, which events it plays, and what an error leaves.
-use Rattle.std.specs.Prelude.{◌≡◌, ℕ, ◌+◌, ◌-◌, zero, suc, Bool, true, false, ◌&&◌, List, [], ◌∷◌, ◌++◌, length, drop, Option, None, Some, MatchOption, nat_eq, ◌⊎◌, if◌then◌else◌}
-use Rattle.std.specs.Option.{IsSomeAnd, option_map_or, option_and_then}
+use Rattle.std.specs.Prelude.{◌≡◌, ℕ, ◌+◌, ◌-◌, zero, suc, Bool, true, false, not, ◌&&◌, List, [], ◌∷◌, ◌++◌, length, drop, Option, None, Some, MatchOption, nat_eq, ◌⊎◌, if◌then◌else◌}
+use Rattle.std.specs.Option.{IsSomeAnd, option_eq, option_map_or, option_and_then}
 use Rattle.std.specs.List.{position_from}
 use Rattle.address.specs.Ids.{Address, ViewId, same_address, same_view_id}
 use Rattle.view.specs.Members.{View}
 use Rattle.state_transfer.specs.Meanings.{Meaning}
 use Rattle.trace_props.specs.declared.event.Event.{Event}
 use Rattle.trace_props.specs.declared.event.Event.TheVariants.{Crashed}
-use Rattle.trace_props.specs.Observed.{delivered_in}
+use Rattle.trace_props.specs.Observed.{current_view, is_blocked, delivered_in}
 use Rattle.agreement.specs.Cores.{is_frozen}
 use Rattle.member.specs.Members.{core_of}
 use Rattle.world_model.specs.declared.WorldEvent.{WorldEvent}
 use Rattle.world_model.specs.declared.WorldEvent.TheVariants.{Deliver, Tick}
 use Rattle.world_model.specs.declared.Answer.{Answer}
 use Rattle.world_model.specs.declared.Answer.TheVariants.{Done, Sent, Refused}
+use Rattle.world_model.specs.Histories.{running}
 use Rattle.world_model.specs.Packets.{destination_of}
 use Rattle.limits.specs.Refusals.{number_of}
 use Rattle.world.specs.declared.gaps.Pair.{Pair}
@@ -50,6 +51,17 @@ pair_in at (Running m) = option_and_then (λ w. pair_of at m.address w.id) (open
 -- the same of the member that runs at a node: whom a catch-up brings level, in which view
 abbrev pub pair_at : {S : Type 0} → (ℕ → NodeState S) → ℕ → Option Pair
 pair_at at n = pair_in at (at n)
+
+-- ---- the same, as the trace says
+
+-- whether the member of an address runs, is not blocked, and is in a view of this id
+abbrev pub runs_open_in : Address → ViewId → List Event → Bool
+runs_open_in p v t = option_eq same_address (running p.node t) (Some p) && (not (is_blocked p t) && option_eq same_view_id (current_view p t) (Some v))
+
+-- whether the member that runs at a node is in a view and not blocked, and so is the coordinator of that view, who is another
+abbrev pub has_open_pair : ℕ → List Event → Bool
+has_open_pair n t =
+    option_map_or (λ p. option_map_or (λ v. not (is_blocked p t) && (not (same_address v.creator p) && runs_open_in v.creator v t)) (current_view p t) false) (running n t) false
 
 -- ---- what it plays
 

@@ -2,11 +2,13 @@
 -- one call of its `handle`, with the whole of its contract.
 use Rattle.std.specs.Prelude.{◌≡◌, ℕ, ◌+◌, ◌^◌, false, ◌∷◌, [], ◌++◌, List, map, nat_lt, nat_eq, Result, Ok, Err, ◌⊎◌, MatchBool, Option, None, Some, Vec, if◌then◌else◌}
 use Rattle.std.specs.Borrow.{Bor}
+use Rattle.std.specs.Option.{IsSomeAnd}
 use Rattle.address.specs.Ids.{Address, IsAddress}
 use Rattle.state_transfer.specs.Meanings.{Meaning}
 use Rattle.trace_props.specs.declared.event.Event.{Event}
 use Rattle.trace_props.specs.declared.event.Event.TheVariants.{Started, Crashed}
 use Rattle.agreement.specs.Cores.{idle}
+use Rattle.membership.specs.Lives.{idle_life}
 use Rattle.member.specs.Running.{IsAlive}
 use Rattle.member.specs.declared.error.Error.{Error}
 use Rattle.member.specs.declared.error.Error.TheVariants as error
@@ -124,12 +126,13 @@ Hands meaning input old a new = HandsAt meaning input old.at old a new
 
 -- ---- starts and crashes
 
--- the member of an address runs, and nothing happened to it yet
+-- the member of an address runs: idle, with nothing noted, and nothing happened to it yet
 pub record Begun {S : Type 0} (meaning : Meaning S) (p : Address) (t : List Event) (new : NodeState S) (t' : List Event) : Type 0 where
   pub member : MemberModel S
   pub node_state : new ≡ Running member
   pub address : member.address ≡ p
   pub group : member.group ≡ world_group
+  pub life : IsSomeAnd member.life (idle_life p meaning.opening)
   pub core : core_of member ≡ Some (idle meaning.opening p)
   pub alive : IsAlive member.group member.address member.life
   pub trace : t' ≡ t ++ Started p ∷ []

@@ -10,7 +10,7 @@ ghost use Rattle.world_model.specs.Faithful.{IsFaithful};
 ghost use Rattle.world_model.specs.declared.WorldEvent.TheVariants.{Deliver};
 ghost use Rattle.world.specs.NodeStates.{node_states_in};
 ghost use Rattle.world.specs.Worlds.{shown, IsLonger};
-ghost use Rattle.world.specs.Gaps.{open_view, is_open_in, pair_of, pair_at, lacks_memory, Plays, Hands, Fails, DeliversPast, BreaksPast, CatchesUp, Stops, EndsSo, IsLevel};
+ghost use Rattle.world.specs.Gaps.{open_view, is_open_in, pair_of, pair_at, has_open_pair, lacks_memory, Plays, Hands, Fails, DeliversPast, BreaksPast, CatchesUp, Stops, EndsSo, IsLevel};
 
 use crate::World;
 use crate::node_state::NodeState;
@@ -169,8 +169,9 @@ impl<R: Receiver> World<R> {
     /// (7) where the places of a step are refused, which is then not begun, and where memory is refused to one of the two in a step, by which it
     /// crashes; the steps before it are carried out.
     pub fn catch_up(&mut self, node: Node) -> Result<bool, AllocError>
-        // It answers whether there are those two; where there are not, nothing is done.
+        // It answers whether there are those two, which the trace says too; where there are not, nothing is done.
         ensures answer { IfOk result (λ b. b ≡ is_some (pair_at (shown self.old).node_states node)) }
+        ensures condition { IfOk result (λ b. b ≡ has_open_pair node self.old.history.trace) }
         ensures nothing { result ≡ Ok false → shown self.new ≡ shown self.old }
         // Else these steps are played, and the member has delivered in the view what its coordinator has;
         ensures plays { OnOk result (ForSome (pair_at (shown self.old).node_states node) (λ pair. CatchesUp R.meaning pair (shown self.old) (shown self.new))) }

@@ -1,7 +1,7 @@
 //! A world of members: it carries out events one after another and records what happened.
 #![tactic(auto)]
 
-ghost use Rattle.std.specs.Prelude.{◌≡◌, ◌+◌, ◌≤◌, ◌++◌, ◌∷◌, [], ℕ, true, false, nat_eq, length, take, List, Some, is_some, IfOk, OnOk, OnErr, vec_len, vec_capacity};
+ghost use Rattle.std.specs.Prelude.{◌≡◌, ◌+◌, ◌<◌, ◌≤◌, ◌++◌, ◌∷◌, [], ℕ, true, false, nat_eq, length, take, List, Some, is_some, IfOk, OnOk, OnErr, vec_len, vec_capacity};
 ghost use Rattle.std.specs.Ordering.{nat_cmp};
 ghost use Rattle.std.specs.BTreeMap.{get};
 ghost use Rattle.trace_props.specs.Places.{EachPlace};
@@ -234,9 +234,10 @@ impl<R: Receiver> World<R> {
     /// Carries out events in order, from where the world stands. Answers an error (7) where the places of a step are
     /// refused: then the events before it are carried out, and all stands as before that step.
     pub fn run(&mut self, events: &[WorldEvent]) -> Result<(), AllocError>
-        // It comes from where it stood by a world step for each event, of all of them or of the first few;
+        // It comes from where it stood by a world step for each event, of all of them or of the first few, on an error of fewer than all;
         ensures all { OnOk result (Runs R.meaning (shown self.old) events.now (shown self.new)) }
         ensures some { (k : ℕ) × Runs R.meaning (shown self.old) (take k events.now) (shown self.new) }
+        ensures fewer { OnErr result ((k : ℕ) × (k < length events.now) × Runs R.meaning (shown self.old) (take k events.now) (shown self.new)) }
         // so what was there is the beginning of what is there,
         ensures longer { IsLonger self.old.history self.new.history }
         // each event is answered as the table says, and all rules hold at every place.

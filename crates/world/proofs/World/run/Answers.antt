@@ -1,4 +1,4 @@
-use Rattle.std.proofs.Common.{take_all, subst, sym, List}
+use Rattle.std.proofs.Common.{take, take_all, subst, sym, List}
 use Rattle.world_model.specs.declared.WorldEvent.{WorldEvent}
 use Rattle.world.specs.Worlds.{WorldModel, IsLonger, Runs, shown}
 use Rattle.world.specs.Worlds.Runs.{Still}
@@ -28,3 +28,11 @@ pub returns-in-Err-clause-longer : goal.returns-in-Err-clause-longer
 returns-in-Err-clause-longer g c =
     subst (λ (w : WorldModel _). IsLonger c.args.self.now.history w.history) (sym c.in-Err.ensures.err)
     (runs-longer g.R.Receiver.meaning (shown c.args.self.now) (shown c.loop-event.self) _ c.loop-event.invariant)
+
+-- the event that was refused is not among those that are carried out
+pub returns-in-Err-clause-fewer : goal.returns-in-Err-clause-fewer
+returns-in-Err-clause-fewer g c = (
+  c.loop-event.event-index,
+  c.loop-event-test.true,
+  subst (λ (w : WorldModel _). Runs g.R.Receiver.meaning (shown c.args.self.now) (take c.loop-event.event-index c.args.events.now) w) (sym c.in-Err.ensures.err) c.loop-event.invariant,
+)
