@@ -1,10 +1,8 @@
 -- How the parts of a round go on, and come together.
 use Rattle.std.proofs.Common.{◌≡◌, ℕ, ◌+◌, ◌<◌, ◌≤◌, ◌++◌, Bool, true, false, length, take, List, [], ◌∷◌, Option, Some, None, Ok, Err, inl, inr, ◌⊎◌, refl, sym, ap, ◌∙◌, subst, arith, length-append}
-use Rattle.limits.specs.declared.refusal.Refusal.TheVariants.{Memory}
 use Rattle.address.specs.Ids.{Address}
 use Rattle.state_transfer.specs.Meanings.{Meaning}
 use Rattle.member.specs.declared.error.Error.{Error}
-use Rattle.member.specs.declared.error.Error.TheVariants.{Refused}
 use Rattle.channel.specs.Errors.{is_end}
 use Rattle.udp_net.specs.Logs.{Log, Lists, receiving, answer_of}
 use Rattle.udp_member.specs.declared.runner.TheConstants.{RECEIVES}
@@ -58,38 +56,27 @@ module _ {N S : Type 0} (log : N → Option Log) (failed : N → ℕ) (meaning :
       let e : n ≡ RECEIVES = omega (arith, most, few) in
       record { datagrams = so.datagrams; heard = new; takes = so.takes; until = inl (so.many ∙ e, refl) }
 
-  -- a part that is cut short by a turn, by its answer or for want of memory
+  -- a part that is cut short by the answer to a turn
   cut-by : {X : Type 0} (as_handed : X → Handed) (may : X → Type 0) (old mid new : Driven N S) (xs : List X) (x : X) (answer : Option Error) (e : Error)
-      → TakesAll log failed meaning as_handed may old xs mid → may x → Takes log failed meaning (as_handed x) mid answer new → is_end e ≡ true
-      → (answer ≡ Some e) ⊎ (goes_on answer ≡ true) → Cuts log failed meaning as_handed may old e new
-  cut-by as_handed may old mid new xs x answer e all m t ends (inl is) = record {
+      → TakesAll log failed meaning as_handed may old xs mid → may x → Takes log failed meaning (as_handed x) mid answer new → PassesOver answer (Some e)
+      → Cuts log failed meaning as_handed may old e new
+  cut-by as_handed may old mid new xs x answer e all m t why = record {
     handed = xs;
     mid = mid;
     takes = all;
-    ends = ends;
-    last = inr (x, m, subst (λ (a : Option Error). Takes log failed meaning (as_handed x) mid a new) is t);
-  }
-  cut-by as_handed may old mid new xs x answer e all m t ends (inr on) = record {
-    handed = xs ++ x ∷ [];
-    mid = new;
-    takes = Next xs mid x answer new all m t on;
-    ends = ends;
-    last = inl refl;
+    ends = why.1;
+    last = x;
+    may_be = m;
+    answered = subst (λ (a : Option Error). Takes log failed meaning (as_handed x) mid a new) why.0 t;
   }
 
   pub heard-cut : (old mid new : Driven N S) (n : ℕ) (e : Error) → HeardSoFar old n mid → Receives log failed meaning mid (Err e) new → Hears log failed meaning old (Some e) new
-  heard-cut old mid new n e so h = cut-by Datagram Any old mid new so.datagrams h.bytes h.answer e so.takes tt h.takes h.why.0 h.why.1
+  heard-cut old mid new n e so h = cut-by Datagram Any old mid new so.datagrams h.bytes h.answer e so.takes tt h.takes h.why
 
   -- ---- suspicions
 
   pub none-suspected : (old : Driven N S) → SuspectsAll log failed meaning old old
   none-suspected old = record { suspects = []; takes = Nothing }
-
-  pub cut-at-once : (old : Driven N S) (answer : Option Error) (e : Error) → PassesOver answer (Some e) → Suspects log failed meaning old (Some e) old
-  cut-at-once old answer e x = record { handed = []; mid = old; takes = Nothing; ends = x.1; last = inl refl }
-
-  pub cut-by-memory : (old : Driven N S) → Suspects log failed meaning old (Some (Refused Memory)) old
-  cut-by-memory old = record { handed = []; mid = old; takes = Nothing; ends = refl; last = inl refl }
 
   pub suspected-one : (old mid new : Driven N S) (p : Address) → SuspectsAll log failed meaning old mid → IsWatched old.channel.stage p
       → HandsIn log failed meaning (Suspect p) mid.net mid.channel None new.net new.channel → new.faults ≡ mid.faults → SuspectsAll log failed meaning old new
@@ -101,7 +88,7 @@ module _ {N S : Type 0} (log : N → Option Log) (failed : N → ℕ) (meaning :
   pub suspected-cut : (old mid new : Driven N S) (p : Address) (e : Error) → SuspectsAll log failed meaning old mid → IsWatched old.channel.stage p
       → HandsIn log failed meaning (Suspect p) mid.net mid.channel (Some e) new.net new.channel → new.faults ≡ mid.faults → Suspects log failed meaning old (Some e) new
   suspected-cut old mid new p e so m h same =
-      cut-by Suspect (IsWatched old.channel.stage) old mid new so.suspects p h.answer e so.takes m (record { net = mid.net; comes = refl; turn = h.turn; faults = same }) h.why.0 h.why.1
+      cut-by Suspect (IsWatched old.channel.stage) old mid new so.suspects p h.answer e so.takes m (record { net = mid.net; comes = refl; turn = h.turn; faults = same }) h.why
 
   -- ---- a whole round
 

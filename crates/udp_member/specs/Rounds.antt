@@ -12,12 +12,7 @@ use Rattle.udp_member.specs.declared.runner.TheConstants.{RECEIVES}
 use Rattle.udp_member.specs.Offers.{Offers}
 use Rattle.udp_member.specs.Turns.{Handed, Datagram, Suspect, Tick, Turn, Driven, Takes, TakesAll, Any, IsWatched, goes_on}
 
--- what a failure of a turn comes from: the channel's answer, or memory that the runner itself was refused
-abbrev pub IsWhy : Option Error → Option Error → Type 0
-IsWhy answer None = goes_on answer ≡ true
-IsWhy answer (Some e) = (is_end e ≡ true) × ((answer ≡ Some e) ⊎ (goes_on answer ≡ true))
-
--- the answers 6 and 7 cut a round short, and no others
+-- the answers 6 and 7 of the channel cut a round short, and nothing else does
 abbrev pub PassesOver : Option Error → Option Error → Type 0
 PassesOver answer None = goes_on answer ≡ true
 PassesOver answer (Some e) = (answer ≡ Some e) × (is_end e ≡ true)
@@ -27,7 +22,7 @@ pub record HandsIn {N S : Type 0} (log : N → Option Log) (failed : N → ℕ) 
     (failure : Option Error) (new_net : N) (new_channel : ChannelModel S) : Type 0 where
   pub answer : Option Error
   pub turn : Turn log failed meaning handed net channel answer new_net new_channel
-  pub why : IsWhy answer failure
+  pub why : PassesOver answer failure
 
 -- a failed receive is counted, and no other
 abbrev pub counted : Received → ℕ → ℕ
@@ -51,7 +46,7 @@ pub record HearsOne {N S : Type 0} (log : N → Option Log) (failed : N → ℕ)
   pub bytes : List ℕ
   pub answer : Option Error
   pub takes : Takes log failed meaning (Datagram bytes) old answer new
-  pub why : IsWhy answer failure
+  pub why : PassesOver answer failure
 
 -- one receive
 abbrev pub Receives : {N S : Type 0} → (N → Option Log) → (N → ℕ) → Meaning S → Driven N S → Result Bool Error → Driven N S → Type 0
@@ -61,14 +56,16 @@ Receives log failed meaning old (Err e) new = HearsOne log failed meaning old (S
 
 -- ---- the parts of a round
 
--- it is cut short: these were handed in; and then one that is answered 6 or 7, or the runner itself was refused
+-- it is cut short: these were handed in, and then one that is answered 6 or 7
 pub record Cuts {N S X : Type 0} (log : N → Option Log) (failed : N → ℕ) (meaning : Meaning S) (as_handed : X → Handed) (may : X → Type 0) (old : Driven N S) (e : Error)
     (new : Driven N S) : Type 0 where
   pub handed : List X
   pub mid : Driven N S
   pub takes : TakesAll log failed meaning as_handed may old handed mid
   pub ends : is_end e ≡ true
-  pub last : (new ≡ mid) ⊎ ((x : X) × may x × Takes log failed meaning (as_handed x) mid (Some e) new)
+  pub last : X
+  pub may_be : may last
+  pub answered : Takes log failed meaning (as_handed last) mid (Some e) new
 
 -- the datagrams are handed in that come, up to `RECEIVES`, or until a receive gives none, or fails
 pub record HearsAll {N S : Type 0} (log : N → Option Log) (failed : N → ℕ) (meaning : Meaning S) (old new : Driven N S) : Type 0 where
@@ -94,7 +91,7 @@ Suspects log failed meaning old (Some e) new = Cuts log failed meaning Suspect (
 pub record Ticks {N S : Type 0} (log : N → Option Log) (failed : N → ℕ) (meaning : Meaning S) (old : Driven N S) (failure : Option Error) (new : Driven N S) : Type 0 where
   pub answer : Option Error
   pub takes : Takes log failed meaning Tick old answer new
-  pub why : IsWhy answer failure
+  pub why : PassesOver answer failure
 
 -- the suspicions, and where they are not cut short the tick
 pub record SuspectsAndTicks {N S : Type 0} (log : N → Option Log) (failed : N → ℕ) (meaning : Meaning S) (old : Driven N S) (failure : Option Error) (new : Driven N S) : Type 0 where

@@ -1,5 +1,5 @@
 -- What a runner hands to its channel, and what the channel does by it.
-use Rattle.std.specs.Prelude.{◌≡◌, ⊤, ℕ, Bool, true, not, List, [], ◌∷◌, ◌++◌, All, Contains, Option, None, Some, IfSome}
+use Rattle.std.specs.Prelude.{◌≡◌, ⊤, ℕ, Bool, true, not, List, [], ◌∷◌, ◌++◌, Contains, Option, None, Some, IfSome}
 use Rattle.std.specs.Option.{option_map_or}
 use Rattle.address.specs.Ids.{Address}
 use Rattle.state_transfer.specs.Meanings.{Meaning}
@@ -75,10 +75,6 @@ abbrev pub Any : List ℕ → Type 0
 Any bytes = ⊤
 
 -- ---- who may be suspected
-
--- each of these is one of those
-abbrev pub AreAmong : List Address → List Address → Type 0
-AreAmong these those = All (Contains those) these
 
 -- whom the channel watches; nobody before a connect and after its end
 abbrev pub watched_at : {S : Type 0} → Stage S → List Address

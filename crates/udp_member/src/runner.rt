@@ -49,7 +49,7 @@ fn hand_in<N: Net, R: Receiver>(
 {
     let answer = take_in(net, channel, bytes);
     if let Some(Some(source)) = passed_over(answer)? {
-        silence.hear(source, bytes, channel.view())?;
+        silence.hear(source, bytes, channel.view());
     }
     Ok(())
 }
@@ -69,7 +69,7 @@ impl<N: Net, R: Receiver> Runner<N, R> {
         Ok(Runner {
             net,
             channel,
-            silence: Silence::new(alloc, silent),
+            silence: Silence::new(silent),
             buffer,
             faults: 0,
         })
@@ -80,9 +80,11 @@ impl<N: Net, R: Receiver> Runner<N, R> {
     /// twice as many while the channel is blocked, the address is handed in as suspected. Last comes a tick of the channel. What the channel puts out by
     /// each of these steps is offered to the net at once, in order.
     ///
-    /// Counts begin anew with each view and after each suspicion. A JOIN of a member of the view counts as no packet from it.
+    /// Counts begin anew with each view and after each suspicion. A JOIN of a member of the view counts as no packet from it. They take no memory; where the channel
+    /// is refused memory for the list of whom it watches, nothing is counted and nobody suspected in this round.
     ///
-    /// The round is cut short with 6 where the channel has ended, and with 7 where memory was refused. All that the channel refuses else is passed over.
+    /// The round is cut short exactly where the channel answers 6 or 7 to what is handed in, with that answer: the channel has ended then. All that the channel
+    /// refuses else is passed over.
     pub fn round(&mut self) -> Result<(), Error>
         ensures { Rounds N.log N.failed R.meaning self.old (result_err result) self.new }
     {
@@ -94,7 +96,7 @@ impl<N: Net, R: Receiver> Runner<N, R> {
     /// The first part of a round, for who wants to hear more often than it has rounds: what waited in the channel is offered to the net, and datagrams are received and
     /// handed in as in a round. Nothing is counted for the silent, and no time passes.
     ///
-    /// It is cut short as a round is.
+    /// It is cut short exactly where the channel answers 6 or 7 to a datagram, with that answer.
     pub fn listen(&mut self) -> Result<(), Error>
         ensures { Listens N.log N.failed R.meaning self.old (result_err result) self.new }
     {
@@ -164,18 +166,25 @@ impl<N: Net, R: Receiver> Runner<N, R> {
         }
     }
 
-    // Counts the round for those who are watched, and hands in whom it has not heard for too long.
+    // Counts the round for those who are watched, and hands in whom it has not heard for too long. Without the list of them nobody is suspected.
     fn suspect_silent(&mut self) -> Result<(), Error>
         ensures { Suspects N.log N.failed R.meaning self.old (result_err result) self.new }
     {
-        let Some(watched) = passed_over(self.channel.watched())? else {
+        let Ok(watched) = self.channel.watched() else {
             return Ok(());
         };
         let view = self.view_id();
         let is_blocked = self.channel.is_blocked();
-        let silent = self.silence.pass(view, is_blocked, watched.as_slice())?;
-        for address in silent.as_slice() {
-            self.suspect(*address)?;
+        self.silence.pass(view, watched.as_slice());
+        let mut is_heard = true;
+        for address in watched.as_slice() {
+            if self.silence.is_silent(address, is_blocked) {
+                is_heard = false;
+                self.suspect(*address)?;
+            }
+        }
+        if !is_heard {
+            self.silence.begin_anew();
         }
         Ok(())
     }

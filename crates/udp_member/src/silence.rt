@@ -1,28 +1,33 @@
 //! Whom a member has not heard for how long (docs/PROTOCOL.md, "Silence").
 
-ghost use Rattle.std.specs.Prelude.{IfOk};
-ghost use Rattle.udp_member.specs.Turns.{AreAmong};
-
 use address::{Address, ViewId};
-use std::alloc::{AllocError, Global};
+use limits::MEMBERS;
 use view::View;
 use wire::{Body, decode};
 
-// For how many rounds no packet came from an address.
+// As many as are ever watched: the others of a view, and the others of the list of a flush.
+const PLACES: usize = 2 * MEMBERS;
+
+// For how many rounds no packet came from an address, and whether one came in this round.
 #[derive(Clone, Copy)]
 struct Count {
     address: Address,
     rounds: u32,
+    is_heard: bool,
 }
 
-// The rounds without a packet of each address that is watched. They are counted anew after each install and each suspicion.
+// The rounds without a packet of each address that is watched. They are counted anew after each install and each suspicion. All of it lies in
+// the value itself and takes no memory: whoever is not watched has a place for the round alone, while one is free.
 #[derive(Drop)]
 pub(crate) struct Silence {
-    alloc: Global,
     silent: u32,
     view: Option<ViewId>,
-    heard: Vec<Address>,
-    counts: Vec<Count>,
+    counts: [Option<Count>; PLACES],
+}
+
+// Nobody is watched.
+fn no_counts() -> [Option<Count>; PLACES] {
+    [None; PLACES]
 }
 
 // Whether a datagram is a JOIN.
@@ -47,96 +52,95 @@ fn is_sign_of_life(source: &Address, bytes: &[u8], view: Option<&View>) -> bool 
 }
 
 impl Silence {
-    // Nobody is watched yet; `silent` rounds without a packet are too many. Takes no memory.
-    pub(crate) fn new(alloc: Global, silent: u32) -> Silence {
+    // Nobody is watched yet; `silent` rounds without a packet are too many.
+    pub(crate) fn new(silent: u32) -> Silence {
         Silence {
-            alloc,
             silent,
             view: None,
-            heard: Vec::new(alloc),
-            counts: Vec::new(alloc),
+            counts: no_counts(),
         }
     }
 
     // A datagram came from an address in this round.
-    pub(crate) fn hear(
-        &mut self,
-        source: Address,
-        bytes: &[u8],
-        view: Option<&View>,
-    ) -> Result<(), AllocError> {
-        if !self.heard.contains(&source) && is_sign_of_life(&source, bytes, view) {
-            self.heard.push(source)?;
+    pub(crate) fn hear(&mut self, source: Address, bytes: &[u8], view: Option<&View>) {
+        if !is_sign_of_life(&source, bytes, view) {
+            return;
         }
-        Ok(())
+        let heard = Count {
+            address: source,
+            rounds: 0,
+            is_heard: true,
+        };
+        for place in self.counts.iter_mut() {
+            match place {
+                Some(count) if count.address != source => (),
+                _ => {
+                    *place = Some(heard);
+                    return;
+                }
+            }
+        }
     }
 
-    // A round is over, in this view, with these addresses watched: answers those of them that were silent for too long. On an error it is as before.
-    pub(crate) fn pass(
-        &mut self,
-        view: Option<ViewId>,
-        is_blocked: bool,
-        watched: &[Address],
-    ) -> Result<Vec<Address>, AllocError>
-        ensures { IfOk result (λ silent. AreAmong silent.items watched.now) }
-    {
-        if view != self.view {
-            self.counts.clear();
-            self.view = view;
+    // A round is over, in this view, with these addresses watched: each of them has its count, and nobody else.
+    pub(crate) fn pass(&mut self, view: Option<ViewId>, watched: &[Address]) {
+        let is_same_view = view == self.view;
+        let mut counts = no_counts();
+        for place in 0..watched.len().min(PLACES) {
+            let address = watched[place];
+            counts[place] = Some(Count {
+                address,
+                rounds: self.rounds_of(&address, is_same_view),
+                is_heard: false,
+            });
         }
-        let counts = self.counts_of(watched)?;
-        let silent = self.silent_of(watched, is_blocked)?;
-        self.heard.clear();
-        if silent.is_empty() {
-            self.counts = counts;
+        self.view = view;
+        self.counts = counts;
+    }
+
+    // Whether an address was silent for too long when the round was over: twice as much is borne while a view is being made.
+    pub(crate) fn is_silent(&self, address: &Address, is_blocked: bool) -> bool {
+        self.rounds_before(address) >= self.most(is_blocked)
+    }
+
+    // All counts begin anew.
+    pub(crate) fn begin_anew(&mut self) {
+        self.counts = no_counts();
+    }
+
+    // The count of an address at the end of the round; it begins anew in another view.
+    fn rounds_of(&self, address: &Address, is_same_view: bool) -> u32 {
+        if self.is_heard(address) {
+            0
+        } else if is_same_view {
+            self.rounds_before(address).saturating_add(1)
         } else {
-            self.counts.clear();
+            1
         }
-        Ok(silent)
-    }
-
-    // The counts of these addresses at the end of the round.
-    fn counts_of(&self, watched: &[Address]) -> Result<Vec<Count>, AllocError> {
-        let mut counts = Vec::with_capacity(self.alloc, watched.len())?;
-        for member in watched {
-            counts.push(Count {
-                address: *member,
-                rounds: self.rounds_of(member),
-            })?;
-        }
-        Ok(counts)
-    }
-
-    // The count of an address at the end of the round.
-    fn rounds_of(&self, address: &Address) -> u32 {
-        if self.heard.contains(address) {
-            return 0;
-        }
-        self.rounds_before(address).saturating_add(1)
     }
 
     // The count of an address at the beginning of the round.
     fn rounds_before(&self, address: &Address) -> u32 {
-        for count in self.counts.as_slice() {
-            if count.address == *address {
-                return count.rounds;
-            }
+        match self.count_of(address) {
+            Some(count) => count.rounds,
+            None => 0,
         }
-        0
     }
 
-    // Those of these addresses whose count is too high at the end of the round: twice as much is borne while a view is being made.
-    fn silent_of(&self, watched: &[Address], is_blocked: bool) -> Result<Vec<Address>, AllocError>
-        ensures { IfOk result (λ silent. AreAmong silent.items watched.now) }
-    {
-        let most = self.most(is_blocked);
-        let mut silent = Vec::new(self.alloc);
-        for address in watched {
-            if self.rounds_of(address) >= most {
-                silent.push(*address)?;
-            }
+    // Whether a packet came from an address in this round.
+    fn is_heard(&self, address: &Address) -> bool {
+        match self.count_of(address) {
+            Some(count) => count.is_heard,
+            None => false,
         }
-        Ok(silent)
+    }
+
+    // What is known of an address.
+    fn count_of(&self, address: &Address) -> Option<&Count> {
+        self.counts
+            .iter()
+            .flatten()
+            .find(|count| count.address == *address)
     }
 
     // How many rounds without a packet are too many.
