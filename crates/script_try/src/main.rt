@@ -1,0 +1,14 @@
+//! Runs a script from the standard input as `vsync world -` does. `./try` compiles this one, since it needs neither the words of a command line nor sockets.
+#![tactic(auto)]
+
+use chat_log::ChatLog;
+use std::io;
+use std::process::ExitCode;
+use vsync_runs::run_script;
+
+fn main(rt: HostRuntime) -> ExitCode {
+    let mut input = rt.reader();
+    let mut output = io::writer(&rt);
+    let status = run_script::<ChatLog, _, _>(rt.alloc(), &mut input, &mut output);
+    ExitCode::from(status.code())
+}
