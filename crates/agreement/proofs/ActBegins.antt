@@ -1,35 +1,33 @@
 -- The act Begins: a member proposes a view, is blocked, and announces it to the others of the list.
 use Rattle.std.proofs.Common.{◌≡◌, ℕ, zero, suc, Bool, true, false, cond, not, ◌||◌, Option, Some, None, List, [], ◌∷◌, ◌++◌, map, refl, sym, ap, ◌∙◌, subst, ◌⊎◌, inl, inr}
-use Rattle.std.specs.Prelude.{slice_get, length, nat_eq, nat_lt, MatchBool}
+use Rattle.std.specs.Prelude.{slice_get, MatchBool}
 use Rattle.std.specs.Option.{option_or}
 use Rattle.std.proofs.lemmas.Bool.{cond-true, or_left, or_right}
 use Rattle.std.proofs.lemmas.Option.{none-some, same_Some}
 use Rattle.address.specs.Ids.{Address, ViewId, same_address, same_view_id}
-use Rattle.view.specs.Members.{View, stands_in, is_distinct}
-use Rattle.view.specs.declared.ViewError.TheVariants.{Empty, TooMany, Repeated, NotFirst}
-use Rattle.limits.specs.declared.TheConstants.{MEMBERS}
-use Rattle.view.specs.View.{view_refusal, begins_with}
-use Rattle.wire.specs.Values.{Report}
-use Rattle.wire.specs.declared.packet.Body.TheVariants as bodies
+use Rattle.view.specs.Members.{View, stands_in}
+use Rattle.wire_values.specs.Values.{Report}
+use Rattle.wire_values.specs.declared.packet.Body.TheVariants as bodies
 use Rattle.state_transfer.specs.Meanings.{Meaning}
 use Rattle.flush.specs.Cuts.{first_of}
 use Rattle.flush.specs.Flushes.{FlushModel}
 use Rattle.flush.proofs.Covers.{first-stands}
 use Rattle.trace_props.specs.Rules.{IsBelow}
-use Rattle.trace_props.proofs.FactOfObserved.{same_address-refl, same_address-true, same_address-from, same_view_id-refl, same_view_id-true}
+use Rattle.address.proofs.SameIds.{same_address-refl, same_address-true, same_address-from, same_view_id-refl, same_view_id-true}
 use Rattle.trace_props.proofs.FactOfRisingViews.{IsBelow-irreflexive}
-use Rattle.agreement.specs.Histories.{Posted, History, flush_in, install_in, report_by, flush_of, report_of}
-use Rattle.agreement.specs.Cores.{Core, report_with}
-use Rattle.agreement.specs.Acts.{IsAbovePromise, MayBegin, packet, others_of, promised, begun, blocking}
+use Rattle.acts.specs.Histories.{Posted, History, flush_in, install_in, report_by, flush_of, report_of}
+use Rattle.acts.specs.Cores.{Core, report_with}
+use Rattle.acts.specs.Acts.{IsAbovePromise, MayBegin, packet, others_of, promised, begun, blocking}
 use Rattle.agreement.specs.Steps.{System, put, grown}
 use Rattle.agreement.specs.Packets.{PacketFact}
 use Rattle.agreement.specs.Members.{LiesBelow, IsNotPast, IsRecorded, RunsFlush, MemberFact}
 use Rattle.agreement.specs.Invariant.{Invariant}
-use Rattle.agreement.proofs.Lists.{first_of-append, first_of-still, slice_get-one}
+use Rattle.acts.proofs.Lists.{first_of-append, first_of-still, slice_get-one}
 use Rattle.agreement.proofs.KeepOthers.{IsFrom}
 use Rattle.agreement.proofs.KeepByMove.{Moves, moved}
 use Rattle.agreement.proofs.KeepWithoutInstall.{quiet-trans, quiet-packets, quiet-moves}
 use Rattle.agreement.proofs.FactOfBlocked.{with_blocked, halts, view-below, not-past, is-past}
+use Rattle.view.proofs.FactOfMembers.{coordinator-in}
 
 -- ---- a packet to each of a list
 
@@ -120,23 +118,6 @@ none-by (Some l) pool w e nothing = absurd (nothing l e)
 
 -- ---- the member's own place
 
-first-in : (p : Address) (list : List Address) → begins_with p list ≡ true → stands_in p list ≡ true
-first-in p [] e = e
-first-in p (x ∷ list) e = or_left (same_address p x) (stands_in p list) e
-
-unrefused : {E : Type 0} (a b c d : Bool) (x y z u : E) → cond a (Some x) (cond b (Some y) (cond c (Some z) (cond (not d) (Some u) None))) ≡ None → d ≡ true
-unrefused true b c d x y z u e = absurd (none-some x (sym e))
-unrefused false true c d x y z u e = absurd (none-some y (sym e))
-unrefused false false true d x y z u e = absurd (none-some z (sym e))
-unrefused false false false true x y z u e = refl
-unrefused false false false false x y z u e = absurd (none-some u (sym e))
-
--- who makes a view stands in its list
-pub coordinator-in : (w : ViewId) (list : List Address) → view_refusal w list ≡ None → stands_in w.creator list ≡ true
-coordinator-in w list e =
-    first-in w.creator list
-    (unrefused (nat_eq (length list) 0) (nat_lt MEMBERS (length list)) (not (is_distinct list)) (begins_with w.creator list) Empty TooMany Repeated NotFirst e)
-
 -- ---- the act
 
 module _ {S : Type 0} (meaning : Meaning S) where
@@ -162,11 +143,11 @@ module _ {S : Type 0} (meaning : Meaning S) where
   begins-moves s c w i x a =
       let h = s.history in
       let p = c.me in
-      let r = report_with c.view c.traffic in
+      let r = report_with c.view c.view_state in
       let more = announcing p w in
       let h1 = with_blocked h p c.view c.installed in
       let k = grown h more (blocking c) in
-      let halted = halts meaning h p c.view c.installed c.traffic c.kept c.state i.trace x.promise.inside x.standing x.view x.state in
+      let halted = halts meaning h p c.view c.installed c.view_state c.sent_installs c.state i.trace x.promise.inside x.standing x.view x.state in
       let mine : same_address w.id.creator p ≡ true = same_address-from w.id.creator p a.own in
       let none : flush_of w.id h.pool ≡ None = none-by (flush_of w.id h.pool) h.pool w.id refl (λ l e. is-past c.promise w.id a.above (x.below.announced w.id l mine e)) in
       let posted = quiet-packets meaning p h1 more halted.standing.running.started
@@ -186,7 +167,7 @@ module _ {S : Type 0} (meaning : Meaning S) where
         below = below-after h p c.promise w x.below a.above;
         reported = λ waits u e other.
             absurd (let n : true ≡ false = sym mine ∙ ap (λ (z : View). same_address z.id.creator p) (same_Some w u e) ∙ other in cc);
-        flush = λ f e. subst (λ (z : FlushModel). RunsFlush k.pool p (Some w) false c.view c.traffic z) (same_Some (begun w c) f e) (record {
+        flush = λ f e. subst (λ (z : FlushModel). RunsFlush k.pool p (Some w) false c.view c.view_state z) (same_Some (begun w c) f e) (record {
           promised = refl;
           waits = refl;
           own = a.own;

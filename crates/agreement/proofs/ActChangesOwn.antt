@@ -9,24 +9,24 @@ use Rattle.std.proofs.lemmas.Option.{none-some, same_Some}
 use Rattle.address.specs.Ids.{Address, ViewId, same_address}
 use Rattle.view.specs.Members.{View, stands_in}
 use Rattle.limits.specs.declared.TheConstants.{WINDOW}
-use Rattle.wire.specs.Values.{Entry, held_at, Report}
-use Rattle.wire.specs.declared.packet.Body.TheVariants as bodies
+use Rattle.wire_values.specs.Values.{Entry, held_at, Report}
+use Rattle.wire_values.specs.declared.packet.Body.TheVariants as bodies
 use Rattle.state_transfer.specs.Meanings.{Meaning}
 use Rattle.flush.specs.Flushes.{FlushModel}
 use Rattle.trace_props.specs.declared.event.Event.{Event}
 use Rattle.trace_props.specs.declared.event.Install.{Install}
 use Rattle.trace_props.specs.declared.event.Numbered.{Numbered}
 use Rattle.trace_props.specs.Observed.{delivered_in, sent_in, own, entry_of}
-use Rattle.trace_props.proofs.FactOfObserved.{same_address-true}
-use Rattle.agreement.specs.Words.{Tally, members_of, open_count}
-use Rattle.agreement.specs.Histories.{Posted, History, report_of}
-use Rattle.agreement.specs.Cores.{Traffic, Core}
-use Rattle.agreement.specs.Acts.{IsStable, All, Ordered, Announced, IsOpenIn, MayQueue, MayHear, MayCollect, MayHold, MayRecord, HoldsMore, HoldsAbove, heard, with_traffic, packet}
+use Rattle.address.proofs.SameIds.{same_address-true}
+use Rattle.acts.specs.Words.{Tally, members_of, open_count}
+use Rattle.acts.specs.Histories.{Posted, History, report_of}
+use Rattle.acts.specs.Cores.{ViewCore, Core}
+use Rattle.acts.specs.Acts.{IsStable, All, Ordered, Announced, IsOpenIn, MayQueue, MayTakeAck, MayCollect, MayHold, MayRecord, HoldsMore, HoldsAbove, heard, with_view_core, packet}
 use Rattle.agreement.specs.Steps.{came_of}
 use Rattle.agreement.specs.Packets.{IsOrdered, IsSent, AllHave, HoldsOrder}
 use Rattle.agreement.specs.Members.{installed_as, HasAcks, IsRecorded, RunsFlush, ViewFact, MemberFact}
 use Rattle.agreement.specs.Invariant.{TraceFact, EachPacket}
-use Rattle.agreement.proofs.Lists.{slice_get-split, slice_get-one, slice_get-right, place-of, lookup-kept}
+use Rattle.acts.proofs.Lists.{slice_get-split, slice_get-one, slice_get-right, place-of, lookup-kept}
 use Rattle.agreement.proofs.KeepTrace.{rules-of}
 use Rattle.agreement.proofs.FactOfCame.{said-of}
 
@@ -34,8 +34,8 @@ use Rattle.agreement.proofs.FactOfCame.{said-of}
 
 -- while open nothing is owed of a flush and a report
 pub open-fact : {S : Type 0} (meaning : Meaning S) (h : History) (p : Address) (c : Core S) (v : View)
-    (t : Traffic) → MemberFact meaning h p c → IsOpenIn c v → ViewFact h p c.installed t c.kept v
-    → MemberFact meaning h p (with_traffic t c)
+    (t : ViewCore) → MemberFact meaning h p c → IsOpenIn c v → ViewFact h p c.installed t c.sent_installs v
+    → MemberFact meaning h p (with_view_core t c)
 open-fact meaning h p c v t x o fact = record {
   standing = x.standing;
   promise = x.promise;
@@ -43,7 +43,7 @@ open-fact meaning h p c v t x o fact = record {
   below = x.below;
   reported = λ waits. absurd (let n : true ≡ false = sym o.installed ∙ waits in cc);
   flush = λ f e. absurd (let n : true ≡ false = sym o.installed ∙ (x.flush f e).waits in cc);
-  view = λ u e. subst (λ (w : View). ViewFact h p c.installed t c.kept w) (same_Some v u (sym o.view ∙ e)) fact;
+  view = λ u e. subst (λ (w : View). ViewFact h p c.installed t c.sent_installs w) (same_Some v u (sym o.view ∙ e)) fact;
   state = x.state;
 }
 
@@ -84,29 +84,29 @@ outstanding-sent t p v rest m numbers sent j at k number =
 
 queued-by : {S : Type 0} (b : Bool) (h : History) (c : Core S) (which : Option ℕ) (v : View) (e : Entry) → same_address e.sender c.me ≡ b → EachPacket h
     → ((k : ℕ) (n : Numbered) → slice_get (sent_in c.me v.id h.trace) k ≡ Some n → n.number ≡ k + 1)
-    → sent_in c.me v.id h.trace ≡ own c.me (delivered_in c.me v.id h.trace) ++ c.traffic.outstanding
-    → MatchBool b (Contains c.traffic.outstanding (record { number = e.number; payload = e.payload })) (came_of c h.pool which ≡ Some (packet e.sender (bodies.Forward v.id e.number e.payload) c.me))
+    → sent_in c.me v.id h.trace ≡ own c.me (delivered_in c.me v.id h.trace) ++ c.view_state.outstanding
+    → MatchBool b (Contains c.view_state.outstanding (record { number = e.number; payload = e.payload })) (came_of c h.pool which ≡ Some (packet e.sender (bodies.Forward v.id e.number e.payload) c.me))
     → IsSent h.trace v.id e
 queued-by true h c which v e test each numbers sent out k number =
-    let at = place-of c.traffic.outstanding (record { number = e.number; payload = e.payload }) out in
+    let at = place-of c.view_state.outstanding (record { number = e.number; payload = e.payload }) out in
     ap (λ q. slice_get (sent_in q v.id h.trace) k) (same_address-true e.sender c.me test)
-    ∙ outstanding-sent h.trace c.me v.id c.traffic.outstanding (record { number = e.number; payload = e.payload }) numbers sent at.0 at.1 k number
+    ∙ outstanding-sent h.trace c.me v.id c.view_state.outstanding (record { number = e.number; payload = e.payload }) numbers sent at.0 at.1 k number
 queued-by false h c which v e test each numbers sent came k number = (said-of h c which e.sender (bodies.Forward v.id e.number e.payload) each came).fact k number
 
 pub queues-fact : {S : Type 0} (meaning : Meaning S) (h : History) (c : Core S) (which : Option ℕ) (v : View)
     (e : Entry) (waiting : List Entry) → TraceFact meaning h → EachPacket h → MemberFact meaning h c.me c
-    → MayQueue (came_of c h.pool which) c v e waiting → MemberFact meaning h c.me (with_traffic (record c.traffic { waiting = waiting }) c)
+    → MayQueue (came_of c h.pool which) c v e waiting → MemberFact meaning h c.me (with_view_core (record c.view_state { waiting = waiting }) c)
 queues-fact meaning h c which v e waiting trace each x a =
     let f = x.view v a.open_in.view in
     let sent = queued-by (same_address e.sender c.me) h c which v e refl each ((rules-of meaning h trace).ordered.messages.numbers c.me v.id) f.mine.sent a.sent in
-    let all = slice_get-split (IsSent h.trace v.id) c.traffic.waiting (e ∷ []) f.waiting (slice_get-one (IsSent h.trace v.id) e sent) in
-    open-fact meaning h c.me c v (record c.traffic { waiting = waiting }) x a.open_in (record {
+    let all = slice_get-split (IsSent h.trace v.id) c.view_state.waiting (e ∷ []) f.waiting (slice_get-one (IsSent h.trace v.id) e sent) in
+    open-fact meaning h c.me c v (record c.view_state { waiting = waiting }) x a.open_in (record {
       inside = f.inside;
       counts = f.counts;
       mine = f.mine;
       window = f.window;
       acks = f.acks;
-      waiting = λ n z at. let was = place-of (c.traffic.waiting ++ e ∷ []) z (a.fewer n z at) in all was.0 z was.1;
+      waiting = λ n z at. let was = place-of (c.view_state.waiting ++ e ∷ []) z (a.fewer n z at) in all was.0 z was.1;
       ordered = f.ordered;
       keeps = f.keeps;
     })
@@ -120,35 +120,35 @@ heard-by true t v q r n m test old new =
 heard-by false t v q r n m test old new = old
 
 pub hears-fact : {S : Type 0} (meaning : Meaning S) (h : History) (c : Core S) (which : Option ℕ) (v : View)
-    (q : Address) (n : ℕ) → EachPacket h → MemberFact meaning h c.me c → MayHear (came_of c h.pool which) c v q n
-    → MemberFact meaning h c.me (with_traffic (record c.traffic { acks = heard q n c.traffic.acks }) c)
+    (q : Address) (n : ℕ) → EachPacket h → MemberFact meaning h c.me c → MayTakeAck (came_of c h.pool which) c v q n
+    → MemberFact meaning h c.me (with_view_core (record c.view_state { acks = heard q n c.view_state.acks }) c)
 hears-fact meaning h c which v q n each x a =
     let f = x.view v a.open_in.view in
-    let counts : open_count c.me v.id h.trace ≡ c.traffic.delivered = ap (λ (s : Tally). s.count) f.counts.tally in
+    let counts : open_count c.me v.id h.trace ≡ c.view_state.delivered = ap (λ (s : Tally). s.count) f.counts.tally in
     let new : n ≤ open_count q v.id h.trace = by (same_address q c.me) refl counts a.acked in
-    open-fact meaning h c.me c v (record c.traffic { acks = heard q n c.traffic.acks }) x a.open_in (record {
+    open-fact meaning h c.me c v (record c.view_state { acks = heard q n c.view_state.acks }) x a.open_in (record {
       inside = f.inside;
       counts = f.counts;
       mine = f.mine;
       window = f.window;
-      acks = λ r. heard-by (same_address r q) h.trace v.id q r n (c.traffic.acks r) refl (f.acks r) new;
+      acks = λ r. heard-by (same_address r q) h.trace v.id q r n (c.view_state.acks r) refl (f.acks r) new;
       waiting = f.waiting;
       ordered = f.ordered;
       keeps = f.keeps;
     })
   where
-    by : (b : Bool) → same_address q c.me ≡ b → open_count c.me v.id h.trace ≡ c.traffic.delivered
-        → MatchBool b (n ≤ c.traffic.delivered) (came_of c h.pool which ≡ Some (packet q (bodies.Ack v.id n) c.me)) → n ≤ open_count q v.id h.trace
+    by : (b : Bool) → same_address q c.me ≡ b → open_count c.me v.id h.trace ≡ c.view_state.delivered
+        → MatchBool b (n ≤ c.view_state.delivered) (came_of c h.pool which ≡ Some (packet q (bodies.Ack v.id n) c.me)) → n ≤ open_count q v.id h.trace
     by true test counts so_many =
         subst (λ (z : Address). n ≤ open_count z v.id h.trace) (sym (same_address-true q c.me test)) (subst (λ k. n ≤ k) (sym counts) so_many)
     by false test counts came = (said-of h c which q (bodies.Ack v.id n) each came).fact
 
 -- ---- Collects
 
-stable-by : {S : Type 0} (h : History) (c : Core S) (which : Option ℕ) (v : View) (t : ℕ) → EachPacket h → HasAcks h.trace v.id c.traffic.acks
+stable-by : {S : Type 0} (h : History) (c : Core S) (which : Option ℕ) (v : View) (t : ℕ) → EachPacket h → HasAcks h.trace v.id c.view_state.acks
     → members_of v.id h.trace ≡ v.members → IsStable (came_of c h.pool which) c v t → AllHave h.trace v.id t 0
 stable-by h c which v t each acks members (All first all) q there =
-    let known : t ≤ c.traffic.acks q = all q (ap (stands_in q) (sym members) ∙ there) in
+    let known : t ≤ c.view_state.acks q = all q (ap (stands_in q) (sym members) ∙ there) in
     let so_many = acks q in
     omega arith
 stable-by h c which v t each acks members (Ordered g e came far) q there =
@@ -176,22 +176,22 @@ above-max a b g p = grind (arith, nat_tests)
 
 pub collects-fact : {S : Type 0} (meaning : Meaning S) (h : History) (c : Core S) (which : Option ℕ) (v : View)
     (n : ℕ) (held : List (ℕ × Entry)) → EachPacket h → MemberFact meaning h c.me c → MayCollect (came_of c h.pool which) c v n held
-    → MemberFact meaning h c.me (with_traffic (record c.traffic { stable = max c.traffic.stable n; held = held }) c)
+    → MemberFact meaning h c.me (with_view_core (record c.view_state { stable = max c.view_state.stable n; held = held }) c)
 collects-fact meaning h c which v n held each x a =
     let f = x.view v a.open_in.view in
     let members = members-are h.trace v f.inside.first in
     let new = stable-by h c which v n each f.acks members a.stable in
-    open-fact meaning h c.me c v (record c.traffic { stable = max c.traffic.stable n; held = held }) x a.open_in (record {
+    open-fact meaning h c.me c v (record c.view_state { stable = max c.view_state.stable n; held = held }) x a.open_in (record {
       inside = f.inside;
       counts = f.counts;
       mine = f.mine;
       window = record {
-        order = λ g e at. f.window.order g e (collected-at c.traffic.held held (max c.traffic.stable n) g e (nat_lt (max c.traffic.stable n) g) refl a.fewer at);
-        all = λ g past within. ap is_some (a.fewer.above g past) ∙ f.window.all g (above-max c.traffic.stable n g past) within;
+        order = λ g e at. f.window.order g e (collected-at c.view_state.held held (max c.view_state.stable n) g e (nat_lt (max c.view_state.stable n) g) refl a.fewer at);
+        all = λ g past within. ap is_some (a.fewer.above g past) ∙ f.window.all g (above-max c.view_state.stable n g past) within;
         near = λ g there.
-            at-least c.traffic.stable n g WINDOW
-            (f.window.near g (collected-there c.traffic.held held (max c.traffic.stable n) g (held_at g held) refl a.fewer there));
-        all_have = λ q there. most c.traffic.stable n (open_count q v.id h.trace + 0) (f.window.all_have q there) (new q there);
+            at-least c.view_state.stable n g WINDOW
+            (f.window.near g (collected-there c.view_state.held held (max c.view_state.stable n) g (held_at g held) refl a.fewer there));
+        all_have = λ q there. most c.view_state.stable n (open_count q v.id h.trace + 0) (f.window.all_have q there) (new q there);
       };
       acks = f.acks;
       waiting = f.waiting;
@@ -221,18 +221,18 @@ held-near false held new g k n e test more here old there =
 
 pub holds-fact : {S : Type 0} (meaning : Meaning S) (h : History) (c : Core S) (which : Option ℕ) (v : View)
     (g : ℕ) (e : Entry) (held : List (ℕ × Entry)) → EachPacket h → MemberFact meaning h c.me c → MayHold (came_of c h.pool which) c v g e held
-    → MemberFact meaning h c.me (with_traffic (record c.traffic { held = held }) c)
+    → MemberFact meaning h c.me (with_view_core (record c.view_state { held = held }) c)
 holds-fact meaning h c which v g e held each x a =
     let f = x.view v a.open_in.view in
     let said = (said-of h c which v.id.creator (bodies.Order v.id g e) each a.ordered).fact in
-    open-fact meaning h c.me c v (record c.traffic { held = held }) x a.open_in (record {
+    open-fact meaning h c.me c v (record c.view_state { held = held }) x a.open_in (record {
       inside = f.inside;
       counts = f.counts;
       mine = f.mine;
       window = record {
-        order = λ k y at. held-order (nat_eq k g) h.trace v.id c.traffic.held held g k e y refl a.more f.window.order said.order at;
-        all = λ k past within. held-all (nat_eq k g) c.traffic.held held g k e refl a.more (f.window.all k past within);
-        near = λ k there. held-near (nat_eq k g) c.traffic.held held g k (c.traffic.stable + WINDOW) e refl a.more a.near (λ y. f.window.near k y) there;
+        order = λ k y at. held-order (nat_eq k g) h.trace v.id c.view_state.held held g k e y refl a.more f.window.order said.order at;
+        all = λ k past within. held-all (nat_eq k g) c.view_state.held held g k e refl a.more (f.window.all k past within);
+        near = λ k there. held-near (nat_eq k g) c.view_state.held held g k (c.view_state.stable + WINDOW) e refl a.more a.near (λ y. f.window.near k y) there;
         all_have = f.window.all_have;
       };
       acks = f.acks;
@@ -260,7 +260,7 @@ records-fact meaning h c which f q r each x a =
       announced = x.announced;
       below = x.below;
       reported = x.reported;
-      flush = λ g e. subst (λ (z : FlushModel). RunsFlush h.pool c.me c.promise c.installed c.view c.traffic z) (same_Some _ g e) (record {
+      flush = λ g e. subst (λ (z : FlushModel). RunsFlush h.pool c.me c.promise c.installed c.view c.view_state z) (same_Some _ g e) (record {
         promised = old.promised;
         waits = old.waits;
         own = old.own;

@@ -12,11 +12,11 @@ use Rattle.trace_props.specs.declared.event.Event.TheVariants.{Installed}
 use Rattle.trace_props.specs.declared.event.Install.{Install}
 use Rattle.trace_props.specs.Observed.{current_view, entry_of}
 use Rattle.trace_props.specs.Rules.{EntersAbove}
-use Rattle.trace_props.proofs.FactOfObserved.{same_address-refl, same_address-true}
+use Rattle.address.proofs.SameIds.{same_address-refl, same_address-true}
 use Rattle.trace_props.proofs.FactOfRisingViews.{not-entered}
-use Rattle.agreement.specs.Histories.{History, flush_of, report_of, install_of, goes_from}
-use Rattle.agreement.specs.Cores.{Core, id_of, left_of}
-use Rattle.agreement.specs.Acts.{Creates, MayCreate, lone_view, gone_into, deliveries, entering}
+use Rattle.acts.specs.Histories.{History, flush_of, report_of, install_of, goes_from}
+use Rattle.acts.specs.Cores.{Core, id_of, left_of}
+use Rattle.acts.specs.Acts.{Creates, MayCreate, lone_view, gone_into, deliveries, entering}
 use Rattle.agreement.specs.Steps.{System, put, acted}
 use Rattle.agreement.specs.Members.{IsNotPast, MemberFact}
 use Rattle.agreement.specs.Invariant.{Invariant}
@@ -39,7 +39,7 @@ entering-lone c none =
       previous = id_of o;
       view = lone_view c.me;
       together = c.me ∷ [];
-      handed_back = option_map_or (λ v. left_of c.me [] c.traffic.outstanding) o [];
+      handed_back = option_map_or (λ v. left_of c.me [] c.view_state.outstanding) o [];
       given = None;
     }) ∷ []) none
 

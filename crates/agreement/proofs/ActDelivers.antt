@@ -10,7 +10,7 @@ use Rattle.std.proofs.lemmas.List.Sums.{fold-append}
 use Rattle.address.specs.Ids.{Address, ViewId, IsAddress, same_address}
 use Rattle.view.specs.Members.{View}
 use Rattle.limits.specs.declared.TheConstants.{PAYLOAD}
-use Rattle.wire.specs.Values.{Entry, held_at}
+use Rattle.wire_values.specs.Values.{Entry, held_at}
 use Rattle.state_transfer.specs.Meanings.{Meaning}
 use Rattle.trace_props.specs.declared.event.Event.{Event}
 use Rattle.trace_props.specs.declared.event.Event.TheVariants.{Delivered}
@@ -19,14 +19,15 @@ use Rattle.trace_props.specs.declared.event.Message.{Message}
 use Rattle.trace_props.specs.declared.event.Numbered.{Numbered}
 use Rattle.trace_props.specs.Observed.{has_started, delivered_in, sent_in, own, numbered}
 use Rattle.trace_props.specs.Verdicts.{GoesOn}
-use Rattle.trace_props.proofs.FactOfObserved.{same_address-true, same_address-refl, has_started-stays, has_ended-still, current_view-push, is_blocked-push}
+use Rattle.address.proofs.SameIds.{same_address-true, same_address-refl}
+use Rattle.trace_props.proofs.FactOfObserved.{has_started-stays, has_ended-still, current_view-push, is_blocked-push}
 use Rattle.trace_props.proofs.FactOfDelivered.{is_delivery_to, is_delivery_to-at, delivered_in-hit, sent_in-still, own-hit, own-miss}
 use Rattle.trace_props.specs.State.{state_of, entry_state}
 use Rattle.trace_props.proofs.RuleOfEntry.{state_of-push}
-use Rattle.agreement.specs.Words.{Open, Past, message_for, list_of, tally_of, tally_after}
-use Rattle.agreement.specs.Histories.{History}
-use Rattle.agreement.specs.Cores.{Traffic, Core, id_of, left_of, delivered_more, applied}
-use Rattle.agreement.specs.Acts.{MayDeliver}
+use Rattle.acts.specs.Words.{Open, Past, message_for, list_of, tally_of, tally_after}
+use Rattle.acts.specs.Histories.{History}
+use Rattle.acts.specs.Cores.{ViewCore, Core, id_of, left_of, delivered_more, applied}
+use Rattle.acts.specs.Acts.{MayDeliver}
 use Rattle.agreement.specs.Steps.{System, put, grown}
 use Rattle.agreement.specs.Packets.{HoldsAll, state_with}
 use Rattle.agreement.specs.Members.{ViewFact, MemberFact}
@@ -35,7 +36,7 @@ use Rattle.agreement.proofs.FactOfTally.{list_of-hit, tally_of-push}
 use Rattle.agreement.proofs.KeepOthers.{inside-later, window-later, acks-later, waiting-later, first-entered}
 use Rattle.agreement.proofs.KeepByMove.{moved}
 use Rattle.agreement.proofs.KeepWithoutInstall.{quiet-event, quiet-moves, grown-trace}
-use Rattle.agreement.proofs.Lists.{slice_get-right}
+use Rattle.acts.proofs.Lists.{slice_get-right}
 use Rattle.agreement.proofs.KeepTrace.{rules-of}
 use Rattle.agreement.proofs.KeepByStart.{nobody}
 use Rattle.agreement.proofs.FactOfOrder.{IsNext, next-of-order}
@@ -108,7 +109,7 @@ module _ {S : Type 0} (meaning : Meaning S) where
 
   -- the core after it
   abbrev delivered_next : Core S → Entry → Core S
-  delivered_next c e = record c { traffic = delivered_more c.me (e ∷ []) c.traffic; state = applied meaning c.state (e ∷ []) }
+  delivered_next c e = record c { view_state = delivered_more c.me (e ∷ []) c.view_state; state = applied meaning c.state (e ∷ []) }
 
   delivers-goes : (h : History) (c : Core S) (v : View) (e : Entry) → c.view ≡ Some v → Fact h c.me c → IsNext h.trace c.me v.id (message_for e)
       → GoesOn meaning h.trace (Delivered (delivery_of c v e))
@@ -117,7 +118,7 @@ module _ {S : Type 0} (meaning : Meaning S) where
     enters = tt;
   }
 
-  all-next : (t : Traffic) (e : Entry) → HoldsAll t.stable t.delivered t.held → held_at (t.delivered + 1) t.held ≡ Some e → HoldsAll t.stable (t.delivered + 1) t.held
+  all-next : (t : ViewCore) (e : Entry) → HoldsAll t.stable t.delivered t.held → held_at (t.delivered + 1) t.held ≡ Some e → HoldsAll t.stable (t.delivered + 1) t.held
   all-next t e all at g past within = by (nat_lt t.delivered g) refl
     where
       by : (b : Bool) → nat_lt t.delivered g ≡ b → is_some (held_at g t.held) ≡ true
@@ -136,7 +137,7 @@ module _ {S : Type 0} (meaning : Meaning S) where
       let happened = Delivered y in
       let k : History = record { pool = h.pool; trace = t ++ happened ∷ [] } in
       let f = x.view v a.open_in.view in
-      let d = c.traffic.delivered in
+      let d = c.view_state.delivered in
       let rules = rules-of meaning h i.trace in
       let next = next-of-order t me v.id e d rules.ordered.messages rules.ordered.order f.counts.delivered_count (f.window.order (d + 1) e a.next d refl) in
       let quiet = quiet-event meaning me h happened refl refl i.trace (delivers-goes h c v e a.open_in.view x next) tt in
@@ -145,7 +146,7 @@ module _ {S : Type 0} (meaning : Meaning S) where
       let list = list_of-hit me v.id t y (is_delivery_to-at y) in
       let sent = sent_in-still me v.id t happened refl in
       let tally : tally_of me v.id t ≡ record { phase = Open; count = d } = f.counts.tally ∙ ap (λ b. record { phase = cond b Open Past; count = d }) a.open_in.installed in
-      let fact : ViewFact k me c.installed (delivered_more me (e ∷ []) c.traffic) c.kept v = record {
+      let fact : ViewFact k me c.installed (delivered_more me (e ∷ []) c.view_state) c.sent_installs v = record {
         inside = inside-later h k me v m f.inside;
         counts = record {
           delivered_count = ap length list ∙ length_push (list_of me v.id t) e ∙ ap (λ n. n + 1) f.counts.delivered_count;
@@ -154,14 +155,14 @@ module _ {S : Type 0} (meaning : Meaning S) where
               ∙ ap (λ b. record { phase = cond b Open Past; count = d + 1 }) (sym a.open_in.installed);
         };
         mine = record {
-          sent = sent ∙ own-next t me v.id c.traffic.outstanding e f.mine.sent next ∙ ap (λ l. own me l ++ left_of me (e ∷ []) c.traffic.outstanding) (sym delivered_now);
+          sent = sent ∙ own-next t me v.id c.view_state.outstanding e f.mine.sent next ∙ ap (λ l. own me l ++ left_of me (e ∷ []) c.view_state.outstanding) (sym delivered_now);
           count = ap length sent ∙ f.mine.count;
         };
         window =
-            let w = window-later h k v.id c.traffic.stable d c.traffic.held m (first-entered t v.id.creator v f.inside.first) f.window in
-            record { order = w.order; all = all-next c.traffic e f.window.all a.next; near = w.near; all_have = w.all_have };
-        acks = acks-later h k v.id c.traffic.acks m f.acks;
-        waiting = waiting-later h k v.id c.traffic.waiting m f.waiting;
+            let w = window-later h k v.id c.view_state.stable d c.view_state.held m (first-entered t v.id.creator v f.inside.first) f.window in
+            record { order = w.order; all = all-next c.view_state e f.window.all a.next; near = w.near; all_have = w.all_have };
+        acks = acks-later h k v.id c.view_state.acks m f.acks;
+        waiting = waiting-later h k v.id c.view_state.waiting m f.waiting;
         ordered = λ q first. absurd (let n : true ≡ false = sym first ∙ a.other in cc);
         keeps = λ q j there. let was = f.keeps q j there in (was.0, m.install v.id q j was.1);
       } in
@@ -177,7 +178,7 @@ module _ {S : Type 0} (meaning : Meaning S) where
         below = x.below;
         reported = λ waits. absurd (let n : true ≡ false = sym a.open_in.installed ∙ waits in cc);
         flush = λ g z. absurd (let n : true ≡ false = sym a.open_in.installed ∙ (x.flush g z).waits in cc);
-        view = λ u z. subst (λ (w : View). ViewFact k me c.installed (delivered_more me (e ∷ []) c.traffic) c.kept w) (same_Some v u (sym a.open_in.view ∙ z)) fact;
+        view = λ u z. subst (λ (w : View). ViewFact k me c.installed (delivered_more me (e ∷ []) c.view_state) c.sent_installs w) (same_Some v u (sym a.open_in.view ∙ z)) fact;
         state = record {
           now = state_of-push meaning me t happened
               ∙ cond-true (same_address me me) (meaning.apply (state_of meaning me t) e.sender e.payload) (state_of meaning me t) (same_address-refl me)

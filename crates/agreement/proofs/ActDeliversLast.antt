@@ -9,7 +9,7 @@ use Rattle.std.proofs.lemmas.List.Elements.{filter_map-append}
 use Rattle.address.specs.Ids.{Address, ViewId, IsAddress, same_address}
 use Rattle.view.specs.Members.{View}
 use Rattle.limits.specs.declared.TheConstants.{PAYLOAD}
-use Rattle.wire.specs.Values.{Entry}
+use Rattle.wire_values.specs.Values.{Entry}
 use Rattle.state_transfer.specs.Meanings.{Meaning}
 use Rattle.trace_props.specs.declared.event.Event.{Event}
 use Rattle.trace_props.specs.declared.event.Event.TheVariants.{Delivered}
@@ -21,12 +21,13 @@ use Rattle.trace_props.specs.State.{state_of}
 use Rattle.trace_props.specs.Verdicts.{GoesOn}
 use Rattle.trace_props.proofs.FactOfPlaces.{slice_get-drop}
 use Rattle.trace_props.proofs.RuleOfEntry.{state_of-push}
-use Rattle.trace_props.proofs.FactOfObserved.{same_address-true, same_address-refl, has_started-stays, has_ended-still, current_view-push}
+use Rattle.address.proofs.SameIds.{same_address-true, same_address-refl}
+use Rattle.trace_props.proofs.FactOfObserved.{has_started-stays, has_ended-still, current_view-push}
 use Rattle.trace_props.proofs.FactOfDelivered.{is_delivery_to-at, delivered_in-hit, sent_in-still}
-use Rattle.agreement.specs.Words.{message_for, list_of, order_of}
-use Rattle.agreement.specs.Histories.{History}
-use Rattle.agreement.specs.Cores.{Core, id_of, left_of, applied}
-use Rattle.agreement.specs.Acts.{delivery, deliveries, undelivered}
+use Rattle.acts.specs.Words.{message_for, list_of, order_of}
+use Rattle.acts.specs.Histories.{History}
+use Rattle.acts.specs.Cores.{Core, id_of, left_of, applied}
+use Rattle.acts.specs.Acts.{delivery, deliveries, undelivered}
 use Rattle.agreement.specs.Members.{MemberFact}
 use Rattle.agreement.specs.Invariant.{TraceFact}
 use Rattle.agreement.proofs.FactOfTally.{list_of-hit, list_of-other}
@@ -34,6 +35,7 @@ use Rattle.agreement.proofs.KeepTrace.{rules-of}
 use Rattle.agreement.proofs.KeepWithoutInstall.{Quiet, quiet-refl, quiet-trans, quiet-event}
 use Rattle.agreement.proofs.FactOfOrder.{next-of-order}
 use Rattle.agreement.proofs.ActDelivers.{own-next, next-state}
+use Rattle.std.proofs.Math.Seq.{drop-nil}
 
 -- entries that come next in a view's order, for one to whom so many were delivered
 abbrev pub Follow : List Event → Address → ViewId → List Entry → Type 0
@@ -54,11 +56,6 @@ undelivered-follow t p v d base items count_is low order j e at =
     ap (slice_get (order_of v t)) same ∙ order (d - base + j) e there
 
 -- ---- their delivery
-
--- of nothing nothing is left
-drop-nil : {X : Type 0} (n : ℕ) → drop {A = X} n [] ≡ []
-drop-nil zero = refl
-drop-nil (suc n) = refl
 
 -- what is left after some and then others is what is left after all of them
 drop-twice : {X : Type 0} (n m : ℕ) (xs : List X) → drop m (drop n xs) ≡ drop (n + m) xs
@@ -208,7 +205,7 @@ module _ {S : Type 0} (meaning : Meaning S) where
     pub quiet : Quiet meaning c.me h k
     pub running : IsRunning c.me k.trace
     pub current : current_view c.me k.trace ≡ id_of c.view
-    pub view : ForSome c.view (λ v. CatchesUp h k c.me v.id c.traffic.outstanding entries)
+    pub view : ForSome c.view (λ v. CatchesUp h k c.me v.id c.view_state.outstanding entries)
     pub state : state_of meaning c.me k.trace ≡ applied meaning c.state entries
     pub is : meaning.is_state (state_of meaning c.me k.trace)
 
@@ -232,7 +229,7 @@ module _ {S : Type 0} (meaning : Meaning S) where
   goes-from h c v entries law trace x is follow =
       let k : History = delivered_on h c.me (Some v) entries in
       let f = x.view v is in
-      let stands : Stands h c.me v.id c.traffic.outstanding c.state = record {
+      let stands : Stands h c.me v.id c.view_state.outstanding c.state = record {
         trace = trace;
         running = x.standing.running;
         current = x.standing.current ∙ ap id_of is;
@@ -240,12 +237,12 @@ module _ {S : Type 0} (meaning : Meaning S) where
         state = x.state.now;
         is = x.state.is;
       } in
-      let all = delivers-last h c.me v.id c.traffic.outstanding c.state entries law stands follow in
+      let all = delivers-last h c.me v.id c.view_state.outstanding c.state entries law stands follow in
       subst (λ (o : Option View). GoesOut h (delivered_on h c.me o entries) c entries) (sym is) (record {
         quiet = all.quiet;
         running = all.running;
         current = all.current ∙ ap id_of (sym is);
-        view = λ u e. subst (λ (w : View). CatchesUp h k c.me w.id c.traffic.outstanding entries) (same_Some v u (sym is ∙ e)) all.view;
+        view = λ u e. subst (λ (w : View). CatchesUp h k c.me w.id c.view_state.outstanding entries) (same_Some v u (sym is ∙ e)) all.view;
         state = all.state;
         is = subst meaning.is_state (sym all.state) all.is;
       })

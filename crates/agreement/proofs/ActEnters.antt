@@ -7,9 +7,9 @@ use Rattle.std.proofs.lemmas.List.{append-nil, append_assoc, length-append}
 use Rattle.std.proofs.lemmas.List.Sums.{fold-append}
 use Rattle.address.specs.Ids.{Address, ViewId, same_address}
 use Rattle.view.specs.Members.{View}
-use Rattle.wire.specs.Values.{Entry, Report}
-use Rattle.wire.specs.Values as wire
-use Rattle.wire.specs.declared.packet.Body.TheVariants as bodies
+use Rattle.wire_values.specs.Values.{Entry, Report}
+use Rattle.wire_values.specs.Values as wire
+use Rattle.wire_values.specs.declared.packet.Body.TheVariants as bodies
 use Rattle.state_transfer.specs.Meanings.{Meaning}
 use Rattle.trace_props.specs.declared.event.Event.{Event}
 use Rattle.trace_props.specs.declared.event.Event.TheVariants.{Installed}
@@ -17,10 +17,10 @@ use Rattle.trace_props.specs.declared.event.Numbered.{Numbered}
 use Rattle.trace_props.specs.Observed.{delivered_in, sent_in, own}
 use Rattle.trace_props.specs.Rules.{IsBelow}
 use Rattle.trace_props.specs.State.{entry_state}
-use Rattle.agreement.specs.Words.{list_of}
-use Rattle.agreement.specs.Histories.{Posted, History, flush_of, report_of}
-use Rattle.agreement.specs.Cores.{Core, id_of, report_with, left_of, applied}
-use Rattle.agreement.specs.Acts.{Enters, MayEnter, gone_into, undelivered, delivered_at, state_into, deliveries}
+use Rattle.acts.specs.Words.{list_of}
+use Rattle.acts.specs.Histories.{Posted, History, flush_of, report_of}
+use Rattle.acts.specs.Cores.{Core, id_of, report_with, left_of, applied}
+use Rattle.acts.specs.Acts.{Enters, MayEnter, gone_into, undelivered, delivered_at, state_into, deliveries}
 use Rattle.agreement.specs.Steps.{System, put, came_of, acted}
 use Rattle.agreement.specs.Packets.{end_of, IsCutOf, IsFitting, IsInstruction, state_with}
 use Rattle.agreement.specs.Members.{LiesBelow, MemberFact}
@@ -72,14 +72,14 @@ module _ {S : Type 0} (meaning : Meaning S) where
 
   -- what is handed back
   abbrev left_back : Core S → wire.Install → List Numbered
-  left_back c i = option_map_or (λ (v : View). left_of c.me (last_delivered c i) c.traffic.outstanding) c.view []
+  left_back c i = option_map_or (λ (v : View). left_of c.me (last_delivered c i) c.view_state.outstanding) c.view []
 
   abbrev mine_of : Core S → Report
-  mine_of c = report_with c.view c.traffic
+  mine_of c = report_with c.view c.view_state
 
   -- in a view, what is delivered is what was not yet delivered of the cut
-  last-is : (c : Core S) (i : wire.Install) (v : View) → c.view ≡ Some v → last_delivered c i ≡ undelivered c.traffic.delivered i.base i.items
-  last-is c i v e = ap (λ o. option_map_or (λ (u : View). undelivered c.traffic.delivered i.base i.items) o []) e
+  last-is : (c : Core S) (i : wire.Install) (v : View) → c.view ≡ Some v → last_delivered c i ≡ undelivered c.view_state.delivered i.base i.items
+  last-is c i v e = ap (λ o. option_map_or (λ (u : View). undelivered c.view_state.delivered i.base i.items) o []) e
 
   cut-in : (h : History) (c : Core S) (i : wire.Install) (v : View) → IsFitting h i.view.id c.me i (mine_of c) → c.view ≡ Some v → IsCutOf h.trace i.base i.items (mine_of c) v.id
   cut-in h c i v fits e = fits.cut v.id (ap id_of e)
@@ -88,7 +88,7 @@ module _ {S : Type 0} (meaning : Meaning S) where
   follows h c i x fits v e =
       let cut = cut-in h c i v fits e in
       subst (λ (l : List Entry). Follow h.trace c.me v.id l) (sym (last-is c i v e))
-      (undelivered-follow h.trace c.me v.id c.traffic.delivered i.base i.items (x.view v e).counts.delivered_count cut.low cut.order)
+      (undelivered-follow h.trace c.me v.id c.view_state.delivered i.base i.items (x.view v e).counts.delivered_count cut.low cut.order)
 
   -- then it has delivered the order up to the end of the cut
   ends : (h k : History) (c : Core S) (i : wire.Install) → Fact h c.me c → IsFitting h i.view.id c.me i (mine_of c)
@@ -97,8 +97,8 @@ module _ {S : Type 0} (meaning : Meaning S) where
       let cut = cut-in h c i v fits e in
       ap length (list v e) ∙ length-append (list_of c.me v.id h.trace) (last_delivered c i)
       ∙ ap (λ n. n + length (last_delivered c i)) (x.view v e).counts.delivered_count
-      ∙ ap (λ (l : List Entry). c.traffic.delivered + length l) (last-is c i v e)
-      ∙ undelivered-end c.traffic.delivered i.base i.items cut.low cut.high
+      ∙ ap (λ (l : List Entry). c.view_state.delivered + length l) (last-is c i v e)
+      ∙ undelivered-end c.view_state.delivered i.base i.items cut.low cut.high
 
   -- once it delivered its last entries it is ready
   ready : (s : System S) (c : Core S) (i : wire.Install) (k : History) → Invariant meaning s → Fact s.history c.me c
@@ -122,9 +122,9 @@ module _ {S : Type 0} (meaning : Meaning S) where
         report = quiet.later.report p i.view.id (mine_of c) report;
         end = for-id (λ v. length (list_of p v k.trace) ≡ end_of i) c.view (ends h k c i x fits (λ v e. (out.view v e).list));
         rest = match-id (left_back c i ≡ []) (λ v. sent_in p v k.trace ≡ own p (delivered_in p v k.trace) ++ left_back c i) c.view
-            (λ e. ap (λ o. option_map_or (λ (v : View). left_of p (last_delivered c i) c.traffic.outstanding) o []) e)
+            (λ e. ap (λ o. option_map_or (λ (v : View). left_of p (last_delivered c i) c.view_state.outstanding) o []) e)
             (λ v e. (out.view v e).sent
-            ∙ ap (λ (l : List Numbered). own p (delivered_in p v.id k.trace) ++ l) (sym (ap (λ o. option_map_or (λ (u : View). left_of p (last_delivered c i) c.traffic.outstanding) o []) e)));
+            ∙ ap (λ (l : List Numbered). own p (delivered_in p v.id k.trace) ++ l) (sym (ap (λ o. option_map_or (λ (u : View). left_of p (last_delivered c i) c.view_state.outstanding) o []) e)));
         now = out.state;
         in_view = for-id (λ v. state_with meaning v (list_of p v k.trace) k.trace ≡ Some (applied meaning c.state (last_delivered c i))) c.view (λ v e.
             ap (λ l. state_with meaning v.id l k.trace) (out.view v e).list
@@ -190,7 +190,7 @@ module _ {S : Type 0} (meaning : Meaning S) where
       let report : report_of p i.view.id h.pool ≡ Some (mine_of c) = x.reported a.waiting i.view a.promised said.other in
       let out : GoesOut meaning h k c entries =
       goes-out meaning h c entries law inv.trace x (follows h c i x (instructed_so.fits (mine_of c) report))
-      (λ e. ap (λ o. option_map_or (λ (u : View). undelivered c.traffic.delivered i.base i.items) o []) e) in
+      (λ e. ap (λ o. option_map_or (λ (u : View). undelivered c.view_state.delivered i.base i.items) o []) e) in
       let y = ready s c i k inv x instructed_so a.promised a.waiting report out refl a.readable in
       let mine = going p i (id_of c.view) (left_back c i) in
       subst (λ (l : History). Invariant meaning (record { running = put p (Some (gone_into i.view (state_into meaning c entries i.state) [] c)) s.running; history = l }))

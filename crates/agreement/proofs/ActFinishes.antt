@@ -3,11 +3,10 @@ use Rattle.std.proofs.Common.{◌≡◌, ◌+◌, Bool, true, false, cond, Optio
 use Rattle.std.specs.Option.{option_map, option_eq}
 use Rattle.std.proofs.lemmas.Option.{none-some, same_Some}
 use Rattle.std.proofs.lemmas.List.{append_assoc, length-append}
-use Rattle.std.proofs.lemmas.List.Sums.{fold-append}
 use Rattle.address.specs.Ids.{Address, ViewId, same_view_id}
 use Rattle.view.specs.Members.{View, stands_in}
-use Rattle.wire.specs.Values.{Entry, Report}
-use Rattle.wire.specs.Values as wire
+use Rattle.wire_values.specs.Values.{Entry, Report}
+use Rattle.wire_values.specs.Values as wire
 use Rattle.state_transfer.specs.Meanings.{Meaning}
 use Rattle.flush.specs.Flushes.{FlushModel}
 use Rattle.trace_props.specs.declared.event.Event.{Event}
@@ -15,11 +14,11 @@ use Rattle.trace_props.specs.declared.event.Event.TheVariants.{Installed}
 use Rattle.trace_props.specs.declared.event.Install.{Install}
 use Rattle.trace_props.specs.Observed.{entry_of}
 use Rattle.trace_props.specs.State.{entry_state}
-use Rattle.trace_props.proofs.FactOfObserved.{same_view_id-true}
-use Rattle.agreement.specs.Words.{list_of}
-use Rattle.agreement.specs.Histories.{Posted, History, install_of}
-use Rattle.agreement.specs.Cores.{Core, id_of, report_with, applied}
-use Rattle.agreement.specs.Acts.{Cuts, Finishes, MayFinish, proposed, others_of, instruction_for, state_after_cut, gone_into, deliveries}
+use Rattle.address.proofs.SameIds.{same_view_id-true}
+use Rattle.acts.specs.Words.{list_of}
+use Rattle.acts.specs.Histories.{Posted, History, install_of}
+use Rattle.acts.specs.Cores.{Core, id_of, report_with, applied}
+use Rattle.acts.specs.Acts.{Cuts, Finishes, MayFinish, proposed, others_of, instruction_for, state_after_cut, gone_into, deliveries}
 use Rattle.agreement.specs.Steps.{System, put, acted}
 use Rattle.agreement.specs.Packets.{PacketFact, GivesState, BeginsWith, state_with}
 use Rattle.agreement.specs.Members.{IsNotPast, MemberFact}
@@ -36,16 +35,7 @@ use Rattle.agreement.proofs.KeepByFirstInstall.{made_on, made-later, made}
 use Rattle.agreement.proofs.FactOfInstructions.{kept_by, instructing, kept-there, kept-which, instructing-each, install-kept, install-still, instructing-reports, instructing-announces}
 use Rattle.agreement.proofs.FactOfFinished.{IsFinished, IsPutOut, instructed-report, all-answered, together-as, instructs}
 use Rattle.agreement.proofs.FactMayInstall.{last_entries, maker_install, IsReady, ready, departs}
-
--- more entries are applied
-state_with-append : {S : Type 0} (meaning : Meaning S) (v : ViewId) (entries more : List Entry) (t : List Event) (s : S)
-    → state_with meaning v entries t ≡ Some s → state_with meaning v (entries ++ more) t ≡ Some (applied meaning s more)
-state_with-append {S} meaning v entries more t s is = by (entry_state meaning v t) is
-  where
-    by : (o : Option S) → option_map (λ z. applied meaning z entries) o ≡ Some s → option_map (λ z. applied meaning z (entries ++ more)) o ≡ Some (applied meaning s more)
-    by None x = absurd (none-some s x)
-    by (Some z) x =
-        ap Some (fold-append (λ y (w : Entry). meaning.apply y w.sender w.payload) z entries more ∙ ap (λ y. applied meaning y more) (same_Some (applied meaning z entries) s x))
+use Rattle.agreement.proofs.ActEnters.{state_with-append}
 
 -- nobody was instructed to go into a view that its coordinator has not installed
 no-install : (h : History) (w : ViewId) (q : Address) → EachPacket h → entry_of w.creator w h.trace ≡ None → install_of w q h.pool ≡ None
@@ -76,10 +66,10 @@ module _ {S : Type 0} (meaning : Meaning S) where
       → MayFinish c v f cuts → IsReady meaning s.history c v f cuts
       → GoesOut meaning s.history (before_by s.history c v cuts) c (last_entries c v cuts)
   finishes-out s c v f cuts law inv x a y =
-      let own = y.cut c.me (report_with c.view c.traffic) v.id y.runs.itself (ap id_of a.view) in
+      let own = y.cut c.me (report_with c.view c.view_state) v.id y.runs.itself (ap id_of a.view) in
       goes-out meaning s.history c (last_entries c v cuts) law inv.trace x
       (λ u e. subst (λ (z : View). Follow s.history.trace c.me z.id (last_entries c v cuts)) (same_Some v u (sym a.view ∙ e))
-      (undelivered-follow s.history.trace c.me v.id c.traffic.delivered (cuts.base v.id) (cuts.items v.id) (y.inside v a.view).counts.delivered_count own.low own.order))
+      (undelivered-follow s.history.trace c.me v.id c.view_state.delivered (cuts.base v.id) (cuts.items v.id) (y.inside v a.view).counts.delivered_count own.low own.order))
       (λ none. absurd (none-some v (sym none ∙ a.view)))
 
   -- an instruction gives the state with which the view begins to all who come from another view than its coordinator
@@ -133,12 +123,12 @@ module _ {S : Type 0} (meaning : Meaning S) where
   ends-at h h1 c v f cuts i is y out u left =
       let t = h1.trace ++ Installed i ∷ [] in
       let entries = last_entries c v cuts in
-      let own = y.cut c.me (report_with c.view c.traffic) v.id y.runs.itself (ap id_of is) in
+      let own = y.cut c.me (report_with c.view c.view_state) v.id y.runs.itself (ap id_of is) in
       let long : length (list_of c.me v.id t) ≡ cuts.base v.id + length (cuts.items v.id) =
       ap length (list_of-still c.me v.id h1.trace (Installed i) refl ∙ (out.view v is).list)
       ∙ length-append (list_of c.me v.id h.trace) entries
       ∙ ap (λ n. n + length entries) (y.inside v is).counts.delivered_count
-      ∙ undelivered-end c.traffic.delivered (cuts.base v.id) (cuts.items v.id) own.low own.high in
+      ∙ undelivered-end c.view_state.delivered (cuts.base v.id) (cuts.items v.id) own.low own.high in
       subst (λ (a : ViewId). length (list_of c.me a t) ≡ cuts.base a + length (cuts.items a)) (same_Some v.id u (sym (ap id_of is) ∙ left)) long
 
   -- the act keeps the invariant
@@ -149,7 +139,7 @@ module _ {S : Type 0} (meaning : Meaning S) where
       let p = c.me in
       let w = f.proposal in
       let list = others_of p f.members in
-      let mine = report_with c.view c.traffic in
+      let mine = report_with c.view c.view_state in
       let z = state_after_cut meaning c v cuts in
       let g = each_by c v f cuts in
       let h1 = before_by h c v cuts in
@@ -169,7 +159,7 @@ module _ {S : Type 0} (meaning : Meaning S) where
         view = refl;
         previous = refl;
         itself = runs.itself;
-        recorded = (flush-later h k p c.promise false c.view c.traffic f later runs).recorded;
+        recorded = (flush-later h k p c.promise false c.view c.view_state f later runs).recorded;
         all = a.all;
       } in
       let fresh = λ (q : Address). install-kept p w q g list h.pool (λ r. refl)

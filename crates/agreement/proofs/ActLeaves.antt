@@ -8,8 +8,8 @@ use Rattle.trace_props.specs.declared.event.Event.{Event}
 use Rattle.trace_props.specs.declared.event.Event.TheVariants.{Left, Crashed}
 use Rattle.trace_props.specs.Rules.{IsRunning}
 use Rattle.trace_props.specs.Verdicts.{GoesOn}
-use Rattle.agreement.specs.Histories.{History}
-use Rattle.agreement.specs.Cores.{Core}
+use Rattle.acts.specs.Histories.{History}
+use Rattle.acts.specs.Cores.{Core}
 use Rattle.agreement.specs.Steps.{System, put, grown}
 use Rattle.agreement.specs.Members.{MemberFact}
 use Rattle.agreement.specs.Invariant.{Invariant}

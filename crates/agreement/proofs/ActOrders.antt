@@ -9,7 +9,7 @@ use Rattle.std.proofs.lemmas.List.{append-nil, length_push}
 use Rattle.address.specs.Ids.{Address, ViewId, same_address}
 use Rattle.view.specs.Members.{View}
 use Rattle.limits.specs.declared.TheConstants.{WINDOW}
-use Rattle.wire.specs.Values.{Entry, held_at}
+use Rattle.wire_values.specs.Values.{Entry, held_at}
 use Rattle.state_transfer.specs.Meanings.{Meaning}
 use Rattle.trace_props.specs.declared.event.Event.{Event}
 use Rattle.trace_props.specs.declared.event.Event.TheVariants.{Delivered}
@@ -19,18 +19,19 @@ use Rattle.trace_props.specs.Observed.{delivered_in, sent_in, own, numbered}
 use Rattle.trace_props.specs.Verdicts.{GoesOn}
 use Rattle.trace_props.specs.State.{state_of}
 use Rattle.trace_props.proofs.FactOfPlaces.{slice_get-last}
-use Rattle.trace_props.proofs.FactOfObserved.{same_address-true, same_address-sym, same_address-refl, has_started-stays, has_ended-still, current_view-push, is_blocked-push}
+use Rattle.address.proofs.SameIds.{same_address-true, same_address-sym, same_address-refl}
+use Rattle.trace_props.proofs.FactOfObserved.{has_started-stays, has_ended-still, current_view-push, is_blocked-push}
 use Rattle.trace_props.proofs.FactOfDelivered.{is_delivery_to, is_delivery_to-at, delivered_in-hit, sent_in-still, own-hit, own-miss}
 use Rattle.trace_props.proofs.RuleOfEntry.{state_of-push}
-use Rattle.agreement.specs.Words.{Open, Past, message_for, list_of, tally_of, tally_after}
-use Rattle.agreement.specs.Histories.{History}
-use Rattle.agreement.specs.Cores.{Traffic, Core, id_of, left_of, delivered_more, applied}
-use Rattle.agreement.specs.Acts.{Orders, MayOrder, HoldsMore, one_more}
+use Rattle.acts.specs.Words.{Open, Past, message_for, list_of, tally_of, tally_after}
+use Rattle.acts.specs.Histories.{History}
+use Rattle.acts.specs.Cores.{ViewCore, Core, id_of, left_of, delivered_more, applied}
+use Rattle.acts.specs.Acts.{Orders, MayOrder, HoldsMore, one_more}
 use Rattle.agreement.specs.Steps.{System, acted, put}
 use Rattle.agreement.specs.Packets.{IsOrdered, HoldsAll, state_with}
 use Rattle.agreement.specs.Members.{HasWindow, HasWaiting, HasOrdered, ViewFact, MemberFact}
 use Rattle.agreement.specs.Invariant.{Invariant}
-use Rattle.agreement.proofs.Lists.{place-of}
+use Rattle.acts.proofs.Lists.{place-of}
 use Rattle.agreement.proofs.FactOfTally.{list_of-hit, tally_of-push}
 use Rattle.agreement.proofs.KeepPackets.{sent-later}
 use Rattle.agreement.proofs.KeepOthers.{inside-later, window-later, acks-later, first-entered}
@@ -48,10 +49,10 @@ record IsDue (t : List Event) (p : Address) (v : ViewId) (m : Message) : Type 0 
   sent : slice_get (sent_in m.sender v t) (length (own m.sender (delivered_in p v t))) ≡ Some (numbered m)
 
 -- what waits was sent, and what was ordered is counted, so a message that may be ordered is due
-due-of : {S : Type 0} (t : List Event) (c : Core S) (v : View) (e : Entry) (waiting : List Entry) (held : List (ℕ × Entry)) → HasWaiting t v.id c.traffic.waiting
-    → HasOrdered t c.me v.id c.traffic.ordered → MayOrder c v e waiting held → IsDue t c.me v.id (message_for e)
+due-of : {S : Type 0} (t : List Event) (c : Core S) (v : View) (e : Entry) (waiting : List Entry) (held : List (ℕ × Entry)) → HasWaiting t v.id c.view_state.waiting
+    → HasOrdered t c.me v.id c.view_state.ordered → MayOrder c v e waiting held → IsDue t c.me v.id (message_for e)
 due-of t c v e waiting held waits ordered a =
-    let at = place-of c.traffic.waiting e a.waits in
+    let at = place-of c.view_state.waiting e a.waits in
     let number : e.number ≡ length (own e.sender (delivered_in c.me v.id t)) + 1 = a.next ∙ ap (λ n. n + 1) (ordered e.sender a.first) in
     record { number = number; sent = waits at.0 e at.1 (length (own e.sender (delivered_in c.me v.id t))) number }
 
@@ -100,11 +101,11 @@ module _ {S : Type 0} (meaning : Meaning S) where
   delivery_of c v e = record { member = c.me; view = v.id; message = message_for e }
 
   -- the traffic and the core after it
-  abbrev ordering : Core S → Entry → List Entry → List (ℕ × Entry) → Traffic
-  ordering c e waiting held = record (delivered_more c.me (e ∷ []) c.traffic) { waiting = waiting; held = held; ordered = one_more e.sender c.traffic.ordered }
+  abbrev ordering : Core S → Entry → List Entry → List (ℕ × Entry) → ViewCore
+  ordering c e waiting held = record (delivered_more c.me (e ∷ []) c.view_state) { waiting = waiting; held = held; ordered = one_more e.sender c.view_state.ordered }
 
   abbrev with_ordered : Core S → Entry → List Entry → List (ℕ × Entry) → Core S
-  with_ordered c e waiting held = record c { traffic = ordering c e waiting held; state = applied meaning c.state (e ∷ []) }
+  with_ordered c e waiting held = record c { view_state = ordering c e waiting held; state = applied meaning c.state (e ∷ []) }
 
   -- it may follow
   orders-goes : (h : History) (c : Core S) (v : View) (e : Entry) → c.view ≡ Some v → same_address c.me v.id.creator ≡ true → Fact h c.me c → IsDue h.trace c.me v.id (message_for e)
@@ -126,7 +127,7 @@ module _ {S : Type 0} (meaning : Meaning S) where
       let happened = Delivered y in
       let k : History = record { pool = h.pool; trace = t ++ happened ∷ [] } in
       let f = x.view v a.open_in.view in
-      let d = c.traffic.delivered in
+      let d = c.view_state.delivered in
       let due = due-of t c v e waiting held f.waiting f.ordered a in
       let quiet = quiet-event meaning me h happened refl refl i.trace (orders-goes h c v e a.open_in.view a.first x due) tt in
       let m = quiet.later in
@@ -134,7 +135,7 @@ module _ {S : Type 0} (meaning : Meaning S) where
       let list : list_of me v.id k.trace ≡ list_of me v.id t ++ e ∷ [] = list_of-hit me v.id t y (is_delivery_to-at y) in
       let sent = sent_in-still me v.id t happened refl in
       let tally : tally_of me v.id t ≡ record { phase = Open; count = d } = f.counts.tally ∙ ap (λ b. record { phase = cond b Open Past; count = d }) a.open_in.installed in
-      let fact : ViewFact k me c.installed (ordering c e waiting held) c.kept v = record {
+      let fact : ViewFact k me c.installed (ordering c e waiting held) c.sent_installs v = record {
         inside = inside-later h k me v m f.inside;
         counts = record {
           delivered_count = ap length list ∙ length_push (list_of me v.id t) e ∙ ap (λ n. n + 1) f.counts.delivered_count;
@@ -144,18 +145,18 @@ module _ {S : Type 0} (meaning : Meaning S) where
         };
         mine = record {
           sent = sent
-              ∙ own-by (same_address e.sender me) me (delivered_in me v.id t) (sent_in me v.id t) c.traffic.outstanding (message_for e) refl f.mine.sent
+              ∙ own-by (same_address e.sender me) me (delivered_in me v.id t) (sent_in me v.id t) c.view_state.outstanding (message_for e) refl f.mine.sent
               (λ same. ap (λ q. slice_get (sent_in q v.id t) (length (own e.sender (delivered_in me v.id t)))) (sym same) ∙ due.sent)
-              ∙ ap (λ l. own me l ++ left_of me (e ∷ []) c.traffic.outstanding) (sym delivered_now);
+              ∙ ap (λ l. own me l ++ left_of me (e ∷ []) c.view_state.outstanding) (sym delivered_now);
           count = ap length sent ∙ f.mine.count;
         };
         window =
-            let w = window-later h k v.id c.traffic.stable d c.traffic.held m (first-entered t v.id.creator v f.inside.first) f.window in
-            window-next k.trace v.id c.traffic.stable d c.traffic.held held e w (ordered-last t k.trace me v.id d e a.first list f.counts.delivered_count) a.room a.more;
-        acks = acks-later h k v.id c.traffic.acks m f.acks;
-        waiting = λ n z at. let was = place-of c.traffic.waiting z (a.fewer n z at) in sent-later h k v.id z m (f.waiting was.0 z was.1);
+            let w = window-later h k v.id c.view_state.stable d c.view_state.held m (first-entered t v.id.creator v f.inside.first) f.window in
+            window-next k.trace v.id c.view_state.stable d c.view_state.held held e w (ordered-last t k.trace me v.id d e a.first list f.counts.delivered_count) a.room a.more;
+        acks = acks-later h k v.id c.view_state.acks m f.acks;
+        waiting = λ n z at. let was = place-of c.view_state.waiting z (a.fewer n z at) in sent-later h k v.id z m (f.waiting was.0 z was.1);
         ordered = λ q first.
-            ordered-by (same_address q e.sender) q (delivered_in me v.id t) (message_for e) (c.traffic.ordered q) refl (f.ordered q first) ∙ ap (λ l. length (own q l)) (sym delivered_now);
+            ordered-by (same_address q e.sender) q (delivered_in me v.id t) (message_for e) (c.view_state.ordered q) refl (f.ordered q first) ∙ ap (λ l. length (own q l)) (sym delivered_now);
         keeps = λ q j there. let was = f.keeps q j there in (was.0, m.install v.id q j was.1);
       } in
       let after : Core S = with_ordered c e waiting held in
@@ -171,7 +172,7 @@ module _ {S : Type 0} (meaning : Meaning S) where
         below = x.below;
         reported = λ waits. absurd (let n : true ≡ false = sym a.open_in.installed ∙ waits in cc);
         flush = λ g z. absurd (let n : true ≡ false = sym a.open_in.installed ∙ (x.flush g z).waits in cc);
-        view = λ u z. subst (λ (w : View). ViewFact k me c.installed (ordering c e waiting held) c.kept w) (same_Some v u (sym a.open_in.view ∙ z)) fact;
+        view = λ u z. subst (λ (w : View). ViewFact k me c.installed (ordering c e waiting held) c.sent_installs w) (same_Some v u (sym a.open_in.view ∙ z)) fact;
         state = record {
           now = state_of-push meaning me t happened
               ∙ cond-true (same_address me me) (meaning.apply (state_of meaning me t) e.sender e.payload) (state_of meaning me t) (same_address-refl me)

@@ -6,21 +6,21 @@ use Rattle.std.proofs.lemmas.Bool.{cond-true, cond-false}
 use Rattle.std.proofs.lemmas.Option.{none-some, same_Some}
 use Rattle.address.specs.Ids.{Address, ViewId, same_address, same_view_id}
 use Rattle.view.specs.Members.{View, stands_in}
-use Rattle.wire.specs.Values.{Report}
-use Rattle.wire.specs.declared.packet.Body.TheVariants as bodies
+use Rattle.wire_values.specs.Values.{Report}
+use Rattle.wire_values.specs.declared.packet.Body.TheVariants as bodies
 use Rattle.state_transfer.specs.Meanings.{Meaning}
 use Rattle.trace_props.specs.declared.event.Event.{Event}
 use Rattle.trace_props.specs.Rules.{IsBelow}
-use Rattle.trace_props.proofs.FactOfObserved.{same_address-refl, same_address-sym, same_view_id-refl, same_view_id-true}
+use Rattle.address.proofs.SameIds.{same_address-refl, same_address-sym, same_view_id-refl, same_view_id-true}
 use Rattle.trace_props.proofs.FactOfRisingViews.{IsBelow-irreflexive}
-use Rattle.agreement.specs.Histories.{Posted, History, flush_in, install_in, report_by, flush_of, report_of}
-use Rattle.agreement.specs.Cores.{Core, Traffic, id_of, report_with}
-use Rattle.agreement.specs.Acts.{IsAbovePromise, IsPromised, MayPromise, packet, promised, blocking}
+use Rattle.acts.specs.Histories.{Posted, History, flush_in, install_in, report_by, flush_of, report_of}
+use Rattle.acts.specs.Cores.{Core, ViewCore, id_of, report_with}
+use Rattle.acts.specs.Acts.{IsAbovePromise, IsPromised, MayPromise, packet, promised, blocking}
 use Rattle.agreement.specs.Steps.{System, put, grown, came_of}
 use Rattle.agreement.specs.Packets.{PacketFact, IsAnswer, IsProposal}
 use Rattle.agreement.specs.Members.{LiesBelow, IsNotPast, IsReported, PromiseOf, MemberFact}
 use Rattle.agreement.specs.Invariant.{Invariant}
-use Rattle.agreement.proofs.Lists.{first_of-append, first_of-still, slice_get-one}
+use Rattle.acts.proofs.Lists.{first_of-append, first_of-still, slice_get-one}
 use Rattle.agreement.proofs.KeepHistory.{flush_of-kept, report_of-kept}
 use Rattle.agreement.proofs.KeepOthers.{IsFrom}
 use Rattle.agreement.proofs.KeepByMove.{Moves, moved}
@@ -88,15 +88,15 @@ again-is None w e = absurd (none-some w e)
 again-is (Some u) w e = same_Some u.id w e
 
 -- the report for it is what it was
-pub report-again : (pool : List Posted) (p : Address) (promise view : Option View) (installed : Bool) (traffic : Traffic) (w : ViewId) → IsPromised w promise installed
-    → same_address w.creator p ≡ false → IsReported pool p promise installed view traffic → report_of p w pool ≡ Some (report_with view traffic)
-report-again pool p promise view installed traffic w x other reported = by promise (again-is promise w x.0) (reported x.1)
+pub report-again : (pool : List Posted) (p : Address) (promise view : Option View) (installed : Bool) (view_state : ViewCore) (w : ViewId) → IsPromised w promise installed
+    → same_address w.creator p ≡ false → IsReported pool p promise installed view view_state → report_of p w pool ≡ Some (report_with view view_state)
+report-again pool p promise view installed view_state w x other reported = by promise (again-is promise w x.0) (reported x.1)
   where
-    by : (o : Option View) → IsSomeAnd o (λ u. u.id ≡ w) → ForSome o (λ u. same_address u.id.creator p ≡ false → report_of p u.id pool ≡ Some (report_with view traffic))
-        → report_of p w pool ≡ Some (report_with view traffic)
+    by : (o : Option View) → IsSomeAnd o (λ u. u.id ≡ w) → ForSome o (λ u. same_address u.id.creator p ≡ false → report_of p u.id pool ≡ Some (report_with view view_state))
+        → report_of p w pool ≡ Some (report_with view view_state)
     by None is past = absurd is
     by (Some u) is past =
-        subst (λ (v : ViewId). report_of p v pool ≡ Some (report_with view traffic)) is (past u refl (ap (λ (v : ViewId). same_address v.creator p) is ∙ other))
+        subst (λ (v : ViewId). report_of p v pool ≡ Some (report_with view view_state)) is (past u refl (ap (λ (v : ViewId). same_address v.creator p) is ∙ other))
 
 pub above-again : (p : Address) (promise view : Option View) (installed : Bool) (w : ViewId) → IsPromised w promise installed → PromiseOf p promise view installed
     → ForSome view (λ v. IsBelow v.id w)
@@ -126,12 +126,12 @@ pub above-risen : (p : Address) (promise view : Option View) (installed : Bool) 
 above-risen p promise view installed w (inl above) own = view-below installed p promise view installed w refl own above
 above-risen p promise view installed w (inr again) own = above-again p promise view installed w.id again own
 
-pub report-risen : (pool : List Posted) (p : Address) (promise view : Option View) (installed : Bool) (traffic : Traffic) (w : ViewId) → MayRise w promise installed
-    → LiesBelow pool p promise → same_address w.creator p ≡ false → IsReported pool p promise installed view traffic
-    → report_of p w (pool ++ reporting p w (report_with view traffic) ∷ []) ≡ Some (report_with view traffic)
-report-risen pool p promise view installed traffic w (inl above) below other reported = report-new p w (report_with view traffic) pool (never-reported pool p promise w below above)
-report-risen pool p promise view installed traffic w (inr again) below other reported =
-    report_of-kept p w pool (reporting p w (report_with view traffic) ∷ []) (report_with view traffic) (report-again pool p promise view installed traffic w again other reported)
+pub report-risen : (pool : List Posted) (p : Address) (promise view : Option View) (installed : Bool) (view_state : ViewCore) (w : ViewId) → MayRise w promise installed
+    → LiesBelow pool p promise → same_address w.creator p ≡ false → IsReported pool p promise installed view view_state
+    → report_of p w (pool ++ reporting p w (report_with view view_state) ∷ []) ≡ Some (report_with view view_state)
+report-risen pool p promise view installed view_state w (inl above) below other reported = report-new p w (report_with view view_state) pool (never-reported pool p promise w below above)
+report-risen pool p promise view installed view_state w (inr again) below other reported =
+    report_of-kept p w pool (reporting p w (report_with view view_state) ∷ []) (report_with view view_state) (report-again pool p promise view installed view_state w again other reported)
 
 -- ---- the act
 
@@ -153,19 +153,19 @@ module _ {S : Type 0} (meaning : Meaning S) where
   -- what is new of the history, and of the member
   pub promises-moves : (s : System S) (c : Core S) (which : Option ℕ) (w : View) → Invariant meaning s → Fact s.history c.me c
       → MayPromise (came_of c s.history.pool which) c w
-      → Moves meaning c.me s.history (grown s.history (reporting c.me w.id (report_with c.view c.traffic) ∷ []) (blocking c)) (Some (promised w None c))
+      → Moves meaning c.me s.history (grown s.history (reporting c.me w.id (report_with c.view c.view_state) ∷ []) (blocking c)) (Some (promised w None c))
   promises-moves s c which w i x a =
       let h = s.history in
       let p = c.me in
-      let r = report_with c.view c.traffic in
+      let r = report_with c.view c.view_state in
       let m = reporting p w.id r in
       let h1 = with_blocked h p c.view c.installed in
       let k = grown h (m ∷ []) (blocking c) in
       let said = said-of h c which w.id.creator (bodies.Flush w) i.packets a.asked in
       let asked : IsProposal h w.id.creator w = said.fact in
-      let halted = halts meaning h p c.view c.installed c.traffic c.kept c.state i.trace x.promise.inside x.standing x.view x.state in
+      let halted = halts meaning h p c.view c.installed c.view_state c.sent_installs c.state i.trace x.promise.inside x.standing x.view x.state in
       let other = same_address-sym p w.id.creator ∙ said.other in
-      let first : report_of p w.id k.pool ≡ Some r = report-risen h.pool p c.promise c.view c.installed c.traffic w.id a.above x.below said.other x.reported in
+      let first : report_of p w.id k.pool ≡ Some r = report-risen h.pool p c.promise c.view c.installed c.view_state w.id a.above x.below said.other x.reported in
       let posted = quiet-packets meaning p h1 (m ∷ []) halted.standing.running.started
       (slice_get-one (IsFrom p) m (record { source = refl; mine = tt }))
       (λ n y v at. slice_get-one (λ (z : Posted). install_in v z.body ≡ None) m refl n y at) halted.quiet.trace in
@@ -174,7 +174,7 @@ module _ {S : Type 0} (meaning : Meaning S) where
       let answer : IsAnswer k p w.id r = record {
         other = other;
         one = first;
-        true_of = says_of h1 p c.view c.traffic c.kept halted.inside;
+        true_of = says_of h1 p c.view c.view_state c.sent_installs halted.inside;
       } in
       let fact : Fact k p (promised w None c) = record {
         standing = halted.standing;
@@ -207,7 +207,7 @@ module _ {S : Type 0} (meaning : Meaning S) where
       → MayPromise (came_of c s.history.pool which) c w
       → Invariant meaning (record {
         running = put p (Some (promised w None c)) s.running;
-        history = grown s.history (reporting c.me w.id (report_with c.view c.traffic) ∷ []) (blocking c);
+        history = grown s.history (reporting c.me w.id (report_with c.view c.view_state) ∷ []) (blocking c);
       })
   promises-keep s p c which w i runs a =
       let x = i.members p c runs in
@@ -215,7 +215,7 @@ module _ {S : Type 0} (meaning : Meaning S) where
       let mine : Fact s.history c.me c = subst (λ (q : Address). Fact s.history q c) (sym itself) x in
       subst (λ (q : Address). Invariant meaning (record {
         running = put q (Some (promised w None c)) s.running;
-        history = grown s.history (reporting c.me w.id (report_with c.view c.traffic) ∷ []) (blocking c);
+        history = grown s.history (reporting c.me w.id (report_with c.view c.view_state) ∷ []) (blocking c);
       })) itself
-      (moved meaning s c.me (grown s.history (reporting c.me w.id (report_with c.view c.traffic) ∷ []) (blocking c)) (Some (promised w None c)) i
+      (moved meaning s c.me (grown s.history (reporting c.me w.id (report_with c.view c.view_state) ∷ []) (blocking c)) (Some (promised w None c)) i
       (promises-moves s c which w i mine a))

@@ -4,23 +4,23 @@ use Rattle.std.specs.Option.{option_or}
 use Rattle.std.proofs.lemmas.Option.{none-some, same_Some}
 use Rattle.address.specs.Ids.{Address, ViewId, same_address}
 use Rattle.view.specs.Members.{View}
-use Rattle.wire.specs.Values.{Entry, Report}
-use Rattle.wire.specs.Values as wire
-use Rattle.wire.specs.declared.packet.Body.{Body}
-use Rattle.wire.specs.declared.packet.Body.TheVariants as bodies
+use Rattle.wire_values.specs.Values.{Entry, Report}
+use Rattle.wire_values.specs.Values as wire
+use Rattle.wire_values.specs.declared.packet.Body.{Body}
+use Rattle.wire_values.specs.declared.packet.Body.TheVariants as bodies
 use Rattle.state_transfer.specs.Meanings.{Meaning}
 use Rattle.flush.specs.Cuts.{first_of}
 use Rattle.trace_props.specs.Observed.{has_started}
-use Rattle.trace_props.proofs.FactOfObserved.{same_address-true}
-use Rattle.agreement.specs.Words.{Tally, open_count}
-use Rattle.agreement.specs.Histories.{Posted, History, flush_in, report_by, install_to, flush_of, report_of, install_of}
-use Rattle.agreement.specs.Cores.{Core, id_of}
-use Rattle.agreement.specs.Acts.{Describes, packet}
+use Rattle.address.proofs.SameIds.{same_address-true}
+use Rattle.acts.specs.Words.{Tally, open_count}
+use Rattle.acts.specs.Histories.{Posted, History, flush_in, report_by, install_to, flush_of, report_of, install_of}
+use Rattle.acts.specs.Cores.{Core, id_of}
+use Rattle.acts.specs.Acts.{Describes, packet}
 use Rattle.agreement.specs.Packets.{IsSent, IsProposal, IsAnswer, IsInstruction, IsOrder, IsStatus, BodyFact, PacketFact}
 use Rattle.agreement.specs.Members.{MemberFact}
 use Rattle.agreement.specs.Steps.{System, put, grown}
 use Rattle.agreement.specs.Invariant.{TraceFact, EachPacket, Invariant}
-use Rattle.agreement.proofs.Lists.{first_of-append, first_of-still, slice_get-one, place-of}
+use Rattle.acts.proofs.Lists.{first_of-append, first_of-still, slice_get-one, place-of}
 use Rattle.agreement.proofs.KeepHistory.{later-packets}
 use Rattle.agreement.proofs.KeepPackets.{packet-later}
 use Rattle.agreement.proofs.KeepOthers.{IsOwn, IsFrom, only-packets, flush-later, first-entered}
@@ -82,9 +82,9 @@ module _ {S : Type 0} (meaning : Meaning S) where
   forward-true h c v n payload trace x a =
       let u = viewed c.view v a.0 in
       let f = x.view u.0 u.1 in
-      let at = place-of c.traffic.outstanding (record { number = n; payload = payload }) a.1 in
+      let at = place-of c.view_state.outstanding (record { number = n; payload = payload }) a.1 in
       subst (λ (w : ViewId). IsSent h.trace w (record { sender = c.me; number = n; payload = payload })) u.2
-      (outstanding-sent h.trace c.me u.0.id c.traffic.outstanding (record { number = n; payload = payload }) ((rules-of meaning h trace).ordered.messages.numbers c.me u.0.id) f.mine.sent at.0 at.1)
+      (outstanding-sent h.trace c.me u.0.id c.view_state.outstanding (record { number = n; payload = payload }) ((rules-of meaning h trace).ordered.messages.numbers c.me u.0.id) f.mine.sent at.0 at.1)
 
   order-true : (h : History) (c : Core S) (v : ViewId) (g : ℕ) (e : Entry) → Fact h c.me c → Describes c c.me (bodies.Order v g e) → IsOrder h.trace c.me v g e
   order-true h c v g e x a =
@@ -101,7 +101,7 @@ module _ {S : Type 0} (meaning : Meaning S) where
   ack-true h c v n x a =
       let u = viewed c.view v a.0 in
       let f = x.view u.0 u.1 in
-      let counts : open_count c.me v h.trace ≡ c.traffic.delivered = ap (λ (w : ViewId). open_count c.me w h.trace) (sym u.2) ∙ ap (λ (s : Tally). s.count) f.counts.tally in
+      let counts : open_count c.me v h.trace ≡ c.view_state.delivered = ap (λ (w : ViewId). open_count c.me w h.trace) (sym u.2) ∙ ap (λ (s : Tally). s.count) f.counts.tally in
       subst (λ k. n ≤ k) (sym counts) a.1
 
   status-true : (h : History) (c : Core S) (v : ViewId) (s : wire.Progress) → Fact h c.me c → Describes c c.me (bodies.Status v s) → IsStatus h.trace c.me v s.stable
@@ -186,7 +186,7 @@ module _ {S : Type 0} (meaning : Meaning S) where
           reported = λ w r e. x.below.reported w r (sym (report-again h m c.me w true_now) ∙ e);
         };
         reported = λ waits w e other. quiet.later.report c.me w.id _ (x.reported waits w e other);
-        flush = λ f e. flush-later h k c.me c.promise c.installed c.view c.traffic f quiet.later (x.flush f e);
+        flush = λ f e. flush-later h k c.me c.promise c.installed c.view c.view_state f quiet.later (x.flush f e);
         view = λ v e. let f = x.view v e in record {
           inside = f.inside;
           counts = f.counts;

@@ -3,12 +3,12 @@ use Rattle.std.proofs.Common.{◌≡◌, ℕ, zero, suc, ◌+◌, cond, Some, No
 use Rattle.std.specs.Prelude.{IsSome, slice_get, nat_eq}
 use Rattle.std.proofs.lemmas.Option.{none-some}
 use Rattle.std.proofs.lemmas.Bool.Decides.{nat_tests}
-use Rattle.wire.specs.Values.{Entry, held_at, Report}
+use Rattle.wire_values.specs.Values.{Entry, held_at, Report}
 use Rattle.state_transfer.specs.Meanings.{Meaning}
 use Rattle.flush.specs.Cuts.{held_among, greatest_stable, IsCut}
 use Rattle.flush.specs.Flushes.{group}
 use Rattle.trace_props.specs.Rules.{IsBelow}
-use Rattle.agreement.specs.Acts.{HoldsMore, All}
+use Rattle.acts.specs.Acts.{HoldsMore, All}
 use Rattle.agreement.specs.Steps.{System, Step}
 use Rattle.agreement.specs.Stories.{view_of_three, view_of_rest, held_first, delivered_first}
 use Rattle.agreement.specs.CrashStory.{entry_a, entry_b, held_both, delivered_both, rest_reports, both_cuts, messages_chapter, crash_chapter, CrashPlays}

@@ -6,23 +6,23 @@ use Rattle.std.proofs.lemmas.Option.{same_Some}
 use Rattle.std.proofs.Math.Seq.{drop-append_seam}
 use Rattle.address.specs.Ids.{Address, ViewId, same_address, same_view_id}
 use Rattle.view.specs.Members.{View, stands_in}
-use Rattle.wire.specs.Values.{Entry, Report}
-use Rattle.wire.specs.Values as wire
+use Rattle.wire_values.specs.Values.{Entry, Report}
+use Rattle.wire_values.specs.Values as wire
 use Rattle.flush.specs.Flushes.{FlushModel, report_from, comes_from, has_come_from, together_of}
 use Rattle.trace_props.specs.declared.event.Event.{Event}
 use Rattle.trace_props.specs.declared.event.Install.{Install}
 use Rattle.trace_props.specs.declared.event.Numbered.{Numbered}
 use Rattle.trace_props.specs.Observed.{delivered_in, sent_in, own, entry_of, first_install}
 use Rattle.trace_props.specs.Rules.{IsBelow, EntersAbove, HasRisingViews}
-use Rattle.trace_props.proofs.FactOfObserved.{same_address-true, same_view_id-true}
+use Rattle.address.proofs.SameIds.{same_address-true, same_view_id-true}
 use Rattle.trace_props.proofs.FactOfDelivered.{enters, register-stands}
 use Rattle.trace_props.proofs.FactOfRisingViews.{not-entered}
 use Rattle.std.proofs.lemmas.Bool.{and_parts}
 use Rattle.state_transfer.specs.Meanings.{Meaning}
-use Rattle.agreement.specs.Words.{members_of}
-use Rattle.agreement.specs.Histories.{History, report_of}
-use Rattle.agreement.specs.Cores.{Traffic, Core, id_of, left_of, report_with}
-use Rattle.agreement.specs.Acts.{Cuts, MayFinish, proposed, undelivered}
+use Rattle.acts.specs.Words.{members_of}
+use Rattle.acts.specs.Histories.{History, report_of}
+use Rattle.acts.specs.Cores.{ViewCore, Core, id_of, left_of, report_with}
+use Rattle.acts.specs.Acts.{Cuts, MayFinish, proposed, undelivered}
 use Rattle.agreement.specs.Packets.{SaysOf, IsCutOf}
 use Rattle.agreement.specs.Members.{RunsFlush, ViewFact, MemberFact}
 use Rattle.agreement.specs.Steps.{System}
@@ -32,13 +32,13 @@ use Rattle.agreement.proofs.KeepTrace.{views-of}
 use Rattle.agreement.proofs.KeepByMove.{entries-later}
 use Rattle.agreement.proofs.FactOfRegisters.{report-fact}
 use Rattle.agreement.proofs.FactOfBlocked.{says_of}
-use Rattle.agreement.proofs.ActBegins.{coordinator-in}
-use Rattle.agreement.proofs.FactOfMeeting.{found, filter-passes, filter-keeps, same-previous, previous-refl}
+use Rattle.view.proofs.FactOfMembers.{coordinator-in, filter-within}
+use Rattle.agreement.proofs.FactOfMeeting.{filter-passes, filter-keeps, same-previous, previous-refl}
 use Rattle.agreement.proofs.FactOfCut.{flush-cut}
 use Rattle.agreement.proofs.ActDeliversLast.{GoesOut}
 use Rattle.agreement.proofs.FactOfFirstInstall.{none-of, unentered, MayMake}
-use Rattle.agreement.proofs.FactOfInstructions.{filter-within}
 use Rattle.agreement.proofs.FactOfFinished.{report-recorded, in-group}
+use Rattle.address.proofs.Plain.{found}
 
 -- ---- what those of a flush report of their views
 
@@ -54,11 +54,11 @@ report-says false h p q w mine r x u test each own one at is from =
     ((report-fact h x.0 w x.1 each one).true_of u (ap (λ (z : Report). z.previous) is ∙ from)))
 
 -- each report of a flush says what is so of its sender
-pub reports-say : (h : History) (p q : Address) (promise view : Option View) (traffic : Traffic) (kept : List (Address × wire.Install)) (f : FlushModel) (r : Report) (u : ViewId) → EachPacket h
-    → RunsFlush h.pool p promise false view traffic f → ForSome view (ViewFact h p false traffic kept) → report_from q f.reports ≡ Some r → r.previous ≡ Some u → SaysOf h.trace q r u
-reports-say h p q promise view traffic kept f r u each runs inside said from =
+pub reports-say : (h : History) (p q : Address) (promise view : Option View) (view_state : ViewCore) (kept : List (Address × wire.Install)) (f : FlushModel) (r : Report) (u : ViewId) → EachPacket h
+    → RunsFlush h.pool p promise false view view_state f → ForSome view (ViewFact h p false view_state kept) → report_from q f.reports ≡ Some r → r.previous ≡ Some u → SaysOf h.trace q r u
+reports-say h p q promise view view_state kept f r u each runs inside said from =
     let y = report-recorded f.reports q r said in
-    report-says (same_address y.it.0 p) h p q f.proposal (report_with view traffic) r y.it u refl each (says_of h p view traffic kept inside) (runs.recorded y.place y.it y.stands) y.reporter y.report from
+    report-says (same_address y.it.0 p) h p q f.proposal (report_with view view_state) r y.it u refl each (says_of h p view view_state kept inside) (runs.recorded y.place y.it y.stands) y.reporter y.report from
 
 -- who comes from a view is a member of it, as all have installed it
 first-members : (t : List Event) (u : ViewId) (g : Install) (q : Address) → HasRisingViews t → first_install u t ≡ Some g → stands_in q (members_of u t) ≡ true → stands_in q g.view.members ≡ true
@@ -91,7 +91,7 @@ back-by (Some v) t p rest entries sent =
 
 -- the entries of its view that the coordinator delivers last
 abbrev pub last_entries : {S : Type 0} → Core S → View → Cuts → List Entry
-last_entries c v cuts = undelivered c.traffic.delivered (cuts.base v.id) (cuts.items v.id)
+last_entries c v cuts = undelivered c.view_state.delivered (cuts.base v.id) (cuts.items v.id)
 
 -- and its install of the proposal
 abbrev pub maker_install : {S : Type 0} → Core S → View → FlushModel → Cuts → Install
@@ -100,7 +100,7 @@ maker_install c v f cuts = record {
   previous = id_of c.view;
   view = proposed f;
   together = together_of c.me f;
-  handed_back = option_map_or (λ u. left_of c.me (last_entries c v cuts) c.traffic.outstanding) c.view [];
+  handed_back = option_map_or (λ u. left_of c.me (last_entries c v cuts) c.view_state.outstanding) c.view [];
   given = None;
 }
 
@@ -110,23 +110,23 @@ module _ {S : Type 0} (meaning : Meaning S) where
 
   -- what holds while its flush runs
   pub record IsReady (h : History) (c : Core S) (v : View) (f : FlushModel) (cuts : Cuts) : Type 0 where
-    pub runs : RunsFlush h.pool c.me c.promise false c.view c.traffic f
-    pub inside : ForSome c.view (ViewFact h c.me false c.traffic c.kept)
+    pub runs : RunsFlush h.pool c.me c.promise false c.view c.view_state f
+    pub inside : ForSome c.view (ViewFact h c.me false c.view_state c.sent_installs)
     pub rises : IsBelow v.id f.proposal
     pub cut : (q : Address) (r : Report) (u : ViewId) → report_from q f.reports ≡ Some r → r.previous ≡ Some u → IsCutOf h.trace (cuts.base u) (cuts.items u) r u
 
   pub ready : (h : History) (c : Core S) (v : View) (f : FlushModel) (cuts : Cuts) → EachPacket h → Fact h c.me c → MayFinish c v f cuts → IsReady h c v f cuts
   ready h c v f cuts each x a =
       let old = x.flush f a.flush in
-      let runs = subst (λ (b : Bool). RunsFlush h.pool c.me c.promise b c.view c.traffic f) old.waits old in
-      let inside : ForSome c.view (ViewFact h c.me false c.traffic c.kept) = λ u e. subst (λ (b : Bool). ViewFact h c.me b c.traffic c.kept u) old.waits (x.view u e) in
+      let runs = subst (λ (b : Bool). RunsFlush h.pool c.me c.promise b c.view c.view_state f) old.waits old in
+      let inside : ForSome c.view (ViewFact h c.me false c.view_state c.sent_installs) = λ u e. subst (λ (b : Bool). ViewFact h c.me b c.view_state c.sent_installs u) old.waits (x.view u e) in
       record {
         runs = runs;
         inside = inside;
         rises = subst (λ (o : Option View). IsSomeAnd o (λ w. IsBelow v.id w.id)) runs.promised (x.promise.above old.waits v a.view);
         cut = λ q r u said from.
             let at = in-group f.reports q r (Some u) said from in
-            flush-cut h c.me c.promise c.view c.traffic c.kept f u (cuts.base u) (cuts.items u) each runs inside (a.cut q r u said from) at.0 r at.1;
+            flush-cut h c.me c.promise c.view c.view_state c.sent_installs f u (cuts.base u) (cuts.items u) each runs inside (a.cut q r u said from) at.0 r at.1;
       }
 
   -- nobody has installed the proposal, and its coordinator may
@@ -138,7 +138,7 @@ module _ {S : Type 0} (meaning : Meaning S) where
       let p = c.me in
       let w = f.proposal in
       let i = maker_install c v f cuts in
-      let mine = report_with c.view c.traffic in
+      let mine = report_with c.view c.view_state in
       let runs = x.runs in
       let views = views-of meaning h out.quiet.trace in
       let listed : stands_in p f.members ≡ true = ap (λ z. stands_in z f.members) (sym runs.own) ∙ coordinator-in w f.members runs.list in
@@ -158,11 +158,11 @@ module _ {S : Type 0} (meaning : Meaning S) where
         before = λ u e g first q there.
             let passes = filter-passes (λ m. has_come_from mine.previous m f.reports) q f.members (sym (ap (stands_in q) with_me) ∙ there) in
             let r = came-by (report_from q f.reports) mine.previous passes in
-            let its_report = reports-say old p q c.promise c.view c.traffic c.kept f r.0 u inv.packets runs x.inside r.1 (r.2 ∙ e) in
+            let its_report = reports-say old p q c.promise c.view c.view_state c.sent_installs f r.0 u inv.packets runs x.inside r.1 (r.2 ∙ e) in
             let members : members_of u t ≡ members_of u old.trace = ap (λ o. option_map_or (λ (y : Install). y.view.members) o []) (out.quiet.none.entry u.creator u) in
             first-members t u g q views first (ap (stands_in q) members ∙ its_report.member);
         itself = ap (stands_in p) with_me
             ∙ filter-keeps (λ m. has_come_from mine.previous m f.reports) p f.members listed (ap (λ o. option_map_or (comes_from mine.previous) o false) runs.itself ∙ previous-refl mine.previous);
-        back = back-by c.view t p c.traffic.outstanding (last_entries c v cuts) (λ u e. (out.view u e).sent);
+        back = back-by c.view t p c.view_state.outstanding (last_entries c v cuts) (λ u e. (out.view u e).sent);
         nothing = refl;
       }

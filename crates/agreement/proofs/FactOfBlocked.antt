@@ -7,22 +7,22 @@ use Rattle.std.proofs.lemmas.Option.{none-some, same_Some}
 use Rattle.std.proofs.lemmas.List.{append-nil}
 use Rattle.address.specs.Ids.{Address, ViewId, same_address}
 use Rattle.view.specs.Members.{View, stands_in}
-use Rattle.wire.specs.Values.{Report}
-use Rattle.wire.specs.Values as wire
+use Rattle.wire_values.specs.Values as wire
 use Rattle.state_transfer.specs.Meanings.{Meaning}
 use Rattle.trace_props.specs.declared.event.Event.{Event}
 use Rattle.trace_props.specs.declared.event.Event.TheVariants.{Blocked}
 use Rattle.trace_props.specs.Observed.{current_view, own}
 use Rattle.trace_props.specs.Rules.{IsBelow}
 use Rattle.trace_props.specs.Verdicts.{GoesOn}
-use Rattle.trace_props.proofs.FactOfObserved.{same_address-refl, has_started-stays, has_ended-still, current_view-push, is_blocked-now}
+use Rattle.address.proofs.SameIds.{same_address-refl}
+use Rattle.trace_props.proofs.FactOfObserved.{has_started-stays, has_ended-still, current_view-push, is_blocked-now}
 use Rattle.trace_props.proofs.FactOfDelivered.{delivered_in-still, sent_in-still}
 use Rattle.trace_props.proofs.RuleOfEntry.{state_of-push}
 use Rattle.trace_props.proofs.FactOfRisingViews.{IsBelow-trans}
-use Rattle.agreement.specs.Words.{Tally, blocked, tally_of}
-use Rattle.agreement.specs.Histories.{History}
-use Rattle.agreement.specs.Cores.{Traffic, is_open, id_of, report_with}
-use Rattle.agreement.specs.Acts.{IsAbovePromise}
+use Rattle.acts.specs.Words.{Tally, blocked, tally_of}
+use Rattle.acts.specs.Histories.{History}
+use Rattle.acts.specs.Cores.{ViewCore, is_open, id_of, report_with}
+use Rattle.acts.specs.Acts.{IsAbovePromise}
 use Rattle.agreement.specs.Packets.{SaysOf, state_with}
 use Rattle.agreement.specs.Members.{HasStanding, ViewFact, HasState, PromiseOf, IsNotPast}
 use Rattle.agreement.specs.Invariant.{TraceFact}
@@ -40,10 +40,10 @@ with_blocked h p view installed = record { pool = h.pool; trace = h.trace ++ blo
 
 -- what holds of a member once it is blocked
 pub record IsHalted {S : Type 0} (meaning : Meaning S) (h k : History) (p : Address)
-    (view : Option View) (traffic : Traffic) (kept : List (Address × wire.Install)) (state : S) : Type 0 where
+    (view : Option View) (view_state : ViewCore) (kept : List (Address × wire.Install)) (state : S) : Type 0 where
   pub quiet : Quiet meaning p h k
   pub standing : HasStanding k.trace p p view false
-  pub inside : ForSome view (ViewFact k p false traffic kept)
+  pub inside : ForSome view (ViewFact k p false view_state kept)
   pub own : HasState meaning k.trace p view state
 
 module _ {S : Type 0} (meaning : Meaning S) where
@@ -57,10 +57,10 @@ module _ {S : Type 0} (meaning : Meaning S) where
       there = ap is_some x.current
 
   -- an open member is blocked
-  halts-open : (h : History) (p : Address) (v : View) (traffic : Traffic) (kept : List (Address × wire.Install)) (state : S) → TraceFact meaning h → HasStanding h.trace p p (Some v) true
-      → ForSome (Some v) (ViewFact h p true traffic kept) → HasState meaning h.trace p (Some v) state
-      → IsHalted meaning h (record { pool = h.pool; trace = h.trace ++ Blocked p ∷ [] }) p (Some v) traffic kept state
-  halts-open h p v traffic kept state trace standing view own_state =
+  halts-open : (h : History) (p : Address) (v : View) (view_state : ViewCore) (kept : List (Address × wire.Install)) (state : S) → TraceFact meaning h → HasStanding h.trace p p (Some v) true
+      → ForSome (Some v) (ViewFact h p true view_state kept) → HasState meaning h.trace p (Some v) state
+      → IsHalted meaning h (record { pool = h.pool; trace = h.trace ++ Blocked p ∷ [] }) p (Some v) view_state kept state
+  halts-open h p v view_state kept state trace standing view own_state =
       let t = h.trace in
       let x = Blocked p in
       let k : History = record { pool = h.pool; trace = t ++ x ∷ [] } in
@@ -70,7 +70,7 @@ module _ {S : Type 0} (meaning : Meaning S) where
       let list = list_of-still p v.id t x refl in
       let delivered_now = delivered_in-still p v.id t x refl in
       let sent = sent_in-still p v.id t x refl in
-      let fact : ViewFact k p false traffic kept v = record {
+      let fact : ViewFact k p false view_state kept v = record {
         inside = inside-later h k p v m f.inside;
         counts = record {
           delivered_count = ap length list ∙ f.counts.delivered_count;
@@ -78,10 +78,10 @@ module _ {S : Type 0} (meaning : Meaning S) where
               ∙ cond-true (same_address p p) (record { phase = blocked (tally_of p v.id t).phase; count = (tally_of p v.id t).count }) (tally_of p v.id t) (same_address-refl p)
               ∙ ap (λ (s : Tally). record { phase = blocked s.phase; count = s.count }) f.counts.tally;
         };
-        mine = record { sent = sent ∙ f.mine.sent ∙ ap (λ l. own p l ++ traffic.outstanding) (sym delivered_now); count = ap length sent ∙ f.mine.count };
-        window = window-later h k v.id traffic.stable traffic.delivered traffic.held m (first-entered t v.id.creator v f.inside.first) f.window;
-        acks = acks-later h k v.id traffic.acks m f.acks;
-        waiting = waiting-later h k v.id traffic.waiting m f.waiting;
+        mine = record { sent = sent ∙ f.mine.sent ∙ ap (λ l. own p l ++ view_state.outstanding) (sym delivered_now); count = ap length sent ∙ f.mine.count };
+        window = window-later h k v.id view_state.stable view_state.delivered view_state.held m (first-entered t v.id.creator v f.inside.first) f.window;
+        acks = acks-later h k v.id view_state.acks m f.acks;
+        waiting = waiting-later h k v.id view_state.waiting m f.waiting;
         ordered = λ q first. f.ordered q first ∙ ap (λ l. length (own q l)) (sym delivered_now);
         keeps = λ q i there. let was = f.keeps q i there in (was.0, m.install v.id q i was.1);
       } in
@@ -93,7 +93,7 @@ module _ {S : Type 0} (meaning : Meaning S) where
           current = current_view-push p t x ∙ standing.current;
           block = is_blocked-now p t;
         };
-        inside = λ u e. subst (λ (w : View). ViewFact k p false traffic kept w) (same_Some v u e) fact;
+        inside = λ u e. subst (λ (w : View). ViewFact k p false view_state kept w) (same_Some v u e) fact;
         own = record {
           now = state_of-push meaning p t x ∙ own_state.now;
           is = own_state.is;
@@ -104,27 +104,27 @@ module _ {S : Type 0} (meaning : Meaning S) where
       }
 
   -- a member without a view, or one that waits, already is
-  halts-still : (h : History) (p : Address) (view : Option View) (traffic : Traffic) (kept : List (Address × wire.Install)) (state : S) → TraceFact meaning h
-      → HasStanding h.trace p p view false → ForSome view (ViewFact h p false traffic kept) → HasState meaning h.trace p view state
-      → IsHalted meaning h (record { pool = h.pool; trace = h.trace ++ [] }) p view traffic kept state
-  halts-still h p view traffic kept state trace standing fact own_state =
-      subst (λ (t : List Event). IsHalted meaning h (record { pool = h.pool; trace = t }) p view traffic kept state) (sym (append-nil h.trace))
+  halts-still : (h : History) (p : Address) (view : Option View) (view_state : ViewCore) (kept : List (Address × wire.Install)) (state : S) → TraceFact meaning h
+      → HasStanding h.trace p p view false → ForSome view (ViewFact h p false view_state kept) → HasState meaning h.trace p view state
+      → IsHalted meaning h (record { pool = h.pool; trace = h.trace ++ [] }) p view view_state kept state
+  halts-still h p view view_state kept state trace standing fact own_state =
+      subst (λ (t : List Event). IsHalted meaning h (record { pool = h.pool; trace = t }) p view view_state kept state) (sym (append-nil h.trace))
       (record { quiet = quiet-refl meaning p h trace; standing = standing; inside = fact; own = own_state })
 
-  pub halts : (h : History) (p : Address) (view : Option View) (installed : Bool) (traffic : Traffic) (kept : List (Address × wire.Install)) (state : S) → TraceFact meaning h
-      → (installed ≡ true → is_some view ≡ true) → HasStanding h.trace p p view installed → ForSome view (ViewFact h p installed traffic kept)
+  pub halts : (h : History) (p : Address) (view : Option View) (installed : Bool) (view_state : ViewCore) (kept : List (Address × wire.Install)) (state : S) → TraceFact meaning h
+      → (installed ≡ true → is_some view ≡ true) → HasStanding h.trace p p view installed → ForSome view (ViewFact h p installed view_state kept)
       → HasState meaning h.trace p view state
-      → IsHalted meaning h (with_blocked h p view installed) p view traffic kept state
-  halts h p None true traffic kept state trace there standing fact own_state = absurd (let n : false ≡ true = there refl in cc)
-  halts h p None false traffic kept state trace there standing fact own_state = halts-still h p None traffic kept state trace standing fact own_state
-  halts h p (Some v) true traffic kept state trace there standing fact own_state = halts-open h p v traffic kept state trace standing fact own_state
-  halts h p (Some v) false traffic kept state trace there standing fact own_state = halts-still h p (Some v) traffic kept state trace standing fact own_state
+      → IsHalted meaning h (with_blocked h p view installed) p view view_state kept state
+  halts h p None true view_state kept state trace there standing fact own_state = absurd (let n : false ≡ true = there refl in cc)
+  halts h p None false view_state kept state trace there standing fact own_state = halts-still h p None view_state kept state trace standing fact own_state
+  halts h p (Some v) true view_state kept state trace there standing fact own_state = halts-open h p v view_state kept state trace standing fact own_state
+  halts h p (Some v) false view_state kept state trace there standing fact own_state = halts-still h p (Some v) view_state kept state trace standing fact own_state
 
 -- ---- what it reports then is so
 
-says_of-by : (t : List Event) (h : History) (p : Address) (traffic : Traffic) (kept : List (Address × wire.Install)) (v : View) → ViewFact h p false traffic kept v
-    → SaysOf h.trace p (report_with (Some v) traffic) v.id
-says_of-by t h p traffic kept v f = record {
+says_of-by : (t : List Event) (h : History) (p : Address) (view_state : ViewCore) (kept : List (Address × wire.Install)) (v : View) → ViewFact h p false view_state kept v
+    → SaysOf h.trace p (report_with (Some v) view_state) v.id
+says_of-by t h p view_state kept v f = record {
   closed = ap (λ (s : Tally). s.phase) f.counts.tally;
   entered = first-entered h.trace p v f.inside.own;
   member = ap (stands_in p) (members-are h.trace v f.inside.first) ∙ f.inside.listed;
@@ -134,11 +134,11 @@ says_of-by t h p traffic kept v f = record {
   stable = f.window.all_have;
 }
 
-pub says_of : (h : History) (p : Address) (view : Option View) (traffic : Traffic) (kept : List (Address × wire.Install)) → ForSome view (ViewFact h p false traffic kept)
-    → ForSome (id_of view) (SaysOf h.trace p (report_with view traffic))
-says_of h p None traffic kept fact v e = absurd (none-some v e)
-says_of h p (Some u) traffic kept fact v e =
-    subst (λ (w : ViewId). SaysOf h.trace p (report_with (Some u) traffic) w) (same_Some u.id v e) (says_of-by h.trace h p traffic kept u (fact u refl))
+pub says_of : (h : History) (p : Address) (view : Option View) (view_state : ViewCore) (kept : List (Address × wire.Install)) → ForSome view (ViewFact h p false view_state kept)
+    → ForSome (id_of view) (SaysOf h.trace p (report_with view view_state))
+says_of h p None view_state kept fact v e = absurd (none-some v e)
+says_of h p (Some u) view_state kept fact v e =
+    subst (λ (w : ViewId). SaysOf h.trace p (report_with (Some u) view_state) w) (same_Some u.id v e) (says_of-by h.trace h p view_state kept u (fact u refl))
 
 -- ---- the promise
 

@@ -1,32 +1,28 @@
 -- What a member is handed is a packet of the pool, from another, and what holds of the pool's packets holds of it.
-use Rattle.std.proofs.Common.{◌≡◌, ℕ, Bool, true, false, ◌&&◌, not, Option, Some, None, List, refl, sym, ap, ◌∙◌}
+use Rattle.std.proofs.Common.{◌≡◌, ℕ, false, ◌&&◌, not, Option, Some, None, List, refl, sym, ap, ◌∙◌}
 use Rattle.std.specs.Prelude.{slice_get}
 use Rattle.std.specs.Option.{option_and_then}
-use Rattle.std.proofs.lemmas.Bool.{and_parts}
-use Rattle.std.proofs.lemmas.Option.{none-some}
+use Rattle.std.proofs.lemmas.Bool.{and_parts, not-true}
+use Rattle.std.proofs.lemmas.Option.{none-some, cond_some}
 use Rattle.address.specs.Ids.{Address, same_address}
-use Rattle.wire.specs.declared.packet.Body.{Body}
-use Rattle.agreement.specs.Histories.{Posted, History}
-use Rattle.agreement.specs.Cores.{Core}
-use Rattle.agreement.specs.Acts.{packet}
-use Rattle.agreement.specs.Steps.{handed, came_of}
+use Rattle.wire_values.specs.declared.packet.Body.{Body}
+use Rattle.acts.specs.Histories.{Posted, History}
+use Rattle.acts.specs.Cores.{Core}
+use Rattle.acts.specs.Acts.{packet}
+use Rattle.acts.specs.Acts.{handed}
+use Rattle.agreement.specs.Steps.{came_of}
 use Rattle.agreement.specs.Packets.{BodyFact}
 use Rattle.agreement.specs.Invariant.{EachPacket}
-use Rattle.agreement.proofs.FactOfRegisters.{passed-by}
 
 pub record ComesFrom {S : Type 0} (c : Core S) (pool : List Posted) (m : Posted) : Type 0 where
   pub place : ℕ
   pub stands : slice_get pool place ≡ Some m
   pub other : same_address m.source c.me ≡ false
 
-not-true : (b : Bool) → not b ≡ true → b ≡ false
-not-true true e = sym e
-not-true false e = refl
-
 handed-by : {S : Type 0} (c : Core S) (pool : List Posted) (n : ℕ) (o : Option Posted) (m : Posted) → slice_get pool n ≡ o → option_and_then (handed c) o ≡ Some m → ComesFrom c pool m
 handed-by c pool n None m at e = absurd (none-some m e)
 handed-by c pool n (Some x) m at e =
-    let y = passed-by (c.connected && same_address x.destination c.me && not (same_address x.source c.me)) x m e in
+    let y = cond_some (c.connected && same_address x.destination c.me && not (same_address x.source c.me)) x m e in
     let outer = and_parts (c.connected && same_address x.destination c.me) (not (same_address x.source c.me)) y.0 in
     record {
       place = n;

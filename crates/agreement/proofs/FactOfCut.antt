@@ -6,15 +6,15 @@ use Rattle.std.proofs.lemmas.Bool.Decides.{nat_tests}
 use Rattle.std.proofs.lemmas.Option.{none-some, same_Some}
 use Rattle.address.specs.Ids.{Address, ViewId, same_address, same_view_id}
 use Rattle.view.specs.Members.{View}
-use Rattle.wire.specs.Values.{Entry, held_at, Report}
-use Rattle.wire.specs.Values as wire
+use Rattle.wire_values.specs.Values.{Entry, held_at, Report}
+use Rattle.wire_values.specs.Values as wire
 use Rattle.flush.specs.Cuts.{greatest_stable, IsCut}
 use Rattle.flush.specs.Flushes.{FlushModel, comes_from, group}
 use Rattle.flush.proofs.Covers.{first-stands, none-gives, stable-le, greatest-le}
 use Rattle.trace_props.specs.declared.event.Event.{Event}
-use Rattle.trace_props.proofs.FactOfObserved.{same_view_id-true}
-use Rattle.agreement.specs.Histories.{History, report_of}
-use Rattle.agreement.specs.Cores.{Traffic, report_with}
+use Rattle.address.proofs.SameIds.{same_view_id-true}
+use Rattle.acts.specs.Histories.{History, report_of}
+use Rattle.acts.specs.Cores.{ViewCore, report_with}
 use Rattle.agreement.specs.Packets.{SaysOf, IsCutOf}
 use Rattle.agreement.specs.Members.{IsRecorded, RunsFlush, ViewFact}
 use Rattle.agreement.specs.Invariant.{EachPacket}
@@ -98,9 +98,9 @@ cut-real t v rs base items real cut k r at =
     }
 
 -- the cut of a flush that a member runs, for each report of a view
-pub flush-cut : (h : History) (p : Address) (promise : Option View) (view : Option View) (traffic : Traffic) (kept : List (Address × wire.Install)) (f : FlushModel) (v : ViewId) (base : ℕ)
-    (items : List Entry) → EachPacket h → RunsFlush h.pool p promise false view traffic f → ForSome view (ViewFact h p false traffic kept) → IsCut (group (Some v) f.reports) base items
+pub flush-cut : (h : History) (p : Address) (promise : Option View) (view : Option View) (view_state : ViewCore) (kept : List (Address × wire.Install)) (f : FlushModel) (v : ViewId) (base : ℕ)
+    (items : List Entry) → EachPacket h → RunsFlush h.pool p promise false view view_state f → ForSome view (ViewFact h p false view_state kept) → IsCut (group (Some v) f.reports) base items
     → (k : ℕ) (r : Report) → slice_get (group (Some v) f.reports) k ≡ Some r → IsCutOf h.trace base items r v
-flush-cut h p promise view traffic kept f v base items each x fact cut =
+flush-cut h p promise view view_state kept f v base items each x fact cut =
     cut-real h.trace v (group (Some v) f.reports) base items
-    (group-real h p f.proposal (report_with view traffic) f.reports v each (says_of h p view traffic kept fact) x.recorded) cut
+    (group-real h p f.proposal (report_with view view_state) f.reports v each (says_of h p view view_state kept fact) x.recorded) cut

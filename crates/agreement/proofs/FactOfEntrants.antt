@@ -1,29 +1,29 @@
 -- What all who went into a view agree on: its members, who comes from where, lists under one order.
-use Rattle.std.proofs.Common.{◌≡◌, ℕ, Bool, true, false, cond, Option, Some, None, List, [], ◌∷◌, length, map, filter, refl, sym, ap, ◌∙◌, is_some, ◌⊎◌, inl, inr}
+use Rattle.std.proofs.Common.{◌≡◌, ℕ, Bool, true, false, Option, Some, None, List, [], length, map, refl, sym, ap, ◌∙◌, is_some}
 use Rattle.std.specs.Prelude.{slice_get}
 use Rattle.std.specs.Option.{option_map, option_map_or, option_eq}
-use Rattle.std.proofs.lemmas.Bool.{and_parts, or_left, or_right, cond-true, cond-false}
+use Rattle.std.proofs.lemmas.Bool.{and_parts, cond-true, cond-false}
 use Rattle.std.proofs.lemmas.Option.{none-some, same_Some}
 use Rattle.address.specs.Ids.{Address, ViewId, same_address, same_view_id}
 use Rattle.view.specs.Members.{stands_in}
-use Rattle.wire.specs.Values.{Report}
+use Rattle.wire_values.specs.Values.{Report}
 use Rattle.trace_props.specs.declared.event.Event.{Event}
 use Rattle.trace_props.specs.declared.event.Event.TheVariants.{Installed}
 use Rattle.trace_props.specs.declared.event.Install.{Install}
 use Rattle.trace_props.specs.Observed.{entry_of}
 use Rattle.trace_props.specs.Rules.{HasRisingViews, HasOneOrder}
-use Rattle.trace_props.proofs.FactOfObserved.{same_address-true, same_view_id-true}
+use Rattle.address.proofs.SameIds.{same_address-true, same_view_id-true}
 use Rattle.trace_props.proofs.FactOfDelivered.{enters, register-stands}
 use Rattle.trace_props.proofs.FactOfRisingViews.{came-stands}
 use Rattle.trace_props.proofs.RuleOfSameNext.{same-length}
-use Rattle.agreement.specs.Words.{entry_for, list_of, members_of}
-use Rattle.agreement.specs.Histories.{History, report_of, goes_from}
+use Rattle.acts.specs.Words.{entry_for, list_of, members_of}
+use Rattle.acts.specs.Histories.{History, report_of, goes_from}
 use Rattle.agreement.specs.Invariant.{EachPacket}
 use Rattle.agreement.proofs.FactOfOrder.{many-delivered}
 use Rattle.agreement.proofs.KeepPackets.{members-entered}
 use Rattle.agreement.proofs.FactOfRegisters.{report-fact}
-use Rattle.agreement.proofs.ActBegins.{or-cases}
-use Rattle.agreement.proofs.FactOfMeeting.{found, same-previous}
+use Rattle.agreement.proofs.FactOfMeeting.{same-previous}
+use Rattle.address.proofs.Plain.{found}
 
 -- ---- members
 
@@ -78,21 +78,6 @@ comes-by false k w v q f n test views each from stands same =
 pub comes-member : (k : History) (w v : ViewId) (q : Address) (f : Install) (n : ℕ) → HasRisingViews k.trace → EachPacket k
     → goes_from k w q ≡ Some (Some v) → slice_get k.trace n ≡ Some (Installed f) → f.view.id ≡ v → stands_in q f.view.members ≡ true
 comes-member k w v q f n views each from stands same = comes-by (same_address q w.creator) k w v q f n refl views each from stands same
-
--- ---- filters
-
--- who is kept by a filter is of the list
-pub filter-within : (test : Address → Bool) (q : Address) (l : List Address) → stands_in q (filter test l) ≡ true → stands_in q l ≡ true
-filter-within test q [] there = there
-filter-within test q (x ∷ l) there = by (test x) there (filter-within test q l)
-  where
-    either : (same_address q x ≡ true) ⊎ (stands_in q (filter test l) ≡ true) → (stands_in q (filter test l) ≡ true → stands_in q l ≡ true) → stands_in q (x ∷ l) ≡ true
-    either (inl e) later = or_left (same_address q x) (stands_in q l) e
-    either (inr e) later = or_right (same_address q x) (stands_in q l) (later e)
-
-    by : (c : Bool) → stands_in q (cond c (x ∷ filter test l) (filter test l)) ≡ true → (stands_in q (filter test l) ≡ true → stands_in q l ≡ true) → stands_in q (x ∷ l) ≡ true
-    by true y later = either (or-cases (same_address q x) (stands_in q (filter test l)) y) later
-    by false y later = or_right (same_address q x) (stands_in q l) (later y)
 
 -- ---- lists
 

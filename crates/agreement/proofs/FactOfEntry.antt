@@ -7,8 +7,8 @@ use Rattle.std.proofs.lemmas.Option.{same_Some}
 use Rattle.std.proofs.lemmas.List.{drop_at}
 use Rattle.address.specs.Ids.{Address, ViewId, same_address, same_view_id}
 use Rattle.view.specs.Members.{View, stands_in}
-use Rattle.wire.specs.Values.{Report}
-use Rattle.wire.specs.Values as wire
+use Rattle.wire_values.specs.Values.{Report}
+use Rattle.wire_values.specs.Values as wire
 use Rattle.state_transfer.specs.Meanings.{Meaning}
 use Rattle.trace_props.specs.declared.event.Event.TheVariants.{Installed}
 use Rattle.trace_props.specs.declared.event.Install.{Install}
@@ -18,13 +18,13 @@ use Rattle.trace_props.specs.Rules.{IsRunning, IsBelow, EntersAbove, HasRisingVi
 use Rattle.trace_props.specs.Agreeing.{goes, is_view, KnowEachOther, KnowsAll, MayMeet, MayHandBack}
 use Rattle.trace_props.specs.State.{state_of, entry_state}
 use Rattle.trace_props.specs.Verdicts.{GoesOn}
-use Rattle.trace_props.proofs.FactOfObserved.{same_address-true, same_address-refl, same_view_id-true}
+use Rattle.address.proofs.SameIds.{same_address-true, same_address-refl, same_view_id-true}
 use Rattle.trace_props.proofs.FactOfDelivered.{enters, is_of, register-stands}
 use Rattle.trace_props.proofs.FactOfRisingViews.{entered, not-entered}
 use Rattle.trace_props.proofs.RuleOfSameNext.{is_view-true}
 use Rattle.trace_props.proofs.RuleOfEntry.{state_of-push}
-use Rattle.agreement.specs.Words.{list_of}
-use Rattle.agreement.specs.Histories.{History, report_of, goes_from, goes_with}
+use Rattle.acts.specs.Words.{list_of}
+use Rattle.acts.specs.Histories.{History, report_of, goes_from, goes_with}
 use Rattle.agreement.specs.Packets.{end_of, IsFitting, IsInstruction, IsEntry, state_with}
 use Rattle.agreement.specs.Invariant.{TraceFact, EachPacket, EachEntry, StateFact}
 use Rattle.agreement.specs.Members.{installed_as}
@@ -34,8 +34,10 @@ use Rattle.agreement.proofs.KeepHistory.{Later, entered-later}
 use Rattle.agreement.proofs.KeepPackets.{goes-same, complete-later, together-later}
 use Rattle.agreement.proofs.KeepByInstall.{installed_on}
 use Rattle.agreement.proofs.KeepTrace.{rules-of}
-use Rattle.agreement.proofs.FactOfMeeting.{found, filter-passes, goes-reported, same-end, same-previous, together-exact}
-use Rattle.agreement.proofs.FactOfEntrants.{members-agree, comes-member, goes-passes, filter-within, same-list}
+use Rattle.agreement.proofs.FactOfMeeting.{filter-passes, goes-reported, same-end, same-previous, together-exact}
+use Rattle.view.proofs.FactOfMembers.{filter-within}
+use Rattle.agreement.proofs.FactOfEntrants.{members-agree, comes-member, goes-passes, same-list}
+use Rattle.address.proofs.Plain.{found}
 
 -- ---- what is so of a member that is about to go into a view as it was instructed
 

@@ -5,21 +5,23 @@ use Rattle.std.specs.Option.{ForSome, option_map_or, option_eq}
 use Rattle.std.proofs.lemmas.Option.{none-some, same_Some}
 use Rattle.address.specs.Ids.{Address, ViewId, same_address, same_view_id}
 use Rattle.view.specs.Members.{View, stands_in}
-use Rattle.wire.specs.Values.{Report}
-use Rattle.wire.specs.Values as wire
+use Rattle.wire_values.specs.Values.{Report}
+use Rattle.wire_values.specs.Values as wire
 use Rattle.flush.specs.Flushes.{FlushModel, report_from, comes_from, has_come_from, group, together_of}
 use Rattle.trace_props.specs.declared.event.Install.{Install}
 use Rattle.trace_props.specs.Observed.{entry_of}
-use Rattle.trace_props.proofs.FactOfObserved.{same_address-true, same_address-from}
-use Rattle.agreement.specs.Words.{list_of}
-use Rattle.agreement.specs.Histories.{History, report_of, install_of, goes_from, goes_with}
-use Rattle.agreement.specs.Acts.{Cuts, proposed, others_of, base_for, items_for, instruction, instruction_for}
+use Rattle.address.proofs.SameIds.{same_address-true, same_address-from}
+use Rattle.acts.specs.Words.{list_of}
+use Rattle.acts.specs.Histories.{History, report_of, install_of, goes_from, goes_with}
+use Rattle.acts.specs.Acts.{Cuts, proposed, others_of, base_for, items_for, instruction, instruction_for}
 use Rattle.agreement.specs.Packets.{end_of, IsCutOf, AllAnswered, IsFitting, IsInstruction}
 use Rattle.agreement.specs.Members.{IsRecorded}
-use Rattle.agreement.proofs.Lists.{filter-same}
-use Rattle.agreement.proofs.FactOfMeeting.{found, goes-reported, previous-refl}
+use Rattle.acts.proofs.Lists.{filter-same}
+use Rattle.agreement.proofs.FactOfMeeting.{goes-reported, previous-refl}
 use Rattle.agreement.proofs.KeepByFirstInstall.{coordinator-goes}
-use Rattle.agreement.proofs.FactOfInstructions.{filter-within, others-other}
+use Rattle.agreement.proofs.FactOfInstructions.{others-other}
+use Rattle.view.proofs.FactOfMembers.{filter-within}
+use Rattle.address.proofs.Plain.{found}
 
 -- ---- where a report stands
 

@@ -14,13 +14,14 @@ use Rattle.trace_props.specs.Rules.{IsRunning, EntersAbove, LiesWithin}
 use Rattle.trace_props.specs.State.{state_of, installs, entry_state}
 use Rattle.trace_props.specs.Agreeing.{is_view, goes, first_from}
 use Rattle.trace_props.specs.Verdicts.{GoesOn}
-use Rattle.trace_props.proofs.FactOfObserved.{same_address-refl, same_view_id-refl}
+use Rattle.address.proofs.SameIds.{same_address-refl, same_view_id-refl}
 use Rattle.trace_props.proofs.FactOfDelivered.{enters, register-stands, register-written, register-still, register-push}
 use Rattle.trace_props.proofs.FactOfRisingViews.{by_pushes}
 use Rattle.trace_props.proofs.RuleOfEntry.{state_of-push}
 use Rattle.trace_props.proofs.RuleOfEntry.{entry_state-push}
-use Rattle.agreement.specs.Histories.{History}
+use Rattle.acts.specs.Histories.{History}
 use Rattle.agreement.specs.Invariant.{EachEntry}
+use Rattle.address.proofs.Plain.{option_or-none}
 
 -- ---- a view that nobody installed
 
@@ -71,11 +72,6 @@ pub record MayMake (t : List Event) (i : Install) : Type 0 where
   pub nothing : i.given ≡ None
 
 -- ---- states
-
--- nothing more changes nothing
-pub or-none : {X : Type 0} (o : Option X) → option_or o None ≡ o
-or-none None = refl
-or-none (Some x) = refl
 
 -- and no state with which it begins
 or-nothing : {X : Type 0} (o b : Option X) → option_or o b ≡ None → (o ≡ None) × (b ≡ None)
@@ -179,4 +175,4 @@ module _ {S : Type 0} (meaning : Meaning S) where
       entry_state-push meaning u t (Installed i)
       ∙ ap (λ b. option_or (entry_state meaning u t) (cond b (Some (state_of meaning u.creator (t ++ Installed i ∷ []))) None))
       (and_right (same_address i.member u.creator) (same_view_id i.view.id u) other)
-      ∙ or-none (entry_state meaning u t)
+      ∙ option_or-none (entry_state meaning u t)

@@ -1,21 +1,20 @@
 -- The coordinator of a view puts out an instruction to each of a list: what is then first put out for each, and what it keeps.
-use Rattle.std.proofs.Common.{◌≡◌, ℕ, zero, suc, Bool, true, false, cond, not, Option, Some, None, List, [], ◌∷◌, ◌++◌, map, filter, refl, sym, ap, ◌∙◌, subst, ◌⊎◌, inl, inr}
+use Rattle.std.proofs.Common.{◌≡◌, ℕ, zero, suc, Bool, true, false, cond, not, Option, Some, None, List, [], ◌∷◌, ◌++◌, map, refl, sym, ap, ◌∙◌, subst, ◌⊎◌, inl, inr}
 use Rattle.std.specs.Prelude.{slice_get}
 use Rattle.std.specs.Option.{option_or}
-use Rattle.std.proofs.lemmas.Bool.{cond-true, cond-false, or_left, or_right}
+use Rattle.std.proofs.lemmas.Bool.{cond-true, cond-false, or_left, or_right, not-true}
 use Rattle.std.proofs.lemmas.Option.{none-some, same_Some}
 use Rattle.address.specs.Ids.{Address, ViewId, same_address, same_view_id}
 use Rattle.view.specs.Members.{stands_in}
-use Rattle.wire.specs.Values.{Report}
-use Rattle.wire.specs.Values as wire
-use Rattle.wire.specs.declared.packet.Body.TheVariants as bodies
+use Rattle.wire_values.specs.Values.{Report}
+use Rattle.wire_values.specs.Values as wire
+use Rattle.wire_values.specs.declared.packet.Body.TheVariants as bodies
 use Rattle.flush.specs.Cuts.{first_of}
-use Rattle.flush.proofs.FactOfKeptReports.{not-true}
-use Rattle.trace_props.proofs.FactOfObserved.{same_address-refl, same_address-true, same_address-sym, same_view_id-from}
-use Rattle.agreement.specs.Histories.{Posted, flush_in, report_by, install_to, flush_of, report_of, install_of}
-use Rattle.agreement.specs.Cores.{kept_for}
-use Rattle.agreement.specs.Acts.{packet, others_of}
-use Rattle.agreement.proofs.Lists.{first_of-append, first_of-still}
+use Rattle.address.proofs.SameIds.{same_address-refl, same_address-true, same_address-sym, same_view_id-from}
+use Rattle.acts.specs.Histories.{Posted, flush_in, report_by, install_to, flush_of, report_of, install_of}
+use Rattle.acts.specs.Cores.{install_sent_to}
+use Rattle.acts.specs.Acts.{packet, others_of}
+use Rattle.acts.proofs.Lists.{first_of-append, first_of-still}
 use Rattle.agreement.proofs.ActBegins.{or-cases}
 use Rattle.agreement.proofs.FactOfMeeting.{filter-passes}
 
@@ -37,11 +36,6 @@ within-by true q x rest list later there = by (or-cases (same_address q x) (stan
     by (inl e) = or_left (same_address q x) (stands_in q list) e
     by (inr e) = or_right (same_address q x) (stands_in q list) (later e)
 
--- who is kept stood there
-pub filter-within : (test : Address → Bool) (q : Address) (list : List Address) → stands_in q (filter test list) ≡ true → stands_in q list ≡ true
-filter-within test q [] there = there
-filter-within test q (x ∷ list) there = within-by (test x) q x (filter test list) list (filter-within test q list) there
-
 -- who is among the others of a list is another
 pub others-other : (p q : Address) (list : List Address) → stands_in q (others_of p list) ≡ true → same_address q p ≡ false
 others-other p q list there = not-true (same_address q p) (filter-passes (λ r. not (same_address r p)) q list there)
@@ -53,23 +47,23 @@ kept-by true g q x o e later = ap (λ r. Some (g r)) (sym (same_address-true q x
 kept-by false g q x o e later = later refl
 
 -- for each of the list its instruction is kept
-pub kept-there : (g : Address → wire.Install) (q : Address) (list : List Address) → stands_in q list ≡ true → kept_for q (kept_by g list) ≡ Some (g q)
+pub kept-there : (g : Address → wire.Install) (q : Address) (list : List Address) → stands_in q list ≡ true → install_sent_to q (kept_by g list) ≡ Some (g q)
 kept-there g q [] there = absurd (let n : false ≡ true = there in cc)
 kept-there g q (x ∷ list) there =
-    kept-by (same_address q x) g q x (kept_for q (kept_by g list)) refl (λ other. kept-there g q list (by (or-cases (same_address q x) (stands_in q list) there) other))
+    kept-by (same_address q x) g q x (install_sent_to q (kept_by g list)) refl (λ other. kept-there g q list (by (or-cases (same_address q x) (stands_in q list) there) other))
   where
     by : (same_address q x ≡ true) ⊎ (stands_in q list ≡ true) → same_address q x ≡ false → stands_in q list ≡ true
     by (inl e) other = absurd (let n : true ≡ false = sym e ∙ other in cc)
     by (inr e) other = e
 
 which-by : (b : Bool) (g : Address → wire.Install) (q x : Address) (list : List Address) (i : wire.Install) → same_address q x ≡ b
-    → (kept_for q (kept_by g list) ≡ Some i → (stands_in q list ≡ true) × (i ≡ g q)) → cond b (Some (g x)) (kept_for q (kept_by g list)) ≡ Some i → (stands_in q (x ∷ list) ≡ true) × (i ≡ g q)
+    → (install_sent_to q (kept_by g list) ≡ Some i → (stands_in q list ≡ true) × (i ≡ g q)) → cond b (Some (g x)) (install_sent_to q (kept_by g list)) ≡ Some i → (stands_in q (x ∷ list) ≡ true) × (i ≡ g q)
 which-by true g q x list i e later there =
     (or_left (same_address q x) (stands_in q list) e, sym (same_Some (g x) i there) ∙ ap g (sym (same_address-true q x e)))
 which-by false g q x list i e later there = let y = later there in (or_right (same_address q x) (stands_in q list) y.0, y.1)
 
 -- and what is kept for an address is the instruction of one of the list
-pub kept-which : (g : Address → wire.Install) (q : Address) (list : List Address) (i : wire.Install) → kept_for q (kept_by g list) ≡ Some i → (stands_in q list ≡ true) × (i ≡ g q)
+pub kept-which : (g : Address → wire.Install) (q : Address) (list : List Address) (i : wire.Install) → install_sent_to q (kept_by g list) ≡ Some i → (stands_in q list ≡ true) × (i ≡ g q)
 kept-which g q [] i there = absurd (none-some i there)
 kept-which g q (x ∷ list) i there = which-by (same_address q x) g q x list i refl (kept-which g q list i) there
 
@@ -92,14 +86,14 @@ found-by false w q x i o k e view same =
 
 -- the first instruction that an address finds among them is what is kept for it
 instructing-first : (p : Address) (w : ViewId) (q : Address) (g : Address → wire.Install) (list : List Address) → ((r : Address) → (g r).view.id ≡ w)
-    → first_of (install_to q w) (instructing p g list) ≡ kept_for q (kept_by g list)
+    → first_of (install_to q w) (instructing p g list) ≡ install_sent_to q (kept_by g list)
 instructing-first p w q g [] views = refl
 instructing-first p w q g (x ∷ list) views =
-    found-by (same_address q x) w q x (g x) (first_of (install_to q w) (instructing p g list)) (kept_for q (kept_by g list)) refl (views x) (instructing-first p w q g list views)
+    found-by (same_address q x) w q x (g x) (first_of (install_to q w) (instructing p g list)) (install_sent_to q (kept_by g list)) refl (views x) (instructing-first p w q g list views)
 
 -- so where nothing was put out for the view, what is put out is what is kept
 pub install-kept : (p : Address) (w : ViewId) (q : Address) (g : Address → wire.Install) (list : List Address) (pool : List Posted) → ((r : Address) → (g r).view.id ≡ w) → install_of w q pool ≡ None
-    → install_of w q (pool ++ instructing p g list) ≡ kept_for q (kept_by g list)
+    → install_of w q (pool ++ instructing p g list) ≡ install_sent_to q (kept_by g list)
 unfolding install_of
 install-kept p w q g list pool views none =
     first_of-append (install_to q w) pool (instructing p g list) ∙ ap (λ o. option_or o (first_of (install_to q w) (instructing p g list))) none ∙ instructing-first p w q g list views

@@ -1,27 +1,24 @@
 -- Who goes into a view as it was instructed: it meets all who came from the same view at one end of its order, and knows who they are.
-use Rattle.std.proofs.Common.{◌≡◌, Bool, true, false, cond, Option, Some, None, List, [], ◌∷◌, length, filter, refl, sym, ap, ◌∙◌, is_some, ◌⊎◌, inl, inr}
+use Rattle.std.proofs.Common.{◌≡◌, Bool, true, false, cond, Option, Some, None, List, [], ◌∷◌, length, filter, refl, sym, ap, ◌∙◌, ◌⊎◌, inl, inr}
 use Rattle.std.specs.Prelude.{◌↔◌}
 use Rattle.std.specs.Option.{option_map, option_map_or, option_eq}
 use Rattle.std.proofs.lemmas.Bool.{cond-false, or_left, or_right}
 use Rattle.std.proofs.lemmas.Option.{same_Some}
 use Rattle.address.specs.Ids.{Address, ViewId, same_address, same_view_id}
 use Rattle.view.specs.Members.{stands_in}
-use Rattle.wire.specs.Values.{Report}
-use Rattle.wire.specs.Values as wire
+use Rattle.wire_values.specs.Values.{Report}
+use Rattle.wire_values.specs.Values as wire
 use Rattle.trace_props.specs.declared.event.Install.{Install}
 use Rattle.trace_props.specs.Observed.{entry_of}
-use Rattle.trace_props.proofs.FactOfObserved.{same_address-true, same_view_id-true, same_view_id-refl}
-use Rattle.agreement.specs.Words.{list_of}
-use Rattle.agreement.specs.Histories.{History, report_of, install_of, goes_from, goes_with}
+use Rattle.address.proofs.SameIds.{same_address-true, same_view_id-true, same_view_id-refl}
+use Rattle.acts.specs.Words.{list_of}
+use Rattle.acts.specs.Histories.{History, report_of, install_of, goes_from, goes_with}
 use Rattle.agreement.specs.Packets.{end_of, IsLed, IsFitting, IsEntry}
 use Rattle.agreement.specs.Invariant.{EachEntry}
 use Rattle.agreement.proofs.ActBegins.{or-cases}
+use Rattle.address.proofs.Plain.{found}
 
 -- ---- what is there
-
-pub found : {X : Type 0} (o : Option X) → is_some o ≡ true → (x : X) × (o ≡ Some x)
-found None e = absurd (let n : false ≡ true = e in cc)
-found (Some x) e = (x, refl)
 
 -- who is no coordinator goes from where it reported
 pub goes-reported : (h : History) (w : ViewId) (q : Address) (r : Report) → same_address q w.creator ≡ false → report_of q w h.pool ≡ Some r → goes_from h w q ≡ Some r.previous

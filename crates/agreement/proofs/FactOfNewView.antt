@@ -5,7 +5,7 @@ use Rattle.std.proofs.lemmas.Bool.{and_from, cond-true}
 use Rattle.std.proofs.lemmas.Option.{none-some, same_Some}
 use Rattle.address.specs.Ids.{Address, ViewId, same_address, same_view_id}
 use Rattle.view.specs.Members.{View, stands_in}
-use Rattle.wire.specs.Values as wire
+use Rattle.wire_values.specs.Values as wire
 use Rattle.state_transfer.specs.Meanings.{Meaning}
 use Rattle.trace_props.specs.declared.event.Event.{Event}
 use Rattle.trace_props.specs.declared.event.Event.TheVariants.{Installed}
@@ -13,12 +13,13 @@ use Rattle.trace_props.specs.declared.event.Install.{Install}
 use Rattle.trace_props.specs.Observed.{current_view, is_blocked, delivered_in, own, entry_of}
 use Rattle.trace_props.specs.Rules.{IsRunning}
 use Rattle.trace_props.specs.State.{state_of, entry_state}
-use Rattle.trace_props.proofs.FactOfObserved.{same_view_id-refl, same_address-from, has_started-stays, has_ended-still, current_view-now, is_blocked-open}
+use Rattle.address.proofs.SameIds.{same_view_id-refl, same_address-from}
+use Rattle.trace_props.proofs.FactOfObserved.{has_started-stays, has_ended-still, current_view-now, is_blocked-open}
 use Rattle.trace_props.proofs.FactOfDelivered.{enters, delivered_in-still, sent_in-still}
-use Rattle.agreement.specs.Words.{entry_for, Open, list_of, tally_after, no_tally}
-use Rattle.agreement.specs.Histories.{History, flush_of}
-use Rattle.agreement.specs.Cores.{Core, fresh_traffic}
-use Rattle.agreement.specs.Acts.{gone_into}
+use Rattle.acts.specs.Words.{entry_for, Open, list_of, tally_after, no_tally}
+use Rattle.acts.specs.Histories.{History, flush_of}
+use Rattle.acts.specs.Cores.{Core, fresh_view_core}
+use Rattle.acts.specs.Acts.{gone_into}
 use Rattle.agreement.specs.Packets.{state_with}
 use Rattle.agreement.specs.Members.{LiesBelow, KeepsInstructions, ViewFact, MemberFact, installed_as}
 use Rattle.agreement.specs.Invariant.{NothingBefore}
@@ -60,7 +61,7 @@ module _ {S : Type 0} (meaning : Meaning S) where
       let list : list_of me v.id k.trace ≡ [] = list_of-still me v.id t happened refl ∙ list-none me v.id t was.none_delivered in
       let sent = sent_in-still me v.id t happened refl ∙ was.sent in
       let mine : enters me v.id i ≡ true = and_from (same_address i.member me) (same_view_id v.id v.id) (same_address-from i.member me x.itself) (same_view_id-refl v.id) in
-      let fact : ViewFact k me true fresh_traffic kept v = record {
+      let fact : ViewFact k me true fresh_view_core kept v = record {
         inside = record {
           own = ap (λ q. installed_as q v.id k.trace) (sym x.itself)
               ∙ ap (option_map (λ (e : Install). e.view)) (entry-now h i (ap (λ q. entry_of q v.id t) x.itself ∙ x.new));
@@ -101,7 +102,7 @@ module _ {S : Type 0} (meaning : Meaning S) where
         below = x.below;
         reported = λ waits. absurd (let n : true ≡ false = waits in cc);
         flush = λ g e. absurd (none-some g e);
-        view = λ u e. subst (λ (w : View). ViewFact k me true fresh_traffic kept w) (same_Some v u e) fact;
+        view = λ u e. subst (λ (w : View). ViewFact k me true fresh_view_core kept w) (same_Some v u e) fact;
         state = record {
           now = x.now;
           is = x.is;

@@ -4,15 +4,15 @@ use Rattle.std.specs.Prelude.{slice_get}
 use Rattle.std.specs.List.{cons_option}
 use Rattle.std.proofs.lemmas.Option.{none-some, same_Some}
 use Rattle.address.specs.Ids.{Address, ViewId, same_address}
-use Rattle.wire.specs.Values.{Entry}
+use Rattle.wire_values.specs.Values.{Entry}
 use Rattle.trace_props.specs.declared.event.Event.{Event}
 use Rattle.trace_props.specs.declared.event.Message.{Message}
 use Rattle.trace_props.specs.declared.event.Numbered.{Numbered}
 use Rattle.trace_props.specs.Observed.{delivered_in, sent_in, own, numbered}
 use Rattle.trace_props.specs.Rules.{HasSoundMessages, HasOneOrder}
 use Rattle.trace_props.proofs.FactOfPlaces.{IsBeginningOf-at}
-use Rattle.trace_props.proofs.FactOfObserved.{same_address-refl}
-use Rattle.agreement.specs.Words.{entry_for, message_for, list_of, order_of}
+use Rattle.address.proofs.SameIds.{same_address-refl}
+use Rattle.acts.specs.Words.{entry_for, message_for, list_of, order_of}
 
 -- an entry of the order is the message that its coordinator delivered there
 message-at : (l : List Message) (k : ℕ) (e : Entry) → slice_get (map entry_for l) k ≡ Some e → slice_get l k ≡ Some (message_for e)

@@ -1,25 +1,20 @@
 -- What stands in a register stands in a packet, so what holds of packets holds of it.
 use Rattle.std.proofs.Common.{◌≡◌, ℕ, Bool, true, false, cond, Option, Some, None, List, refl, sym, ap, ◌∙◌, subst}
 use Rattle.std.specs.Prelude.{slice_get}
-use Rattle.std.proofs.lemmas.Option.{none-some, same_Some}
+use Rattle.std.proofs.lemmas.Option.{none-some, cond_some}
 use Rattle.address.specs.Ids.{Address, ViewId, same_address, same_view_id}
 use Rattle.view.specs.Members.{View}
-use Rattle.wire.specs.Values.{Report}
-use Rattle.wire.specs.Values as wire
-use Rattle.wire.specs.declared.packet.Body.{Body}
-use Rattle.wire.specs.declared.packet.Body.TheVariants as bodies
+use Rattle.wire_values.specs.Values.{Report}
+use Rattle.wire_values.specs.Values as wire
+use Rattle.wire_values.specs.declared.packet.Body.{Body}
+use Rattle.wire_values.specs.declared.packet.Body.TheVariants as bodies
 use Rattle.flush.proofs.Covers.{first-stands}
-use Rattle.trace_props.proofs.FactOfObserved.{same_address-true, same_view_id-true}
-use Rattle.agreement.specs.Histories.{Posted, History, flush_in, report_in, install_in, report_by, install_to, flush_of, report_of, install_of}
+use Rattle.address.proofs.SameIds.{same_address-true, same_view_id-true}
+use Rattle.acts.specs.Histories.{Posted, History, flush_in, report_in, install_in, report_by, install_to, flush_of, report_of, install_of}
 use Rattle.agreement.specs.Packets.{BodyFact, IsAnswer, IsInstruction}
 use Rattle.agreement.specs.Invariant.{EachPacket}
 
 -- ---- what one packet says
-
--- what a test lets through
-pub passed-by : {X : Type 0} (b : Bool) (x y : X) → cond b (Some x) None ≡ Some y → (b ≡ true) × (x ≡ y)
-passed-by true x y e = (refl, same_Some x y e)
-passed-by false x y e = absurd (none-some y e)
 
 -- and what is let through under a test
 pub passed-to : {X : Type 0} (b : Bool) (o : Option X) (y : X) → cond b o None ≡ Some y → (b ≡ true) × (o ≡ Some y)
@@ -40,7 +35,7 @@ flush-says w (bodies.Nak view missing) l e = absurd (none-some l e)
 flush-says w (bodies.Ack view delivered) l e = absurd (none-some l e)
 flush-says w (bodies.Status view progress) l e = absurd (none-some l e)
 flush-says w (bodies.Flush proposal) l e =
-    let x = passed-by (same_view_id proposal.id w) proposal.members l e in ap bodies.Flush (view-of proposal w l (same_view_id-true proposal.id w x.0) x.1)
+    let x = cond_some (same_view_id proposal.id w) proposal.members l e in ap bodies.Flush (view-of proposal w l (same_view_id-true proposal.id w x.0) x.1)
 flush-says w (bodies.Behind proposal counter) l e = absurd (none-some l e)
 flush-says w (bodies.Report proposal report) l e = absurd (none-some l e)
 flush-says w (bodies.Install install) l e = absurd (none-some l e)
@@ -59,7 +54,7 @@ report-says w (bodies.Status view progress) r e = absurd (none-some r e)
 report-says w (bodies.Flush proposal) r e = absurd (none-some r e)
 report-says w (bodies.Behind proposal counter) r e = absurd (none-some r e)
 report-says w (bodies.Report proposal report) r e =
-    let x = passed-by (same_view_id proposal w) report r e in
+    let x = cond_some (same_view_id proposal w) report r e in
     ap (λ v. bodies.Report v report) (same_view_id-true proposal w x.0) ∙ ap (bodies.Report w) x.1
 report-says w (bodies.Install install) r e = absurd (none-some r e)
 report-says w (bodies.Merge view) r e = absurd (none-some r e)
@@ -78,7 +73,7 @@ install-says w (bodies.Flush proposal) i e = absurd (none-some i e)
 install-says w (bodies.Behind proposal counter) i e = absurd (none-some i e)
 install-says w (bodies.Report proposal report) i e = absurd (none-some i e)
 install-says w (bodies.Install install) i e =
-    let x = passed-by (same_view_id install.view.id w) install i e in
+    let x = cond_some (same_view_id install.view.id w) install i e in
     (ap bodies.Install x.1, ap (λ (j : wire.Install). j.view.id) (sym x.1) ∙ same_view_id-true install.view.id w x.0)
 install-says w (bodies.Merge view) i e = absurd (none-some i e)
 

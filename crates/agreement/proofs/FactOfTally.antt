@@ -9,7 +9,7 @@ use Rattle.trace_props.specs.declared.event.Event.TheVariants.{Started, Sent, De
 use Rattle.trace_props.specs.declared.event.Delivery.{Delivery}
 use Rattle.trace_props.specs.Observed.{member_of, delivered_in, delivered_message}
 use Rattle.trace_props.proofs.FactOfDelivered.{is_delivery_to, delivered_in-still, delivered_in-miss, delivered_in-hit, delivered_in-other}
-use Rattle.agreement.specs.Words.{entry_for, list_of, Phase, Before, Open, Past, opened, blocked, counted, Tally, tally_of, tally_after, no_tally, open_count, IsClosed}
+use Rattle.acts.specs.Words.{entry_for, list_of, Phase, Before, Open, Past, opened, blocked, counted, Tally, tally_of, tally_after, no_tally, open_count, IsClosed}
 
 -- ---- the order
 

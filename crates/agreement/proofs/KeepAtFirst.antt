@@ -4,8 +4,8 @@ use Rattle.std.proofs.lemmas.Option.{none-some}
 use Rattle.address.specs.Ids.{Address, ViewId}
 use Rattle.state_transfer.specs.Meanings.{Meaning}
 use Rattle.trace_props.proofs.KeepEightRules.{synchronous-nil}
-use Rattle.agreement.specs.Words.{tally_of, no_tally}
-use Rattle.agreement.specs.Histories.{install_of}
+use Rattle.acts.specs.Words.{tally_of, no_tally}
+use Rattle.acts.specs.Histories.{install_of}
 use Rattle.agreement.specs.Steps.{nothing_yet}
 use Rattle.agreement.specs.Invariant.{Invariant}
 

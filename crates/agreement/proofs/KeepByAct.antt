@@ -3,15 +3,15 @@ use Rattle.std.proofs.Common.{◌≡◌, ℕ, ◌≤◌, length, false, Option, 
 use Rattle.address.specs.Ids.{Address, IsAddress}
 use Rattle.view.specs.Members.{View}
 use Rattle.limits.specs.declared.TheConstants.{PAYLOAD}
-use Rattle.wire.specs.Values.{Entry, Report}
-use Rattle.wire.specs.Values as wire
-use Rattle.wire.specs.declared.packet.Body.{Body}
+use Rattle.wire_values.specs.Values.{Entry, Report}
+use Rattle.wire_values.specs.Values as wire
+use Rattle.wire_values.specs.declared.packet.Body.{Body}
 use Rattle.state_transfer.specs.Meanings.{Meaning}
 use Rattle.flush.specs.Flushes.{FlushModel}
 use Rattle.trace_props.specs.Observed.{has_started}
-use Rattle.agreement.specs.Histories.{History}
-use Rattle.agreement.specs.Cores.{Core}
-use Rattle.agreement.specs.Acts.{Cuts, Act, Creates, Joins, Puts, Sends, Queues, Orders, Hears, Collects, Holds, Delivers, Promises, Begins, Records, Finishes, Enters, Leaves, Allowed}
+use Rattle.acts.specs.Histories.{History}
+use Rattle.acts.specs.Cores.{Core}
+use Rattle.acts.specs.Acts.{Cuts, Act, Creates, Joins, Puts, Sends, Queues, Orders, TakesAck, Collects, Holds, Delivers, Promises, Begins, Records, Finishes, Enters, Leaves, Allowed}
 use Rattle.agreement.specs.Steps.{System, Start, Crash, came_of, acted, stepped}
 use Rattle.agreement.specs.Members.{MemberFact}
 use Rattle.agreement.specs.Invariant.{Invariant}
@@ -64,8 +64,8 @@ module _ {S : Type 0} (meaning : Meaning S) where
   queues-keeps v e waiting = at-own (Queues v e waiting) (λ s c which i x a.
       still-keeps meaning s c.me _ i (queues-fact meaning s.history c which v e waiting i.trace i.packets x a))
 
-  pub hears-keeps : (v : View) (q : Address) (n : ℕ) → Keeps (Hears v q n)
-  hears-keeps v q n = at-own (Hears v q n) (λ s c which i x a.
+  pub hears-keeps : (v : View) (q : Address) (n : ℕ) → Keeps (TakesAck v q n)
+  hears-keeps v q n = at-own (TakesAck v q n) (λ s c which i x a.
       still-keeps meaning s c.me _ i (hears-fact meaning s.history c which v q n i.packets x a))
 
   pub collects-keeps : (v : View) (n : ℕ) (held : List (ℕ × Entry)) → Keeps (Collects v n held)

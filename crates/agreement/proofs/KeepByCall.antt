@@ -3,27 +3,27 @@ use Rattle.std.proofs.Common.{◌≡◌, ℕ, Bool, true, false, cond, Option, S
 use Rattle.std.specs.Prelude.{slice_get, ◌&&◌, not}
 use Rattle.std.specs.Option.{option_and_then}
 use Rattle.std.proofs.lemmas.Bool.{cond-true, and_parts, and_from}
-use Rattle.std.proofs.lemmas.Option.{none-some, same_Some}
+use Rattle.std.proofs.lemmas.Option.{none-some, same_Some, cond_some}
 use Rattle.std.proofs.lemmas.List.{append_assoc}
 use Rattle.address.specs.Ids.{Address, same_address}
 use Rattle.state_transfer.specs.Meanings.{Meaning}
 use Rattle.trace_props.specs.declared.event.Event.{Event}
-use Rattle.trace_props.proofs.FactOfObserved.{same_address-true, same_address-refl}
+use Rattle.address.proofs.SameIds.{same_address-true, same_address-refl}
 use Rattle.trace_props.proofs.FactOfPlaces.{slice_get-before}
-use Rattle.agreement.specs.Histories.{Posted, History}
-use Rattle.agreement.specs.Cores.{Core}
-use Rattle.agreement.specs.Acts.{Act, Creates, Joins, Puts, Sends, Queues, Orders, Hears, Collects, Holds, Delivers, Promises, Begins, Records, Finishes, Enters, Leaves, Allowed, after, packets_of, events_of}
-use Rattle.agreement.specs.Steps.{System, put, handed, came_of, grown, acted}
-use Rattle.agreement.specs.Chains.{Chain, packets_along, events_along}
+use Rattle.acts.specs.Histories.{Posted, History}
+use Rattle.acts.specs.Cores.{Core}
+use Rattle.acts.specs.Acts.{Act, Creates, Joins, Puts, Sends, Queues, Orders, TakesAck, Collects, Holds, Delivers, Promises, Begins, Records, Finishes, Enters, Leaves, Allowed, after, packets_of, events_of}
+use Rattle.acts.specs.Acts.{handed}
+use Rattle.agreement.specs.Steps.{System, put, came_of, grown, acted}
+use Rattle.acts.specs.Chains.{Chain, packets_along, events_along}
 use Rattle.agreement.specs.Invariant.{Invariant}
 use Rattle.agreement.specs.Law.{ActsKeep}
 use Rattle.agreement.proofs.KeepBySteps
 use Rattle.agreement.proofs.KeepWithoutInstall.{grown-none}
-use Rattle.agreement.proofs.FactOfRegisters.{passed-by}
 
 -- ---- the members that run
 
-put-again-by : {X : Type 0} (b : Bool) (x y z : X) → cond b x (cond b y z) ≡ cond b x z
+pub put-again-by : {X : Type 0} (b : Bool) (x y z : X) → cond b x (cond b y z) ≡ cond b x z
 put-again-by true x y z = refl
 put-again-by false x y z = refl
 
@@ -62,7 +62,7 @@ module _ {S : Type 0} (meaning : Meaning S) where
   act-still c d (Sends v payload) e = subst (IsStill c) (same_Some _ d e) (record { itself = refl; connected = λ x. x })
   act-still c d (Queues v m waiting) e = subst (IsStill c) (same_Some _ d e) (record { itself = refl; connected = λ x. x })
   act-still c d (Orders v m waiting held) e = subst (IsStill c) (same_Some _ d e) (record { itself = refl; connected = λ x. x })
-  act-still c d (Hears v q n) e = subst (IsStill c) (same_Some _ d e) (record { itself = refl; connected = λ x. x })
+  act-still c d (TakesAck v q n) e = subst (IsStill c) (same_Some _ d e) (record { itself = refl; connected = λ x. x })
   act-still c d (Collects v n held) e = subst (IsStill c) (same_Some _ d e) (record { itself = refl; connected = λ x. x })
   act-still c d (Holds v g m held) e = subst (IsStill c) (same_Some _ d e) (record { itself = refl; connected = λ x. x })
   act-still c d (Delivers v m) e = subst (IsStill c) (same_Some _ d e) (record { itself = refl; connected = λ x. x })
@@ -75,7 +75,7 @@ module _ {S : Type 0} (meaning : Meaning S) where
 
   handed-still : (c d : Core S) (m k : Posted) → IsStill c d → handed c m ≡ Some k → handed d m ≡ Some k
   handed-still c d m k still e =
-      let t = passed-by (c.connected && same_address m.destination c.me && not (same_address m.source c.me)) m k e in
+      let t = cond_some (c.connected && same_address m.destination c.me && not (same_address m.source c.me)) m k e in
       let for_it = and_parts (c.connected && same_address m.destination c.me) (not (same_address m.source c.me)) t.0 in
       let free = and_parts c.connected (same_address m.destination c.me) for_it.0 in
       let now : (d.connected && same_address m.destination c.me && not (same_address m.source c.me)) ≡ true =

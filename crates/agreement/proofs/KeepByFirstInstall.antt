@@ -7,7 +7,7 @@ use Rattle.std.proofs.lemmas.Option.{none-some, same_Some}
 use Rattle.std.proofs.lemmas.List.{append-nil}
 use Rattle.address.specs.Ids.{Address, ViewId, same_address, same_view_id}
 use Rattle.view.specs.Members.{stands_in}
-use Rattle.wire.specs.Values as wire
+use Rattle.wire_values.specs.Values as wire
 use Rattle.state_transfer.specs.Meanings.{Meaning}
 use Rattle.trace_props.specs.declared.event.Event.{Event}
 use Rattle.trace_props.specs.declared.event.Event.TheVariants.{Installed}
@@ -15,11 +15,11 @@ use Rattle.trace_props.specs.declared.event.Install.{Install}
 use Rattle.trace_props.specs.Observed.{entry_of}
 use Rattle.trace_props.specs.Rules.{IsRunning, HasRisingViews}
 use Rattle.trace_props.specs.State.{state_of, entry_state}
-use Rattle.trace_props.proofs.FactOfObserved.{same_address-from, same_view_id-true}
+use Rattle.address.proofs.SameIds.{same_address-from, same_view_id-true}
 use Rattle.trace_props.proofs.FactOfDelivered.{enters, register-push}
-use Rattle.agreement.specs.Histories.{Posted, History, install_of, goes_from, goes_with}
-use Rattle.agreement.specs.Cores.{Core}
-use Rattle.agreement.specs.Acts.{gone_into}
+use Rattle.acts.specs.Histories.{Posted, History, install_of, goes_from, goes_with}
+use Rattle.acts.specs.Cores.{Core}
+use Rattle.acts.specs.Acts.{gone_into}
 use Rattle.agreement.specs.Steps.{System, put}
 use Rattle.agreement.specs.Packets.{PacketFact, AllAnswered, IsEntry, GivesState, BeginsWith}
 use Rattle.agreement.specs.Members.{LiesBelow, KeepsInstructions, MemberFact}
@@ -32,7 +32,8 @@ use Rattle.agreement.proofs.KeepByMove.{packets-later, entries-later, states-lat
 use Rattle.agreement.proofs.KeepWithoutInstall.{Quiet}
 use Rattle.agreement.proofs.KeepByInstall.{entry-now, entries-installed}
 use Rattle.agreement.proofs.FactOfNewView.{arrives}
-use Rattle.agreement.proofs.FactOfFirstInstall.{or-none, MayMake, makes-goes, kept-state, made-state, other-state}
+use Rattle.agreement.proofs.FactOfFirstInstall.{MayMake, makes-goes, kept-state, made-state, other-state}
+use Rattle.address.proofs.Plain.{option_or-none}
 
 -- the history after packets and an install
 abbrev pub made_on : History → List Posted → Install → History
@@ -43,7 +44,7 @@ entry-other : (t : List Event) (i : Install) (q : Address) (u : ViewId) → same
 entry-other t i q u other =
     register-push (enters q u) t i
     ∙ ap (λ b. option_or (entry_of q u t) (cond b (Some i) None)) (and_right (same_address i.member q) (same_view_id i.view.id u) other)
-    ∙ or-none (entry_of q u t)
+    ∙ option_or-none (entry_of q u t)
 
 -- the coordinator goes from where it says
 pub coordinator-goes : (h : History) (w : ViewId) (p : Address) (e : Install) → same_address p w.creator ≡ true → entry_of p w h.trace ≡ Some e → goes_from h w p ≡ Some e.previous

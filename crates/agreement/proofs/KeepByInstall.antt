@@ -10,9 +10,9 @@ use Rattle.trace_props.specs.declared.event.Event.TheVariants.{Installed}
 use Rattle.trace_props.specs.declared.event.Install.{Install}
 use Rattle.trace_props.specs.Observed.{entry_of}
 use Rattle.trace_props.specs.State.{installs, entry_state}
-use Rattle.trace_props.proofs.FactOfObserved.{same_address-true, same_address-refl, same_view_id-true, same_view_id-refl}
+use Rattle.address.proofs.SameIds.{same_address-true, same_address-refl, same_view_id-true, same_view_id-refl}
 use Rattle.trace_props.proofs.FactOfDelivered.{enters, register-push}
-use Rattle.agreement.specs.Histories.{History}
+use Rattle.acts.specs.Histories.{History}
 use Rattle.agreement.specs.Packets.{IsEntry}
 use Rattle.agreement.specs.Invariant.{EachPacket, EachEntry, StateFact}
 use Rattle.agreement.proofs.KeepHistory.{Later}

@@ -3,22 +3,21 @@ use Rattle.std.proofs.Common.{◌≡◌, ℕ, Bool, true, false, cond, Option, S
 use Rattle.std.specs.Prelude.{slice_get}
 use Rattle.std.specs.Option.{option_map, option_eq}
 use Rattle.address.specs.Ids.{Address, ViewId, same_address, same_view_id}
-use Rattle.wire.specs.Values.{Report}
-use Rattle.wire.specs.Values as wire
+use Rattle.wire_values.specs.Values as wire
 use Rattle.state_transfer.specs.Meanings.{Meaning}
 use Rattle.trace_props.specs.declared.event.Install.{Install}
 use Rattle.trace_props.specs.Observed.{entry_of}
 use Rattle.trace_props.specs.State.{entry_state}
-use Rattle.trace_props.proofs.FactOfObserved.{same_address-true}
-use Rattle.agreement.specs.Words.{list_of}
-use Rattle.agreement.specs.Histories.{Posted, History, report_of}
-use Rattle.agreement.specs.Histories as histories
-use Rattle.agreement.specs.Cores.{Core}
+use Rattle.address.proofs.SameIds.{same_address-true}
+use Rattle.acts.specs.Words.{list_of}
+use Rattle.acts.specs.Histories.{Posted, History, report_of}
+use Rattle.acts.specs.Histories as histories
+use Rattle.acts.specs.Cores.{Core}
 use Rattle.agreement.specs.Steps.{System, put}
 use Rattle.agreement.specs.Packets.{PacketFact, GivesState, BeginsWith, state_with}
 use Rattle.agreement.specs.Members.{MemberFact}
 use Rattle.agreement.specs.Invariant.{TraceFact, EachPacket, EachEntry, StateFact, Invariant}
-use Rattle.agreement.proofs.Lists.{slice_get-split}
+use Rattle.acts.proofs.Lists.{slice_get-split}
 use Rattle.agreement.proofs.KeepHistory.{Later}
 use Rattle.agreement.proofs.KeepPackets.{packet-later, is_entry-later, same-later}
 use Rattle.agreement.proofs.KeepOthers.{Only, OnlyState, member-other, state_with-later}

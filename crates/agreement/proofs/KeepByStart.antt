@@ -3,7 +3,7 @@ use Rattle.std.proofs.Common.{◌≡◌, Bool, true, false, Some, None, List, []
 use Rattle.std.proofs.lemmas.Option.{none-some, same_Some}
 use Rattle.std.proofs.lemmas.List.{append-nil}
 use Rattle.address.specs.Ids.{Address, ViewId, IsAddress, same_address}
-use Rattle.wire.specs.Values.{Report}
+use Rattle.wire_values.specs.Values.{Report}
 use Rattle.state_transfer.specs.Meanings.{Meaning}
 use Rattle.trace_props.specs.declared.event.Event.{Event}
 use Rattle.trace_props.specs.declared.event.Event.TheVariants.{Started, Sent, Delivered, Blocked, Installed, Left, Crashed}
@@ -13,15 +13,16 @@ use Rattle.trace_props.specs.Rules.{MayStand}
 use Rattle.trace_props.specs.State.{state_of}
 use Rattle.trace_props.specs.Verdicts.{GoesOn}
 use Rattle.trace_props.proofs.FactOfPlaces.{EachEvent-before, EachEvent-last}
-use Rattle.trace_props.proofs.FactOfObserved.{same_address-true, has_started-now, has_started-stays, has_ended-still, has_ended-other, current_view-push, current_view-other, is_blocked-push, is_blocked-other}
+use Rattle.address.proofs.SameIds.{same_address-true}
+use Rattle.trace_props.proofs.FactOfObserved.{has_started-now, has_started-stays, has_ended-still, has_ended-other, current_view-push, current_view-other, is_blocked-push, is_blocked-other}
 use Rattle.trace_props.proofs.FactOfRisingViews.{by_pushes}
 use Rattle.trace_props.proofs.FactOfDelivered.{sent_in-other}
 use Rattle.trace_props.proofs.RuleOfEntry.{state_of-push}
-use Rattle.agreement.specs.Histories.{History, flush_of, report_of}
-use Rattle.wire.specs.declared.packet.Body.{Body}
-use Rattle.wire.specs.declared.packet.Body.TheVariants as bodies
+use Rattle.acts.specs.Histories.{History, flush_of, report_of}
+use Rattle.wire_values.specs.declared.packet.Body.{Body}
+use Rattle.wire_values.specs.declared.packet.Body.TheVariants as bodies
 use Rattle.agreement.specs.Packets.{BodyFact}
-use Rattle.agreement.specs.Cores.{Core, idle}
+use Rattle.acts.specs.Cores.{Core, idle}
 use Rattle.agreement.specs.Steps.{System, put, grown}
 use Rattle.agreement.specs.Members.{MemberFact}
 use Rattle.agreement.specs.Invariant.{EachPacket, HasRealSenders, Invariant}

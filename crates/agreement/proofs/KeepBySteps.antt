@@ -5,8 +5,8 @@ use Rattle.std.specs.Option.{IsSomeAnd, option_map_or}
 use Rattle.address.specs.Ids.{Address, IsAddress}
 use Rattle.limits.specs.declared.TheConstants.{PAYLOAD}
 use Rattle.state_transfer.specs.Meanings.{Meaning}
-use Rattle.agreement.specs.Cores.{Core}
-use Rattle.agreement.specs.Acts.{Act, Creates, Joins, Puts, Sends, Queues, Orders, Hears, Collects, Holds, Delivers, Promises, Begins, Records, Finishes, Enters, Leaves, Allowed}
+use Rattle.acts.specs.Cores.{Core}
+use Rattle.acts.specs.Acts.{Act, Creates, Joins, Puts, Sends, Queues, Orders, TakesAck, Collects, Holds, Delivers, Promises, Begins, Records, Finishes, Enters, Leaves, Allowed}
 use Rattle.agreement.specs.Steps.{System, Step, Start, Crash, Does, MayStep, MayRun, nothing_yet, came_of, acted, stepped, after_steps}
 use Rattle.agreement.specs.Invariant.{Invariant}
 use Rattle.agreement.specs.Law.{KeepsInvariant, IsAlwaysSynchronous}
@@ -32,7 +32,7 @@ module _ {S : Type 0} (meaning : Meaning S) where
   act-keeps l (Sends v payload) = KeepByAct.sends-keeps meaning v payload
   act-keeps l (Queues v e waiting) = KeepByAct.queues-keeps meaning v e waiting
   act-keeps l (Orders v e waiting held) = KeepByAct.orders-keeps meaning l.applies v e waiting held
-  act-keeps l (Hears v q n) = KeepByAct.hears-keeps meaning v q n
+  act-keeps l (TakesAck v q n) = KeepByAct.hears-keeps meaning v q n
   act-keeps l (Collects v n held) = KeepByAct.collects-keeps meaning v n held
   act-keeps l (Holds v g e held) = KeepByAct.holds-keeps meaning v g e held
   act-keeps l (Delivers v e) = KeepByAct.delivers-keeps meaning l.applies v e

@@ -2,8 +2,8 @@
 use Rattle.std.proofs.Common.{◌≡◌, ℕ, ◌≤◌, Bool, true, false, Option, Some, None, List, [], ◌∷◌, ◌++◌, refl, sym, ap, ◌∙◌, subst, arith, is_some}
 use Rattle.std.specs.Prelude.{slice_get}
 use Rattle.address.specs.Ids.{Address, ViewId, same_address, same_view_id}
-use Rattle.wire.specs.Values.{Entry, Report}
-use Rattle.wire.specs.Values as wire
+use Rattle.wire_values.specs.Values.{Entry, Report}
+use Rattle.wire_values.specs.Values as wire
 use Rattle.trace_props.specs.declared.event.Event.{Event}
 use Rattle.trace_props.specs.declared.event.Event.TheVariants.{Started, Sent, Delivered, Blocked, Installed, Left, Crashed}
 use Rattle.trace_props.specs.declared.event.Delivery.{Delivery}
@@ -13,13 +13,13 @@ use Rattle.trace_props.specs.declared.event.Install.{Install}
 use Rattle.trace_props.specs.Observed.{current_view, sent_in, entry_of}
 use Rattle.trace_props.specs.Rules.{MayStand, HasRisingViews}
 use Rattle.trace_props.proofs.FactOfPlaces.{slice_get-before}
-use Rattle.trace_props.proofs.FactOfObserved.{same_address-true}
+use Rattle.address.proofs.SameIds.{same_address-true}
 use Rattle.trace_props.proofs.FactOfRisingViews.{gone}
 use Rattle.trace_props.proofs.FactOfDelivered.{enters, is_delivery_to, is_delivery_to-true, said_by, sent_in-still, sent_in-miss, sent_in-hit, register-stands, register-stays}
 use Rattle.std.proofs.lemmas.Bool.{and_parts}
-use Rattle.agreement.specs.Words.{entry_for, list_of, tally_of, open_count, IsClosed}
-use Rattle.agreement.specs.Histories.{Posted, History, flush_of, report_of, install_of}
-use Rattle.agreement.proofs.Lists.{first_of-kept}
+use Rattle.acts.specs.Words.{entry_for, list_of, tally_of, open_count, IsClosed}
+use Rattle.acts.specs.Histories.{Posted, History, flush_of, report_of, install_of}
+use Rattle.acts.proofs.Lists.{first_of-kept}
 use Rattle.agreement.proofs.FactOfTally.{list_of-still, list_of-miss, list_of-hit, tally_of-closed, open_count-grows}
 
 -- ---- registers

@@ -6,10 +6,10 @@ use Rattle.std.proofs.lemmas.Bool.{cond-false, and_left}
 use Rattle.std.proofs.lemmas.Option.{none-some}
 use Rattle.address.specs.Ids.{Address, ViewId, same_address, same_view_id}
 use Rattle.view.specs.Members.{View}
-use Rattle.wire.specs.Values.{Entry, Report}
-use Rattle.wire.specs.Values as wire
-use Rattle.wire.specs.declared.packet.Body.{Body}
-use Rattle.wire.specs.declared.packet.Body.TheVariants as bodies
+use Rattle.wire_values.specs.Values.{Entry, Report}
+use Rattle.wire_values.specs.Values as wire
+use Rattle.wire_values.specs.declared.packet.Body.{Body}
+use Rattle.wire_values.specs.declared.packet.Body.TheVariants as bodies
 use Rattle.state_transfer.specs.Meanings.{Meaning}
 use Rattle.flush.specs.Flushes.{FlushModel}
 use Rattle.trace_props.specs.declared.event.Event.{Event}
@@ -19,14 +19,15 @@ use Rattle.trace_props.specs.declared.event.Install.{Install}
 use Rattle.trace_props.specs.Observed.{member_of, current_view, is_blocked, delivered_in, sent_in, own, entry_of}
 use Rattle.trace_props.specs.Rules.{IsRunning}
 use Rattle.trace_props.specs.State.{state_of, entry_state}
-use Rattle.trace_props.proofs.FactOfObserved.{same_address-true, same_address-from, same_view_id-true, has_started-stays, has_ended-other, current_view-other, is_blocked-other}
+use Rattle.address.proofs.SameIds.{same_address-true, same_address-from, same_view_id-true}
+use Rattle.trace_props.proofs.FactOfObserved.{has_started-stays, has_ended-other, current_view-other, is_blocked-other}
 use Rattle.trace_props.proofs.FactOfDelivered.{enters, delivered_in-other, sent_in-other, register-push, register-still}
-use Rattle.agreement.specs.Words.{list_of, tally_of}
-use Rattle.agreement.specs.Histories.{Posted, History, flush_in, install_in, flush_of, report_of, install_of}
-use Rattle.agreement.specs.Cores.{Traffic, Core, applied}
+use Rattle.acts.specs.Words.{list_of, tally_of}
+use Rattle.acts.specs.Histories.{Posted, History, flush_in, install_in, flush_of, report_of, install_of}
+use Rattle.acts.specs.Cores.{ViewCore, Core, applied}
 use Rattle.agreement.specs.Packets.{state_with}
 use Rattle.agreement.specs.Members.{HasStanding, installed_as, IsInside, LiesBelow, RunsFlush, HasCounts, HasOwn, HasWindow, HasAcks, HasWaiting, ViewFact, MemberFact}
-use Rattle.agreement.proofs.Lists.{first_of-still}
+use Rattle.acts.proofs.Lists.{first_of-still}
 use Rattle.agreement.proofs.FactOfTally.{list_of-other, tally_of-other}
 use Rattle.agreement.proofs.KeepHistory.{Later}
 use Rattle.agreement.proofs.KeepPackets.{sent-later, all_have-later, holds_order-later}
@@ -249,9 +250,9 @@ recorded-by true h k q w mine x m r = r
 recorded-by false h k q w mine x m r = m.report x.0 w x.1 r
 
 -- what was announced and recorded stays so
-pub flush-later : (h k : History) (q : Address) (promise : Option View) (installed : Bool) (view : Option View) (traffic : Traffic) (f : FlushModel) → Later h k
-    → RunsFlush h.pool q promise installed view traffic f → RunsFlush k.pool q promise installed view traffic f
-flush-later h k q promise installed view traffic f m x = record {
+pub flush-later : (h k : History) (q : Address) (promise : Option View) (installed : Bool) (view : Option View) (view_state : ViewCore) (f : FlushModel) → Later h k
+    → RunsFlush h.pool q promise installed view view_state f → RunsFlush k.pool q promise installed view view_state f
+flush-later h k q promise installed view view_state f m x = record {
   promised = x.promised;
   waits = x.waits;
   own = x.own;
@@ -307,15 +308,15 @@ first-entered t p v x = by (entry_of p v.id t) x
     by None y = absurd (none-some v y)
     by (Some e) y = refl
 
-pub view-other : (p q : Address) (h k : History) (installed : Bool) (traffic : Traffic) (kept : List (Address × wire.Install)) (v : View) → same_address q p ≡ false → Later h k
-    → Only p h k → ViewFact h q installed traffic kept v → ViewFact k q installed traffic kept v
-view-other p q h k installed traffic kept v o m only x = record {
+pub view-other : (p q : Address) (h k : History) (installed : Bool) (view_state : ViewCore) (kept : List (Address × wire.Install)) (v : View) → same_address q p ≡ false → Later h k
+    → Only p h k → ViewFact h q installed view_state kept v → ViewFact k q installed view_state kept v
+view-other p q h k installed view_state kept v o m only x = record {
   inside = inside-later h k q v m x.inside;
-  counts = counts-other p q h k v.id installed traffic.delivered o only x.counts;
-  mine = own-other p q h k v.id traffic.sent traffic.outstanding o only x.mine;
-  window = window-later h k v.id traffic.stable traffic.delivered traffic.held m (first-entered h.trace v.id.creator v x.inside.first) x.window;
-  acks = acks-later h k v.id traffic.acks m x.acks;
-  waiting = waiting-later h k v.id traffic.waiting m x.waiting;
+  counts = counts-other p q h k v.id installed view_state.delivered o only x.counts;
+  mine = own-other p q h k v.id view_state.sent view_state.outstanding o only x.mine;
+  window = window-later h k v.id view_state.stable view_state.delivered view_state.held m (first-entered h.trace v.id.creator v x.inside.first) x.window;
+  acks = acks-later h k v.id view_state.acks m x.acks;
+  waiting = waiting-later h k v.id view_state.waiting m x.waiting;
   ordered = λ r first. x.ordered r first ∙ ap (λ l. length (own r l)) (sym (only.delivered_same q v.id o));
   keeps = λ r i there. let was = x.keeps r i there in (was.0, m.install v.id r i was.1);
 }
@@ -340,8 +341,8 @@ member-other meaning p q h k c o m only states x = record {
   announced = λ w e other. m.flush w.id w.members (x.announced w e other);
   below = below-other p q h k c.promise o only x.below;
   reported = λ waits w e other. m.report q w.id _ (x.reported waits w e other);
-  flush = λ f e. flush-later h k q c.promise c.installed c.view c.traffic f m (x.flush f e);
-  view = λ v e. view-other p q h k c.installed c.traffic c.kept v o m only (x.view v e);
+  flush = λ f e. flush-later h k q c.promise c.installed c.view c.view_state f m (x.flush f e);
+  view = λ v e. view-other p q h k c.installed c.view_state c.sent_installs v o m only (x.view v e);
   state = record {
     now = states.now q o ∙ x.state.now;
     is = x.state.is;

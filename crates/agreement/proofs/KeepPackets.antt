@@ -4,17 +4,17 @@ use Rattle.std.specs.Option.{option_map, option_map_or, option_eq}
 use Rattle.std.proofs.lemmas.Bool.{cond-true, cond-false}
 use Rattle.address.specs.Ids.{Address, ViewId, same_address, same_view_id}
 use Rattle.view.specs.Members.{View, stands_in}
-use Rattle.wire.specs.Values.{Entry, Report}
-use Rattle.wire.specs.Values as wire
-use Rattle.wire.specs.declared.packet.Body.{Body}
-use Rattle.wire.specs.declared.packet.Body.TheVariants as bodies
+use Rattle.wire_values.specs.Values.{Entry, Report}
+use Rattle.wire_values.specs.Values as wire
+use Rattle.wire_values.specs.declared.packet.Body.{Body}
+use Rattle.wire_values.specs.declared.packet.Body.TheVariants as bodies
 use Rattle.trace_props.specs.declared.event.Event.{Event}
 use Rattle.trace_props.specs.declared.event.Install.{Install}
 use Rattle.trace_props.specs.Observed.{entry_of}
-use Rattle.agreement.specs.Words.{Tally, members_of, open_count}
-use Rattle.agreement.specs.Histories.{Posted, History, report_of, goes_from, goes_with}
+use Rattle.acts.specs.Words.{Tally, members_of, open_count}
+use Rattle.acts.specs.Histories.{Posted, History, report_of, goes_from, goes_with}
 use Rattle.agreement.specs.Packets.{IsOrdered, IsSent, AllHave, HoldsOrder, IsProposal, SaysOf, IsAnswer, IsCutOf, AllAnswered, IsLed, IsFitting, IsInstruction, IsCoordinator, IsOrder, IsStatus, BodyFact, PacketFact, IsEntry}
-use Rattle.agreement.proofs.Lists.{filter-same}
+use Rattle.acts.proofs.Lists.{filter-same}
 use Rattle.agreement.proofs.KeepHistory.{Later, entered-later}
 
 -- ---- registers that are written

@@ -20,15 +20,16 @@ use Rattle.trace_props.specs.State.{state_of, state_after, installs, entry_state
 use Rattle.trace_props.specs.Synchrony.{KeepsRules}
 use Rattle.trace_props.specs.Verdicts.{GoesOn}
 use Rattle.trace_props.proofs.FactOfPlaces.{EachPlace-whole, slice_get-push}
-use Rattle.trace_props.proofs.FactOfObserved.{same_address-true, has_started-stays, has_started-still, has_started-other}
+use Rattle.address.proofs.SameIds.{same_address-true}
+use Rattle.trace_props.proofs.FactOfObserved.{has_started-stays, has_started-still, has_started-other}
 use Rattle.trace_props.proofs.FactOfDelivered.{enters, is_delivery_to, is_delivery_to-true, said_by, said_by-true, delivered_in-still, sent_in-still, sent_in-miss, sent_in-hit, register-stays, register-written, register-push}
 use Rattle.trace_props.proofs.FactOfRisingViews.{view-stands}
 use Rattle.trace_props.proofs.RuleOfEntry.{state_of-push, entry_state-stays, entry_state-none}
 use Rattle.trace_props.proofs.KeepEightRules.{synchronous-push}
-use Rattle.agreement.specs.Words.{Tally, tally_after, no_tally}
-use Rattle.agreement.specs.Histories.{Posted, History}
+use Rattle.acts.specs.Words.{Tally, tally_after, no_tally}
+use Rattle.acts.specs.Histories.{Posted, History}
 use Rattle.agreement.specs.Invariant.{IsUntouched, NothingBefore, SendsShort, StartsProper, TraceFact}
-use Rattle.agreement.proofs.Lists.{slice_get-split}
+use Rattle.acts.proofs.Lists.{slice_get-split}
 use Rattle.agreement.proofs.FactOfTally.{tally_of-push}
 use Rattle.agreement.proofs.KeepOthers.{OnlyState, not-another}
 

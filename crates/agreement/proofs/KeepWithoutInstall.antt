@@ -6,7 +6,7 @@ use Rattle.std.proofs.lemmas.Bool.{cond-false}
 use Rattle.std.proofs.lemmas.Option.{none-some}
 use Rattle.std.proofs.lemmas.List.{append-nil}
 use Rattle.address.specs.Ids.{Address, ViewId, same_address}
-use Rattle.wire.specs.Values as wire
+use Rattle.wire_values.specs.Values as wire
 use Rattle.state_transfer.specs.Meanings.{Meaning}
 use Rattle.trace_props.specs.declared.event.Event.{Event}
 use Rattle.trace_props.specs.declared.event.Event.TheVariants.{Started, Sent, Delivered, Blocked, Installed, Left, Crashed}
@@ -15,14 +15,14 @@ use Rattle.trace_props.specs.State.{installs, entry_state}
 use Rattle.trace_props.specs.Verdicts.{GoesOn}
 use Rattle.trace_props.proofs.FactOfDelivered.{enters, register-still}
 use Rattle.trace_props.proofs.RuleOfEntry.{entry_state-stays, entry_state-none, entry_state-new}
-use Rattle.agreement.specs.Histories.{Posted, History, install_in, install_to}
-use Rattle.agreement.specs.Histories as histories
-use Rattle.agreement.specs.Cores.{Core}
+use Rattle.acts.specs.Histories.{Posted, History, install_in}
+use Rattle.acts.specs.Histories as histories
+use Rattle.acts.specs.Cores.{Core}
 use Rattle.agreement.specs.Steps.{System, grown}
 use Rattle.agreement.specs.Packets.{PacketFact}
 use Rattle.agreement.specs.Members.{MemberFact}
 use Rattle.agreement.specs.Invariant.{TraceFact, Invariant}
-use Rattle.agreement.proofs.Lists.{first_of-still}
+use Rattle.acts.proofs.Lists.{first_of-still}
 use Rattle.agreement.proofs.KeepHistory.{Later, later-refl, later-trans, later-packets, later-event}
 use Rattle.agreement.proofs.KeepOthers.{Only, OnlyState, IsFrom, only-refl, only-trans, only-event, only-packets}
 use Rattle.agreement.proofs.KeepTrace.{IsProper, stands-of, views-of, trace-push, trace-packets, only-state, only_state-refl, only_state-trans}

@@ -4,12 +4,12 @@ use Rattle.std.specs.Prelude.{IsSome}
 use Rattle.std.proofs.lemmas.Bool.Decides.{nat_tests}
 use Rattle.address.specs.Ids.{Address, same_address}
 use Rattle.view.specs.Members.{stands_in}
-use Rattle.wire.specs.Values.{held_at}
+use Rattle.wire_values.specs.Values.{held_at}
 use Rattle.state_transfer.specs.Meanings.{Meaning}
 use Rattle.flush.specs.Cuts.{IsCut}
 use Rattle.flush.specs.Flushes.{group}
 use Rattle.trace_props.specs.Rules.{IsBelow}
-use Rattle.agreement.specs.Acts.{HoldsAbove, All, Announced, heard}
+use Rattle.acts.specs.Acts.{HoldsAbove, All, Announced, heard}
 use Rattle.agreement.specs.Steps.{System, Step}
 use Rattle.agreement.specs.Stories.{one, two, three, view_of_three, view_of_rest, held_first, delivered_first}
 use Rattle.agreement.specs.LeaveStory.{entry_of_two, delivered_stable, rest_reports, stable_cuts, stable_chapter, leave_chapter, LeavePlays}

@@ -1,4 +1,3 @@
-pub mod Lists
 pub mod FactOfTally
 pub mod KeepHistory
 pub mod KeepPackets
@@ -34,7 +33,6 @@ pub mod FactOfInstructions
 pub mod FactOfFinished
 pub mod FactMayInstall
 pub mod ActFinishes
-pub mod LawsOfActs
 pub mod KeepByAct
 pub mod KeepAtFirst
 pub mod KeepBySteps

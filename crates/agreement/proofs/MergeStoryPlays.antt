@@ -3,13 +3,13 @@ use Rattle.std.proofs.Common.{◌≡◌, ℕ, zero, suc, ◌+◌, Some, None, Li
 use Rattle.std.specs.Prelude.{IsSome, slice_get, length, ◌≤◌}
 use Rattle.std.proofs.lemmas.Option.{none-some}
 use Rattle.address.specs.Ids.{IsAddress}
-use Rattle.wire.specs.Values.{Entry, Report}
+use Rattle.wire_values.specs.Values.{Entry, Report}
 use Rattle.limits.specs.declared.TheConstants.{PAYLOAD}
 use Rattle.state_transfer.specs.Meanings.{Meaning}
 use Rattle.flush.specs.Cuts.{held_among, greatest_stable, IsCut}
 use Rattle.flush.specs.Flushes.{group}
 use Rattle.trace_props.specs.Rules.{IsBelow}
-use Rattle.agreement.specs.Acts.{All}
+use Rattle.acts.specs.Acts.{All}
 use Rattle.agreement.specs.Steps.{System, Step}
 use Rattle.agreement.specs.Stories.{one, view_of_three, message_a, held_first, delivered_nothing, delivered_first, empty_cuts}
 use Rattle.agreement.specs.MergeStory.{four, view_of_four, view_given_up, first_half, second_half, view_of_all, entry_of_one, entry_of_three, four_reports, first_reports, second_reports, all_reports, half_cuts, fourth_chapter, parting_chapter, apart_chapter, merge_chapter, MergePlays}

@@ -7,13 +7,13 @@ use Rattle.std.specs.List.{Contains}
 use Rattle.std.proofs.lemmas.Option.{none-some, same_Some, slice_get_within, get_or_from_slice_get}
 use Rattle.address.specs.Ids.{Address, ViewId, IsAddress, same_address}
 use Rattle.view.specs.Members.{stands_in}
-use Rattle.wire.specs.Values.{Entry, held_at, Report}
+use Rattle.wire_values.specs.Values.{Entry, held_at, Report}
 use Rattle.state_transfer.specs.Meanings.{Meaning}
 use Rattle.flush.specs.Cuts.{held_among, greatest_stable, IsCut}
 use Rattle.flush.specs.Flushes.{report_from, group}
-use Rattle.flush.proofs.FactOfKeptReports.{reporter-stands}
+use Rattle.flush.proofs.FactOfOwnedReports.{reporter-stands}
 use Rattle.trace_props.specs.Rules.{IsBelow}
-use Rattle.agreement.specs.Acts.{Cuts, HoldsMore, HoldsAbove, lone_view}
+use Rattle.acts.specs.Acts.{Cuts, HoldsMore, HoldsAbove, lone_view}
 use Rattle.agreement.specs.Steps.{System, Step, nothing_yet, MayRun, after_steps, stepped}
 use Rattle.agreement.specs.Stories.{one, two, three, view_of_two, view_of_three, held_first, delivered_nothing, two_reports, three_reports, empty_cuts, first_chapter, second_chapter, third_chapter, joining}
 

@@ -2,12 +2,12 @@
 -- over, and delivers the other by the cut.
 use Rattle.std.specs.Prelude.{ℕ, None, Some, List, [], ◌∷◌, ◌++◌, take}
 use Rattle.address.specs.Ids.{Address}
-use Rattle.wire.specs.Values.{Entry, Report}
-use Rattle.wire.specs.declared.packet.Body.TheVariants as bodies
+use Rattle.wire_values.specs.Values.{Entry, Report}
+use Rattle.wire_values.specs.declared.packet.Body.TheVariants as bodies
 use Rattle.state_transfer.specs.Meanings.{Meaning}
 use Rattle.trace_props.specs.declared.event.Event.{Event}
 use Rattle.trace_props.specs.declared.event.Event.TheVariants.{Blocked, Crashed}
-use Rattle.agreement.specs.Acts.{Cuts, Puts, Sends, Queues, Orders, Hears, Collects, Holds, Delivers, Promises, Begins, Records, Finishes, Enters, delivery}
+use Rattle.acts.specs.Acts.{Cuts, Puts, Sends, Queues, Orders, TakesAck, Collects, Holds, Delivers, Promises, Begins, Records, Finishes, Enters, delivery}
 use Rattle.agreement.specs.Steps.{Step, Crash, Does}
 use Rattle.agreement.specs.Stories.{Plays, one, two, three, view_of_three, view_of_rest, message_a, message_b, held_first, delivered_first, flush_with, for_companion, joining, three_joined, installs, sends}
 
@@ -38,14 +38,14 @@ messages_chapter =
     ∷ Does one None (Orders view_of_three entry_a [] (held_first entry_a))
     ∷ Does one None (Puts two (bodies.Order view_of_three.id 1 entry_a))
     ∷ Does one None (Puts three (bodies.Order view_of_three.id 1 entry_a))
-    ∷ Does one None (Hears view_of_three one 1)
+    ∷ Does one None (TakesAck view_of_three one 1)
     ∷ Does one None (Collects view_of_three 0 (held_first entry_a))
     ∷ Does one None (Sends view_of_three message_b)
     ∷ Does one None (Queues view_of_three entry_b (entry_b ∷ []))
     ∷ Does one None (Orders view_of_three entry_b [] held_both)
     ∷ Does one None (Puts two (bodies.Order view_of_three.id 2 entry_b))
     ∷ Does one None (Puts three (bodies.Order view_of_three.id 2 entry_b))
-    ∷ Does one None (Hears view_of_three one 2)
+    ∷ Does one None (TakesAck view_of_three one 2)
     ∷ Does one None (Collects view_of_three 0 held_both)
     ∷ Does two (Some 11) (Holds view_of_three 1 entry_a (held_first entry_a))
     ∷ Does two (Some 11) (Delivers view_of_three entry_a)

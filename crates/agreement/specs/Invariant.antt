@@ -2,7 +2,7 @@
 use Rattle.std.specs.Prelude.{◌≡◌, ◌≤◌, ℕ, true, None, Some, List, [], length, slice_get, is_some}
 use Rattle.address.specs.Ids.{Address, ViewId, IsAddress}
 use Rattle.limits.specs.declared.TheConstants.{PAYLOAD}
-use Rattle.wire.specs.Values as wire
+use Rattle.wire_values.specs.Values as wire
 use Rattle.state_transfer.specs.Meanings.{Meaning}
 use Rattle.trace_props.specs.declared.event.Event.{Event}
 use Rattle.trace_props.specs.declared.event.Numbered.{Numbered}
@@ -10,9 +10,9 @@ use Rattle.trace_props.specs.declared.event.Install.{Install}
 use Rattle.trace_props.specs.Observed.{has_started, delivered_in, sent_in, entry_of}
 use Rattle.trace_props.specs.State.{entry_state}
 use Rattle.trace_props.specs.Synchrony.{IsVirtuallySynchronous}
-use Rattle.agreement.specs.Words.{tally_of, no_tally}
-use Rattle.agreement.specs.Histories.{Posted, History, install_of}
-use Rattle.agreement.specs.Cores.{Core}
+use Rattle.acts.specs.Words.{tally_of, no_tally}
+use Rattle.acts.specs.Histories.{Posted, History, install_of}
+use Rattle.acts.specs.Cores.{Core}
 use Rattle.agreement.specs.Steps.{System}
 use Rattle.agreement.specs.Packets.{PacketFact, IsEntry, GivesState, BeginsWith}
 use Rattle.agreement.specs.Members.{MemberFact}
@@ -38,6 +38,7 @@ StartsProper t = (p : Address) → has_started p t ≡ true → IsAddress p
 abbrev pub HasRealSenders : History → Type 0
 HasRealSenders h = (k : ℕ) (m : Posted) → slice_get h.pool k ≡ Some m → has_started m.source h.trace ≡ true
 
+-- of the trace: the eight rules at every place; nothing before a view is installed; payloads and addresses in range; who put out a packet has started
 pub record TraceFact {S : Type 0} (meaning : Meaning S) (h : History) : Type 0 where
   pub synchronous : IsVirtuallySynchronous meaning h.trace
   pub before : NothingBefore h.trace
@@ -59,6 +60,7 @@ pub record StateFact {S : Type 0} (meaning : Meaning S) (h : History) : Type 0 w
   pub begins : (w : ViewId) (e : Install) → entry_of w.creator w h.trace ≡ Some e → BeginsWith meaning h.trace w e
   pub are : (w : ViewId) (s : S) → entry_state meaning w h.trace ≡ Some s → meaning.is_state s
 
+-- of the trace, of each packet, of each install, of states, of each member that runs
 pub record Invariant {S : Type 0} (meaning : Meaning S) (s : System S) : Type 0 where
   pub trace : TraceFact meaning s.history
   pub packets : EachPacket s.history

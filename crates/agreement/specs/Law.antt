@@ -4,10 +4,10 @@ use Rattle.address.specs.Ids.{Address}
 use Rattle.state_transfer.specs.Meanings.{Meaning}
 use Rattle.trace_props.specs.Synchrony.{IsVirtuallySynchronous}
 use Rattle.trace_props.specs.declared.event.Event.{Event}
-use Rattle.agreement.specs.Histories.{Posted}
-use Rattle.agreement.specs.Cores.{Core}
+use Rattle.acts.specs.Histories.{Posted}
+use Rattle.acts.specs.Cores.{Core}
 use Rattle.agreement.specs.Steps.{System, Step, MayRun, nothing_yet, after_steps, put, came_of, grown}
-use Rattle.agreement.specs.Chains.{Acted}
+use Rattle.acts.specs.Chains.{Acted}
 use Rattle.agreement.specs.Invariant.{Invariant}
 
 abbrev pub KeepsInvariant : {S : Type 0} → Meaning S → Type 0

@@ -2,14 +2,14 @@
 -- handed back to the second.
 use Rattle.std.specs.Prelude.{ℕ, None, Some, List, [], ◌∷◌, ◌++◌, take}
 use Rattle.address.specs.Ids.{Address}
-use Rattle.wire.specs.Values.{Entry, Report}
-use Rattle.wire.specs.Values as wire
-use Rattle.wire.specs.declared.packet.Body.TheVariants as bodies
+use Rattle.wire_values.specs.Values.{Entry, Report}
+use Rattle.wire_values.specs.Values as wire
+use Rattle.wire_values.specs.declared.packet.Body.TheVariants as bodies
 use Rattle.state_transfer.specs.Meanings.{Meaning}
 use Rattle.trace_props.specs.declared.event.Event.{Event}
 use Rattle.trace_props.specs.declared.event.Event.TheVariants.{Blocked, Installed, Left}
 use Rattle.trace_props.specs.declared.event.Install.{Install}
-use Rattle.agreement.specs.Acts.{Cuts, Puts, Sends, Queues, Orders, Hears, Collects, Holds, Delivers, Promises, Begins, Records, Finishes, Enters, Leaves, delivery}
+use Rattle.acts.specs.Acts.{Cuts, Puts, Sends, Queues, Orders, TakesAck, Collects, Holds, Delivers, Promises, Begins, Records, Finishes, Enters, Leaves, delivery}
 use Rattle.agreement.specs.Steps.{Step, Does}
 use Rattle.agreement.specs.Stories.{Plays, one, two, three, view_of_three, view_of_rest, message_a, message_b, held_first, delivered_first, flush_with, joining, three_joined, installs, sends}
 
@@ -40,7 +40,7 @@ stable_chapter =
     ∷ Does one (Some 11) (Orders view_of_three entry_of_two [] (held_first entry_of_two))
     ∷ Does one (Some 11) (Puts two (bodies.Order view_of_three.id 1 entry_of_two))
     ∷ Does one (Some 11) (Puts three (bodies.Order view_of_three.id 1 entry_of_two))
-    ∷ Does one (Some 11) (Hears view_of_three one 1)
+    ∷ Does one (Some 11) (TakesAck view_of_three one 1)
     ∷ Does one (Some 11) (Collects view_of_three 0 (held_first entry_of_two))
     ∷ Does two (Some 12) (Holds view_of_three 1 entry_of_two (held_first entry_of_two))
     ∷ Does two (Some 12) (Delivers view_of_three entry_of_two)
@@ -48,9 +48,9 @@ stable_chapter =
     ∷ Does three (Some 13) (Holds view_of_three 1 entry_of_two (held_first entry_of_two))
     ∷ Does three (Some 13) (Delivers view_of_three entry_of_two)
     ∷ Does three (Some 13) (Puts one (bodies.Ack view_of_three.id 1))
-    ∷ Does one (Some 14) (Hears view_of_three two 1)
+    ∷ Does one (Some 14) (TakesAck view_of_three two 1)
     ∷ Does one (Some 14) (Collects view_of_three 0 (held_first entry_of_two))
-    ∷ Does one (Some 15) (Hears view_of_three three 1)
+    ∷ Does one (Some 15) (TakesAck view_of_three three 1)
     ∷ Does one (Some 15) (Collects view_of_three 1 [])
     ∷ Does one None (Puts two (bodies.Status view_of_three.id (record { highest = 1; stable = 1 })))
     ∷ Does one None (Puts three (bodies.Status view_of_three.id (record { highest = 1; stable = 1 })))

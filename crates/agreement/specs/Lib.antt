@@ -1,12 +1,7 @@
-pub mod Words
-pub mod Histories
-pub mod Cores
-pub mod Acts
 pub mod Steps
 pub mod Packets
 pub mod Members
 pub mod Invariant
-pub mod Chains
 pub mod Law
 pub mod Stories
 pub mod CrashStory

@@ -5,8 +5,8 @@ use Rattle.address.specs.Ids.{Address, ViewId, same_address}
 use Rattle.view.specs.Members.{View, stands_in}
 use Rattle.view.specs.View.{view_refusal}
 use Rattle.limits.specs.declared.TheConstants.{WINDOW}
-use Rattle.wire.specs.Values.{Entry, held_at, Report}
-use Rattle.wire.specs.Values as wire
+use Rattle.wire_values.specs.Values.{Entry, held_at, Report}
+use Rattle.wire_values.specs.Values as wire
 use Rattle.state_transfer.specs.Meanings.{Meaning}
 use Rattle.flush.specs.Flushes.{FlushModel, report_from}
 use Rattle.trace_props.specs.declared.event.Event.{Event}
@@ -14,14 +14,15 @@ use Rattle.trace_props.specs.declared.event.Numbered.{Numbered}
 use Rattle.trace_props.specs.Rules.{IsRunning, IsBelow}
 use Rattle.trace_props.specs.Observed.{current_view, is_blocked, delivered_in, sent_in, own, entry_of}
 use Rattle.trace_props.specs.State.{state_of}
-use Rattle.agreement.specs.Words.{Open, Past, list_of, tally_of, open_count}
-use Rattle.agreement.specs.Histories.{Posted, History, flush_of, report_of, install_of}
-use Rattle.agreement.specs.Cores.{Traffic, Core, kept_for, is_frozen, id_of, report_with}
-use Rattle.agreement.specs.Acts.{proposed}
+use Rattle.acts.specs.Words.{Open, Past, list_of, tally_of, open_count}
+use Rattle.acts.specs.Histories.{Posted, History, flush_of, report_of, install_of}
+use Rattle.acts.specs.Cores.{ViewCore, Core, install_sent_to, is_frozen, id_of, report_with}
+use Rattle.acts.specs.Acts.{proposed}
 use Rattle.agreement.specs.Packets.{IsSent, AllHave, HoldsOrder, HoldsAll, state_with}
 
 -- ---- what the trace says of it
 
+-- it runs, at its own address; its current view, and whether it is blocked, are as it thinks
 pub record HasStanding (t : List Event) (p me : Address) (view : Option View) (installed : Bool) : Type 0 where
   pub itself : me ≡ p
   pub running : IsRunning p t
@@ -63,9 +64,9 @@ pub record LiesBelow (pool : List Posted) (p : Address) (promise : Option View) 
   pub reported : (w : ViewId) (r : Report) → report_of p w pool ≡ Some r → IsNotPast promise w
 
 -- while it waits for the promised proposal of another, its report is what it is
-abbrev pub IsReported : List Posted → Address → Option View → Bool → Option View → Traffic → Type 0
-IsReported pool p promise installed view traffic =
-    installed ≡ false → ForSome promise (λ w. same_address w.id.creator p ≡ false → report_of p w.id pool ≡ Some (report_with view traffic))
+abbrev pub IsReported : List Posted → Address → Option View → Bool → Option View → ViewCore → Type 0
+IsReported pool p promise installed view view_state =
+    installed ≡ false → ForSome promise (λ w. same_address w.id.creator p ≡ false → report_of p w.id pool ≡ Some (report_with view view_state))
 
 -- ---- its own flush
 
@@ -74,20 +75,20 @@ abbrev pub IsRecorded : List Posted → Address → ViewId → Report → Addres
 IsRecorded pool p w mine x = MatchBool (same_address x.0 p) (x.1 ≡ mine) (report_of x.0 w pool ≡ Some x.1)
 
 -- it is for the promise, which is its own proposal, and it was announced to all others of the list
-pub record RunsFlush (pool : List Posted) (p : Address) (promise : Option View) (installed : Bool) (view : Option View) (traffic : Traffic) (f : FlushModel) : Type 0 where
+pub record RunsFlush (pool : List Posted) (p : Address) (promise : Option View) (installed : Bool) (view : Option View) (view_state : ViewCore) (f : FlushModel) : Type 0 where
   pub promised : promise ≡ Some (proposed f)
   pub waits : installed ≡ false
   pub own : f.proposal.creator ≡ p
   pub list : view_refusal f.proposal f.members ≡ None
   pub announced : (q : Address) → stands_in q f.members ≡ true → same_address q p ≡ false → flush_of f.proposal pool ≡ Some f.members
-  pub itself : report_from p f.reports ≡ Some (report_with view traffic)
-  pub recorded : (k : ℕ) (x : Address × Report) → slice_get f.reports k ≡ Some x → IsRecorded pool p f.proposal (report_with view traffic) x
+  pub itself : report_from p f.reports ≡ Some (report_with view view_state)
+  pub recorded : (k : ℕ) (x : Address × Report) → slice_get f.reports k ≡ Some x → IsRecorded pool p f.proposal (report_with view view_state) x
 
 -- ---- what it keeps
 
 -- the instructions that it keeps are those that it put out for the view that it made
 abbrev pub KeepsInstructions : List Posted → Address → List (Address × wire.Install) → View → Type 0
-KeepsInstructions pool p kept v = (q : Address) (i : wire.Install) → kept_for q kept ≡ Some i → (v.id.creator ≡ p) × (install_of v.id q pool ≡ Some i)
+KeepsInstructions pool p kept v = (q : Address) (i : wire.Install) → install_sent_to q kept ≡ Some i → (v.id.creator ≡ p) × (install_of v.id q pool ≡ Some i)
 
 -- ---- the traffic of its view
 
@@ -119,18 +120,19 @@ abbrev pub HasOrdered : List Event → Address → ViewId → (Address → ℕ) 
 HasOrdered t p v ordered = (q : Address) → same_address p v.creator ≡ true → ordered q ≡ length (own q (delivered_in p v t))
 
 -- all that holds of a member's view
-pub record ViewFact (h : History) (p : Address) (installed : Bool) (traffic : Traffic) (kept : List (Address × wire.Install)) (v : View) : Type 0 where
+pub record ViewFact (h : History) (p : Address) (installed : Bool) (view_state : ViewCore) (kept : List (Address × wire.Install)) (v : View) : Type 0 where
   pub inside : IsInside h.trace p v
-  pub counts : HasCounts h.trace p v.id installed traffic.delivered
-  pub mine : HasOwn h.trace p v.id traffic.sent traffic.outstanding
-  pub window : HasWindow h.trace v.id traffic.stable traffic.delivered traffic.held
-  pub acks : HasAcks h.trace v.id traffic.acks
-  pub waiting : HasWaiting h.trace v.id traffic.waiting
-  pub ordered : HasOrdered h.trace p v.id traffic.ordered
+  pub counts : HasCounts h.trace p v.id installed view_state.delivered
+  pub mine : HasOwn h.trace p v.id view_state.sent view_state.outstanding
+  pub window : HasWindow h.trace v.id view_state.stable view_state.delivered view_state.held
+  pub acks : HasAcks h.trace v.id view_state.acks
+  pub waiting : HasWaiting h.trace v.id view_state.waiting
+  pub ordered : HasOrdered h.trace p v.id view_state.ordered
   pub keeps : KeepsInstructions h.pool p kept v
 
 -- ---- its state
 
+-- its receiver's state is what the trace says, and one that a receiver can be in
 pub record HasState {S : Type 0} (meaning : Meaning S) (t : List Event) (p : Address) (view : Option View) (state : S) : Type 0 where
   pub now : state_of meaning p t ≡ state
   pub is : meaning.is_state state
@@ -139,12 +141,13 @@ pub record HasState {S : Type 0} (meaning : Meaning S) (t : List Event) (p : Add
 
 -- ---- all of it
 
+-- docs/PROOF.md, "The invariant", says what each of these is needed for
 pub record MemberFact {S : Type 0} (meaning : Meaning S) (h : History) (p : Address) (c : Core S) : Type 0 where
   pub standing : HasStanding h.trace p c.me c.view c.installed
   pub promise : PromiseOf p c.promise c.view c.installed
   pub announced : IsAnnounced h.pool p c.promise
   pub below : LiesBelow h.pool p c.promise
-  pub reported : IsReported h.pool p c.promise c.installed c.view c.traffic
-  pub flush : ForSome c.flush (RunsFlush h.pool p c.promise c.installed c.view c.traffic)
-  pub view : ForSome c.view (ViewFact h p c.installed c.traffic c.kept)
+  pub reported : IsReported h.pool p c.promise c.installed c.view c.view_state
+  pub flush : ForSome c.flush (RunsFlush h.pool p c.promise c.installed c.view c.view_state)
+  pub view : ForSome c.view (ViewFact h p c.installed c.view_state c.sent_installs)
   pub state : HasState meaning h.trace p c.view c.state

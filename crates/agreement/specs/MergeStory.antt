@@ -3,13 +3,13 @@
 use Rattle.std.specs.Prelude.{ℕ, None, Some, List, [], ◌∷◌, ◌++◌, take, if◌then◌else◌}
 use Rattle.address.specs.Ids.{Address, same_view_id}
 use Rattle.view.specs.Members.{View}
-use Rattle.wire.specs.Values.{Entry, Report, nothing_reported}
-use Rattle.wire.specs.Values as wire
-use Rattle.wire.specs.declared.packet.Body.TheVariants as bodies
+use Rattle.wire_values.specs.Values.{Entry, Report, nothing_reported}
+use Rattle.wire_values.specs.Values as wire
+use Rattle.wire_values.specs.declared.packet.Body.TheVariants as bodies
 use Rattle.state_transfer.specs.Meanings.{Meaning}
 use Rattle.trace_props.specs.declared.event.Event.{Event}
 use Rattle.trace_props.specs.declared.event.Event.TheVariants.{Started, Blocked}
-use Rattle.agreement.specs.Acts.{Cuts, Joins, Puts, Sends, Queues, Orders, Hears, Collects, Holds, Delivers, Promises, Begins, Records, Finishes, Enters, delivery}
+use Rattle.acts.specs.Acts.{Cuts, Joins, Puts, Sends, Queues, Orders, TakesAck, Collects, Holds, Delivers, Promises, Begins, Records, Finishes, Enters, delivery}
 use Rattle.agreement.specs.Steps.{Step, Start, Does}
 use Rattle.agreement.specs.Stories.{Plays, one, two, three, view_of_three, message_a, message_b, held_first, delivered_nothing, delivered_first, flush_with, empty_cuts, for_newcomer, for_companion, joining, three_joined, installs, sends}
 
@@ -109,7 +109,7 @@ apart_chapter =
     ∷ Does one None (Queues first_half entry_of_one (entry_of_one ∷ []))
     ∷ Does one None (Orders first_half entry_of_one [] (held_first entry_of_one))
     ∷ Does one None (Puts two (bodies.Order first_half.id 1 entry_of_one))
-    ∷ Does one None (Hears first_half one 1)
+    ∷ Does one None (TakesAck first_half one 1)
     ∷ Does one None (Collects first_half 0 (held_first entry_of_one))
     ∷ Does two (Some 29) (Holds first_half 1 entry_of_one (held_first entry_of_one))
     ∷ Does two (Some 29) (Delivers first_half entry_of_one)
@@ -118,7 +118,7 @@ apart_chapter =
     ∷ Does three None (Queues second_half entry_of_three (entry_of_three ∷ []))
     ∷ Does three None (Orders second_half entry_of_three [] (held_first entry_of_three))
     ∷ Does three None (Puts four (bodies.Order second_half.id 1 entry_of_three))
-    ∷ Does three None (Hears second_half three 1)
+    ∷ Does three None (TakesAck second_half three 1)
     ∷ Does three None (Collects second_half 0 (held_first entry_of_three))
     ∷ []
 

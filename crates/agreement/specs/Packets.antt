@@ -5,18 +5,18 @@ use Rattle.address.specs.Ids.{Address, ViewId, same_address, same_view_id}
 use Rattle.view.specs.Members.{View, stands_in}
 use Rattle.view.specs.View.{view_refusal}
 use Rattle.limits.specs.declared.TheConstants.{WINDOW}
-use Rattle.wire.specs.Values.{Entry, held_at, Report}
-use Rattle.wire.specs.Values as wire
-use Rattle.wire.specs.declared.packet.Body.{Body}
-use Rattle.wire.specs.declared.packet.Body.TheVariants as bodies
+use Rattle.wire_values.specs.Values.{Entry, held_at, Report}
+use Rattle.wire_values.specs.Values as wire
+use Rattle.wire_values.specs.declared.packet.Body.{Body}
+use Rattle.wire_values.specs.declared.packet.Body.TheVariants as bodies
 use Rattle.state_transfer.specs.Meanings.{Meaning}
 use Rattle.trace_props.specs.declared.event.Event.{Event}
 use Rattle.trace_props.specs.declared.event.Install.{Install}
 use Rattle.trace_props.specs.Observed.{sent_in, entry_of}
 use Rattle.trace_props.specs.State.{entry_state}
-use Rattle.agreement.specs.Words.{list_of, order_of, members_of, open_count, IsClosed}
-use Rattle.agreement.specs.Histories.{Posted, History, flush_of, report_of, install_of, goes_from, goes_with}
-use Rattle.agreement.specs.Cores.{applied}
+use Rattle.acts.specs.Words.{list_of, order_of, members_of, open_count, IsClosed}
+use Rattle.acts.specs.Histories.{Posted, History, flush_of, report_of, install_of, goes_from, goes_with}
+use Rattle.acts.specs.Cores.{applied}
 
 -- ---- what a message and a count mean
 
@@ -116,11 +116,13 @@ pub record IsCoordinator (t : List Event) (p : Address) (v : ViewId) : Type 0 wh
   pub own : v.creator ≡ p
   pub entered : is_some (entry_of p v t) ≡ true
 
+-- an ORDER is the coordinator's, its entry stands there in the view's order, and each member delivered, before it was blocked, all that lies `WINDOW` below
 pub record IsOrder (t : List Event) (p : Address) (v : ViewId) (g : ℕ) (e : Entry) : Type 0 where
   pub coordinator : IsCoordinator t p v
   pub order : IsOrdered t v g e
   pub near : AllHave t v g WINDOW
 
+-- a STATUS is the coordinator's, and each member delivered, before it was blocked, all that it calls stable
 pub record IsStatus (t : List Event) (p : Address) (v : ViewId) (stable : ℕ) : Type 0 where
   pub coordinator : IsCoordinator t p v
   pub all : AllHave t v stable 0
@@ -147,6 +149,7 @@ PacketFact h m = BodyFact h m.source m.destination m.body
 
 -- ---- what holds of a member's install of a view
 
+-- the coordinator has installed the view; who installs it reported from where it came, is together with all who reported the same, and was instructed by an INSTALL
 pub record IsEntry (h : History) (q : Address) (w : ViewId) (e : Install) : Type 0 where
   -- the coordinator has installed it
   pub led : is_some (entry_of w.creator w h.trace) ≡ true

@@ -1,14 +1,14 @@
 -- Steps: an address starts, crashes, or does one act, on a packet of the pool or on none.
-use Rattle.std.specs.Prelude.{◌≡◌, ℕ, false, ◌&&◌, not, Option, None, Some, List, [], ◌∷◌, ◌++◌, slice_get, IsSome, if◌then◌else◌}
+use Rattle.std.specs.Prelude.{◌≡◌, ℕ, false, not, Option, None, Some, List, [], ◌∷◌, ◌++◌, slice_get, IsSome, if◌then◌else◌}
 use Rattle.std.specs.Option.{IsSomeAnd, option_and_then, option_map_or}
 use Rattle.address.specs.Ids.{Address, IsAddress, same_address}
 use Rattle.state_transfer.specs.Meanings.{Meaning}
 use Rattle.trace_props.specs.declared.event.Event.{Event}
 use Rattle.trace_props.specs.declared.event.Event.TheVariants.{Started, Crashed}
 use Rattle.trace_props.specs.Observed.{has_started}
-use Rattle.agreement.specs.Histories.{Posted, History}
-use Rattle.agreement.specs.Cores.{Core, idle}
-use Rattle.agreement.specs.Acts.{Act, Allowed, after, packets_of, events_of}
+use Rattle.acts.specs.Histories.{Posted, History}
+use Rattle.acts.specs.Cores.{Core, idle}
+use Rattle.acts.specs.Acts.{Act, Allowed, after, packets_of, events_of, handed}
 
 -- the members that run, by address, and what was
 pub record System (S : Type 0) : Type 0 where
@@ -25,14 +25,11 @@ nothing_yet = record { running = λ p. None; history = no_history }
 abbrev pub put : {S : Type 0} → Address → Option (Core S) → (Address → Option (Core S)) → Address → Option (Core S)
 put p c running q = if same_address q p then c else running q
 
--- a packet is handed to a member that is connected, where it is for it and from another
-abbrev pub handed : {S : Type 0} → Core S → Posted → Option Posted
-handed c m = if c.connected && same_address m.destination c.me && not (same_address m.source c.me) then Some m else None
-
 -- what a member is handed of the pool
 abbrev pub came_of : {S : Type 0} → Core S → List Posted → Option ℕ → Option Posted
 came_of c pool which = option_and_then (handed c) (option_and_then (slice_get pool) which)
 
+-- an address starts, crashes, or does an act, on the packet of a place in the pool or on none
 pub data Step : Type 0 where
   Start : Address → Step
   Crash : Address → Step

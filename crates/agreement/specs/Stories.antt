@@ -2,14 +2,14 @@
 use Rattle.std.specs.Prelude.{◌≡◌, ℕ, Option, None, Some, List, [], ◌∷◌, ◌++◌, take}
 use Rattle.address.specs.Ids.{Address, ViewId}
 use Rattle.view.specs.Members.{View}
-use Rattle.wire.specs.Values.{Entry, Report, nothing_reported}
-use Rattle.wire.specs.Values as wire
-use Rattle.wire.specs.declared.packet.Body.TheVariants as bodies
+use Rattle.wire_values.specs.Values.{Entry, Report, nothing_reported}
+use Rattle.wire_values.specs.Values as wire
+use Rattle.wire_values.specs.declared.packet.Body.TheVariants as bodies
 use Rattle.state_transfer.specs.Meanings.{Meaning}
 use Rattle.flush.specs.Flushes.{FlushModel}
 use Rattle.trace_props.specs.declared.event.Event.{Event}
 use Rattle.trace_props.specs.declared.event.Event.TheVariants.{Started, Sent, Blocked, Installed}
-use Rattle.agreement.specs.Acts.{Cuts, Creates, Joins, Puts, Promises, Begins, Records, Finishes, Enters, lone_view}
+use Rattle.acts.specs.Acts.{Cuts, Creates, Joins, Puts, Promises, Begins, Records, Finishes, Enters, lone_view}
 use Rattle.agreement.specs.Steps.{Step, Start, Does, nothing_yet, MayRun, after_steps}
 
 -- a list of steps is allowed from the beginning on, and this trace comes of it

@@ -1,5 +1,4 @@
 ghost use Rattle.agreement.specs.Law.{KeepsInvariant, IsAlwaysSynchronous, ActsKeep};
-ghost use Rattle.agreement.specs.Chains.{NothingActed, OneActed, ThenActed};
 ghost use Rattle.agreement.specs.CrashStory.{CrashPlays};
 ghost use Rattle.agreement.specs.LeaveStory.{LeavePlays};
 ghost use Rattle.agreement.specs.MergeStory.{MergePlays};
@@ -12,14 +11,6 @@ use state_transfer::Receiver;
 pub fn agreement<R: Receiver>()
     ensures invariant { KeepsInvariant R.meaning }
     ensures synchronous { IsAlwaysSynchronous R.meaning }
-{}
-
-/// The laws of acts one after another: one who did nothing acted, so did one who did one act that was allowed, and one who acted and then acted again.
-/// And whoever acted in one call, on a packet that was put out before or on none, has kept the invariant. It does nothing.
-pub fn acts_in_turn<R: Receiver>()
-    ensures nothing { NothingActed R.meaning }
-    ensures one { OneActed R.meaning }
-    ensures two { ThenActed R.meaning }
     ensures keep { ActsKeep R.meaning }
 {}
 

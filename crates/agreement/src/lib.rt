@@ -6,4 +6,4 @@
 
 mod law;
 
-pub use law::{acts_in_turn, agreement, stories_play};
+pub use law::{agreement, stories_play};

@@ -1,7 +1,6 @@
 -- A connect: the member starts, and takes its first input.
 use Rattle.std.proofs.Common.{◌≡◌, ℕ, true, false, Option, Some, None, List, Result, Ok, subst}
 use Rattle.state_transfer.specs.Meanings.{Meaning}
-use Rattle.address.specs.Ids.{Address}
 use Rattle.member.specs.declared.input.Input.{Input}
 use Rattle.member.specs.Members.{MemberModel}
 use Rattle.member.specs.declared.error.Error.{Error}

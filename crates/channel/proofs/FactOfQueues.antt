@@ -1,6 +1,5 @@
 -- The first event of a step, among those that wait.
-use Rattle.std.proofs.Common.{◌≡◌, ℕ, ◌++◌, length, false, Option, List, [], ◌∷◌, Result, Ok, Err, refl}
-use Rattle.std.specs.Prelude.{OnOk}
+use Rattle.std.proofs.Common.{◌≡◌, ℕ, ◌++◌, length, Option, List, [], ◌∷◌, Err, refl}
 use Rattle.std.specs.Option.{option_map}
 use Rattle.std.specs.Result.{is_err}
 use Rattle.std.specs.List.{slice_get}
@@ -16,7 +15,3 @@ pub first-behind : (old new events shown : List Event) (n : Option ℕ) → n �
     → n ≡ option_map (λ m. m.number) (sent_at (length old) new)
 first-behind old new events shown n is same put =
     rw (put, behind old events, ← same) is
-
-pub on-ok : {A E P : Type 0} (r : Result A E) → is_err r ≡ false → OnOk r P → P
-on-ok (Ok x) e p = p
-on-ok (Err x) e p = absurd (cc)

@@ -7,11 +7,11 @@ use Rattle.limits.specs.declared.refusal.Refusal.{Refusal}
 use Rattle.limits.specs.declared.refusal.Refusal.TheVariants.{NotConnected, Closed, Memory}
 use Rattle.state_transfer.specs.Meanings.{Meaning}
 use Rattle.trace_props.specs.declared.event.Event.{Event}
-use Rattle.agreement.specs.Cores.{Core}
-use Rattle.output.specs.declared.output.Output.{Output}
-use Rattle.output.specs.declared.output.Outgoing.{Outgoing}
-use Rattle.membership.specs.declared.life.Life.{Life}
-use Rattle.membership.specs.Lives.{core_of as core_at}
+use Rattle.acts.specs.Cores.{Core}
+use Rattle.step_output.specs.declared.output.Output.{Output}
+use Rattle.step_output.specs.declared.output.Outgoing.{Outgoing}
+use Rattle.membership.specs.declared.member_state.MemberState.{MemberState}
+use Rattle.membership.specs.MemberStates.{core_of as core_at}
 use Rattle.member.specs.declared.error.Error.{Error}
 use Rattle.member.specs.declared.error.Error.TheVariants.{Refused, Wire}
 use Rattle.member.specs.declared.input.Input.{Input}
@@ -31,16 +31,16 @@ same_Err a b e = cc
 module _ {S : Type 0} (meaning : Meaning S) where
   -- ---- where a refused step leaves its member
 
-  gone-at : (m : MemberModel S) (l : Option (Life S)) → option_map (core_at m.address) l ≡ None → cond (is_some l) (Connected m) Ended ≡ Ended
+  gone-at : (m : MemberModel S) (l : Option (MemberState S)) → option_map (core_at m.address) l ≡ None → cond (is_some l) (Connected m) Ended ≡ Ended
   gone-at m None e = refl
   gone-at m (Some l) e = absurd (cc)
 
   -- a member without a core has ended
   gone : (m : MemberModel S) → core_of m ≡ None → stage_of m ≡ Ended
-  gone m e = gone-at m m.life e
+  gone m e = gone-at m m.member_state e
 
   -- one that refuses, but not with 6, runs
-  runs-at : (m : MemberModel S) (input : Input) (l : Option (Life S)) (e : Error) → is_end e ≡ false
+  runs-at : (m : MemberModel S) (input : Input) (l : Option (MemberState S)) (e : Error) → is_end e ≡ false
       → option_map_or (λ c. refusal_in c input) (option_map (core_at m.address) l) (Some (Refused Closed)) ≡ Some e → cond (is_some l) (Connected m) Ended ≡ Connected m
   runs-at m input (Some l) e goes is = refl
   runs-at m input None e goes is = let n : true ≡ false = ap is_end (same_Some (Refused Closed) e is) ∙ goes in absurd (cc)
@@ -49,7 +49,7 @@ module _ {S : Type 0} (meaning : Meaning S) where
   same-after : (m left : MemberModel S) (input : Input) (e : Error) (u : Bool) → is_end e ≡ false
       → MatchBool u ((e ≡ Refused Closed) × (core_of left ≡ None)) ((refusal_of m input ≡ Some e) × (left ≡ m)) → stage_of left ≡ Connected m
   same-after m left input e true goes x = let n : true ≡ false = sym (ap is_end x.0) ∙ goes in absurd (cc)
-  same-after m left input e false goes x = ap stage_of x.1 ∙ runs-at m input m.life e goes x.0
+  same-after m left input e false goes x = ap stage_of x.1 ∙ runs-at m input m.member_state e goes x.0
 
   -- after 6 it has ended
   closed-after : (m left : MemberModel S) (input : Input) (u : Bool) → is_unreadable meaning m input ≡ u → (core_of m ≡ None) ⊎ (is_unreadable meaning m input ≡ true)

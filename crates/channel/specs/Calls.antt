@@ -5,11 +5,11 @@ use Rattle.std.specs.Option.{IsSomeAnd}
 use Rattle.limits.specs.declared.refusal.Refusal.TheVariants.{NotConnected, AlreadyConnected, Closed, Memory, BadName}
 use Rattle.state_transfer.specs.Meanings.{Meaning}
 use Rattle.address.specs.Ids.{Address}
-use Rattle.wire.specs.Names.{is_group_name}
-use Rattle.agreement.specs.Cores as cores
-use Rattle.membership.specs.Lives.{idle_life}
-use Rattle.output.specs.declared.output.Output.{Output}
-use Rattle.output.specs.Outputs.{Puts}
+use Rattle.wire_values.specs.Names.{is_group_name}
+use Rattle.acts.specs.Cores as cores
+use Rattle.membership.specs.MemberStates.{idle_member}
+use Rattle.step_output.specs.declared.output.Output.{Output}
+use Rattle.step_output.specs.Outputs.{Puts}
 use Rattle.member.specs.declared.error.Error.{Error}
 use Rattle.member.specs.declared.error.Error.TheVariants.{Refused}
 use Rattle.member.specs.declared.input.Input.{Input}
@@ -80,9 +80,9 @@ pub record CallsLent {S : Type 0} (meaning : Meaning S) (input : Bor (List ℕ) 
 pub record IsStarted {S : Type 0} (address : Address) (group : List ℕ) (receiver : S) (m : MemberModel S) : Type 0 where
   pub address_is : m.address ≡ address
   pub group_is : m.group ≡ group
-  pub life : IsSomeAnd m.life (idle_life address receiver)
+  pub member_state : IsSomeAnd m.member_state (idle_member address receiver)
   pub core_is : core_of m ≡ Some (cores.idle receiver address)
-  pub alive : IsAlive m.group m.address m.life
+  pub alive : IsAlive m.group m.address m.member_state
 
 -- a member starts, with this input as its first step
 pub record StartsWith {S : Type 0} (meaning : Meaning S) (input : Input) (name : List ℕ) (receiver : S) (old : ChannelModel S)

@@ -4,9 +4,9 @@ use Rattle.std.specs.Option.{option_map, option_map_or, option_and_then}
 use Rattle.address.specs.Ids.{Address}
 use Rattle.view.specs.Members.{View}
 use Rattle.trace_props.specs.declared.event.Event.{Event}
-use Rattle.agreement.specs.Cores.{Core, is_frozen}
-use Rattle.output.specs.declared.output.Outgoing.{Outgoing}
-use Rattle.output.specs.Names.{same_name}
+use Rattle.acts.specs.Cores.{Core, is_frozen}
+use Rattle.step_output.specs.declared.output.Outgoing.{Outgoing}
+use Rattle.step_output.specs.Names.{same_name}
 use Rattle.member.specs.declared.error.Error.{Error}
 use Rattle.member.specs.Members.{MemberModel, core_of}
 use Rattle.channel.specs.declared.stage.Stage.{Stage}
@@ -27,7 +27,7 @@ left_by e c = if is_end e then record c { stage = Ended } else c
 
 -- where a call leaves its member: one that has ended is let go
 abbrev pub stage_of : {S : Type 0} → MemberModel S → Stage S
-stage_of m = if is_some m.life then Connected m else Ended
+stage_of m = if is_some m.member_state then Connected m else Ended
 
 -- its member, while that runs
 abbrev pub member_in : {S : Type 0} → Stage S → Option (MemberModel S)

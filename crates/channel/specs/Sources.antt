@@ -1,10 +1,10 @@
 -- From whom a packet came that is for a member.
 use Rattle.std.specs.Prelude.{ℕ, List, Option, None, Some, Result, Ok, Err, if◌then◌else◌}
 use Rattle.address.specs.Ids.{Address}
-use Rattle.wire.specs.declared.error.WireError.{WireError}
-use Rattle.wire.specs.declared.packet.Packet.{Packet}
+use Rattle.wire_values.specs.declared.error.WireError.{WireError}
+use Rattle.wire_values.specs.declared.packet.Packet.{Packet}
 use Rattle.wire.specs.Packets.{packet_of}
-use Rattle.output.specs.Outputs.{is_for}
+use Rattle.step_output.specs.Outputs.{is_for}
 
 -- its source, where it is of this group, to this address, and from another
 abbrev pub source_in : Address → List ℕ → Result Packet WireError → Option Address

@@ -12,11 +12,11 @@ use crate::stage::Stage;
 use address::Address;
 use limits::Refusal;
 use member::{Error, Input};
-use output::Outgoing;
 use state_transfer::Receiver;
 use std::alloc::Global;
 use std::collections::VecDeque;
 use std::marker::Model;
+use step_output::Outgoing;
 use trace_props::Event;
 use view::View;
 

@@ -1,20 +1,21 @@
 ghost use Rattle.std.specs.Prelude.{◌≡◌, Some, not, is_some};
 ghost use Rattle.std.specs.Option.{IsSomeAnd};
-ghost use Rattle.agreement.specs.Cores.{idle};
-ghost use Rattle.membership.specs.Lives.{idle_life};
+ghost use Rattle.acts.specs.Cores.{idle};
+ghost use Rattle.membership.specs.MemberStates.{idle_member};
 ghost use Rattle.member.specs.Running.{IsAlive};
 ghost use Rattle.member.specs.Members.{core_of};
 ghost use Rattle.member.specs.Handling.{Handled};
-ghost use Rattle.output.specs.Names.{same_name};
+ghost use Rattle.step_output.specs.Names.{same_name};
 ghost use Rattle.channel.specs.Sources.{source_of};
 
 use address::Address;
 use member::{Input, Member};
-use output::{Identity, KeptName, Output};
 use state_transfer::Receiver;
 use std::alloc::Global;
 use std::marker::Model;
-use wire::{GroupName, decode};
+use step_output::{Identity, Output, OwnedName};
+use wire::decode;
+use wire_values::GroupName;
 
 /// A member, and who it is: by that it is known which packets are for it. Contracts see the member.
 #[derive(Drop)]
@@ -44,14 +45,14 @@ impl<R: Receiver> Connection<R> {
     ) -> Connection<R>
         ensures address { result.address ≡ address }
         ensures group { result.group ≡ group.now }
-        ensures life { IsSomeAnd result.life (idle_life address receiver) }
+        ensures member_state { IsSomeAnd result.member_state (idle_member address receiver) }
         ensures core { core_of result ≡ Some (idle receiver address) }
-        ensures alive { IsAlive result.group result.address result.life }
+        ensures alive { IsAlive result.group result.address result.member_state }
     {
         let identity = Identity {
             alloc,
             address,
-            group: KeptName::of(group),
+            group: OwnedName::of(group),
         };
         let member = Member::new(alloc, address, identity.group.lent(), receiver);
         Connection { identity, member }
@@ -83,7 +84,7 @@ impl<R: Receiver> Connection<R> {
 
     // Whether the member has ended.
     pub(crate) fn has_ended(&self) -> bool
-        ensures { result ≡ not (is_some self.now.life) }
+        ensures { result ≡ not (is_some self.now.member_state) }
     {
         self.member.receiver().is_none()
     }

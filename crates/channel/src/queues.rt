@@ -2,12 +2,12 @@
 
 ghost use Rattle.std.specs.Prelude.{◌≡◌, ◌++◌, [], OnOk, OnErr};
 ghost use Rattle.std.specs.Option.{option_map};
-ghost use Rattle.output.specs.Outputs.{Puts};
+ghost use Rattle.step_output.specs.Outputs.{Puts};
 ghost use Rattle.channel.specs.Queues.{sent_at};
 
-use output::{Outgoing, Output};
 use std::alloc::AllocError;
 use std::collections::VecDeque;
+use step_output::{Outgoing, Output};
 use trace_props::Event;
 
 // Puts packets and events behind those that wait. Where room for either is refused, both queues are as before, and there was a packet or an event.

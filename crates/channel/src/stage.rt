@@ -11,12 +11,12 @@ use crate::connection::Connection;
 use address::Address;
 use limits::Refusal;
 use member::{Error, Input};
-use output::Output;
 use state_transfer::Receiver;
 use std::alloc::Global;
 use std::mem;
+use step_output::Output;
 use view::View;
-use wire::GroupName;
+use wire_values::GroupName;
 
 /// How far a channel has come.
 #[derive(Drop)]

@@ -4,7 +4,8 @@ use Rattle.std.proofs.lemmas.Bool.{le-leb}
 use Rattle.std.proofs.lemmas.List.{append-nil}
 use Rattle.byteorder.specs.Endian.{big_number}
 use Rattle.chat_log.specs.Reading.{Read, ◌>>=◌, bytes_at, number_at, list_at}
-use Rattle.chat_log.specs.NumberLaws.{IsBytes, known_bytes}
+use Rattle.big_endian.specs.Spelled.{IsBytes}
+use Rattle.chat_log.specs.NumberLaws.{known_bytes}
 
 -- bytes in front that spell a number of the range
 pub number_found : (n low high : ℕ) (bytes front rest : List ℕ) (x : ℕ) → bytes_at n bytes ≡ Some (front, rest) → IsBytes front → x ≡ big_number n front → low ≤ x → x ≤ high → number_at n low high bytes ≡ Some (x, rest)

@@ -11,8 +11,9 @@ use Rattle.chat_log.specs.declared.lines.Line.{Line}
 use Rattle.chat_log.specs.Chat.{IsLine, IsChat, chat_apply}
 use Rattle.chat_log.specs.Reading.{number_at, list_at}
 use Rattle.chat_log.specs.Encoding.{payload_bytes, address_bytes, line_bytes, line_at, chat_encode, lines_at, chat_decode}
-use Rattle.chat_log.specs.NumberLaws.{wide1}
-use Rattle.chat_log.specs.PartLaws.{bind_some, test_some, joined, IsPart, IsWithin, number_part, line_part, list_takes, list_again}
+use Rattle.big_endian.proofs.Bytes.{wide1}
+use Rattle.chat_log.specs.PartLaws.{bind_some, joined, IsPart, IsWithin, number_part, line_part, list_takes, list_again}
+use Rattle.std.proofs.lemmas.Option.{cond_some}
 
 -- ---- a message leaves a chat a chat
 
@@ -62,7 +63,7 @@ whole_of : (bytes : List ℕ) (s : List Line) → chat_decode bytes ≡ Some s �
 unfolding chat_decode
 whole_of bytes s e =
     let a = bind_some (lines_at bytes) (λ lines. cond (eqb (length lines.1) 0) (Some lines.0) None) s e in
-    let t = test_some (eqb (length a.0.1) 0) a.0.0 s a.2 in
+    let t = cond_some (eqb (length a.0.1) 0) a.0.0 s a.2 in
     let nothing : a.0.1 ≡ [] = nil_from_length a.0.1 (eqb-true _ _ t.0) in
     a.1 ∙ ap (λ (q : List Line). Some (q, a.0.1)) t.1 ∙ ap (λ (rest : List ℕ). Some (s, rest)) nothing
 

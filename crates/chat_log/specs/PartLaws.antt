@@ -1,26 +1,23 @@
 -- What a part of the format is read from is its spelling, and its spelling is read as it, whatever follows.
-use Rattle.std.proofs.Common.{◌≡◌, ℕ, zero, suc, ◌^◌, ◌<◌, ◌≤◌, Bool, true, false, cond, leb, ◌&&◌, List, [], ◌∷◌, ◌++◌, length, take, drop, Option, Some, None, refl, sym, ap, subst, ◌∙◌, append_assoc, arith}
+use Rattle.std.proofs.Common.{◌≡◌, ℕ, zero, suc, ◌^◌, ◌<◌, ◌≤◌, Bool, true, cond, leb, ◌&&◌, List, [], ◌∷◌, ◌++◌, length, take, drop, Option, Some, None, refl, sym, ap, subst, ◌∙◌, append_assoc, arith}
 use Rattle.std.specs.List.{flat_map, AllByRecursion}
-use Rattle.std.proofs.lemmas.Bool.{leb-true, le-leb}
+use Rattle.std.proofs.lemmas.Bool.{leb-true, le-leb, and_parts}
 use Rattle.std.proofs.lemmas.List.{take_at, drop_at, take-append-drop, length-append, length-take}
 use Rattle.byteorder.specs.Endian.{big_bytes, big_number}
 use Rattle.address.specs.Ids.{Address, IsAddress}
-use Rattle.limits.specs.declared.TheConstants.{PAYLOAD}
+use Rattle.limits.specs.declared.TheConstants.{PAYLOAD, GREATEST_INCARNATION, GREATEST_NODE}
 use Rattle.chat_log.specs.declared.lines.Line.{Line}
 use Rattle.chat_log.specs.Chat.{IsLine}
 use Rattle.chat_log.specs.Reading.{Read, ◌>>=◌, are_bytes, bytes_at, number_at, list_at}
 use Rattle.chat_log.specs.Encoding.{address_bytes, payload_bytes, line_bytes, address_at, payload_at, line_at}
-use Rattle.chat_log.specs.NumberLaws.{both_true, tested_bytes, IsWide, wide2, wide4, number_back, length-big_bytes, big_bytes-are_bytes}
+use Rattle.big_endian.proofs.Bytes.{IsWide, wide2, wide4, number_back, length-big_bytes}
+use Rattle.chat_log.specs.NumberLaws.{tested_bytes, big_bytes-are_bytes}
+use Rattle.std.proofs.lemmas.Option.{cond_some}
 
 -- the value of a step that found one
 pub bind_some : {A B : Type 0} (r : Option A) (f : A → Option B) (y : B) → (r >>= f) ≡ Some y → (x : A) × (r ≡ Some x) × (f x ≡ Some y)
 bind_some (Some x) f y e = (x, refl, e)
 bind_some None f y e = absurd cc
-
--- a test that let pass
-pub test_some : {A : Type 0} (b : Bool) (x y : A) → cond b (Some x) None ≡ Some y → (b ≡ true) × (x ≡ y)
-test_some true x y e = (refl, cc)
-test_some false x y e = absurd cc
 
 abbrev found : {A : Type 0} → A → Option A
 found x = Some x
@@ -42,7 +39,7 @@ pub record IsPart {A : Type 0} (read : List ℕ → Read A) (spell : A → List 
 pub bytes_takes : (n : ℕ) (bytes front rest : List ℕ) → bytes_at n bytes ≡ Some (front, rest) → (bytes ≡ front ++ rest) × (length front ≡ n)
 unfolding bytes_at
 bytes_takes n bytes front rest e =
-    let g = test_some (leb n (length bytes)) (take n bytes, drop n bytes) (front, rest) e in
+    let g = cond_some (leb n (length bytes)) (take n bytes, drop n bytes) (front, rest) e in
     let long : n ≤ length bytes = leb-true _ _ g.0 in
     let whole : (bytes ≡ take n bytes ++ drop n bytes) × (length (take n bytes) ≡ n) = (sym (take-append-drop n bytes), omega (arith, length-take n bytes)) in
     subst (λ (p : List ℕ × List ℕ). (bytes ≡ p.0 ++ p.1) × (length p.0 ≡ n)) g.1 whole
@@ -69,9 +66,9 @@ number_takes n wide low high bytes x rest e =
     let value = λ (t : List ℕ). big_number n t in
     let b = bind_some (bytes_at n bytes) (λ front. cond (may_be n low high front.0) (Some (value front.0, front.1)) None) (x, rest) e in
     let t = bytes_takes n bytes b.0.0 b.0.1 b.1 in
-    let g = test_some (may_be n low high b.0.0) (value b.0.0, b.0.1) (x, rest) b.2 in
-    let tests = both_true (are_bytes b.0.0) (leb low (value b.0.0) && leb (value b.0.0) high) g.0 in
-    let range = both_true (leb low (value b.0.0)) (leb (value b.0.0) high) tests.1 in
+    let g = cond_some (may_be n low high b.0.0) (value b.0.0, b.0.1) (x, rest) b.2 in
+    let tests = and_parts (are_bytes b.0.0) (leb low (value b.0.0) && leb (value b.0.0) high) g.0 in
+    let range = and_parts (leb low (value b.0.0)) (leb (value b.0.0) high) tests.1 in
     let back : big_bytes n (value b.0.0) ≡ b.0.0 = wide.back b.0.0 t.1 (tested_bytes b.0.0 tests.0) in
     let whole : (bytes ≡ big_bytes n (value b.0.0) ++ b.0.1) × IsWithin low high (value b.0.0) = (rw back t.0, (leb-true _ _ range.0, leb-true _ _ range.1)) in
     subst (λ (p : ℕ × List ℕ). (bytes ≡ big_bytes n p.0 ++ p.1) × IsWithin low high p.0) g.1 whole
@@ -89,19 +86,13 @@ number_part n low high wide small = record {
 
 -- ---- addresses
 
-abbrev node_part : IsPart (number_at 2 1 65535) (big_bytes 2) (IsWithin 1 65535)
-node_part = number_part 2 1 65535 wide2 (omega arith)
-
-abbrev incarnation_part : IsPart (number_at 4 1 4294967295) (big_bytes 4) (IsWithin 1 4294967295)
-incarnation_part = number_part 4 1 4294967295 wide4 (omega arith)
-
 address_takes : (bytes : List ℕ) (a : Address) (rest : List ℕ) → address_at bytes ≡ Some (a, rest) → (bytes ≡ address_bytes a ++ rest) × IsAddress a
 unfolding address_at
 address_takes bytes a rest e =
-    let b = bind_some (number_at 2 1 65535 bytes) (λ node. number_at 4 1 4294967295 node.1 >>= λ incarnation. Some (record { node = node.0; incarnation = incarnation.0 }, incarnation.1)) (a, rest) e in
-    let c = bind_some (number_at 4 1 4294967295 b.0.1) (λ incarnation. Some (record { node = b.0.0; incarnation = incarnation.0 }, incarnation.1)) (a, rest) b.2 in
-    let t = number_takes 2 wide2 1 65535 bytes b.0.0 b.0.1 b.1 in
-    let u = number_takes 4 wide4 1 4294967295 b.0.1 c.0.0 c.0.1 c.1 in
+    let b = bind_some (number_at 2 1 GREATEST_NODE bytes) (λ node. number_at 4 1 GREATEST_INCARNATION node.1 >>= λ incarnation. Some (record { node = node.0; incarnation = incarnation.0 }, incarnation.1)) (a, rest) e in
+    let c = bind_some (number_at 4 1 GREATEST_INCARNATION b.0.1) (λ incarnation. Some (record { node = b.0.0; incarnation = incarnation.0 }, incarnation.1)) (a, rest) b.2 in
+    let t = number_takes 2 wide2 1 GREATEST_NODE bytes b.0.0 b.0.1 b.1 in
+    let u = number_takes 4 wide4 1 GREATEST_INCARNATION b.0.1 c.0.0 c.0.1 c.1 in
     let made : Address = record { node = b.0.0; incarnation = c.0.0 } in
     let is : IsAddress made = record { node = t.1.0; node_fits = omega (arith, t.1.1); incarnation = u.1.0; incarnation_fits = omega (arith, u.1.1) } in
     subst (λ (p : Address × List ℕ). (bytes ≡ address_bytes p.0 ++ p.1) × IsAddress p.0) (some_is (made, c.0.1) (a, rest) c.2)
@@ -111,7 +102,7 @@ address_again : (a : Address) (rest : List ℕ) → IsAddress a → address_at (
 unfolding address_at
 address_again a rest is =
     ap address_at (append_assoc (big_bytes 2 a.node) (big_bytes 4 a.incarnation) rest)
-    ∙ rw (number_again 2 1 65535 a.node (big_bytes 4 a.incarnation ++ rest) is.node_fits (is.node, omega (arith, is.node_fits)), number_again 4 1 4294967295 a.incarnation rest is.incarnation_fits (is.incarnation, omega (arith, is.incarnation_fits))) refl
+    ∙ rw (number_again 2 1 GREATEST_NODE a.node (big_bytes 4 a.incarnation ++ rest) is.node_fits (is.node, omega (arith, is.node_fits)), number_again 4 1 GREATEST_INCARNATION a.incarnation rest is.incarnation_fits (is.incarnation, omega (arith, is.incarnation_fits))) refl
 
 pub address_part : IsPart address_at address_bytes IsAddress
 address_part = record { takes = address_takes; again = address_again }

@@ -12,9 +12,9 @@ abbrev pub ◌>>=◌ : {A B : Type 0} → Option A → (A → Option B) → Opti
 None >>= f = None
 
 -- what a function returned, seen by view, is what reading gives
-abbrev pub Gives : {A B : Type 0} → (A → B) → Option A → Option B → Type 0
-Gives view (Some x) read = read ≡ Some (view x)
-Gives view None read = read ≡ None
+abbrev pub IsReadOrNone : {A B : Type 0} → (A → B) → Option A → Option B → Type 0
+IsReadOrNone view (Some x) read = read ≡ Some (view x)
+IsReadOrNone view None read = read ≡ None
 
 -- whether each is a byte, below 256
 abbrev pub are_bytes : List ℕ → Bool

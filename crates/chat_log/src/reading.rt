@@ -2,8 +2,8 @@
 
 ghost use Rattle.std.specs.Prelude.{◌≡◌, ◌≤◌, ◌==◌, length, IfSome, IfOk};
 ghost use Rattle.chat_log.specs.Chat.{said};
-ghost use Rattle.chat_log.specs.Reading.{Gives, bytes_at, number_at, list_at};
-ghost use Rattle.chat_log.specs.NumberLaws.{IsBytes};
+ghost use Rattle.chat_log.specs.Reading.{IsReadOrNone, bytes_at, number_at, list_at};
+ghost use Rattle.big_endian.specs.Spelled.{IsBytes};
 ghost use Rattle.chat_log.specs.Encoding.{address_at, payload_at, line_at, chat_decode};
 
 use crate::lines::push_line;
@@ -57,7 +57,7 @@ impl<'a> Reader<'a> {
 
     #[tactic(auto, unfolding(crate::specs::Reading::bytes_at))]
     fn bytes(&mut self, len: usize) -> Option<&'a [u8]>
-        ensures gives { Gives (λ x. (x.now, self.new)) result (bytes_at len self.old) }
+        ensures gives { IsReadOrNone (λ x. (x.now, self.new)) result (bytes_at len self.old) }
         ensures len { IfSome result (λ x. length x.now ≡ len) }
         ensures bytes { IfSome result (λ x. IsBytes x.now) }
     {
@@ -72,7 +72,7 @@ impl<'a> Reader<'a> {
 
     #[tactic(auto, unfolding(crate::specs::Reading::number_at), using(crate::specs::NumberLaws::known_bytes))]
     fn u8(&mut self, low: u8, high: u8) -> Option<u8>
-        ensures gives { Gives (λ x. (x, self.new)) result (number_at 1 low high self.old) }
+        ensures gives { IsReadOrNone (λ x. (x, self.new)) result (number_at 1 low high self.old) }
         ensures in_range { IfSome result (λ x. (low ≤ x) × (x ≤ high)) }
     {
         let front = self.bytes(1)?;
@@ -85,7 +85,7 @@ impl<'a> Reader<'a> {
 
     #[tactic(auto, unfolding(crate::specs::Reading::number_at), using(crate::specs::NumberLaws::known_bytes))]
     fn u16(&mut self, low: u16, high: u16) -> Option<u16>
-        ensures gives { Gives (λ x. (x, self.new)) result (number_at 2 low high self.old) }
+        ensures gives { IsReadOrNone (λ x. (x, self.new)) result (number_at 2 low high self.old) }
         ensures in_range { IfSome result (λ x. (low ≤ x) × (x ≤ high)) }
     {
         let front = self.bytes(2)?;
@@ -98,7 +98,7 @@ impl<'a> Reader<'a> {
 
     #[tactic(auto, unfolding(crate::specs::Reading::number_at), using(crate::specs::NumberLaws::known_bytes))]
     fn u32(&mut self, low: u32, high: u32) -> Option<u32>
-        ensures gives { Gives (λ x. (x, self.new)) result (number_at 4 low high self.old) }
+        ensures gives { IsReadOrNone (λ x. (x, self.new)) result (number_at 4 low high self.old) }
         ensures in_range { IfSome result (λ x. (low ≤ x) × (x ≤ high)) }
     {
         let front = self.bytes(4)?;
@@ -111,7 +111,7 @@ impl<'a> Reader<'a> {
 
     #[tactic(auto, unfolding(crate::specs::Encoding::address_at))]
     fn address(&mut self) -> Option<Address>
-        ensures { Gives (λ x. (x, self.new)) result (address_at self.old) }
+        ensures { IsReadOrNone (λ x. (x, self.new)) result (address_at self.old) }
     {
         let node = self.u16(1, u16::MAX)?;
         let incarnation = self.u32(1, u32::MAX)?;
@@ -120,7 +120,7 @@ impl<'a> Reader<'a> {
 
     #[tactic(auto, unfolding(crate::specs::Encoding::payload_at))]
     fn payload(&mut self) -> Option<&'a [u8]>
-        ensures { Gives (λ x. (x.now, self.new)) result (payload_at self.old) }
+        ensures { IsReadOrNone (λ x. (x.now, self.new)) result (payload_at self.old) }
     {
         let len = self.u16(0, PAYLOAD as u16)?;
         self.bytes(usize::from(len))
@@ -128,7 +128,7 @@ impl<'a> Reader<'a> {
 
     #[tactic(auto, unfolding(crate::specs::Encoding::line_at))]
     fn line(&mut self) -> Option<LentLine<'a>>
-        ensures { Gives (λ x. (said x.sender x.payload.now, self.new)) result (line_at self.old) }
+        ensures { IsReadOrNone (λ x. (said x.sender x.payload.now, self.new)) result (line_at self.old) }
     {
         let sender = self.address()?;
         let payload = self.payload()?;
@@ -141,7 +141,7 @@ fn lines_at(
     count: u8,
     from: &mut Reader<'_>,
 ) -> Result<Option<Vec<Line>>, AllocError>
-    ensures { IfOk result (λ lines. Gives (λ l. (l.items, from.new)) lines (list_at line_at count from.old)) }
+    ensures { IfOk result (λ lines. IsReadOrNone (λ l. (l.items, from.new)) lines (list_at line_at count from.old)) }
 {
     let mut lines = Vec::new(alloc);
     for _ in 0..count {
@@ -156,7 +156,7 @@ fn lines_at(
 // The lines of the state that bytes stand for.
 #[tactic(auto, unfolding(crate::specs::Encoding::lines_at, crate::specs::Encoding::chat_decode))]
 pub(crate) fn chat_of(alloc: Global, bytes: &[u8]) -> Result<Option<Vec<Line>>, AllocError>
-    ensures { IfOk result (λ lines. Gives (λ l. l.items) lines (chat_decode bytes.now)) }
+    ensures { IfOk result (λ lines. IsReadOrNone (λ l. l.items) lines (chat_decode bytes.now)) }
 {
     let mut from = Reader::new(bytes);
     let Some(count) = from.u8(0, LINES as u8) else {

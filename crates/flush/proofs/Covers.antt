@@ -3,8 +3,8 @@ use Rattle.std.proofs.Common.{◌≡◌, ℕ, zero, suc, ◌+◌, ◌<◌, ◌�
 use Rattle.std.specs.Prelude.{slice_get, is_some, nat_lt}
 use Rattle.std.specs.Option.{option_or}
 use Rattle.std.proofs.lemmas.Bool.Decides.{nat_tests}
-use Rattle.wire.specs.Values.{Entry, held_at, Report}
-use Rattle.wire.specs.Lists.{is_report}
+use Rattle.wire_values.specs.Values.{Entry, held_at, Report}
+use Rattle.wire_values.specs.Lists.{is_report}
 use Rattle.flush.specs.Cuts.{first_of, held_among, greatest_stable, IsCut}
 use Rattle.flush.specs.Covers.{EachReport, CutCovers, BaseIsBelow, OneCut}
 use Rattle.flush.proofs.Reports.{report-fills}

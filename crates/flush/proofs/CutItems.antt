@@ -3,9 +3,9 @@ use Rattle.std.proofs.Common.{◌≡◌, ℕ, zero, suc, ◌+◌, ◌≤◌, tru
 use Rattle.std.specs.Prelude.{slice_get, is_some}
 use Rattle.std.specs.Option.{option_map_or}
 use Rattle.limits.specs.declared.TheConstants.{WINDOW}
-use Rattle.wire.specs.Values.{Entry, held_at, Report}
+use Rattle.wire_values.specs.Values.{Entry, held_at, Report}
 use Rattle.address.specs.Ids.{ViewId}
-use Rattle.wire.specs.Lists.{is_report}
+use Rattle.wire_values.specs.Lists.{is_report}
 use Rattle.flush.specs.Cuts.{held_among, greatest_stable, entries_from, cut_items, IsCut}
 use Rattle.flush.specs.Flushes.{FlushModel, IsFlush, group}
 use Rattle.flush.specs.Covers.{EachReport, CutIs}

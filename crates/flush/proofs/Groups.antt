@@ -1,29 +1,22 @@
 -- The reports of a group: who sent them.
-use Rattle.std.proofs.Common.{◌≡◌, ℕ, zero, suc, Bool, true, false, cond, not, Option, Some, None, List, [], ◌∷◌, map, refl, sym, ap, ◌∙◌, is_some, nat_eq, eq-eqb, eqb-true}
+use Rattle.std.proofs.Common.{◌≡◌, ℕ, zero, suc, Bool, true, false, cond, not, Option, Some, None, List, [], ◌∷◌, map, refl, sym, ap, ◌∙◌, is_some}
 use Rattle.std.specs.Prelude.{slice_get}
 use Rattle.std.specs.List.{list_all}
-use Rattle.std.proofs.lemmas.Bool.{and_parts, and_from}
+use Rattle.std.proofs.lemmas.Bool.{and_parts, not-true}
 use Rattle.address.specs.Ids.{Address, ViewId, same_address}
 use Rattle.view.specs.Members.{stands_in, is_distinct}
-use Rattle.wire.specs.Values.{Report}
-use Rattle.wire.specs.Lists.{is_report}
+use Rattle.wire_values.specs.Values.{Report}
+use Rattle.wire_values.specs.Lists.{is_report}
 use Rattle.flush.specs.Flushes.{report_from, has_reported, comes_from, group}
 use Rattle.flush.specs.Covers.{EachReport, HasReporter, GroupsAreReported}
-use Rattle.flush.proofs.FactOfKeptReports.{reporter-stands, not-true}
-
-address-refl : (a : Address) → same_address a a ≡ true
-address-refl a = and_from (nat_eq a.node a.node) (nat_eq a.incarnation a.incarnation) (eq-eqb a.node a.node refl) (eq-eqb a.incarnation a.incarnation refl)
-
-address-is : (a b : Address) → same_address a b ≡ true → a ≡ b
-address-is a b e =
-    let parts = and_parts (nat_eq a.node b.node) (nat_eq a.incarnation b.incarnation) e in
-    λ j. record { node = eqb-true a.node b.node parts.0 j; incarnation = eqb-true a.incarnation b.incarnation parts.1 j }
+use Rattle.flush.proofs.FactOfOwnedReports.{reporter-stands}
+use Rattle.address.proofs.SameIds.{same_address-refl, same_address-true}
 
 -- a report that stands behind another one is still the one that its address sent
 sent-by : (b : Bool) (q : Address) (x : Address × Report) (reports : List (Address × Report)) (r : Report) → same_address q x.0 ≡ b
     → has_reported x.0 reports ≡ false → report_from q reports ≡ Some r → report_from q (x ∷ reports) ≡ Some r
 sent-by true q x reports r same new sent =
-    let e : q ≡ x.0 = address-is q x.0 same in
+    let e : q ≡ x.0 = same_address-true q x.0 same in
     let there : has_reported x.0 reports ≡ true = ap (λ p. has_reported p reports) (sym e) ∙ ap is_some sent in
     let n : true ≡ false = sym there ∙ new in absurd cc
 sent-by false q x reports r same new sent = ap (λ t. cond t (Some x.1) (report_from q reports)) same ∙ sent
@@ -44,7 +37,7 @@ in-group true v x reports q new rest zero r at =
     let s : x.1 ≡ r = cc in
     record {
       reporter = x.0;
-      sent = ap (λ t. cond t (Some x.1) (report_from x.0 reports)) (address-refl x.0) ∙ at;
+      sent = ap (λ t. cond t (Some x.1) (report_from x.0 reports)) (same_address-refl x.0) ∙ at;
       from = ap (comes_from v) (sym s) ∙ q;
     }
 in-group true v x reports q new rest (suc i) r at = behind v x reports r new (rest i r at)

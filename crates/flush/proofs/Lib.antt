@@ -1,5 +1,6 @@
 pub mod Covers
 pub mod Groups
-pub mod FactOfKeptReports
+pub mod FactOfOwnedReports
 pub mod Reports
 pub mod CutItems
+pub mod FewItems

@@ -3,11 +3,11 @@ use Rattle.std.proofs.Common.{◌≡◌, ℕ, ◌+◌, ◌<◌, ◌≤◌, Bool,
 use Rattle.std.specs.Prelude.{IsSome, is_some, nat_le, ◌==◌, ◌&&◌, min}
 use Rattle.limits.specs.declared.TheConstants.{GREATEST_NUMBER, WINDOW}
 use Rattle.std.specs.Option.{option_map_or}
-use Rattle.std.proofs.lemmas.Bool.{and_parts}
+use Rattle.std.proofs.lemmas.Bool.{and_parts, eqb-true}
 use Rattle.std.proofs.lemmas.Bool.Decides.{nat_tests}
 use Rattle.address.specs.Ids.{ViewId}
-use Rattle.wire.specs.Values.{Entry, held_at, Report}
-use Rattle.wire.specs.Lists.{highest_next, are_held, is_filled, is_nothing, is_report}
+use Rattle.wire_values.specs.Values.{Entry, held_at, Report}
+use Rattle.wire_values.specs.Lists.{highest_next, are_held, is_filled, is_nothing, is_report}
 
 -- the number after the last, until the delivered count is reached
 next-is : (s d last x : ℕ) → last < d → nat_le (last + 1) x ≡ true → nat_le x (highest_next s d last) ≡ true → x ≡ last + 1
@@ -18,9 +18,6 @@ near-is s d last x near b = grind (arith, nat_tests)
 
 above-is : (last x : ℕ) → nat_le (last + 1) x ≡ true → last < x
 above-is last x a = grind (arith, nat_tests)
-
-same-number : (g x : ℕ) → nat_eq g x ≡ true → g ≡ x
-same-number g x q = grind (arith, nat_tests)
 
 later : (g x last : ℕ) → x ≡ last + 1 → last < g → nat_eq g x ≡ false → x < g
 later g x last e low q = grind (arith, nat_tests)
@@ -53,7 +50,7 @@ fills s d last (h ∷ held) rises enough g low high =
 near-by : (b : Bool) (s d last g : ℕ) (h : ℕ × Entry) (held : List (ℕ × Entry)) → d ≤ s + WINDOW → Risen s d last h held → nat_eq g h.0 ≡ b
     → (IsSome (held_at g held) → (h.0 < g) × (g ≤ s + WINDOW)) → IsSome (held_at g (h ∷ held)) → (last < g) × (g ≤ s + WINDOW)
 near-by true s d last g h held small r q rest found =
-    let n : g ≡ h.0 = same-number g h.0 q in
+    let n : g ≡ h.0 = eqb-true g h.0 q in
     let a : last < h.0 = above-is last h.0 r.past in
     let z : h.0 ≤ s + WINDOW = near-is s d last h.0 small r.high in
     (omega arith, omega arith)
@@ -85,8 +82,8 @@ rules-by : (r : Report) (o : Option ViewId) → option_map_or (λ _. is_filled r
 rules-by r None h =
     let a = and_parts (r.stable == 0 && r.delivered == 0) (length r.held == 0) h in
     let b = and_parts (r.stable == 0) (r.delivered == 0) a.0 in
-    let s : r.stable ≡ 0 = same-number r.stable 0 b.0 in
-    let d : r.delivered ≡ 0 = same-number r.delivered 0 b.1 in
+    let s : r.stable ≡ 0 = eqb-true r.stable 0 b.0 in
+    let d : r.delivered ≡ 0 = eqb-true r.delivered 0 b.1 in
     record { counts = omega arith; small = omega arith; enough = omega arith; rises = no-entry r.stable r.delivered r.stable r.held a.1 }
 rules-by r (Some v) h =
     let a = and_parts (nat_le r.stable r.delivered && nat_le r.delivered (min (r.stable + WINDOW) GREATEST_NUMBER) && nat_le (length r.held) WINDOW && nat_le r.delivered (r.stable + length r.held)) (are_held r.stable r.delivered r.stable r.held) h in

@@ -1,8 +1,8 @@
 -- What a cut is for: whoever delivers it has delivered what the order says, and at least as much as each reporter had.
 use Rattle.std.specs.Prelude.{◌≡◌, ℕ, ◌+◌, ◌≤◌, true, List, length, Option, Some, slice_get}
 use Rattle.address.specs.Ids.{Address, ViewId}
-use Rattle.wire.specs.Values.{Entry, held_at, Report}
-use Rattle.wire.specs.Lists.{is_report}
+use Rattle.wire_values.specs.Values.{Entry, held_at, Report}
+use Rattle.wire_values.specs.Lists.{is_report}
 use Rattle.flush.specs.Cuts.{cut_base, cut_items, IsCut}
 use Rattle.flush.specs.Flushes.{FlushModel, IsFlush, report_from, comes_from, group}
 

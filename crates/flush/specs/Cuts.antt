@@ -1,7 +1,7 @@
 -- The cut of a view: up to which number of its order, and with which entries, its reporters go on together.
 use Rattle.std.specs.Prelude.{◌≡◌, ℕ, zero, suc, ◌+◌, List, [], ◌∷◌, length, max, Option, None, Some, slice_get}
 use Rattle.std.specs.Option.{option_or, option_map_or}
-use Rattle.wire.specs.Values.{Entry, held_at, Report}
+use Rattle.wire_values.specs.Values.{Entry, held_at, Report}
 use Rattle.limits.specs.declared.TheConstants.{WINDOW}
 
 -- the first that a function finds in a list

@@ -5,8 +5,8 @@ use Rattle.std.specs.Map.{lookup}
 use Rattle.std.specs.Option.{option_eq, option_map_or, option_and_then}
 use Rattle.address.specs.Ids.{Address, ViewId, same_address, same_view_id}
 use Rattle.view.specs.Members.{stands_in, is_distinct}
-use Rattle.wire.specs.Values.{Report}
-use Rattle.wire.specs.Lists.{is_report}
+use Rattle.wire_values.specs.Values.{Report}
+use Rattle.wire_values.specs.Lists.{is_report}
 use Rattle.flush.specs.declared.progress.Progress.{Progress}
 use Rattle.flush.specs.declared.progress.Progress.TheVariants.{Waiting, Complete}
 

@@ -1,4 +1,4 @@
-use wire::{Count, Entry};
+use wire_values::{Count, Entry};
 
 /// The cut of a view: the entries with the numbers base + 1, base + 2, .. of its order, which lie in the reports of a flush
 /// (docs/PROTOCOL.md, "Cut").

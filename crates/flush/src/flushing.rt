@@ -5,7 +5,7 @@ ghost use Rattle.flush.specs.Cuts.{greatest_stable, held_among, cut_base, cut_it
 ghost use Rattle.flush.specs.Flushes.{IsFlush, has_reported, group, is_awaited, reported, progress_of, has_come_from, together_of, previous_of};
 
 use crate::cut::Cut;
-use crate::kept::Kept;
+use crate::owned_report::OwnedReport;
 use crate::progress::Progress;
 use address::{Address, ViewId};
 use indexmap::IndexMap;
@@ -13,7 +13,7 @@ use indexmap::map::Slice;
 use std::alloc::{AllocError, Global};
 use std::marker::Model;
 use view::Addresses;
-use wire::{Count, Entry, Report};
+use wire_values::{Count, Entry, Report};
 
 /// A flush: a proposal, its list, and the reports of those of the list who reported, in order of arrival (docs/PROTOCOL.md, "Flush").
 #[derive(Drop)]
@@ -21,7 +21,7 @@ pub struct Flush {
     alloc: Global,
     proposal: ViewId,
     members: Addresses,
-    reports: IndexMap<Address, Kept>,
+    reports: IndexMap<Address, OwnedReport>,
 }
 
 impl Model for Flush {
@@ -35,7 +35,11 @@ impl Model for Flush {
 }
 
 /// Records a report behind those that came before.
-fn keep(reports: &mut IndexMap<Address, Kept>, from: Address, kept: Kept) -> Result<(), AllocError>
+fn keep(
+    reports: &mut IndexMap<Address, OwnedReport>,
+    from: Address,
+    kept: OwnedReport,
+) -> Result<(), AllocError>
     requires { has_reported from reports.old.entries ≡ false }
     ensures ok { OnOk result (reports.new.entries ≡ reports.old.entries ++ (from, kept) ∷ []) }
     ensures err { OnErr result (reports.new.entries ≡ reports.old.entries) }
@@ -105,7 +109,7 @@ impl Flush {
         ensures err_only { OnErr result (IsTrue (is_awaited from self.old)) }
     {
         if self.is_awaited(&from) {
-            let kept = Kept::copy_of(self.alloc, report)?;
+            let kept = OwnedReport::copy_of(self.alloc, report)?;
             keep(&mut self.reports, from, kept)?;
         }
         Ok(self.progress())
@@ -183,7 +187,7 @@ impl Flush {
 }
 
 /// The greatest stable count among the reports from a view.
-fn greatest_stable(reports: Slice<'_, Address, Kept>, previous: &Option<ViewId>) -> Count
+fn greatest_stable(reports: Slice<'_, Address, OwnedReport>, previous: &Option<ViewId>) -> Count
     ensures { result ≡ greatest_stable (group previous.now reports.entry) }
 {
     match reports.split_first() {
@@ -201,7 +205,7 @@ fn greatest_stable(reports: Slice<'_, Address, Kept>, previous: &Option<ViewId>)
 
 /// The entry at a number in the first of the reports from a view that has one there.
 fn held_among<'a>(
-    reports: Slice<'a, Address, Kept>,
+    reports: Slice<'a, Address, OwnedReport>,
     previous: &Option<ViewId>,
     number: u64,
 ) -> Option<Entry<'a>>

@@ -4,8 +4,8 @@
 
 mod cut;
 mod flushing;
-mod kept;
 mod law;
+mod owned_report;
 mod progress;
 
 pub use cut::Cut;

@@ -27,6 +27,12 @@ pub const STEP_EVENTS: usize = WINDOW as usize + 8;
 /// The greatest number of a message in its view, of a member's own messages and of a view id's counter: 2 to the 62.
 pub const GREATEST_NUMBER: u64 = 4_611_686_018_427_387_904;
 
+/// The greatest number of a node; the least is 1.
+pub const GREATEST_NODE: u64 = 65_535;
+
+/// The greatest incarnation of a node; the least is 1.
+pub const GREATEST_INCARNATION: u64 = 4_294_967_295;
+
 /// The longest name of a group, in bytes.
 pub const GROUP_NAME: usize = 32;
 

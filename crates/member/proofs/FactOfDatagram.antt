@@ -5,28 +5,28 @@ use Rattle.std.specs.Option.{option_map, option_map_or, option_and_then}
 use Rattle.std.proofs.lemmas.Bool.{and_parts}
 use Rattle.limits.specs.declared.TheConstants.{WINDOW}
 use Rattle.address.specs.Ids.{Address, same_address}
-use Rattle.wire.specs.Values as wire
-use Rattle.wire.specs.declared.error.WireError.{WireError}
-use Rattle.wire.specs.declared.packet.Packet.{Packet}
-use Rattle.wire.specs.declared.packet.Body.{Body}
-use Rattle.wire.specs.declared.packet.Body.TheVariants as bodies
+use Rattle.wire_values.specs.Values as wire
+use Rattle.wire_values.specs.declared.error.WireError.{WireError}
+use Rattle.wire_values.specs.declared.packet.Packet.{Packet}
+use Rattle.wire_values.specs.declared.packet.Body.{Body}
+use Rattle.wire_values.specs.declared.packet.Body.TheVariants as bodies
 use Rattle.wire.specs.Packets.{packet_of, wire_refusal, error_in}
 use Rattle.state_transfer.specs.Meanings.{Meaning}
-use Rattle.trace_props.proofs.FactOfObserved.{same_address-true}
-use Rattle.agreement.specs.Histories.{Posted}
-use Rattle.agreement.specs.Acts.{packet}
-use Rattle.member_acts.specs.Decisions.{is_entry, is_readable}
-use Rattle.output.specs.declared.output.Output.{Output}
-use Rattle.output.specs.Outputs.{Puts}
-use Rattle.output.specs.Calm.{IsCalm}
-use Rattle.output.specs.Names.{same_name}
-use Rattle.membership.specs.declared.life.Life.{Life}
+use Rattle.address.proofs.SameIds.{same_address-true}
+use Rattle.acts.specs.Histories.{Posted}
+use Rattle.acts.specs.Acts.{packet}
+use Rattle.decisions.specs.Decisions.{is_entry, is_readable}
+use Rattle.step_output.specs.declared.output.Output.{Output}
+use Rattle.step_output.specs.Outputs.{Puts}
+use Rattle.step_output.specs.Calm.{IsCalm}
+use Rattle.step_output.specs.Names.{same_name}
+use Rattle.membership.specs.declared.member_state.MemberState.{MemberState}
 use Rattle.membership.specs.declared.stop.Stop.{Stop}
 use Rattle.membership.specs.declared.stop.Stop.TheVariants as stop
-use Rattle.membership.specs.Lives.{core_of as core_at, is_connected}
+use Rattle.membership.specs.MemberStates.{core_of as core_at, is_connected}
 use Rattle.membership.specs.Changes.{StaysAs, Enters}
 use Rattle.membership.specs.Doing.{Did}
-use Rattle.member.specs.Hearing.{Hears, ignores, entry_of, is_unreadable_by}
+use Rattle.member.specs.Hearing.{FollowsRule, ignores, entry_of, is_unreadable_by}
 use Rattle.member.specs.Running.{IsRunning}
 use Rattle.member.specs.declared.error.Error.{Error}
 use Rattle.member.specs.declared.error.Error.TheVariants.{Refused, Wire}
@@ -44,25 +44,21 @@ handed-by true true false b4 x e = absurd (let n : false ≡ true = e in cc)
 handed-by true false b3 b4 x e = absurd (let n : false ≡ true = e in cc)
 handed-by false b2 b3 b4 x e = absurd (let n : false ≡ true = e in cc)
 
-pub none-in : {X : Type 0} (o : Option X) → is_some o ≡ false → o ≡ None
-none-in None e = refl
-none-in (Some x) e = absurd (let n : true ≡ false = e in cc)
-
 module _ {S : Type 0} (meaning : Meaning S) (p : Address) (group : List ℕ) where
-  abbrev here : Life S → MemberModel S
-  here l = record { address = p; group = group; life = Some l }
+  abbrev here : MemberState S → MemberModel S
+  here l = record { address = p; group = group; member_state = Some l }
 
   -- a packet that it is handed is for it, from another, while it is connected
-  pub handed : (l : Life S) (k : Packet) → is_some (came_in (here l) (Ok k)) ≡ true
+  pub handed : (l : MemberState S) (k : Packet) → is_some (came_in (here l) (Ok k)) ≡ true
       → (came_in (here l) (Ok k) ≡ Some (packet k.source k.body p)) × (is_connected l ≡ true) × (same_address k.source p ≡ false)
   handed l k e =
       let x : Posted = record { source = k.source; destination = k.destination; body = k.body } in
       let h = handed-by (same_name k.group group) (is_connected l) (same_address k.destination p) (same_address k.source p) x e in
       (h.0 ∙ ap (λ (q : Address). Some (packet k.source k.body q)) (same_address-true k.destination p h.2), h.1, h.3)
 
-  module _ (q : Address) (body : Body) (o : Option Posted) (came : o ≡ Some (packet q body p)) (old new : Life S) (out later : Output) where
-    pub take-does : Hears meaning group p q body old new out later → MatchOption o (StaysAs old new out later) (λ m. Hears meaning group p m.source m.body old new out later)
-    take-does x = subst (λ (k : Option Posted). MatchOption k (StaysAs old new out later) (λ m. Hears meaning group p m.source m.body old new out later)) (sym came) x
+  module _ (q : Address) (body : Body) (o : Option Posted) (came : o ≡ Some (packet q body p)) (old new : MemberState S) (out later : Output) where
+    pub take-does : FollowsRule meaning group p q body old new out later → MatchOption o (StaysAs old new out later) (λ m. FollowsRule meaning group p m.source m.body old new out later)
+    take-does x = subst (λ (k : Option Posted). MatchOption k (StaysAs old new out later) (λ m. FollowsRule meaning group p m.source m.body old new out later)) (sym came) x
 
     pub take-did : Did meaning (Some (packet q body p)) group p old new out later → Did meaning o group p old new out later
     take-did x = subst (λ (k : Option Posted). Did meaning k group p old new out later) (sym came) x
@@ -73,9 +69,9 @@ module _ {S : Type 0} (meaning : Meaning S) (p : Address) (group : List ℕ) whe
     pub take-ignored : ignores_packet p o old ≡ true → ignores p q body old ≡ true
     take-ignored x = sym (ap (λ (k : Option Posted). ignores_packet p k old) came) ∙ x
 
-  module _ (o : Option Posted) (none : o ≡ None) (old : Life S) (out : Output) where
-    pub pass-does : MatchOption o (StaysAs old old out out) (λ m. Hears meaning group p m.source m.body old old out out)
-    pass-does = subst (λ (k : Option Posted). MatchOption k (StaysAs old old out out) (λ m. Hears meaning group p m.source m.body old old out out)) (sym none) (refl, refl)
+  module _ (o : Option Posted) (none : o ≡ None) (old : MemberState S) (out : Output) where
+    pub pass-does : MatchOption o (StaysAs old old out out) (λ m. FollowsRule meaning group p m.source m.body old old out out)
+    pass-does = subst (λ (k : Option Posted). MatchOption k (StaysAs old old out out) (λ m. FollowsRule meaning group p m.source m.body old old out out)) (sym none) (refl, refl)
 
   -- ---- an INSTALL by which it entered could be read
 
@@ -83,7 +79,7 @@ module _ {S : Type 0} (meaning : Meaning S) (p : Address) (group : List ℕ) whe
   entry-by true i A B x = ap not x.0
   entry-by false i A B x = refl
 
-  hears-readable : (m : Posted) (body : Body) (old new : Life S) (out later : Output) → m.body ≡ body → Hears meaning group p m.source body old new out later
+  hears-readable : (m : Posted) (body : Body) (old new : MemberState S) (out later : Output) → m.body ≡ body → FollowsRule meaning group p m.source body old new out later
       → option_map_or (λ i. not (is_readable meaning i.state)) (entry_of (core_at p old) (record { source = m.source; destination = m.destination; body = body })) false ≡ false
   hears-readable m bodies.Join old new out later is x = refl
   hears-readable m (bodies.Redirect c) old new out later is x = refl
@@ -96,53 +92,53 @@ module _ {S : Type 0} (meaning : Meaning S) (p : Address) (group : List ℕ) whe
   hears-readable m (bodies.Flush w) old new out later is x = refl
   hears-readable m (bodies.Behind w n) old new out later is x = refl
   hears-readable m (bodies.Report w r) old new out later is x = refl
-  hears-readable m (bodies.Install i) old new out later is x = entry-by (is_entry (core_at p old) m.source i) i (Enters meaning group p old.traffic i old new out later) (StaysAs old new out later) x
+  hears-readable m (bodies.Install i) old new out later is x = entry-by (is_entry (core_at p old) m.source i) i (Enters meaning group p old.view_state i old new out later) (StaysAs old new out later) x
   hears-readable m (bodies.Merge v) old new out later is x = refl
 
-  readable-by : (o : Option Posted) (old new : Life S) (out later : Output) → MatchOption o (StaysAs old new out later) (λ m. Hears meaning group p m.source m.body old new out later)
+  readable-by : (o : Option Posted) (old new : MemberState S) (out later : Output) → MatchOption o (StaysAs old new out later) (λ m. FollowsRule meaning group p m.source m.body old new out later)
       → option_map_or (λ i. not (is_readable meaning i.state)) (option_and_then (entry_of (core_at p old)) o) false ≡ false
   readable-by None old new out later x = refl
   readable-by (Some m) old new out later x = hears-readable m m.body old new out later refl x
 
-  unread-by : (o : Option Posted) (old : Life S) → option_map_or (is_unreadable_by meaning (core_at p old)) o false ≡ true
+  unread-by : (o : Option Posted) (old : MemberState S) → option_map_or (is_unreadable_by meaning (core_at p old)) o false ≡ true
       → option_map_or (λ i. not (is_readable meaning i.state)) (option_and_then (entry_of (core_at p old)) o) false ≡ true
   unread-by None old e = e
   unread-by (Some m) old e = e
 
   -- ---- a datagram
 
-  abbrev pub Holds : Option (Life S) → Bor (List ℕ) → Result Output Error → Option (Life S) → Type 0
+  abbrev pub Holds : Option (MemberState S) → Bor (List ℕ) → Result Output Error → Option (MemberState S) → Type 0
   Holds old bytes result new = FactOfStep.Holds meaning p group old (Datagram bytes) result new
 
   -- bytes that spell no packet
-  pub wire-handled : (bytes : Bor (List ℕ)) (w : WireError) (old : Life S) → packet_of bytes.now ≡ Err w → IsRunning group p old → Holds (Some old) bytes (Err (Wire w)) (Some old)
+  pub wire-handled : (bytes : Bor (List ℕ)) (w : WireError) (old : MemberState S) → packet_of bytes.now ≡ Err w → IsRunning group p old → Holds (Some old) bytes (Err (Wire w)) (Some old)
   wire-handled bytes w old e runs =
       FactOfStep.refused-handled meaning p group old (Datagram bytes) (Wire w) (ap (λ (r : Result Packet WireError). option_map Wire (error_in r)) e) refl
       (ap (λ (r : Result Packet WireError). option_map_or (λ (i : wire.Install). not (is_readable meaning i.state)) (option_and_then (entry_of (core_at p old)) (came_in (here old) r)) false) e)
       (ap (λ (r : Result Packet WireError). not (is_some (error_in r)) && ignores_packet p (came_in (here old) r) old) e) runs
 
-  ignored-in : (bytes : Bor (List ℕ)) (k : Packet) (old : Life S) → packet_of bytes.now ≡ Ok k → is_ignored (here old) (Datagram bytes) ≡ true → ignores_packet p (came_in (here old) (Ok k)) old ≡ true
+  ignored-in : (bytes : Bor (List ℕ)) (k : Packet) (old : MemberState S) → packet_of bytes.now ≡ Ok k → is_ignored (here old) (Datagram bytes) ≡ true → ignores_packet p (came_in (here old) (Ok k)) old ≡ true
   ignored-in bytes k old e i =
       subst (λ (r : Result Packet WireError). ignores_packet p (came_in (here old) r) old ≡ true) e (and_parts (not (is_some (wire_refusal bytes.now))) (ignores_packet p (came_in (here old) (packet_of bytes.now)) old) i).1
 
   -- a packet that it took, or that is not for it
-  pub packet-handled : (bytes : Bor (List ℕ)) (k : Packet) (old new : Life S) (start out : Output) → packet_of bytes.now ≡ Ok k → Puts [] [] start
-      → MatchOption (came_in (here old) (Ok k)) (StaysAs old new start out) (λ m. Hears meaning group p m.source m.body old new start out)
+  pub packet-handled : (bytes : Bor (List ℕ)) (k : Packet) (old new : MemberState S) (start out : Output) → packet_of bytes.now ≡ Ok k → Puts [] [] start
+      → MatchOption (came_in (here old) (Ok k)) (StaysAs old new start out) (λ m. FollowsRule meaning group p m.source m.body old new start out)
       → Did meaning (came_in (here old) (Ok k)) group p old new start out → is_connected new ≡ is_connected old → IsCalm (WINDOW + 3) start out
       → (ignores_packet p (came_in (here old) (Ok k)) old ≡ true → StaysAs old new start out) → IsRunning group p new → Holds (Some old) bytes (Ok out) (Some new)
   packet-handled bytes k old new start out e nothing does did on calm stays runs =
-      let does-at = subst (λ (r : Result Packet WireError). MatchOption (came_in (here old) r) (StaysAs old new start out) (λ m. Hears meaning group p m.source m.body old new start out)) (sym e) does in
+      let does-at = subst (λ (r : Result Packet WireError). MatchOption (came_in (here old) r) (StaysAs old new start out) (λ m. FollowsRule meaning group p m.source m.body old new start out)) (sym e) does in
       FactOfStep.ok-handled meaning p group old new (Datagram bytes) start out nothing
       (subst (λ (r : Result Packet WireError). Did meaning (came_in (here old) r) group p old new start out) (sym e) did)
       (ap (λ (r : Result Packet WireError). option_map Wire (error_in r)) e)
       (readable-by (came_in (here old) (packet_of bytes.now)) old new start out does-at)
       (FactOfStep.calm-quiet (WINDOW + 3) start out nothing calm, on) tt does-at
       (λ i. let y = stays (ignored-in bytes k old e i) in
-      (FactOfStep.same-nothing start out nothing y.1, ap {B = MemberModel S} (λ (l : Life S). here l) y.0))
+      (FactOfStep.same-nothing start out nothing y.1, ap {B = MemberModel S} (λ (l : MemberState S). here l) y.0))
       (FactOfStep.calm-few (WINDOW + 3) start out nothing calm (omega arith)) runs
 
   -- one by which it ended
-  stopped-handled : (s : Stop) (bytes : Bor (List ℕ)) (k : Packet) (old : Life S) → packet_of bytes.now ≡ Ok k → (ignores_packet p (came_in (here old) (Ok k)) old ≡ true → ⊥)
+  stopped-handled : (s : Stop) (bytes : Bor (List ℕ)) (k : Packet) (old : MemberState S) → packet_of bytes.now ≡ Ok k → (ignores_packet p (came_in (here old) (Ok k)) old ≡ true → ⊥)
       → (s ≡ stop.Unreadable → option_map_or (is_unreadable_by meaning (core_at p old)) (came_in (here old) (Ok k)) false ≡ true) → Holds (Some old) bytes (Err (Refused (stopped s))) None
   stopped-handled stop.Memory bytes k old e taken unread =
       FactOfStep.memory-handled meaning p group old (Datagram bytes) (ap (λ (r : Result Packet WireError). option_map Wire (error_in r)) e)
@@ -153,6 +149,6 @@ module _ {S : Type 0} (meaning : Meaning S) (p : Address) (group : List ℕ) whe
       (unread-by (came_in (here old) (Ok k)) old (unread refl)))
       (FactOfStep.unless (is_ignored (here old) (Datagram bytes)) (λ i. taken (ignored-in bytes k old e i)))
 
-  pub packet-stopped : (s : Stop) (e : Error) (bytes : Bor (List ℕ)) (k : Packet) (old : Life S) → e ≡ Refused (stopped s) → packet_of bytes.now ≡ Ok k → (ignores_packet p (came_in (here old) (Ok k)) old ≡ true → ⊥)
+  pub packet-stopped : (s : Stop) (e : Error) (bytes : Bor (List ℕ)) (k : Packet) (old : MemberState S) → e ≡ Refused (stopped s) → packet_of bytes.now ≡ Ok k → (ignores_packet p (came_in (here old) (Ok k)) old ≡ true → ⊥)
       → (s ≡ stop.Unreadable → option_map_or (is_unreadable_by meaning (core_at p old)) (came_in (here old) (Ok k)) false ≡ true) → Holds (Some old) bytes (Err e) None
   packet-stopped s e bytes k old is spells taken unread = subst (λ (x : Error). Holds (Some old) bytes (Err x) None) (sym is) (stopped-handled s bytes k old spells taken unread)

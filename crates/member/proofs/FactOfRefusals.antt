@@ -5,9 +5,9 @@ use Rattle.limits.specs.declared.TheConstants.{PAYLOAD, OUTSTANDING, GREATEST_NU
 use Rattle.limits.specs.declared.refusal.Refusal.{Refusal}
 use Rattle.limits.specs.declared.refusal.Refusal.TheVariants.{NotConnected, Blocked, Busy, TooLong, AlreadyConnected, Closed, Exhausted}
 use Rattle.limits.specs.Refusals as refusals
-use Rattle.wire.specs.declared.error.WireError.{WireError}
+use Rattle.wire_values.specs.declared.error.WireError.{WireError}
 use Rattle.wire.specs.Packets.{wire_refusal}
-use Rattle.agreement.specs.Cores.{Core, is_frozen}
+use Rattle.acts.specs.Cores.{Core, is_frozen}
 use Rattle.member.specs.declared.error.Error.{Error}
 use Rattle.member.specs.declared.error.Error.TheVariants.{Refused, Wire}
 use Rattle.member.specs.declared.input.Input.{Input}
@@ -28,8 +28,8 @@ unsent-is test c payload one four two three eight =
     either test (not (is_some c.view)) (Some NotConnected) _ one
     (either test (nat_lt PAYLOAD (length payload)) (Some TooLong) _ four
     (either test (is_frozen c.view c.installed) (Some Blocked) _ two
-    (either test (nat_le OUTSTANDING (length c.traffic.outstanding)) (Some Busy) _ three
-    (either test (nat_le GREATEST_NUMBER c.traffic.sent) (Some Exhausted) None eight refl))))
+    (either test (nat_le OUTSTANDING (length c.view_state.outstanding)) (Some Busy) _ three
+    (either test (nat_le GREATEST_NUMBER c.view_state.sent) (Some Exhausted) None eight refl))))
 
 -- it is not refused for want of memory
 pub unsent-own : {S : Type 0} (c : Core S) (payload : List ℕ) (r : Refusal) → send_refusal c payload ≡ Some r → refusals.is_memory r ≡ false

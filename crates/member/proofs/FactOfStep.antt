@@ -4,7 +4,7 @@ use Rattle.std.specs.Prelude.{MatchBool, if◌then◌else◌, drop, nat_lt}
 use Rattle.std.specs.List.{AllByRecursion, list_all, Contains}
 use Rattle.std.specs.Option.{IsSomeAnd, ForSome, option_map}
 use Rattle.std.specs.Result.{result_err}
-use Rattle.std.proofs.lemmas.Bool.{and_from}
+use Rattle.std.proofs.lemmas.Bool.{and_from, not-true}
 use Rattle.std.proofs.lemmas.Bool.Decides.{nat_tests}
 use Rattle.std.proofs.lemmas.Option.{none-some, same_Some}
 use Rattle.address.specs.Ids.{Address, ViewId, same_address}
@@ -15,27 +15,27 @@ use Rattle.state_transfer.specs.Meanings.{Meaning}
 use Rattle.trace_props.specs.Recorded.{IsShort, IsRecordable}
 use Rattle.trace_props.specs.declared.event.Event.{Event}
 use Rattle.trace_props.specs.declared.event.Event.TheVariants.{Sent, Delivered, Installed, Left}
-use Rattle.agreement.specs.Histories.{Posted}
-use Rattle.agreement.specs.Chains.{Acted}
-use Rattle.output.specs.declared.output.Output.{Output}
-use Rattle.output.specs.Outputs.{Puts, spelled}
-use Rattle.output.specs.Calm.{is_quiet, IsCalm}
-use Rattle.traffic.specs.declared.traffic.Traffic.{Traffic}
-use Rattle.traffic.specs.declared.traffic.Traffic.TheVariants as kinds
-use Rattle.membership.specs.declared.life.Life.{Life}
-use Rattle.membership.specs.Lives.{core_of as core_at, view_in, traffic_in, is_connected, IsLife}
+use Rattle.acts.specs.Histories.{Posted}
+use Rattle.acts.specs.Chains.{Acted}
+use Rattle.step_output.specs.declared.output.Output.{Output}
+use Rattle.step_output.specs.Outputs.{Puts, spelled}
+use Rattle.step_output.specs.Calm.{is_quiet, IsCalm}
+use Rattle.traffic.specs.declared.view_state.ViewState.{ViewState}
+use Rattle.traffic.specs.declared.view_state.ViewState.TheVariants as kinds
+use Rattle.membership.specs.declared.member_state.MemberState.{MemberState}
+use Rattle.membership.specs.MemberStates.{core_of as core_at, view_in, view_core_in, is_connected, IsMemberState}
 use Rattle.membership.specs.Changes.{StaysAs, TakesSuspicion}
 use Rattle.membership.specs.Doing.{Did}
 use Rattle.member_messages.specs.Ordered.{IsOrderly, IsOrdered}
 use Rattle.member_messages.specs.Messages.{ByKind, SendsNext, SendsFirst, has_room, DeliversNext, DeliversAtOnce, Sends}
 use Rattle.member_views.specs.Firsts.{lone_install}
 use Rattle.member.specs.Running.{IsRunning, IsAlive}
-use Rattle.member.proofs.KeepOrder.{steady-ordered, not-so}
+use Rattle.member.proofs.KeepOrder.{steady-ordered}
 use Rattle.member_views.proofs.KeepSteady.{Steady}
 use Rattle.member_views.specs.Ignoring.{is_hint_ignored}
 use Rattle.member_views.specs.Views.{Creates, Asks, OnSuspect, AnnouncesView, Leaves, is_suspectable, has_member, has_promised}
 use Rattle.member_views.proofs.ActsOfRules.{create-did, ask-did, hint-did, suspect-did, leave-acted}
-use Rattle.member_views.proofs.KeepLife.{outside}
+use Rattle.member_views.proofs.KeepMemberState.{outside}
 use Rattle.member.specs.declared.error.Error.{Error}
 use Rattle.member.specs.declared.error.Error.TheVariants.{Refused}
 use Rattle.member.specs.declared.input.Input.{Input}
@@ -65,12 +65,12 @@ recordable [] all k h at = absurd (none-some h at)
 recordable (x ∷ l) all zero h at = subst IsShort (same_Some x h at) all.0
 recordable (x ∷ l) all (suc k) h at = recordable l all.1 k h at
 
-pub still : {S : Type 0} (group : List ℕ) (p : Address) (l : Life S) → IsRunning group p l → IsAlive group p (Some l)
+pub still : {S : Type 0} (group : List ℕ) (p : Address) (l : MemberState S) → IsRunning group p l → IsAlive group p (Some l)
 still group p l runs = λ x e. subst (IsRunning group p) (same_Some l x e) runs
 
 -- it runs on where it keeps what it keeps of its view, or begins a view anew
-pub steady-runs : {S : Type 0} (group : List ℕ) (p : Address) (old new : Life S) → Steady p old new → IsLife group p new → IsRunning group p old → IsRunning group p new
-steady-runs group p old new steady life runs = record { life = life; ordered = steady-ordered group p old new steady life runs.ordered }
+pub steady-runs : {S : Type 0} (group : List ℕ) (p : Address) (old new : MemberState S) → Steady p old new → IsMemberState group p new → IsRunning group p old → IsRunning group p new
+steady-runs group p old new steady member_state runs = record { member_state = member_state; ordered = steady-ordered group p old new steady member_state runs.ordered }
 
 -- ---- it does not hold the number that comes next
 
@@ -90,15 +90,15 @@ pub same-nothing : (start out : Output) → Puts [] [] start → out ≡ start �
 same-nothing start out nothing same = subst (λ (o : Output). Puts [] [] o) (sym same) nothing
 
 module _ {S : Type 0} (meaning : Meaning S) (p : Address) (group : List ℕ) where
-  abbrev pub at : Option (Life S) → MemberModel S
-  at life = record { address = p; group = group; life = life }
+  abbrev pub at : Option (MemberState S) → MemberModel S
+  at member_state = record { address = p; group = group; member_state = member_state }
 
-  abbrev pub Holds : Option (Life S) → Input → Result Output Error → Option (Life S) → Type 0
+  abbrev pub Holds : Option (MemberState S) → Input → Result Output Error → Option (MemberState S) → Type 0
   Holds old input result new = Handled meaning (at old) input result (at new)
 
   -- of one that runs
-  pub from-some : (life : Option (Life S)) (old : Life S) (input : Input) (result : Result Output Error) (new : Option (Life S)) → life ≡ Some old → Holds (Some old) input result new → Holds life input result new
-  from-some life old input result new is x = subst (λ (l : Option (Life S)). Holds l input result new) (sym is) x
+  pub from-some : (member_state : Option (MemberState S)) (old : MemberState S) (input : Input) (result : Result Output Error) (new : Option (MemberState S)) → member_state ≡ Some old → Holds (Some old) input result new → Holds member_state input result new
+  from-some member_state old input result new is x = subst (λ (l : Option (MemberState S)). Holds l input result new) (sym is) x
 
   -- ---- after the end, refused, and want of memory
 
@@ -119,13 +119,13 @@ module _ {S : Type 0} (meaning : Meaning S) (p : Address) (group : List ℕ) whe
     group = refl;
   }
 
-  refuses : (u b : Bool) (e : Error) (old : Life S) (input : Input) → b ≡ false → u ≡ false → refusal_in (core_at p old) input ≡ Some e
+  refuses : (u b : Bool) (e : Error) (old : MemberState S) (input : Input) → b ≡ false → u ≡ false → refusal_in (core_at p old) input ≡ Some e
       → MatchBool b (refusal_in (core_at p old) input ≡ None) (MatchBool u ((e ≡ Refused Closed) × (core_of (at (Some old)) ≡ None)) ((refusal_in (core_at p old) input ≡ Some e) × (at (Some old) ≡ at (Some old))))
   refuses u true e old input own readable refused = absurd (let n : true ≡ false = own in cc)
   refuses true false e old input own readable refused = absurd (let n : true ≡ false = readable in cc)
   refuses false false e old input own readable refused = (refused, refl)
 
-  pub refused-handled : (old : Life S) (input : Input) (e : Error) → refusal_in (core_at p old) input ≡ Some e → is_memory e ≡ false → is_unreadable meaning (at (Some old)) input ≡ false
+  pub refused-handled : (old : MemberState S) (input : Input) (e : Error) → refusal_in (core_at p old) input ≡ Some e → is_memory e ≡ false → is_unreadable meaning (at (Some old)) input ≡ false
       → is_ignored (at (Some old)) input ≡ false → IsRunning group p old → Holds (Some old) input (Err e) (Some old)
   refused-handled old input e refused own readable taken runs = record {
     acted = tt;
@@ -147,12 +147,12 @@ module _ {S : Type 0} (meaning : Meaning S) (p : Address) (group : List ℕ) whe
   }
 
   -- a message that it does not send
-  pub unsent-handled : (payload : Bor (List ℕ)) (old : Life S) (r : Refusal) → send_refusal (core_at p old) payload.now ≡ Some r → IsRunning group p old
+  pub unsent-handled : (payload : Bor (List ℕ)) (old : MemberState S) (r : Refusal) → send_refusal (core_at p old) payload.now ≡ Some r → IsRunning group p old
       → Holds (Some old) (Send payload) (Err (Refused r)) (Some old)
   unsent-handled payload old r refused runs =
       refused-handled old (Send payload) (Refused r) (ap (option_map Refused) refused) (unsent-own (core_at p old) payload.now r refused) refl refl runs
 
-  pub memory-handled : (old : Life S) (input : Input) → refusal_in (core_at p old) input ≡ None → is_ignored (at (Some old)) input ≡ false → Holds (Some old) input (Err (Refused Memory)) None
+  pub memory-handled : (old : MemberState S) (input : Input) → refusal_in (core_at p old) input ≡ None → is_ignored (at (Some old)) input ≡ false → Holds (Some old) input (Err (Refused Memory)) None
   memory-handled old input free taken = record {
     acted = tt;
     refused = free;
@@ -176,7 +176,7 @@ module _ {S : Type 0} (meaning : Meaning S) (p : Address) (group : List ℕ) whe
   unread true A e = (refl, refl)
   unread false A e = absurd (let n : false ≡ true = e in cc)
 
-  pub unreadable-handled : (old : Life S) (input : Input) → is_unreadable meaning (at (Some old)) input ≡ true → is_ignored (at (Some old)) input ≡ false → Holds (Some old) input (Err (Refused Closed)) None
+  pub unreadable-handled : (old : MemberState S) (input : Input) → is_unreadable meaning (at (Some old)) input ≡ true → is_ignored (at (Some old)) input ≡ false → Holds (Some old) input (Err (Refused Closed)) None
   unreadable-handled old input unreadable taken = record {
     acted = tt;
     refused = unread (is_unreadable meaning (at (Some old)) input) _ unreadable;
@@ -201,7 +201,7 @@ module _ {S : Type 0} (meaning : Meaning S) (p : Address) (group : List ℕ) whe
   ok-closed : (A : Type 0) (out : Output) → ◌≡◌ {A = Result Output Error} (Ok out) (Err (Refused Closed)) → A
   ok-closed A out e = absurd (cc)
 
-  pub ok-handled : (old new : Life S) (input : Input) (start out : Output) → Puts [] [] start → Did meaning (came_at (at (Some old)) input) group p old new start out
+  pub ok-handled : (old new : MemberState S) (input : Input) (start out : Output) → Puts [] [] start → Did meaning (came_at (at (Some old)) input) group p old new start out
       → refusal_in (core_at p old) input ≡ None → is_unreadable meaning (at (Some old)) input ≡ false
       → Replies (core_at p old) input out.events.items (Some (core_at p new)) → IsPrompt (core_at p old) input out.events.items
       → DoesBy meaning group p (came_at (at (Some old)) input) input old new start out
@@ -230,60 +230,60 @@ module _ {S : Type 0} (meaning : Meaning S) (p : Address) (group : List ℕ) whe
       }
 
   -- it stays connected, or not
-  stays-so : (b : Bool) (came : Option Posted) (old new : Life S) (start out : Output) → is_connected old ≡ b → (b ≡ false → is_connected new ≡ is_connected old)
+  stays-so : (b : Bool) (came : Option Posted) (old new : MemberState S) (start out : Output) → is_connected old ≡ b → (b ≡ false → is_connected new ≡ is_connected old)
       → Did meaning came group p old new start out → is_connected new ≡ is_connected old
   stays-so true came old new start out e off did = acted-connected meaning came (core_at p old) (core_at p new) did.posted did.happened did.acted e ∙ sym e
   stays-so false came old new start out e off did = off refl
 
-  pub stays-connected : (came : Option Posted) (old new : Life S) (start out : Output) → is_connected old ≡ true → Did meaning came group p old new start out
+  pub stays-connected : (came : Option Posted) (old new : MemberState S) (start out : Output) → is_connected old ≡ true → Did meaning came group p old new start out
       → is_connected new ≡ is_connected old
   stays-connected came old new start out on did = stays-so true came old new start out on (λ no. absurd (let n : true ≡ false = no in cc)) did
 
   -- ---- it makes a group, or asks to be let into one
 
-  pub create-handled : (old new : Life S) (start out : Output) → IsLife group p old → is_connected old ≡ false → Puts [] [] start → Creates group p old new start out → IsRunning group p new
+  pub create-handled : (old new : MemberState S) (start out : Output) → IsMemberState group p old → is_connected old ≡ false → Puts [] [] start → Creates group p old new start out → IsRunning group p new
       → Holds (Some old) Create (Ok out) (Some new)
   create-handled old new start out kept off nothing x runs =
       let happens : out.events.items ≡ Installed (lone_install p) ∷ [] = only start out _ nothing x.grows.events in
       ok-handled old new Create start out nothing (create-did meaning group p None old new start out kept off x)
-      (ap (λ b. if b then Some (Refused AlreadyConnected) else None) off) refl (happens, ap is_connected x.life) tt x (λ i. absurd (let n : false ≡ true = i in cc))
+      (ap (λ b. if b then Some (Refused AlreadyConnected) else None) off) refl (happens, ap is_connected x.member_state) tt x (λ i. absurd (let n : false ≡ true = i in cc))
       (subst (λ l. length l ≤ STEP_EVENTS) (sym happens) (omega arith)) runs
 
-  view-none : (traffic : Option Traffic) → traffic ≡ None → (if is_some (view_in traffic) then Some (Refused AlreadyConnected) else None) ≡ None
+  view-none : (view_state : Option ViewState) → view_state ≡ None → (if is_some (view_in view_state) then Some (Refused AlreadyConnected) else None) ≡ None
   view-none None e = refl
   view-none (Some t) e = absurd (none-some t (sym e))
 
-  pub join-handled : (contact : Address) (old new : Life S) (start out : Output) → IsLife group p old → old.traffic ≡ None → Puts [] [] start → Asks group p contact old new start out
+  pub join-handled : (contact : Address) (old new : MemberState S) (start out : Output) → IsMemberState group p old → old.view_state ≡ None → Puts [] [] start → Asks group p contact old new start out
       → IsRunning group p new → Holds (Some old) (Join contact) (Ok out) (Some new)
   join-handled contact old new start out kept none nothing x runs =
       let happens : out.events.items ≡ [] = only start out _ nothing x.grows.events in
-      ok-handled old new (Join contact) start out nothing (ask-did meaning group p None contact old new start out kept none x) (view-none old.traffic none) refl
-      (happens, ap is_connected x.life ∙ ap (λ (t : Option Traffic). is_some t || true) none) tt x (λ i. absurd (let n : false ≡ true = i in cc))
+      ok-handled old new (Join contact) start out nothing (ask-did meaning group p None contact old new start out kept none x) (view-none old.view_state none) refl
+      (happens, ap is_connected x.member_state ∙ ap (λ (t : Option ViewState). is_some t || true) none) tt x (λ i. absurd (let n : false ≡ true = i in cc))
       (subst (λ l. length l ≤ STEP_EVENTS) (sym happens) (omega arith)) runs
 
   -- ---- it does not, where it is connected, or in a view
 
-  pub connected-handled : (old : Life S) → is_connected old ≡ true → IsRunning group p old → Holds (Some old) Create (Err (Refused AlreadyConnected)) (Some old)
+  pub connected-handled : (old : MemberState S) → is_connected old ≡ true → IsRunning group p old → Holds (Some old) Create (Err (Refused AlreadyConnected)) (Some old)
   connected-handled old on runs = refused-handled old Create (Refused AlreadyConnected) (ap (λ b. if b then Some (Refused AlreadyConnected) else None) on) refl refl refl runs
 
-  view-some : (traffic : Option Traffic) → is_some traffic ≡ true → (if is_some (view_in traffic) then Some (Refused AlreadyConnected) else None) ≡ Some (Refused AlreadyConnected)
+  view-some : (view_state : Option ViewState) → is_some view_state ≡ true → (if is_some (view_in view_state) then Some (Refused AlreadyConnected) else None) ≡ Some (Refused AlreadyConnected)
   view-some None e = absurd (let n : false ≡ true = e in cc)
   view-some (Some t) e = refl
 
-  pub viewed-handled : (contact : Address) (old : Life S) → is_some old.traffic ≡ true → IsRunning group p old → Holds (Some old) (Join contact) (Err (Refused AlreadyConnected)) (Some old)
-  viewed-handled contact old there runs = refused-handled old (Join contact) (Refused AlreadyConnected) (view-some old.traffic there) refl refl refl runs
+  pub viewed-handled : (contact : Address) (old : MemberState S) → is_some old.view_state ≡ true → IsRunning group p old → Holds (Some old) (Join contact) (Err (Refused AlreadyConnected)) (Some old)
+  viewed-handled contact old there runs = refused-handled old (Join contact) (Refused AlreadyConnected) (view-some old.view_state there) refl refl refl runs
 
   -- ---- it sends
 
-  abbrev Said : Option Traffic → List ℕ → List Event → Type 0
-  Said traffic payload happened =
-      IsSomeAnd (view_in traffic) (λ v. happened ≡ Sent (record { member = p; view = v.id; message = record { number = (traffic_in traffic).sent + 1; payload = payload } }) ∷ drop 1 happened)
+  abbrev Said : Option ViewState → List ℕ → List Event → Type 0
+  Said view_state payload happened =
+      IsSomeAnd (view_in view_state) (λ v. happened ≡ Sent (record { member = p; view = v.id; message = record { number = (view_core_in view_state).sent + 1; payload = payload } }) ∷ drop 1 happened)
 
-  record IsSaid (traffic : Option Traffic) (payload : List ℕ) (happened : List Event) : Type 0 where
-    first : Said traffic payload happened
+  record IsSaid (view_state : Option ViewState) (payload : List ℕ) (happened : List Event) : Type 0 where
+    first : Said view_state payload happened
     quiet : list_all is_quiet (drop 1 happened) ≡ true
     few : length happened ≤ STEP_EVENTS
-    inside : is_some traffic ≡ true
+    inside : is_some view_state ≡ true
 
   said-by : (v : ViewId) (sent : ℕ) (payload : List ℕ) (start out : Output) → Puts [] [] start → SendsNext p v sent payload start out
       → (out.events.items ≡ Sent (record { member = p; view = v; message = record { number = sent + 1; payload = payload } }) ∷ drop 1 out.events.items)
@@ -296,75 +296,75 @@ module _ {S : Type 0} (meaning : Meaning S) (p : Address) (group : List ℕ) whe
         subst (λ l. length l ≤ STEP_EVENTS) (sym e) (let f : length x.more ≤ WINDOW = x.few in omega (arith, f)),
       )
 
-  said : (traffic : Option Traffic) (payload : List ℕ) (start out : Output) → Puts [] [] start
-      → ByKind (λ m. SendsNext p m.view.id m.forwards.sent payload start out) (λ m. SendsNext p m.view.id m.forwards.sent payload start out) ⊥ traffic → IsSaid traffic payload out.events.items
+  said : (view_state : Option ViewState) (payload : List ℕ) (start out : Output) → Puts [] [] start
+      → ByKind (λ m. SendsNext p m.view.id m.forwards.sent payload start out) (λ m. SendsNext p m.view.id m.forwards.sent payload start out) ⊥ view_state → IsSaid view_state payload out.events.items
   said None payload start out nothing x = absurd x
   said (Some (kinds.Coordinator m)) payload start out nothing x =
       let k = said-by m.view.id m.forwards.sent payload start out nothing x in record { first = k.0; quiet = k.1; few = k.2; inside = refl }
-  said (Some (kinds.Other m)) payload start out nothing x =
+  said (Some (kinds.Follower m)) payload start out nothing x =
       let k = said-by m.view.id m.forwards.sent payload start out nothing x in record { first = k.0; quiet = k.1; few = k.2; inside = refl }
 
-  abbrev DeliversPromptly : Option Traffic → List ℕ → List Event → Type 0
-  DeliversPromptly traffic payload happened =
-      IsSomeAnd (view_in traffic) (λ v. same_address p v.id.creator ≡ true → (traffic_in traffic).delivered < (traffic_in traffic).stable + WINDOW → (traffic_in traffic).delivered < GREATEST_NUMBER
-      → Contains happened (Delivered (record { member = p; view = v.id; message = record { sender = p; number = (traffic_in traffic).sent + 1; payload = payload } })))
+  abbrev DeliversPromptly : Option ViewState → List ℕ → List Event → Type 0
+  DeliversPromptly view_state payload happened =
+      IsSomeAnd (view_in view_state) (λ v. same_address p v.id.creator ≡ true → (view_core_in view_state).delivered < (view_core_in view_state).stable + WINDOW → (view_core_in view_state).delivered < GREATEST_NUMBER
+      → Contains happened (Delivered (record { member = p; view = v.id; message = record { sender = p; number = (view_core_in view_state).sent + 1; payload = payload } })))
 
   has-room : (d w g : ℕ) → d < w → d < g → nat_lt d w && nat_lt d g ≡ true
   has-room d w g x y = and_from (nat_lt d w) (nat_lt d g) (grind (arith, nat_tests)) (grind (arith, nat_tests))
 
-  at-once : (traffic : Option Traffic) (payload : List ℕ) (start out : Output) → Puts [] [] start → is_some traffic ≡ true → ForSome traffic (IsOrderly p)
-      → (has_room traffic ≡ true → ByKind (λ m. DeliversNext p m.view.id m.forwards.sent payload start out) (λ m. ⊥) ⊥ traffic) → DeliversPromptly traffic payload out.events.items
+  at-once : (view_state : Option ViewState) (payload : List ℕ) (start out : Output) → Puts [] [] start → is_some view_state ≡ true → ForSome view_state (IsOrderly p)
+      → (has_room view_state ≡ true → ByKind (λ m. DeliversNext p m.view.id m.forwards.sent payload start out) (λ m. ⊥) ⊥ view_state) → DeliversPromptly view_state payload out.events.items
   at-once None payload start out nothing inside ordered x = absurd (let n : false ≡ true = inside in cc)
   at-once (Some (kinds.Coordinator m)) payload start out nothing inside ordered x = λ own room left.
       let y = x (has-room m.window.delivered (m.window.stable + WINDOW) GREATEST_NUMBER room left) in
       let e = only start out _ nothing y.grows in
       subst (λ l. Contains l (Delivered (record { member = p; view = m.view.id; message = record { sender = p; number = m.forwards.sent + 1; payload = payload } }))) (sym e) (1, omega arith, refl)
-  at-once (Some (kinds.Other m)) payload start out nothing inside ordered x = λ own room left. absurd (let n : true ≡ false = sym own ∙ (ordered (kinds.Other m) refl).0 in cc)
+  at-once (Some (kinds.Follower m)) payload start out nothing inside ordered x = λ own room left. absurd (let n : true ≡ false = sym own ∙ (ordered (kinds.Follower m) refl).0 in cc)
 
-  connected-in : (traffic : Option Traffic) (b : Bool) → is_some traffic ≡ true → is_some traffic || b ≡ true
-  connected-in traffic b e = ap (λ x. x || b) e
+  connected-in : (view_state : Option ViewState) (b : Bool) → is_some view_state ≡ true → is_some view_state || b ≡ true
+  connected-in view_state b e = ap (λ x. x || b) e
 
-  pub send-handled : (payload : Bor (List ℕ)) (old new : Life S) (start out : Output) → IsOrdered p old → send_refusal (core_at p old) payload.now ≡ None → Puts [] [] start
+  pub send-handled : (payload : Bor (List ℕ)) (old new : MemberState S) (start out : Output) → IsOrdered p old → send_refusal (core_at p old) payload.now ≡ None → Puts [] [] start
       → Sends meaning group p payload.now old new start out → ((came : Option Posted) → Did meaning came group p old new start out)
-      → SendsFirst p payload.now old start out → (has_room old.traffic ≡ true → DeliversAtOnce p payload.now old start out) → IsRunning group p new → Holds (Some old) (Send payload) (Ok out) (Some new)
+      → SendsFirst p payload.now old start out → (has_room old.view_state ≡ true → DeliversAtOnce p payload.now old start out) → IsRunning group p new → Holds (Some old) (Send payload) (Ok out) (Some new)
   send-handled payload old new start out ordered free nothing sends did first prompt runs =
-      let s = said old.traffic payload.now start out nothing first in
-      let on : is_connected old ≡ true = connected-in old.traffic (is_some old.contact) s.inside in
+      let s = said old.view_state payload.now start out nothing first in
+      let on : is_connected old ≡ true = connected-in old.view_state (is_some old.contact) s.inside in
       ok-handled old new (Send payload) start out nothing (did None) (ap (option_map Refused) free) refl
       (record { first = s.first; quiet = s.quiet }, stays-connected None old new start out on (did None))
-      (at-once old.traffic payload.now start out nothing s.inside ordered prompt) sends (λ i. absurd (let n : false ≡ true = i in cc)) s.few runs
+      (at-once old.view_state payload.now start out nothing s.inside ordered prompt) sends (λ i. absurd (let n : false ≡ true = i in cc)) s.few runs
 
   -- it is sent, but for want of memory
-  pub unsaid-handled : (payload : Bor (List ℕ)) (old : Life S) → send_refusal (core_at p old) payload.now ≡ None → Holds (Some old) (Send payload) (Err (Refused Memory)) None
+  pub unsaid-handled : (payload : Bor (List ℕ)) (old : MemberState S) → send_refusal (core_at p old) payload.now ≡ None → Holds (Some old) (Send payload) (Err (Refused Memory)) None
   unsaid-handled payload old free = memory-handled old (Send payload) (ap (option_map Refused) free) refl
 
   -- ---- time passes
 
-  pub tick-handled : (old : Life S) (start out : Output) → Puts [] [] start → Ticks group p old start out → ((came : Option Posted) → Did meaning came group p old old start out) → IsCalm 0 start out
+  pub tick-handled : (old : MemberState S) (start out : Output) → Puts [] [] start → Ticks group p old start out → ((came : Option Posted) → Did meaning came group p old old start out) → IsCalm 0 start out
       → (is_connected old ≡ false → out ≡ start) → IsRunning group p old → Holds (Some old) Tick (Ok out) (Some old)
   tick-handled old start out nothing ticks did calm idle runs =
       ok-handled old old Tick start out nothing (did None) refl refl (calm-quiet 0 start out nothing calm, refl) tt (refl, ticks)
-      (λ i. (same-nothing start out nothing (idle (not-so (is_connected old) i)), refl)) (calm-few 0 start out nothing calm (omega arith)) runs
+      (λ i. (same-nothing start out nothing (idle (not-true (is_connected old) i)), refl)) (calm-few 0 start out nothing calm (omega arith)) runs
 
   -- ---- it hears of others
 
-  suspect-off : (q : Address) (old new : Life S) (start out : Output) → is_connected old ≡ false → OnSuspect meaning group p q old new start out → is_connected new ≡ is_connected old
+  suspect-off : (q : Address) (old new : MemberState S) (start out : Output) → is_connected old ≡ false → OnSuspect meaning group p q old new start out → is_connected new ≡ is_connected old
   suspect-off q old new start out off x =
       let none = outside group p old off in
-      let e : is_suspectable p q old ≡ false = ap (λ (t : Option Traffic). (is_some t && not (same_address q p)) && (has_member q old || has_promised q old)) none in
+      let e : is_suspectable p q old ≡ false = ap (λ (t : Option ViewState). (is_some t && not (same_address q p)) && (has_member q old || has_promised q old)) none in
       let y : StaysAs old new start out = subst (λ (b : Bool). MatchBool b (TakesSuspicion meaning group p q old new start out) (StaysAs old new start out)) e x in
       ap is_connected y.0
 
-  pub suspect-handled : (q : Address) (old new : Life S) (start out : Output) → IsLife group p old → Puts [] [] start → OnSuspect meaning group p q old new start out → IsCalm (WINDOW + 3) start out
+  pub suspect-handled : (q : Address) (old new : MemberState S) (start out : Output) → IsMemberState group p old → Puts [] [] start → OnSuspect meaning group p q old new start out → IsCalm (WINDOW + 3) start out
       → (is_suspectable p q old ≡ false → StaysAs old new start out) → IsRunning group p new → Holds (Some old) (Suspect q) (Ok out) (Some new)
   suspect-handled q old new start out kept nothing x calm stays runs =
       let did = suspect-did meaning group p None q old new start out kept x in
       ok-handled old new (Suspect q) start out nothing did refl refl
       (calm-quiet (WINDOW + 3) start out nothing calm, stays-so (is_connected old) None old new start out refl (λ off. suspect-off q old new start out off x) did) tt x
-      (λ i. let y = stays (not-so (is_suspectable p q old) i) in (same-nothing start out nothing y.1, ap {B = MemberModel S} (λ (l : Life S). at (Some l)) y.0))
+      (λ i. let y = stays (not-true (is_suspectable p q old) i) in (same-nothing start out nothing y.1, ap {B = MemberModel S} (λ (l : MemberState S). at (Some l)) y.0))
       (calm-few (WINDOW + 3) start out nothing calm (omega arith)) runs
 
-  pub hint-handled : (q : Address) (old : Life S) (start out : Output) → IsLife group p old → Puts [] [] start → AnnouncesView group p q old old start out
+  pub hint-handled : (q : Address) (old : MemberState S) (start out : Output) → IsMemberState group p old → Puts [] [] start → AnnouncesView group p q old old start out
       → (is_hint_ignored p q old ≡ true → out ≡ start) → IsRunning group p old → Holds (Some old) (MergeHint q) (Ok out) (Some old)
   hint-handled q old start out kept nothing x stays runs =
       let happens : out.events.items ≡ [] = only start out _ nothing x.grows.events in
@@ -373,7 +373,7 @@ module _ {S : Type 0} (meaning : Meaning S) (p : Address) (group : List ℕ) whe
 
   -- ---- it leaves
 
-  pub leave-handled : (old : Life S) (start out : Output) → Puts [] [] start → Leaves group p old start out → Holds (Some old) Leave (Ok out) None
+  pub leave-handled : (old : MemberState S) (start out : Output) → Puts [] [] start → Leaves group p old start out → Holds (Some old) Leave (Ok out) None
   leave-handled old start out nothing x =
       let left = leave-acted meaning group p None old start out x in
       let happens : out.events.items ≡ Left p ∷ [] = only start out _ nothing x.grows.events in
@@ -399,7 +399,7 @@ module _ {S : Type 0} (meaning : Meaning S) (p : Address) (group : List ℕ) whe
       }
 
   -- what it left is nothing
-  pub left-none : (life : Option (Life S)) (old : Life S) (input : Input) (result : Result Output Error) (new : Option (Life S)) → life ≡ Some old → new ≡ None → Holds (Some old) input result None
-      → Holds life input result new
-  left-none life old input result new is ended x =
-      from-some life old input result new is (subst (λ (l : Option (Life S)). Holds (Some old) input result l) (sym ended) x)
+  pub left-none : (member_state : Option (MemberState S)) (old : MemberState S) (input : Input) (result : Result Output Error) (new : Option (MemberState S)) → member_state ≡ Some old → new ≡ None → Holds (Some old) input result None
+      → Holds member_state input result new
+  left-none member_state old input result new is ended x =
+      from-some member_state old input result new is (subst (λ (l : Option (MemberState S)). Holds (Some old) input result l) (sym ended) x)

@@ -3,10 +3,10 @@ use Rattle.std.proofs.Common.{◌≡◌, true, Option, Some, None, List, [], ◌
 use Rattle.std.proofs.lemmas.Option.{none-some, same_Some}
 use Rattle.state_transfer.specs.Meanings.{Meaning}
 use Rattle.trace_props.specs.declared.event.Event.{Event}
-use Rattle.agreement.specs.Histories.{Posted}
-use Rattle.agreement.specs.Cores.{Core}
-use Rattle.agreement.specs.Acts.{Act, Creates, Joins, Puts, Sends, Queues, Orders, Hears, Collects, Holds, Delivers, Promises, Begins, Records, Finishes, Enters, Leaves, after}
-use Rattle.agreement.specs.Chains.{Chain, Acted}
+use Rattle.acts.specs.Histories.{Posted}
+use Rattle.acts.specs.Cores.{Core}
+use Rattle.acts.specs.Acts.{Act, Creates, Joins, Puts, Sends, Queues, Orders, TakesAck, Collects, Holds, Delivers, Promises, Begins, Records, Finishes, Enters, Leaves, after}
+use Rattle.acts.specs.Chains.{Chain, Acted}
 
 module _ {S : Type 0} (meaning : Meaning S) where
   so : (c d : Core S) (o : Core S) → ◌≡◌ {A = Option (Core S)} (Some o) (Some d) → o.connected ≡ true → d.connected ≡ true
@@ -19,7 +19,7 @@ module _ {S : Type 0} (meaning : Meaning S) where
   act-connected c d (Sends v payload) e on = so c d _ e on
   act-connected c d (Queues v m waiting) e on = so c d _ e on
   act-connected c d (Orders v m waiting held) e on = so c d _ e on
-  act-connected c d (Hears v q n) e on = so c d _ e on
+  act-connected c d (TakesAck v q n) e on = so c d _ e on
   act-connected c d (Collects v n held) e on = so c d _ e on
   act-connected c d (Holds v g m held) e on = so c d _ e on
   act-connected c d (Delivers v m) e on = so c d _ e on

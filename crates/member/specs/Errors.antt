@@ -3,7 +3,7 @@ use Rattle.std.specs.Prelude.{ℕ, Bool, false}
 use Rattle.limits.specs.declared.refusal.Refusal.{Refusal}
 use Rattle.limits.specs.declared.refusal.Refusal.TheVariants.{Closed, Memory}
 use Rattle.limits.specs.Refusals as refusals
-use Rattle.wire.specs.Reading.{error_number}
+use Rattle.wire_values.specs.Reading.{error_number}
 use Rattle.membership.specs.declared.stop.Stop.{Stop}
 use Rattle.membership.specs.declared.stop.Stop.TheVariants as stop
 use Rattle.member.specs.declared.error.Error.{Error}

@@ -10,12 +10,12 @@ use Rattle.state_transfer.specs.Meanings.{Meaning}
 use Rattle.trace_props.specs.declared.event.Event.{Event}
 use Rattle.trace_props.specs.declared.event.Event.TheVariants.{Sent, Delivered, Installed, Left}
 use Rattle.trace_props.specs.Recorded.{IsRecordable}
-use Rattle.agreement.specs.Histories.{Posted}
-use Rattle.agreement.specs.Cores.{Core}
-use Rattle.agreement.specs.Chains.{Acted}
-use Rattle.output.specs.declared.output.Output.{Output}
-use Rattle.output.specs.Outputs.{Puts, packet_in, spelled}
-pub use Rattle.output.specs.Calm.{is_quiet}
+use Rattle.acts.specs.Histories.{Posted}
+use Rattle.acts.specs.Cores.{Core}
+use Rattle.acts.specs.Chains.{Acted}
+use Rattle.step_output.specs.declared.output.Output.{Output}
+use Rattle.step_output.specs.Outputs.{Puts, packet_in, spelled}
+pub use Rattle.step_output.specs.Calm.{is_quiet}
 use Rattle.member.specs.Running.{IsAlive}
 use Rattle.member.specs.declared.error.Error.{Error}
 use Rattle.member.specs.declared.error.Error.TheVariants.{Refused}
@@ -56,7 +56,7 @@ pub record IsClosed {S : Type 0} (meaning : Meaning S) (old : MemberModel S) (in
 -- its message gets the next number, its Sent comes first, and no other Sent with it
 pub record SendsNext {S : Type 0} (c : Core S) (payload : List ℕ) (happened : List Event) : Type 0 where
   pub first : IsSomeAnd c.view (λ v.
-      happened ≡ Sent (record { member = c.me; view = v.id; message = record { number = c.traffic.sent + 1; payload = payload } }) ∷ drop 1 happened)
+      happened ≡ Sent (record { member = c.me; view = v.id; message = record { number = c.view_state.sent + 1; payload = payload } }) ∷ drop 1 happened)
   pub quiet : list_all is_quiet (drop 1 happened) ≡ true
 
 -- it runs on, and is connected or not as before
@@ -84,8 +84,8 @@ Replies c Leave happened end = (happened ≡ Left c.me ∷ []) × (end ≡ None)
 abbrev pub IsPrompt : {S : Type 0} → Core S → Input → List Event → Type 0
 IsPrompt c Create happened = Unit {0}
 IsPrompt c (Join contact) happened = Unit {0}
-IsPrompt c (Send payload) happened = IsSomeAnd c.view (λ v. same_address c.me v.id.creator ≡ true → c.traffic.delivered < c.traffic.stable + WINDOW → c.traffic.delivered < GREATEST_NUMBER
-    → Contains happened (Delivered (record { member = c.me; view = v.id; message = record { sender = c.me; number = c.traffic.sent + 1; payload = payload.now } })))
+IsPrompt c (Send payload) happened = IsSomeAnd c.view (λ v. same_address c.me v.id.creator ≡ true → c.view_state.delivered < c.view_state.stable + WINDOW → c.view_state.delivered < GREATEST_NUMBER
+    → Contains happened (Delivered (record { member = c.me; view = v.id; message = record { sender = c.me; number = c.view_state.sent + 1; payload = payload.now } })))
 IsPrompt c (Datagram bytes) happened = Unit {0}
 IsPrompt c Tick happened = Unit {0}
 IsPrompt c (Suspect q) happened = Unit {0}
@@ -104,6 +104,7 @@ Ignores old input result new = is_ignored old input ≡ true → IsNothing resul
 
 -- ---- all of it
 
+-- what one call promises: the clauses of `handle`
 pub record Handled {S : Type 0} (meaning : Meaning S) (old : MemberModel S) (input : Input) (result : Result Output Error) (new : MemberModel S) : Type 0 where
   pub acted : IfOk result (λ out. HasActed meaning old input out new)
   pub refused : RefusesAs (refusal_of old input) (is_unreadable meaning old input) old result new
@@ -116,6 +117,6 @@ pub record Handled {S : Type 0} (meaning : Meaning S) (old : MemberModel S) (inp
   pub short : IfOk result (λ out. IsRecordable out.events.items)
   pub ignored : Ignores old input result new
   -- what holds of a member between its calls
-  pub alive : IsAlive new.group new.address new.life
+  pub alive : IsAlive new.group new.address new.member_state
   pub address : new.address ≡ old.address
   pub group : new.group ≡ old.group

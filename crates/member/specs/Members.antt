@@ -3,19 +3,19 @@ use Rattle.std.specs.Prelude.{ℕ, Bool, true, false, not, is_some, List, Result
 use Rattle.std.specs.Option.{option_map, option_map_or, option_and_then}
 use Rattle.address.specs.Ids.{Address}
 use Rattle.limits.specs.declared.refusal.Refusal.TheVariants.{AlreadyConnected, Closed}
-use Rattle.wire.specs.declared.error.WireError.{WireError}
-use Rattle.wire.specs.declared.packet.Packet.{Packet}
-use Rattle.wire.specs.Values as wire
+use Rattle.wire_values.specs.declared.error.WireError.{WireError}
+use Rattle.wire_values.specs.declared.packet.Packet.{Packet}
+use Rattle.wire_values.specs.Values as wire
 use Rattle.wire.specs.Packets.{packet_of, wire_refusal}
 use Rattle.state_transfer.specs.Meanings.{Meaning}
-use Rattle.agreement.specs.Histories.{Posted}
-use Rattle.agreement.specs.Cores.{Core}
-use Rattle.agreement.specs.Steps.{handed}
-pub use Rattle.member_acts.specs.Decisions.{promise_of, is_fitting, is_entry, is_readable}
-use Rattle.output.specs.Names.{same_name}
-use Rattle.membership.specs.declared.life.Life.{Life}
-use Rattle.membership.specs.Lives.{core_of as core_at}
-pub use Rattle.membership.specs.Lives.{install_said}
+use Rattle.acts.specs.Histories.{Posted}
+use Rattle.acts.specs.Cores.{Core}
+use Rattle.acts.specs.Acts.{handed}
+pub use Rattle.decisions.specs.Decisions.{promise_of, is_fitting, is_entry, is_readable}
+use Rattle.step_output.specs.Names.{same_name}
+use Rattle.membership.specs.declared.member_state.MemberState.{MemberState}
+use Rattle.membership.specs.MemberStates.{core_of as core_at}
+pub use Rattle.wire_values.specs.Kinds.{install_said}
 pub use Rattle.member.specs.Hearing.{entry_of}
 pub use Rattle.member_views.specs.Firsts.{lone_install}
 pub use Rattle.member_messages.specs.Refusals.{send_refusal}
@@ -28,11 +28,11 @@ use Rattle.member.specs.declared.input.Input.TheVariants.{Create, Join, Send, Da
 pub record MemberModel (S : Type 0) : Type 0 where
   pub address : Address
   pub group : List ℕ
-  pub life : Option (Life S)
+  pub member_state : Option (MemberState S)
 
 -- what it decides by while it runs, in the words of agreement
 abbrev pub core_of : {S : Type 0} → MemberModel S → Option (Core S)
-core_of m = option_map (core_at m.address) m.life
+core_of m = option_map (core_at m.address) m.member_state
 
 -- whether a member ends by an input that it takes
 abbrev pub leaves : Input → Bool

@@ -6,7 +6,7 @@ ghost use Rattle.limits.specs.declared.refusal.Refusal.TheVariants as refusal;
 use limits::Refusal;
 use membership::Stop;
 use std::alloc::AllocError;
-use wire::WireError;
+use wire_values::WireError;
 
 /// Why a member refused an input, and a channel a call (docs/PROTOCOL.md, "Inputs and refusals"; docs/FORMATS.md, "Refusals"; docs/WIRE.md,
 /// "Reading, and which refusal comes first"). After 6 and 7 it has ended; after any other it is as before.

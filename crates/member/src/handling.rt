@@ -13,30 +13,30 @@ use address::Address;
 use limits::Refusal;
 use member_messages::{send, send_refusal};
 use member_views::{announce_view, ask, create, leave, on_suspect};
-use membership::Life;
-use output::{Identity, Output};
+use membership::MemberState;
 use state_transfer::Receiver;
+use step_output::{Identity, Output};
 use wire::decode;
 
 // Ends the member, which was refused memory, and answers that.
-fn end_without_memory<R: Receiver>(life: &mut Option<Life<R>>) -> Error
-    ensures ended { life.new ≡ None }
+fn end_without_memory<R: Receiver>(member_state: &mut Option<MemberState<R>>) -> Error
+    ensures ended { member_state.new ≡ None }
     ensures memory { result ≡ error.Refused refusal.Memory }
 {
-    *life = None;
+    *member_state = None;
     Error::Refused(Refusal::Memory)
 }
 
 // It makes a group of itself alone.
 pub(crate) fn create_group<R: Receiver>(
-    life: &mut Option<Life<R>>,
+    member_state: &mut Option<MemberState<R>>,
     who: &Identity,
 ) -> Result<Output, Error>
-    requires alive { IsAlive who.now.group who.now.address life.old }
-    ensures alive { IsAlive who.now.group who.now.address life.new }
-    ensures handled { Handled R.meaning (record { address = who.now.address; group = who.now.group; life = life.old }) input.Create result (record { address = who.now.address; group = who.now.group; life = life.new }) }
+    requires alive { IsAlive who.now.group who.now.address member_state.old }
+    ensures alive { IsAlive who.now.group who.now.address member_state.new }
+    ensures handled { Handled R.meaning (record { address = who.now.address; group = who.now.group; member_state = member_state.old }) input.Create result (record { address = who.now.address; group = who.now.group; member_state = member_state.new }) }
 {
-    let Some(running) = life else {
+    let Some(running) = member_state else {
         return Err(Error::Refused(Refusal::Closed));
     };
     if running.is_connected() {
@@ -45,44 +45,44 @@ pub(crate) fn create_group<R: Receiver>(
     let mut out = Output::nothing(who.alloc);
     match create(running, who, &mut out) {
         Ok(()) => Ok(out),
-        Err(_) => Err(end_without_memory(life)),
+        Err(_) => Err(end_without_memory(member_state)),
     }
 }
 
 // It asks a contact to be let in.
 pub(crate) fn join_group<R: Receiver>(
-    life: &mut Option<Life<R>>,
+    member_state: &mut Option<MemberState<R>>,
     who: &Identity,
     contact: Address,
 ) -> Result<Output, Error>
-    requires alive { IsAlive who.now.group who.now.address life.old }
-    ensures alive { IsAlive who.now.group who.now.address life.new }
-    ensures handled { Handled R.meaning (record { address = who.now.address; group = who.now.group; life = life.old }) (input.Join contact) result (record { address = who.now.address; group = who.now.group; life = life.new }) }
+    requires alive { IsAlive who.now.group who.now.address member_state.old }
+    ensures alive { IsAlive who.now.group who.now.address member_state.new }
+    ensures handled { Handled R.meaning (record { address = who.now.address; group = who.now.group; member_state = member_state.old }) (input.Join contact) result (record { address = who.now.address; group = who.now.group; member_state = member_state.new }) }
 {
-    let Some(running) = life else {
+    let Some(running) = member_state else {
         return Err(Error::Refused(Refusal::Closed));
     };
-    if running.traffic.is_some() {
+    if running.view_state.is_some() {
         return Err(Error::Refused(Refusal::AlreadyConnected));
     }
     let mut out = Output::nothing(who.alloc);
     match ask(running, who, contact, &mut out) {
         Ok(()) => Ok(out),
-        Err(_) => Err(end_without_memory(life)),
+        Err(_) => Err(end_without_memory(member_state)),
     }
 }
 
 // It sends a message.
 pub(crate) fn send_message<R: Receiver>(
-    life: &mut Option<Life<R>>,
+    member_state: &mut Option<MemberState<R>>,
     who: &Identity,
     payload: &[u8],
 ) -> Result<Output, Error>
-    requires alive { IsAlive who.now.group who.now.address life.old }
-    ensures alive { IsAlive who.now.group who.now.address life.new }
-    ensures handled { Handled R.meaning (record { address = who.now.address; group = who.now.group; life = life.old }) (input.Send payload.entry) result (record { address = who.now.address; group = who.now.group; life = life.new }) }
+    requires alive { IsAlive who.now.group who.now.address member_state.old }
+    ensures alive { IsAlive who.now.group who.now.address member_state.new }
+    ensures handled { Handled R.meaning (record { address = who.now.address; group = who.now.group; member_state = member_state.old }) (input.Send payload.entry) result (record { address = who.now.address; group = who.now.group; member_state = member_state.new }) }
 {
-    let Some(running) = life else {
+    let Some(running) = member_state else {
         return Err(Error::Refused(Refusal::Closed));
     };
     if let Some(refusal) = send_refusal(running, payload) {
@@ -91,21 +91,21 @@ pub(crate) fn send_message<R: Receiver>(
     let mut out = Output::nothing(who.alloc);
     match send(running, who, payload, &mut out) {
         Ok(()) => Ok(out),
-        Err(_) => Err(end_without_memory(life)),
+        Err(_) => Err(end_without_memory(member_state)),
     }
 }
 
 // A datagram came.
 pub(crate) fn take_datagram<R: Receiver>(
-    life: &mut Option<Life<R>>,
+    member_state: &mut Option<MemberState<R>>,
     who: &Identity,
     bytes: &[u8],
 ) -> Result<Output, Error>
-    requires alive { IsAlive who.now.group who.now.address life.old }
-    ensures alive { IsAlive who.now.group who.now.address life.new }
-    ensures handled { Handled R.meaning (record { address = who.now.address; group = who.now.group; life = life.old }) (input.Datagram bytes.entry) result (record { address = who.now.address; group = who.now.group; life = life.new }) }
+    requires alive { IsAlive who.now.group who.now.address member_state.old }
+    ensures alive { IsAlive who.now.group who.now.address member_state.new }
+    ensures handled { Handled R.meaning (record { address = who.now.address; group = who.now.group; member_state = member_state.old }) (input.Datagram bytes.entry) result (record { address = who.now.address; group = who.now.group; member_state = member_state.new }) }
 {
-    let Some(running) = life else {
+    let Some(running) = member_state else {
         return Err(Error::Refused(Refusal::Closed));
     };
     match decode(bytes) {
@@ -115,7 +115,7 @@ pub(crate) fn take_datagram<R: Receiver>(
             match take_packet(running, who, &packet, &mut out) {
                 Ok(()) => Ok(out),
                 Err(stop) => {
-                    *life = None;
+                    *member_state = None;
                     Err(Error::from(stop))
                 }
             }
@@ -124,71 +124,74 @@ pub(crate) fn take_datagram<R: Receiver>(
 }
 
 // Time passes.
-pub(crate) fn tick<R: Receiver>(life: &mut Option<Life<R>>, who: &Identity) -> Result<Output, Error>
-    requires alive { IsAlive who.now.group who.now.address life.old }
-    ensures alive { IsAlive who.now.group who.now.address life.new }
-    ensures handled { Handled R.meaning (record { address = who.now.address; group = who.now.group; life = life.old }) input.Tick result (record { address = who.now.address; group = who.now.group; life = life.new }) }
+pub(crate) fn tick<R: Receiver>(
+    member_state: &mut Option<MemberState<R>>,
+    who: &Identity,
+) -> Result<Output, Error>
+    requires alive { IsAlive who.now.group who.now.address member_state.old }
+    ensures alive { IsAlive who.now.group who.now.address member_state.new }
+    ensures handled { Handled R.meaning (record { address = who.now.address; group = who.now.group; member_state = member_state.old }) input.Tick result (record { address = who.now.address; group = who.now.group; member_state = member_state.new }) }
 {
-    let Some(running) = life else {
+    let Some(running) = member_state else {
         return Err(Error::Refused(Refusal::Closed));
     };
     let mut out = Output::nothing(who.alloc);
     match pass_time(running, who, &mut out) {
         Ok(()) => Ok(out),
-        Err(_) => Err(end_without_memory(life)),
+        Err(_) => Err(end_without_memory(member_state)),
     }
 }
 
 // Its failure detector suspects an address.
 pub(crate) fn suspect<R: Receiver>(
-    life: &mut Option<Life<R>>,
+    member_state: &mut Option<MemberState<R>>,
     who: &Identity,
     address: Address,
 ) -> Result<Output, Error>
-    requires alive { IsAlive who.now.group who.now.address life.old }
-    ensures alive { IsAlive who.now.group who.now.address life.new }
-    ensures handled { Handled R.meaning (record { address = who.now.address; group = who.now.group; life = life.old }) (input.Suspect address) result (record { address = who.now.address; group = who.now.group; life = life.new }) }
+    requires alive { IsAlive who.now.group who.now.address member_state.old }
+    ensures alive { IsAlive who.now.group who.now.address member_state.new }
+    ensures handled { Handled R.meaning (record { address = who.now.address; group = who.now.group; member_state = member_state.old }) (input.Suspect address) result (record { address = who.now.address; group = who.now.group; member_state = member_state.new }) }
 {
-    let Some(running) = life else {
+    let Some(running) = member_state else {
         return Err(Error::Refused(Refusal::Closed));
     };
     let mut out = Output::nothing(who.alloc);
     match on_suspect(running, who, address, &mut out) {
         Ok(()) => Ok(out),
-        Err(_) => Err(end_without_memory(life)),
+        Err(_) => Err(end_without_memory(member_state)),
     }
 }
 
 // A member of another view may be at an address.
 pub(crate) fn merge_hint<R: Receiver>(
-    life: &mut Option<Life<R>>,
+    member_state: &mut Option<MemberState<R>>,
     who: &Identity,
     address: Address,
 ) -> Result<Output, Error>
-    requires alive { IsAlive who.now.group who.now.address life.old }
-    ensures alive { IsAlive who.now.group who.now.address life.new }
-    ensures handled { Handled R.meaning (record { address = who.now.address; group = who.now.group; life = life.old }) (input.MergeHint address) result (record { address = who.now.address; group = who.now.group; life = life.new }) }
+    requires alive { IsAlive who.now.group who.now.address member_state.old }
+    ensures alive { IsAlive who.now.group who.now.address member_state.new }
+    ensures handled { Handled R.meaning (record { address = who.now.address; group = who.now.group; member_state = member_state.old }) (input.MergeHint address) result (record { address = who.now.address; group = who.now.group; member_state = member_state.new }) }
 {
-    let Some(running) = life else {
+    let Some(running) = member_state else {
         return Err(Error::Refused(Refusal::Closed));
     };
     let mut out = Output::nothing(who.alloc);
     match announce_view(running, who, address, &mut out) {
         Ok(()) => Ok(out),
-        Err(_) => Err(end_without_memory(life)),
+        Err(_) => Err(end_without_memory(member_state)),
     }
 }
 
 // It leaves the group, and ends.
 pub(crate) fn leave_group<R: Receiver>(
-    life: &mut Option<Life<R>>,
+    member_state: &mut Option<MemberState<R>>,
     who: &Identity,
 ) -> Result<Output, Error>
-    requires alive { IsAlive who.now.group who.now.address life.old }
-    ensures alive { IsAlive who.now.group who.now.address life.new }
-    ensures handled { Handled R.meaning (record { address = who.now.address; group = who.now.group; life = life.old }) input.Leave result (record { address = who.now.address; group = who.now.group; life = life.new }) }
+    requires alive { IsAlive who.now.group who.now.address member_state.old }
+    ensures alive { IsAlive who.now.group who.now.address member_state.new }
+    ensures handled { Handled R.meaning (record { address = who.now.address; group = who.now.group; member_state = member_state.old }) input.Leave result (record { address = who.now.address; group = who.now.group; member_state = member_state.new }) }
 {
-    let Some(running) = life.take() else {
+    let Some(running) = member_state.take() else {
         return Err(Error::Refused(Refusal::Closed));
     };
     let mut out = Output::nothing(who.alloc);

@@ -1,8 +1,8 @@
 ghost use Rattle.std.specs.Prelude.{◌≡◌, ◌≤◌, length, false, Some, IfOk};
 ghost use Rattle.std.specs.Option.{IsSomeAnd, option_copied, option_and_then, option_map, option_map_or};
 ghost use Rattle.trace_props.specs.Recorded.{IsRecordable};
-ghost use Rattle.agreement.specs.Cores.{idle, is_frozen};
-ghost use Rattle.membership.specs.Lives.{idle_life};
+ghost use Rattle.acts.specs.Cores.{idle, is_frozen};
+ghost use Rattle.membership.specs.MemberStates.{idle_member};
 ghost use Rattle.member.specs.Running.{IsAlive};
 ghost use Rattle.member.specs.Members.{core_of, refusal_of, is_unreadable};
 ghost use Rattle.member.specs.Doing.{Does};
@@ -16,20 +16,20 @@ use crate::watching::watched_in;
 use crate::{Error, Input};
 use address::Address;
 use limits::STEP_EVENTS;
-use membership::Life;
-use output::{Identity, KeptName, Output};
+use membership::MemberState;
 use state_transfer::Receiver;
 use std::alloc::{AllocError, Global};
 use std::marker::Model;
+use step_output::{Identity, Output, OwnedName};
 use view::View;
-use wire::GroupName;
+use wire_values::GroupName;
 
 /// A member of a group, with the receiver that it gives messages and views. Contracts see its address, its group and, while it runs, what it keeps
 /// (docs/PROTOCOL.md, "What a member keeps") and the core by which it decides (docs/PROOF.md, "Agreement over acts").
 #[derive(Drop)]
 pub struct Member<R: Receiver> {
     identity: Identity,
-    life: Option<Life<R>>,
+    member_state: Option<MemberState<R>>,
 }
 
 impl<R: Receiver> Model for Member<R> {
@@ -38,9 +38,9 @@ impl<R: Receiver> Model for Member<R> {
 
     ghost Value = { MemberModel R };
 
-    ghost view = { λ m. record { address = m.identity.address; group = m.identity.group; life = m.life } };
+    ghost view = { λ m. record { address = m.identity.address; group = m.identity.group; member_state = m.member_state } };
 
-    ghost invariant = { λ m. IsAlive m.identity.group m.identity.address m.life };
+    ghost invariant = { λ m. IsAlive m.identity.group m.identity.address m.member_state };
 }
 
 impl<R: Receiver> Member<R> {
@@ -48,17 +48,17 @@ impl<R: Receiver> Member<R> {
     pub fn new(alloc: Global, address: Address, group: GroupName<'_>, receiver: R) -> Member<R>
         ensures address { result.address ≡ address }
         ensures group { result.group ≡ group.entry }
-        ensures life { IsSomeAnd result.life (idle_life address receiver) }
+        ensures member_state { IsSomeAnd result.member_state (idle_member address receiver) }
         ensures core { core_of result ≡ Some (idle receiver address) }
-        ensures alive { IsAlive result.group result.address result.life }
+        ensures alive { IsAlive result.group result.address result.member_state }
     {
         Member {
             identity: Identity {
                 alloc,
                 address,
-                group: KeptName::of(&group),
+                group: OwnedName::of(&group),
             },
-            life: Some(Life::idle(alloc, address, receiver)),
+            member_state: Some(MemberState::idle(alloc, address, receiver)),
         }
     }
 
@@ -73,9 +73,9 @@ impl<R: Receiver> Member<R> {
     pub fn view(&self) -> Option<&View>
         ensures { option_copied result ≡ option_and_then (λ c. c.view) (core_of self.now) }
     {
-        match &self.life {
+        match &self.member_state {
             None => None,
-            Some(life) => life.view(),
+            Some(member_state) => member_state.view(),
         }
     }
 
@@ -83,9 +83,10 @@ impl<R: Receiver> Member<R> {
     pub fn is_blocked(&self) -> bool
         ensures { result ≡ option_map_or (λ c. is_frozen c.view c.installed) (core_of self.now) false }
     {
-        match &self.life {
+        match &self.member_state {
             None => false,
-            Some(life) => life.traffic.is_some() && !life.promise.is_installed(),
+            Some(member_state) => member_state.view_state.is_some()
+                && !member_state.promise.is_installed(),
         }
     }
 
@@ -93,9 +94,9 @@ impl<R: Receiver> Member<R> {
     pub fn receiver(&self) -> Option<&R>
         ensures { option_copied result ≡ option_map (λ c. c.state) (core_of self.now) }
     {
-        match &self.life {
+        match &self.member_state {
             None => None,
-            Some(life) => Some(&life.receiver),
+            Some(member_state) => Some(&member_state.receiver),
         }
     }
 
@@ -104,12 +105,12 @@ impl<R: Receiver> Member<R> {
     pub fn watched(&self) -> Result<Vec<Address>, AllocError>
         ensures { IfOk result (λ list. list.items ≡ watched self.now) }
     {
-        let Some(life) = &self.life else {
+        let Some(member_state) = &self.member_state else {
             return Ok(Vec::new(self.identity.alloc));
         };
-        match life.view() {
+        match member_state.view() {
             None => Ok(Vec::new(self.identity.alloc)),
-            Some(view) => watched_in(life, &self.identity, view),
+            Some(view) => watched_in(member_state, &self.identity, view),
         }
     }
 
@@ -139,20 +140,24 @@ impl<R: Receiver> Member<R> {
         // what it ignores leaves it as it was;
         ensures ignored { Ignores self.old input.entry result self.new }
         // and what holds of it between its calls holds: it is the coordinator of its view or another member of it, and its messages are in order.
-        ensures alive { IsAlive self.new.group self.new.address self.new.life }
+        ensures alive { IsAlive self.new.group self.new.address self.new.member_state }
         ensures address { self.new.address ≡ self.old.address }
         ensures group { self.new.group ≡ self.old.group }
     {
         // By its parts, since an enum that lends bytes gets no proof where it is passed on whole.
         match input {
-            Input::Create => create_group(&mut self.life, &self.identity),
-            Input::Join(contact) => join_group(&mut self.life, &self.identity, contact),
-            Input::Send(payload) => send_message(&mut self.life, &self.identity, payload),
-            Input::Datagram(bytes) => take_datagram(&mut self.life, &self.identity, bytes),
-            Input::Tick => tick(&mut self.life, &self.identity),
-            Input::Suspect(address) => suspect(&mut self.life, &self.identity, address),
-            Input::MergeHint(address) => merge_hint(&mut self.life, &self.identity, address),
-            Input::Leave => leave_group(&mut self.life, &self.identity),
+            Input::Create => create_group(&mut self.member_state, &self.identity),
+            Input::Join(contact) => join_group(&mut self.member_state, &self.identity, contact),
+            Input::Send(payload) => send_message(&mut self.member_state, &self.identity, payload),
+            Input::Datagram(bytes) => take_datagram(&mut self.member_state, &self.identity, bytes),
+            Input::Tick => tick(&mut self.member_state, &self.identity),
+            Input::Suspect(address) => suspect(&mut self.member_state, &self.identity, address),
+            Input::MergeHint(address) => merge_hint(
+                &mut self.member_state,
+                &self.identity,
+                address,
+            ),
+            Input::Leave => leave_group(&mut self.member_state, &self.identity),
         }
     }
 }

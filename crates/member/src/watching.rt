@@ -1,27 +1,29 @@
 //! Whom a member watches (docs/PROTOCOL.md, "Watched").
 
 ghost use Rattle.std.specs.Prelude.{◌≡◌, IfOk, OnOk, ◌++◌, not, filter};
-ghost use Rattle.std.specs.Option.{option_map_or, option_to_list};
-ghost use Rattle.agreement.specs.Acts.{others_of};
-ghost use Rattle.membership.specs.Lives.{view_in};
+ghost use Rattle.std.specs.Option.{option_to_list};
+ghost use Rattle.acts.specs.Acts.{others_of};
 ghost use Rattle.view.specs.Members.{stands_in};
 ghost use Rattle.member.specs.Watching.{awaited, others_in, watched_in};
 
 use address::Address;
 use flush::Flush;
-use membership::Life;
-use output::Identity;
+use membership::MemberState;
 use state_transfer::Receiver;
 use std::alloc::AllocError;
+use step_output::Identity;
 use view::View;
 
 // Who proposed what it promised, while it is blocked without a flush of its own and does not suspect that one.
-fn awaited<R: Receiver>(life: &Life<R>) -> Option<Address>
-    ensures { result ≡ awaited life.now }
+fn awaited<R: Receiver>(member_state: &MemberState<R>) -> Option<Address>
+    ensures { result ≡ awaited member_state.now }
 {
-    let proposal = life.promise.proposal()?;
+    let proposal = member_state.promise.proposal()?;
     let creator = proposal.id().creator();
-    if life.promise.is_installed() || life.flush.is_some() || life.notes.is_suspected(&creator) {
+    if member_state.promise.is_installed()
+        || member_state.flush.is_some()
+        || member_state.notes.is_suspected(&creator)
+    {
         return None;
     }
     Some(creator)
@@ -54,14 +56,14 @@ fn add_listed(flush: &Flush, view: &View, others: &mut Vec<Address>) -> Result<(
 
 // The others of its view, and those of the list of its own flush.
 fn all_others<R: Receiver>(
-    life: &Life<R>,
+    member_state: &MemberState<R>,
     who: &Identity,
     view: &View,
 ) -> Result<Vec<Address>, AllocError>
-    ensures { IfOk result (λ others. others.items ≡ others_in who.now.address view.now life.now.flush) }
+    ensures { IfOk result (λ others. others.items ≡ others_in who.now.address view.now member_state.now.flush) }
 {
     let mut others = others(who, view)?;
-    if let Some(flush) = &life.flush {
+    if let Some(flush) = &member_state.flush {
         add_listed(flush, view, &mut others)?;
     }
     Ok(others)
@@ -80,17 +82,17 @@ fn one(who: &Identity, address: Option<Address>) -> Result<Vec<Address>, AllocEr
 
 // Whom it watches in its view.
 pub(crate) fn watched_in<R: Receiver>(
-    life: &Life<R>,
+    member_state: &MemberState<R>,
     who: &Identity,
     view: &View,
 ) -> Result<Vec<Address>, AllocError>
-    ensures { IfOk result (λ list. list.items ≡ watched_in who.now.address life.now view.now) }
+    ensures { IfOk result (λ list. list.items ≡ watched_in who.now.address member_state.now view.now) }
 {
-    if let Some(creator) = awaited(life) {
+    if let Some(creator) = awaited(member_state) {
         return one(who, Some(creator));
     }
-    if life.notes.leads(view, &who.address) {
-        return all_others(life, who, view);
+    if member_state.notes.leads(view, &who.address) {
+        return all_others(member_state, who, view);
     }
-    one(who, life.notes.first_unsuspected(view))
+    one(who, member_state.notes.first_unsuspected(view))
 }

@@ -1,26 +1,22 @@
 -- What a member is delivered no input asks for.
-use Rattle.std.proofs.Common.{◌≡◌, ℕ, ◌+◌, Bool, true, false, List, [], ◌∷◌, ◌++◌, map, length, inl, inr, refl, sym, ap, ◌∙◌, subst, arith}
+use Rattle.std.proofs.Common.{◌≡◌, ℕ, ◌+◌, Bool, true, false, List, [], ◌∷◌, ◌++◌, map, length, inl, inr, sym, ap, ◌∙◌, subst, arith}
 use Rattle.std.proofs.lemmas.List.{append-nil, length-append}
 use Rattle.std.specs.Prelude.{MatchBool, nat_lt}
 use Rattle.std.specs.List.{list_all}
 use Rattle.limits.specs.declared.TheConstants.{WINDOW}
-use Rattle.address.specs.Ids.{Address, ViewId}
-use Rattle.wire.specs.Values.{Entry}
+use Rattle.address.specs.Ids.{Address}
+use Rattle.wire_values.specs.Values.{Entry}
 use Rattle.state_transfer.specs.Meanings.{Meaning}
 use Rattle.trace_props.specs.declared.event.Event.{Event}
-use Rattle.agreement.specs.Acts.{delivery}
-use Rattle.output.specs.declared.output.Output.{Output}
-use Rattle.output.specs.Outputs.{Grows}
-use Rattle.output.specs.Calm.{is_quiet, IsCalm}
-use Rattle.output.proofs.FactOfCalm.{calm-nothing}
+use Rattle.acts.specs.Acts.{delivery}
+use Rattle.step_output.specs.declared.output.Output.{Output}
+use Rattle.step_output.specs.Outputs.{Grows}
+use Rattle.step_output.specs.Calm.{is_quiet, IsCalm}
+use Rattle.step_output.proofs.FactOfCalm.{calm-nothing, deliveries-quiet}
 use Rattle.traffic.specs.declared.coordinator.Coordinator.{Coordinator}
-use Rattle.traffic.specs.declared.other.Other.{Other}
+use Rattle.traffic.specs.declared.follower.Follower.{Follower}
 use Rattle.traffic.specs.Turns.{Ordering, AcksOrdering, IsFew}
 use Rattle.traffic.specs.Takes.{TakesOrder, TakesNear, AsksUpTo, AnswersOrder, ack_of}
-
-pub deliveries-quiet : (p : Address) (v : ViewId) (entries : List Entry) → list_all is_quiet (map (delivery p v) entries) ≡ true
-deliveries-quiet p v [] = refl
-deliveries-quiet p v (e ∷ entries) = deliveries-quiet p v entries
 
 few-calm : (out later : Output) (hs : List Event) → later.events.items ≡ out.events.items ++ hs → list_all is_quiet hs ≡ true → IsFew out later → IsCalm WINDOW out later
 few-calm out later hs grows quiet few =
@@ -45,32 +41,32 @@ module _ {S : Type 0} (meaning : Meaning S) where
 
 -- ---- at another member
 
-silent-asks : (p : Address) (group : List ℕ) (g : ℕ) (m : Other) (out later : Output) → AsksUpTo p group g m out later → later.events.items ≡ out.events.items
+silent-asks : (p : Address) (group : List ℕ) (g : ℕ) (m : Follower) (out later : Output) → AsksUpTo p group g m out later → later.events.items ≡ out.events.items
 silent-asks p group g m out later (inl x) = x.grows.events ∙ append-nil out.events.items
 silent-asks p group g m out later (inr x) = ap (λ (o : Output). o.events.items) x.1
 
-silent-by : (b c : Bool) (p : Address) (group : List ℕ) (g : ℕ) (m : Other) (out later : Output)
+silent-by : (b c : Bool) (p : Address) (group : List ℕ) (g : ℕ) (m : Follower) (out later : Output)
     → MatchBool b (Grows group out later (ack_of p m ∷ []) []) (MatchBool c (AsksUpTo p group g m out later) (later ≡ out)) → later.events.items ≡ out.events.items
 silent-by true c p group g m out later x = x.events ∙ append-nil out.events.items
 silent-by false true p group g m out later x = silent-asks p group g m out later x
 silent-by false false p group g m out later x = ap (λ (o : Output). o.events.items) x
 
-silent-answer : (p : Address) (group : List ℕ) (before : ℕ) (new : Bool) (g : ℕ) (m : Other) (out later : Output) → AnswersOrder p group before new g m out later
+silent-answer : (p : Address) (group : List ℕ) (before : ℕ) (new : Bool) (g : ℕ) (m : Follower) (out later : Output) → AnswersOrder p group before new g m out later
     → later.events.items ≡ out.events.items
 silent-answer p group before new g m out later x = silent-by (nat_lt before m.window.delivered) new p group g m out later x
 
 module _ {S : Type 0} (meaning : Meaning S) where
-  near-calm : (p : Address) (group : List ℕ) (g : ℕ) (e : Entry) (m : Other) (s : S) (out : Output) (n : Other) (t : S) (later : Output) → TakesNear meaning p group g e m s out n t later → IsFew out later
+  near-calm : (p : Address) (group : List ℕ) (g : ℕ) (e : Entry) (m : Follower) (s : S) (out : Output) (n : Follower) (t : S) (later : Output) → TakesNear meaning p group g e m s out n t later → IsFew out later
       → IsCalm WINDOW out later
   near-calm p group g e m s out n t later x few =
       few-calm out later (map (delivery p m.view.id) x.delivers.entries) (silent-answer p group m.window.delivered _ g n x.between later x.answers ∙ x.delivers.grows.events)
       (deliveries-quiet p m.view.id x.delivers.entries) few
 
-  takes-by : (b : Bool) (p : Address) (group : List ℕ) (g : ℕ) (e : Entry) (m : Other) (s : S) (out : Output) (n : Other) (t : S) (later : Output)
+  takes-by : (b : Bool) (p : Address) (group : List ℕ) (g : ℕ) (e : Entry) (m : Follower) (s : S) (out : Output) (n : Follower) (t : S) (later : Output)
       → MatchBool b ((n ≡ m) × (t ≡ s) × (later ≡ out)) (TakesNear meaning p group g e m s out n t later) → IsFew out later → IsCalm WINDOW out later
   takes-by true p group g e m s out n t later x few = subst (λ (o : Output). IsCalm WINDOW out o) (sym x.2) (calm-nothing WINDOW out)
   takes-by false p group g e m s out n t later x few = near-calm p group g e m s out n t later x few
 
-  pub takes-calm : (p : Address) (group : List ℕ) (g : ℕ) (e : Entry) (m : Other) (s : S) (out : Output) (n : Other) (t : S) (later : Output) → TakesOrder meaning p group g e m s out n t later → IsFew out later
+  pub takes-calm : (p : Address) (group : List ℕ) (g : ℕ) (e : Entry) (m : Follower) (s : S) (out : Output) (n : Follower) (t : S) (later : Output) → TakesOrder meaning p group g e m s out n t later → IsFew out later
       → IsCalm WINDOW out later
   takes-calm p group g e m s out n t later x few = takes-by _ p group g e m s out n t later x few

@@ -4,13 +4,13 @@ use Rattle.std.specs.Prelude.{if◌then◌else◌}
 use Rattle.address.specs.Ids.{Address, same_address}
 use Rattle.view.specs.Members.{View}
 use Rattle.view.specs.View.{view_refusal}
-use Rattle.traffic.specs.declared.traffic.Traffic.TheVariants as kinds
-use Rattle.traffic.specs.Traffics.{fresh_coordinator, fresh_other, fresh_in}
+use Rattle.traffic.specs.declared.view_state.ViewState.TheVariants as kinds
+use Rattle.traffic.specs.ViewStates.{fresh_coordinator, fresh_follower, fresh_in}
 use Rattle.traffic.proofs.FactOfNewView.{fresh-is-coordinator, fresh-settled, fresh-rested}
 use Rattle.member_messages.specs.Ordered.{IsOrderly}
 
 fresh-by : (b : Bool) (me : Address) (v : View) → same_address me v.id.creator ≡ b → view_refusal v.id v.members ≡ None
-    → IsOrderly me (if b then kinds.Coordinator (fresh_coordinator v) else kinds.Other (fresh_other v))
+    → IsOrderly me (if b then kinds.Coordinator (fresh_coordinator v) else kinds.Follower (fresh_follower v))
 fresh-by true me v own sound = (fresh-is-coordinator me v own, fresh-settled me v own sound, fresh-rested v)
 fresh-by false me v own sound = (own, refl)
 

@@ -4,14 +4,14 @@ use Rattle.std.specs.Prelude.{MatchBool, nat_lt, if◌then◌else◌}
 use Rattle.limits.specs.declared.TheConstants.{WINDOW}
 use Rattle.address.specs.Ids.{Address, same_address}
 use Rattle.view.specs.Members.{View}
-use Rattle.wire.specs.Values.{Entry, Progress, held_at}
+use Rattle.wire_values.specs.Values.{Entry, Progress, held_at}
 use Rattle.state_transfer.specs.Meanings.{Meaning}
 use Rattle.nak_stream.specs.Windows.{WindowModel, collected, held_above}
 use Rattle.nak_stream.proofs.Windows.{held_at-above}
-use Rattle.output.specs.declared.output.Output.{Output}
-use Rattle.traffic.specs.declared.other.Other.{Other}
-use Rattle.traffic.specs.declared.traffic.Traffic.TheVariants as kinds
-use Rattle.traffic.specs.Others.{collected_to}
+use Rattle.step_output.specs.declared.output.Output.{Output}
+use Rattle.traffic.specs.declared.follower.Follower.{Follower}
+use Rattle.traffic.specs.declared.view_state.ViewState.TheVariants as kinds
+use Rattle.traffic.specs.Followers.{collected_to}
 use Rattle.traffic.specs.Takes.{TakesOrder, TakesNear, TakesStatus, AsksUpTo}
 use Rattle.member_messages.specs.Ordered.{HasNoneNext, IsOrderly}
 
@@ -28,29 +28,29 @@ next-collected : (t : ℕ) (w : WindowModel) → HasNoneNext w → HasNoneNext (
 next-collected t w none = next-by (nat_lt w.stable (min t w.delivered)) (min t w.delivered) w none
 
 -- of the same view, with no number that comes next
-pub other-orderly : (me : Address) (m n : Other) → IsOrderly me (kinds.Other m) → n.view ≡ m.view → HasNoneNext n.window → IsOrderly me (kinds.Other n)
+pub other-orderly : (me : Address) (m n : Follower) → IsOrderly me (kinds.Follower m) → n.view ≡ m.view → HasNoneNext n.window → IsOrderly me (kinds.Follower n)
 other-orderly me m n orderly same none = (subst (λ (v : View). same_address me v.id.creator ≡ false) (sym same) orderly.0, none)
 
 -- ---- an ORDER
 
 module _ {S : Type 0} (meaning : Meaning S) (me : Address) (group : List ℕ) where
-  order-by : (b : Bool) (g : ℕ) (e : Entry) (m : Other) (s : S) (out : Output) (n : Other) (t : S) (later : Output)
+  order-by : (b : Bool) (g : ℕ) (e : Entry) (m : Follower) (s : S) (out : Output) (n : Follower) (t : S) (later : Output)
       → MatchBool b ((n ≡ m) × (t ≡ s) × (later ≡ out)) (TakesNear meaning me group g e m s out n t later) → HasNoneNext m.window → HasNoneNext n.window
-  order-by true g e m s out n t later x none = subst (λ (o : Other). HasNoneNext o.window) (sym x.0) none
+  order-by true g e m s out n t later x none = subst (λ (o : Follower). HasNoneNext o.window) (sym x.0) none
   order-by false g e m s out n t later x none = x.ready
 
-  pub order-orderly : (g : ℕ) (e : Entry) (m : Other) (s : S) (out : Output) (n : Other) (t : S) (later : Output) → TakesOrder meaning me group g e m s out n t later → n.view ≡ m.view
-      → IsOrderly me (kinds.Other m) → IsOrderly me (kinds.Other n)
+  pub order-orderly : (g : ℕ) (e : Entry) (m : Follower) (s : S) (out : Output) (n : Follower) (t : S) (later : Output) → TakesOrder meaning me group g e m s out n t later → n.view ≡ m.view
+      → IsOrderly me (kinds.Follower m) → IsOrderly me (kinds.Follower n)
   order-orderly g e m s out n t later x same orderly = other-orderly me m n orderly same (order-by (nat_lt m.window.delivered (g - WINDOW)) g e m s out n t later x orderly.1)
 
 -- ---- a STATUS
 
-status-by : (b : Bool) (me : Address) (group : List ℕ) (a : Progress) (m : Other) (out : Output) (n : Other) (later : Output)
-    → MatchBool b ((n ≡ m) × (later ≡ out)) ((n ≡ collected_to a.stable m) × AsksUpTo me group a.highest n out later) → IsOrderly me (kinds.Other m) → IsOrderly me (kinds.Other n)
-status-by true me group a m out n later x orderly = subst (λ (o : Other). IsOrderly me (kinds.Other o)) (sym x.0) orderly
+status-by : (b : Bool) (me : Address) (group : List ℕ) (a : Progress) (m : Follower) (out : Output) (n : Follower) (later : Output)
+    → MatchBool b ((n ≡ m) × (later ≡ out)) ((n ≡ collected_to a.stable m) × AsksUpTo me group a.highest n out later) → IsOrderly me (kinds.Follower m) → IsOrderly me (kinds.Follower n)
+status-by true me group a m out n later x orderly = subst (λ (o : Follower). IsOrderly me (kinds.Follower o)) (sym x.0) orderly
 status-by false me group a m out n later x orderly =
-    subst (λ (o : Other). IsOrderly me (kinds.Other o)) (sym x.0) (other-orderly me m (collected_to a.stable m) orderly refl (next-collected a.stable m.window orderly.1))
+    subst (λ (o : Follower). IsOrderly me (kinds.Follower o)) (sym x.0) (other-orderly me m (collected_to a.stable m) orderly refl (next-collected a.stable m.window orderly.1))
 
-pub status-orderly : (me : Address) (group : List ℕ) (a : Progress) (m : Other) (out : Output) (n : Other) (later : Output) → TakesStatus me group a m out n later
-    → IsOrderly me (kinds.Other m) → IsOrderly me (kinds.Other n)
+pub status-orderly : (me : Address) (group : List ℕ) (a : Progress) (m : Follower) (out : Output) (n : Follower) (later : Output) → TakesStatus me group a m out n later
+    → IsOrderly me (kinds.Follower m) → IsOrderly me (kinds.Follower n)
 status-orderly me group a m out n later x orderly = status-by (nat_lt m.window.delivered a.stable || nat_lt m.window.delivered (a.highest - WINDOW)) me group a m out n later x orderly

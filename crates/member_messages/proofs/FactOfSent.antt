@@ -2,7 +2,7 @@
 use Rattle.std.proofs.Common.{◌≡◌, ℕ, ◌+◌, ◌-◌, Bool, true, false, not, ◌&&◌, Option, None, Some, List, [], ◌∷◌, ◌++◌, map, length, refl, sym, ap, ◌∙◌, append_assoc, subst, arith, is_some}
 use Rattle.std.specs.Prelude.{nat_lt, nat_le, if◌then◌else◌}
 use Rattle.std.proofs.lemmas.List.{length-append}
-use Rattle.std.proofs.lemmas.Bool.{and_parts}
+use Rattle.std.proofs.lemmas.Bool.{and_parts, not-false}
 use Rattle.std.proofs.lemmas.Bool.Decides.{nat_tests}
 use Rattle.std.proofs.lemmas.Option.{none-some}
 use Rattle.address.specs.Ids.{Address}
@@ -11,25 +11,25 @@ use Rattle.state_transfer.specs.Meanings.{Meaning}
 use Rattle.trace_props.specs.declared.event.Event.{Event}
 use Rattle.trace_props.specs.declared.event.Event.TheVariants.{Sent}
 use Rattle.sequencer.specs.Queues.{may_order}
-use Rattle.agreement.specs.Acts.{delivery}
-use Rattle.agreement.specs.Cores.{is_frozen}
-use Rattle.output.specs.declared.output.Output.{Output}
+use Rattle.acts.specs.Acts.{delivery}
+use Rattle.acts.specs.Cores.{is_frozen}
+use Rattle.step_output.specs.declared.output.Output.{Output}
 use Rattle.traffic.specs.declared.coordinator.Coordinator.{Coordinator}
-use Rattle.traffic.specs.declared.other.Other.{Other}
-use Rattle.traffic.specs.declared.traffic.Traffic.{Traffic}
-use Rattle.traffic.specs.declared.traffic.Traffic.TheVariants as kinds
+use Rattle.traffic.specs.declared.follower.Follower.{Follower}
+use Rattle.traffic.specs.declared.view_state.ViewState.{ViewState}
+use Rattle.traffic.specs.declared.view_state.ViewState.TheVariants as kinds
 use Rattle.traffic.specs.Coordinators.{IsCoordinator}
 use Rattle.traffic.specs.Goings.{sending}
-use Rattle.traffic.specs.Takes.{other_pushing, SendsForward}
+use Rattle.traffic.specs.Takes.{follower_pushing, SendsForward}
 use Rattle.traffic.specs.Turns.{SendsOrdering, DeliversOwnAtOnce, IsFewMore, own_entry}
-use Rattle.membership.specs.declared.life.Life.{Life}
-use Rattle.membership.specs.Lives.{core_of, view_in, traffic_in}
+use Rattle.membership.specs.declared.member_state.MemberState.{MemberState}
+use Rattle.membership.specs.MemberStates.{core_of, view_in, view_core_in}
 use Rattle.limits.specs.declared.refusal.Refusal.{Refusal}
 use Rattle.limits.specs.declared.refusal.Refusal.TheVariants.{NotConnected, TooLong, Blocked, Busy, Exhausted}
 use Rattle.member_messages.specs.Refusals.{send_refusal}
 use Rattle.member_messages.specs.Messages.{Sends, SendsNext, SendsFirst, DeliversNext, DeliversAtOnce, has_room}
 use Rattle.member_messages.proofs.FactOfOpen.{going_on}
-use Rattle.member_messages.proofs.FactOfCalm.{deliveries-quiet}
+use Rattle.step_output.proofs.FactOfCalm.{deliveries-quiet}
 
 -- ---- nothing refuses it
 
@@ -44,17 +44,13 @@ none-by false false false true e x = absurd (none-some _ (sym x))
 none-by false false false false true x = absurd (none-some _ (sym x))
 none-by false false false false false x = (refl, refl, refl, refl, refl)
 
-not-false : (b : Bool) → not b ≡ false → b ≡ true
-not-false true x = refl
-not-false false x = sym x
-
 -- it is in the view that is the promised one
-pub promised-in : {S : Type 0} (me : Address) (l : Life S) (payload : List ℕ) (t : Traffic) → send_refusal (core_of me l) payload ≡ None → l.traffic ≡ Some t → l.promise.is_installed ≡ true
+pub promised-in : {S : Type 0} (me : Address) (l : MemberState S) (payload : List ℕ) (t : ViewState) → send_refusal (core_of me l) payload ≡ None → l.view_state ≡ Some t → l.promise.is_installed ≡ true
 promised-in me l payload t free there =
-    let traffic = traffic_in l.traffic in
-    let parts = none-by (not (is_some (view_in l.traffic))) (nat_lt PAYLOAD (length payload)) (is_frozen (view_in l.traffic) l.promise.is_installed) (nat_le OUTSTANDING (length traffic.outstanding))
-    (nat_le GREATEST_NUMBER traffic.sent) free in
-    not-false l.promise.is_installed (subst (λ (o : Option Traffic). (is_some (view_in o) && not l.promise.is_installed) ≡ false) there parts.2)
+    let view_state = view_core_in l.view_state in
+    let parts = none-by (not (is_some (view_in l.view_state))) (nat_lt PAYLOAD (length payload)) (is_frozen (view_in l.view_state) l.promise.is_installed) (nat_le OUTSTANDING (length view_state.outstanding))
+    (nat_le GREATEST_NUMBER view_state.sent) free in
+    not-false l.promise.is_installed (subst (λ (o : Option ViewState). (is_some (view_in o) && not l.promise.is_installed) ≡ false) there parts.2)
 
 -- ---- what happens
 
@@ -86,22 +82,22 @@ room-fact p m i room =
 -- ---- of the whole member
 
 module _ {S : Type 0} (meaning : Meaning S) where
-  pub sends-first : (p : Address) (group x y : List ℕ) (l : Life S) (m : Coordinator) (out : Output) (n : Coordinator) (t : S) (later : Output) → y ≡ x → l.traffic ≡ Some (kinds.Coordinator m)
+  pub sends-first : (p : Address) (group x y : List ℕ) (l : MemberState S) (m : Coordinator) (out : Output) (n : Coordinator) (t : S) (later : Output) → y ≡ x → l.view_state ≡ Some (kinds.Coordinator m)
       → SendsOrdering meaning p group y m l.receiver out n t later → IsFewMore out later → SendsFirst p x l out later
   sends-first p group x y l m out n t later same there sent few =
       let next = subst (λ (z : List ℕ). SendsNext p m.view.id m.forwards.sent z out later) same (sends-next meaning p group y m l.receiver out n t later sent few) in
       rw there next
 
-  pub sends-other : (p : Address) (group x y : List ℕ) (l : Life S) (m : Other) (out : Output) (n : Other) (later : Output) → y ≡ x → l.traffic ≡ Some (kinds.Other m) → n ≡ other_pushing y m
-      → SendsForward p group y m out later → Sends meaning group p x l (going_on l (kinds.Other n) l.receiver) out later
+  pub sends-other : (p : Address) (group x y : List ℕ) (l : MemberState S) (m : Follower) (out : Output) (n : Follower) (later : Output) → y ≡ x → l.view_state ≡ Some (kinds.Follower m) → n ≡ follower_pushing y m
+      → SendsForward p group y m out later → Sends meaning group p x l (going_on l (kinds.Follower n) l.receiver) out later
   sends-other p group x y l m out n later same there now sent =
-      let does : (n ≡ other_pushing x m) × (l.receiver ≡ l.receiver) × SendsForward p group x m out later =
-      subst (λ (z : List ℕ). (n ≡ other_pushing z m) × (l.receiver ≡ l.receiver) × SendsForward p group z m out later) same (now, refl, sent) in
+      let does : (n ≡ follower_pushing x m) × (l.receiver ≡ l.receiver) × SendsForward p group x m out later =
+      subst (λ (z : List ℕ). (n ≡ follower_pushing z m) × (l.receiver ≡ l.receiver) × SendsForward p group z m out later) same (now, refl, sent) in
       (refl, rw there does)
 
-pub delivers-first : {S : Type 0} (p : Address) (x y : List ℕ) (l : Life S) (m : Coordinator) (out later : Output) → y ≡ x → l.traffic ≡ Some (kinds.Coordinator m) → IsCoordinator p m
-    → (may_order m.window.stable m.orderer ≡ true → DeliversOwnAtOnce p y m out later) → IsFewMore out later → has_room l.traffic ≡ true → DeliversAtOnce p x l out later
+pub delivers-first : {S : Type 0} (p : Address) (x y : List ℕ) (l : MemberState S) (m : Coordinator) (out later : Output) → y ≡ x → l.view_state ≡ Some (kinds.Coordinator m) → IsCoordinator p m
+    → (may_order m.window.stable m.orderer ≡ true → DeliversOwnAtOnce p y m out later) → IsFewMore out later → has_room l.view_state ≡ true → DeliversAtOnce p x l out later
 delivers-first p x y l m out later same there i prompt few room =
-    let here = subst (λ (o : Option Traffic). has_room o ≡ true) there room in
+    let here = subst (λ (o : Option ViewState). has_room o ≡ true) there room in
     let next = subst (λ (z : List ℕ). DeliversNext p m.view.id m.forwards.sent z out later) same (delivers-next p y m out later (prompt (room-fact p m i here)) few) in
     rw there next

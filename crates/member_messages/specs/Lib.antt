@@ -1,4 +1,4 @@
 pub mod Ordered
 pub mod Refusals
-pub mod Hears
+pub mod Heard
 pub mod Messages

@@ -3,94 +3,91 @@ use Rattle.std.specs.Prelude.{◌≡◌, ℕ, ◌+◌, ◌-◌, ◌≤◌, true,
 use Rattle.std.specs.List.{list_all}
 use Rattle.address.specs.Ids.{Address, ViewId}
 use Rattle.limits.specs.declared.TheConstants.{WINDOW, GREATEST_NUMBER}
-use Rattle.wire.specs.Values.{Entry, Missing, Progress}
-use Rattle.wire.specs.declared.packet.Body.TheVariants as bodies
+use Rattle.wire_values.specs.Values.{Entry, Missing, Progress}
+use Rattle.wire_values.specs.declared.packet.Body.TheVariants as bodies
 use Rattle.state_transfer.specs.Meanings.{Meaning}
 use Rattle.trace_props.specs.declared.event.Event.{Event}
 use Rattle.trace_props.specs.declared.event.Event.TheVariants.{Sent}
-use Rattle.agreement.specs.Acts.{packet, others_of, delivery}
-use Rattle.output.specs.declared.output.Output.{Output}
-use Rattle.output.specs.Outputs.{Grows}
-use Rattle.output.specs.Calm.{is_quiet}
+use Rattle.acts.specs.Acts.{packet, others_of, delivery}
+use Rattle.step_output.specs.declared.output.Output.{Output}
+use Rattle.step_output.specs.Outputs.{Grows}
+use Rattle.step_output.specs.Calm.{is_quiet}
 use Rattle.traffic.specs.declared.coordinator.Coordinator.{Coordinator}
-use Rattle.traffic.specs.declared.other.Other.{Other}
-use Rattle.traffic.specs.declared.traffic.Traffic.{Traffic}
-use Rattle.traffic.specs.declared.traffic.Traffic.TheVariants as kinds
+use Rattle.traffic.specs.declared.follower.Follower.{Follower}
+use Rattle.traffic.specs.declared.view_state.ViewState.{ViewState}
+use Rattle.traffic.specs.declared.view_state.ViewState.TheVariants as kinds
 use Rattle.traffic.specs.Coordinators.{queued}
 use Rattle.traffic.specs.Goings.{sending}
 use Rattle.traffic.specs.Turns.{OrdersAll, AcksOrdering, SendsOrdering}
-use Rattle.traffic.specs.Takes.{TakesOrder, TakesStatus, forward_of, ack_of, orders_held, progress_of, other_pushing, SendsForward}
-use Rattle.membership.specs.declared.life.Life.{Life}
-use Rattle.member_messages.specs.Hears.{takes_forward, takes_nak, takes_ack, takes_order, takes_status, is_coordinator_that}
+use Rattle.traffic.specs.Takes.{TakesOrder, TakesStatus, forward_of, ack_of, orders_held, progress_of, follower_pushing, SendsForward}
+use Rattle.membership.specs.declared.member_state.MemberState.{MemberState}
+use Rattle.member_messages.specs.Heard.{takes_forward, takes_nak, takes_ack, takes_order, takes_status, is_coordinator_that}
+use Rattle.membership.specs.Changes.{StaysAs}
 
 -- a fact by what a member is in its view: its coordinator, another member of it, or in none
-abbrev pub ByKind : (Coordinator → Type 0) → (Other → Type 0) → Type 0 → Option Traffic → Type 0
-ByKind OfCoordinator OfOther OfNone None = OfNone
-ByKind OfCoordinator OfOther OfNone (Some (kinds.Coordinator m)) = OfCoordinator m
-ByKind OfCoordinator OfOther OfNone (Some (kinds.Other m)) = OfOther m
-
--- nothing was done
-abbrev pub StaysAs : {S : Type 0} → Life S → Life S → Output → Output → Type 0
-StaysAs old new out later = (new ≡ old) × (later ≡ out)
+abbrev pub ByKind : (Coordinator → Type 0) → (Follower → Type 0) → Type 0 → Option ViewState → Type 0
+ByKind OfCoordinator OfFollower OfNone None = OfNone
+ByKind OfCoordinator OfFollower OfNone (Some (kinds.Coordinator m)) = OfCoordinator m
+ByKind OfCoordinator OfFollower OfNone (Some (kinds.Follower m)) = OfFollower m
 
 -- all is as before but what is kept of the view and the state of the receiver
-abbrev pub IsSameBeside : {S : Type 0} → Life S → Life S → Type 0
-IsSameBeside old new = new ≡ record old { traffic = new.traffic; receiver = new.receiver }
+abbrev pub IsSameBeside : {S : Type 0} → MemberState S → MemberState S → Type 0
+IsSameBeside old new = new ≡ record old { view_state = new.view_state; receiver = new.receiver }
 
 -- it is the coordinator of its view, and it did this
-abbrev pub AtCoordinator : {S : Type 0} → (Coordinator → Coordinator → Type 0) → Life S → Life S → Type 0
-AtCoordinator Does old new = IsSameBeside old new × ByKind (λ m. ByKind (Does m) (λ n. ⊥) ⊥ new.traffic) (λ m. ⊥) ⊥ old.traffic
+abbrev pub AtCoordinator : {S : Type 0} → (Coordinator → Coordinator → Type 0) → MemberState S → MemberState S → Type 0
+AtCoordinator Does old new = IsSameBeside old new × ByKind (λ m. ByKind (Does m) (λ n. ⊥) ⊥ new.view_state) (λ m. ⊥) ⊥ old.view_state
 
 -- it is another member of its view, and it did this
-abbrev pub AtOther : {S : Type 0} → (Other → Other → Type 0) → Life S → Life S → Type 0
-AtOther Does old new = IsSameBeside old new × ByKind (λ m. ⊥) (λ m. ByKind (λ n. ⊥) (Does m) ⊥ new.traffic) ⊥ old.traffic
+abbrev pub AtFollower : {S : Type 0} → (Follower → Follower → Type 0) → MemberState S → MemberState S → Type 0
+AtFollower Does old new = IsSameBeside old new × ByKind (λ m. ⊥) (λ m. ByKind (λ n. ⊥) (Does m) ⊥ new.view_state) ⊥ old.view_state
 
 -- ---- packets of messages: ignored, or taken
 
 -- a FORWARD: its message waits, and all is ordered that may be
-abbrev pub OnForward : {S : Type 0} → Meaning S → List ℕ → Address → Address → ViewId → ℕ → List ℕ → Life S → Life S → Output → Output → Type 0
+abbrev pub OnForward : {S : Type 0} → Meaning S → List ℕ → Address → Address → ViewId → ℕ → List ℕ → MemberState S → MemberState S → Output → Output → Type 0
 OnForward meaning group me source id number payload old new out later =
     MatchBool (takes_forward source id old)
     (AtCoordinator (λ m n. OrdersAll meaning me group (queued source number payload m) old.receiver out n new.receiver later) old new)
     (StaysAs old new out later)
 
 -- an ACK: it is noted, and all is ordered that may be
-abbrev pub OnAck : {S : Type 0} → Meaning S → List ℕ → Address → Address → ViewId → ℕ → Life S → Life S → Output → Output → Type 0
+abbrev pub OnAck : {S : Type 0} → Meaning S → List ℕ → Address → Address → ViewId → ℕ → MemberState S → MemberState S → Output → Output → Type 0
 OnAck meaning group me source id count old new out later =
     MatchBool (takes_ack source id count old)
     (AtCoordinator (λ m n. AcksOrdering meaning me group source count m old.receiver out n new.receiver later) old new)
     (StaysAs old new out later)
 
 -- a NAK: the ORDERs that it asks for go to its source
-abbrev pub OnNak : {S : Type 0} → List ℕ → Address → Address → ViewId → Missing → Life S → Life S → Output → Output → Type 0
+abbrev pub OnNak : {S : Type 0} → List ℕ → Address → Address → ViewId → Missing → MemberState S → MemberState S → Output → Output → Type 0
 OnNak group me source id missing old new out later =
     MatchBool (takes_nak source id old)
-    ((new ≡ old) × ByKind (λ m. Grows group out later (orders_held me m.view source m.window.held missing.first (missing.last + 1 - missing.first)) []) (λ m. ⊥) ⊥ old.traffic)
+    ((new ≡ old) × ByKind (λ m. Grows group out later (orders_held me m.view source m.window.held missing.first (missing.last + 1 - missing.first)) []) (λ m. ⊥) ⊥ old.view_state)
     (StaysAs old new out later)
 
 -- an ORDER: held, delivered in turn, and answered
-abbrev pub OnOrder : {S : Type 0} → Meaning S → List ℕ → Address → Address → ViewId → ℕ → Entry → Life S → Life S → Output → Output → Type 0
+abbrev pub OnOrder : {S : Type 0} → Meaning S → List ℕ → Address → Address → ViewId → ℕ → Entry → MemberState S → MemberState S → Output → Output → Type 0
 OnOrder meaning group me source id place entry old new out later =
     MatchBool (takes_order source id place old)
-    (AtOther (λ m n. TakesOrder meaning me group place entry m old.receiver out n new.receiver later) old new)
+    (AtFollower (λ m n. TakesOrder meaning me group place entry m old.receiver out n new.receiver later) old new)
     (StaysAs old new out later)
 
 -- a STATUS: what is stable is let go of, and what is missing asked for
-abbrev pub OnStatus : {S : Type 0} → List ℕ → Address → Address → ViewId → Progress → Life S → Life S → Output → Output → Type 0
+abbrev pub OnStatus : {S : Type 0} → List ℕ → Address → Address → ViewId → Progress → MemberState S → MemberState S → Output → Output → Type 0
 OnStatus group me source id progress old new out later =
     MatchBool (takes_status source id progress old)
-    (AtOther (λ m n. TakesStatus me group progress m out n later × (new.receiver ≡ old.receiver)) old new)
+    (AtFollower (λ m n. TakesStatus me group progress m out n later × (new.receiver ≡ old.receiver)) old new)
     (StaysAs old new out later)
 
 -- ---- a message of its own
 
 -- the coordinator orders it where it may; another member puts out its FORWARD
-abbrev pub Sends : {S : Type 0} → Meaning S → List ℕ → Address → List ℕ → Life S → Life S → Output → Output → Type 0
+abbrev pub Sends : {S : Type 0} → Meaning S → List ℕ → Address → List ℕ → MemberState S → MemberState S → Output → Output → Type 0
 Sends meaning group me payload old new out later =
     IsSameBeside old new × ByKind
-    (λ m. ByKind (λ n. SendsOrdering meaning me group payload m old.receiver out n new.receiver later) (λ n. ⊥) ⊥ new.traffic)
-    (λ m. ByKind (λ n. ⊥) (λ n. (n ≡ other_pushing payload m) × (new.receiver ≡ old.receiver) × SendsForward me group payload m out later) ⊥ new.traffic)
-    ⊥ old.traffic
+    (λ m. ByKind (λ n. SendsOrdering meaning me group payload m old.receiver out n new.receiver later) (λ n. ⊥) ⊥ new.view_state)
+    (λ m. ByKind (λ n. ⊥) (λ n. (n ≡ follower_pushing payload m) × (new.receiver ≡ old.receiver) × SendsForward me group payload m out later) ⊥ new.view_state)
+    ⊥ old.view_state
 
 -- the first event is that it is sent, under the next number; what else happens no input asks for
 pub record SendsNext (me : Address) (v : ViewId) (sent : ℕ) (payload : List ℕ) (out later : Output) : Type 0 where
@@ -99,13 +96,13 @@ pub record SendsNext (me : Address) (v : ViewId) (sent : ℕ) (payload : List �
   pub few : length more ≤ WINDOW
   pub quiet : list_all is_quiet more ≡ true
 
-abbrev pub SendsFirst : {S : Type 0} → Address → List ℕ → Life S → Output → Output → Type 0
+abbrev pub SendsFirst : {S : Type 0} → Address → List ℕ → MemberState S → Output → Output → Type 0
 SendsFirst me payload old out later =
-    ByKind (λ m. SendsNext me m.view.id m.forwards.sent payload out later) (λ m. SendsNext me m.view.id m.forwards.sent payload out later) ⊥ old.traffic
+    ByKind (λ m. SendsNext me m.view.id m.forwards.sent payload out later) (λ m. SendsNext me m.view.id m.forwards.sent payload out later) ⊥ old.view_state
 
 -- whether one more message may be ordered at the coordinator of the view
-abbrev pub has_room : Option Traffic → Bool
-has_room traffic = is_coordinator_that (λ m. nat_lt m.window.delivered (m.window.stable + WINDOW) && nat_lt m.window.delivered GREATEST_NUMBER) traffic
+abbrev pub has_room : Option ViewState → Bool
+has_room view_state = is_coordinator_that (λ m. nat_lt m.window.delivered (m.window.stable + WINDOW) && nat_lt m.window.delivered GREATEST_NUMBER) view_state
 
 -- right after it is sent it is delivered to the member itself
 pub record DeliversNext (me : Address) (v : ViewId) (sent : ℕ) (payload : List ℕ) (out later : Output) : Type 0 where
@@ -115,14 +112,14 @@ pub record DeliversNext (me : Address) (v : ViewId) (sent : ℕ) (payload : List
   pub few : length more ≤ WINDOW - 1
   pub quiet : list_all is_quiet more ≡ true
 
-abbrev pub DeliversAtOnce : {S : Type 0} → Address → List ℕ → Life S → Output → Output → Type 0
-DeliversAtOnce me payload old out later = ByKind (λ m. DeliversNext me m.view.id m.forwards.sent payload out later) (λ m. ⊥) ⊥ old.traffic
+abbrev pub DeliversAtOnce : {S : Type 0} → Address → List ℕ → MemberState S → Output → Output → Type 0
+DeliversAtOnce me payload old out later = ByKind (λ m. DeliversNext me m.view.id m.forwards.sent payload out later) (λ m. ⊥) ⊥ old.view_state
 
 -- ---- a tick
 
 -- the coordinator announces to the others how far its order has come; another member puts out its outstanding messages again, and how far it has come
-abbrev pub TicksInView : {S : Type 0} → List ℕ → Address → Life S → Output → Output → Type 0
+abbrev pub TicksInView : {S : Type 0} → List ℕ → Address → MemberState S → Output → Output → Type 0
 TicksInView group me l out later = ByKind
     (λ m. Grows group out later (map (packet me (bodies.Status m.view.id (progress_of m.window))) (others_of me m.view.members)) [])
     (λ m. Grows group out later (map (forward_of me m.view) m.forwards.rest ++ ack_of me m ∷ []) [])
-    (later ≡ out) l.traffic
+    (later ≡ out) l.view_state

@@ -1,30 +1,31 @@
 //! The packets of messages that the coordinator of a view takes.
 
-ghost use Rattle.std.specs.Prelude.{◌≡◌, Option, Some, false, Ok, OnOk};
+ghost use Rattle.std.specs.Prelude.{◌≡◌, Some, false, Ok, OnOk};
 ghost use Rattle.limits.specs.declared.TheConstants.{WINDOW};
 ghost use Rattle.address.specs.Ids.{same_address};
-ghost use Rattle.wire.specs.declared.packet.Body.TheVariants as bodies;
-ghost use Rattle.agreement.specs.Acts.{packet};
-ghost use Rattle.output.specs.Calm.{IsCalm};
-ghost use Rattle.membership.specs.Lives.{IsLife};
+ghost use Rattle.wire_values.specs.declared.packet.Body.TheVariants as bodies;
+ghost use Rattle.acts.specs.Acts.{packet};
+ghost use Rattle.step_output.specs.Calm.{IsCalm};
+ghost use Rattle.membership.specs.MemberStates.{IsMemberState};
 ghost use Rattle.membership.specs.Doing.{Did};
 ghost use Rattle.member_messages.specs.Ordered.{IsOrdered};
-ghost use Rattle.member_messages.specs.Hears.{takes_forward, takes_ack, takes_nak};
-ghost use Rattle.member_messages.specs.Messages.{OnForward, OnAck, OnNak, StaysAs};
+ghost use Rattle.member_messages.specs.Heard.{takes_forward, takes_ack, takes_nak};
+ghost use Rattle.member_messages.specs.Messages.{OnForward, OnAck, OnNak};
+ghost use Rattle.membership.specs.Changes.{StaysAs};
 
 use crate::hearing::{takes_ack, takes_forward};
 use address::{Address, ViewId};
-use membership::Life;
-use output::{Identity, Output};
+use membership::MemberState;
 use state_transfer::Receiver;
 use std::alloc::AllocError;
-use traffic::Traffic;
-use wire::{Count, Missing, Number, Payload};
+use step_output::{Identity, Output};
+use traffic::ViewState;
+use wire_values::{Count, Missing, Number, Payload};
 
 /// A FORWARD: where it is taken, its message waits where it is new and at most `OUTSTANDING` past its source's ordered ones, and all is ordered that may be. Any
 /// other is ignored, and takes no memory. After an error for want of memory nothing is said of the member.
 pub fn on_forward<R: Receiver>(
-    life: &mut Life<R>,
+    member_state: &mut MemberState<R>,
     who: &Identity,
     source: &Address,
     view: ViewId,
@@ -32,24 +33,31 @@ pub fn on_forward<R: Receiver>(
     payload: &Payload<'_>,
     out: &mut Output,
 ) -> Result<(), AllocError>
-    requires life { IsLife who.now.group who.now.address life.old }
-    requires ordered { IsOrdered who.now.address life.old }
+    requires member_state { IsMemberState who.now.group who.now.address member_state.old }
+    requires ordered { IsOrdered who.now.address member_state.old }
     requires other { same_address source.now who.now.address ≡ false }
-    ensures life { OnOk result (IsLife who.now.group who.now.address life.new) }
-    ensures ordered { OnOk result (IsOrdered who.now.address life.new) }
-    ensures does { OnOk result (OnForward R.meaning who.now.group who.now.address source.now view number payload.now life.old life.new out.old out.new) }
-    ensures did { OnOk result (Did R.meaning (Some (packet source.now (bodies.Forward view number payload.now) who.now.address)) who.now.group who.now.address life.old life.new out.old out.new) }
+    ensures member_state { OnOk result (IsMemberState who.now.group who.now.address member_state.new) }
+    ensures ordered { OnOk result (IsOrdered who.now.address member_state.new) }
+    ensures does { OnOk result (OnForward R.meaning who.now.group who.now.address source.now view number payload.now member_state.old member_state.new out.old out.new) }
+    ensures did { OnOk result (Did R.meaning (Some (packet source.now (bodies.Forward view number payload.now) who.now.address)) who.now.group who.now.address member_state.old member_state.new out.old out.new) }
     ensures calm { OnOk result (IsCalm WINDOW out.old out.new) }
-    ensures ignored { takes_forward source.now view life.old ≡ false → (result ≡ Ok tt) × StaysAs life.old life.new out.old out.new }
+    ensures ignored { takes_forward source.now view member_state.old ≡ false → (result ≡ Ok tt) × StaysAs member_state.old member_state.new out.old out.new }
 {
-    if !takes_forward(life, source, view) {
+    if !takes_forward(member_state, source, view) {
         return Ok(());
     }
-    match &mut life.traffic {
+    match &mut member_state.view_state {
         None => Ok(()),
-        Some(Traffic::Other(_)) => Ok(()),
-        Some(Traffic::Coordinator(coordinator)) => {
-            coordinator.forward(who, source, number, payload, &mut life.receiver, out)?;
+        Some(ViewState::Follower(_)) => Ok(()),
+        Some(ViewState::Coordinator(coordinator)) => {
+            coordinator.forward(
+                who,
+                source,
+                number,
+                payload,
+                &mut member_state.receiver,
+                out,
+            )?;
             Ok(())
         }
     }
@@ -58,32 +66,32 @@ pub fn on_forward<R: Receiver>(
 /// An ACK: where it is taken, what is stable by it is let go of, and all is ordered that may be. Any other is ignored, and takes no memory. After an
 /// error for want of memory nothing is said of the member.
 pub fn on_ack<R: Receiver>(
-    life: &mut Life<R>,
+    member_state: &mut MemberState<R>,
     who: &Identity,
     source: &Address,
     view: ViewId,
     delivered: Count,
     out: &mut Output,
 ) -> Result<(), AllocError>
-    requires life { IsLife who.now.group who.now.address life.old }
-    requires ordered { IsOrdered who.now.address life.old }
+    requires member_state { IsMemberState who.now.group who.now.address member_state.old }
+    requires ordered { IsOrdered who.now.address member_state.old }
     requires other { same_address source.now who.now.address ≡ false }
-    ensures life { OnOk result (IsLife who.now.group who.now.address life.new) }
-    ensures ordered { OnOk result (IsOrdered who.now.address life.new) }
-    ensures does { OnOk result (OnAck R.meaning who.now.group who.now.address source.now view delivered life.old life.new out.old out.new) }
-    ensures did { OnOk result (Did R.meaning (Some (packet source.now (bodies.Ack view delivered) who.now.address)) who.now.group who.now.address life.old life.new out.old out.new) }
+    ensures member_state { OnOk result (IsMemberState who.now.group who.now.address member_state.new) }
+    ensures ordered { OnOk result (IsOrdered who.now.address member_state.new) }
+    ensures does { OnOk result (OnAck R.meaning who.now.group who.now.address source.now view delivered member_state.old member_state.new out.old out.new) }
+    ensures did { OnOk result (Did R.meaning (Some (packet source.now (bodies.Ack view delivered) who.now.address)) who.now.group who.now.address member_state.old member_state.new out.old out.new) }
     ensures calm { OnOk result (IsCalm WINDOW out.old out.new) }
-    ensures ignored { takes_ack source.now view delivered life.old ≡ false → (result ≡ Ok tt) × StaysAs life.old life.new out.old out.new }
+    ensures ignored { takes_ack source.now view delivered member_state.old ≡ false → (result ≡ Ok tt) × StaysAs member_state.old member_state.new out.old out.new }
 {
     let count = delivered.get();
-    if !takes_ack(life, source, view, count) {
+    if !takes_ack(member_state, source, view, count) {
         return Ok(());
     }
-    match &mut life.traffic {
+    match &mut member_state.view_state {
         None => Ok(()),
-        Some(Traffic::Other(_)) => Ok(()),
-        Some(Traffic::Coordinator(coordinator)) => {
-            coordinator.ack(who, source, count, &mut life.receiver, out)?;
+        Some(ViewState::Follower(_)) => Ok(()),
+        Some(ViewState::Coordinator(coordinator)) => {
+            coordinator.ack(who, source, count, &mut member_state.receiver, out)?;
             Ok(())
         }
     }
@@ -92,32 +100,32 @@ pub fn on_ack<R: Receiver>(
 /// A NAK: where it is taken, the ORDER of each of its numbers at which a message is held goes to its source. Any other is ignored, and takes no
 /// memory. After an error for want of memory nothing is said of the output.
 pub fn on_nak<R: Receiver>(
-    life: &mut Life<R>,
+    member_state: &mut MemberState<R>,
     who: &Identity,
     source: &Address,
     view: ViewId,
     missing: Missing,
     out: &mut Output,
 ) -> Result<(), AllocError>
-    requires life { IsLife who.now.group who.now.address life.old }
-    requires ordered { IsOrdered who.now.address life.old }
+    requires member_state { IsMemberState who.now.group who.now.address member_state.old }
+    requires ordered { IsOrdered who.now.address member_state.old }
     requires other { same_address source.now who.now.address ≡ false }
-    ensures life { OnOk result (IsLife who.now.group who.now.address life.new) }
-    ensures ordered { OnOk result (IsOrdered who.now.address life.new) }
-    ensures does { OnOk result (OnNak who.now.group who.now.address source.now view missing life.old life.new out.old out.new) }
-    ensures did { OnOk result (Did R.meaning (Some (packet source.now (bodies.Nak view missing) who.now.address)) who.now.group who.now.address life.old life.new out.old out.new) }
+    ensures member_state { OnOk result (IsMemberState who.now.group who.now.address member_state.new) }
+    ensures ordered { OnOk result (IsOrdered who.now.address member_state.new) }
+    ensures does { OnOk result (OnNak who.now.group who.now.address source.now view missing member_state.old member_state.new out.old out.new) }
+    ensures did { OnOk result (Did R.meaning (Some (packet source.now (bodies.Nak view missing) who.now.address)) who.now.group who.now.address member_state.old member_state.new out.old out.new) }
     ensures calm { OnOk result (IsCalm WINDOW out.old out.new) }
-    ensures ignored { takes_nak source.now view life.old ≡ false → (result ≡ Ok tt) × StaysAs life.old life.new out.old out.new }
+    ensures ignored { takes_nak source.now view member_state.old ≡ false → (result ≡ Ok tt) × StaysAs member_state.old member_state.new out.old out.new }
 {
-    if !takes_forward(life, source, view) {
+    if !takes_forward(member_state, source, view) {
         return Ok(());
     }
-    let Some(traffic) = &life.traffic else {
+    let Some(view_state) = &member_state.view_state else {
         return Ok(());
     };
-    match traffic {
-        Traffic::Other(_) => Ok(()),
-        Traffic::Coordinator(coordinator) => {
+    match view_state {
+        ViewState::Follower(_) => Ok(()),
+        ViewState::Coordinator(coordinator) => {
             coordinator.nak(who, source, missing, out)?;
             Ok(())
         }

@@ -3,30 +3,30 @@ use Rattle.std.proofs.Common.{◌≡◌, ℕ, Bool, true, false, cond, not, ◌&
 use Rattle.std.specs.Prelude.{MatchBool, IsSome, filter}
 use Rattle.std.specs.List.{AllByRecursion}
 use Rattle.std.specs.Option.{option_map_or}
-use Rattle.std.proofs.lemmas.Bool.{and_parts, not-true}
+use Rattle.std.proofs.lemmas.Bool.{and_parts, not-true, or_right}
 use Rattle.std.proofs.lemmas.Option.{none-some}
 use Rattle.std.proofs.lemmas.List.{append-nil}
 use Rattle.address.specs.Ids.{Address, ViewId, same_address}
 use Rattle.view.specs.Members.{View, stands_in}
-use Rattle.wire.specs.Values as wire
-use Rattle.wire.specs.declared.packet.Body.{Body}
-use Rattle.wire.specs.declared.packet.Body.TheVariants as bodies
+use Rattle.wire_values.specs.Values as wire
+use Rattle.wire_values.specs.declared.packet.Body.{Body}
+use Rattle.wire_values.specs.declared.packet.Body.TheVariants as bodies
 use Rattle.state_transfer.specs.Meanings.{Meaning}
 use Rattle.flush.specs.Flushes.{FlushModel, has_reported}
 use Rattle.trace_props.specs.declared.event.Event.TheVariants.{Installed, Left}
-use Rattle.trace_props.proofs.FactOfObserved.{same_address-true, same_address-refl}
-use Rattle.agreement.specs.Histories.{Posted}
-use Rattle.agreement.specs.Cores.{Core}
-use Rattle.agreement.specs.Acts.{Puts, Creates as MakesFirst, Joins, Leaves as Goes, Describes, packet, proposed, others_of, lone_view, gone_into}
-use Rattle.agreement.specs.Chains.{Acted}
-use Rattle.agreement.proofs.LawsOfActs.{one-acted, then-acted, nothing-acted}
-use Rattle.output.specs.declared.output.Output.{Output}
-use Rattle.output.specs.Outputs.{Grows, spelled}
-use Rattle.traffic.specs.declared.traffic.Traffic.{Traffic}
-use Rattle.traffic.specs.Traffics.{view_of, fresh_in}
+use Rattle.address.proofs.SameIds.{same_address-true, same_address-refl}
+use Rattle.acts.specs.Histories.{Posted}
+use Rattle.acts.specs.Cores.{Core}
+use Rattle.acts.specs.Acts.{Puts, Creates as MakesFirst, Joins, Leaves as Goes, Describes, packet, proposed, others_of, lone_view, gone_into}
+use Rattle.acts.specs.Chains.{Acted}
+use Rattle.acts.proofs.LawsOfActs.{one-acted, then-acted, nothing-acted}
+use Rattle.step_output.specs.declared.output.Output.{Output}
+use Rattle.step_output.specs.Outputs.{Grows, spelled}
+use Rattle.traffic.specs.declared.view_state.ViewState.{ViewState}
+use Rattle.traffic.specs.ViewStates.{view_of, fresh_in}
 use Rattle.traffic.proofs.FactOfNewView.{fresh-is, fresh-view}
-use Rattle.membership.specs.declared.life.Life.{Life}
-use Rattle.membership.specs.Lives.{core_of, view_in, kept_in, is_connected, report_in, install_packet, IsLife}
+use Rattle.membership.specs.declared.member_state.MemberState.{MemberState}
+use Rattle.membership.specs.MemberStates.{core_of, view_in, sent_installs_in, is_connected, report_in, install_packet, IsMemberState}
 use Rattle.membership.specs.Changes.{StaysAs, TakesFlush, TakesReport, TakesBehind, TakesSuspicion, Regroups}
 use Rattle.membership.specs.Doing.{Did}
 use Rattle.membership.proofs.ActsInTurn.{stays-did, did-then, noted-did}
@@ -34,19 +34,16 @@ use Rattle.membership.proofs.ActsOfChanges as changes
 use Rattle.member_views.specs.Firsts.{lone_install}
 use Rattle.member_views.specs.Views.{Creates, Asks, OnJoin, OnRedirect, OnSuspect, OnFlush, OnBehind, OnReport, OnMerge, Redirects, SaysAgain, Admits, Meets, AnnouncesView, Leaves, outdated, joined, merged, first_in, view_for, leads_now, has_member, has_promised, is_less, is_suspectable, is_proposing, expects, is_in, reports_again, asks_again, proposes_again, flushes_again}
 use Rattle.member_views.specs.Doing.{HasLeft}
-use Rattle.member_views.proofs.KeepLife.{outdated-life, joined-life, merged-life, outside}
+use Rattle.member_views.proofs.KeepMemberState.{outdated-member_state, joined-member_state, merged-member_state, outside}
+use Rattle.address.proofs.Plain.{match-bool}
 
 -- ---- small things
-
-true-behind : (b d : Bool) → d ≡ true → b || d ≡ true
-true-behind true d e = refl
-true-behind false d e = e
 
 -- what holds of each of a list that passes a test holds of all that are left
 all-filtered : (P : Address → Type 0) (t : Address → Bool) (list : List Address) → ((m : Address) → stands_in m list ≡ true → t m ≡ true → P m) → AllByRecursion P (filter t list)
 all-filtered P t [] each = tt
 all-filtered P t (m ∷ list) each =
-    by (t m) refl (all-filtered P t list (λ p there passes. each p (true-behind (same_address p m) (stands_in p list) there) passes))
+    by (t m) refl (all-filtered P t list (λ p there passes. each p (or_right (same_address p m) (stands_in p list) there) passes))
   where
     by : (b : Bool) → t m ≡ b → AllByRecursion P (filter t list) → AllByRecursion P (cond b (m ∷ filter t list) (filter t list))
     by true e rest = (each m (ap (λ b. b || stands_in m list) (same_address-refl m)) e, rest)
@@ -56,13 +53,9 @@ all-each : (P : Address → Type 0) (list : List Address) → ((m : Address) →
 all-each P [] each = tt
 all-each P (m ∷ list) each = (each m, all-each P list each)
 
-none-by : (traffic : Option Traffic) → is_some traffic ≡ false → traffic ≡ None
+none-by : (view_state : Option ViewState) → is_some view_state ≡ false → view_state ≡ None
 none-by None e = refl
 none-by (Some t) e = absurd (let n : true ≡ false = e in cc)
-
-match-bool : {P : Type 0} (b : Bool) (A B : Type 0) → MatchBool b A B → (b ≡ true → A → P) → (b ≡ false → B → P) → P
-match-bool true A B m holds fails = holds refl m
-match-bool false A B m holds fails = fails refl m
 
 -- who did not report is another than who did
 other-by : (b : Bool) (me m : Address) (reports : List (Address × wire.Report)) → same_address m me ≡ b → has_reported me reports ≡ true → not (has_reported m reports) ≡ true → b ≡ false
@@ -77,54 +70,54 @@ none-kept view at [] e all = refl
 none-kept view at (p ∷ given) e all = absurd (none-some (at p) (sym e ∙ all.0))
 
 module _ {S : Type 0} (meaning : Meaning S) (group : List ℕ) (me : Address) where
-  abbrev pub DidThis : Option Posted → Life S → Life S → Output → Output → Type 0
+  abbrev pub DidThis : Option Posted → MemberState S → MemberState S → Output → Output → Type 0
   DidThis came old new out later = Did meaning came group me old new out later
 
-  abbrev PutsOut : Option Posted → Life S → List Posted → Type 0
+  abbrev PutsOut : Option Posted → MemberState S → List Posted → Type 0
   PutsOut came l ps = Acted meaning came (Some (core_of me l)) ps [] (Some (core_of me l))
 
   -- ---- it only puts out
 
-  put-acted : (came : Option Posted) (l : Life S) (q : Address) (body : Body) → Describes (core_of me l) q body → PutsOut came l (packet me body q ∷ [])
+  put-acted : (came : Option Posted) (l : MemberState S) (q : Address) (body : Body) → Describes (core_of me l) q body → PutsOut came l (packet me body q ∷ [])
   put-acted came l q body says = one-acted meaning came (core_of me l) (Puts q body) says
 
   -- one packet to each of a list
-  puts-all-acted : (came : Option Posted) (l : Life S) (body : Body) (list : List Address) → AllByRecursion (λ q. Describes (core_of me l) q body) list → PutsOut came l (map (packet me body) list)
+  puts-all-acted : (came : Option Posted) (l : MemberState S) (body : Body) (list : List Address) → AllByRecursion (λ q. Describes (core_of me l) q body) list → PutsOut came l (map (packet me body) list)
   puts-all-acted came l body [] says = nothing-acted meaning came (Some (core_of me l))
   puts-all-acted came l body (q ∷ list) says =
       then-acted meaning came (Some (core_of me l)) (Some (core_of me l)) (Some (core_of me l)) (packet me body q ∷ []) (map (packet me body) list) [] []
       (put-acted came l q body says.0) (puts-all-acted came l body list says.1)
 
-  puts-did : (came : Option Posted) (old new : Life S) (ps : List Posted) (out later : Output) → new ≡ old → Grows group out later ps [] → PutsOut came old ps → DidThis came old new out later
+  puts-did : (came : Option Posted) (old new : MemberState S) (ps : List Posted) (out later : Output) → new ≡ old → Grows group out later ps [] → PutsOut came old ps → DidThis came old new out later
   puts-did came old new ps out later is grows acted =
-      subst (λ (z : Life S). DidThis came old z out later) (sym is) (record { posted = ps; happened = []; grows = grows; acted = acted })
+      subst (λ (z : MemberState S). DidThis came old z out later) (sym is) (record { posted = ps; happened = []; grows = grows; acted = acted })
 
-  stays : (came : Option Posted) (old new : Life S) (out later : Output) → StaysAs old new out later → DidThis came old new out later
+  stays : (came : Option Posted) (old new : MemberState S) (out later : Output) → StaysAs old new out later → DidThis came old new out later
   stays came old new out later x = stays-did meaning came group me old new out later x.0 x.1
 
   -- ---- it makes a group
 
   -- outside of a view it has no flush, and kept nothing
-  unflushed : (flush : Option FlushModel) (l : Life S) → l.flush ≡ flush → l.traffic ≡ None → IsLife group me l → flush ≡ None
+  unflushed : (flush : Option FlushModel) (l : MemberState S) → l.flush ≡ flush → l.view_state ≡ None → IsMemberState group me l → flush ≡ None
   unflushed None l e none kept = refl
   unflushed (Some f) l e none kept = let n : false ≡ true = sym (ap is_some none) ∙ (kept.flushing f e).inside in absurd (cc)
 
-  unkept : (l : Life S) → l.traffic ≡ None → IsLife group me l → kept_in l.kept.items ≡ []
+  unkept : (l : MemberState S) → l.view_state ≡ None → IsMemberState group me l → sent_installs_in l.sent_installs.items ≡ []
   unkept l none kept =
-      let k = kept.kept in
-      let given : k.given ≡ [] = none-kept (view_in l.traffic) (λ (p : Address × wire.Install). p.1.view) k.given (ap view_in none) k.current in
-      ap kept_in (k.spelled ∙ ap (λ g. map (spelled group) (map (install_packet me) g)) given)
+      let k = kept.sent_installs in
+      let given : k.given ≡ [] = none-kept (view_in l.view_state) (λ (p : Address × wire.Install). p.1.view) k.given (ap view_in none) k.current in
+      ap sent_installs_in (k.spelled ∙ ap (λ g. map (spelled group) (map (install_packet me) g)) given)
 
-  created-at : (came : Option Posted) (old new : Life S) (out later : Output) → is_some old.contact ≡ false → old.promise.proposal ≡ None → kept_in old.kept.items ≡ []
-      → Creates group me (record old { traffic = None; flush = None }) new out later → DidThis came (record old { traffic = None; flush = None }) new out later
+  created-at : (came : Option Posted) (old new : MemberState S) (out later : Output) → is_some old.contact ≡ false → old.promise.proposal ≡ None → sent_installs_in old.sent_installs.items ≡ []
+      → Creates group me (record old { view_state = None; flush = None }) new out later → DidThis came (record old { view_state = None; flush = None }) new out later
   created-at came old new out later off none kept z =
-      let c = core_of me (record old { traffic = None; flush = None }) in
+      let c = core_of me (record old { view_state = None; flush = None }) in
       let w = lone_view me in
       let view : view_of (fresh_in me w) ≡ w = fresh-view me w in
-      let traffic = fresh-is me w in
+      let view_state = fresh-is me w in
       let core : core_of me new ≡ gone_into w old.receiver [] c =
-      ap (core_of me) z.life
-      ∙ (λ j. record { me = me; connected = true; promise = Some w; installed = true; view = Some (view j); traffic = traffic j; flush = None; kept = kept j; state = old.receiver }) in
+      ap (core_of me) z.member_state
+      ∙ (λ j. record { me = me; connected = true; promise = Some w; installed = true; view = Some (view j); view_state = view_state j; flush = None; sent_installs = kept j; state = old.receiver }) in
       record {
         posted = [];
         happened = _;
@@ -133,23 +126,23 @@ module _ {S : Type 0} (meaning : Meaning S) (group : List ℕ) (me : Address) wh
             (one-acted meaning came c MakesFirst (record { unconnected = off; unpromised = none; outside = refl }));
       }
 
-  pub create-did : (came : Option Posted) (old new : Life S) (out later : Output) → IsLife group me old → is_connected old ≡ false → Creates group me old new out later → DidThis came old new out later
+  pub create-did : (came : Option Posted) (old new : MemberState S) (out later : Output) → IsMemberState group me old → is_connected old ≡ false → Creates group me old new out later → DidThis came old new out later
   create-did came old new out later kept off z =
       let none = outside group me old off in
       let flush = unflushed old.flush old refl none kept in
-      let same : old ≡ record old { traffic = None; flush = None } = λ j. record old { traffic = none j; flush = flush j } in
-      subst (λ (l : Life S). DidThis came l new out later) (sym same)
-      (created-at came old new out later (subst (λ (l : Life S). is_connected l ≡ false) same off) (kept.unconnected off) (unkept old none kept)
-      (subst (λ (l : Life S). Creates group me l new out later) same z))
+      let same : old ≡ record old { view_state = None; flush = None } = λ j. record old { view_state = none j; flush = flush j } in
+      subst (λ (l : MemberState S). DidThis came l new out later) (sym same)
+      (created-at came old new out later (subst (λ (l : MemberState S). is_connected l ≡ false) same off) (kept.unconnected off) (unkept old none kept)
+      (subst (λ (l : MemberState S). Creates group me l new out later) same z))
 
   -- ---- it asks to be let in
 
-  asked-at : (came : Option Posted) (contact : Address) (old new : Life S) (out later : Output) → Asks group me contact (record old { traffic = None }) new out later
-      → DidThis came (record old { traffic = None }) new out later
+  asked-at : (came : Option Posted) (contact : Address) (old new : MemberState S) (out later : Output) → Asks group me contact (record old { view_state = None }) new out later
+      → DidThis came (record old { view_state = None }) new out later
   asked-at came contact old new out later z =
-      let c = core_of me (record old { traffic = None }) in
+      let c = core_of me (record old { view_state = None }) in
       let d : Core S = record c { connected = true } in
-      let core : core_of me new ≡ d = ap (core_of me) z.life in
+      let core : core_of me new ≡ d = ap (core_of me) z.member_state in
       record {
         posted = _;
         happened = [];
@@ -159,91 +152,91 @@ module _ {S : Type 0} (meaning : Meaning S) (group : List ℕ) (me : Address) wh
             (one-acted meaning came c Joins refl) (one-acted meaning came d (Puts contact bodies.Join) tt));
       }
 
-  pub ask-did : (came : Option Posted) (contact : Address) (old new : Life S) (out later : Output) → IsLife group me old → old.traffic ≡ None → Asks group me contact old new out later
+  pub ask-did : (came : Option Posted) (contact : Address) (old new : MemberState S) (out later : Output) → IsMemberState group me old → old.view_state ≡ None → Asks group me contact old new out later
       → DidThis came old new out later
   ask-did came contact old new out later kept none z =
-      let same : old ≡ record old { traffic = None } = λ j. record old { traffic = none j } in
-      subst (λ (l : Life S). DidThis came l new out later) (sym same) (asked-at came contact old new out later (subst (λ (l : Life S). Asks group me contact l new out later) same z))
+      let same : old ≡ record old { view_state = None } = λ j. record old { view_state = none j } in
+      subst (λ (l : MemberState S). DidThis came l new out later) (sym same) (asked-at came contact old new out later (subst (λ (l : MemberState S). Asks group me contact l new out later) same z))
 
   -- ---- it announces its view, and says whom to ask
 
-  redirect-acted : (came : Option Posted) (o : Option Address) (q : Address) (l : Life S) → PutsOut came l (option_map_or (λ p. packet me (bodies.Redirect p) q ∷ []) o [])
+  redirect-acted : (came : Option Posted) (o : Option Address) (q : Address) (l : MemberState S) → PutsOut came l (option_map_or (λ p. packet me (bodies.Redirect p) q ∷ []) o [])
   redirect-acted came None q l = nothing-acted meaning came (Some (core_of me l))
   redirect-acted came (Some p) q l = put-acted came l q (bodies.Redirect p) tt
 
-  redirects : (came : Option Posted) (q : Address) (old new : Life S) (out later : Output) → Redirects group me q old new out later → DidThis came old new out later
-  redirects came q old new out later x = puts-did came old new _ out later x.life x.grows (redirect-acted came (first_in old) q old)
+  redirects : (came : Option Posted) (q : Address) (old new : MemberState S) (out later : Output) → Redirects group me q old new out later → DidThis came old new out later
+  redirects came q old new out later x = puts-did came old new _ out later x.member_state x.grows (redirect-acted came (first_in old) q old)
 
-  merge-acted : (came : Option Posted) (o : Option View) (q : Address) (l : Life S) → PutsOut came l (option_map_or (λ v. packet me (bodies.Merge v) q ∷ []) o [])
+  merge-acted : (came : Option Posted) (o : Option View) (q : Address) (l : MemberState S) → PutsOut came l (option_map_or (λ v. packet me (bodies.Merge v) q ∷ []) o [])
   merge-acted came None q l = nothing-acted meaning came (Some (core_of me l))
   merge-acted came (Some v) q l = put-acted came l q (bodies.Merge v) tt
 
-  pub hint-did : (came : Option Posted) (p : Address) (old new : Life S) (out later : Output) → IsLife group me old → AnnouncesView group me p old new out later → DidThis came old new out later
-  hint-did came p old new out later kept x = puts-did came old new _ out later x.life x.grows (merge-acted came (view_for me p old) p old)
+  pub hint-did : (came : Option Posted) (p : Address) (old new : MemberState S) (out later : Output) → IsMemberState group me old → AnnouncesView group me p old new out later → DidThis came old new out later
+  hint-did came p old new out later kept x = puts-did came old new _ out later x.member_state x.grows (merge-acted came (view_for me p old) p old)
 
   -- ---- JOIN, REDIRECT, MERGE
 
   -- it notes, and what is due then is begun
-  noted-regroups : (came : Option Posted) (old noted new : Life S) (out later : Output) → noted ≡ record old { notes = noted.notes } → IsLife group me noted
+  noted-regroups : (came : Option Posted) (old noted new : MemberState S) (out later : Output) → noted ≡ record old { notes = noted.notes } → IsMemberState group me noted
       → Regroups meaning group me noted new out later → DidThis came old new out later
   noted-regroups came old noted new out later is kept x =
       did-then meaning came group me old noted new out out later (noted-did meaning came group me old noted noted.notes out is)
       (changes.regroups-did meaning group me came noted new out later kept x)
 
-  admits : (came : Option Posted) (q : Address) (l new : Life S) (out later : Output) → IsLife group me l → Admits meaning group me q l new out later → DidThis came l new out later
+  admits : (came : Option Posted) (q : Address) (l new : MemberState S) (out later : Output) → IsMemberState group me l → Admits meaning group me q l new out later → DidThis came l new out later
   admits came q l new out later kept x =
       match-bool (leads_now me l) (Regroups meaning group me (joined me q l) new out later) (Redirects group me q l new out later) x
-      (λ leads r. noted-regroups came l (joined me q l) new out later refl (joined-life group me q l (joined me q l) kept refl) r)
+      (λ leads r. noted-regroups came l (joined me q l) new out later refl (joined-member_state group me q l (joined me q l) kept refl) r)
       (λ other r. redirects came q l new out later r)
 
-  pub join-did : (came : Option Posted) (q : Address) (old new : Life S) (out later : Output) → IsLife group me old → OnJoin meaning group me q old new out later → DidThis came old new out later
+  pub join-did : (came : Option Posted) (q : Address) (old new : MemberState S) (out later : Output) → IsMemberState group me old → OnJoin meaning group me q old new out later → DidThis came old new out later
   join-did came q old new out later kept x =
-      match-bool (is_some old.traffic) (Admits meaning group me q (outdated me q old) new out later) (StaysAs old new out later) x
+      match-bool (is_some old.view_state) (Admits meaning group me q (outdated me q old) new out later) (StaysAs old new out later) x
       (λ in-view a. did-then meaning came group me old (outdated me q old) new out out later (noted-did meaning came group me old (outdated me q old) (outdated me q old).notes out refl)
-      (admits came q (outdated me q old) new out later (outdated-life group me q old (outdated me q old) kept refl) a))
+      (admits came q (outdated me q old) new out later (outdated-member_state group me q old (outdated me q old) kept refl) a))
       (λ none s. stays came old new out later s)
 
-  redirected : (came : Option Posted) (c : Address) (old new : Life S) (out later : Output) → IsLife group me old
-      → MatchBool (is_some old.traffic) (AnnouncesView group me c old new out later) (Asks group me c old new out later) → DidThis came old new out later
+  redirected : (came : Option Posted) (c : Address) (old new : MemberState S) (out later : Output) → IsMemberState group me old
+      → MatchBool (is_some old.view_state) (AnnouncesView group me c old new out later) (Asks group me c old new out later) → DidThis came old new out later
   redirected came c old new out later kept x =
-      match-bool (is_some old.traffic) (AnnouncesView group me c old new out later) (Asks group me c old new out later) x
+      match-bool (is_some old.view_state) (AnnouncesView group me c old new out later) (Asks group me c old new out later) x
       (λ in-view t. hint-did came c old new out later kept t)
-      (λ none a. ask-did came c old new out later kept (none-by old.traffic none) a)
+      (λ none a. ask-did came c old new out later kept (none-by old.view_state none) a)
 
-  pub redirect-did : (came : Option Posted) (c : Address) (old new : Life S) (out later : Output) → IsLife group me old → OnRedirect group me c old new out later → DidThis came old new out later
+  pub redirect-did : (came : Option Posted) (c : Address) (old new : MemberState S) (out later : Output) → IsMemberState group me old → OnRedirect group me c old new out later → DidThis came old new out later
   redirect-did came c old new out later kept x =
-      match-bool (same_address c me) (StaysAs old new out later) (MatchBool (is_some old.traffic) (AnnouncesView group me c old new out later) (Asks group me c old new out later)) x
+      match-bool (same_address c me) (StaysAs old new out later) (MatchBool (is_some old.view_state) (AnnouncesView group me c old new out later) (Asks group me c old new out later)) x
       (λ own s. stays came old new out later s) (λ other y. redirected came c old new out later kept y)
 
-  meets : (came : Option Posted) (q : Address) (u : View) (old new : Life S) (out later : Output) → IsLife group me old → Meets meaning group me q u old new out later → DidThis came old new out later
+  meets : (came : Option Posted) (q : Address) (u : View) (old new : MemberState S) (out later : Output) → IsMemberState group me old → Meets meaning group me q u old new out later → DidThis came old new out later
   meets came q u old new out later kept x =
       match-bool (is_less q me) (AnnouncesView group me q old new out later) (Regroups meaning group me (merged me u old) new out later) x
       (λ less t. hint-did came q old new out later kept t)
-      (λ greater r. noted-regroups came old (merged me u old) new out later refl (merged-life group me u old (merged me u old) kept refl) r)
+      (λ greater r. noted-regroups came old (merged me u old) new out later refl (merged-member_state group me u old (merged me u old) kept refl) r)
 
-  found : (came : Option Posted) (q : Address) (u : View) (old new : Life S) (out later : Output) → IsLife group me old
+  found : (came : Option Posted) (q : Address) (u : View) (old new : MemberState S) (out later : Output) → IsMemberState group me old
       → MatchBool (leads_now me old) (Meets meaning group me q u old new out later) (Redirects group me q old new out later) → DidThis came old new out later
   found came q u old new out later kept x =
       match-bool (leads_now me old) (Meets meaning group me q u old new out later) (Redirects group me q old new out later) x
       (λ leads m. meets came q u old new out later kept m) (λ other r. redirects came q old new out later r)
 
-  pub merge-did : (came : Option Posted) (q : Address) (u : View) (old new : Life S) (out later : Output) → IsLife group me old → OnMerge meaning group me q u old new out later → DidThis came old new out later
+  pub merge-did : (came : Option Posted) (q : Address) (u : View) (old new : MemberState S) (out later : Output) → IsMemberState group me old → OnMerge meaning group me q u old new out later → DidThis came old new out later
   merge-did came q u old new out later kept x =
-      match-bool (is_some old.traffic && not (has_member q old)) (MatchBool (leads_now me old) (Meets meaning group me q u old new out later) (Redirects group me q old new out later)) (StaysAs old new out later) x
+      match-bool (is_some old.view_state && not (has_member q old)) (MatchBool (leads_now me old) (Meets meaning group me q u old new out later) (Redirects group me q old new out later)) (StaysAs old new out later) x
       (λ strange y. found came q u old new out later kept y) (λ known s. stays came old new out later s)
 
   -- ---- suspicions, and LEAVE
 
-  pub suspect-did : (came : Option Posted) (p : Address) (old new : Life S) (out later : Output) → IsLife group me old → OnSuspect meaning group me p old new out later → DidThis came old new out later
+  pub suspect-did : (came : Option Posted) (p : Address) (old new : MemberState S) (out later : Output) → IsMemberState group me old → OnSuspect meaning group me p old new out later → DidThis came old new out later
   suspect-did came p old new out later kept x =
       match-bool (is_suspectable me p old) (TakesSuspicion meaning group me p old new out later) (StaysAs old new out later) x
-      (λ may t. let other = (and_parts (is_some old.traffic) (not (same_address p me)) (and_parts (is_some old.traffic && not (same_address p me)) (has_member p old || has_promised p old) may).0).1 in
+      (λ may t. let other = (and_parts (is_some old.view_state) (not (same_address p me)) (and_parts (is_some old.view_state && not (same_address p me)) (has_member p old || has_promised p old) may).0).1 in
       changes.takes-suspicion-did meaning group me came old new p out later kept t (not-true (same_address p me) other))
       (λ none s. stays came old new out later s)
 
   -- ---- FLUSH, BEHIND, REPORT
 
-  pub flush-did : (came : Option Posted) (q : Address) (w : View) (old new : Life S) (out later : Output) → IsLife group me old → is_connected old ≡ true → came ≡ Some (packet q (bodies.Flush w) me)
+  pub flush-did : (came : Option Posted) (q : Address) (w : View) (old new : MemberState S) (out later : Output) → IsMemberState group me old → is_connected old ≡ true → came ≡ Some (packet q (bodies.Flush w) me)
       → OnFlush group me q w old new out later → DidThis came old new out later
   flush-did came q w old new out later kept on asked x =
       match-bool (same_address w.id.creator q) (TakesFlush group me w old new out later) (StaysAs old new out later) x
@@ -251,24 +244,24 @@ module _ {S : Type 0} (meaning : Meaning S) (group : List ℕ) (me : Address) wh
       (asked ∙ ap (λ (p : Address). Some (packet p (bodies.Flush w) me)) (sym (same_address-true w.id.creator q own))) on)
       (λ other s. stays came old new out later s)
 
-  pub behind-did : (came : Option Posted) (w : ViewId) (counter : ℕ) (old new : Life S) (out later : Output) → IsLife group me old → OnBehind meaning group me w counter old new out later
+  pub behind-did : (came : Option Posted) (w : ViewId) (counter : ℕ) (old new : MemberState S) (out later : Output) → IsMemberState group me old → OnBehind meaning group me w counter old new out later
       → DidThis came old new out later
   behind-did came w counter old new out later kept x =
       match-bool (is_proposing w old) (TakesBehind meaning group me counter old new out later) (StaysAs old new out later) x
       (λ own t. changes.takes-behind-did meaning group me came old new counter out later kept t)
       (λ other s. stays came old new out later s)
 
-  says-again : (came : Option Posted) (q : Address) (old new : Life S) (out later : Output) → IsLife group me old → SaysAgain q old new out later → DidThis came old new out later
+  says-again : (came : Option Posted) (q : Address) (old new : MemberState S) (out later : Output) → IsMemberState group me old → SaysAgain q old new out later → DidThis came old new out later
   says-again came q old new out later kept x =
-      subst (λ (z : Life S). DidThis came old z out later) (sym x.life) (changes.installs-again-did meaning group me came q old out later kept x.again)
+      subst (λ (z : MemberState S). DidThis came old z out later) (sym x.member_state) (changes.installs-again-did meaning group me came q old out later kept x.again)
 
-  unexpected : (came : Option Posted) (q : Address) (w : ViewId) (old new : Life S) (out later : Output) → IsLife group me old
+  unexpected : (came : Option Posted) (q : Address) (w : ViewId) (old new : MemberState S) (out later : Output) → IsMemberState group me old
       → MatchBool (is_in w old) (SaysAgain q old new out later) (StaysAs old new out later) → DidThis came old new out later
   unexpected came q w old new out later kept x =
       match-bool (is_in w old) (SaysAgain q old new out later) (StaysAs old new out later) x
       (λ here a. says-again came q old new out later kept a) (λ other s. stays came old new out later s)
 
-  pub report-did : (came : Option Posted) (q : Address) (w : ViewId) (r : wire.Report) (old new : Life S) (out later : Output) → IsLife group me old → came ≡ Some (packet q (bodies.Report w r) me)
+  pub report-did : (came : Option Posted) (q : Address) (w : ViewId) (r : wire.Report) (old new : MemberState S) (out later : Output) → IsMemberState group me old → came ≡ Some (packet q (bodies.Report w r) me)
       → OnReport meaning group me q w r old new out later → DidThis came old new out later
   report-did came q w r old new out later kept came_so x =
       match-bool (expects q w old) (TakesReport meaning group me q w r old new out later) (MatchBool (is_in w old) (SaysAgain q old new out later) (StaysAs old new out later)) x
@@ -278,49 +271,49 @@ module _ {S : Type 0} (meaning : Meaning S) (group : List ℕ) (me : Address) wh
   -- ---- time passes
 
   -- its report for what another proposed
-  reports-acted : (came : Option Posted) (proposal : Option View) (l : Life S) → IsLife group me l → l.promise.proposal ≡ proposal → l.flush ≡ None → (IsSome proposal → l.promise.is_installed ≡ false)
+  reports-acted : (came : Option Posted) (proposal : Option View) (l : MemberState S) → IsMemberState group me l → l.promise.proposal ≡ proposal → l.flush ≡ None → (IsSome proposal → l.promise.is_installed ≡ false)
       → PutsOut came l (option_map_or (λ w. packet me (bodies.Report w.id (report_in l)) w.id.creator ∷ []) proposal [])
   reports-acted came None l kept is none waits = nothing-acted meaning came (Some (core_of me l))
   reports-acted came (Some w) l kept is none waits =
       put-acted came l w.id.creator (bodies.Report w.id (report_in l)) (w, is, waits refl, refl, kept.waiting (waits refl) none w is, refl, refl)
 
   -- outside of a view what it promised is not installed
-  waiting-by : (b : Bool) (l : Life S) → IsLife group me l → l.traffic ≡ None → IsSome l.promise.proposal → l.promise.is_installed ≡ b → b ≡ false
+  waiting-by : (b : Bool) (l : MemberState S) → IsMemberState group me l → l.view_state ≡ None → IsSome l.promise.proposal → l.promise.is_installed ≡ b → b ≡ false
   waiting-by true l kept none some e = let n : false ≡ true = ap is_some (sym (ap view_in none) ∙ kept.installed e) ∙ some in absurd (cc)
   waiting-by false l kept none some e = refl
 
-  asks-acted : (came : Option Posted) (contact : Option Address) (l : Life S) (ps : List Posted) → PutsOut came l ps → PutsOut came l (option_map_or (λ c. packet me bodies.Join c ∷ ps) contact [])
+  asks-acted : (came : Option Posted) (contact : Option Address) (l : MemberState S) (ps : List Posted) → PutsOut came l ps → PutsOut came l (option_map_or (λ c. packet me bodies.Join c ∷ ps) contact [])
   asks-acted came None l ps acted = nothing-acted meaning came (Some (core_of me l))
   asks-acted came (Some c) l ps acted =
       then-acted meaning came (Some (core_of me l)) (Some (core_of me l)) (Some (core_of me l)) (packet me bodies.Join c ∷ []) ps [] [] (put-acted came l c bodies.Join tt) acted
 
-  pub ask-again-did : (came : Option Posted) (old : Life S) (out later : Output) → IsLife group me old → old.traffic ≡ None → Grows group out later (asks_again me old) [] → DidThis came old old out later
+  pub ask-again-did : (came : Option Posted) (old : MemberState S) (out later : Output) → IsMemberState group me old → old.view_state ≡ None → Grows group out later (asks_again me old) [] → DidThis came old old out later
   ask-again-did came old out later kept none grows =
       puts-did came old old (asks_again me old) out later refl grows (asks-acted came old.contact old (reports_again me old)
       (reports-acted came old.promise.proposal old kept refl (unflushed old.flush old refl none kept) (λ some. waiting-by old.promise.is_installed old kept none some refl)))
 
   -- its own proposal, to those who have not reported
-  proposes-acted : (came : Option Posted) (f : FlushModel) (l : Life S) → IsLife group me l → l.flush ≡ Some f → PutsOut came l (proposes_again me f)
+  proposes-acted : (came : Option Posted) (f : FlushModel) (l : MemberState S) → IsMemberState group me l → l.flush ≡ Some f → PutsOut came l (proposes_again me f)
   proposes-acted came f l kept is =
       puts-all-acted came l (bodies.Flush (proposed f)) _ (all-filtered (λ m. Describes (core_of me l) m (bodies.Flush (proposed f))) (λ m. not (has_reported m f.reports)) f.members
       (λ m there missing. (f.reports, is, there, other-by (same_address m me) me m f.reports refl (kept.flushing f is).reported missing)))
 
-  flushes-acted : (came : Option Posted) (flush : Option FlushModel) (l : Life S) → IsLife group me l → l.flush ≡ flush → l.promise.is_installed ≡ false
+  flushes-acted : (came : Option Posted) (flush : Option FlushModel) (l : MemberState S) → IsMemberState group me l → l.flush ≡ flush → l.promise.is_installed ≡ false
       → PutsOut came l (option_map_or (proposes_again me) flush (reports_again me l))
   flushes-acted came None l kept is waits = reports-acted came l.promise.proposal l kept refl is (λ some. waits)
   flushes-acted came (Some f) l kept is waits = proposes-acted came f l kept is
 
-  pub flush-again-did : (came : Option Posted) (old : Life S) (out later : Output) → IsLife group me old → is_some old.traffic ≡ true → old.promise.is_installed ≡ false
+  pub flush-again-did : (came : Option Posted) (old : MemberState S) (out later : Output) → IsMemberState group me old → is_some old.view_state ≡ true → old.promise.is_installed ≡ false
       → Grows group out later (flushes_again me old) [] → DidThis came old old out later
   flush-again-did came old out later kept inside waits grows =
       puts-did came old old (flushes_again me old) out later refl grows (flushes-acted came old.flush old kept refl waits)
 
   -- ---- it leaves
 
-  leaves-acted : (came : Option Posted) (l : Life S) → Acted meaning came (Some (core_of me l)) [] (Left me ∷ []) None
+  leaves-acted : (came : Option Posted) (l : MemberState S) → Acted meaning came (Some (core_of me l)) [] (Left me ∷ []) None
   leaves-acted came l = one-acted meaning came (core_of me l) Goes tt
 
-  leaving-acted : (came : Option Posted) (view : Option View) (l : Life S)
+  leaving-acted : (came : Option Posted) (view : Option View) (l : MemberState S)
       → Acted meaning came (Some (core_of me l)) (option_map_or (λ v. map (packet me bodies.Leave) (others_of me v.members)) view []) (Left me ∷ []) None
   leaving-acted came None l = leaves-acted came l
   leaving-acted came (Some v) l =
@@ -330,5 +323,5 @@ module _ {S : Type 0} (meaning : Meaning S) (group : List ℕ) (me : Address) wh
       (then-acted meaning came (Some (core_of me l)) (Some (core_of me l)) None ps [] [] (Left me ∷ [])
       (puts-all-acted came l bodies.Leave list (all-each (λ q. Describes (core_of me l) q bodies.Leave) list (λ q. tt))) (leaves-acted came l))
 
-  pub leave-acted : (came : Option Posted) (old : Life S) (out later : Output) → Leaves group me old out later → HasLeft meaning came group me old out later
-  leave-acted came old out later x = record { posted = _; grows = x.grows; acted = leaving-acted came (view_in old.traffic) old }
+  pub leave-acted : (came : Option Posted) (old : MemberState S) (out later : Output) → Leaves group me old out later → HasLeft meaning came group me old out later
+  leave-acted came old out later x = record { posted = _; grows = x.grows; acted = leaving-acted came (view_in old.view_state) old }

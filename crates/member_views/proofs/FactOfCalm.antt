@@ -8,32 +8,32 @@ use Rattle.std.proofs.lemmas.List.{append-nil, length-append}
 use Rattle.address.specs.Ids.{Address, ViewId, same_address}
 use Rattle.view.specs.Members.{View}
 use Rattle.limits.specs.declared.TheConstants.{WINDOW}
-use Rattle.wire.specs.Values.{Entry, Report}
-use Rattle.wire.specs.Values as wire
+use Rattle.wire_values.specs.Values.{Entry, Report}
+use Rattle.wire_values.specs.Values as wire
 use Rattle.state_transfer.specs.Meanings.{Meaning}
 use Rattle.trace_props.specs.declared.event.Event.{Event}
 use Rattle.trace_props.specs.declared.event.Event.TheVariants.{Blocked}
-use Rattle.flush.specs.Cuts.{entries_from, cut_items, cut_base, held_among}
 use Rattle.flush.specs.Flushes.{FlushModel, group}
 use Rattle.view_install.specs.declared.promise.OfferAnswer.{OfferAnswer}
 use Rattle.view_install.specs.declared.promise.OfferAnswer.TheVariants.{Accept, Behind, Ignore}
 use Rattle.view_install.specs.Promises.{offered}
-use Rattle.agreement.specs.Histories.{Posted}
-use Rattle.agreement.specs.Cores.{is_open}
-use Rattle.agreement.specs.Acts.{delivery}
-use Rattle.member_acts.specs.Decisions.{due_proposal, is_entry, cuts_of}
-use Rattle.output.specs.declared.output.Output.{Output}
-use Rattle.output.specs.Outputs.{Grows}
-use Rattle.output.specs.Calm.{is_quiet, IsCalm}
-use Rattle.output.proofs.FactOfCalm.{calm-nothing, calm-grown, calm-then, calm-wider}
-use Rattle.traffic.specs.declared.traffic.Traffic.{Traffic}
-use Rattle.traffic.specs.Traffics.{view_of, traffic_of}
-use Rattle.membership.specs.declared.life.Life.{Life}
-use Rattle.candidates.specs.Notes.{having_heard, suspecting}
-use Rattle.membership.specs.Lives.{core_of, is_complete, recording, anew_proposal, view_in, blocked_by}
+use Rattle.acts.specs.Histories.{Posted}
+use Rattle.acts.specs.Cores.{is_open}
+use Rattle.acts.specs.Acts.{delivery}
+use Rattle.decisions.specs.Decisions.{due_proposal, is_entry, cuts_of}
+use Rattle.step_output.specs.declared.output.Output.{Output}
+use Rattle.step_output.specs.Outputs.{Grows}
+use Rattle.step_output.specs.Calm.{is_quiet, IsCalm}
+use Rattle.step_output.proofs.FactOfCalm.{calm-nothing, calm-grown, calm-then, calm-wider, deliveries-quiet}
+use Rattle.traffic.specs.declared.view_state.ViewState.{ViewState}
+use Rattle.traffic.specs.ViewStates.{view_of, view_core_of}
+use Rattle.membership.specs.declared.member_state.MemberState.{MemberState}
+use Rattle.next_view.specs.Notes.{having_heard, suspecting}
+use Rattle.membership.specs.MemberStates.{core_of, is_complete, recording, anew_proposal, view_in, blocked_by}
 use Rattle.membership.specs.Installs.{delivered_by, lacking, finish_events, enter_events}
 use Rattle.membership.specs.Changes.{StaysAs, TakesBy, TakesFlush, BeginsAndGoesOn, Begins, FinishesAndProposes, GoesOn, Regroups, TakesReport, TakesBehind, TakesSuspicion, TakesInstall, Enters}
 use Rattle.member_views.specs.Views.{OnJoin, OnRedirect, OnSuspect, OnFlush, OnBehind, OnReport, OnMerge, Asks, Redirects, SaysAgain, Admits, Meets, AnnouncesView, outdated, joined, merged, leads_now, has_member, is_less, is_suspectable, is_proposing, expects, is_in}
+use Rattle.flush.proofs.FewItems.{cut-few}
 
 -- ---- how much is delivered at most
 
@@ -46,26 +46,14 @@ more-by : (o : Option Entry) (rest : List Entry) (n : ℕ) → length rest ≤ n
 more-by None rest n few = omega (arith)
 more-by (Some e) rest n few = omega (arith, few)
 
-entries-few : (reports : List Report) (g n : ℕ) → length (entries_from reports g n) ≤ n
-entries-few reports g zero = omega (arith)
-entries-few reports g (suc n) = more-by (held_among reports g) (entries_from reports (g + 1) n) n (entries-few reports (g + 1) n)
-
-cut-few : (reports : List Report) → length (cut_items reports) ≤ WINDOW
-unfolding cut_items
-cut-few reports = entries-few reports (cut_base reports + 1) WINDOW
-
-delivered_by-few : (f : FlushModel) (t : Traffic) → length (delivered_by f t) ≤ WINDOW
+delivered_by-few : (f : FlushModel) (t : ViewState) → length (delivered_by f t) ≤ WINDOW
 delivered_by-few f t =
     let items = (cuts_of f).items (view_of t).id in
-    let a = shorter ((traffic_of t).delivered - (cuts_of f).base (view_of t).id) items in
+    let a = shorter ((view_core_of t).delivered - (cuts_of f).base (view_of t).id) items in
     let b = cut-few (group (Some (view_of t).id) f.reports) in
     omega (arith, a, b)
 
 -- ---- what is delivered is quiet
-
-quiet-deliveries : (p : Address) (v : ViewId) (l : List Entry) → list_all is_quiet (map (delivery p v) l) ≡ true
-quiet-deliveries p v [] = refl
-quiet-deliveries p v (e ∷ l) = quiet-deliveries p v l
 
 quiet-then : (hs : List Event) (h : Event) → list_all is_quiet hs ≡ true → is_quiet h ≡ true → list_all is_quiet (hs ++ h ∷ []) ≡ true
 quiet-then [] h x y = ap (λ b. b && true) y
@@ -92,157 +80,157 @@ silent : (group : List ℕ) (n : ℕ) (ps : List Posted) (out later : Output) �
 silent group n ps out later g = calm-grown group n out later ps [] g (omega (arith)) refl
 
 module _ {S : Type 0} (me : Address) (group : List ℕ) where
-  stays : (n : ℕ) (old new : Life S) (out later : Output) → StaysAs old new out later → IsCalm n out later
+  stays : (n : ℕ) (old new : MemberState S) (out later : Output) → StaysAs old new out later → IsCalm n out later
   stays n old new out later x = subst (λ (z : Output). IsCalm n out z) (sym x.1) (calm-nothing n out)
 
-  blocked : (ps : List Posted) (old : Life S) (out later : Output) → Grows group out later ps (blocked_by me old) → IsCalm 1 out later
-  blocked ps old out later g = let b = is_open (view_in old.traffic) old.promise.is_installed in calm-grown group 1 out later ps (blocked_by me old) g (blocked-few b me) (blocked-quiet b me)
+  blocked : (ps : List Posted) (old : MemberState S) (out later : Output) → Grows group out later ps (blocked_by me old) → IsCalm 1 out later
+  blocked ps old out later g = let b = is_open (view_in old.view_state) old.promise.is_installed in calm-grown group 1 out later ps (blocked_by me old) g (blocked-few b me) (blocked-quiet b me)
 
   module _ (meaning : Meaning S) where
-    begins-by : (o : Option View) (old new : Life S) (out later : Output) → MatchOption o (StaysAs old new out later) (λ w. Begins group me w old new out later) → IsCalm 1 out later
+    begins-by : (o : Option View) (old new : MemberState S) (out later : Output) → MatchOption o (StaysAs old new out later) (λ w. Begins group me w old new out later) → IsCalm 1 out later
     begins-by None old new out later x = stays 1 old new out later x
     begins-by (Some w) old new out later x = blocked _ old out later x.grows
 
-    finishes-events : (f : FlushModel) (t : Traffic) → length (finish_events me f t) ≤ WINDOW + 1
+    finishes-events : (f : FlushModel) (t : ViewState) → length (finish_events me f t) ≤ WINDOW + 1
     finishes-events f t =
         let e = delivered-few me (view_of t).id (delivered_by f t) in
         let k = delivered_by-few f t in
         one-more (map (delivery me (view_of t).id) (delivered_by f t)) _ WINDOW (omega (arith, e, k))
 
-    finishes-at : (traffic : Option Traffic) (f : FlushModel) (old new : Life S) (out later : Output) → MatchOption traffic ⊥ (λ t. FinishesAndProposes meaning group me f t old new out later) → IsCalm (WINDOW + 2) out later
+    finishes-at : (view_state : Option ViewState) (f : FlushModel) (old new : MemberState S) (out later : Output) → MatchOption view_state ⊥ (λ t. FinishesAndProposes meaning group me f t old new out later) → IsCalm (WINDOW + 2) out later
     finishes-at None f old new out later x = absurd x
     finishes-at (Some t) f old new out later x =
-        let quiet = quiet-then (map (delivery me (view_of t).id) (delivered_by f t)) _ (quiet-deliveries me (view_of t).id (delivered_by f t)) refl in
+        let quiet = quiet-then (map (delivery me (view_of t).id) (delivered_by f t)) _ (deliveries-quiet me (view_of t).id (delivered_by f t)) refl in
         calm-then (WINDOW + 1) 1 out x.between later (calm-grown group (WINDOW + 1) out x.between _ (finish_events me f t) x.finishes.grows (finishes-events f t) quiet)
         (begins-by (due_proposal (core_of me x.mid) x.mid.notes) x.mid new x.between later x.proposes)
 
-    finishes-when : (b : Bool) (f : FlushModel) (old new : Life S) (out later : Output)
-        → MatchBool b (MatchOption old.traffic ⊥ (λ t. FinishesAndProposes meaning group me f t old new out later)) (StaysAs old new out later) → IsCalm (WINDOW + 2) out later
-    finishes-when true f old new out later x = finishes-at old.traffic f old new out later x
+    finishes-when : (b : Bool) (f : FlushModel) (old new : MemberState S) (out later : Output)
+        → MatchBool b (MatchOption old.view_state ⊥ (λ t. FinishesAndProposes meaning group me f t old new out later)) (StaysAs old new out later) → IsCalm (WINDOW + 2) out later
+    finishes-when true f old new out later x = finishes-at old.view_state f old new out later x
     finishes-when false f old new out later x = stays (WINDOW + 2) old new out later x
 
-    finishes-by : (o : Option FlushModel) (old new : Life S) (out later : Output)
+    finishes-by : (o : Option FlushModel) (old new : MemberState S) (out later : Output)
         → MatchOption o (StaysAs old new out later)
-        (λ f. MatchBool (is_complete f) (MatchOption old.traffic ⊥ (λ t. FinishesAndProposes meaning group me f t old new out later)) (StaysAs old new out later)) → IsCalm (WINDOW + 2) out later
+        (λ f. MatchBool (is_complete f) (MatchOption old.view_state ⊥ (λ t. FinishesAndProposes meaning group me f t old new out later)) (StaysAs old new out later)) → IsCalm (WINDOW + 2) out later
     finishes-by None old new out later x = stays (WINDOW + 2) old new out later x
     finishes-by (Some f) old new out later x = finishes-when (is_complete f) f old new out later x
 
-    goes-on : (old new : Life S) (out later : Output) → GoesOn meaning group me old new out later → IsCalm (WINDOW + 2) out later
+    goes-on : (old new : MemberState S) (out later : Output) → GoesOn meaning group me old new out later → IsCalm (WINDOW + 2) out later
     goes-on old new out later x = finishes-by old.flush old new out later x
 
-    goes-on-by : (o : Option View) (old new : Life S) (out later : Output) → MatchOption o (StaysAs old new out later) (λ w. BeginsAndGoesOn meaning group me w old new out later) → IsCalm (WINDOW + 3) out later
+    goes-on-by : (o : Option View) (old new : MemberState S) (out later : Output) → MatchOption o (StaysAs old new out later) (λ w. BeginsAndGoesOn meaning group me w old new out later) → IsCalm (WINDOW + 3) out later
     goes-on-by None old new out later x = stays (WINDOW + 3) old new out later x
     goes-on-by (Some w) old new out later x = calm-then 1 (WINDOW + 2) out x.between later (blocked _ old out x.between x.begins.grows) (goes-on x.mid new x.between later x.goes_on)
 
-    pub regroups : (old new : Life S) (out later : Output) → Regroups meaning group me old new out later → IsCalm (WINDOW + 3) out later
+    pub regroups : (old new : MemberState S) (out later : Output) → Regroups meaning group me old new out later → IsCalm (WINDOW + 3) out later
     regroups old new out later x = goes-on-by (due_proposal (core_of me old) old.notes) old new out later x
 
-    takes-by : (a : OfferAnswer) (w : View) (old new : Life S) (out later : Output) → TakesBy a group me w old new out later → IsCalm (WINDOW + 3) out later
+    takes-by : (a : OfferAnswer) (w : View) (old new : MemberState S) (out later : Output) → TakesBy a group me w old new out later → IsCalm (WINDOW + 3) out later
     takes-by Accept w old new out later x = calm-wider 1 (WINDOW + 3) out later (omega (arith)) (blocked _ old out later x.grows)
     takes-by (Behind counter) w old new out later x = silent group (WINDOW + 3) _ out later x.1
     takes-by Ignore w old new out later x = stays (WINDOW + 3) old new out later x
 
-    behind : (counter : ℕ) (old new : Life S) (out later : Output) → TakesBehind meaning group me counter old new out later → IsCalm (WINDOW + 3) out later
+    behind : (counter : ℕ) (old new : MemberState S) (out later : Output) → TakesBehind meaning group me counter old new out later → IsCalm (WINDOW + 3) out later
     behind counter old new out later x =
         let heard = record old { notes = having_heard counter old.notes } in goes-on-by (anew_proposal me heard) heard new out later x
 
-    enters-in : (traffic : Option Traffic) (i : wire.Install) → length i.items ≤ WINDOW → (length (enter_events me traffic i) ≤ WINDOW + 1) × (list_all is_quiet (enter_events me traffic i) ≡ true)
+    enters-in : (view_state : Option ViewState) (i : wire.Install) → length i.items ≤ WINDOW → (length (enter_events me view_state i) ≤ WINDOW + 1) × (list_all is_quiet (enter_events me view_state i) ≡ true)
     enters-in None i few = (omega (arith), refl)
     enters-in (Some t) i few =
         let l = lacking (Some t) i in
-        let a = shorter ((traffic_of t).delivered - i.base) i.items in
+        let a = shorter ((view_core_of t).delivered - i.base) i.items in
         let e = delivered-few me (view_of t).id l in
-        (one-more (map (delivery me (view_of t).id) l) _ WINDOW (omega (arith, e, a, few)), quiet-then (map (delivery me (view_of t).id) l) _ (quiet-deliveries me (view_of t).id l) refl)
+        (one-more (map (delivery me (view_of t).id) l) _ WINDOW (omega (arith, e, a, few)), quiet-then (map (delivery me (view_of t).id) l) _ (deliveries-quiet me (view_of t).id l) refl)
 
-    entry-by : (b : Bool) (A : Type 0) (i : wire.Install) (old new : Life S) (out later : Output) → length i.items ≤ WINDOW
-        → MatchBool b (A × Enters meaning group me old.traffic i old new out later) (StaysAs old new out later) → IsCalm (WINDOW + 3) out later
+    entry-by : (b : Bool) (A : Type 0) (i : wire.Install) (old new : MemberState S) (out later : Output) → length i.items ≤ WINDOW
+        → MatchBool b (A × Enters meaning group me old.view_state i old new out later) (StaysAs old new out later) → IsCalm (WINDOW + 3) out later
     entry-by true A i old new out later few x =
-        let k = enters-in old.traffic i few in
-        calm-wider (WINDOW + 1) (WINDOW + 3) out later (omega (arith)) (calm-grown group (WINDOW + 1) out later [] (enter_events me old.traffic i) x.1.grows k.0 k.1)
+        let k = enters-in old.view_state i few in
+        calm-wider (WINDOW + 1) (WINDOW + 3) out later (omega (arith)) (calm-grown group (WINDOW + 1) out later [] (enter_events me old.view_state i) x.1.grows k.0 k.1)
     entry-by false A i old new out later few x = stays (WINDOW + 3) old new out later x
 
     -- ---- by the packet that came, or the input
 
-    pub install-calm : (q : Address) (i : wire.Install) (old new : Life S) (out later : Output) → length i.items ≤ WINDOW → TakesInstall meaning group me q i old new out later → IsCalm (WINDOW + 3) out later
+    pub install-calm : (q : Address) (i : wire.Install) (old new : MemberState S) (out later : Output) → length i.items ≤ WINDOW → TakesInstall meaning group me q i old new out later → IsCalm (WINDOW + 3) out later
     install-calm q i old new out later few x = entry-by (is_entry (core_of me old) q i) _ i old new out later few x
 
-    announces : (p : Address) (old new : Life S) (out later : Output) → AnnouncesView group me p old new out later → IsCalm (WINDOW + 3) out later
+    announces : (p : Address) (old new : MemberState S) (out later : Output) → AnnouncesView group me p old new out later → IsCalm (WINDOW + 3) out later
     announces p old new out later x = silent group (WINDOW + 3) _ out later x.grows
 
-    admits-by : (b : Bool) (q : Address) (l new : Life S) (out later : Output)
+    admits-by : (b : Bool) (q : Address) (l new : MemberState S) (out later : Output)
         → MatchBool b (Regroups meaning group me (joined me q l) new out later) (Redirects group me q l new out later) → IsCalm (WINDOW + 3) out later
     admits-by true q l new out later x = regroups (joined me q l) new out later x
     admits-by false q l new out later x = silent group (WINDOW + 3) _ out later x.grows
 
-    join-by : (b : Bool) (q : Address) (old new : Life S) (out later : Output)
+    join-by : (b : Bool) (q : Address) (old new : MemberState S) (out later : Output)
         → MatchBool b (Admits meaning group me q (outdated me q old) new out later) (StaysAs old new out later) → IsCalm (WINDOW + 3) out later
     join-by true q old new out later x = admits-by (leads_now me (outdated me q old)) q (outdated me q old) new out later x
     join-by false q old new out later x = stays (WINDOW + 3) old new out later x
 
-    pub join-calm : (q : Address) (old new : Life S) (out later : Output) → OnJoin meaning group me q old new out later → IsCalm (WINDOW + 3) out later
-    join-calm q old new out later x = join-by (is_some old.traffic) q old new out later x
+    pub join-calm : (q : Address) (old new : MemberState S) (out later : Output) → OnJoin meaning group me q old new out later → IsCalm (WINDOW + 3) out later
+    join-calm q old new out later x = join-by (is_some old.view_state) q old new out later x
 
-    redirect-in : (b : Bool) (c : Address) (old new : Life S) (out later : Output) → MatchBool b (AnnouncesView group me c old new out later) (Asks group me c old new out later) → IsCalm (WINDOW + 3) out later
+    redirect-in : (b : Bool) (c : Address) (old new : MemberState S) (out later : Output) → MatchBool b (AnnouncesView group me c old new out later) (Asks group me c old new out later) → IsCalm (WINDOW + 3) out later
     redirect-in true c old new out later x = announces c old new out later x
     redirect-in false c old new out later x = silent group (WINDOW + 3) _ out later x.grows
 
-    redirect-by : (b : Bool) (c : Address) (old new : Life S) (out later : Output)
-        → MatchBool b (StaysAs old new out later) (MatchBool (is_some old.traffic) (AnnouncesView group me c old new out later) (Asks group me c old new out later)) → IsCalm (WINDOW + 3) out later
+    redirect-by : (b : Bool) (c : Address) (old new : MemberState S) (out later : Output)
+        → MatchBool b (StaysAs old new out later) (MatchBool (is_some old.view_state) (AnnouncesView group me c old new out later) (Asks group me c old new out later)) → IsCalm (WINDOW + 3) out later
     redirect-by true c old new out later x = stays (WINDOW + 3) old new out later x
-    redirect-by false c old new out later x = redirect-in (is_some old.traffic) c old new out later x
+    redirect-by false c old new out later x = redirect-in (is_some old.view_state) c old new out later x
 
-    pub redirect-calm : (c : Address) (old new : Life S) (out later : Output) → OnRedirect group me c old new out later → IsCalm (WINDOW + 3) out later
+    pub redirect-calm : (c : Address) (old new : MemberState S) (out later : Output) → OnRedirect group me c old new out later → IsCalm (WINDOW + 3) out later
     redirect-calm c old new out later x = redirect-by (same_address c me) c old new out later x
 
-    suspect-by : (b : Bool) (p : Address) (old new : Life S) (out later : Output) → MatchBool b (TakesSuspicion meaning group me p old new out later) (StaysAs old new out later) → IsCalm (WINDOW + 3) out later
+    suspect-by : (b : Bool) (p : Address) (old new : MemberState S) (out later : Output) → MatchBool b (TakesSuspicion meaning group me p old new out later) (StaysAs old new out later) → IsCalm (WINDOW + 3) out later
     suspect-by true p old new out later x = regroups (record old { notes = suspecting p old.notes }) new out later x
     suspect-by false p old new out later x = stays (WINDOW + 3) old new out later x
 
-    pub suspect-calm : (p : Address) (old new : Life S) (out later : Output) → OnSuspect meaning group me p old new out later → IsCalm (WINDOW + 3) out later
+    pub suspect-calm : (p : Address) (old new : MemberState S) (out later : Output) → OnSuspect meaning group me p old new out later → IsCalm (WINDOW + 3) out later
     suspect-calm p old new out later x = suspect-by (is_suspectable me p old) p old new out later x
 
-    flush-by : (b : Bool) (w : View) (old new : Life S) (out later : Output) → MatchBool b (TakesFlush group me w old new out later) (StaysAs old new out later) → IsCalm (WINDOW + 3) out later
+    flush-by : (b : Bool) (w : View) (old new : MemberState S) (out later : Output) → MatchBool b (TakesFlush group me w old new out later) (StaysAs old new out later) → IsCalm (WINDOW + 3) out later
     flush-by true w old new out later x = takes-by (offered w old.promise) w old new out later x
     flush-by false w old new out later x = stays (WINDOW + 3) old new out later x
 
-    pub flush-calm : (q : Address) (w : View) (old new : Life S) (out later : Output) → OnFlush group me q w old new out later → IsCalm (WINDOW + 3) out later
+    pub flush-calm : (q : Address) (w : View) (old new : MemberState S) (out later : Output) → OnFlush group me q w old new out later → IsCalm (WINDOW + 3) out later
     flush-calm q w old new out later x = flush-by (same_address w.id.creator q) w old new out later x
 
-    behind-by : (b : Bool) (counter : ℕ) (old new : Life S) (out later : Output) → MatchBool b (TakesBehind meaning group me counter old new out later) (StaysAs old new out later) → IsCalm (WINDOW + 3) out later
+    behind-by : (b : Bool) (counter : ℕ) (old new : MemberState S) (out later : Output) → MatchBool b (TakesBehind meaning group me counter old new out later) (StaysAs old new out later) → IsCalm (WINDOW + 3) out later
     behind-by true counter old new out later x = behind counter old new out later x
     behind-by false counter old new out later x = stays (WINDOW + 3) old new out later x
 
-    pub behind-calm : (w : ViewId) (counter : ℕ) (old new : Life S) (out later : Output) → OnBehind meaning group me w counter old new out later → IsCalm (WINDOW + 3) out later
+    pub behind-calm : (w : ViewId) (counter : ℕ) (old new : MemberState S) (out later : Output) → OnBehind meaning group me w counter old new out later → IsCalm (WINDOW + 3) out later
     behind-calm w counter old new out later x = behind-by (is_proposing w old) counter old new out later x
 
-    again-by : (b : Bool) (q : Address) (old new : Life S) (out later : Output)
+    again-by : (b : Bool) (q : Address) (old new : MemberState S) (out later : Output)
         → MatchBool b (SaysAgain q old new out later) (StaysAs old new out later) → IsCalm (WINDOW + 3) out later
     again-by true q old new out later x = record { more = []; grows = x.again.events ∙ sym (append-nil out.events.items); few = omega (arith); quiet = refl }
     again-by false q old new out later x = stays (WINDOW + 3) old new out later x
 
-    report-by : (b d : Bool) (q : Address) (w : ViewId) (r : wire.Report) (old new : Life S) (out later : Output)
+    report-by : (b d : Bool) (q : Address) (w : ViewId) (r : wire.Report) (old new : MemberState S) (out later : Output)
         → MatchBool b (TakesReport meaning group me q w r old new out later) (MatchBool d (SaysAgain q old new out later) (StaysAs old new out later)) → IsCalm (WINDOW + 3) out later
     report-by true d q w r old new out later x = calm-wider (WINDOW + 2) (WINDOW + 3) out later (omega (arith)) (goes-on (record old { flush = option_map (recording q w r) old.flush }) new out later x)
     report-by false d q w r old new out later x = again-by d q old new out later x
 
-    pub report-calm : (q : Address) (w : ViewId) (r : wire.Report) (old new : Life S) (out later : Output) → OnReport meaning group me q w r old new out later → IsCalm (WINDOW + 3) out later
+    pub report-calm : (q : Address) (w : ViewId) (r : wire.Report) (old new : MemberState S) (out later : Output) → OnReport meaning group me q w r old new out later → IsCalm (WINDOW + 3) out later
     report-calm q w r old new out later x = report-by (expects q w old) (is_in w old) q w r old new out later x
 
-    meets-by : (b : Bool) (q : Address) (u : View) (old new : Life S) (out later : Output)
+    meets-by : (b : Bool) (q : Address) (u : View) (old new : MemberState S) (out later : Output)
         → MatchBool b (AnnouncesView group me q old new out later) (Regroups meaning group me (merged me u old) new out later) → IsCalm (WINDOW + 3) out later
     meets-by true q u old new out later x = announces q old new out later x
     meets-by false q u old new out later x = regroups (merged me u old) new out later x
 
-    merge-in : (b : Bool) (q : Address) (u : View) (old new : Life S) (out later : Output)
+    merge-in : (b : Bool) (q : Address) (u : View) (old new : MemberState S) (out later : Output)
         → MatchBool b (Meets meaning group me q u old new out later) (Redirects group me q old new out later) → IsCalm (WINDOW + 3) out later
     merge-in true q u old new out later x = meets-by (is_less q me) q u old new out later x
     merge-in false q u old new out later x = silent group (WINDOW + 3) _ out later x.grows
 
-    merge-by : (b : Bool) (q : Address) (u : View) (old new : Life S) (out later : Output)
+    merge-by : (b : Bool) (q : Address) (u : View) (old new : MemberState S) (out later : Output)
         → MatchBool b (MatchBool (leads_now me old) (Meets meaning group me q u old new out later) (Redirects group me q old new out later)) (StaysAs old new out later)
         → IsCalm (WINDOW + 3) out later
     merge-by true q u old new out later x = merge-in (leads_now me old) q u old new out later x
     merge-by false q u old new out later x = stays (WINDOW + 3) old new out later x
 
-    pub merge-calm : (q : Address) (u : View) (old new : Life S) (out later : Output) → OnMerge meaning group me q u old new out later → IsCalm (WINDOW + 3) out later
-    merge-calm q u old new out later x = merge-by (is_some old.traffic && not (has_member q old)) q u old new out later x
+    pub merge-calm : (q : Address) (u : View) (old new : MemberState S) (out later : Output) → OnMerge meaning group me q u old new out later → IsCalm (WINDOW + 3) out later
+    merge-calm q u old new out later x = merge-by (is_some old.view_state && not (has_member q old)) q u old new out later x

@@ -2,45 +2,45 @@
 
 ghost use Rattle.std.specs.Prelude.{◌≡◌, Ok, OnOk, true, false};
 ghost use Rattle.address.specs.Ids.{same_address};
-ghost use Rattle.membership.specs.Lives.{IsLife, is_connected};
+ghost use Rattle.membership.specs.MemberStates.{IsMemberState, is_connected};
 ghost use Rattle.membership.specs.Changes.{StaysAs};
 ghost use Rattle.member_views.specs.Views.{OnFlush, OnBehind, OnReport, is_proposing, is_in};
 ghost use Rattle.member_views.specs.Ignoring.{is_flush_ignored, is_report_ignored};
 
 use address::{Address, ViewId};
-use membership::Life;
-use output::{Identity, Output};
+use membership::MemberState;
 use state_transfer::Receiver;
 use std::alloc::AllocError;
-use wire::{Number, Report, Roster};
+use step_output::{Identity, Output};
+use wire_values::{Number, Report, Roster};
 
 /// FLUSH: another proposes a view. It counts where its source is who proposes; then a greater one is promised and reported for, and one that is behind is
 /// answered (docs/PROTOCOL.md, "Promise"). After an error for want of memory nothing is said of the member.
 pub fn on_flush<R: Receiver>(
-    life: &mut Life<R>,
+    member_state: &mut MemberState<R>,
     who: &Identity,
     source: Address,
     proposal: &Roster,
     out: &mut Output,
 ) -> Result<(), AllocError>
-    requires life { IsLife who.now.group who.now.address life.old }
+    requires member_state { IsMemberState who.now.group who.now.address member_state.old }
     requires other { same_address source who.now.address ≡ false }
-    requires connected { is_connected life.old ≡ true }
-    ensures life { OnOk result (IsLife who.now.group who.now.address life.new) }
-    ensures does { OnOk result (OnFlush who.now.group who.now.address source proposal.now life.old life.new out.old out.new) }
-    ensures ignored { is_flush_ignored source proposal.now life.old ≡ true → (result ≡ Ok tt) × StaysAs life.old life.new out.old out.new }
+    requires connected { is_connected member_state.old ≡ true }
+    ensures member_state { OnOk result (IsMemberState who.now.group who.now.address member_state.new) }
+    ensures does { OnOk result (OnFlush who.now.group who.now.address source proposal.now member_state.old member_state.new out.old out.new) }
+    ensures ignored { is_flush_ignored source proposal.now member_state.old ≡ true → (result ≡ Ok tt) × StaysAs member_state.old member_state.new out.old out.new }
 {
     if proposal.id().creator() == source {
-        life.take_flush(who, proposal, out)?;
+        member_state.take_flush(who, proposal, out)?;
     }
     Ok(())
 }
 
 // Whether this is what its own flush proposes.
-fn is_proposing<R: Receiver>(life: &Life<R>, proposal: ViewId) -> bool
-    ensures { result ≡ is_proposing proposal life.now }
+fn is_proposing<R: Receiver>(member_state: &MemberState<R>, proposal: ViewId) -> bool
+    ensures { result ≡ is_proposing proposal member_state.now }
 {
-    match &life.flush {
+    match &member_state.flush {
         None => false,
         Some(flush) => flush.proposal() == proposal,
     }
@@ -49,30 +49,30 @@ fn is_proposing<R: Receiver>(life: &Life<R>, proposal: ViewId) -> bool
 /// BEHIND: its own proposal is too low; it is begun anew with a greater counter (docs/PROTOCOL.md, "Flush"). One that is not for its own flush is
 /// ignored. After an error for want of memory nothing is said of the member.
 pub fn on_behind<R: Receiver>(
-    life: &mut Life<R>,
+    member_state: &mut MemberState<R>,
     who: &Identity,
     proposal: ViewId,
     counter: Number,
     out: &mut Output,
 ) -> Result<(), AllocError>
-    requires life { IsLife who.now.group who.now.address life.old }
-    ensures life { OnOk result (IsLife who.now.group who.now.address life.new) }
-    ensures does { OnOk result (OnBehind R.meaning who.now.group who.now.address proposal counter life.old life.new out.old out.new) }
-    ensures ignored { is_proposing proposal life.old ≡ false → (result ≡ Ok tt) × StaysAs life.old life.new out.old out.new }
+    requires member_state { IsMemberState who.now.group who.now.address member_state.old }
+    ensures member_state { OnOk result (IsMemberState who.now.group who.now.address member_state.new) }
+    ensures does { OnOk result (OnBehind R.meaning who.now.group who.now.address proposal counter member_state.old member_state.new out.old out.new) }
+    ensures ignored { is_proposing proposal member_state.old ≡ false → (result ≡ Ok tt) × StaysAs member_state.old member_state.new out.old out.new }
 {
-    if is_proposing(life, proposal) {
-        life.take_behind(who, counter, out)?;
+    if is_proposing(member_state, proposal) {
+        member_state.take_behind(who, counter, out)?;
     }
     Ok(())
 }
 
 // Whether it is in this view.
-fn is_in<R: Receiver>(life: &Life<R>, view: ViewId) -> bool
-    ensures { result ≡ is_in view life.now }
+fn is_in<R: Receiver>(member_state: &MemberState<R>, view: ViewId) -> bool
+    ensures { result ≡ is_in view member_state.now }
 {
-    match &life.traffic {
+    match &member_state.view_state {
         None => false,
-        Some(traffic) => traffic.view().id() == view,
+        Some(view_state) => view_state.view().id() == view,
     }
 }
 
@@ -80,24 +80,24 @@ fn is_in<R: Receiver>(life: &Life<R>, view: ViewId) -> bool
 /// view, which is put out again where it was kept (docs/PROTOCOL.md, "Flush" and "Install"). Any other is ignored. After an error for want of memory
 /// nothing is said of the member.
 pub fn on_report<R: Receiver>(
-    life: &mut Life<R>,
+    member_state: &mut MemberState<R>,
     who: &Identity,
     source: Address,
     proposal: ViewId,
     report: &Report<'_>,
     out: &mut Output,
 ) -> Result<(), AllocError>
-    requires life { IsLife who.now.group who.now.address life.old }
-    ensures life { OnOk result (IsLife who.now.group who.now.address life.new) }
-    ensures does { OnOk result (OnReport R.meaning who.now.group who.now.address source proposal report.now life.old life.new out.old out.new) }
-    ensures ignored { is_report_ignored source proposal life.old ≡ true → (result ≡ Ok tt) × StaysAs life.old life.new out.old out.new }
+    requires member_state { IsMemberState who.now.group who.now.address member_state.old }
+    ensures member_state { OnOk result (IsMemberState who.now.group who.now.address member_state.new) }
+    ensures does { OnOk result (OnReport R.meaning who.now.group who.now.address source proposal report.now member_state.old member_state.new out.old out.new) }
+    ensures ignored { is_report_ignored source proposal member_state.old ≡ true → (result ≡ Ok tt) × StaysAs member_state.old member_state.new out.old out.new }
 {
-    if life.expects(&source, proposal) {
-        life.take_report(who, source, proposal, report, out)?;
+    if member_state.expects(&source, proposal) {
+        member_state.take_report(who, source, proposal, report, out)?;
         return Ok(());
     }
-    if is_in(life, proposal) {
-        life.install_again(who, &source, out)?;
+    if is_in(member_state, proposal) {
+        member_state.install_again(who, &source, out)?;
     }
     Ok(())
 }

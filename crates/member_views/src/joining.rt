@@ -3,8 +3,8 @@
 ghost use Rattle.std.specs.Prelude.{◌≡◌, Ok, IfOk, OnOk, is_some, true, false, None};
 ghost use Rattle.std.specs.Option.{option_map_or};
 ghost use Rattle.address.specs.Ids.{same_address};
-ghost use Rattle.candidates.specs.Noting.{noting};
-ghost use Rattle.membership.specs.Lives.{IsLife, view_in, is_connected};
+ghost use Rattle.next_view.specs.Noting.{noting};
+ghost use Rattle.membership.specs.MemberStates.{IsMemberState, view_in, is_connected};
 ghost use Rattle.membership.specs.Changes.{StaysAs};
 ghost use Rattle.member_views.specs.Firsts.{lone_install};
 ghost use Rattle.member_views.specs.Views.{Creates, Asks, OnJoin, OnRedirect, Redirects, Admits, leads_now, first_in, outdated, joined};
@@ -12,15 +12,15 @@ ghost use Rattle.member_views.specs.Ignoring.{is_misdirected};
 
 use crate::merging::announce_view;
 use address::{Address, ViewId};
-use candidates::Notes;
-use membership::Life;
-use output::{Identity, Output};
+use membership::MemberState;
+use next_view::Notes;
 use state_transfer::Receiver;
 use std::alloc::AllocError;
+use step_output::{Identity, Output};
 use trace_props::{Event, HandedBack, Install};
-use traffic::Traffic;
+use traffic::ViewState;
 use view::{Addresses, View};
-use wire::{Body, Roster};
+use wire_values::{Body, Roster};
 
 // The install of a member's first view, of itself alone.
 fn lone_install(who: &Identity) -> Result<Install, AllocError>
@@ -41,53 +41,53 @@ fn lone_install(who: &Identity) -> Result<Install, AllocError>
 /// Makes a group of itself alone: it promises and installs its first view (docs/PROTOCOL.md, "Joining"). After an error for want of memory nothing is
 /// said of the member.
 pub fn create<R: Receiver>(
-    life: &mut Life<R>,
+    member_state: &mut MemberState<R>,
     who: &Identity,
     out: &mut Output,
 ) -> Result<(), AllocError>
-    requires life { IsLife who.now.group who.now.address life.old }
-    requires idle { is_connected life.old ≡ false }
-    ensures life { OnOk result (IsLife who.now.group who.now.address life.new) }
-    ensures does { OnOk result (Creates who.now.group who.now.address life.old life.new out.old out.new) }
+    requires member_state { IsMemberState who.now.group who.now.address member_state.old }
+    requires idle { is_connected member_state.old ≡ false }
+    ensures member_state { OnOk result (IsMemberState who.now.group who.now.address member_state.new) }
+    ensures does { OnOk result (Creates who.now.group who.now.address member_state.old member_state.new out.old out.new) }
 {
     let view = View::alone(who.alloc, ViewId::first_of(who.address))?;
     let install = lone_install(who)?;
     who.record(Event::Installed(install), out)?;
     let roster = Roster::new(view.id(), view.members().as_slice()).unwrap();
-    let _ = life.promise.offer(&roster);
-    let _ = life.promise.install(&roster);
-    life.receiver.view_accepted(&view);
-    life.traffic = Some(Traffic::fresh(who.alloc, &who.address, view)?);
+    let _ = member_state.promise.offer(&roster);
+    let _ = member_state.promise.install(&roster);
+    member_state.receiver.view_accepted(&view);
+    member_state.view_state = Some(ViewState::fresh(who.alloc, &who.address, view)?);
     Ok(())
 }
 
 /// Asks a contact to be let in, by a JOIN (docs/PROTOCOL.md, "Joining"). After an error for want of memory nothing is said of the member.
 pub fn ask<R: Receiver>(
-    life: &mut Life<R>,
+    member_state: &mut MemberState<R>,
     who: &Identity,
     contact: Address,
     out: &mut Output,
 ) -> Result<(), AllocError>
-    requires life { IsLife who.now.group who.now.address life.old }
-    requires outside { life.old.traffic ≡ None }
-    ensures life { OnOk result (IsLife who.now.group who.now.address life.new) }
-    ensures does { OnOk result (Asks who.now.group who.now.address contact life.old life.new out.old out.new) }
+    requires member_state { IsMemberState who.now.group who.now.address member_state.old }
+    requires outside { member_state.old.view_state ≡ None }
+    ensures member_state { OnOk result (IsMemberState who.now.group who.now.address member_state.new) }
+    ensures does { OnOk result (Asks who.now.group who.now.address contact member_state.old member_state.new out.old out.new) }
 {
     who.put(contact, Body::Join, out)?;
-    life.contact = Some(contact);
+    member_state.contact = Some(contact);
     Ok(())
 }
 
 // Says to an address whom to ask in its place.
 pub(crate) fn redirect<R: Receiver>(
-    life: &Life<R>,
+    member_state: &MemberState<R>,
     who: &Identity,
     address: Address,
     out: &mut Output,
 ) -> Result<(), AllocError>
-    ensures { OnOk result (Redirects who.now.group who.now.address address life.now life.now out.old out.new) }
+    ensures { OnOk result (Redirects who.now.group who.now.address address member_state.now member_state.now out.old out.new) }
 {
-    match first_in(life) {
+    match first_in(member_state) {
         None => Ok(()),
         Some(first) => {
             who.put(address, Body::Redirect(first), out)?;
@@ -97,37 +97,39 @@ pub(crate) fn redirect<R: Receiver>(
 }
 
 // The member of its view of the lowest rank that it does not suspect.
-pub(crate) fn first_in<R: Receiver>(life: &Life<R>) -> Option<Address>
-    ensures { result ≡ first_in life.now }
+pub(crate) fn first_in<R: Receiver>(member_state: &MemberState<R>) -> Option<Address>
+    ensures { result ≡ first_in member_state.now }
 {
-    match &life.traffic {
+    match &member_state.view_state {
         None => None,
-        Some(traffic) => life.notes.first_unsuspected(traffic.view()),
+        Some(view_state) => member_state.notes.first_unsuspected(view_state.view()),
     }
 }
 
 // Whether it leads its view.
-pub(crate) fn leads_now<R: Receiver>(life: &Life<R>, who: &Identity) -> bool
-    ensures { result ≡ leads_now who.now.address life.now }
+pub(crate) fn leads_now<R: Receiver>(member_state: &MemberState<R>, who: &Identity) -> bool
+    ensures { result ≡ leads_now who.now.address member_state.now }
 {
-    match &life.traffic {
+    match &member_state.view_state {
         None => false,
-        Some(traffic) => life.notes.leads(traffic.view(), &who.address),
+        Some(view_state) => member_state.notes.leads(view_state.view(), &who.address),
     }
 }
 
 // Suspects the earlier incarnations of an address' node in its view.
 fn outdate<R: Receiver>(
-    life: &mut Life<R>,
+    member_state: &mut MemberState<R>,
     who: &Identity,
     address: Address,
 ) -> Result<(), AllocError>
-    ensures { OnOk result (life.new ≡ outdated who.now.address address life.old) }
+    ensures { OnOk result (member_state.new ≡ outdated who.now.address address member_state.old) }
 {
-    match &life.traffic {
+    match &member_state.view_state {
         None => Ok(()),
-        Some(traffic) => {
-            life.notes.outdate(&who.address, traffic.view(), &address)?;
+        Some(view_state) => {
+            member_state
+                .notes
+                .outdate(&who.address, view_state.view(), &address)?;
             Ok(())
         }
     }
@@ -137,16 +139,16 @@ fn outdate<R: Receiver>(
 fn note_in(
     notes: &mut Notes,
     who: &Identity,
-    traffic: &Option<Traffic>,
+    view_state: &Option<ViewState>,
     listed: &[Address],
     address: Address,
 ) -> Result<(), AllocError>
-    ensures { OnOk result (notes.new ≡ option_map_or (λ v. noting who.now.address v.members listed.now address notes.old) (view_in traffic.now) notes.old) }
+    ensures { OnOk result (notes.new ≡ option_map_or (λ v. noting who.now.address v.members listed.now address notes.old) (view_in view_state.now) notes.old) }
 {
-    match traffic {
+    match view_state {
         None => Ok(()),
-        Some(traffic) => {
-            notes.note_joiner(who.alloc, &who.address, traffic.view(), listed, address)?;
+        Some(view_state) => {
+            notes.note_joiner(who.alloc, &who.address, view_state.view(), listed, address)?;
             Ok(())
         }
     }
@@ -154,20 +156,32 @@ fn note_in(
 
 // Notes one who asks to be let in.
 fn note_joiner<R: Receiver>(
-    life: &mut Life<R>,
+    member_state: &mut MemberState<R>,
     who: &Identity,
     address: Address,
 ) -> Result<(), AllocError>
-    ensures { OnOk result (life.new ≡ joined who.now.address address life.old) }
+    ensures { OnOk result (member_state.new ≡ joined who.now.address address member_state.old) }
 {
-    match &life.flush {
+    match &member_state.flush {
         None => {
-            note_in(&mut life.notes, who, &life.traffic, &[], address)?;
+            note_in(
+                &mut member_state.notes,
+                who,
+                &member_state.view_state,
+                &[],
+                address,
+            )?;
             Ok(())
         }
         Some(flush) => {
             let listed = flush.members().as_slice();
-            note_in(&mut life.notes, who, &life.traffic, listed, address)?;
+            note_in(
+                &mut member_state.notes,
+                who,
+                &member_state.view_state,
+                listed,
+                address,
+            )?;
             Ok(())
         }
     }
@@ -175,21 +189,21 @@ fn note_joiner<R: Receiver>(
 
 // One asks to be let in, where earlier incarnations of its node are suspected already: it is noted, and what is due is begun; or it is redirected.
 fn admit<R: Receiver>(
-    life: &mut Life<R>,
+    member_state: &mut MemberState<R>,
     who: &Identity,
     source: Address,
     out: &mut Output,
 ) -> Result<(), AllocError>
-    requires life { IsLife who.now.group who.now.address life.old }
+    requires member_state { IsMemberState who.now.group who.now.address member_state.old }
     requires other { same_address source who.now.address ≡ false }
-    ensures life { OnOk result (IsLife who.now.group who.now.address life.new) }
-    ensures does { OnOk result (Admits R.meaning who.now.group who.now.address source life.old life.new out.old out.new) }
+    ensures member_state { OnOk result (IsMemberState who.now.group who.now.address member_state.new) }
+    ensures does { OnOk result (Admits R.meaning who.now.group who.now.address source member_state.old member_state.new out.old out.new) }
 {
-    if leads_now(life, who) {
-        note_joiner(life, who, source)?;
-        life.regroup(who, out)?;
+    if leads_now(member_state, who) {
+        note_joiner(member_state, who, source)?;
+        member_state.regroup(who, out)?;
     } else {
-        redirect(life, who, source, out)?;
+        redirect(member_state, who, source, out)?;
     }
     Ok(())
 }
@@ -197,45 +211,45 @@ fn admit<R: Receiver>(
 /// JOIN: one asks to be let in. Earlier incarnations of its node are suspected; a member that leads its view notes it and begins what is due, another says whom
 /// to ask (docs/PROTOCOL.md, "Candidates"). Ignored without a view. After an error for want of memory nothing is said of the member.
 pub fn on_join<R: Receiver>(
-    life: &mut Life<R>,
+    member_state: &mut MemberState<R>,
     who: &Identity,
     source: Address,
     out: &mut Output,
 ) -> Result<(), AllocError>
-    requires life { IsLife who.now.group who.now.address life.old }
+    requires member_state { IsMemberState who.now.group who.now.address member_state.old }
     requires other { same_address source who.now.address ≡ false }
-    ensures life { OnOk result (IsLife who.now.group who.now.address life.new) }
-    ensures does { OnOk result (OnJoin R.meaning who.now.group who.now.address source life.old life.new out.old out.new) }
-    ensures ignored { is_some life.old.traffic ≡ false → (result ≡ Ok tt) × StaysAs life.old life.new out.old out.new }
+    ensures member_state { OnOk result (IsMemberState who.now.group who.now.address member_state.new) }
+    ensures does { OnOk result (OnJoin R.meaning who.now.group who.now.address source member_state.old member_state.new out.old out.new) }
+    ensures ignored { is_some member_state.old.view_state ≡ false → (result ≡ Ok tt) × StaysAs member_state.old member_state.new out.old out.new }
 {
-    if life.traffic.is_none() {
+    if member_state.view_state.is_none() {
         return Ok(());
     }
-    outdate(life, who, source)?;
-    admit(life, who, source, out)?;
+    outdate(member_state, who, source)?;
+    admit(member_state, who, source, out)?;
     Ok(())
 }
 
 /// REDIRECT: another is to be asked. Without a view it asks that one; in a view this is a hint of another view; one to itself is ignored
 /// (docs/PROTOCOL.md, "Joining" and "Merging"). After an error for want of memory nothing is said of the member.
 pub fn on_redirect<R: Receiver>(
-    life: &mut Life<R>,
+    member_state: &mut MemberState<R>,
     who: &Identity,
     coordinator: Address,
     out: &mut Output,
 ) -> Result<(), AllocError>
-    requires life { IsLife who.now.group who.now.address life.old }
-    ensures life { OnOk result (IsLife who.now.group who.now.address life.new) }
-    ensures does { OnOk result (OnRedirect who.now.group who.now.address coordinator life.old life.new out.old out.new) }
-    ensures ignored { is_misdirected who.now.address coordinator life.old ≡ true → (result ≡ Ok tt) × StaysAs life.old life.new out.old out.new }
+    requires member_state { IsMemberState who.now.group who.now.address member_state.old }
+    ensures member_state { OnOk result (IsMemberState who.now.group who.now.address member_state.new) }
+    ensures does { OnOk result (OnRedirect who.now.group who.now.address coordinator member_state.old member_state.new out.old out.new) }
+    ensures ignored { is_misdirected who.now.address coordinator member_state.old ≡ true → (result ≡ Ok tt) × StaysAs member_state.old member_state.new out.old out.new }
 {
     if coordinator == who.address {
         return Ok(());
     }
-    if life.traffic.is_some() {
-        announce_view(life, who, coordinator, out)?;
+    if member_state.view_state.is_some() {
+        announce_view(member_state, who, coordinator, out)?;
     } else {
-        ask(life, who, coordinator, out)?;
+        ask(member_state, who, coordinator, out)?;
     }
     Ok(())
 }

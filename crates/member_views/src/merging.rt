@@ -2,47 +2,50 @@
 
 ghost use Rattle.std.specs.Prelude.{◌≡◌, [], ◌∷◌, Ok, IfOk, OnOk, true};
 ghost use Rattle.std.specs.Option.{option_map_or, option_copied};
-ghost use Rattle.candidates.specs.Noting.{noting_view};
-ghost use Rattle.wire.specs.declared.packet.Body.TheVariants as bodies;
-ghost use Rattle.agreement.specs.Acts.{packet};
-ghost use Rattle.output.specs.Outputs.{Grows};
-ghost use Rattle.membership.specs.Lives.{IsLife, view_in};
+ghost use Rattle.next_view.specs.Noting.{noting_view};
+ghost use Rattle.wire_values.specs.declared.packet.Body.TheVariants as bodies;
+ghost use Rattle.acts.specs.Acts.{packet};
+ghost use Rattle.step_output.specs.Outputs.{Grows};
+ghost use Rattle.membership.specs.MemberStates.{IsMemberState, view_in};
 ghost use Rattle.membership.specs.Changes.{StaysAs};
 ghost use Rattle.member_views.specs.Views.{AnnouncesView, Meets, OnMerge, is_less, has_member, view_for, merged};
 ghost use Rattle.member_views.specs.Ignoring.{is_hint_ignored, is_merge_ignored};
 
 use crate::joining::{leads_now, redirect};
 use address::Address;
-use candidates::Notes;
-use membership::Life;
-use output::{Identity, Output};
+use membership::MemberState;
+use next_view::Notes;
 use state_transfer::Receiver;
 use std::alloc::{AllocError, Global};
 use std::cmp::Ordering;
-use traffic::Traffic;
+use step_output::{Identity, Output};
+use traffic::ViewState;
 use view::{Addresses, View};
-use wire::{Body, Roster};
+use wire_values::{Body, Roster};
 
 // Whether an address is in its view.
-pub(crate) fn has_member<R: Receiver>(life: &Life<R>, address: &Address) -> bool
-    ensures { result ≡ has_member address.now life.now }
+pub(crate) fn has_member<R: Receiver>(member_state: &MemberState<R>, address: &Address) -> bool
+    ensures { result ≡ has_member address.now member_state.now }
 {
-    match &life.traffic {
+    match &member_state.view_state {
         None => false,
-        Some(traffic) => traffic.view().contains(address),
+        Some(view_state) => view_state.view().contains(address),
     }
 }
 
 // Its view, if it leads it, is not blocked, and the address is not in it.
 fn view_for<'a, R: Receiver>(
-    life: &'a Life<R>,
+    member_state: &'a MemberState<R>,
     who: &Identity,
     address: &Address,
 ) -> Option<&'a View>
-    ensures { option_copied result ≡ view_for who.now.address address.now life.now }
+    ensures { option_copied result ≡ view_for who.now.address address.now member_state.now }
 {
-    if life.promise.is_installed() && leads_now(life, who) && !has_member(life, address) {
-        life.view()
+    if member_state.promise.is_installed()
+        && leads_now(member_state, who)
+        && !has_member(member_state, address)
+    {
+        member_state.view()
     } else {
         None
     }
@@ -60,15 +63,15 @@ fn say(who: &Identity, view: &View, address: Address, out: &mut Output) -> Resul
 /// A member of another view may be at an address: a MERGE announces this view to it, where this member leads the view and is not blocked, and the
 /// address is not in the view (docs/PROTOCOL.md, "Merging"). After an error for want of memory nothing is said of what was put out.
 pub fn announce_view<R: Receiver>(
-    life: &Life<R>,
+    member_state: &MemberState<R>,
     who: &Identity,
     address: Address,
     out: &mut Output,
 ) -> Result<(), AllocError>
-    ensures does { OnOk result (AnnouncesView who.now.group who.now.address address life.now life.now out.old out.new) }
-    ensures ignored { is_hint_ignored who.now.address address life.now ≡ true → (result ≡ Ok tt) × (out.new ≡ out.old) }
+    ensures does { OnOk result (AnnouncesView who.now.group who.now.address address member_state.now member_state.now out.old out.new) }
+    ensures ignored { is_hint_ignored who.now.address address member_state.now ≡ true → (result ≡ Ok tt) × (out.new ≡ out.old) }
 {
-    match view_for(life, who, &address) {
+    match view_for(member_state, who, &address) {
         None => Ok(()),
         Some(view) => {
             say(who, view, address, out)?;
@@ -89,15 +92,15 @@ fn view_from(alloc: Global, roster: &Roster) -> Result<View, AllocError>
 fn note_in(
     notes: &mut Notes,
     who: &Identity,
-    traffic: &Option<Traffic>,
+    view_state: &Option<ViewState>,
     other: &View,
 ) -> Result<(), AllocError>
-    ensures { OnOk result (notes.new ≡ option_map_or (λ v. noting_view who.now.address v.members other.now notes.old) (view_in traffic.now) notes.old) }
+    ensures { OnOk result (notes.new ≡ option_map_or (λ v. noting_view who.now.address v.members other.now notes.old) (view_in view_state.now) notes.old) }
 {
-    match traffic {
+    match view_state {
         None => Ok(()),
-        Some(traffic) => {
-            notes.note_view(who.alloc, &who.address, traffic.view(), other)?;
+        Some(view_state) => {
+            notes.note_view(who.alloc, &who.address, view_state.view(), other)?;
             Ok(())
         }
     }
@@ -105,14 +108,19 @@ fn note_in(
 
 // Notes those of another view.
 fn note_view<R: Receiver>(
-    life: &mut Life<R>,
+    member_state: &mut MemberState<R>,
     who: &Identity,
     other: &Roster,
 ) -> Result<(), AllocError>
-    ensures { OnOk result (life.new ≡ merged who.now.address other.now life.old) }
+    ensures { OnOk result (member_state.new ≡ merged who.now.address other.now member_state.old) }
 {
     let other = view_from(who.alloc, other)?;
-    note_in(&mut life.notes, who, &life.traffic, &other)?;
+    note_in(
+        &mut member_state.notes,
+        who,
+        &member_state.view_state,
+        &other,
+    )?;
     Ok(())
 }
 
@@ -124,22 +132,22 @@ fn is_less(one: &Address, other: &Address) -> bool
 
 // It leads its view, and hears of another.
 fn meet<R: Receiver>(
-    life: &mut Life<R>,
+    member_state: &mut MemberState<R>,
     who: &Identity,
     source: Address,
     other: &Roster,
     out: &mut Output,
 ) -> Result<(), AllocError>
-    requires life { IsLife who.now.group who.now.address life.old }
-    ensures life { OnOk result (IsLife who.now.group who.now.address life.new) }
-    ensures does { OnOk result (Meets R.meaning who.now.group who.now.address source other.now life.old life.new out.old out.new) }
-    ensures ignored { is_less source who.now.address ≡ true → is_hint_ignored who.now.address source life.old ≡ true → (result ≡ Ok tt) × StaysAs life.old life.new out.old out.new }
+    requires member_state { IsMemberState who.now.group who.now.address member_state.old }
+    ensures member_state { OnOk result (IsMemberState who.now.group who.now.address member_state.new) }
+    ensures does { OnOk result (Meets R.meaning who.now.group who.now.address source other.now member_state.old member_state.new out.old out.new) }
+    ensures ignored { is_less source who.now.address ≡ true → is_hint_ignored who.now.address source member_state.old ≡ true → (result ≡ Ok tt) × StaysAs member_state.old member_state.new out.old out.new }
 {
     if is_less(&source, &who.address) {
-        announce_view(life, who, source, out)?;
+        announce_view(member_state, who, source, out)?;
     } else {
-        note_view(life, who, other)?;
-        life.regroup(who, out)?;
+        note_view(member_state, who, other)?;
+        member_state.regroup(who, out)?;
     }
     Ok(())
 }
@@ -148,24 +156,24 @@ fn meet<R: Receiver>(
 /// does not lead says whom to ask (docs/PROTOCOL.md, "Merging"). Ignored without a view and from a member of the own one. After an error for want
 /// of memory nothing is said of the member.
 pub fn on_merge<R: Receiver>(
-    life: &mut Life<R>,
+    member_state: &mut MemberState<R>,
     who: &Identity,
     source: Address,
     other: &Roster,
     out: &mut Output,
 ) -> Result<(), AllocError>
-    requires life { IsLife who.now.group who.now.address life.old }
-    ensures life { OnOk result (IsLife who.now.group who.now.address life.new) }
-    ensures does { OnOk result (OnMerge R.meaning who.now.group who.now.address source other.now life.old life.new out.old out.new) }
-    ensures ignored { is_merge_ignored who.now.address source life.old ≡ true → (result ≡ Ok tt) × StaysAs life.old life.new out.old out.new }
+    requires member_state { IsMemberState who.now.group who.now.address member_state.old }
+    ensures member_state { OnOk result (IsMemberState who.now.group who.now.address member_state.new) }
+    ensures does { OnOk result (OnMerge R.meaning who.now.group who.now.address source other.now member_state.old member_state.new out.old out.new) }
+    ensures ignored { is_merge_ignored who.now.address source member_state.old ≡ true → (result ≡ Ok tt) × StaysAs member_state.old member_state.new out.old out.new }
 {
-    if life.traffic.is_none() || has_member(life, &source) {
+    if member_state.view_state.is_none() || has_member(member_state, &source) {
         return Ok(());
     }
-    if leads_now(life, who) {
-        meet(life, who, source, other, out)?;
+    if leads_now(member_state, who) {
+        meet(member_state, who, source, other, out)?;
     } else {
-        redirect(life, who, source, out)?;
+        redirect(member_state, who, source, out)?;
     }
     Ok(())
 }

@@ -1,34 +1,34 @@
 //! Time passes: what may be lost is put out again, while a member asks to be let in and while it is blocked.
 
-ghost use Rattle.std.specs.Prelude.{◌≡◌, OnOk, [], ◌∷◌, map, not, filter};
-ghost use Rattle.wire.specs.declared.packet.Body.TheVariants as bodies;
+ghost use Rattle.std.specs.Prelude.{◌≡◌, OnOk, [], ◌∷◌, not};
+ghost use Rattle.wire_values.specs.declared.packet.Body.TheVariants as bodies;
 ghost use Rattle.flush.specs.Flushes.{has_reported};
-ghost use Rattle.agreement.specs.Acts.{packet, proposed};
+ghost use Rattle.acts.specs.Acts.{packet, proposed};
 ghost use Rattle.view.specs.View.{view_refusal};
-ghost use Rattle.output.specs.Outputs.{Grows};
-ghost use Rattle.membership.specs.Lives.{IsLife};
+ghost use Rattle.step_output.specs.Outputs.{Grows};
+ghost use Rattle.membership.specs.MemberStates.{IsMemberState};
 ghost use Rattle.member_views.specs.Views.{reports_again, asks_again, proposes_again, flushes_again};
 
 use address::Address;
 use flush::Flush;
-use membership::Life;
-use output::{Identity, Output};
+use membership::MemberState;
 use state_transfer::Receiver;
 use std::alloc::AllocError;
-use wire::{Body, Roster};
+use step_output::{Identity, Output};
+use wire_values::{Body, Roster};
 
 // Its report for what it promised goes out again.
 fn report_again<R: Receiver>(
-    life: &Life<R>,
+    member_state: &MemberState<R>,
     who: &Identity,
     out: &mut Output,
 ) -> Result<(), AllocError>
-    ensures { OnOk result (Grows who.now.group out.old out.new (reports_again who.now.address life.now) []) }
+    ensures { OnOk result (Grows who.now.group out.old out.new (reports_again who.now.address member_state.now) []) }
 {
-    match life.promise.proposal() {
+    match member_state.promise.proposal() {
         None => Ok(()),
         Some(proposal) => {
-            life.report(who, proposal.id(), out)?;
+            member_state.report(who, proposal.id(), out)?;
             Ok(())
         }
     }
@@ -37,17 +37,17 @@ fn report_again<R: Receiver>(
 /// Time passes while it asks to be let in: the JOIN goes to its contact again, and its report to who proposed what it promised. After an error for want of
 /// memory nothing is said of what was put out.
 pub fn ask_again<R: Receiver>(
-    life: &Life<R>,
+    member_state: &MemberState<R>,
     who: &Identity,
     out: &mut Output,
 ) -> Result<(), AllocError>
-    ensures { OnOk result (Grows who.now.group out.old out.new (asks_again who.now.address life.now) []) }
+    ensures { OnOk result (Grows who.now.group out.old out.new (asks_again who.now.address member_state.now) []) }
 {
-    match life.contact {
+    match member_state.contact {
         None => Ok(()),
         Some(contact) => {
             who.put(contact, Body::Join, out)?;
-            report_again(life, who, out)?;
+            report_again(member_state, who, out)?;
             Ok(())
         }
     }
@@ -83,20 +83,20 @@ fn propose_again(flush: &Flush, who: &Identity, out: &mut Output) -> Result<(), 
 /// Time passes while it is blocked: its own proposal goes again to those who have not reported; without a flush of its own, its report goes again. After an
 /// error for want of memory nothing is said of what was put out.
 pub fn flush_again<R: Receiver>(
-    life: &Life<R>,
+    member_state: &MemberState<R>,
     who: &Identity,
     out: &mut Output,
 ) -> Result<(), AllocError>
-    requires life { IsLife who.now.group who.now.address life.now }
-    ensures { OnOk result (Grows who.now.group out.old out.new (flushes_again who.now.address life.now) []) }
+    requires member_state { IsMemberState who.now.group who.now.address member_state.now }
+    ensures { OnOk result (Grows who.now.group out.old out.new (flushes_again who.now.address member_state.now) []) }
 {
-    match &life.flush {
+    match &member_state.flush {
         Some(flush) => {
             propose_again(flush, who, out)?;
             Ok(())
         }
         None => {
-            report_again(life, who, out)?;
+            report_again(member_state, who, out)?;
             Ok(())
         }
     }

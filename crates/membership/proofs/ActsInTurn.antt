@@ -2,17 +2,17 @@
 use Rattle.std.proofs.Common.{◌≡◌, ℕ, Option, Some, List, [], ◌++◌, sym, subst}
 use Rattle.address.specs.Ids.{Address}
 use Rattle.state_transfer.specs.Meanings.{Meaning}
-use Rattle.candidates.specs.Notes.{NotesModel}
-use Rattle.agreement.specs.Histories.{Posted}
-use Rattle.agreement.proofs.LawsOfActs.{nothing-acted, then-acted}
-use Rattle.output.specs.declared.output.Output.{Output}
-use Rattle.output.proofs.FactOfGrows.{grows-nothing, grows-then}
-use Rattle.membership.specs.declared.life.Life.{Life}
+use Rattle.next_view.specs.Notes.{NotesModel}
+use Rattle.acts.specs.Histories.{Posted}
+use Rattle.acts.proofs.LawsOfActs.{nothing-acted, then-acted}
+use Rattle.step_output.specs.declared.output.Output.{Output}
+use Rattle.step_output.proofs.FactOfGrows.{grows-nothing, grows-then}
+use Rattle.membership.specs.declared.member_state.MemberState.{MemberState}
 use Rattle.membership.specs.Doing.{Did}
-use Rattle.membership.specs.Lives.{core_of}
+use Rattle.membership.specs.MemberStates.{core_of}
 
 module _ {S : Type 0} (meaning : Meaning S) (came : Option Posted) (group : List ℕ) (me : Address) where
-  pub nothing-did : (l : Life S) (out : Output) → Did meaning came group me l l out out
+  pub nothing-did : (l : MemberState S) (out : Output) → Did meaning came group me l l out out
   nothing-did l out = record {
     posted = [];
     happened = [];
@@ -20,7 +20,7 @@ module _ {S : Type 0} (meaning : Meaning S) (came : Option Posted) (group : List
     acted = nothing-acted meaning came (Some (core_of me l));
   }
 
-  pub did-then : (a b c : Life S) (x y z : Output) → Did meaning came group me a b x y → Did meaning came group me b c y z → Did meaning came group me a c x z
+  pub did-then : (a b c : MemberState S) (x y z : Output) → Did meaning came group me a b x y → Did meaning came group me b c y z → Did meaning came group me a c x z
   did-then a b c x y z p q = record {
     posted = p.posted ++ q.posted;
     happened = p.happened ++ q.happened;
@@ -29,8 +29,8 @@ module _ {S : Type 0} (meaning : Meaning S) (came : Option Posted) (group : List
   }
 
   -- a note is no act
-  pub noted-did : (l new : Life S) (b : NotesModel) (out : Output) → new ≡ record l { notes = b } → Did meaning came group me l new out out
-  noted-did l new b out is = subst (λ (z : Life S). Did meaning came group me l z out out) (sym is) (record {
+  pub noted-did : (l new : MemberState S) (b : NotesModel) (out : Output) → new ≡ record l { notes = b } → Did meaning came group me l new out out
+  noted-did l new b out is = subst (λ (z : MemberState S). Did meaning came group me l z out out) (sym is) (record {
     posted = [];
     happened = [];
     grows = grows-nothing group out;
@@ -38,6 +38,6 @@ module _ {S : Type 0} (meaning : Meaning S) (came : Option Posted) (group : List
   })
 
   -- nothing was done
-  pub stays-did : (l new : Life S) (out later : Output) → new ≡ l → later ≡ out → Did meaning came group me l new out later
+  pub stays-did : (l new : MemberState S) (out later : Output) → new ≡ l → later ≡ out → Did meaning came group me l new out later
   stays-did l new out later is same =
-      subst (λ (z : Life S). Did meaning came group me l z out later) (sym is) (subst (λ (o : Output). Did meaning came group me l l out o) (sym same) (nothing-did l out))
+      subst (λ (z : MemberState S). Did meaning came group me l z out later) (sym is) (subst (λ (o : Output). Did meaning came group me l l out o) (sym same) (nothing-did l out))

@@ -8,41 +8,42 @@ use Rattle.std.proofs.lemmas.List.{append-nil}
 use Rattle.address.specs.Ids.{Address, ViewId, same_address, same_view_id}
 use Rattle.view.specs.Members.{View}
 use Rattle.state_transfer.specs.Meanings.{Meaning}
-use Rattle.candidates.specs.Notes.{having_heard, suspecting}
-use Rattle.wire.specs.Values as wire
-use Rattle.wire.specs.Values.{Report, nothing_reported}
+use Rattle.next_view.specs.Notes.{having_heard, suspecting}
+use Rattle.wire_values.specs.Values as wire
+use Rattle.wire_values.specs.Values.{Report, nothing_reported}
 use Rattle.wire.specs.Packets.{IsPacket}
-use Rattle.wire.specs.declared.packet.Body.TheVariants as bodies
+use Rattle.wire_values.specs.declared.packet.Body.TheVariants as bodies
 use Rattle.flush.specs.Flushes.{FlushModel, report_from, together_of, progress_of, is_awaited, reported}
 use Rattle.flush.specs.declared.progress.Progress.TheVariants.{Waiting, Complete}
 use Rattle.view_install.specs.Promises.{PromiseModel, offered, is_accept, promising, after_install, may_install}
 use Rattle.view_install.specs.declared.promise.OfferAnswer.{OfferAnswer}
 use Rattle.view_install.specs.declared.promise.OfferAnswer.TheVariants.{Accept, Behind, Ignore}
-use Rattle.trace_props.proofs.FactOfObserved.{same_view_id-true}
-use Rattle.agreement.specs.Histories.{Posted}
-use Rattle.agreement.specs.Cores.{Core, kept_for}
-use Rattle.agreement.specs.Acts.{Puts, packet, proposed, others_of, instruction_for, instructions, base_for, items_for, gone_into, delivered_at, entering, state_into}
-use Rattle.agreement.specs.Chains.{Acted}
-use Rattle.agreement.proofs.LawsOfActs.{one-acted, nothing-acted}
-use Rattle.member_acts.specs.Decisions.{promise_of, cuts_of, is_entry, is_fitting, is_readable, due_proposal}
-use Rattle.member_acts.proofs.ActsAreAllowed.{promises-acted, proposes-acted, records-acted, finishes-acted, enters-acted}
-use Rattle.output.specs.declared.output.Outgoing.{Outgoing}
-use Rattle.output.specs.declared.output.Output.{Output}
-use Rattle.output.specs.Outputs.{packet_in, spelled}
-use Rattle.output.proofs.FactOfGrows.{grows-nothing}
-use Rattle.traffic.specs.declared.traffic.Traffic.{Traffic}
-use Rattle.traffic.specs.Traffics.{view_of, fresh_in}
+use Rattle.address.proofs.SameIds.{same_view_id-true}
+use Rattle.acts.specs.Histories.{Posted}
+use Rattle.acts.specs.Cores.{Core, install_sent_to}
+use Rattle.acts.specs.Acts.{Puts, packet, proposed, others_of, instruction_for, instructions, base_for, items_for, gone_into, delivered_at, entering, state_into}
+use Rattle.acts.specs.Chains.{Acted}
+use Rattle.acts.proofs.LawsOfActs.{one-acted, nothing-acted}
+use Rattle.decisions.specs.Decisions.{promise_of, cuts_of, is_entry, is_fitting, is_readable, due_proposal}
+use Rattle.decisions.proofs.ActsAreAllowed.{promises-acted, proposes-acted, records-acted, finishes-acted, enters-acted}
+use Rattle.step_output.specs.declared.output.Outgoing.{Outgoing}
+use Rattle.step_output.specs.declared.output.Output.{Output}
+use Rattle.step_output.specs.Outputs.{packet_in, spelled}
+use Rattle.step_output.proofs.FactOfGrows.{grows-nothing}
+use Rattle.traffic.specs.declared.view_state.ViewState.{ViewState}
+use Rattle.traffic.specs.ViewStates.{view_of, fresh_in}
 use Rattle.traffic.proofs.FactOfNewView.{fresh-is, fresh-view}
-use Rattle.membership.specs.declared.life.Life.{Life}
-use Rattle.membership.specs.Lives.{core_of, view_in, traffic_in, kept_in, is_connected, report_in, blocked_by, recording, is_complete, is_kept_for, anew_proposal, install_packet, IsLife}
+use Rattle.membership.specs.declared.member_state.MemberState.{MemberState}
+use Rattle.membership.specs.MemberStates.{core_of, view_in, view_core_in, sent_installs_in, is_connected, report_in, blocked_by, recording, is_complete, is_sent_to, anew_proposal, install_packet, IsMemberState}
 use Rattle.membership.specs.Installs.{instructing, finished_state, finish_packets, finish_events, state_by, enter_events}
 use Rattle.membership.specs.Changes.{StaysAs, TakesBy, TakesFlush, Begins, ProposesIf, BeginsAnew, BeginsAndGoesOn, Finishes, FinishesAndProposes, GoesOn, Regroups, TakesReport, InstallsAgain, TakesBehind, TakesSuspicion, Enters, TakesInstall}
 use Rattle.membership.specs.Doing.{Did}
 use Rattle.membership.proofs.ActsInTurn.{nothing-did, stays-did, did-then, noted-did}
-use Rattle.membership.proofs.FactOfKept.{kept-are, IsAgain, again-in}
-use Rattle.membership.proofs.KeepLife.{installed_as, own-installed, other-installed, begun-life, finished-life, recorded-life}
-use Rattle.membership.proofs.KeepNotes.{heard-life, suspected-life}
+use Rattle.membership.proofs.FactOfSentInstalls.{kept-are, IsAgain, again-in}
+use Rattle.membership.proofs.KeepMemberState.{installed_as, own-installed, other-installed, begun-member_state, finished-member_state, recorded-member_state}
+use Rattle.membership.proofs.KeepNotes.{heard-member_state, suspected-member_state}
 use Rattle.membership.proofs.FactOfProposed.{IsProposal, due-is-proposal, anew-is-proposal}
+use Rattle.address.proofs.Plain.{match-bool}
 
 -- ---- what a flush says, in the words of agreement
 
@@ -70,51 +71,47 @@ match-option : {X P : Type 0} (o : Option X) (A : Type 0) (B : X → Type 0) →
 match-option None A B m none some = none m
 match-option (Some x) A B m none some = some x refl m
 
-match-bool : {P : Type 0} (b : Bool) (A B : Type 0) → MatchBool b A B → (b ≡ true → A → P) → (b ≡ false → B → P) → P
-match-bool true A B m holds fails = holds refl m
-match-bool false A B m holds fails = fails refl m
-
 module _ {S : Type 0} (meaning : Meaning S) (group : List ℕ) (me : Address) where
-  abbrev pub DidThis : Option Posted → Life S → Life S → Output → Output → Type 0
+  abbrev pub DidThis : Option Posted → MemberState S → MemberState S → Output → Output → Type 0
   DidThis came old new out later = Did meaning came group me old new out later
 
   -- ---- a FLUSH
 
-  ours : (l : Life S) → IsLife group me l → l.promise ≡ promise_of (core_of me l)
+  ours : (l : MemberState S) → IsMemberState group me l → l.promise ≡ promise_of (core_of me l)
   ours l kept = ap (λ (p : Address). record { member = p; proposal = l.promise.proposal; is_installed = l.promise.is_installed }) kept.own
 
-  pub promised-acted : (came : Option Posted) (l new : Life S) (w : View) → IsLife group me l → is_connected l ≡ true → came ≡ Some (packet w.id.creator (bodies.Flush w) me)
+  pub promised-acted : (came : Option Posted) (l new : MemberState S) (w : View) → IsMemberState group me l → is_connected l ≡ true → came ≡ Some (packet w.id.creator (bodies.Flush w) me)
       → is_accept (offered w l.promise) ≡ true → new ≡ record l { promise = promising w l.promise; flush = None }
       → Acted meaning came (Some (core_of me l)) (packet me (bodies.Report w.id (report_in l)) w.id.creator ∷ []) (blocked_by me l) (Some (core_of me new))
   promised-acted came l new w kept on asked accepts is =
-      subst (λ (z : Life S). Acted meaning came (Some (core_of me l)) (packet me (bodies.Report w.id (report_in l)) w.id.creator ∷ []) (blocked_by me l) (Some (core_of me z))) (sym is)
+      subst (λ (z : MemberState S). Acted meaning came (Some (core_of me l)) (packet me (bodies.Report w.id (report_in l)) w.id.creator ∷ []) (blocked_by me l) (Some (core_of me z))) (sym is)
       (promises-acted meaning came (core_of me l) w asked on (subst (λ (p : PromiseModel). is_accept (offered w p) ≡ true) (ours l kept) accepts))
 
-  takes-by-did : (a : OfferAnswer) (came : Option Posted) (old new : Life S) (w : View) (out later : Output) → IsLife group me old → is_connected old ≡ true
+  takes-by-did : (a : OfferAnswer) (came : Option Posted) (old new : MemberState S) (w : View) (out later : Output) → IsMemberState group me old → is_connected old ≡ true
       → came ≡ Some (packet w.id.creator (bodies.Flush w) me) → offered w old.promise ≡ a → TakesBy a group me w old new out later → DidThis came old new out later
   takes-by-did Accept came old new w out later kept on asked e x =
-      record { posted = _; happened = _; grows = x.grows; acted = promised-acted came old new w kept on asked (ap is_accept e) x.life }
+      record { posted = _; happened = _; grows = x.grows; acted = promised-acted came old new w kept on asked (ap is_accept e) x.member_state }
   takes-by-did (Behind n) came old new w out later kept on asked e x =
-      subst (λ (z : Life S). DidThis came old z out later) (sym x.0)
+      subst (λ (z : MemberState S). DidThis came old z out later) (sym x.0)
       (record { posted = _; happened = _; grows = x.1; acted = one-acted meaning came (core_of me old) (Puts w.id.creator (bodies.Behind w.id n)) tt })
   takes-by-did Ignore came old new w out later kept on asked e x = stays-did meaning came group me old new out later x.0 x.1
 
-  pub takes-flush-did : (came : Option Posted) (old new : Life S) (w : View) (out later : Output) → IsLife group me old → TakesFlush group me w old new out later
+  pub takes-flush-did : (came : Option Posted) (old new : MemberState S) (w : View) (out later : Output) → IsMemberState group me old → TakesFlush group me w old new out later
       → came ≡ Some (packet w.id.creator (bodies.Flush w) me) → is_connected old ≡ true → DidThis came old new out later
   takes-flush-did came old new w out later kept x asked on = takes-by-did (offered w old.promise) came old new w out later kept on asked refl x
 
   -- ---- a flush of its own
 
-  pub begins-did : (came : Option Posted) (old new : Life S) (w : View) (out later : Output) → IsLife group me old → IsProposal me old w → Begins group me w old new out later → DidThis came old new out later
+  pub begins-did : (came : Option Posted) (old new : MemberState S) (w : View) (out later : Output) → IsMemberState group me old → IsProposal me old w → Begins group me w old new out later → DidThis came old new out later
   begins-did came old new w out later kept p b = record {
     posted = _;
     happened = _;
     grows = b.grows;
-    acted = subst (λ (z : Life S). Acted meaning came (Some (core_of me old)) (map (packet me (bodies.Flush w)) (others_of me w.members)) (blocked_by me old) (Some (core_of me z)))
-        (sym b.life) (proposes-acted meaning came (core_of me old) old.notes p.before w p.inside p.leads kept.unsuspected p.next).1;
+    acted = subst (λ (z : MemberState S). Acted meaning came (Some (core_of me old)) (map (packet me (bodies.Flush w)) (others_of me w.members)) (blocked_by me old) (Some (core_of me z)))
+        (sym b.member_state) (proposes-acted meaning came (core_of me old) old.notes p.before w p.inside p.leads kept.unsuspected p.next).1;
   }
 
-  pub proposes-did : (came : Option Posted) (old new : Life S) (out later : Output) → IsLife group me old → ProposesIf group me old new out later → DidThis came old new out later
+  pub proposes-did : (came : Option Posted) (old new : MemberState S) (out later : Output) → IsMemberState group me old → ProposesIf group me old new out later → DidThis came old new out later
   proposes-did came old new out later kept x =
       match-option (due_proposal (core_of me old) old.notes) (StaysAs old new out later) (λ w. Begins group me w old new out later) x
       (λ s. stays-did meaning came group me old new out later s.0 s.1)
@@ -123,24 +120,24 @@ module _ {S : Type 0} (meaning : Meaning S) (group : List ℕ) (me : Address) wh
   -- ---- a flush is finished
 
   -- a member whose flush and view are these
-  finished-at : (came : Option Posted) (f : FlushModel) (t : Traffic) (old new : Life S) (out later : Output) → IsLife group me old → old.flush ≡ Some f → is_complete f ≡ true
-      → Finishes meaning group me f t old new out later → DidThis came (record old { flush = Some f; traffic = Some t }) new out later
+  finished-at : (came : Option Posted) (f : FlushModel) (t : ViewState) (old new : MemberState S) (out later : Output) → IsMemberState group me old → old.flush ≡ Some f → is_complete f ≡ true
+      → Finishes meaning group me f t old new out later → DidThis came (record old { flush = Some f; view_state = Some t }) new out later
   finished-at came f t old new out later kept flush complete z =
       let x = kept.flushing f flush in
-      let c = core_of me (record old { flush = Some f; traffic = Some t }) in
+      let c = core_of me (record old { flush = Some f; view_state = Some t }) in
       let w = proposed f in
       let s = finished_state meaning f t old.receiver in
       let given = instructions meaning c (view_of t) f (cuts_of f) in
       let same_packets : map (install_packet me) given ≡ finish_packets me f t (meaning.encode s) = packets-are me f (view_of t).id (meaning.encode s) (others_of me f.members) in
       let a = finishes-acted meaning came c (view_of t) f refl refl z.flush (complete-is f complete) in
       let sound = subst (λ l. AllByRecursion (λ m. IsPacket (packet_in group m)) l) (sym same_packets) z.grows.sound in
-      let same : kept_in new.kept.items ≡ given = ap kept_in (z.kept ∙ ap (map (spelled group)) (sym same_packets)) ∙ kept-are group me given sound in
+      let same : sent_installs_in new.sent_installs.items ≡ given = ap sent_installs_in (z.sent_installs ∙ ap (map (spelled group)) (sym same_packets)) ∙ kept-are group me given sound in
       let promise : after_install w old.promise ≡ installed_as me w = own-installed me w old.promise kept.own x.promise x.waiting in
       let view : view_of (fresh_in me w) ≡ w = fresh-view me w in
-      let traffic = fresh-is me w in
+      let view_state = fresh-is me w in
       let core : core_of me new ≡ gone_into w s given c =
-      ap (core_of me) z.life
-      ∙ (λ j. record { me = me; connected = true; promise = (promise j).proposal; installed = (promise j).is_installed; view = Some (view j); traffic = traffic j; flush = None; kept = same j; state = s }) in
+      ap (core_of me) z.member_state
+      ∙ (λ j. record { me = me; connected = true; promise = (promise j).proposal; installed = (promise j).is_installed; view = Some (view j); view_state = view_state j; flush = None; sent_installs = same j; state = s }) in
       record {
         posted = _;
         happened = _;
@@ -149,44 +146,44 @@ module _ {S : Type 0} (meaning : Meaning S) (group : List ℕ) (me : Address) wh
             (subst (λ (k : Core S). Acted meaning came (Some c) (map (install_packet me) given) (finish_events me f t) (Some k)) (sym core) a);
       }
 
-  finished-did : (came : Option Posted) (f : FlushModel) (t : Traffic) (old new : Life S) (out later : Output) → IsLife group me old → old.flush ≡ Some f → old.traffic ≡ Some t → is_complete f ≡ true
+  finished-did : (came : Option Posted) (f : FlushModel) (t : ViewState) (old new : MemberState S) (out later : Output) → IsMemberState group me old → old.flush ≡ Some f → old.view_state ≡ Some t → is_complete f ≡ true
       → Finishes meaning group me f t old new out later → DidThis came old new out later
   finished-did came f t old new out later kept flush inside complete z =
-      let same : old ≡ record old { flush = Some f; traffic = Some t } = λ j. record old { flush = flush j; traffic = inside j } in
-      subst (λ (l : Life S). DidThis came l new out later) (sym same) (finished-at came f t old new out later kept flush complete z)
+      let same : old ≡ record old { flush = Some f; view_state = Some t } = λ j. record old { flush = flush j; view_state = inside j } in
+      subst (λ (l : MemberState S). DidThis came l new out later) (sym same) (finished-at came f t old new out later kept flush complete z)
 
   -- whether it finishes or not
-  pub finishes-either : {P : Type 0} (old new : Life S) (out later : Output) → GoesOn meaning group me old new out later → (StaysAs old new out later → P)
-      → ((f : FlushModel) (t : Traffic) → old.flush ≡ Some f → old.traffic ≡ Some t → is_complete f ≡ true → FinishesAndProposes meaning group me f t old new out later → P) → P
+  pub finishes-either : {P : Type 0} (old new : MemberState S) (out later : Output) → GoesOn meaning group me old new out later → (StaysAs old new out later → P)
+      → ((f : FlushModel) (t : ViewState) → old.flush ≡ Some f → old.view_state ≡ Some t → is_complete f ≡ true → FinishesAndProposes meaning group me f t old new out later → P) → P
   finishes-either old new out later x stays finishes =
       match-option old.flush (StaysAs old new out later)
-      (λ f. MatchBool (is_complete f) (MatchOption old.traffic ⊥ (λ t. FinishesAndProposes meaning group me f t old new out later)) (StaysAs old new out later)) x stays
-      (λ f flush y. match-bool (is_complete f) (MatchOption old.traffic ⊥ (λ t. FinishesAndProposes meaning group me f t old new out later)) (StaysAs old new out later) y
-      (λ complete z. match-option old.traffic ⊥ (λ t. FinishesAndProposes meaning group me f t old new out later) z (λ none. absurd none) (λ t inside done. finishes f t flush inside complete done))
+      (λ f. MatchBool (is_complete f) (MatchOption old.view_state ⊥ (λ t. FinishesAndProposes meaning group me f t old new out later)) (StaysAs old new out later)) x stays
+      (λ f flush y. match-bool (is_complete f) (MatchOption old.view_state ⊥ (λ t. FinishesAndProposes meaning group me f t old new out later)) (StaysAs old new out later) y
+      (λ complete z. match-option old.view_state ⊥ (λ t. FinishesAndProposes meaning group me f t old new out later) z (λ none. absurd none) (λ t inside done. finishes f t flush inside complete done))
       (λ waits s. stays s))
 
-  pub goes-on-did : (came : Option Posted) (old new : Life S) (out later : Output) → IsLife group me old → GoesOn meaning group me old new out later → DidThis came old new out later
+  pub goes-on-did : (came : Option Posted) (old new : MemberState S) (out later : Output) → IsMemberState group me old → GoesOn meaning group me old new out later → DidThis came old new out later
   goes-on-did came old new out later kept x =
       finishes-either old new out later x (λ s. stays-did meaning came group me old new out later s.0 s.1)
       (λ f t flush inside complete z.
       did-then meaning came group me old z.mid new out z.between later (finished-did came f t old z.mid out z.between kept flush inside complete z.finishes)
-      (proposes-did came z.mid new z.between later (finished-life group me meaning f t old old z.mid out z.between kept flush refl z.finishes) z.proposes))
+      (proposes-did came z.mid new z.between later (finished-member_state group me meaning f t old old z.mid out z.between kept flush refl z.finishes) z.proposes))
 
   -- ---- it begins, and goes on
 
-  begins-on-did : (came : Option Posted) (old new : Life S) (w : View) (out later : Output) → IsLife group me old → IsProposal me old w → BeginsAndGoesOn meaning group me w old new out later
+  begins-on-did : (came : Option Posted) (old new : MemberState S) (w : View) (out later : Output) → IsMemberState group me old → IsProposal me old w → BeginsAndGoesOn meaning group me w old new out later
       → DidThis came old new out later
   begins-on-did came old new w out later kept p x =
       did-then meaning came group me old x.mid new out x.between later (begins-did came old x.mid w out x.between kept p x.begins)
-      (goes-on-did came x.mid new x.between later (begun-life group me old x.mid w out x.between kept p x.begins) x.goes_on)
+      (goes-on-did came x.mid new x.between later (begun-member_state group me old x.mid w out x.between kept p x.begins) x.goes_on)
 
-  pub regroups-did : (came : Option Posted) (old new : Life S) (out later : Output) → IsLife group me old → Regroups meaning group me old new out later → DidThis came old new out later
+  pub regroups-did : (came : Option Posted) (old new : MemberState S) (out later : Output) → IsMemberState group me old → Regroups meaning group me old new out later → DidThis came old new out later
   regroups-did came old new out later kept x =
       match-option (due_proposal (core_of me old) old.notes) (StaysAs old new out later) (λ w. BeginsAndGoesOn meaning group me w old new out later) x
       (λ s. stays-did meaning came group me old new out later s.0 s.1)
       (λ w e b. begins-on-did came old new w out later kept (due-is-proposal group me old w kept e) b)
 
-  pub begins-anew-did : (came : Option Posted) (old new : Life S) (out later : Output) → IsLife group me old → BeginsAnew meaning group me old new out later → DidThis came old new out later
+  pub begins-anew-did : (came : Option Posted) (old new : MemberState S) (out later : Output) → IsMemberState group me old → BeginsAnew meaning group me old new out later → DidThis came old new out later
   begins-anew-did came old new out later kept x =
       match-option (anew_proposal me old) (StaysAs old new out later) (λ w. BeginsAndGoesOn meaning group me w old new out later) x
       (λ s. stays-did meaning came group me old new out later s.0 s.1)
@@ -194,7 +191,7 @@ module _ {S : Type 0} (meaning : Meaning S) (group : List ℕ) (me : Address) wh
 
   -- ---- a REPORT
 
-  awaited-by : (b : Bool) (l : Life S) (f : FlushModel) (q : Address) (r : Report) (out : Output) → is_awaited q f ≡ b → l.flush ≡ Some f
+  awaited-by : (b : Bool) (l : MemberState S) (f : FlushModel) (q : Address) (r : Report) (out : Output) → is_awaited q f ≡ b → l.flush ≡ Some f
       → DidThis (Some (packet q (bodies.Report f.proposal r) me)) l (record l { flush = Some (reported q r f) }) out out
   awaited-by true l f q r out e same = record {
     posted = [];
@@ -206,7 +203,7 @@ module _ {S : Type 0} (meaning : Meaning S) (group : List ℕ) (me : Address) wh
       let is : Some (reported q r f) ≡ l.flush = ap Some (cond-false (is_awaited q f) (record f { reports = f.reports ++ (q, r) ∷ [] }) f e) ∙ sym same in
       subst (λ (o : Option FlushModel). DidThis (Some (packet q (bodies.Report f.proposal r) me)) l (record l { flush = o }) out out) (sym is) (nothing-did meaning _ group me l out)
 
-  own-by : (b : Bool) (l : Life S) (f : FlushModel) (q : Address) (w : ViewId) (r : Report) (out : Output) → same_view_id f.proposal w ≡ b → l.flush ≡ Some f
+  own-by : (b : Bool) (l : MemberState S) (f : FlushModel) (q : Address) (w : ViewId) (r : Report) (out : Output) → same_view_id f.proposal w ≡ b → l.flush ≡ Some f
       → DidThis (Some (packet q (bodies.Report w r) me)) l (record l { flush = Some (if b then reported q r f else f) }) out out
   own-by true l f q w r out e same =
       subst (λ (u : ViewId). DidThis (Some (packet q (bodies.Report u r) me)) l (record l { flush = Some (reported q r f) }) out out) (same_view_id-true f.proposal w e)
@@ -214,25 +211,25 @@ module _ {S : Type 0} (meaning : Meaning S) (group : List ℕ) (me : Address) wh
   own-by false l f q w r out e same =
       subst (λ (o : Option FlushModel). DidThis (Some (packet q (bodies.Report w r) me)) l (record l { flush = o }) out out) same (nothing-did meaning _ group me l out)
 
-  flush-by : (flush : Option FlushModel) (l : Life S) (q : Address) (w : ViewId) (r : Report) (out : Output) → l.flush ≡ flush
+  flush-by : (flush : Option FlushModel) (l : MemberState S) (q : Address) (w : ViewId) (r : Report) (out : Output) → l.flush ≡ flush
       → DidThis (Some (packet q (bodies.Report w r) me)) l (record l { flush = option_map (recording q w r) flush }) out out
   flush-by None l q w r out e =
       subst (λ (o : Option FlushModel). DidThis (Some (packet q (bodies.Report w r) me)) l (record l { flush = o }) out out) e (nothing-did meaning _ group me l out)
   flush-by (Some f) l q w r out e = own-by (same_view_id f.proposal w) l f q w r out refl e
 
-  pub takes-report-did : (came : Option Posted) (old new : Life S) (q : Address) (w : ViewId) (r : Report) (out later : Output) → IsLife group me old → TakesReport meaning group me q w r old new out later
+  pub takes-report-did : (came : Option Posted) (old new : MemberState S) (q : Address) (w : ViewId) (r : Report) (out later : Output) → IsMemberState group me old → TakesReport meaning group me q w r old new out later
       → came ≡ Some (packet q (bodies.Report w r) me) → DidThis came old new out later
   takes-report-did came old new q w r out later kept x came_so =
       let mid = record old { flush = option_map (recording q w r) old.flush } in
       did-then meaning came group me old mid new out out later
       (subst (λ (m : Option Posted). DidThis m old mid out out) (sym came_so) (flush-by old.flush old q w r out refl))
-      (goes-on-did came mid new out later (recorded-life group me old mid q w r kept refl) x)
+      (goes-on-did came mid new out later (recorded-member_state group me old mid q w r kept refl) x)
 
   -- ---- an INSTALL again
 
-  again-by : (came : Option Posted) (q : Address) (l : Life S) (given : List (Address × wire.Install)) (o : Option Outgoing) (out later : Output) → kept_in l.kept.items ≡ given
+  again-by : (came : Option Posted) (q : Address) (l : MemberState S) (given : List (Address × wire.Install)) (o : Option Outgoing) (out later : Output) → sent_installs_in l.sent_installs.items ≡ given
       → later.packets.items ≡ out.packets.items ++ option_to_list o → later.events.items ≡ out.events.items
-      → (o ≡ None) ⊎ IsAgain group me q (view_in l.traffic) given o → DidThis came l l out later
+      → (o ≡ None) ⊎ IsAgain group me q (view_in l.view_state) given o → DidThis came l l out later
   again-by came q l given o out later kept packets events (inl none) = record {
     posted = [];
     happened = [];
@@ -248,65 +245,65 @@ module _ {S : Type 0} (meaning : Meaning S) (group : List ℕ) (me : Address) wh
       events = events ∙ sym (append-nil out.events.items);
       short = tt;
     };
-    acted = one-acted meaning came (core_of me l) (Puts a.to (bodies.Install a.install)) (a.current, ap (λ (p : Address). kept_for p (kept_in l.kept.items)) a.same ∙ ap (kept_for q) kept ∙ a.first);
+    acted = one-acted meaning came (core_of me l) (Puts a.to (bodies.Install a.install)) (a.current, ap (λ (p : Address). install_sent_to p (sent_installs_in l.sent_installs.items)) a.same ∙ ap (install_sent_to q) kept ∙ a.first);
   }
 
-  pub installs-again-did : (came : Option Posted) (q : Address) (l : Life S) (out later : Output) → IsLife group me l → InstallsAgain q l out later → DidThis came l l out later
+  pub installs-again-did : (came : Option Posted) (q : Address) (l : MemberState S) (out later : Output) → IsMemberState group me l → InstallsAgain q l out later → DidThis came l l out later
   installs-again-did came q l out later kept x =
-      let k = kept.kept in
-      again-by came q l k.given (find (is_kept_for q) (map (spelled group) (map (install_packet me) k.given))) out later (ap kept_in k.spelled ∙ kept-are group me k.given k.sound)
-      (x.packets ∙ ap (λ items. out.packets.items ++ option_to_list (find (is_kept_for q) items)) k.spelled) x.events (again-in group me q (view_in l.traffic) k.given k.sound k.current)
+      let k = kept.sent_installs in
+      again-by came q l k.given (find (is_sent_to q) (map (spelled group) (map (install_packet me) k.given))) out later (ap sent_installs_in k.spelled ∙ kept-are group me k.given k.sound)
+      (x.packets ∙ ap (λ items. out.packets.items ++ option_to_list (find (is_sent_to q) items)) k.spelled) x.events (again-in group me q (view_in l.view_state) k.given k.sound k.current)
 
   -- ---- a BEHIND, and a suspicion
 
-  pub takes-behind-did : (came : Option Posted) (old new : Life S) (counter : ℕ) (out later : Output) → IsLife group me old → TakesBehind meaning group me counter old new out later
+  pub takes-behind-did : (came : Option Posted) (old new : MemberState S) (counter : ℕ) (out later : Output) → IsMemberState group me old → TakesBehind meaning group me counter old new out later
       → DidThis came old new out later
   takes-behind-did came old new counter out later kept x =
       let heard = record old { notes = having_heard counter old.notes } in
-      let life = heard-life group me old heard counter kept refl in
+      let member_state = heard-member_state group me old heard counter kept refl in
       did-then meaning came group me old heard new out out later (noted-did meaning came group me old heard (having_heard counter old.notes) out refl)
-      (begins-anew-did came heard new out later life x)
+      (begins-anew-did came heard new out later member_state x)
 
-  pub takes-suspicion-did : (came : Option Posted) (old new : Life S) (p : Address) (out later : Output) → IsLife group me old → TakesSuspicion meaning group me p old new out later
+  pub takes-suspicion-did : (came : Option Posted) (old new : MemberState S) (p : Address) (out later : Output) → IsMemberState group me old → TakesSuspicion meaning group me p old new out later
       → same_address p me ≡ false → DidThis came old new out later
   takes-suspicion-did came old new p out later kept x other =
       let noted = record old { notes = suspecting p old.notes } in
       did-then meaning came group me old noted new out out later (noted-did meaning came group me old noted (suspecting p old.notes) out refl)
-      (regroups-did came noted new out later (suspected-life group me old noted p kept other refl) x)
+      (regroups-did came noted new out later (suspected-member_state group me old noted p kept other refl) x)
 
   -- ---- an INSTALL
 
-  entered-by : (traffic : Option Traffic) (came : Option Posted) (old : Life S) (i : wire.Install) → let c = core_of me (record old { traffic = traffic }) in let last = delivered_at c i.base i.items in
+  entered-by : (view_state : Option ViewState) (came : Option Posted) (old : MemberState S) (i : wire.Install) → let c = core_of me (record old { view_state = view_state }) in let last = delivered_at c i.base i.items in
       Acted meaning came (Some c) [] (entering c last i.view i.together i.state) (Some (gone_into i.view (state_into meaning c last i.state) [] c))
-      → Acted meaning came (Some c) [] (enter_events me traffic i) (Some (gone_into i.view (state_by meaning traffic i old.receiver) [] c))
+      → Acted meaning came (Some c) [] (enter_events me view_state i) (Some (gone_into i.view (state_by meaning view_state i old.receiver) [] c))
   entered-by None came old i a = a
   entered-by (Some t) came old i a = a
 
-  entered-did : (came : Option Posted) (old new : Life S) (q : Address) (i : wire.Install) (out later : Output) → IsLife group me old → is_entry (core_of me old) q i ≡ true → is_readable meaning i.state ≡ true
-      → came ≡ Some (packet q (bodies.Install i) me) → Enters meaning group me old.traffic i old new out later → DidThis came old new out later
+  entered-did : (came : Option Posted) (old new : MemberState S) (q : Address) (i : wire.Install) (out later : Output) → IsMemberState group me old → is_entry (core_of me old) q i ≡ true → is_readable meaning i.state ≡ true
+      → came ≡ Some (packet q (bodies.Install i) me) → Enters meaning group me old.view_state i old new out later → DidThis came old new out later
   entered-did came old new q i out later kept enters reads came_so z =
       let c = core_of me old in
-      let s = state_by meaning old.traffic i old.receiver in
-      let parts = and_parts (same_address q i.view.id.creator && may_install i.view old.promise) (is_fitting (view_in old.traffic) (traffic_in old.traffic).delivered i) enters in
+      let s = state_by meaning old.view_state i old.receiver in
+      let parts = and_parts (same_address q i.view.id.creator && may_install i.view old.promise) (is_fitting (view_in old.view_state) (view_core_in old.view_state).delivered i) enters in
       let promise : after_install i.view old.promise ≡ installed_as me i.view =
       other-installed me i.view old.promise kept.own (and_parts (same_address q i.view.id.creator) (may_install i.view old.promise) parts.0).1 in
       let view : view_of (fresh_in me i.view) ≡ i.view = fresh-view me i.view in
-      let traffic = fresh-is me i.view in
-      let bytes : kept_in new.kept.items ≡ [] = ap kept_in z.kept in
+      let view_state = fresh-is me i.view in
+      let bytes : sent_installs_in new.sent_installs.items ≡ [] = ap sent_installs_in z.sent_installs in
       let core : core_of me new ≡ gone_into i.view s [] c =
-      ap (core_of me) z.life
-      ∙ (λ j. record { me = me; connected = true; promise = (promise j).proposal; installed = (promise j).is_installed; view = Some (view j); traffic = traffic j; flush = None; kept = bytes j; state = s }) in
+      ap (core_of me) z.member_state
+      ∙ (λ j. record { me = me; connected = true; promise = (promise j).proposal; installed = (promise j).is_installed; view = Some (view j); view_state = view_state j; flush = None; sent_installs = bytes j; state = s }) in
       record {
         posted = [];
         happened = _;
         grows = z.grows;
-        acted = subst (λ (k : Core S). Acted meaning came (Some c) [] (enter_events me old.traffic i) (Some k)) (sym core)
-            (entered-by old.traffic came old i (enters-acted meaning came c q i came_so enters reads));
+        acted = subst (λ (k : Core S). Acted meaning came (Some c) [] (enter_events me old.view_state i) (Some k)) (sym core)
+            (entered-by old.view_state came old i (enters-acted meaning came c q i came_so enters reads));
       }
 
-  pub takes-install-did : (came : Option Posted) (old new : Life S) (q : Address) (i : wire.Install) (out later : Output) → IsLife group me old → TakesInstall meaning group me q i old new out later
+  pub takes-install-did : (came : Option Posted) (old new : MemberState S) (q : Address) (i : wire.Install) (out later : Output) → IsMemberState group me old → TakesInstall meaning group me q i old new out later
       → came ≡ Some (packet q (bodies.Install i) me) → DidThis came old new out later
   takes-install-did came old new q i out later kept x came_so =
-      match-bool (is_entry (core_of me old) q i) ((is_readable meaning i.state ≡ true) × Enters meaning group me old.traffic i old new out later) (StaysAs old new out later) x
+      match-bool (is_entry (core_of me old) q i) ((is_readable meaning i.state ≡ true) × Enters meaning group me old.view_state i old new out later) (StaysAs old new out later) x
       (λ enters z. entered-did came old new q i out later kept enters z.0 came_so z.1)
       (λ ignored s. stays-did meaning came group me old new out later s.0 s.1)

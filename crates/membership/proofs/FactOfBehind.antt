@@ -5,14 +5,14 @@ use Rattle.std.specs.declared.cmp.Ordering.{Ordering}
 use Rattle.std.specs.declared.cmp.Ordering.TheVariants.{Less, Equal, Greater}
 use Rattle.address.specs.Ids.{Address, view_id_cmp}
 use Rattle.view.specs.Members.{View, stands_in}
-use Rattle.wire.specs.declared.packet.Body.TheVariants as bodies
+use Rattle.wire_values.specs.declared.packet.Body.TheVariants as bodies
 use Rattle.view_install.specs.Promises.{PromiseModel, offered, answer_past}
 use Rattle.view_install.specs.declared.promise.OfferAnswer.{OfferAnswer}
 use Rattle.view_install.specs.declared.promise.OfferAnswer.TheVariants.{Accept, Behind, Ignore}
-use Rattle.agreement.specs.Acts.{packet}
-use Rattle.output.specs.declared.output.Output.{Output}
-use Rattle.output.specs.Outputs.{Grows}
-use Rattle.membership.specs.declared.life.Life.{Life}
+use Rattle.acts.specs.Acts.{packet}
+use Rattle.step_output.specs.declared.output.Output.{Output}
+use Rattle.step_output.specs.Outputs.{Grows}
+use Rattle.membership.specs.declared.member_state.MemberState.{MemberState}
 use Rattle.membership.specs.Changes.{is_behind, TakesBy, TakesFlush}
 
 past-by : (o : Ordering) (u : View) (installed : Bool) → is_behind (answer_past o u installed) ≡ true → answer_past o u installed ≡ Behind u.id.counter
@@ -32,7 +32,7 @@ behind-is w u p promised e =
     offer-by (stands_in p.member w.members) (option_map_or (λ v. answer_past (view_id_cmp w.id v.id) v p.is_installed) p.proposal Accept) u.id.counter
     (λ b. past ∙ past-by (view_id_cmp w.id u.id) u p.is_installed (ap is_behind (sym past) ∙ b)) e
 
-pub answered-behind : {S : Type 0} (group : List ℕ) (me : Address) (w u : View) (l : Life S) (out later : Output) → l.promise.proposal ≡ Some u → is_behind (offered w l.promise) ≡ true
+pub answered-behind : {S : Type 0} (group : List ℕ) (me : Address) (w u : View) (l : MemberState S) (out later : Output) → l.promise.proposal ≡ Some u → is_behind (offered w l.promise) ≡ true
     → Grows group out later (packet me (bodies.Behind w.id u.id.counter) w.id.creator ∷ []) [] → TakesFlush group me w l l out later
 answered-behind group me w u l out later promised e grows =
     subst (λ (a : OfferAnswer). TakesBy a group me w l l out later) (sym (behind-is w u l.promise promised e)) (refl, grows)

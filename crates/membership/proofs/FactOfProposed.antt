@@ -1,45 +1,26 @@
 -- What a member proposes: it may, and it leads the view in which it does.
-use Rattle.std.proofs.Common.{◌≡◌, ℕ, Bool, true, false, cond, not, ◌||◌, Option, Some, None, List, [], ◌∷◌, refl, sym, ap, ◌∙◌, subst, arith, nat_eq, nat_lt, length, is_some}
+use Rattle.std.proofs.Common.{◌≡◌, ℕ, Bool, true, false, cond, ◌||◌, Option, Some, None, List, refl, sym, ap, ◌∙◌, subst, arith, is_some}
 use Rattle.std.specs.Prelude.{if◌then◌else◌}
 use Rattle.std.specs.Option.{option_map_or, option_and_then}
 use Rattle.std.specs.declared.cmp.Ordering.TheVariants.{Greater}
 use Rattle.std.proofs.lemmas.Bool.Decides.{nat_tests}
 use Rattle.std.proofs.lemmas.Option.{none-some}
 use Rattle.address.specs.Ids.{Address, ViewId, view_id_cmp}
-use Rattle.view.specs.Members.{View, stands_in, is_distinct}
-use Rattle.view.specs.View.{view_refusal, begins_with}
-use Rattle.view.specs.declared.ViewError.TheVariants.{Empty, TooMany, Repeated, NotFirst}
+use Rattle.view.specs.Members.{View, stands_in}
+use Rattle.view.specs.View.{view_refusal}
 use Rattle.limits.specs.declared.TheConstants.{MEMBERS}
 use Rattle.flush.specs.Flushes.{FlushModel}
 use Rattle.view_install.specs.Promises.{PromiseModel, offered, is_accept, answer_past}
 use Rattle.view_install.specs.declared.promise.OfferAnswer.TheVariants.{Accept, Ignore}
 use Rattle.trace_props.specs.Rules.{IsBelow}
-use Rattle.agreement.specs.Acts.{IsAbovePromise}
-use Rattle.member_acts.specs.Decisions.{proposal_after, due_proposal}
-use Rattle.member_acts.proofs.FactOfProposal.{next-means, proposal-is-view, due-means}
-use Rattle.membership.specs.declared.life.Life.{Life}
-use Rattle.membership.specs.Lives.{core_of, view_in, leads_in, anew_proposal, IsLife}
+use Rattle.acts.specs.Acts.{IsAbovePromise}
+use Rattle.decisions.specs.Decisions.{proposal_after, due_proposal}
+use Rattle.decisions.proofs.FactOfProposal.{next-means, proposal-is-view, due-means}
+use Rattle.membership.specs.declared.member_state.MemberState.{MemberState}
+use Rattle.membership.specs.MemberStates.{core_of, view_in, leads_in, anew_proposal, IsMemberState}
+use Rattle.view.proofs.FactOfMembers.{coordinator-in}
 
 -- ---- the creator of a view stands in it
-
-first-by : (a b d e : Bool) → cond a (Some Empty) (cond b (Some TooMany) (cond d (Some Repeated) (cond e (Some NotFirst) None))) ≡ None → e ≡ false
-first-by true b d e q = absurd (none-some Empty (sym q))
-first-by false true d e q = absurd (none-some TooMany (sym q))
-first-by false false true e q = absurd (none-some Repeated (sym q))
-first-by false false false true q = absurd (none-some NotFirst (sym q))
-first-by false false false false q = refl
-
-not-not : (b : Bool) → not b ≡ false → b ≡ true
-not-not true e = refl
-not-not false e = absurd (let n : true ≡ false = e in cc)
-
-stands-first : (p : Address) (members : List Address) → begins_with p members ≡ true → stands_in p members ≡ true
-stands-first p [] e = absurd (let n : false ≡ true = e in cc)
-stands-first p (m ∷ members) e = ap (λ b. b || stands_in p members) e
-
-pub creator-stands : (id : ViewId) (members : List Address) → view_refusal id members ≡ None → stands_in id.creator members ≡ true
-creator-stands id members e = stands-first id.creator members (not-not (begins_with id.creator members)
-    (first-by (nat_eq (length members) 0) (nat_lt MEMBERS (length members)) (not (is_distinct members)) (not (begins_with id.creator members)) e))
 
 -- ---- what is above the promise, and lists the member, is accepted
 
@@ -56,9 +37,9 @@ above-accepts w p above listed = ap (λ b. is_accept (cond b (option_map_or (λ 
 -- ---- a proposal
 
 -- a proposal of a member, in the view that it leads
-pub record IsProposal {S : Type 0} (me : Address) (l : Life S) (w : View) : Type 0 where
+pub record IsProposal {S : Type 0} (me : Address) (l : MemberState S) (w : View) : Type 0 where
   pub before : View
-  pub inside : view_in l.traffic ≡ Some before
+  pub inside : view_in l.view_state ≡ Some before
   pub leads : leads_in me before l.notes ≡ true
   pub next : proposal_after (core_of me l) l.notes before ≡ Some w
   pub own : w.id.creator ≡ me
@@ -67,11 +48,11 @@ pub record IsProposal {S : Type 0} (me : Address) (l : Life S) (w : View) : Type
   pub accepted : is_accept (offered w l.promise) ≡ true
 
 module _ {S : Type 0} (group : List ℕ) (me : Address) where
-  pub is-proposal : (l : Life S) (v w : View) → IsLife group me l → view_in l.traffic ≡ Some v → leads_in me v l.notes ≡ true → proposal_after (core_of me l) l.notes v ≡ Some w → IsProposal me l w
+  pub is-proposal : (l : MemberState S) (v w : View) → IsMemberState group me l → view_in l.view_state ≡ Some v → leads_in me v l.notes ≡ true → proposal_after (core_of me l) l.notes v ≡ Some w → IsProposal me l w
   is-proposal l v w kept inside leads next =
       let sound : view_refusal w.id w.members ≡ None = proposal-is-view (core_of me l) l.notes v w leads kept.unsuspected next in
       let x = next-means (core_of me l) l.notes _ w next in
-      let listed : stands_in me w.members ≡ true = subst (λ (p : Address). stands_in p w.members ≡ true) x.own (creator-stands w.id w.members sound) in
+      let listed : stands_in me w.members ≡ true = subst (λ (p : Address). stands_in p w.members ≡ true) x.own (coordinator-in w.id w.members sound) in
       record {
         before = v;
         inside = inside;
@@ -84,32 +65,32 @@ module _ {S : Type 0} (group : List ℕ) (me : Address) where
       }
 
   -- what is due is one
-  pub due-is-proposal : (l : Life S) (w : View) → IsLife group me l → due_proposal (core_of me l) l.notes ≡ Some w → IsProposal me l w
+  pub due-is-proposal : (l : MemberState S) (w : View) → IsMemberState group me l → due_proposal (core_of me l) l.notes ≡ Some w → IsProposal me l w
   due-is-proposal l w kept e = let d = due-means (core_of me l) l.notes w e in is-proposal l d.before w kept d.inside d.it_leads d.next
 
-  flush-by : (flush : Option FlushModel) (l : Life S) (v w : View) → IsLife group me l → l.flush ≡ flush → view_in l.traffic ≡ Some v
+  flush-by : (flush : Option FlushModel) (l : MemberState S) (v w : View) → IsMemberState group me l → l.flush ≡ flush → view_in l.view_state ≡ Some v
       → (if is_some flush then proposal_after (core_of me l) l.notes v else None) ≡ Some w → IsProposal me l w
   flush-by None l v w kept q inside e = absurd (none-some w e)
   flush-by (Some f) l v w kept q inside e = is-proposal l v w kept inside ((kept.flushing f q).leads v inside) e
 
-  view-by : (view : Option View) (l : Life S) (w : View) → IsLife group me l → view_in l.traffic ≡ view
+  view-by : (view : Option View) (l : MemberState S) (w : View) → IsMemberState group me l → view_in l.view_state ≡ view
       → option_and_then (λ v. if is_some l.flush then proposal_after (core_of me l) l.notes v else None) view ≡ Some w → IsProposal me l w
   view-by None l w kept q e = absurd (none-some w e)
   view-by (Some v) l w kept q e = flush-by l.flush l v w kept refl q e
 
   -- what it proposes anew is one
-  pub anew-is-proposal : (l : Life S) (w : View) → IsLife group me l → anew_proposal me l ≡ Some w → IsProposal me l w
-  anew-is-proposal l w kept e = view-by (view_in l.traffic) l w kept refl e
+  pub anew-is-proposal : (l : MemberState S) (w : View) → IsMemberState group me l → anew_proposal me l ≡ Some w → IsProposal me l w
+  anew-is-proposal l w kept e = view-by (view_in l.view_state) l w kept refl e
 
-  flush-by-leads : (flush : Option FlushModel) (l : Life S) (v : View) → IsLife group me l → l.flush ≡ flush → is_some flush ≡ true → view_in l.traffic ≡ Some v → leads_in me v l.notes ≡ true
+  flush-by-leads : (flush : Option FlushModel) (l : MemberState S) (v : View) → IsMemberState group me l → l.flush ≡ flush → is_some flush ≡ true → view_in l.view_state ≡ Some v → leads_in me v l.notes ≡ true
   flush-by-leads None l v kept q there inside = absurd (let n : false ≡ true = there in cc)
   flush-by-leads (Some f) l v kept q there inside = (kept.flushing f q).leads v inside
 
   -- whoever has a flush of its own leads its view
-  pub flush-leads : (l : Life S) (v : View) → IsLife group me l → is_some l.flush ≡ true → view_in l.traffic ≡ Some v → leads_in me v l.notes ≡ true
+  pub flush-leads : (l : MemberState S) (v : View) → IsMemberState group me l → is_some l.flush ≡ true → view_in l.view_state ≡ Some v → leads_in me v l.notes ≡ true
   flush-leads l v kept there inside = flush-by-leads l.flush l v kept refl there inside
 
-pub anew-is : {S : Type 0} (me : Address) (l : Life S) (v : View) (o : Option View) → is_some l.flush ≡ true → view_in l.traffic ≡ Some v → o ≡ proposal_after (core_of me l) l.notes v
+pub anew-is : {S : Type 0} (me : Address) (l : MemberState S) (v : View) (o : Option View) → is_some l.flush ≡ true → view_in l.view_state ≡ Some v → o ≡ proposal_after (core_of me l) l.notes v
     → o ≡ anew_proposal me l
 anew-is me l v o there inside is =
     is ∙ sym (ap (λ (view : Option View). option_and_then (λ u. if is_some l.flush then proposal_after (core_of me l) l.notes u else None) view) inside

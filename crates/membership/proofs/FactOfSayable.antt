@@ -1,9 +1,9 @@
 -- What a flush to which all have reported says to each of its list can be said.
 use Rattle.std.proofs.Common.{◌≡◌, ℕ, zero, suc, ◌+◌, ◌≤◌, Bool, true, false, cond, not, ◌&&◌, ◌||◌, Option, Some, None, List, [], ◌∷◌, length, refl, sym, ap, ◌∙◌, subst, arith, is_some, ◌⊎◌, inl, inr, nat_eq, nat_lt}
 use Rattle.std.specs.Prelude.{IsSome, slice_get, filter, nat_le, ◌==◌, min}
-use Rattle.std.specs.List.{AllByRecursion, list_all}
+use Rattle.std.specs.List.{AllByRecursion}
 use Rattle.std.specs.Option.{option_map_or}
-use Rattle.std.proofs.lemmas.Bool.{and_parts, or_cases}
+use Rattle.std.proofs.lemmas.Bool.{and_parts, or_cases, eqb-true, or_right}
 use Rattle.std.proofs.lemmas.Bool.Decides.{nat_tests}
 use Rattle.std.proofs.lemmas.Option.{none-some, same_Some}
 use Rattle.address.specs.Ids.{Address, ViewId, same_address}
@@ -11,19 +11,21 @@ use Rattle.limits.specs.declared.TheConstants.{GREATEST_NUMBER, MEMBERS, WINDOW}
 use Rattle.view.specs.Members.{stands_in, is_distinct}
 use Rattle.view.specs.View.{view_refusal, begins_with}
 use Rattle.view.specs.declared.ViewError.TheVariants.{Empty, TooMany, Repeated, NotFirst}
-use Rattle.wire.specs.Values.{Entry, held_at, Report}
-use Rattle.wire.specs.Lists.{rest_after, is_in_order, highest_next, are_held, is_filled, is_nothing, is_report}
+use Rattle.wire_values.specs.Values.{Entry, held_at, Report}
+use Rattle.wire_values.specs.Lists.{rest_after, is_in_order, highest_next, are_held, is_filled, is_nothing, is_report}
 use Rattle.flush.specs.Flushes.{FlushModel, IsFlush, report_from, has_reported, comes_from, has_come_from, group, together_of, previous_of}
-use Rattle.flush.specs.Cuts.{held_among, greatest_stable, entries_from, cut_base, cut_items}
+use Rattle.flush.specs.Cuts.{held_among, greatest_stable, cut_base, cut_items}
 use Rattle.flush.specs.Covers.{EachReport}
 use Rattle.flush.proofs.Covers.{first-stands, greatest-le}
 use Rattle.flush.proofs.Groups.{groups-are-reported}
 use Rattle.flush.proofs.CutItems.{cut-is}
-use Rattle.trace_props.proofs.FactOfObserved.{same_address-true, same_address-refl, same_view_id-refl}
-use Rattle.agreement.specs.Acts.{others_of, base_for, items_for}
-use Rattle.member_acts.specs.Decisions.{cuts_of}
-use Rattle.membership.specs.Lives.{is_complete}
+use Rattle.address.proofs.SameIds.{same_address-true, same_address-refl, same_view_id-refl}
+use Rattle.acts.specs.Acts.{others_of, base_for, items_for}
+use Rattle.decisions.specs.Decisions.{cuts_of}
+use Rattle.membership.specs.MemberStates.{is_complete}
 use Rattle.membership.specs.Installs.{IsSayable}
+use Rattle.view.proofs.FactOfMembers.{all-by}
+use Rattle.flush.proofs.FewItems.{cut-few}
 
 -- ---- those who go together stand in the members' order
 
@@ -79,27 +81,15 @@ one-filter t (m ∷ members) q e there = by (t m) refl (or_cases (same_address q
     by false w (inl same) rest = absurd (let n : true ≡ false = sym e ∙ ap t (same_address-true q m same) ∙ w in cc)
     by false w (inr later) rest = rest later
 
-true-behind : (b d : Bool) → d ≡ true → b || d ≡ true
-true-behind true d e = refl
-true-behind false d e = e
-
 all-filter : (P : Address → Type 0) (t : Address → Bool) (members : List Address) → ((q : Address) → stands_in q members ≡ true → P q) → AllByRecursion P (filter t members)
 all-filter P t [] each = tt
-all-filter P t (m ∷ members) each = by (t m) (all-filter P t members (λ q there. each q (true-behind (same_address q m) (stands_in q members) there)))
+all-filter P t (m ∷ members) each = by (t m) (all-filter P t members (λ q there. each q (or_right (same_address q m) (stands_in q members) there)))
   where
     by : (b : Bool) → AllByRecursion P (filter t members) → AllByRecursion P (cond b (m ∷ filter t members) (filter t members))
     by true later = (each m (ap (λ b. b || stands_in m members) (same_address-refl m)), later)
     by false later = later
 
 -- ---- what the flush knows of one of its list
-
-all-by : (t : Address → Bool) (list : List Address) (q : Address) → list_all t list ≡ true → stands_in q list ≡ true → t q ≡ true
-all-by t [] q all e = absurd (let n : false ≡ true = e in cc)
-all-by t (m ∷ list) q all e = by (or_cases (same_address q m) (stands_in q list) e) (and_parts (t m) (list_all t list) all) (λ a s. all-by t list q a s)
-  where
-    by : (same_address q m ≡ true) ⊎ (stands_in q list ≡ true) → (t m ≡ true) × (list_all t list ≡ true) → (list_all t list ≡ true → stands_in q list ≡ true → t q ≡ true) → t q ≡ true
-    by (inl same) x later = ap t (same_address-true q m same) ∙ x.0
-    by (inr there) x later = later x.1 there
 
 few-by : (a b d e : Bool) → cond a (Some Empty) (cond b (Some TooMany) (cond d (Some Repeated) (cond e (Some NotFirst) None))) ≡ None → b ≡ false
 few-by true b d e q = absurd (none-some Empty (sym q))
@@ -143,9 +133,6 @@ together-by (Some r) q f e there stands few =
 small-next : (s d last x : ℕ) → d ≤ GREATEST_NUMBER → nat_le x (highest_next s d last) ≡ true → x ≤ GREATEST_NUMBER
 small-next s d last x small e = grind (arith, nat_tests)
 
-same-number : (g x : ℕ) → nat_eq g x ≡ true → g ≡ x
-same-number g x q = grind (arith, nat_tests)
-
 small-held : (s d last : ℕ) (held : List (ℕ × Entry)) → d ≤ GREATEST_NUMBER → are_held s d last held ≡ true → (g : ℕ) → IsSome (held_at g held) → g ≤ GREATEST_NUMBER
 small-held s d last [] small rises g found = absurd (let n : false ≡ true = found in cc)
 small-held s d last (h ∷ held) small rises g found =
@@ -154,7 +141,7 @@ small-held s d last (h ∷ held) small rises g found =
     by (nat_eq g h.0) refl (small-next s d last h.0 small range.1) (λ later. small-held s d h.0 held small tests.1 g later) found
   where
     by : (b : Bool) → nat_eq g h.0 ≡ b → h.0 ≤ GREATEST_NUMBER → (IsSome (held_at g held) → g ≤ GREATEST_NUMBER) → is_some (cond b (Some h.1) (held_at g held)) ≡ true → g ≤ GREATEST_NUMBER
-    by true q low rest found = let n : g ≡ h.0 = same-number g h.0 q in omega (arith, n, low)
+    by true q low rest found = let n : g ≡ h.0 = eqb-true g h.0 q in omega (arith, n, low)
     by false q low rest found = rest found
 
 -- what a report says is at most the greatest number
@@ -203,22 +190,10 @@ last-of (x ∷ []) (suc k) e = absurd (omega (arith, e))
 last-of (x ∷ y ∷ items) zero e = absurd (omega (arith, e))
 last-of (x ∷ y ∷ items) (suc k) e = last-of (y ∷ items) k (let n : length (y ∷ items) ≡ suc k = omega (arith, e) in n)
 
-few-from : (reports : List Report) (g n : ℕ) → length (entries_from reports g n) ≤ n
-few-from reports g zero = omega arith
-few-from reports g (suc n) = by (held_among reports g) (few-from reports (g + 1) n)
-  where
-    by : (o : Option Entry) → length (entries_from reports (g + 1) n) ≤ n → length (option_map_or (λ e. e ∷ entries_from reports (g + 1) n) o []) ≤ suc n
-    by None few = omega arith
-    by (Some e) few = omega (arith, few)
-
 -- a base and items that an INSTALL can list
 record IsListed (base : ℕ) (items : List Entry) : Type 0 where
   few : length items ≤ WINDOW
   small : base + length items ≤ GREATEST_NUMBER
-
-cut-few : (reports : List Report) → length (cut_items reports) ≤ WINDOW
-unfolding cut_items
-cut-few reports = few-from reports (cut_base reports + 1) WINDOW
 
 cut-small : (f : FlushModel) → IsFlush f → (u : ViewId) (n : ℕ) → length (cut_items (group (Some u) f.reports)) ≡ n → cut_base (group (Some u) f.reports) + n ≤ GREATEST_NUMBER
 cut-small f i u zero e =

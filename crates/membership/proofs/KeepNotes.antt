@@ -6,15 +6,15 @@ use Rattle.std.specs.Option.{option_map_or}
 use Rattle.std.proofs.lemmas.Bool.{and_parts, and_from}
 use Rattle.std.proofs.lemmas.List.Folds.{list_any-append}
 use Rattle.address.specs.Ids.{Address, same_address}
-use Rattle.wire.proofs.MemberLaws.{same_address-comm}
 use Rattle.view.specs.Members.{View, stands_in, rank_of}
 use Rattle.suspicion.specs.Suspicion.{suspected_too, leads}
-use Rattle.candidates.specs.Notes.{NotesModel, having_heard, suspecting, is_later, outdates, outdating}
-use Rattle.candidates.specs.Noting.{noting, noting_view, with_joiner, is_known_here, with_merging, new_of}
-use Rattle.candidates.specs.Candidates.{has_room}
-use Rattle.membership.specs.declared.life.Life.{Life}
-use Rattle.membership.specs.Lives.{IsLife}
-use Rattle.membership.proofs.KeepLife.{noted-life}
+use Rattle.next_view.specs.Notes.{NotesModel, having_heard, suspecting, is_later, outdates, outdating}
+use Rattle.next_view.specs.Noting.{noting, noting_view, with_joiner, is_known_here, with_merging, new_of}
+use Rattle.next_view.specs.Candidates.{has_room}
+use Rattle.membership.specs.declared.member_state.MemberState.{MemberState}
+use Rattle.membership.specs.MemberStates.{IsMemberState}
+use Rattle.membership.proofs.KeepMemberState.{noted-member_state}
+use Rattle.address.proofs.SameIds.{same_address-sym}
 
 -- ---- more suspects
 
@@ -50,7 +50,7 @@ has-too p suspects m e = too-by (stands_in p suspects) p m suspects e
 free-by : (b : Bool) (p me : Address) (suspects : List Address) → same_address p me ≡ false → stands_in me suspects ≡ false → stands_in me (if b then suspects else suspects ++ p ∷ []) ≡ false
 free-by true p me suspects other free = free
 free-by false p me suspects other free =
-    list_any-append (same_address me) suspects (p ∷ []) ∙ ap (λ b. b || (same_address me p || false)) free ∙ ap (λ b. b || false) (same_address-comm me p ∙ other)
+    list_any-append (same_address me) suspects (p ∷ []) ∙ ap (λ b. b || (same_address me p || false)) free ∙ ap (λ b. b || false) (same_address-sym me p ∙ other)
 
 pub free-too : (p me : Address) (suspects : List Address) → same_address p me ≡ false → stands_in me suspects ≡ false → stands_in me (suspected_too p suspects) ≡ false
 free-too p me suspects other free = free-by (stands_in p suspects) p me suspects other free
@@ -96,30 +96,30 @@ noting_view-suspects me members u notes =
 
 module _ {S : Type 0} (group : List ℕ) (me : Address) where
   -- the same suspects
-  pub same-suspects-life : (l new : Life S) (b : NotesModel) → IsLife group me l → new ≡ record l { notes = b } → b.suspects ≡ l.notes.suspects → IsLife group me new
-  same-suspects-life l new b kept is same =
-      noted-life group me l new b kept is (ap (stands_in me) same ∙ kept.unsuspected) (λ v e. ap (λ s. leads s v.members me) same ∙ e)
+  pub same-suspects-member_state : (l new : MemberState S) (b : NotesModel) → IsMemberState group me l → new ≡ record l { notes = b } → b.suspects ≡ l.notes.suspects → IsMemberState group me new
+  same-suspects-member_state l new b kept is same =
+      noted-member_state group me l new b kept is (ap (stands_in me) same ∙ kept.unsuspected) (λ v e. ap (λ s. leads s v.members me) same ∙ e)
 
   -- an address more is suspected
-  pub suspected-life : (l new : Life S) (p : Address) → IsLife group me l → same_address p me ≡ false → new ≡ record l { notes = suspecting p l.notes } → IsLife group me new
-  suspected-life l new p kept other is =
-      noted-life group me l new (suspecting p l.notes) kept is (free-too p me l.notes.suspects other kept.unsuspected)
+  pub suspected-member_state : (l new : MemberState S) (p : Address) → IsMemberState group me l → same_address p me ≡ false → new ≡ record l { notes = suspecting p l.notes } → IsMemberState group me new
+  suspected-member_state l new p kept other is =
+      noted-member_state group me l new (suspecting p l.notes) kept is (free-too p me l.notes.suspects other kept.unsuspected)
       (λ v e. leads-more l.notes.suspects (suspected_too p l.notes.suspects) v.members me (has-too p l.notes.suspects) e)
 
   -- those of whose nodes p is a later incarnation are suspected
-  pub outdated-life : (l new : Life S) (members : List Address) (p : Address) → IsLife group me l → new ≡ record l { notes = outdating me members p l.notes } → IsLife group me new
-  outdated-life l new members p kept is =
+  pub outdated-member_state : (l new : MemberState S) (members : List Address) (p : Address) → IsMemberState group me l → new ≡ record l { notes = outdating me members p l.notes } → IsMemberState group me new
+  outdated-member_state l new members p kept is =
       let x = outdating-more me p members l.notes in
-      noted-life group me l new (outdating me members p l.notes) kept is (x.free kept.unsuspected) (λ v e. leads-more l.notes.suspects (outdating me members p l.notes).suspects v.members me x.has e)
+      noted-member_state group me l new (outdating me members p l.notes) kept is (x.free kept.unsuspected) (λ v e. leads-more l.notes.suspects (outdating me members p l.notes).suspects v.members me x.has e)
 
   -- a counter is heard of
-  pub heard-life : (l new : Life S) (n : ℕ) → IsLife group me l → new ≡ record l { notes = having_heard n l.notes } → IsLife group me new
-  heard-life l new n kept is = same-suspects-life l new (having_heard n l.notes) kept is refl
+  pub heard-member_state : (l new : MemberState S) (n : ℕ) → IsMemberState group me l → new ≡ record l { notes = having_heard n l.notes } → IsMemberState group me new
+  heard-member_state l new n kept is = same-suspects-member_state l new (having_heard n l.notes) kept is refl
 
   -- one who asks to be let in is noted
-  pub joiner-life : (l new : Life S) (members listed : List Address) (p : Address) → IsLife group me l → new ≡ record l { notes = noting me members listed p l.notes } → IsLife group me new
-  joiner-life l new members listed p kept is = same-suspects-life l new (noting me members listed p l.notes) kept is (noting-suspects me members listed p l.notes)
+  pub joiner-member_state : (l new : MemberState S) (members listed : List Address) (p : Address) → IsMemberState group me l → new ≡ record l { notes = noting me members listed p l.notes } → IsMemberState group me new
+  joiner-member_state l new members listed p kept is = same-suspects-member_state l new (noting me members listed p l.notes) kept is (noting-suspects me members listed p l.notes)
 
   -- a view that merges is noted
-  pub merging-life : (l new : Life S) (members : List Address) (u : View) → IsLife group me l → new ≡ record l { notes = noting_view me members u l.notes } → IsLife group me new
-  merging-life l new members u kept is = same-suspects-life l new (noting_view me members u l.notes) kept is (noting_view-suspects me members u l.notes)
+  pub merging-member_state : (l new : MemberState S) (members : List Address) (u : View) → IsMemberState group me l → new ≡ record l { notes = noting_view me members u l.notes } → IsMemberState group me new
+  merging-member_state l new members u kept is = same-suspects-member_state l new (noting_view me members u l.notes) kept is (noting_view-suspects me members u l.notes)

@@ -2,8 +2,8 @@ pub mod FactOfPuts
 pub mod ActsInTurn
 pub mod FactOfSayable
 pub mod FactOfProposed
-pub mod KeepLife
+pub mod KeepMemberState
 pub mod KeepNotes
 pub mod FactOfBehind
-pub mod FactOfKept
+pub mod FactOfSentInstalls
 pub mod ActsOfChanges

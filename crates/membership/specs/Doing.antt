@@ -3,15 +3,15 @@ use Rattle.std.specs.Prelude.{ℕ, List, Option, Some}
 use Rattle.address.specs.Ids.{Address}
 use Rattle.state_transfer.specs.Meanings.{Meaning}
 use Rattle.trace_props.specs.declared.event.Event.{Event}
-use Rattle.agreement.specs.Histories.{Posted}
-use Rattle.agreement.specs.Chains.{Acted}
-use Rattle.output.specs.declared.output.Output.{Output}
-use Rattle.output.specs.Outputs.{Grows}
-use Rattle.membership.specs.declared.life.Life.{Life}
-use Rattle.membership.specs.Lives.{core_of}
+use Rattle.acts.specs.Histories.{Posted}
+use Rattle.acts.specs.Chains.{Acted}
+use Rattle.step_output.specs.declared.output.Output.{Output}
+use Rattle.step_output.specs.Outputs.{Grows}
+use Rattle.membership.specs.declared.member_state.MemberState.{MemberState}
+use Rattle.membership.specs.MemberStates.{core_of}
 
 -- on a packet that came, or on none, it went on by acts alone, and what they put out and let happen is what grew
-pub record Did {S : Type 0} (meaning : Meaning S) (came : Option Posted) (group : List ℕ) (me : Address) (old new : Life S) (out later : Output) : Type 0 where
+pub record Did {S : Type 0} (meaning : Meaning S) (came : Option Posted) (group : List ℕ) (me : Address) (old new : MemberState S) (out later : Output) : Type 0 where
   pub posted : List Posted
   pub happened : List Event
   pub grows : Grows group out later posted happened

@@ -3,26 +3,26 @@ use Rattle.std.specs.Prelude.{[], ◌∷◌, ◌++◌, ◌≡◌, ℕ, true, dro
 use Rattle.std.specs.Option.{option_eq, option_map_or, option_and_then}
 use Rattle.std.specs.List.{AllByRecursion, flat_map}
 use Rattle.address.specs.Ids.{Address, ViewId, same_view_id}
-use Rattle.wire.specs.Values.{Entry}
-use Rattle.wire.specs.Values as wire
-use Rattle.wire.specs.declared.packet.Body.TheVariants as bodies
-use Rattle.wire.specs.Lists.{is_install}
-use Rattle.wire.specs.Fields.{IsEntry, entry_bytes}
+use Rattle.wire_values.specs.Values.{Entry}
+use Rattle.wire_values.specs.Values as wire
+use Rattle.wire_values.specs.declared.packet.Body.TheVariants as bodies
+use Rattle.wire_values.specs.Lists.{is_install}
+use Rattle.wire_values.specs.Fields.{IsEntry, entry_bytes}
 use Rattle.state_transfer.specs.Meanings.{Meaning}
 use Rattle.flush.specs.Flushes.{FlushModel, together_of, previous_of}
 use Rattle.trace_props.specs.Observed.{own}
 use Rattle.trace_props.specs.declared.event.Event.{Event}
 use Rattle.trace_props.specs.declared.event.Event.TheVariants.{Installed}
 use Rattle.trace_props.specs.declared.event.Numbered.{Numbered}
-use Rattle.agreement.specs.Histories.{Posted}
-use Rattle.agreement.specs.Cores.{applied, id_of}
-use Rattle.agreement.specs.Words.{message_for}
-use Rattle.agreement.specs.Acts.{others_of, delivery, deliveries, undelivered, packet, proposed, base_for, items_for}
-use Rattle.member_acts.specs.Decisions.{cuts_of}
-use Rattle.traffic.specs.declared.traffic.Traffic.{Traffic}
-use Rattle.traffic.specs.Traffics.{view_of, traffic_of}
+use Rattle.acts.specs.Histories.{Posted}
+use Rattle.acts.specs.Cores.{applied, id_of}
+use Rattle.acts.specs.Words.{message_for}
+use Rattle.acts.specs.Acts.{others_of, delivery, deliveries, undelivered, packet, proposed, base_for, items_for}
+use Rattle.decisions.specs.Decisions.{cuts_of}
+use Rattle.traffic.specs.declared.view_state.ViewState.{ViewState}
+use Rattle.traffic.specs.ViewStates.{view_of, view_core_of}
 use Rattle.membership.specs.declared.finishing.CutText.{CutText}
-use Rattle.membership.specs.Lives.{view_in}
+use Rattle.membership.specs.MemberStates.{view_in}
 
 -- ---- what a flush says to one of its list
 
@@ -54,61 +54,61 @@ IsSayable f v state q = is_install (instruction_to f v state q) ≡ true
 -- ---- a flush is finished
 
 -- what its creator is delivered of its own view's cut
-abbrev pub delivered_by : FlushModel → Traffic → List Entry
-delivered_by f t = undelivered (traffic_of t).delivered ((cuts_of f).base (view_of t).id) ((cuts_of f).items (view_of t).id)
+abbrev pub delivered_by : FlushModel → ViewState → List Entry
+delivered_by f t = undelivered (view_core_of t).delivered ((cuts_of f).base (view_of t).id) ((cuts_of f).items (view_of t).id)
 
 -- how many of these are its own
 abbrev pub own_of : Address → List Entry → ℕ
 own_of me entries = length (own me (map message_for entries))
 
 -- its creator installs the view that it proposed
-abbrev pub going : Address → FlushModel → Traffic → ℕ → Event
+abbrev pub going : Address → FlushModel → ViewState → ℕ → Event
 going me f t n = Installed (record {
   member = me;
   previous = Some (view_of t).id;
   view = proposed f;
   together = together_of me f;
-  handed_back = drop n (traffic_of t).outstanding;
+  handed_back = drop n (view_core_of t).outstanding;
   given = None;
 })
 
 -- the state with which the view begins
-abbrev pub finished_state : {S : Type 0} → Meaning S → FlushModel → Traffic → S → S
+abbrev pub finished_state : {S : Type 0} → Meaning S → FlushModel → ViewState → S → S
 finished_state meaning f t s = applied meaning s (delivered_by f t)
 
 -- what its creator puts out
-abbrev pub finish_packets : Address → FlushModel → Traffic → List ℕ → List Posted
+abbrev pub finish_packets : Address → FlushModel → ViewState → List ℕ → List Posted
 finish_packets me f t state = map (instructing me f (view_of t).id state) (others_of me f.members)
 
 -- what happens to its creator
-abbrev pub finish_events : Address → FlushModel → Traffic → List Event
+abbrev pub finish_events : Address → FlushModel → ViewState → List Event
 finish_events me f t = map (delivery me (view_of t).id) (delivered_by f t) ++ going me f t (own_of me (delivered_by f t)) ∷ []
 
 -- ---- an INSTALL is entered
 
 -- what the one who enters lacks of its view
-abbrev pub lacking : Option Traffic → wire.Install → List Entry
-lacking traffic i = option_map_or (λ t. undelivered (traffic_of t).delivered i.base i.items) traffic []
+abbrev pub lacking : Option ViewState → wire.Install → List Entry
+lacking view_state i = option_map_or (λ t. undelivered (view_core_of t).delivered i.base i.items) view_state []
 
 -- what is left of its own messages when so many more of them were delivered
-abbrev pub left_in : Option Traffic → ℕ → List Numbered
-left_in traffic n = option_map_or (λ t. drop n (traffic_of t).outstanding) traffic []
+abbrev pub left_in : Option ViewState → ℕ → List Numbered
+left_in view_state n = option_map_or (λ t. drop n (view_core_of t).outstanding) view_state []
 
 -- the state with which it goes on
-abbrev pub state_by : {S : Type 0} → Meaning S → Option Traffic → wire.Install → S → S
-state_by meaning traffic i s = unwrap_or (option_and_then meaning.decode i.state) (applied meaning s (lacking traffic i))
+abbrev pub state_by : {S : Type 0} → Meaning S → Option ViewState → wire.Install → S → S
+state_by meaning view_state i s = unwrap_or (option_and_then meaning.decode i.state) (applied meaning s (lacking view_state i))
 
 -- it installs the view
-abbrev pub arriving : Address → Option Traffic → wire.Install → ℕ → Event
-arriving me traffic i n = Installed (record {
+abbrev pub arriving : Address → Option ViewState → wire.Install → ℕ → Event
+arriving me view_state i n = Installed (record {
   member = me;
-  previous = id_of (view_in traffic);
+  previous = id_of (view_in view_state);
   view = i.view;
   together = i.together;
-  handed_back = left_in traffic n;
+  handed_back = left_in view_state n;
   given = i.state;
 })
 
 -- what happens to it
-abbrev pub enter_events : Address → Option Traffic → wire.Install → List Event
-enter_events me traffic i = deliveries me (view_in traffic) (lacking traffic i) ++ arriving me traffic i (own_of me (lacking traffic i)) ∷ []
+abbrev pub enter_events : Address → Option ViewState → wire.Install → List Event
+enter_events me view_state i = deliveries me (view_in view_state) (lacking view_state i) ++ arriving me view_state i (own_of me (lacking view_state i)) ∷ []

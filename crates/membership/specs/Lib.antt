@@ -1,4 +1,4 @@
-pub mod Lives
+pub mod MemberStates
 pub mod Installs
 pub mod Changes
 pub mod Doing

@@ -3,23 +3,23 @@
 ghost use Rattle.std.specs.Prelude.{◌≡◌, ◌∷◌, [], OnOk, IfOk, true, map};
 ghost use Rattle.view.specs.Members.{stands_in};
 ghost use Rattle.view_install.specs.Promises.{offered, is_accept};
-ghost use Rattle.wire.specs.declared.packet.Body.TheVariants as bodies;
-ghost use Rattle.agreement.specs.Acts.{packet, others_of};
-ghost use Rattle.agreement.specs.Cores.{report_with};
-ghost use Rattle.output.specs.Outputs.{Grows};
-ghost use Rattle.membership.specs.Lives.{view_in, traffic_in, begun_with};
+ghost use Rattle.wire_values.specs.declared.packet.Body.TheVariants as bodies;
+ghost use Rattle.acts.specs.Acts.{packet, others_of};
+ghost use Rattle.acts.specs.Cores.{report_with};
+ghost use Rattle.step_output.specs.Outputs.{Grows};
+ghost use Rattle.membership.specs.MemberStates.{view_in, view_core_in, begun_with};
 ghost use Rattle.membership.specs.Changes.{Begins};
 
-use crate::Life;
+use crate::MemberState;
 use crate::promising::{held_text, report_of};
 use address::Address;
 use flush::Flush;
-use output::{Identity, Output};
 use state_transfer::Receiver;
 use std::alloc::{AllocError, Global};
-use traffic::Traffic;
+use step_output::{Identity, Output};
+use traffic::ViewState;
 use view::Addresses;
-use wire::{Body, Roster};
+use wire_values::{Body, Roster};
 
 // All of a list but one.
 pub(crate) fn others_of(
@@ -35,14 +35,18 @@ pub(crate) fn others_of(
 }
 
 // A flush that begins, with the member's own report.
-fn begun(who: &Identity, traffic: &Option<Traffic>, proposal: &Roster) -> Result<Flush, AllocError>
+fn begun(
+    who: &Identity,
+    view_state: &Option<ViewState>,
+    proposal: &Roster,
+) -> Result<Flush, AllocError>
     requires { stands_in who.now.address proposal.now.members ≡ true }
-    ensures { IfOk result (λ f. f ≡ begun_with who.now.address proposal.now (report_with (view_in traffic.now) (traffic_in traffic.now))) }
+    ensures { IfOk result (λ f. f ≡ begun_with who.now.address proposal.now (report_with (view_in view_state.now) (view_core_in view_state.now))) }
 {
     let members = Vec::from_slice(who.alloc, proposal.members().as_slice())?;
     let mut flush = Flush::start(who.alloc, proposal.id(), Addresses::from_vec(members));
-    let text = held_text(who.alloc, traffic)?;
-    let report = report_of(traffic, text.as_slice());
+    let text = held_text(who.alloc, view_state)?;
+    let report = report_of(view_state, text.as_slice());
     let _ = flush.report(who.address, &report)?;
     Ok(flush)
 }
@@ -78,7 +82,7 @@ pub(crate) fn announce_all(
     }
 }
 
-impl<R: Receiver> Life<R> {
+impl<R: Receiver> MemberState<R> {
     // Begins a flush of a proposal of its own: it is blocked, its own report is in it, and the proposal is announced to the others of its list.
     pub(crate) fn begin(
         &mut self,
@@ -91,7 +95,7 @@ impl<R: Receiver> Life<R> {
         ensures { OnOk result (Begins who.now.group who.now.address proposal.now self.old self.new out.old out.new) }
     {
         self.block(who, out)?;
-        let flush = begun(who, &self.traffic, proposal)?;
+        let flush = begun(who, &self.view_state, proposal)?;
         let others = others_of(who.alloc, &who.address, proposal.members().as_slice())?;
         announce_all(who, proposal, others.as_slice(), out)?;
         let _ = self.promise.offer(proposal);

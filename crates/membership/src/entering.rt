@@ -2,27 +2,27 @@
 
 ghost use Rattle.std.specs.Prelude.{◌≡◌, ◌∷◌, [], true, false, Err, OnOk, IfOk, Some, None, unwrap_or};
 ghost use Rattle.std.specs.Option.{option_and_then};
-ghost use Rattle.agreement.specs.Acts.{deliveries};
-ghost use Rattle.agreement.specs.Cores.{applied, id_of};
-ghost use Rattle.member_acts.specs.Decisions.{is_readable, is_fitting};
+ghost use Rattle.acts.specs.Acts.{deliveries};
+ghost use Rattle.acts.specs.Cores.{applied, id_of};
+ghost use Rattle.decisions.specs.Decisions.{is_readable, is_fitting};
 ghost use Rattle.sequencer.specs.Forwards.{AreShort};
-ghost use Rattle.traffic.specs.Traffics.{view_of};
-ghost use Rattle.output.specs.Outputs.{Grows};
+ghost use Rattle.traffic.specs.ViewStates.{view_of};
+ghost use Rattle.step_output.specs.Outputs.{Grows};
 ghost use Rattle.membership.specs.declared.stop.Stop.TheVariants as stop;
-ghost use Rattle.membership.specs.Lives.{view_in, traffic_in};
+ghost use Rattle.membership.specs.MemberStates.{view_in, view_core_in};
 ghost use Rattle.membership.specs.Installs.{own_of, lacking, left_in, arriving};
 ghost use Rattle.membership.specs.Changes.{Arrives, Enters};
 
 use crate::finishing::{behind, deliver_all, own_of};
-use crate::{Life, Stop};
+use crate::{MemberState, Stop};
 use address::ViewId;
-use output::{Identity, Output};
 use state_transfer::Receiver;
 use std::alloc::{AllocError, Global};
+use step_output::{Identity, Output};
 use trace_props::{Bytes, Event, HandedBack, Install as Installed};
-use traffic::Traffic;
+use traffic::ViewState;
 use view::{Addresses, View};
-use wire::{Entry, Install, Items, Roster, State};
+use wire_values::{Entry, Install, Items, Roster, State};
 
 // The entries of an INSTALL.
 fn all_of<'a>(alloc: Global, items: Items<'a>) -> Result<Vec<Entry<'a>>, AllocError>
@@ -37,14 +37,14 @@ fn all_of<'a>(alloc: Global, items: Items<'a>) -> Result<Vec<Entry<'a>>, AllocEr
 }
 
 // Whether an INSTALL begins at most where the member is; for one without a view, whether it delivers nothing and gives a state.
-pub(crate) fn is_fitting(traffic: &Option<Traffic>, install: &Install<'_>) -> bool
-    ensures { result ≡ is_fitting (view_in traffic.now) (traffic_in traffic.now).delivered install.now }
+pub(crate) fn is_fitting(view_state: &Option<ViewState>, install: &Install<'_>) -> bool
+    ensures { result ≡ is_fitting (view_in view_state.now) (view_core_in view_state.now).delivered install.now }
 {
-    match traffic {
+    match view_state {
         None => {
             install.base().get() == 0 && install.items().len() == 0 && install.state().is_some()
         }
-        Some(traffic) => install.base() <= traffic.delivered(),
+        Some(view_state) => install.base() <= view_state.delivered(),
     }
 }
 
@@ -69,41 +69,41 @@ fn take_state<R: Receiver>(receiver: &mut R, given: &Option<State<'_>>) -> Resul
 // Delivers what a member lacks of its view by an INSTALL. The answer is how many of these are its own.
 fn deliver_lacking<R: Receiver>(
     who: &Identity,
-    traffic: &Traffic,
+    view_state: &ViewState,
     install: &Install<'_>,
     receiver: &mut R,
     out: &mut Output,
 ) -> Result<usize, AllocError>
-    ensures state { OnOk result (receiver.new ≡ applied R.meaning receiver.old (lacking (Some traffic.now) install.now)) }
-    ensures out { OnOk result (Grows who.now.group out.old out.new [] (deliveries who.now.address (Some (view_of traffic.now)) (lacking (Some traffic.now) install.now))) }
-    ensures own { IfOk result (λ n. n ≡ own_of who.now.address (lacking (Some traffic.now) install.now)) }
+    ensures state { OnOk result (receiver.new ≡ applied R.meaning receiver.old (lacking (Some view_state.now) install.now)) }
+    ensures out { OnOk result (Grows who.now.group out.old out.new [] (deliveries who.now.address (Some (view_of view_state.now)) (lacking (Some view_state.now) install.now))) }
+    ensures own { IfOk result (λ n. n ≡ own_of who.now.address (lacking (Some view_state.now) install.now)) }
 {
     let entries = all_of(who.alloc, install.items())?;
-    let skip = traffic
+    let skip = view_state
         .delivered()
         .get()
         .saturating_sub(install.base().get()) as usize;
     let lacking = behind(entries.as_slice(), skip);
-    deliver_all(who, traffic.view().id(), lacking, receiver, out)?;
+    deliver_all(who, view_state.view().id(), lacking, receiver, out)?;
     Ok(own_of(&who.address, lacking))
 }
 
 // The same of one who may have no view.
 fn deliver_last<R: Receiver>(
     who: &Identity,
-    traffic: &Option<Traffic>,
+    view_state: &Option<ViewState>,
     install: &Install<'_>,
     receiver: &mut R,
     out: &mut Output,
 ) -> Result<usize, AllocError>
-    ensures state { OnOk result (receiver.new ≡ applied R.meaning receiver.old (lacking traffic.now install.now)) }
-    ensures out { OnOk result (Grows who.now.group out.old out.new [] (deliveries who.now.address (view_in traffic.now) (lacking traffic.now install.now))) }
-    ensures own { IfOk result (λ n. n ≡ own_of who.now.address (lacking traffic.now install.now)) }
+    ensures state { OnOk result (receiver.new ≡ applied R.meaning receiver.old (lacking view_state.now install.now)) }
+    ensures out { OnOk result (Grows who.now.group out.old out.new [] (deliveries who.now.address (view_in view_state.now) (lacking view_state.now install.now))) }
+    ensures own { IfOk result (λ n. n ≡ own_of who.now.address (lacking view_state.now install.now)) }
 {
-    match traffic {
+    match view_state {
         None => Ok(0),
-        Some(traffic) => {
-            let own = deliver_lacking(who, traffic, install, receiver, out)?;
+        Some(view_state) => {
+            let own = deliver_lacking(who, view_state, install, receiver, out)?;
             Ok(own)
         }
     }
@@ -128,44 +128,48 @@ fn state_copied(alloc: Global, given: &Option<State<'_>>) -> Result<Option<Bytes
 }
 
 // What is left of the own messages when so many more of them were delivered.
-fn left_of(alloc: Global, traffic: Option<Traffic>, own: usize) -> Result<HandedBack, AllocError>
-    ensures value { IfOk result (λ h. h ≡ left_in traffic own) }
+fn left_of(
+    alloc: Global,
+    view_state: Option<ViewState>,
+    own: usize,
+) -> Result<HandedBack, AllocError>
+    ensures value { IfOk result (λ h. h ≡ left_in view_state own) }
     ensures short { IfOk result AreShort }
 {
-    match traffic {
+    match view_state {
         None => Ok(HandedBack::nothing(alloc)),
-        Some(traffic) => {
-            let left = traffic.handed_back(own)?;
+        Some(view_state) => {
+            let left = view_state.handed_back(own)?;
             Ok(left)
         }
     }
 }
 
 // The id of the view that it is in.
-fn id_in(traffic: &Option<Traffic>) -> Option<ViewId>
-    ensures { result ≡ id_of (view_in traffic.now) }
+fn id_in(view_state: &Option<ViewState>) -> Option<ViewId>
+    ensures { result ≡ id_of (view_in view_state.now) }
 {
-    match traffic {
+    match view_state {
         None => None,
-        Some(traffic) => Some(traffic.view().id()),
+        Some(view_state) => Some(view_state.view().id()),
     }
 }
 
 // Installs the view of an INSTALL: the event is recorded.
 fn install_view(
     who: &Identity,
-    traffic: Option<Traffic>,
+    view_state: Option<ViewState>,
     install: &Install<'_>,
     own: usize,
     out: &mut Output,
 ) -> Result<(), AllocError>
-    ensures { OnOk result (Grows who.now.group out.old out.new [] (arriving who.now.address traffic install.now own ∷ [])) }
+    ensures { OnOk result (Grows who.now.group out.old out.new [] (arriving who.now.address view_state install.now own ∷ [])) }
 {
-    let previous = id_in(&traffic);
+    let previous = id_in(&view_state);
     let view = view_from(who.alloc, install.view())?;
     let together = Vec::from_slice(who.alloc, install.together().as_slice())?;
     let together = Addresses::from_vec(together);
-    let handed_back = left_of(who.alloc, traffic, own)?;
+    let handed_back = left_of(who.alloc, view_state, own)?;
     let given = state_copied(who.alloc, install.state())?;
     who.record(
         Event::Installed(Installed {
@@ -180,22 +184,22 @@ fn install_view(
     )
 }
 
-impl<R: Receiver> Life<R> {
+impl<R: Receiver> MemberState<R> {
     // Goes into the promised view of another, by its INSTALL.
     pub(crate) fn enter(
         &mut self,
         who: &Identity,
-        traffic: Option<Traffic>,
+        view_state: Option<ViewState>,
         install: &Install<'_>,
         out: &mut Output,
     ) -> Result<(), Stop>
-        ensures enters { OnOk result (Enters R.meaning who.now.group who.now.address traffic install.now self.old self.new out.old out.new) }
+        ensures enters { OnOk result (Enters R.meaning who.now.group who.now.address view_state install.now self.old self.new out.old out.new) }
         ensures readable { OnOk result (is_readable R.meaning install.now.state ≡ true) }
         ensures unreadable { result ≡ Err stop.Unreadable → is_readable R.meaning install.now.state ≡ false }
     {
-        let own = deliver_last(who, &traffic, install, &mut self.receiver, out)?;
+        let own = deliver_last(who, &view_state, install, &mut self.receiver, out)?;
         take_state(&mut self.receiver, install.state())?;
-        self.arrive(who, traffic, install, own, out)?;
+        self.arrive(who, view_state, install, own, out)?;
         Ok(())
     }
 
@@ -203,21 +207,21 @@ impl<R: Receiver> Life<R> {
     fn arrive(
         &mut self,
         who: &Identity,
-        traffic: Option<Traffic>,
+        view_state: Option<ViewState>,
         install: &Install<'_>,
         own: usize,
         out: &mut Output,
     ) -> Result<(), AllocError>
-        ensures { OnOk result (Arrives who.now.group who.now.address traffic install.now own self.old self.new out.old out.new) }
+        ensures { OnOk result (Arrives who.now.group who.now.address view_state install.now own self.old self.new out.old out.new) }
     {
-        install_view(who, traffic, install, own, out)?;
+        install_view(who, view_state, install, own, out)?;
         let view = view_from(who.alloc, install.view())?;
         let _ = self.promise.install(install.view());
         self.notes.clear();
         self.receiver.view_accepted(&view);
-        self.traffic = Some(Traffic::fresh(who.alloc, &who.address, view)?);
+        self.view_state = Some(ViewState::fresh(who.alloc, &who.address, view)?);
         self.flush = None;
-        self.kept = Vec::new(who.alloc);
+        self.sent_installs = Vec::new(who.alloc);
         Ok(())
     }
 }

@@ -1,28 +1,29 @@
 //! What a finished flush says: what its creator delivers and installs, and what it says to each other of the list.
 
-ghost use Rattle.std.specs.Prelude.{◌≡◌, ◌≤◌, ◌++◌, drop, [], ◌∷◌, OnOk, IfOk, Some, None, length, map, true};
+ghost use Rattle.std.specs.Prelude.{◌≡◌, ◌≤◌, ◌++◌, drop, [], ◌∷◌, OnOk, IfOk, Some, None, length, map};
 ghost use Rattle.std.specs.List.{flat_map, AllByRecursion};
 ghost use Rattle.limits.specs.declared.TheConstants.{STATE};
 ghost use Rattle.view.specs.View.{view_refusal};
-ghost use Rattle.wire.specs.Fields.{entry_bytes, IsEntry};
+ghost use Rattle.wire_values.specs.Fields.{entry_bytes, IsEntry};
 ghost use Rattle.flush.specs.Flushes.{together_of, previous_of};
-ghost use Rattle.agreement.specs.Acts.{packet, others_of, base_for, items_for, delivery};
-ghost use Rattle.agreement.specs.Cores.{applied};
-ghost use Rattle.member_acts.specs.Decisions.{cuts_of};
-ghost use Rattle.traffic.specs.Traffics.{view_of};
-ghost use Rattle.output.specs.Outputs.{Grows};
+ghost use Rattle.acts.specs.Acts.{others_of, base_for, items_for, delivery};
+ghost use Rattle.acts.specs.Cores.{applied};
+ghost use Rattle.decisions.specs.Decisions.{cuts_of};
+ghost use Rattle.traffic.specs.ViewStates.{view_of};
+ghost use Rattle.step_output.specs.Outputs.{Grows};
 ghost use Rattle.membership.specs.Installs.{SpellsCut, IsSayable, instruction_to, instructing, delivered_by, own_of, going, finished_state, finish_packets, finish_events};
 
 use crate::beginning::others_of;
 use address::{Address, ViewId};
 use flush::Flush;
-use output::{Identity, Output};
 use state_transfer::Receiver;
 use std::alloc::{AllocError, Global};
+use step_output::{Identity, Output};
 use trace_props::{Bytes, Delivery, Event, Install as Installed, Message};
-use traffic::Traffic;
+use traffic::ViewState;
 use view::{Addresses, View};
-use wire::{Body, Count, Entry, Install, Items, Members, Roster, State, put_entry};
+use wire::put_entry;
+use wire_values::{Body, Count, Entry, Install, Items, Members, Roster, State};
 
 // A cut as an INSTALL lists it.
 #[derive(Drop)]
@@ -218,17 +219,17 @@ pub(crate) fn own_of(me: &Address, entries: &[Entry<'_>]) -> usize
 fn deliver_cut<R: Receiver>(
     who: &Identity,
     flush: &Flush,
-    traffic: &Traffic,
+    view_state: &ViewState,
     receiver: &mut R,
     out: &mut Output,
 ) -> Result<usize, AllocError>
-    ensures state { OnOk result (receiver.new ≡ applied R.meaning receiver.old (delivered_by flush.now traffic.now)) }
-    ensures out { OnOk result (Grows who.now.group out.old out.new [] (map (delivery who.now.address (view_of traffic.now).id) (delivered_by flush.now traffic.now))) }
-    ensures own { IfOk result (λ n. n ≡ own_of who.now.address (delivered_by flush.now traffic.now)) }
+    ensures state { OnOk result (receiver.new ≡ applied R.meaning receiver.old (delivered_by flush.now view_state.now)) }
+    ensures out { OnOk result (Grows who.now.group out.old out.new [] (map (delivery who.now.address (view_of view_state.now).id) (delivered_by flush.now view_state.now))) }
+    ensures own { IfOk result (λ n. n ≡ own_of who.now.address (delivered_by flush.now view_state.now)) }
 {
-    let view = traffic.view().id();
+    let view = view_state.view().id();
     let cut = flush.cut(who.alloc, &Some(view))?;
-    let skip = traffic.delivered().get().saturating_sub(cut.base.get()) as usize;
+    let skip = view_state.delivered().get().saturating_sub(cut.base.get()) as usize;
     let lacking = behind(cut.entries.as_slice(), skip);
     deliver_all(who, view, lacking, receiver, out)?;
     Ok(own_of(&who.address, lacking))
@@ -238,18 +239,18 @@ fn deliver_cut<R: Receiver>(
 fn install_view(
     who: &Identity,
     flush: &Flush,
-    traffic: Traffic,
+    view_state: ViewState,
     own: usize,
     out: &mut Output,
 ) -> Result<(), AllocError>
     requires list { view_refusal flush.now.proposal flush.now.members ≡ None }
-    ensures { OnOk result (Grows who.now.group out.old out.new [] (going who.now.address flush.now traffic own ∷ [])) }
+    ensures { OnOk result (Grows who.now.group out.old out.new [] (going who.now.address flush.now view_state own ∷ [])) }
 {
-    let previous = traffic.view().id();
+    let previous = view_state.view().id();
     let members = flush.members().copied(who.alloc)?;
     let view = View::new(flush.proposal(), members).unwrap();
     let together = flush.together(who.alloc, &who.address)?;
-    let handed_back = traffic.handed_back(own)?;
+    let handed_back = view_state.handed_back(own)?;
     who.record(
         Event::Installed(Installed {
             member: who.address,
@@ -267,21 +268,21 @@ fn install_view(
 pub(crate) fn finish<R: Receiver>(
     who: &Identity,
     flush: &Flush,
-    traffic: Traffic,
+    view_state: ViewState,
     receiver: &mut R,
     out: &mut Output,
 ) -> Result<(), AllocError>
     requires list { view_refusal flush.now.proposal flush.now.members ≡ None }
-    requires sound { AllByRecursion (IsSayable flush.now (view_of traffic).id (R.meaning.encode (finished_state R.meaning flush.now traffic receiver.old))) (others_of who.now.address flush.now.members) }
-    ensures state { OnOk result (receiver.new ≡ finished_state R.meaning flush.now traffic receiver.old) }
-    ensures out { OnOk result (Grows who.now.group out.old out.new (finish_packets who.now.address flush.now traffic (R.meaning.encode (finished_state R.meaning flush.now traffic receiver.old))) (finish_events who.now.address flush.now traffic)) }
+    requires sound { AllByRecursion (IsSayable flush.now (view_of view_state).id (R.meaning.encode (finished_state R.meaning flush.now view_state receiver.old))) (others_of who.now.address flush.now.members) }
+    ensures state { OnOk result (receiver.new ≡ finished_state R.meaning flush.now view_state receiver.old) }
+    ensures out { OnOk result (Grows who.now.group out.old out.new (finish_packets who.now.address flush.now view_state (R.meaning.encode (finished_state R.meaning flush.now view_state receiver.old))) (finish_events who.now.address flush.now view_state)) }
 {
-    let view = traffic.view().id();
-    let own = deliver_cut(who, flush, &traffic, receiver, out)?;
+    let view = view_state.view().id();
+    let own = deliver_cut(who, flush, &view_state, receiver, out)?;
     let mut state = Vec::new(who.alloc);
     receiver.get_state(&mut state)?;
     let others = others_of(who.alloc, &who.address, flush.members().as_slice())?;
-    install_view(who, flush, traffic, own, out)?;
+    install_view(who, flush, view_state, own, out)?;
     instruct_all(who, flush, view, state.as_slice(), others.as_slice(), out)?;
     Ok(())
 }

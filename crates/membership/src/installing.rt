@@ -1,25 +1,25 @@
 //! A member goes into the view of its own flush, and says its INSTALL packets again.
 
-ghost use Rattle.std.specs.Prelude.{Ok, ◌≡◌, ◌≤◌, ◌++◌, ◌∷◌, [], OnOk, IfOk, None, length, drop, true, find};
+ghost use Rattle.std.specs.Prelude.{Ok, ◌≡◌, ◌≤◌, ◌++◌, OnOk, IfOk, None, length, drop, find};
 ghost use Rattle.std.specs.Option.{option_copied};
 ghost use Rattle.std.specs.List.{AllByRecursion};
 ghost use Rattle.view.specs.View.{view_refusal};
-ghost use Rattle.agreement.specs.Acts.{others_of, proposed};
-ghost use Rattle.traffic.specs.Traffics.{view_of};
+ghost use Rattle.acts.specs.Acts.{others_of, proposed};
+ghost use Rattle.traffic.specs.ViewStates.{view_of};
 ghost use Rattle.membership.specs.Installs.{IsSayable, finished_state};
-ghost use Rattle.membership.specs.Lives.{IsLife, is_kept_for};
+ghost use Rattle.membership.specs.MemberStates.{IsMemberState, is_sent_to};
 ghost use Rattle.membership.specs.Changes.{Finishes, InstallsAgain};
 
-use crate::Life;
+use crate::MemberState;
 use crate::finishing::finish;
 use address::Address;
 use flush::Flush;
-use output::{Identity, Outgoing, Output};
 use state_transfer::Receiver;
 use std::alloc::{AllocError, Global};
-use traffic::Traffic;
+use step_output::{Identity, Outgoing, Output};
+use traffic::ViewState;
 use view::View;
-use wire::Roster;
+use wire_values::Roster;
 
 fn copied(alloc: Global, packet: &Outgoing) -> Result<Outgoing, AllocError>
     ensures { IfOk result (λ p. p ≡ packet.now) }
@@ -71,35 +71,35 @@ fn view_of(alloc: Global, flush: &Flush) -> Result<View, AllocError>
     Ok(View::new(flush.proposal(), members).unwrap())
 }
 
-fn kept_for<'a>(kept: &'a [Outgoing], member: &Address) -> Option<&'a Outgoing>
-    ensures { option_copied result ≡ find (is_kept_for member.now) kept.now }
+fn install_sent_to<'a>(kept: &'a [Outgoing], member: &Address) -> Option<&'a Outgoing>
+    ensures { option_copied result ≡ find (is_sent_to member.now) kept.now }
 {
     kept.iter().find(|packet| packet.destination == *member)
 }
 
-impl<R: Receiver> Life<R> {
+impl<R: Receiver> MemberState<R> {
     // Goes into the view of its own flush, to which all have reported.
     pub(crate) fn settle(
         &mut self,
         who: &Identity,
         flush: &Flush,
-        traffic: Traffic,
+        view_state: ViewState,
         out: &mut Output,
     ) -> Result<(), AllocError>
         requires list { view_refusal flush.now.proposal flush.now.members ≡ None }
-        requires sound { AllByRecursion (IsSayable flush.now (view_of traffic).id (R.meaning.encode (finished_state R.meaning flush.now traffic self.old.receiver))) (others_of who.now.address flush.now.members) }
-        ensures { OnOk result (Finishes R.meaning who.now.group who.now.address flush.now traffic self.old self.new out.old out.new) }
+        requires sound { AllByRecursion (IsSayable flush.now (view_of view_state).id (R.meaning.encode (finished_state R.meaning flush.now view_state self.old.receiver))) (others_of who.now.address flush.now.members) }
+        ensures { OnOk result (Finishes R.meaning who.now.group who.now.address flush.now view_state self.old self.new out.old out.new) }
     {
         flush.kept();
         let view = view_of(who.alloc, flush)?;
         let start = out.packets.len();
-        finish(who, flush, traffic, &mut self.receiver, out)?;
-        self.kept = copies_from(who.alloc, out.packets.as_slice(), start)?;
+        finish(who, flush, view_state, &mut self.receiver, out)?;
+        self.sent_installs = copies_from(who.alloc, out.packets.as_slice(), start)?;
         let roster = Roster::new(flush.proposal(), flush.members().as_slice()).unwrap();
         let _ = self.promise.install(&roster);
         self.notes.settle(&view);
         self.receiver.view_accepted(&view);
-        self.traffic = Some(Traffic::fresh(who.alloc, &who.address, view)?);
+        self.view_state = Some(ViewState::fresh(who.alloc, &who.address, view)?);
         self.flush = None;
         Ok(())
     }
@@ -111,11 +111,11 @@ impl<R: Receiver> Life<R> {
         member: &Address,
         out: &mut Output,
     ) -> Result<(), AllocError>
-        requires life { IsLife who.now.group who.now.address self.now }
+        requires member_state { IsMemberState who.now.group who.now.address self.now }
         ensures again { OnOk result (InstallsAgain member.now self.now out.old out.new) }
-        ensures ignored { find (is_kept_for member.now) self.now.kept.items ≡ None → (result ≡ Ok tt) × (out.new ≡ out.old) }
+        ensures ignored { find (is_sent_to member.now) self.now.sent_installs.items ≡ None → (result ≡ Ok tt) × (out.new ≡ out.old) }
     {
-        let Some(packet) = kept_for(self.kept.as_slice(), member) else {
+        let Some(packet) = install_sent_to(self.sent_installs.as_slice(), member) else {
             return Ok(());
         };
         let packet = copied(who.alloc, packet)?;

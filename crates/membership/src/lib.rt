@@ -6,12 +6,12 @@ mod beginning;
 mod entering;
 mod finishing;
 mod installing;
-mod life;
+mod member_state;
 mod promising;
 mod proposing;
 mod reporting;
 mod stop;
 mod taking;
 
-pub use life::Life;
+pub use member_state::MemberState;
 pub use stop::Stop;

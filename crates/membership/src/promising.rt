@@ -2,62 +2,65 @@
 
 ghost use Rattle.std.specs.Prelude.{◌≡◌, [], ◌∷◌, OnOk, IfOk, true};
 ghost use Rattle.std.specs.List.{flat_map, AllByRecursion};
-ghost use Rattle.wire.specs.Fields.{placed_bytes, IsPlaced};
-ghost use Rattle.wire.specs.declared.packet.Body.TheVariants as bodies;
+ghost use Rattle.wire_values.specs.Fields.{placed_bytes, IsPlaced};
+ghost use Rattle.wire_values.specs.declared.packet.Body.TheVariants as bodies;
 ghost use Rattle.view_install.specs.Promises.{offered, is_accept};
-ghost use Rattle.agreement.specs.Acts.{packet};
-ghost use Rattle.agreement.specs.Cores.{report_with};
-ghost use Rattle.traffic.specs.Traffics.{view_of, traffic_of};
-ghost use Rattle.output.specs.Outputs.{Grows};
-ghost use Rattle.membership.specs.Lives.{view_in, traffic_in, report_in, blocked_by};
+ghost use Rattle.acts.specs.Acts.{packet};
+ghost use Rattle.acts.specs.Cores.{report_with};
+ghost use Rattle.traffic.specs.ViewStates.{view_of, view_core_of};
+ghost use Rattle.step_output.specs.Outputs.{Grows};
+ghost use Rattle.membership.specs.MemberStates.{view_in, view_core_in, report_in, blocked_by};
 ghost use Rattle.membership.specs.Changes.{Promises};
 
-use crate::Life;
+use crate::MemberState;
 use address::ViewId;
-use output::{Identity, Output};
 use state_transfer::Receiver;
 use std::alloc::{AllocError, Global};
+use step_output::{Identity, Output};
 use trace_props::Event;
-use traffic::Traffic;
-use wire::{Body, Held, Report, Roster};
+use traffic::ViewState;
+use wire_values::{Body, Held, Report, Roster};
 
 // What is held of a view, as a report spells it.
-pub(crate) fn held_text(alloc: Global, traffic: &Option<Traffic>) -> Result<Vec<u8>, AllocError>
-    ensures bytes { IfOk result (λ t. t.items ≡ flat_map placed_bytes (traffic_in traffic.now).held) }
-    ensures placed { OnOk result (AllByRecursion IsPlaced (traffic_in traffic.now).held) }
+pub(crate) fn held_text(
+    alloc: Global,
+    view_state: &Option<ViewState>,
+) -> Result<Vec<u8>, AllocError>
+    ensures bytes { IfOk result (λ t. t.items ≡ flat_map placed_bytes (view_core_in view_state.now).held) }
+    ensures placed { OnOk result (AllByRecursion IsPlaced (view_core_in view_state.now).held) }
 {
     let mut text = Vec::new(alloc);
-    if let Some(traffic) = traffic {
-        let _ = traffic.put_held(&mut text)?;
+    if let Some(view_state) = view_state {
+        let _ = view_state.put_held(&mut text)?;
     }
     Ok(text)
 }
 
 // The report of a member of a view.
-fn report_inside<'a>(traffic: &Traffic, text: &'a [u8]) -> Report<'a>
-    requires bytes { text.now ≡ flat_map placed_bytes (traffic_of traffic.now).held }
-    requires placed { AllByRecursion IsPlaced (traffic_of traffic.now).held }
-    ensures { result ≡ report_with (Some (view_of traffic.now)) (traffic_of traffic.now) }
+fn report_inside<'a>(view_state: &ViewState, text: &'a [u8]) -> Report<'a>
+    requires bytes { text.now ≡ flat_map placed_bytes (view_core_of view_state.now).held }
+    requires placed { AllByRecursion IsPlaced (view_core_of view_state.now).held }
+    ensures { result ≡ report_with (Some (view_of view_state.now)) (view_core_of view_state.now) }
 {
-    traffic.kept();
-    let held = Held::new(traffic.held_count(), text).unwrap();
-    let view = traffic.view().id();
-    Report::new(view, traffic.stable(), traffic.delivered(), held).unwrap()
+    view_state.kept();
+    let held = Held::new(view_state.held_count(), text).unwrap();
+    let view = view_state.view().id();
+    Report::new(view, view_state.stable(), view_state.delivered(), held).unwrap()
 }
 
 // What a member reports.
-pub(crate) fn report_of<'a>(traffic: &Option<Traffic>, text: &'a [u8]) -> Report<'a>
-    requires bytes { text.now ≡ flat_map placed_bytes (traffic_in traffic.now).held }
-    requires placed { AllByRecursion IsPlaced (traffic_in traffic.now).held }
-    ensures { result ≡ report_with (view_in traffic.now) (traffic_in traffic.now) }
+pub(crate) fn report_of<'a>(view_state: &Option<ViewState>, text: &'a [u8]) -> Report<'a>
+    requires bytes { text.now ≡ flat_map placed_bytes (view_core_in view_state.now).held }
+    requires placed { AllByRecursion IsPlaced (view_core_in view_state.now).held }
+    ensures { result ≡ report_with (view_in view_state.now) (view_core_in view_state.now) }
 {
-    match traffic {
+    match view_state {
         None => Report::nothing(),
-        Some(traffic) => report_inside(traffic, text),
+        Some(view_state) => report_inside(view_state, text),
     }
 }
 
-impl<R: Receiver> Life<R> {
+impl<R: Receiver> MemberState<R> {
     // Where it is open it is blocked from now on.
     pub(crate) fn block(&mut self, who: &Identity, out: &mut Output) -> Result<(), AllocError>
         ensures same { OnOk result (self.new ≡ self.old) }
@@ -79,8 +82,8 @@ impl<R: Receiver> Life<R> {
     ) -> Result<(), AllocError>
         ensures { OnOk result (Grows who.now.group out.old out.new (packet who.now.address (bodies.Report proposal (report_in self.now)) proposal.creator ∷ []) []) }
     {
-        let text = held_text(who.alloc, &self.traffic)?;
-        let report = report_of(&self.traffic, text.as_slice());
+        let text = held_text(who.alloc, &self.view_state)?;
+        let report = report_of(&self.view_state, text.as_slice());
         who.put(proposal.creator(), Body::Report { proposal, report }, out)
     }
 

@@ -1,20 +1,19 @@
 //! What a member has to propose by itself, and that it does.
 
-ghost use Rattle.std.specs.Prelude.{◌≡◌, OnOk, IfOk, None, true, MatchOption};
-ghost use Rattle.std.specs.Option.{option_map_or, option_and_then};
-ghost use Rattle.member_acts.specs.Decisions.{promised_counter, is_due, proposal_after, due_at, due_proposal};
-ghost use Rattle.membership.specs.Lives.{core_of, IsLife, leads_in, anew_proposal};
+ghost use Rattle.std.specs.Prelude.{◌≡◌, OnOk, IfOk, None, true};
+ghost use Rattle.decisions.specs.Decisions.{promised_counter, is_due, proposal_after, due_at, due_proposal};
+ghost use Rattle.membership.specs.MemberStates.{core_of, IsMemberState, leads_in, anew_proposal};
 ghost use Rattle.membership.specs.Changes.{ProposesIf, Regroups, BeginsAnew};
 
-use crate::Life;
+use crate::MemberState;
 use address::ViewId;
-use candidates::candidates_are_a_view;
-use output::{Identity, Output};
+use next_view::candidates_are_a_view;
 use state_transfer::Receiver;
 use std::alloc::AllocError;
+use step_output::{Identity, Output};
 use view::View;
 use view_install::Promise;
-use wire::Roster;
+use wire_values::Roster;
 
 // The counter of what is promised, 0 for nothing.
 fn promised_counter(promise: &Promise) -> u64
@@ -26,7 +25,7 @@ fn promised_counter(promise: &Promise) -> u64
     }
 }
 
-impl<R: Receiver> Life<R> {
+impl<R: Receiver> MemberState<R> {
     // Whether it has to begin a flush, if it leads its view.
     fn is_due(&self, who: &Identity, view: &View) -> Result<bool, AllocError>
         ensures { IfOk result (λ b. b ≡ is_due (core_of who.now.address self.now) self.now.notes view.now) }
@@ -45,7 +44,7 @@ impl<R: Receiver> Life<R> {
 
     // Its next proposal, to its candidates; none where the counters are used up.
     fn proposal_after(&self, who: &Identity, view: &View) -> Result<Option<Roster>, AllocError>
-        requires life { IsLife who.now.group who.now.address self.now }
+        requires member_state { IsMemberState who.now.group who.now.address self.now }
         requires leads { leads_in who.now.address view.now self.now.notes ≡ true }
         ensures { IfOk result (λ w. w ≡ proposal_after (core_of who.now.address self.now) self.now.notes view.now) }
     {
@@ -61,7 +60,7 @@ impl<R: Receiver> Life<R> {
 
     // What it has to propose in its view.
     fn due_at(&self, who: &Identity, view: &View) -> Result<Option<Roster>, AllocError>
-        requires life { IsLife who.now.group who.now.address self.now }
+        requires member_state { IsMemberState who.now.group who.now.address self.now }
         ensures { IfOk result (λ w. w ≡ due_at (core_of who.now.address self.now) self.now.notes view.now) }
     {
         if !self.notes.leads(view, &who.address) {
@@ -76,13 +75,13 @@ impl<R: Receiver> Life<R> {
 
     // What it has to propose.
     fn due(&self, who: &Identity) -> Result<Option<Roster>, AllocError>
-        requires life { IsLife who.now.group who.now.address self.now }
+        requires member_state { IsMemberState who.now.group who.now.address self.now }
         ensures { IfOk result (λ w. w ≡ due_proposal (core_of who.now.address self.now) self.now.notes) }
     {
-        match &self.traffic {
+        match &self.view_state {
             None => Ok(None),
-            Some(traffic) => {
-                let due = self.due_at(who, traffic.view())?;
+            Some(view_state) => {
+                let due = self.due_at(who, view_state.view())?;
                 Ok(due)
             }
         }
@@ -90,8 +89,8 @@ impl<R: Receiver> Life<R> {
 
     // Begins what is due after an install, if anything is. Its list has another member then, so it is not alone in it.
     pub(crate) fn propose(&mut self, who: &Identity, out: &mut Output) -> Result<(), AllocError>
-        requires life { IsLife who.now.group who.now.address self.old }
-        ensures life { OnOk result (IsLife who.now.group who.now.address self.new) }
+        requires member_state { IsMemberState who.now.group who.now.address self.old }
+        ensures member_state { OnOk result (IsMemberState who.now.group who.now.address self.new) }
         ensures proposes { OnOk result (ProposesIf who.now.group who.now.address self.old self.new out.old out.new) }
     {
         match self.due(who)? {
@@ -106,8 +105,8 @@ impl<R: Receiver> Life<R> {
     /// Begins what is due, if anything is; alone in the list it finishes at once, and begins again what is due then. After an error for want of memory nothing
     /// is said of the member.
     pub fn regroup(&mut self, who: &Identity, out: &mut Output) -> Result<(), AllocError>
-        requires life { IsLife who.now.group who.now.address self.old }
-        ensures life { OnOk result (IsLife who.now.group who.now.address self.new) }
+        requires member_state { IsMemberState who.now.group who.now.address self.old }
+        ensures member_state { OnOk result (IsMemberState who.now.group who.now.address self.new) }
         ensures regroups { OnOk result (Regroups R.meaning who.now.group who.now.address self.old self.new out.old out.new) }
     {
         match self.due(who)? {
@@ -122,16 +121,16 @@ impl<R: Receiver> Life<R> {
 
     // What it proposes anew while its own flush goes on.
     fn anew(&self, who: &Identity) -> Result<Option<Roster>, AllocError>
-        requires life { IsLife who.now.group who.now.address self.now }
+        requires member_state { IsMemberState who.now.group who.now.address self.now }
         ensures { IfOk result (λ w. w ≡ anew_proposal who.now.address self.now) }
     {
-        match &self.traffic {
+        match &self.view_state {
             None => Ok(None),
-            Some(traffic) => {
+            Some(view_state) => {
                 if self.flush.is_none() {
                     return Ok(None);
                 }
-                let proposal = self.proposal_after(who, traffic.view())?;
+                let proposal = self.proposal_after(who, view_state.view())?;
                 Ok(proposal)
             }
         }
@@ -139,8 +138,8 @@ impl<R: Receiver> Life<R> {
 
     // Begins its own flush anew, with its candidates, where the counters are not used up; alone in the list it goes on at once.
     pub(crate) fn begin_anew(&mut self, who: &Identity, out: &mut Output) -> Result<(), AllocError>
-        requires life { IsLife who.now.group who.now.address self.old }
-        ensures life { OnOk result (IsLife who.now.group who.now.address self.new) }
+        requires member_state { IsMemberState who.now.group who.now.address self.old }
+        ensures member_state { OnOk result (IsMemberState who.now.group who.now.address self.new) }
         ensures begins { OnOk result (BeginsAnew R.meaning who.now.group who.now.address self.old self.new out.old out.new) }
     {
         match self.anew(who)? {

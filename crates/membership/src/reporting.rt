@@ -2,17 +2,17 @@
 
 ghost use Rattle.std.specs.Prelude.{◌≡◌, OnOk, true, false, Some};
 ghost use Rattle.std.specs.Option.{option_map, option_map_or};
-ghost use Rattle.membership.specs.Lives.{IsLife, is_complete, is_expected, recording};
+ghost use Rattle.membership.specs.MemberStates.{IsMemberState, is_complete, is_expected, recording};
 ghost use Rattle.membership.specs.Changes.{Finishes, GoesOn, TakesReport};
 
-use crate::Life;
+use crate::MemberState;
 use address::{Address, ViewId};
 use flush::Flush;
-use output::{Identity, Output};
 use state_transfer::Receiver;
 use std::alloc::AllocError;
-use traffic::Traffic;
-use wire::Report;
+use step_output::{Identity, Output};
+use traffic::ViewState;
+use wire_values::Report;
 
 // Records a report for the proposal of a flush, where it is awaited.
 fn record_in(
@@ -44,7 +44,7 @@ fn is_expected(flush: &Flush, source: &Address, proposal: ViewId) -> bool
     flush.proposal() == proposal && flush.members().contains(source) && !flush.has_reported(source)
 }
 
-impl<R: Receiver> Life<R> {
+impl<R: Receiver> MemberState<R> {
     /// Whether a report of this address is awaited for its own proposal. Takes no memory.
     pub fn expects(&self, source: &Address, proposal: ViewId) -> bool
         ensures { result ≡ option_map_or (is_expected source.now proposal) self.now.flush false }
@@ -85,31 +85,31 @@ impl<R: Receiver> Life<R> {
         &mut self,
         who: &Identity,
         flush: Flush,
-        traffic: Traffic,
+        view_state: ViewState,
         out: &mut Output,
     ) -> Result<(), AllocError>
-        requires life { IsLife who.now.group who.now.address (record self.old { flush = Some flush; traffic = Some traffic }) }
+        requires member_state { IsMemberState who.now.group who.now.address (record self.old { flush = Some flush; view_state = Some view_state }) }
         requires complete { is_complete flush ≡ true }
-        ensures life { OnOk result (IsLife who.now.group who.now.address self.new) }
-        ensures finishes { OnOk result (Finishes R.meaning who.now.group who.now.address flush traffic self.old self.new out.old out.new) }
+        ensures member_state { OnOk result (IsMemberState who.now.group who.now.address self.new) }
+        ensures finishes { OnOk result (Finishes R.meaning who.now.group who.now.address flush view_state self.old self.new out.old out.new) }
     {
         flush.kept();
-        self.settle(who, &flush, traffic, out)?;
+        self.settle(who, &flush, view_state, out)?;
         Ok(())
     }
 
     // Goes into its own proposal, if all have reported, and begins what is due then.
     pub(crate) fn go_on(&mut self, who: &Identity, out: &mut Output) -> Result<(), AllocError>
-        requires life { IsLife who.now.group who.now.address self.old }
-        ensures life { OnOk result (IsLife who.now.group who.now.address self.new) }
+        requires member_state { IsMemberState who.now.group who.now.address self.old }
+        ensures member_state { OnOk result (IsMemberState who.now.group who.now.address self.new) }
         ensures goes_on { OnOk result (GoesOn R.meaning who.now.group who.now.address self.old self.new out.old out.new) }
     {
         if !self.is_complete() {
             return Ok(());
         }
         let flush = self.flush.take().unwrap();
-        let traffic = self.traffic.take().unwrap();
-        self.complete(who, flush, traffic, out)?;
+        let view_state = self.view_state.take().unwrap();
+        self.complete(who, flush, view_state, out)?;
         self.propose(who, out)?;
         Ok(())
     }
@@ -124,8 +124,8 @@ impl<R: Receiver> Life<R> {
         report: &Report<'_>,
         out: &mut Output,
     ) -> Result<(), AllocError>
-        requires life { IsLife who.now.group who.now.address self.old }
-        ensures life { OnOk result (IsLife who.now.group who.now.address self.new) }
+        requires member_state { IsMemberState who.now.group who.now.address self.old }
+        ensures member_state { OnOk result (IsMemberState who.now.group who.now.address self.new) }
         ensures takes { OnOk result (TakesReport R.meaning who.now.group who.now.address source proposal report.now self.old self.new out.old out.new) }
     {
         self.record(source, proposal, report)?;

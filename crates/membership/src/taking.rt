@@ -1,23 +1,23 @@
 //! A member takes FLUSH, BEHIND and INSTALL packets, and suspicions.
 
-ghost use Rattle.std.specs.Prelude.{◌≡◌, ◌≤◌, OnOk, Ok, Err, true, false};
+ghost use Rattle.std.specs.Prelude.{◌≡◌, OnOk, Ok, Err, true, false};
 ghost use Rattle.address.specs.Ids.{same_address};
 ghost use Rattle.view_install.specs.Promises.{offered, may_install, same_view};
-ghost use Rattle.member_acts.specs.Decisions.{is_readable, is_entry};
+ghost use Rattle.decisions.specs.Decisions.{is_readable, is_entry};
 ghost use Rattle.membership.specs.declared.stop.Stop.TheVariants as stop;
-ghost use Rattle.membership.specs.Lives.{core_of, is_connected, IsLife};
+ghost use Rattle.membership.specs.MemberStates.{core_of, is_connected, IsMemberState};
 ghost use Rattle.membership.specs.Changes.{StaysAs, is_behind, is_ignored_offer, TakesFlush, TakesInstall, TakesBehind, TakesSuspicion};
 
 use crate::entering::is_fitting;
-use crate::{Life, Stop};
+use crate::{MemberState, Stop};
 use address::Address;
-use output::{Identity, Output};
 use state_transfer::Receiver;
 use std::alloc::AllocError;
+use step_output::{Identity, Output};
 use view_install::{OfferAnswer, Promise};
-use wire::{Body, Install, Number, Roster};
+use wire_values::{Body, Install, Number, Roster};
 
-impl<R: Receiver> Life<R> {
+impl<R: Receiver> MemberState<R> {
     // Says to who proposed less than what it promised how far it is.
     fn answer_behind(
         &self,
@@ -44,10 +44,10 @@ impl<R: Receiver> Life<R> {
         proposal: &Roster,
         out: &mut Output,
     ) -> Result<(), AllocError>
-        requires life { IsLife who.now.group who.now.address self.old }
+        requires member_state { IsMemberState who.now.group who.now.address self.old }
         requires connected { is_connected self.old ≡ true }
         requires other { same_address proposal.now.id.creator who.now.address ≡ false }
-        ensures life { OnOk result (IsLife who.now.group who.now.address self.new) }
+        ensures member_state { OnOk result (IsMemberState who.now.group who.now.address self.new) }
         ensures takes { OnOk result (TakesFlush who.now.group who.now.address proposal.now self.old self.new out.old out.new) }
         ensures ignored { is_ignored_offer (offered proposal.now self.old.promise) ≡ true → (result ≡ Ok tt) × StaysAs self.old self.new out.old out.new }
     {
@@ -71,8 +71,8 @@ impl<R: Receiver> Life<R> {
         counter: Number,
         out: &mut Output,
     ) -> Result<(), AllocError>
-        requires life { IsLife who.now.group who.now.address self.old }
-        ensures life { OnOk result (IsLife who.now.group who.now.address self.new) }
+        requires member_state { IsMemberState who.now.group who.now.address self.old }
+        ensures member_state { OnOk result (IsMemberState who.now.group who.now.address self.new) }
         ensures takes { OnOk result (TakesBehind R.meaning who.now.group who.now.address counter self.old self.new out.old out.new) }
     {
         self.notes.hear(counter.get());
@@ -87,9 +87,9 @@ impl<R: Receiver> Life<R> {
         address: Address,
         out: &mut Output,
     ) -> Result<(), AllocError>
-        requires life { IsLife who.now.group who.now.address self.old }
+        requires member_state { IsMemberState who.now.group who.now.address self.old }
         requires other { same_address address who.now.address ≡ false }
-        ensures life { OnOk result (IsLife who.now.group who.now.address self.new) }
+        ensures member_state { OnOk result (IsMemberState who.now.group who.now.address self.new) }
         ensures takes { OnOk result (TakesSuspicion R.meaning who.now.group who.now.address address self.old self.new out.old out.new) }
     {
         self.notes.suspect(address)?;
@@ -103,7 +103,7 @@ impl<R: Receiver> Life<R> {
     {
         *source == install.view().id().creator()
             && may_install(&self.promise, install.view())
-            && is_fitting(&self.traffic, install)
+            && is_fitting(&self.view_state, install)
     }
 
     /// Takes an INSTALL: it goes into the view, where it would by this one; else the INSTALL is ignored. After an error nothing is said of the member.
@@ -114,8 +114,8 @@ impl<R: Receiver> Life<R> {
         install: &Install<'_>,
         out: &mut Output,
     ) -> Result<(), Stop>
-        requires life { IsLife who.now.group who.now.address self.old }
-        ensures life { OnOk result (IsLife who.now.group who.now.address self.new) }
+        requires member_state { IsMemberState who.now.group who.now.address self.old }
+        ensures member_state { OnOk result (IsMemberState who.now.group who.now.address self.new) }
         ensures takes { OnOk result (TakesInstall R.meaning who.now.group who.now.address source install.now self.old self.new out.old out.new) }
         ensures unreadable { result ≡ Err stop.Unreadable → (is_entry (core_of who.now.address self.old) source install.now ≡ true) × (is_readable R.meaning install.now.state ≡ false) }
         ensures ignored { is_entry (core_of who.now.address self.old) source install.now ≡ false → (result ≡ Ok tt) × StaysAs self.old self.new out.old out.new }
@@ -123,8 +123,8 @@ impl<R: Receiver> Life<R> {
         if !self.would_enter(&who.address, &source, install) {
             return Ok(());
         }
-        let traffic = self.traffic.take();
-        self.enter(who, traffic, install, out)?;
+        let view_state = self.view_state.take();
+        self.enter(who, view_state, install, out)?;
         Ok(())
     }
 }

@@ -7,10 +7,6 @@ take-nil : {X : Type 0} (m : ℕ) → take {A = X} m [] ≡ []
 take-nil zero = refl
 take-nil (suc m) = refl
 
-drop-nil : {X : Type 0} (m : ℕ) → drop {A = X} m [] ≡ []
-drop-nil zero = refl
-drop-nil (suc m) = refl
-
 -- the first d, and m more
 pub take-add : {X : Type 0} (d m : ℕ) (xs : List X) → take d xs ++ take m (drop d xs) ≡ take (d + m) xs
 take-add zero m xs = ap (λ n. take n xs) (omega arith)

@@ -1,11 +1,12 @@
 -- Windows that agree with one order of a view's messages: they go on to agree, and what each delivered is a beginning of it.
 use Rattle.std.proofs.Common.{◌≡◌, ℕ, ◌+◌, Bool, true, false, List, [], ◌∷◌, ◌++◌, Some, None, take, refl, sym, ap, ◌∙◌, arith, cond, min}
 use Rattle.std.specs.Prelude.{slice_get, nat_eq, nat_lt, is_some}
-use Rattle.wire.specs.Values.{Entry, held_at}
+use Rattle.wire_values.specs.Values.{Entry, held_at}
 use Rattle.nak_stream.specs.Windows.{WindowModel, held_with, held_above, offers, taken, delivering, collected, empty_window}
 use Rattle.nak_stream.specs.Orders.{Agrees}
 use Rattle.nak_stream.proofs.Lists.{one-more}
-use Rattle.nak_stream.proofs.Windows.{same-number, held_at-with, held_at-above}
+use Rattle.nak_stream.proofs.Windows.{held_at-with, held_at-above}
+use Rattle.std.proofs.lemmas.Bool.{eqb-true}
 
 pub agrees-empty : (order : List Entry) → Agrees order empty_window
 agrees-empty order k e h = cc
@@ -24,7 +25,7 @@ with-is : (b : Bool) (order : List Entry) (j k : ℕ) (e f : Entry) (held : List
     → (held_at (k + 1) held ≡ Some f → slice_get order k ≡ Some f) → cond (nat_eq (j + 1) (k + 1)) (Some e) (held_at (k + 1) held) ≡ Some f
     → slice_get order k ≡ Some f
 with-is true order j k e f held q at old h =
-    let n : j ≡ k = omega (arith, same-number (j + 1) (k + 1) q) in
+    let n : j ≡ k = omega (arith, eqb-true (j + 1) (k + 1) q) in
     ap (slice_get order) (sym n) ∙ at ∙ sym (ap (λ b. cond b (Some e) (held_at (k + 1) held)) q) ∙ h
 with-is false order j k e f held q at old h = old (sym (ap (λ b. cond b (Some e) (held_at (k + 1) held)) q) ∙ h)
 

@@ -7,25 +7,20 @@ use Rattle.std.specs.List.Sorted.{IsStrictlySortedBy}
 use Rattle.std.proofs.lemmas.Bool.Decides.{nat_tests}
 use Rattle.std.proofs.lemmas.Map.Entries.{lookup-filter-keys}
 use Rattle.limits.specs.declared.TheConstants.{WINDOW, GREATEST_NUMBER}
-use Rattle.wire.specs.Values.{Entry, held_at}
+use Rattle.wire_values.specs.Values.{Entry, held_at}
 use Rattle.nak_stream.specs.Windows.{WindowModel, held_above, held_with, offers, IsWindow}
-
-pub same-number : (g k : ℕ) → nat_eq g k ≡ true → g ≡ k
-same-number g k h = grind (arith, nat_tests)
-
--- a map tests its keys as numbers
-test-is : (g k : ℕ) → is_eq (nat_cmp g k) ≡ nat_eq g k
-test-is g k = grind (arith, nat_tests)
+use Rattle.std.proofs.lemmas.Bool.{eqb-true}
+use Rattle.address.proofs.SameIds.{is_eq-nat}
 
 -- so what a map has at a number is what is held there
 pub map-holds : (g : ℕ) (held : List (ℕ × Entry)) → lookup (λ k. is_eq (nat_cmp g k)) held ≡ held_at g held
-map-holds g held = λ i. lookup (λ k. test-is g k i) held
+map-holds g held = λ i. lookup (λ k. is_eq-nat g k i) held
 
 -- and what it has after an insertion, too
 pub map-updates : (g k : ℕ) (e : Entry) (held more : List (ℕ × Entry))
     → lookup (λ n. is_eq (nat_cmp k n)) more ≡ cond (is_eq (nat_cmp g k)) (Some e) (lookup (λ n. is_eq (nat_cmp k n)) held)
     → held_at k more ≡ cond (nat_eq g k) (Some e) (held_at k held)
-map-updates g k e held more at = sym (map-holds k more) ∙ at ∙ (λ i. cond (test-is g k i) (Some e) (map-holds k held i))
+map-updates g k e held more at = sym (map-holds k more) ∙ at ∙ (λ i. cond (is_eq-nat g k i) (Some e) (map-holds k held i))
 
 -- the next number was held, and is delivered
 pub delivering-kept : (w : WindowModel) → IsWindow w → IsSome (held_at (w.delivered + 1) w.held) → IsWindow (record w { delivered = w.delivered + 1 })
@@ -43,7 +38,7 @@ delivering-kept w i next = record {
 of-one-more : (b : Bool) (g k low high : ℕ) (e : Entry) (held more : List (ℕ × Entry)) → nat_eq g k ≡ b
     → held_at k more ≡ cond (nat_eq g k) (Some e) (held_at k held) → low ≤ g → g ≤ high
     → (IsSome (held_at k held) → (low ≤ k) × (k ≤ high)) → IsSome (held_at k more) → (low ≤ k) × (k ≤ high)
-of-one-more true g k low high e held more q at a b old h = (subst (λ n. low ≤ n) (same-number g k q) a, subst (λ n. n ≤ high) (same-number g k q) b)
+of-one-more true g k low high e held more q at a b old h = (subst (λ n. low ≤ n) (eqb-true g k q) a, subst (λ n. n ≤ high) (eqb-true g k q) b)
 of-one-more false g k low high e held more q at a b old h =
     old (ap is_some (sym (at ∙ ap (λ t. cond t (Some e) (held_at k held)) q)) ∙ h)
 
@@ -69,7 +64,7 @@ taken-kept w g e more i past reach small at rising =
 
 -- what a window holds above a count
 pub held_at-above : (g t : ℕ) (held : List (ℕ × Entry)) → held_at g (held_above t held) ≡ cond (nat_lt t g) (held_at g held) None
-held_at-above g t held = lookup-filter-keys _ (λ k. nat_lt t k) (nat_lt t g) (λ k h. ap (nat_lt t) (sym (same-number g k h))) held
+held_at-above g t held = lookup-filter-keys _ (λ k. nat_lt t k) (nat_lt t g) (λ k h. ap (nat_lt t) (sym (eqb-true g k h))) held
 
 was-held : (b : Bool) (g t : ℕ) (held : List (ℕ × Entry)) → nat_lt t g ≡ b → IsSome (held_at g (held_above t held)) → (t < g) × IsSome (held_at g held)
 was-held true g t held q h = (grind (arith, nat_tests), ap is_some (sym (held_at-above g t held ∙ ap (λ b. cond b (held_at g held) None) q)) ∙ h)

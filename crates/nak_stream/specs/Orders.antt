@@ -1,6 +1,6 @@
 -- When what is held is what one order of a view's messages says.
 use Rattle.std.specs.Prelude.{◌≡◌, ℕ, ◌+◌, ◌-◌, ◌≤◌, List, [], ◌∷◌, ◌++◌, length, take, drop, Some, slice_get}
-use Rattle.wire.specs.Values.{Entry, held_at}
+use Rattle.wire_values.specs.Values.{Entry, held_at}
 use Rattle.nak_stream.specs.Windows.{WindowModel, taken, delivering, collected}
 
 -- each entry that the window holds stands in the order at its number, which is counted from 1

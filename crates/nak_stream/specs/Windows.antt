@@ -4,7 +4,7 @@ use Rattle.std.specs.Ordering.{nat_cmp}
 use Rattle.std.specs.Map.{keys_of}
 use Rattle.std.specs.BTreeMap.{insert_entry}
 use Rattle.std.specs.List.Sorted.{IsStrictlySortedBy}
-use Rattle.wire.specs.Values.{Entry, held_at}
+use Rattle.wire_values.specs.Values.{Entry, held_at}
 use Rattle.limits.specs.declared.TheConstants.{WINDOW, GREATEST_NUMBER}
 
 -- a window: a stable count, a delivered count, and what is held, as pairs of number and entry with rising numbers
@@ -60,10 +60,12 @@ pub record IsMissing (w : WindowModel) (highest g : ℕ) : Type 0 where
   pub known : g ≤ highest
   pub unheld : held_at g w.held ≡ None
 
+-- the least number that is missing
 pub record IsLeastGap (w : WindowModel) (highest g : ℕ) : Type 0 where
   pub missing : IsMissing w highest g
   pub least : (k : ℕ) → IsMissing w highest k → g ≤ k
 
+-- the greatest number that is missing
 pub record IsGreatestGap (w : WindowModel) (highest g : ℕ) : Type 0 where
   pub missing : IsMissing w highest g
   pub greatest : (k : ℕ) → IsMissing w highest k → k ≤ g

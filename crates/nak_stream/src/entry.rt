@@ -1,10 +1,10 @@
 ghost use Rattle.std.specs.Prelude.{◌≡◌, IfOk};
 
-use crate::KeptPayload;
+use crate::OwnedPayload;
 use address::Address;
 use std::alloc::{AllocError, Global};
 use std::marker::Model;
-use wire::{Entry as LentEntry, Number};
+use wire_values::{Entry as LentEntry, Number};
 
 /// A message as the view's one order has it, kept: its sender, its number among that sender's messages of the view, from 1 to `GREATEST_NUMBER`, and its
 /// payload of at most `PAYLOAD` bytes. Contracts see it as they see a lent one.
@@ -15,11 +15,11 @@ pub struct Entry {
     /// Its number among its sender's messages of the view.
     pub number: Number,
     /// Its payload.
-    pub payload: KeptPayload,
+    pub payload: OwnedPayload,
 }
 
 impl Model for Entry {
-    ghost use Rattle.wire.specs.Values.{Entry};
+    ghost use Rattle.wire_values.specs.Values.{Entry};
 
     ghost Value = { Entry };
 
@@ -31,7 +31,7 @@ impl Entry {
     pub fn copy_of(alloc: Global, entry: &LentEntry<'_>) -> Result<Entry, AllocError>
         ensures { IfOk result (λ e. e ≡ entry.now) }
     {
-        let payload = KeptPayload::copy_of(alloc, &entry.payload)?;
+        let payload = OwnedPayload::copy_of(alloc, &entry.payload)?;
         Ok(Entry {
             sender: entry.sender,
             number: entry.number,

@@ -1,5 +1,5 @@
 ghost use Rattle.nak_stream.specs.Windows.{empty_window};
-ghost use Rattle.wire.specs.Values.{Entry as EntryValue};
+ghost use Rattle.wire_values.specs.Values.{Entry as EntryValue};
 ghost use Rattle.std.specs.Prelude.{List};
 ghost use Rattle.nak_stream.specs.Orders.{Agrees, AgreeingIsKept, NextIsOfOrder, WindowsAgree, ShorterBegins, MergedBegins};
 

@@ -9,5 +9,5 @@ mod window;
 
 pub use entry::Entry;
 pub use law::{beginnings_agree, windows_agree};
-pub use payload::KeptPayload;
+pub use payload::OwnedPayload;
 pub use window::Window;

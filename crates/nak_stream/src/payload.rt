@@ -2,15 +2,15 @@ ghost use Rattle.std.specs.Prelude.{◌≡◌, IfOk};
 
 use std::alloc::{AllocError, Global};
 use std::marker::Model;
-use wire::Payload;
+use wire_values::Payload;
 
 /// A message's payload that is kept: at most `PAYLOAD` bytes.
 #[derive(Debug, Drop)]
-pub struct KeptPayload {
+pub struct OwnedPayload {
     bytes: Vec<u8>,
 }
 
-impl Model for KeptPayload {
+impl Model for OwnedPayload {
     ghost use Rattle.std.specs.Prelude.{List, ℕ, length, ◌≤◌};
     ghost use Rattle.limits.specs.declared.TheConstants.{PAYLOAD};
 
@@ -21,14 +21,14 @@ impl Model for KeptPayload {
     ghost invariant = { λ p. length p.bytes.items ≤ PAYLOAD };
 }
 
-impl KeptPayload {
+impl OwnedPayload {
     /// A copy of a payload.
-    pub fn copy_of(alloc: Global, payload: &Payload<'_>) -> Result<KeptPayload, AllocError>
+    pub fn copy_of(alloc: Global, payload: &Payload<'_>) -> Result<OwnedPayload, AllocError>
         ensures { IfOk result (λ kept. kept ≡ payload.now) }
     {
         let lent = payload.as_slice();
         let bytes = Vec::from_slice(alloc, lent)?;
-        Ok(KeptPayload { bytes })
+        Ok(OwnedPayload { bytes })
     }
 
     /// It, lent as packets carry it. Takes no memory.

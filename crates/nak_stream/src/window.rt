@@ -1,17 +1,17 @@
-ghost use Rattle.std.specs.Prelude.{◌≡◌, ℕ, ◌+◌, ◌≤◌, ◌<◌, IfOk, OnOk, OnErr, IsSome, IsTrue, MatchOption, if◌then◌else◌, is_some};
+ghost use Rattle.std.specs.Prelude.{◌≡◌, ℕ, ◌+◌, ◌≤◌, ◌<◌, IfOk, OnOk, OnErr, IsSome, IsTrue, MatchOption, is_some};
 ghost use Rattle.std.specs.Option.{option_copied};
 ghost use Rattle.std.specs.Ordering.{nat_cmp};
 ghost use Rattle.std.specs.Map.{keys_of};
 ghost use Rattle.std.specs.List.Sorted.{IsStrictlySortedBy};
-ghost use Rattle.wire.specs.Values.{held_at};
-ghost use Rattle.nak_stream.specs.Windows.{WindowModel, empty_window, held_above, offers, taken, delivering, collected, IsWindow, IsMissing, IsLeastGap, IsGreatestGap};
+ghost use Rattle.wire_values.specs.Values.{held_at};
+ghost use Rattle.nak_stream.specs.Windows.{WindowModel, empty_window, held_above, offers, taken, delivering, collected, IsWindow, IsLeastGap, IsGreatestGap};
 
 use crate::Entry;
 use limits::{GREATEST_NUMBER, WINDOW};
 use std::alloc::{AllocError, Global};
 use std::collections::BTreeMap;
 use std::marker::Model;
-use wire::Entry as LentEntry;
+use wire_values::Entry as LentEntry;
 
 /// A window of a view: how many messages are known to be stable, how many were delivered here, and the entries
 /// that are held, each at its number in the view's one order. Numbers run from 1 to `GREATEST_NUMBER`.

@@ -1,7 +1,7 @@
 use crate::fixtures::{address, first_of, listed, view_of};
 use address::{Address, ViewId};
-use candidates::Notes;
 use limits::GREATEST_NUMBER;
+use next_view::Notes;
 use std::alloc::Global;
 use view::View;
 

@@ -4,7 +4,7 @@ use crate::fixtures::{first_of, listed, view_id};
 use address::ViewId;
 use flush::{Flush, Progress, cut_covers};
 use std::alloc::Global;
-use wire::{Count, Entry, Held, Report};
+use wire_values::{Count, Entry, Held, Report};
 
 /// The flush for `9@1.1` with the first addresses of these nodes as its list.
 fn started(alloc: Global, nodes: &[u16]) -> Option<Flush> {

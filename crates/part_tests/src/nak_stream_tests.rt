@@ -1,7 +1,7 @@
 use crate::fixtures::first_of;
-use nak_stream::{Entry, KeptPayload, Window, beginnings_agree, windows_agree};
+use nak_stream::{Entry, OwnedPayload, Window, beginnings_agree, windows_agree};
 use std::alloc::{AllocError, Global};
-use wire::{Entry as LentEntry, Number, Payload};
+use wire_values::{Entry as LentEntry, Number, Payload};
 
 /// The entry of 1.1 with a number and a payload, as packets lend it.
 fn lent(number: u64, payload: &[u8]) -> Option<LentEntry<'_>> {
@@ -134,9 +134,9 @@ fn an_entry_gives_its_parts(rt: HostRuntime) {
 }
 
 #[test]
-fn a_kept_payload_has_the_bytes_of_the_lent_one(rt: HostRuntime) {
+fn an_owned_payload_has_the_bytes_of_the_lent_one(rt: HostRuntime) {
     let payload = Payload::new(&[1, 2, 3]).expect(&rt, "a payload");
-    let kept = KeptPayload::copy_of(rt.alloc(), &payload)
+    let kept = OwnedPayload::copy_of(rt.alloc(), &payload)
         .ok()
         .expect(&rt, "a copy");
     assert!(rt; kept.lent().as_slice() == [1, 2, 3].as_slice());

@@ -1,9 +1,10 @@
 use crate::fixtures::{first_of, view_of};
 use address::Address;
-use nak_stream::KeptPayload;
+use limits::Refusal;
+use nak_stream::OwnedPayload;
 use sequencer::{Forwards, Orderer};
 use std::alloc::{AllocError, Global};
-use wire::{Number, Payload};
+use wire_values::{Number, Payload};
 
 /// The orderer of the view of 1.1 and 2.1.
 fn of_two(alloc: Global) -> Option<Orderer> {
@@ -30,14 +31,14 @@ fn offered(orderer: &mut Orderer, sender: Address, number: u64, byte: u8) -> boo
 }
 
 /// The payload of one byte; `None` where memory was refused.
-fn payload_of(alloc: Global, byte: u8) -> Option<KeptPayload> {
+fn payload_of(alloc: Global, byte: u8) -> Option<OwnedPayload> {
     let bytes = [byte];
     let payload = Payload::new(&bytes)?;
-    KeptPayload::copy_of(alloc, &payload).ok()
+    OwnedPayload::copy_of(alloc, &payload).ok()
 }
 
 /// The first byte of a payload, if it has one.
-fn first_byte(payload: &KeptPayload) -> Option<u8> {
+fn first_byte(payload: &OwnedPayload) -> Option<u8> {
     payload.lent().as_slice().first().copied()
 }
 
@@ -203,7 +204,9 @@ fn pushed_or_given_back(alloc: Global, forwards: &mut Forwards, byte: u8) -> boo
             number.get() == before.saturating_add(1) && forwards.sent() == number.get()
         }
         Err((payload, refusal)) => {
-            first_byte(&payload) == Some(byte) && refusal.number() == 7 && forwards.sent() == before
+            first_byte(&payload) == Some(byte)
+                && matches!(refusal, Refusal::Memory)
+                && forwards.sent() == before
         }
     }
 }

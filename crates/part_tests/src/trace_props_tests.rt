@@ -2,7 +2,7 @@ use crate::fixtures::first_of;
 use std::alloc::{AllocError, Global};
 use trace_props::{Bytes, Event, HandedBack, Numbered, Trace};
 
-// What each rule refuses and what it lets pass is tested as text, by the files `check-*.txt` of the crate `worked`.
+// What each rule refuses and what it lets pass is tested as text, by the files `check-*.txt` of the crate `scenarios`.
 
 /// The trace of one start.
 fn started(alloc: Global) -> Result<Trace, AllocError> {

@@ -3,7 +3,7 @@ ghost use Rattle.std.specs.Prelude.{◌≤◌};
 use crate::fixtures::first_of;
 use address::ViewId;
 use view_install::{InstallAnswer, OfferAnswer, Promise, promises_rise};
-use wire::Roster;
+use wire_values::Roster;
 
 /// The proposal of this counter by 1.1, with 1.1 and another node as its list.
 fn proposal(counter: u64, node: u16) -> Option<Roster>

@@ -1,8 +1,8 @@
 //! A damaged text of a trace is answered by one line. The text is a worked output of the formats.
 
 use chat_log::ChatLog;
+use commands::run_check;
 use std::alloc::Global;
-use vsync_runs::run_check;
 
 const TWO_FLUSHES_CROSS: &[u8] = b"\
     started 1.1\n\

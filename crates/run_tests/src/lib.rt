@@ -1,5 +1,5 @@
 //! Tests of what the commands do that no stored run shows: what a reader or a writer that fails leaves, the packets of a
-//! world, and damaged texts. They stand apart from the crate `vsync_runs`, so that it is proved once and not twice.
+//! world, and damaged texts. They stand apart from the crate `commands`, so that it is proved once and not twice.
 #![tactic(auto)]
 
 #[cfg(test)]
@@ -12,3 +12,5 @@ mod last;
 mod receiver_calls;
 #[cfg(test)]
 mod scripts;
+#[cfg(test)]
+mod steps;

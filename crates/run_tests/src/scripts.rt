@@ -1,8 +1,8 @@
 use address::{Address, Node};
 use chat_log::ChatLog;
+use commands::{Status, run_packets, run_script};
 use std::alloc::Global;
 use std::io::{self, Read, Write};
-use vsync_runs::{Status, run_packets, run_script};
 use world::World;
 use world_model::WorldEvent;
 

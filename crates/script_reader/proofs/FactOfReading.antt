@@ -1,14 +1,16 @@
--- How a text is read: line by line, and each line on to what was read before it.
-use Rattle.std.proofs.Common.{◌≡◌, ℕ, ◌+◌, ◌<◌, ◌≤◌, Bool, true, false, List, [], ◌∷◌, ◌++◌, Option, None, Some, Result, Ok, Err, length, take, drop, nat_eq, nat_lt, cond, not, slice_get, refl, sym, ◌∙◌, ap, arith, append_assoc, append-nil, suc, ◌-◌, ◌*◌, nat_le, get_or, if◌then◌else◌, ltb-false, add-one, drop-cons}
+-- How fields, lines and scripts are read.
+use Rattle.std.proofs.Common.{◌≡◌, ℕ, ◌+◌, ◌<◌, ◌≤◌, Bool, true, false, List, [], ◌∷◌, ◌++◌, Option, None, Some, Result, Ok, Err, length, map, take, drop, nat_eq, nat_lt, cond, not, refl, sym, ◌∙◌, ap, arith, append_assoc, append-nil, suc, ◌-◌, ◌*◌, nat_le, get_or, if◌then◌else◌, ltb-false, add-one, drop-cons}
 use Rattle.std.proofs.lemmas.Bool.{lt-leb}
 use Rattle.std.specs.Prelude.{position, MatchOption}
-use Rattle.std.specs.List.{position_or_len, enumerate_from, cons_option}
+use Rattle.std.specs.List.{position_or_len}
 use Rattle.std.proofs.lemmas.List.Sums.{prefix_len-le-length}
 use Rattle.world_model.specs.declared.WorldEvent.{WorldEvent}
-use Rattle.script_reader.specs.declared.fault.Fault.{Fault}
 use Rattle.script_reader.specs.Lines.{lines_of, in_front}
 use Rattle.script_reader.specs.Numbers.{value_of, value_after}
-use Rattle.script_reader.specs.Script.{Script, FaultAt, script_of, reading_of, with_event, after_line, fault_in, event_in, faults_of, events_of, unless_fault}
+use Rattle.script_reader.specs.Script.{Script, script_of, as_script, event_in_line, with_event}
+use Rattle.script_reader.specs.UdpScript.{udp_script_of, udp_said, numbered}
+use Rattle.script_reader.specs.Texts.{FaultAt, said_by, and_then}
+use Rattle.script_reader.proofs.FactOfTexts.{AddsAll, with_more, going_on, going_on_is, text_is_going_on}
 
 first_is : (b : Bool) (n m : ℕ) (r : Option ℕ) → r ≡ cond b (Some n) None → (b ≡ false → m ≡ n) → MatchOption r (m ≡ n) (λ k. k ≡ n)
 first_is true n m None e h = absurd cc
@@ -61,45 +63,25 @@ first_of_lines [] h = absurd (omega arith)
 first_of_lines (b ∷ []) h = elim (nat_eq b 10) as (λ t. (if t then [] ∷ [] else (b ∷ []) ∷ []) ≡ take (cond (not t) 1 0) (b ∷ []) ∷ lines_of (tail_of (drop (cond (not t) 1 0) (b ∷ [])))) [ true ↦ refl | false ↦ refl ]
 first_of_lines (b ∷ c ∷ bs) h = front_step b (position_or_len is_feed (c ∷ bs)) (c ∷ bs) (nat_eq b 10) (first_of_lines (c ∷ bs) (omega arith))
 
-abbrev pub then_on : (Script → Result Script FaultAt) → Result Script FaultAt → Result Script FaultAt
-then_on more (Ok s) = more s
-then_on more (Err f) = Err f
+-- a script, and all that is said after it
+abbrev with_events : Script → List (ℕ × WorldEvent) → Script
+with_events s more = record { events = s.events ++ map (λ e. e.1) more; lines = s.lines ++ map (λ e. e.0) more }
 
--- lines from a number on are read on to a script
-abbrev pub going_on : Script → ℕ → List (List ℕ) → Result Script FaultAt
-going_on s k [] = Ok s
-going_on s k (line ∷ lines) = then_on (λ t. going_on t (k + 1) lines) (after_line s k (reading_of line))
+adds_events : AddsAll (λ k e. (k, e)) with_event with_events
+adds_events = record {
+  none = λ s. rw (append-nil s.events, append-nil s.lines) refl;
+  one = λ s k e more. rw (append_assoc s.events (e ∷ []) _, append_assoc s.lines (k ∷ []) _) refl;
+}
 
--- a script, and what is read after it
-abbrev pub with_front : Script → Result Script FaultAt → Result Script FaultAt
-with_front s (Ok more) = Ok (record { events = s.events ++ more.events; lines = s.lines ++ more.lines })
-with_front s (Err f) = Err f
-
--- what lines from a number on say
-abbrev pub said_from : ℕ → List (List ℕ) → Result Script FaultAt
-said_from k lines = unless_fault (slice_get (faults_of (enumerate_from k lines)) 0) (events_of (enumerate_from k lines))
-
-event_first : (s : Script) (k : ℕ) (e : WorldEvent) (f : Option FaultAt) (events : List (ℕ × WorldEvent))
-    → with_front (with_event s k e) (unless_fault f events) ≡ with_front s (unless_fault f ((k, e) ∷ events))
-event_first s k e (Some f) events = refl
-event_first s k e None events = rw (append_assoc, append_assoc) refl
-
-join_step : (s : Script) (k : ℕ) (line : List ℕ) (lines : List (List ℕ)) (said : Result (Option WorldEvent) Fault)
-    → ((t : Script) → going_on t (k + 1) lines ≡ with_front t (said_from (k + 1) lines))
-    → then_on (λ t. going_on t (k + 1) lines) (after_line s k said)
-    ≡ with_front s (unless_fault (slice_get (cons_option (fault_in k said) (faults_of (enumerate_from (k + 1) lines))) 0)
-    (cons_option (event_in k said) (events_of (enumerate_from (k + 1) lines))))
-join_step s k line lines (Ok None) h = h s
-join_step s k line lines (Ok (Some e)) h = h (with_event s k e) ∙ event_first s k e _ _
-join_step s k line lines (Err f) h = refl
-
-going_on_is : (s : Script) (k : ℕ) (lines : List (List ℕ)) → going_on s k lines ≡ with_front s (said_from k lines)
-going_on_is s k [] = rw (append-nil s.events, append-nil s.lines) refl
-going_on_is s k (line ∷ lines) = join_step s k line lines (reading_of line) (λ t. going_on_is t (k + 1) lines)
-
-nothing_first : (said : Result Script FaultAt) → said ≡ with_front (record { events = []; lines = [] }) said
-nothing_first (Ok s) = refl
+nothing_first : (said : Result (List (ℕ × WorldEvent)) FaultAt) → as_script said ≡ with_more with_events (record { events = []; lines = [] }) said
+nothing_first (Ok said) = refl
 nothing_first (Err f) = refl
 
-pub script_is_going_on : (text : List ℕ) → script_of text ≡ going_on (record { events = []; lines = [] }) 1 (lines_of text)
-script_is_going_on text = nothing_first (script_of text) ∙ sym (going_on_is _ 1 (lines_of text))
+-- a script is read line by line, each on to the script before it
+pub script_is_going_on : (text : List ℕ) → script_of text ≡ going_on event_in_line with_event (record { events = []; lines = [] }) 1 (lines_of text)
+script_is_going_on text =
+    nothing_first (said_by event_in_line (λ k e. (k, e)) text) ∙ sym (going_on_is event_in_line (λ k e. (k, e)) with_event with_events adds_events _ 1 (lines_of text))
+
+-- and one for nodes over UDP is
+pub udp_script_is_going_on : (text : List ℕ) → udp_script_of text ≡ going_on udp_said (and_then numbered) [] 1 (lines_of text)
+udp_script_is_going_on text = text_is_going_on udp_said numbered text

@@ -1,2 +1,2 @@
+pub mod FactOfTexts
 pub mod FactOfReading
-pub mod FactOfUdpReading

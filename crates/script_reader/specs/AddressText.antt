@@ -3,6 +3,7 @@ use Rattle.std.specs.Prelude.{ℕ, List, Option, None, Some, option_and_then}
 use Rattle.address.specs.Ids.{Address}
 use Rattle.script_reader.specs.Lines.{before_byte, behind_byte}
 use Rattle.script_reader.specs.Numbers.{number_in}
+use Rattle.limits.specs.declared.TheConstants.{GREATEST_INCARNATION, GREATEST_NODE}
 
 -- the address of a node and an incarnation, if both are there
 abbrev pub address_from : Option ℕ → Option ℕ → Option Address
@@ -13,4 +14,4 @@ address_from (Some node) (Some incarnation) = Some (record { node = node; incarn
 -- the address that a text spells, if it spells one: `N.I`
 abbrev pub address_of_text : List ℕ → Option Address
 address_of_text text =
-    address_from (number_in 1 65535 (before_byte 46 text)) (option_and_then (number_in 1 4294967295) (behind_byte 46 text))
+    address_from (number_in 1 GREATEST_NODE (before_byte 46 text)) (option_and_then (number_in 1 GREATEST_INCARNATION) (behind_byte 46 text))

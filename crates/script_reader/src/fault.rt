@@ -1,6 +1,8 @@
 ghost use Rattle.std.specs.Prelude.{◌≡◌};
 ghost use Rattle.script_reader.specs.Script.{fault_number};
+ghost use Rattle.script_reader.specs.Texts.{unread_at};
 
+use std::alloc::AllocError;
 use thiserror::Error;
 
 /// What is wrong with a line.
@@ -39,4 +41,36 @@ pub enum Unread {
     /// Memory was refused.
     #[error("no memory")]
     Memory,
+}
+
+/// Why a line was not heard.
+#[derive(Debug, Drop)]
+pub enum Unheard {
+    /// What is wrong with it.
+    Fault(Fault),
+    /// Memory was refused.
+    Memory,
+}
+
+impl Unheard {
+    /// Why the text is not read whose line of this number was not heard.
+    pub fn at(self, line: u64) -> Unread
+        ensures { result ≡ unread_at line self }
+    {
+        match self {
+            Unheard::Fault(fault) => Unread::Fault { line, fault },
+            Unheard::Memory => Unread::Memory,
+        }
+    }
+}
+
+impl From<AllocError> for Unheard {
+    ghost use Rattle.std.specs.Prelude.{◌≡◌};
+    ghost use Rattle.script_reader.specs.declared.fault.Unheard.TheVariants.{Memory};
+
+    ghost from_gives = { λ _ e. e ≡ Memory };
+
+    fn from(_error: AllocError) -> Unheard {
+        Unheard::Memory
+    }
 }

@@ -1,17 +1,17 @@
-ghost use Rattle.std.specs.Prelude.{◌≡◌, ◌<◌, ◌≤◌, ◌∷◌, IfSome, SomeIff, None, Some, length, nat_eq, nat_le, position, MatchResult, if◌then◌else◌};
+ghost use Rattle.std.specs.Prelude.{◌≡◌, ◌<◌, ◌≤◌, ◌∷◌, None, Some, length, nat_eq, nat_le, position, MatchResult, if◌then◌else◌};
 ghost use Rattle.std.specs.List.{list_all, position_or_len};
 ghost use Rattle.std.specs.Char.{is_ascii_digit};
 ghost use Rattle.std.specs.Option.{option_copied};
 ghost use Rattle.script_reader.specs.Lines.{lines_of, before_byte, behind_byte, field_of, behind_field};
 ghost use Rattle.script_reader.specs.Numbers.{is_plain, has_plain_front, value_of, number_in};
 ghost use Rattle.script_reader.specs.AddressText.{address_of_text};
-ghost use Rattle.script_reader.specs.Script.{node_field, packet_field, address_field};
+ghost use Rattle.script_reader.specs.Fields.{node_field, packet_field, address_field};
 ghost use Rattle.script_reader.specs.UdpScript.{rounds_field};
 
 use crate::Fault;
 use crate::udp_script::ROUNDS;
 use address::{Address, Node};
-use limits::GREATEST_NUMBER;
+use limits::{GREATEST_INCARNATION, GREATEST_NODE, GREATEST_NUMBER};
 
 /// The index of the first byte of a text that is `byte`.
 fn index_of(byte: u8, text: &[u8]) -> Option<usize>
@@ -122,6 +122,7 @@ pub fn number_in(low: u64, high: u64, field: &[u8]) -> Option<u64>
 }
 
 /// The next field as a node, and what is left behind it.
+#[tactic(auto, unfolding(crate::specs::Fields::spelled_at, crate::specs::Fields::field_at))]
 pub(crate) fn node_field(rest: Option<&[u8]>) -> Result<(Node, Option<&[u8]>), Fault>
     ensures { MatchResult result
         (λ read. node_field (option_copied rest.entry) ≡ Ok (read.0, option_copied read.1))
@@ -131,7 +132,7 @@ pub(crate) fn node_field(rest: Option<&[u8]>) -> Result<(Node, Option<&[u8]>), F
         return Err(Fault::MissingField);
     };
     let (field, rest) = first_field(text);
-    match number_in(1, 65535, field) {
+    match number_in(1, GREATEST_NODE, field) {
         None => Err(Fault::BadNumber),
         Some(number) => match Node::new(number as u16) {
             None => Err(Fault::BadNumber),
@@ -141,6 +142,7 @@ pub(crate) fn node_field(rest: Option<&[u8]>) -> Result<(Node, Option<&[u8]>), F
 }
 
 /// The next field as the number of a packet, and what is left behind it.
+#[tactic(auto, unfolding(crate::specs::Fields::spelled_at, crate::specs::Fields::field_at))]
 pub(crate) fn packet_field(rest: Option<&[u8]>) -> Result<(u64, Option<&[u8]>), Fault>
     ensures { MatchResult result
         (λ read. packet_field (option_copied rest.entry) ≡ Ok (read.0, option_copied read.1))
@@ -157,6 +159,7 @@ pub(crate) fn packet_field(rest: Option<&[u8]>) -> Result<(u64, Option<&[u8]>), 
 }
 
 /// The next field as a number of rounds, and what is left behind it.
+#[tactic(auto, unfolding(crate::specs::Fields::spelled_at, crate::specs::Fields::field_at))]
 pub(crate) fn rounds_field(rest: Option<&[u8]>) -> Result<(u64, Option<&[u8]>), Fault>
     ensures { MatchResult result
         (λ read. rounds_field (option_copied rest.entry) ≡ Ok (read.0, option_copied read.1))
@@ -178,8 +181,8 @@ pub fn address_in(field: &[u8]) -> Option<Address>
     ensures { result ≡ address_of_text field.now }
 {
     let (node, rest) = split_at_first(b'.', field);
-    let node = number_in(1, 65535, node)?;
-    let incarnation = number_in(1, 4_294_967_295, rest?)?;
+    let node = number_in(1, GREATEST_NODE, node)?;
+    let incarnation = number_in(1, GREATEST_INCARNATION, rest?)?;
     Address::new(Node::new(node as u16)?, incarnation as u32)
 }
 
@@ -188,6 +191,7 @@ pub fn address_in(field: &[u8]) -> Option<Address>
 /// # Errors
 ///
 /// 42 where no field is left, 41 where it is no address.
+#[tactic(auto, unfolding(crate::specs::Fields::spelled_at, crate::specs::Fields::field_at))]
 pub fn address_field(rest: Option<&[u8]>) -> Result<(Address, Option<&[u8]>), Fault>
     ensures { MatchResult result
         (λ read. address_field (option_copied rest.entry) ≡ Ok (read.0, option_copied read.1))

@@ -4,10 +4,13 @@
 mod fault;
 mod field;
 mod line;
+mod member_plan;
 mod script;
 mod udp_script;
 
-pub use fault::{Fault, Unread};
+pub use fault::{Fault, Unheard, Unread};
 pub use field::{address_field, address_in, first_field, first_line, number_in, split_at_first};
+pub use line::is_skipped;
+pub use member_plan::MemberPlan;
 pub use script::{Script, read_script};
 pub use udp_script::{ROUNDS, UdpEvent, UdpLine, read_udp_script};

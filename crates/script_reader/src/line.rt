@@ -1,24 +1,19 @@
 ghost use Rattle.std.specs.Prelude.{◌≡◌, Some, MatchOption, MatchResult};
 ghost use Rattle.std.specs.Option.{option_copied};
 ghost use Rattle.world_model.specs.declared.WorldEvent.TheVariants as event;
-ghost use Rattle.script_reader.specs.declared.line.Unheard.TheVariants as unheard;
+ghost use Rattle.script_reader.specs.declared.fault.Unheard.TheVariants as unheard;
 ghost use Rattle.script_reader.specs.declared.fault.Fault.TheVariants.{MissingField};
-ghost use Rattle.script_reader.specs.Script.{node_field, packet_field, address_field, only, node_and_address, of_other, sent, word_of, event_of, event_in_line, is_skipped, reading_of, IsUnheard};
+ghost use Rattle.script_reader.specs.Fields.{last, node_field, packet_field, address_field};
+ghost use Rattle.script_reader.specs.Script.{node_and_address, of_other, sent, word_of, event_of, event_in_line};
+ghost use Rattle.script_reader.specs.Texts.{is_skipped, reading_by, IsReadUnlessRefused};
 
-use crate::Fault;
 use crate::field::{address_field, first_field, node_field, packet_field};
+use crate::{Fault, Unheard};
 use address::{Address, Node};
 use limits::SCRIPT_LINE;
 use std::alloc::Global;
 use trace_props::Bytes;
 use world_model::WorldEvent;
-
-/// Why a line was not heard.
-#[derive(Drop)]
-pub(crate) enum Unheard {
-    Fault(Fault),
-    Memory,
-}
 
 /// A word with which a line of a script begins.
 #[derive(Drop)]
@@ -64,8 +59,9 @@ pub(crate) fn word_of(name: &[u8]) -> Option<Word>
 }
 
 /// The node with which a line ends.
+#[tactic(auto, unfolding(crate::specs::Fields::last, crate::specs::Fields::end_at))]
 fn lone_node(rest: Option<&[u8]>) -> Result<Node, Unheard>
-    ensures { MatchResult result (λ n. only (node_field (option_copied rest.entry)) ≡ Ok n) (IsUnheard (only (node_field (option_copied rest.entry)))) }
+    ensures { IsReadUnlessRefused (λ x. x) result (last (node_field (option_copied rest.entry))) }
 {
     match node_field(rest) {
         Ok((node, None)) => Ok(node),
@@ -75,8 +71,9 @@ fn lone_node(rest: Option<&[u8]>) -> Result<Node, Unheard>
 }
 
 /// The number of a packet, with which a line ends.
+#[tactic(auto, unfolding(crate::specs::Fields::last, crate::specs::Fields::end_at))]
 fn lone_packet(rest: Option<&[u8]>) -> Result<u64, Unheard>
-    ensures { MatchResult result (λ n. only (packet_field (option_copied rest.entry)) ≡ Ok n) (IsUnheard (only (packet_field (option_copied rest.entry)))) }
+    ensures { IsReadUnlessRefused (λ x. x) result (last (packet_field (option_copied rest.entry))) }
 {
     match packet_field(rest) {
         Ok((number, None)) => Ok(number),
@@ -86,8 +83,9 @@ fn lone_packet(rest: Option<&[u8]>) -> Result<u64, Unheard>
 }
 
 /// The address with which a line ends.
+#[tactic(auto, unfolding(crate::specs::Fields::last, crate::specs::Fields::end_at))]
 fn lone_address(rest: Option<&[u8]>) -> Result<Address, Unheard>
-    ensures { MatchResult result (λ a. only (address_field (option_copied rest.entry)) ≡ Ok a) (IsUnheard (only (address_field (option_copied rest.entry)))) }
+    ensures { IsReadUnlessRefused (λ x. x) result (last (address_field (option_copied rest.entry))) }
 {
     match address_field(rest) {
         Ok((address, None)) => Ok(address),
@@ -98,7 +96,7 @@ fn lone_address(rest: Option<&[u8]>) -> Result<Address, Unheard>
 
 /// The node and the address with which a line ends.
 fn node_and_address(rest: Option<&[u8]>) -> Result<(Node, Address), Unheard>
-    ensures { MatchResult result (λ r. node_and_address (node_field (option_copied rest.entry)) ≡ Ok r) (IsUnheard (node_and_address (node_field (option_copied rest.entry)))) }
+    ensures { IsReadUnlessRefused (λ x. x) result (node_and_address (option_copied rest.entry)) }
 {
     match node_field(rest) {
         Err(fault) => Err(Unheard::Fault(fault)),
@@ -111,7 +109,7 @@ fn node_and_address(rest: Option<&[u8]>) -> Result<(Node, Address), Unheard>
 
 /// The event of `join N ADDR`.
 fn asked(rest: Option<&[u8]>) -> Result<WorldEvent, Unheard>
-    ensures { MatchResult result (λ e. of_other event.Join (node_and_address (node_field (option_copied rest.entry))) ≡ Ok e) (IsUnheard (of_other event.Join (node_and_address (node_field (option_copied rest.entry))))) }
+    ensures { IsReadUnlessRefused (λ x. x) result (of_other event.Join (node_and_address (option_copied rest.entry))) }
 {
     let (node, contact) = node_and_address(rest)?;
     Ok(WorldEvent::Join(node, contact))
@@ -119,7 +117,7 @@ fn asked(rest: Option<&[u8]>) -> Result<WorldEvent, Unheard>
 
 /// The event of `suspect N ADDR`.
 fn suspected(rest: Option<&[u8]>) -> Result<WorldEvent, Unheard>
-    ensures { MatchResult result (λ e. of_other event.Suspect (node_and_address (node_field (option_copied rest.entry))) ≡ Ok e) (IsUnheard (of_other event.Suspect (node_and_address (node_field (option_copied rest.entry))))) }
+    ensures { IsReadUnlessRefused (λ x. x) result (of_other event.Suspect (node_and_address (option_copied rest.entry))) }
 {
     let (node, address) = node_and_address(rest)?;
     Ok(WorldEvent::Suspect(node, address))
@@ -127,7 +125,7 @@ fn suspected(rest: Option<&[u8]>) -> Result<WorldEvent, Unheard>
 
 /// The event of `hint N ADDR`.
 fn hinted(rest: Option<&[u8]>) -> Result<WorldEvent, Unheard>
-    ensures { MatchResult result (λ e. of_other event.MergeHint (node_and_address (node_field (option_copied rest.entry))) ≡ Ok e) (IsUnheard (of_other event.MergeHint (node_and_address (node_field (option_copied rest.entry))))) }
+    ensures { IsReadUnlessRefused (λ x. x) result (of_other event.MergeHint (node_and_address (option_copied rest.entry))) }
 {
     let (node, address) = node_and_address(rest)?;
     Ok(WorldEvent::MergeHint(node, address))
@@ -148,7 +146,7 @@ fn payload(alloc: Global, rest: Option<&[u8]>) -> Result<Bytes, Unheard>
 
 /// The event of `send N TEXT`.
 fn sent(alloc: Global, rest: Option<&[u8]>) -> Result<WorldEvent, Unheard>
-    ensures { MatchResult result (λ e. sent (node_field (option_copied rest.entry)) ≡ Ok e) (IsUnheard (sent (node_field (option_copied rest.entry)))) }
+    ensures { IsReadUnlessRefused (λ x. x) result (sent (node_field (option_copied rest.entry))) }
 {
     match node_field(rest) {
         Err(fault) => Err(Unheard::Fault(fault)),
@@ -165,7 +163,7 @@ pub(crate) fn event_of(
     word: Word,
     rest: Option<&[u8]>,
 ) -> Result<WorldEvent, Unheard>
-    ensures { MatchResult result (λ e. event_of word (option_copied rest.entry) ≡ Ok e) (IsUnheard (event_of word (option_copied rest.entry))) }
+    ensures { IsReadUnlessRefused (λ x. x) result (event_of word (option_copied rest.entry)) }
 {
     match word {
         Word::Start => Ok(WorldEvent::Start(lone_node(rest)?)),
@@ -182,7 +180,7 @@ pub(crate) fn event_of(
 }
 
 /// Whether a line says nothing: it is empty, or begins with `#`.
-pub(crate) fn is_skipped(line: &[u8]) -> bool
+pub fn is_skipped(line: &[u8]) -> bool
     ensures { result ≡ is_skipped line.now }
 {
     match line.first() {
@@ -193,7 +191,7 @@ pub(crate) fn is_skipped(line: &[u8]) -> bool
 
 /// The event of a line that is not skipped.
 fn event_in_line(alloc: Global, line: &[u8]) -> Result<WorldEvent, Unheard>
-    ensures { MatchResult result (λ e. event_in_line line.now ≡ Ok e) (IsUnheard (event_in_line line.now)) }
+    ensures { IsReadUnlessRefused (λ x. x) result (event_in_line line.now) }
 {
     if line.len() > SCRIPT_LINE {
         return Err(Unheard::Fault(Fault::LineTooLong));
@@ -207,7 +205,7 @@ fn event_in_line(alloc: Global, line: &[u8]) -> Result<WorldEvent, Unheard>
 
 /// What a line says: nothing, or an event.
 pub(crate) fn read_line(alloc: Global, line: &[u8]) -> Result<Option<WorldEvent>, Unheard>
-    ensures { MatchResult result (λ e. reading_of line.now ≡ Ok e) (IsUnheard (reading_of line.now)) }
+    ensures { IsReadUnlessRefused (λ x. x) result (reading_by event_in_line line.now) }
 {
     if is_skipped(line) {
         return Ok(None);

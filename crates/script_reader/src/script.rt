@@ -1,9 +1,10 @@
 ghost use Rattle.std.specs.Prelude.{◌≡◌, [], OnOk, MatchResult};
-ghost use Rattle.script_reader.specs.Script.{script_of, reading_of, with_event, HasRead, IsUnread};
+ghost use Rattle.script_reader.specs.Script.{script_of, event_in_line, with_event};
+ghost use Rattle.script_reader.specs.Texts.{reading_by, HasRead, IsUnread};
 
 use crate::Unread;
 use crate::field::first_line;
-use crate::line::{Unheard, read_line};
+use crate::line::read_line;
 use std::alloc::{AllocError, Global};
 use std::marker::Model;
 use world_model::WorldEvent;
@@ -50,14 +51,10 @@ impl Script {
 
     /// Goes on with one line.
     fn read_on(&mut self, alloc: Global, number: u64, line: &[u8]) -> Result<(), Unread>
-        ensures { HasRead self.old number (reading_of line.now) result self.new }
+        ensures { HasRead with_event self.old number (reading_by event_in_line line.now) result self.new }
     {
         match read_line(alloc, line) {
-            Err(Unheard::Fault(fault)) => Err(Unread::Fault {
-                line: number,
-                fault,
-            }),
-            Err(Unheard::Memory) => Err(Unread::Memory),
+            Err(unheard) => Err(unheard.at(number)),
             Ok(None) => Ok(()),
             Ok(Some(event)) => match self.add(number, event) {
                 Err(_) => Err(Unread::Memory),

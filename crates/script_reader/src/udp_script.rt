@@ -1,11 +1,12 @@
 ghost use Rattle.std.specs.Prelude.{◌≡◌, MatchResult};
 ghost use Rattle.std.specs.Option.{option_copied};
-ghost use Rattle.script_reader.specs.Script.{only, IsUnheard, IsUnread};
-ghost use Rattle.script_reader.specs.UdpScript.{rounds_field, node_event, udp_said, udp_reading_of, udp_script_of, HasReadUdp};
+ghost use Rattle.script_reader.specs.Fields.{last};
+ghost use Rattle.script_reader.specs.UdpScript.{rounds_field, node_event, numbered, udp_said, udp_script_of};
+ghost use Rattle.script_reader.specs.Texts.{and_then, reading_by, HasRead, IsReadUnlessRefused, IsUnread};
 
 use crate::field::{first_field, first_line, rounds_field};
-use crate::line::{Unheard, Word, event_of, is_skipped, word_of};
-use crate::{Fault, Unread};
+use crate::line::{Word, event_of, is_skipped, word_of};
+use crate::{Fault, Unheard, Unread};
 use limits::SCRIPT_LINE;
 use std::alloc::{AllocError, Global};
 use world_model::WorldEvent;
@@ -32,8 +33,9 @@ pub struct UdpLine {
 }
 
 /// The number of rounds with which a line ends.
+#[tactic(auto, unfolding(crate::specs::Fields::last, crate::specs::Fields::end_at))]
 fn lone_rounds(rest: Option<&[u8]>) -> Result<u64, Unheard>
-    ensures { MatchResult result (λ n. only (rounds_field (option_copied rest.entry)) ≡ Ok n) (IsUnheard (only (rounds_field (option_copied rest.entry)))) }
+    ensures { IsReadUnlessRefused (λ x. x) result (last (rounds_field (option_copied rest.entry))) }
 {
     match rounds_field(rest) {
         Ok((number, None)) => Ok(number),
@@ -44,7 +46,7 @@ fn lone_rounds(rest: Option<&[u8]>) -> Result<u64, Unheard>
 
 /// The event of a node that a line's first word and the rest of it spell: none of a delivery and a tick, which are the net's and the rounds' here.
 fn node_event(alloc: Global, name: &[u8], rest: Option<&[u8]>) -> Result<WorldEvent, Unheard>
-    ensures { MatchResult result (λ e. node_event name.now (option_copied rest.entry) ≡ Ok e) (IsUnheard (node_event name.now (option_copied rest.entry))) }
+    ensures { IsReadUnlessRefused (λ x. x) result (node_event name.now (option_copied rest.entry)) }
 {
     match word_of(name) {
         None | Some(Word::Deliver) | Some(Word::Tick) => Err(Unheard::Fault(Fault::UnknownWord)),
@@ -54,7 +56,7 @@ fn node_event(alloc: Global, name: &[u8], rest: Option<&[u8]>) -> Result<WorldEv
 
 /// What a line says that is not skipped.
 fn said(alloc: Global, line: &[u8]) -> Result<UdpEvent, Unheard>
-    ensures { MatchResult result (λ e. udp_said line.now ≡ Ok e) (IsUnheard (udp_said line.now)) }
+    ensures { IsReadUnlessRefused (λ x. x) result (udp_said line.now) }
 {
     if line.len() > SCRIPT_LINE {
         return Err(Unheard::Fault(Fault::LineTooLong));
@@ -68,7 +70,7 @@ fn said(alloc: Global, line: &[u8]) -> Result<UdpEvent, Unheard>
 
 /// What a line says: nothing, or an event.
 fn read_udp_line(alloc: Global, line: &[u8]) -> Result<Option<UdpEvent>, Unheard>
-    ensures { MatchResult result (λ e. udp_reading_of line.now ≡ Ok e) (IsUnheard (udp_reading_of line.now)) }
+    ensures { IsReadUnlessRefused (λ x. x) result (reading_by udp_said line.now) }
 {
     if is_skipped(line) {
         return Ok(None);
@@ -78,14 +80,10 @@ fn read_udp_line(alloc: Global, line: &[u8]) -> Result<Option<UdpEvent>, Unheard
 
 /// Adds what a line of this number says.
 fn read_on(alloc: Global, lines: &mut Vec<UdpLine>, number: u64, line: &[u8]) -> Result<(), Unread>
-    ensures { HasReadUdp lines.old.items number (udp_reading_of line.now) result lines.new.items }
+    ensures { HasRead (and_then numbered) lines.old.items number (reading_by udp_said line.now) result lines.new.items }
 {
     match read_udp_line(alloc, line) {
-        Err(Unheard::Fault(fault)) => Err(Unread::Fault {
-            line: number,
-            fault,
-        }),
-        Err(Unheard::Memory) => Err(Unread::Memory),
+        Err(unheard) => Err(unheard.at(number)),
         Ok(None) => Ok(()),
         Ok(Some(event)) => match lines.push(UdpLine { number, event }) {
             Err(_) => Err(Unread::Memory),
@@ -100,7 +98,7 @@ fn read_on(alloc: Global, lines: &mut Vec<UdpLine>, number: u64, line: &[u8]) ->
 /// # Errors
 ///
 /// Those of `read_script`.
-#[tactic(auto, using(crate::proofs::FactOfUdpReading::script_is_going_on))]
+#[tactic(auto, using(crate::proofs::FactOfReading::udp_script_is_going_on))]
 pub fn read_udp_script(alloc: Global, text: &[u8]) -> Result<Vec<UdpLine>, Unread>
     ensures { MatchResult result (λ lines. udp_script_of text.now ≡ Ok lines.items) (IsUnread (udp_script_of text.now)) }
 {

@@ -2,9 +2,9 @@
 #![tactic(auto)]
 
 use chat_log::ChatLog;
+use commands::run_script;
 use std::io;
 use std::process::ExitCode;
-use vsync_runs::run_script;
 
 fn main(rt: HostRuntime) -> ExitCode {
     let mut input = rt.reader();

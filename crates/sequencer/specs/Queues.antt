@@ -3,7 +3,7 @@ use Rattle.std.specs.Prelude.{ℕ, ◌+◌, ◌-◌, Bool, false, not, ◌&&◌,
 use Rattle.std.specs.List.{list_any, find}
 use Rattle.std.specs.Option.{option_map, option_map_or}
 use Rattle.address.specs.Ids.{Address, same_address}
-use Rattle.wire.specs.Values.{Entry}
+use Rattle.wire_values.specs.Values.{Entry}
 use Rattle.limits.specs.declared.TheConstants.{WINDOW, OUTSTANDING, GREATEST_NUMBER}
 use Rattle.trace_props.specs.declared.event.Numbered.{Numbered}
 

@@ -1,6 +1,6 @@
-use nak_stream::KeptPayload;
+use nak_stream::OwnedPayload;
 use std::marker::Model;
-use wire::Number;
+use wire_values::Number;
 
 /// A message on its way into the order: its number among its sender's messages of the view, from 1 to `GREATEST_NUMBER`, and its payload of at most `PAYLOAD`
 /// bytes.
@@ -9,7 +9,7 @@ pub struct Forward {
     /// Its number among its sender's messages of the view, from 1.
     pub number: Number,
     /// Its payload.
-    pub payload: KeptPayload,
+    pub payload: OwnedPayload,
 }
 
 impl Model for Forward {

@@ -5,11 +5,11 @@ ghost use Rattle.sequencer.specs.Forwards.{ForwardsModel, no_forwards, pushed, d
 
 use crate::Forward;
 use limits::{GREATEST_NUMBER, OUTSTANDING, Refusal};
-use nak_stream::KeptPayload;
+use nak_stream::OwnedPayload;
 use std::alloc::{AllocError, Global};
 use std::marker::Model;
 use trace_props::{Bytes, HandedBack, Numbered};
-use wire::Number;
+use wire_values::Number;
 
 /// A member's own messages of a view that were sent and not delivered here, at most `OUTSTANDING` of them, by their numbers. Numbers run from 1 to `GREATEST_NUMBER`.
 #[derive(Debug, Drop)]
@@ -41,7 +41,7 @@ impl Forwards {
 
     /// Takes a message under the next number, which is answered. Refused, with the payload given back and all as it was, with 3 exactly where `OUTSTANDING`
     /// messages are outstanding, else with 8 exactly where `GREATEST_NUMBER` were sent, else with 7 where memory was refused.
-    pub fn push(&mut self, payload: KeptPayload) -> Result<Number, (KeptPayload, Refusal)>
+    pub fn push(&mut self, payload: OwnedPayload) -> Result<Number, (OwnedPayload, Refusal)>
         ensures number { MatchResult result (λ number. number ≡ self.old.sent + 1) (λ refused. refused.0 ≡ payload) }
         ensures after { MatchResult result (λ _. self.new ≡ pushed payload self.old) (λ _. self.new ≡ self.old) }
         ensures refused { MatchResult result (λ _. push_refusal self.old ≡ None) (λ refused. MatchOption (push_refusal self.old) (refused.1 ≡ refusal.Memory) (λ why. refused.1 ≡ why)) }

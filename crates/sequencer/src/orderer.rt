@@ -10,7 +10,7 @@ use nak_stream::Entry;
 use std::alloc::{AllocError, Global};
 use std::marker::Model;
 use view::View;
-use wire::{Number, Payload};
+use wire_values::{Number, Payload};
 
 /// The orderer of a view, which its coordinator keeps: how many messages it ordered, 0 to `GREATEST_NUMBER`, and for each member how many
 /// of its messages were ordered and which wait (docs/PROTOCOL.md, "Order").

@@ -5,10 +5,10 @@ ghost use Rattle.sequencer.specs.Queues.{idle, takes, offered, follows, has_next
 use crate::Forward;
 use address::Address;
 use limits::OUTSTANDING;
-use nak_stream::{Entry, KeptPayload};
+use nak_stream::{Entry, OwnedPayload};
 use std::alloc::{AllocError, Global};
 use std::marker::Model;
-use wire::{Number, Payload};
+use wire_values::{Number, Payload};
 
 /// The messages of one sender: how many were ordered, and those that wait, each once, in the order in which they came.
 #[derive(Debug, Drop)]
@@ -72,7 +72,7 @@ impl Queue {
         if !self.takes(number.get()) {
             return Ok(false);
         }
-        let payload = KeptPayload::copy_of(alloc, payload)?;
+        let payload = OwnedPayload::copy_of(alloc, payload)?;
         self.waiting.push(Forward { number, payload })?;
         Ok(true)
     }

@@ -1,11 +1,12 @@
 -- What a member acknowledged bounds the stable count, and is never lowered.
 use Rattle.std.proofs.Common.{◌≡◌, ℕ, ◌≤◌, Bool, true, false, List, [], ◌∷◌, refl, ap, ◌∙◌, subst, arith, map, max, min, length}
-use Rattle.std.specs.Prelude.{◌||◌, nat_eq, if◌then◌else◌}
+use Rattle.std.specs.Prelude.{nat_eq, if◌then◌else◌}
 use Rattle.std.proofs.lemmas.Bool.Decides.{nat_tests}
 use Rattle.address.specs.Ids.{Address, same_address}
 use Rattle.view.specs.Members.{stands_in}
 use Rattle.stability.specs.declared.Ack.{Ack}
 use Rattle.stability.specs.Counts.{unheard, noted, stable_count, members_of, count_of}
+use Rattle.address.proofs.Plain.{or-rest}
 
 pub members-unheard : (members : List Address) → members_of (map unheard members) ≡ members
 members-unheard [] = refl
@@ -20,17 +21,13 @@ members-noted p n [] = refl
 members-noted p n (a ∷ acks) =
     ap (λ q. q ∷ members_of (noted p n acks)) (member-stays (same_address p a.member) n a) ∙ ap (λ qs. a.member ∷ qs) (members-noted p n acks)
 
-zero-either : (b : Bool) (m : ℕ) → m ≡ 0 → (if b then 0 else m) ≡ 0
+pub zero-either : (b : Bool) (m : ℕ) → m ≡ 0 → (if b then 0 else m) ≡ 0
 zero-either true m z = refl
 zero-either false m z = z
 
 pub count-unheard : (q : Address) (members : List Address) → count_of q (map unheard members) ≡ 0
 count-unheard q [] = refl
 count-unheard q (p ∷ members) = zero-either (same_address q p) _ (count-unheard q members)
-
-rest-of : (b c : Bool) → (b || c) ≡ true → b ≡ false → c ≡ true
-rest-of true c h f = cc
-rest-of false c h f = h
 
 not-empty : (q : Address) (acks : List Ack) → stands_in q (members_of acks) ≡ true → nat_eq (length acks) 0 ≡ false
 not-empty q [] h = cc
@@ -47,7 +44,7 @@ pub stable-le-count : (q : Address) (acks : List Ack) → stands_in q (members_o
 stable-le-count q [] h = omega arith
 stable-le-count q (a ∷ acks) h =
     least-by (same_address q a.member) (nat_eq (length acks) 0) a.count (stable_count acks) (count_of q acks)
-    (λ f. let there : stands_in q (members_of acks) ≡ true = rest-of (same_address q a.member) _ h f in (not-empty q acks there, stable-le-count q acks there))
+    (λ f. let there : stands_in q (members_of acks) ≡ true = or-rest (same_address q a.member) _ h f in (not-empty q acks there, stable-le-count q acks there))
 
 same-both : (p q m : Address) → same_address p m ≡ true → same_address q m ≡ true → same_address p q ≡ true
 same-both p q m h i = grind (arith, nat_tests)

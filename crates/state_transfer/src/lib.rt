@@ -1,7 +1,7 @@
 //! The application above a channel: what it is given, and the laws that make its copies agree.
 #![tactic(auto)]
 
-ghost use Rattle.std.specs.Prelude.{◌≡◌, ◌≤◌, ◌++◌, length, List, ℕ, Some, None, Option, true, false, IfOk, OnOk, MatchOption};
+ghost use Rattle.std.specs.Prelude.{◌≡◌, ◌≤◌, ◌++◌, length, List, ℕ, Some, true, false, IfOk, OnOk, MatchOption};
 ghost use Rattle.address.specs.Ids.{Address, IsAddress};
 ghost use Rattle.state_transfer.specs.Meanings.{Meaning};
 ghost use Rattle.limits.specs.declared.TheConstants.{PAYLOAD, STATE};

@@ -1,6 +1,7 @@
 use crate::fixtures::address;
 use script_reader::{
-    Fault, address_field, address_in, first_field, first_line, number_in, split_at_first,
+    Fault, Unheard, Unread, address_field, address_in, first_field, first_line, is_skipped,
+    number_in, split_at_first,
 };
 
 /// Whether the first line of a text, and what stands behind it, are these.
@@ -20,6 +21,23 @@ fn a_line_ends_at_its_line_feed(rt: HostRuntime) {
 #[test]
 fn the_last_line_may_lack_its_line_feed(rt: HostRuntime) {
     assert!(rt; has_first_line(b"c", b"c", b""));
+}
+
+#[test]
+fn an_empty_line_and_a_comment_are_skipped(rt: HostRuntime) {
+    assert!(rt; is_skipped(b"") && is_skipped(b"# a word"));
+    assert!(rt;
+        !is_skipped(b" # a word"),
+        "a comment has no space in front"
+    );
+}
+
+#[test]
+fn a_fault_is_told_with_its_line(rt: HostRuntime) {
+    match Unheard::Fault(Fault::MissingField).at(7) {
+        Unread::Fault { line, fault } => assert!(rt; line == 7 && fault.number() == 42),
+        Unread::Memory => assert!(rt; false, "no memory was refused"),
+    }
 }
 
 /// Whether a text was cut into these parts.

@@ -18,7 +18,7 @@ use Rattle.trace_checker.proofs.KeepMessages.{delivery-is}
 use Rattle.trace_props.specs.State.{state_of, installs, entry_state}
 use Rattle.trace_props.specs.Agreeing.{MayEnter}
 use Rattle.trace_checker.specs.Copies.{KnowsStates, EntersWith}
-use Rattle.trace_props.proofs.FactOfObserved.{same_address-true, same_view_id-true}
+use Rattle.address.proofs.SameIds.{same_address-true, same_view_id-true}
 use Rattle.trace_props.proofs.RuleOfEntry.{state_of-push, entry_state-push}
 use Rattle.trace_checker.proofs.KeepStates.{taken-state, taken-is, delivered-is, same-bytes}
 

@@ -1,12 +1,14 @@
 -- How members stand one event further.
 use Rattle.std.proofs.Common.{◌≡◌, Bool, true, false, cond, List, [], ◌∷◌, ◌++◌, Option, Some, sym, refl, ap, ◌∙◌}
+use Rattle.std.proofs.lemmas.Bool.{true≢false}
 use Rattle.address.specs.Ids.{Address, ViewId, same_address}
 use Rattle.trace_props.specs.declared.event.Event.{Event}
 use Rattle.trace_props.specs.declared.event.Event.TheVariants.{Started, Sent, Delivered, Blocked, Installed, Left, Crashed}
 use Rattle.trace_checker.specs.declared.known.standing.Standing.{Standing}
 use Rattle.trace_props.specs.Observed.{member_of, has_started, has_ended, is_blocked, current_view}
-use Rattle.trace_checker.specs.Known.{stood, standing_of, standing_after, KnowsStandings}
-use Rattle.trace_props.proofs.FactOfObserved.{same_address-true, has_started-still, has_started-now, has_started-other, has_ended-still, has_ended-now, has_ended-other, current_view-push, current_view-now, current_view-other, is_blocked-push, is_blocked-now, is_blocked-open, is_blocked-other}
+use Rattle.trace_checker.specs.Known.{stood, standing_of, standing_after, leaves_standing, KnowsStandings}
+use Rattle.address.proofs.SameIds.{same_address-true}
+use Rattle.trace_props.proofs.FactOfObserved.{has_started-still, has_started-now, has_started-other, has_ended-still, has_ended-now, has_ended-other, current_view-push, current_view-now, current_view-other, is_blocked-push, is_blocked-now, is_blocked-open, is_blocked-other}
 
 -- equal in each field
 abbrev stands : Bool → Bool → Bool → Option ViewId → Standing
@@ -60,3 +62,25 @@ standings-noted m n t h p a s who was next updates r =
     (λ q. updates q ∙ ap (λ x. cond (same_address x q) (Some s) (m q)) who
     ∙ ap (λ x. cond (same_address (member_of h) q) (Some x) (m q)) (next ∙ ap (λ b. standing_after b h) (was ∙ ap (λ x. stood (m x)) who)))
     r
+
+-- WHERE NOBODY STANDS OTHERWISE
+
+standing-left : (h : Event) (s : Standing) → leaves_standing h ≡ true → standing_after s h ≡ s
+standing-left (Started p) s e = absurd (true≢false (sym e))
+standing-left (Sent m) s e = refl
+standing-left (Delivered d) s e = refl
+standing-left (Blocked p) s e = absurd (true≢false (sym e))
+standing-left (Installed i) s e = absurd (true≢false (sym e))
+standing-left (Left p) s e = absurd (true≢false (sym e))
+standing-left (Crashed p) s e = absurd (true≢false (sym e))
+
+left-at : (m : Address → Option Standing) (t : List Event) (h : Event) (p : Address) (b : Bool) → same_address (member_of h) p ≡ b → leaves_standing h ≡ true → KnowsStandings m t
+    → stood (m p) ≡ standing_of p (t ++ h ∷ [])
+left-at m t h p true e left r =
+    let same = same_address-true (member_of h) p e in
+    r p ∙ ap (λ q. standing_of q t) (sym same) ∙ sym (standing-left h (standing_of (member_of h) t) left) ∙ sym (standing-now t h) ∙ ap (λ q. standing_of q (t ++ h ∷ [])) same
+left-at m t h p false e left r = r p ∙ sym (standing-other p t h e)
+
+-- an event that leaves its member standing as it did changes nothing
+pub standings-left : (m : Address → Option Standing) (t : List Event) (h : Event) → leaves_standing h ≡ true → KnowsStandings m t → KnowsStandings m (t ++ h ∷ [])
+standings-left m t h left r p = left-at m t h p (same_address (member_of h) p) refl left r

@@ -15,14 +15,11 @@ use Rattle.trace_props.specs.State.{state_after, state_of, installs, entry_state
 use Rattle.trace_props.specs.Agreeing.{MayEnter}
 use Rattle.trace_checker.specs.Known.{delivery_of}
 use Rattle.trace_checker.specs.Copies.{KnowsStates}
-use Rattle.trace_props.proofs.FactOfObserved.{same_address-true}
+use Rattle.address.proofs.SameIds.{same_address-true}
 use Rattle.trace_props.proofs.RuleOfEntry.{state_of-push, entry_state-push}
+use Rattle.address.proofs.Plain.{option_or-none}
 
 -- THE STATE OF ENTRY
-
-or-none : {X : Type 0} (o : Option X) → option_or o None ≡ o
-or-none None = refl
-or-none (Some x) = refl
 
 -- what installs nothing makes none
 entry_state-still : {S : Type 0} (meaning : Meaning S) (v : ViewId) (t : List Event) (h : Event)
@@ -30,7 +27,7 @@ entry_state-still : {S : Type 0} (meaning : Meaning S) (v : ViewId) (t : List Ev
 entry_state-still meaning v t h e =
     entry_state-push meaning v t h
     ∙ ap (λ b. option_or (entry_state meaning v t) (cond b (Some (state_of meaning v.creator (t ++ h ∷ []))) None)) e
-    ∙ or-none (entry_state meaning v t)
+    ∙ option_or-none (entry_state meaning v t)
 
 -- WHERE NO STATE CHANGES
 
@@ -117,20 +114,13 @@ taken-is meaning decodes (Some g) s a = given-is meaning decodes g (meaning.deco
 pub same-bytes : {S : Type 0} (meaning : Meaning S) (reads_back : (s : S) → meaning.is_state s → meaning.decode (meaning.encode s) ≡ Some s) (s x : S) → meaning.is_state s → meaning.is_state x → meaning.encode s ≡ meaning.encode x → s ≡ x
 same-bytes meaning reads_back s x a b e = same_Some s x (sym (reads_back s a) ∙ ap meaning.decode e ∙ reads_back x b)
 
--- a change at one member after none
-pub changed-after : {S : Type 0} (m k n : Address → S) (p : Address) (f : S → S) → ((q : Address) → k q ≡ m q) → ((q : Address) → n q ≡ cond (same_address p q) (f (k p)) (k q))
-    → (q : Address) → n q ≡ cond (same_address p q) (f (m p)) (m q)
-changed-after m k n p f same after q = after q ∙ ap (λ x. cond (same_address p q) (f x) (k q)) (same p) ∙ ap (λ x. cond (same_address p q) (f (m p)) x) (same q)
-
 -- a message whose payload was lent is applied
 pub message-heard : {S : Type 0} (meaning : Meaning S)
     (applies : (s : S) (from : Address) (payload : List ℕ) → meaning.is_state s → IsAddress from → length payload ≤ PAYLOAD → meaning.is_state (meaning.apply s from payload))
-    (m k n : Address → Option S) (e : ViewId → Option (List ℕ)) (t : List Event) (d : Delivery) (payload : List ℕ) → IsAddress d.message.sender → length d.message.payload ≤ PAYLOAD → payload ≡ d.message.payload
-    → ((q : Address) → unwrap_or (k q) meaning.opening ≡ unwrap_or (m q) meaning.opening)
-    → ((q : Address) → unwrap_or (n q) meaning.opening ≡ cond (same_address d.member q) (meaning.apply (unwrap_or (k d.member) meaning.opening) d.message.sender payload) (unwrap_or (k q) meaning.opening))
+    (m n : Address → Option S) (e : ViewId → Option (List ℕ)) (t : List Event) (d : Delivery) (payload : List ℕ) → IsAddress d.message.sender → length d.message.payload ≤ PAYLOAD → payload ≡ d.message.payload
+    → ((q : Address) → unwrap_or (n q) meaning.opening ≡ cond (same_address d.member q) (meaning.apply (unwrap_or (m d.member) meaning.opening) d.message.sender payload) (unwrap_or (m q) meaning.opening))
     → KnowsStates meaning m e t → KnowsStates meaning n e (t ++ Delivered d ∷ [])
-message-heard meaning applies m k n e t d payload from short lent same updates r =
+message-heard meaning applies m n e t d payload from short lent updates r =
     message-known meaning applies m n e t d from short
-    (changed-after (λ q. unwrap_or (m q) meaning.opening) (λ q. unwrap_or (k q) meaning.opening) (λ q. unwrap_or (n q) meaning.opening) d.member (λ s. meaning.apply s d.message.sender d.message.payload) same
-    (λ q. updates q ∙ ap (λ x. cond (same_address d.member q) (meaning.apply (unwrap_or (k d.member) meaning.opening) d.message.sender x) (unwrap_or (k q) meaning.opening)) lent))
+    (λ q. updates q ∙ ap (λ x. cond (same_address d.member q) (meaning.apply (unwrap_or (m d.member) meaning.opening) d.message.sender x) (unwrap_or (m q) meaning.opening)) lent)
     r

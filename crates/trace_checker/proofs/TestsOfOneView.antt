@@ -24,7 +24,7 @@ use Rattle.trace_props.specs.Following.{MayRise, MayCarry, MayOrder}
 use Rattle.trace_props.specs.Agreeing.{is_view}
 use Rattle.trace_checker.specs.Known.{standing_of}
 use Rattle.trace_checker.specs.Judged.{runs, stands, same_previous, is_below, has_members, rises, is_numbered, is_message}
-use Rattle.trace_props.proofs.FactOfObserved.{same_address-true, same_address-from, same_view_id-true, same_view_id-from}
+use Rattle.address.proofs.SameIds.{same_address-true, same_address-from, same_view_id-true, same_view_id-from}
 use Rattle.trace_props.proofs.RuleOfSameNext.{is_view-from, is_view-true}
 
 -- TESTS

@@ -1,10 +1,9 @@
 -- What a checker keeps of the past: tables by member, view or both, and what each says of the trace so far.
-use Rattle.std.specs.Prelude.{◌≡◌, ℕ, Bool, true, false, ◌&&◌, Option, None, Some, List, [], map, Vec, length, unwrap_or}
+use Rattle.std.specs.Prelude.{◌≡◌, ℕ, Bool, true, false, ◌&&◌, Option, None, Some, List, [], map, length, unwrap_or}
 use Rattle.std.specs.Option.{option_copied}
 use Rattle.std.specs.Borrow.{Bor}
-use Rattle.std.specs.declared.cmp.Ordering.{Ordering}
-use Rattle.std.specs.Ordering.{ordering_then}
-use Rattle.address.specs.Ids.{Address, ViewId, address_cmp, view_id_cmp, same_address, same_view_id}
+use Rattle.std.specs.BTreeMap.{get}
+use Rattle.address.specs.Ids.{Address, ViewId, address_cmp, same_address, same_view_id}
 use Rattle.trace_props.specs.declared.event.Event.{Event}
 use Rattle.trace_props.specs.declared.event.Event.TheVariants.{Started, Sent, Delivered, Blocked, Installed, Left, Crashed}
 use Rattle.trace_props.specs.declared.event.Numbered.{Numbered}
@@ -13,37 +12,35 @@ use Rattle.trace_props.specs.declared.event.Install.{Install}
 use Rattle.trace_props.specs.declared.event.Sending.{Sending}
 use Rattle.trace_props.specs.declared.event.Delivery.{Delivery}
 use Rattle.trace_checker.specs.declared.known.keys.MemberInView.{MemberInView}
-use Rattle.trace_checker.specs.declared.known.keys.Pair.{Pair}
+use Rattle.trace_checker.specs.declared.known.in_views.InView.{InView}
 use Rattle.trace_checker.specs.declared.known.keys.ViewChange.{ViewChange}
 use Rattle.trace_checker.specs.declared.known.standing.Standing.{Standing}
 use Rattle.trace_props.specs.Observed.{has_started, has_ended, is_blocked, current_view, delivered_in, sent_in, own, entry_of, first_install}
 use Rattle.trace_props.specs.Agreeing.{first_from}
 
--- the order of members in views
-abbrev pub in_view_cmp : MemberInView → MemberInView → Ordering
-in_view_cmp a b = ordering_then (view_id_cmp a.view b.view) (address_cmp a.member b.member)
-
+-- the same member in the same view
 abbrev pub same_in_view : MemberInView → MemberInView → Bool
 same_in_view a b = same_view_id a.view b.view && same_address a.member b.member
-
--- the order of pairs
-abbrev pub pair_cmp : Pair → Pair → Ordering
-pair_cmp a b = ordering_then (in_view_cmp a.in_view b.in_view) (address_cmp a.sender b.sender)
-
-abbrev pub same_pair : Pair → Pair → Bool
-same_pair a b = same_in_view a.in_view b.in_view && same_address a.sender b.sender
-
--- the order of changes of view
-abbrev pub view_change_cmp : ViewChange → ViewChange → Ordering
-view_change_cmp a b = ordering_then (view_id_cmp a.from b.from) (view_id_cmp a.to b.to)
 
 abbrev pub same_view_change : ViewChange → ViewChange → Bool
 same_view_change a b = same_view_id a.from b.from && same_view_id a.to b.to
 
--- the list kept for a member in a view, empty where none is
-abbrev pub listed : {T Z : Type 0} → Option (Vec (Bor T) Z) → List T
-listed None = []
-listed (Some l) = map (λ b. b.now) l.items
+-- WHAT IS KEPT OF A MEMBER IN A VIEW
+
+-- what it sent, nothing where nothing is kept of it
+abbrev pub sent_kept : Option InView → List Numbered
+sent_kept None = []
+sent_kept (Some k) = map (λ b. b.now) k.sent.items
+
+-- what it delivered
+abbrev pub delivered_kept : Option InView → List Message
+delivered_kept None = []
+delivered_kept (Some k) = map (λ b. b.now) k.delivered.items
+
+-- the number of the last message of a sender that it delivered, 0 before the first
+abbrev pub last_kept : Option InView → Address → ℕ
+last_kept None q = 0
+last_kept (Some k) q = unwrap_or (get address_cmp k.lasts q) 0
 
 -- HOW MEMBERS STAND
 
@@ -69,20 +66,30 @@ standing_after s (Installed i) = record { started = s.started; ended = s.ended; 
 standing_after s (Left p) = record { started = s.started; ended = true; blocked = s.blocked; view = s.view }
 standing_after s (Crashed p) = record { started = s.started; ended = true; blocked = s.blocked; view = s.view }
 
+-- whether an event leaves its member standing as it did
+abbrev pub leaves_standing : Event → Bool
+leaves_standing (Started p) = false
+leaves_standing (Sent m) = true
+leaves_standing (Delivered d) = true
+leaves_standing (Blocked p) = false
+leaves_standing (Installed i) = false
+leaves_standing (Left p) = false
+leaves_standing (Crashed p) = false
+
 abbrev pub KnowsStandings : (Address → Option Standing) → List Event → Type 0
 KnowsStandings m t = (p : Address) → stood (m p) ≡ standing_of p t
 
--- LISTS
+-- MESSAGES
 
-abbrev pub KnowsSent : {Z : Type 0} → (MemberInView → Option (Vec (Bor Numbered) Z)) → List Event → Type 0
-KnowsSent m t = (s : MemberInView) → listed (m s) ≡ sent_in s.member s.view t
+abbrev pub KnowsSent : (MemberInView → Option InView) → List Event → Type 0
+KnowsSent m t = (s : MemberInView) → sent_kept (m s) ≡ sent_in s.member s.view t
 
-abbrev pub KnowsDelivered : {Z : Type 0} → (MemberInView → Option (Vec (Bor Message) Z)) → List Event → Type 0
-KnowsDelivered m t = (s : MemberInView) → listed (m s) ≡ delivered_in s.member s.view t
+abbrev pub KnowsDelivered : (MemberInView → Option InView) → List Event → Type 0
+KnowsDelivered m t = (s : MemberInView) → delivered_kept (m s) ≡ delivered_in s.member s.view t
 
 -- the number of a sender's last message that a member delivered in a view, 0 before the first, is how many these are
-abbrev pub KnowsLast : (Pair → Option ℕ) → List Event → Type 0
-KnowsLast m t = (s : Pair) → unwrap_or (m s) 0 ≡ length (own s.sender (delivered_in s.in_view.member s.in_view.view t))
+abbrev pub KnowsLast : (MemberInView → Option InView) → List Event → Type 0
+KnowsLast m t = (s : MemberInView) (q : Address) → last_kept (m s) q ≡ length (own q (delivered_in s.member s.view t))
 
 -- REGISTERS
 
@@ -118,12 +125,12 @@ delivery_of (Crashed p) = None
 -- ALL OF IT
 
 -- all that is kept says what the trace says
-pub record KnowsPast {Y Z : Type 0} (standings : Address → Option Standing) (sent : MemberInView → Option (Vec (Bor Numbered) Y)) (delivered : MemberInView → Option (Vec (Bor Message) Z)) (last : Pair → Option ℕ)
+pub record KnowsPast (standings : Address → Option Standing) (in_views : MemberInView → Option InView)
     (entries : MemberInView → Option (Bor Install)) (firsts : ViewId → Option (Bor Install)) (view_changes : ViewChange → Option (Bor Install)) (t : List Event) : Type 0 where
   pub standings_known : KnowsStandings standings t
-  pub sent_known : KnowsSent sent t
-  pub delivered_known : KnowsDelivered delivered t
-  pub last_known : KnowsLast last t
+  pub sent_known : KnowsSent in_views t
+  pub delivered_known : KnowsDelivered in_views t
+  pub last_known : KnowsLast in_views t
   pub entries_known : KnowsEntries entries t
   pub firsts_known : KnowsFirsts firsts t
   pub view_changes_known : KnowsViewChanges view_changes t

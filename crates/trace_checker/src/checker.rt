@@ -1,6 +1,6 @@
 ghost use Rattle.std.specs.Prelude.{◌≡◌, ◌↔◌, ◌++◌, ◌∷◌, [], None, IfOk, MatchOption};
-ghost use Rattle.std.specs.BTreeMap.{get};
-ghost use Rattle.address.specs.Ids.{address_cmp, view_id_cmp};
+ghost use Rattle.std.specs.HashMap.{get};
+ghost use Rattle.address.specs.Ids.{same_address, same_view_id};
 ghost use Rattle.trace_props.specs.declared.verdict.Verdict.TheVariants.{Holds};
 ghost use Rattle.trace_props.specs.Recorded.{IsShort, IsRecordable};
 ghost use Rattle.trace_props.specs.Synchrony.{IsVirtuallySynchronous};
@@ -21,11 +21,11 @@ fn judge<'a, R: Receiver>(
     event: &'a Event,
 ) -> Result<Option<Rule>, AllocError>
     requires short { IsShort event.now }
-    requires known { KnowsStates R.meaning (get address_cmp states.old.states) (get view_id_cmp states.old.entering) past.old }
+    requires known { KnowsStates R.meaning (get same_address states.old.states) (get same_view_id states.old.entering) past.old }
     ensures past { IfOk result (λ broken. broken ≡ None → past.new ≡ past.old ++ event.now ∷ []) }
     ensures judged { IfOk result (λ broken. MatchOption broken
         (GoesOn R.meaning past.old event.now
-        × KnowsStates R.meaning (get address_cmp states.new.states) (get view_id_cmp states.new.entering) (past.old ++ event.now ∷ []))
+        × KnowsStates R.meaning (get same_address states.new.states) (get same_view_id states.new.entering) (past.old ++ event.now ∷ []))
         (λ rule. BreaksNext R.meaning rule past.old event.now)) }
 {
     match broken_rule(past, event) {
@@ -50,7 +50,7 @@ fn check_all<'a, R: Receiver>(
 ) -> Result<Verdict, AllocError>
     requires short { IsRecordable events.now }
     requires none { past.old ≡ [] }
-    requires known { KnowsStates R.meaning (get address_cmp states.old.states) (get view_id_cmp states.old.entering) [] }
+    requires known { KnowsStates R.meaning (get same_address states.old.states) (get same_view_id states.old.entering) [] }
     ensures { IfOk result (λ v. IsVerdict R.meaning events.now v) }
 {
     for (index, event) in events.iter().enumerate() {
@@ -66,7 +66,7 @@ fn check_all<'a, R: Receiver>(
 }
 
 /// Whether a trace is virtually synchronous for the receiver, or else which rule breaks first and where.
-/// Reads the trace once; what an event costs grows by no more than the look-up in a map.
+/// Reads the trace once; an event costs some look-ups by hash, whose time does not grow with the trace unless its addresses and views were chosen to collide.
 pub fn check<R: Receiver>(alloc: Global, trace: &Trace) -> Result<Verdict, AllocError>
     ensures verdict { IfOk result (λ v. IsVerdict R.meaning trace.now.events v) }
     ensures exact { IfOk result (λ v. (v ≡ Holds) ↔ IsVirtuallySynchronous R.meaning trace.now.events) }

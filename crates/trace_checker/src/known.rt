@@ -1,6 +1,6 @@
 //! What a checker keeps of the events so far.
+mod in_views;
 mod keys;
-mod lists;
 mod notes;
 mod past;
 mod standing;

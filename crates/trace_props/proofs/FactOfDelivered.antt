@@ -14,7 +14,8 @@ use Rattle.trace_props.specs.declared.event.Install.{Install}
 use Rattle.trace_props.specs.declared.event.Delivery.{Delivery}
 use Rattle.trace_props.specs.declared.event.Sending.{Sending}
 use Rattle.trace_props.specs.Observed.{member_of, delivered_message, delivered_in, said, sent_in, numbered, own_by, own, install_of, installs_in}
-use Rattle.trace_props.proofs.FactOfObserved.{same_address-true, same_address-refl, same_view_id-true, same_view_id-refl, filter_map-still, filter_map-more}
+use Rattle.address.proofs.SameIds.{same_address-true, same_address-refl, same_view_id-true, same_view_id-refl}
+use Rattle.trace_props.proofs.FactOfObserved.{filter_map-still, filter_map-more}
 
 -- WHAT A MEMBER DELIVERED
 

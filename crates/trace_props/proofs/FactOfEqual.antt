@@ -1,14 +1,10 @@
 -- Comparisons that say equal, by the tests of the definitions.
-use Rattle.std.proofs.Common.{◌≡◌, ℕ, ◌&&◌, nat_eq, nat_cmp, is_eq, refl, ap₂, ◌∙◌, arith}
+use Rattle.std.proofs.Common.{◌≡◌, ◌&&◌, nat_cmp, is_eq, refl, ap₂, ◌∙◌}
 use Rattle.std.specs.Ordering.{ordering_then}
 use Rattle.std.specs.declared.cmp.Ordering.{Ordering}
 use Rattle.std.specs.declared.cmp.Ordering.TheVariants.{Less, Equal, Greater}
-use Rattle.std.proofs.lemmas.Bool.Decides.{nat_tests}
 use Rattle.address.specs.Ids.{Address, ViewId, address_cmp, view_id_cmp, same_address, same_view_id}
-
--- two numbers compare equal exactly if they are
-is_eq-nat : (a b : ℕ) → is_eq (nat_cmp a b) ≡ nat_eq a b
-is_eq-nat a b = grind (arith, nat_tests)
+use Rattle.address.proofs.SameIds.{is_eq-nat}
 
 -- two comparisons one after the other are equal exactly if both are
 pub is_eq-then : (a b : Ordering) → is_eq (ordering_then a b) ≡ (is_eq a && is_eq b)

@@ -16,9 +16,9 @@ use Rattle.trace_props.specs.Rules.{MayStand, IsWellPlaced, RisesAt, HasRisingVi
 use Rattle.trace_props.specs.Synchrony.{IsWellOrdered}
 use Rattle.trace_props.specs.Following.{MayRise, MayCarry, MayOrder, MayFollow}
 use Rattle.trace_props.proofs.FactOfPlaces.{EachEvent-last, EachPlace-before, EachPlace-whole, IsBeginningOf-last, slice_get-last}
-use Rattle.trace_props.proofs.FactOfObserved.{same_view_id-true}
+use Rattle.address.proofs.SameIds.{same_view_id-true}
 use Rattle.trace_props.proofs.FactOfDelivered.{is_delivery_to-at, delivered_in-hit, delivered_in-miss, said_by-at, sent_in-still, sent_in-hit, own-hit, is_of, register-stands}
-use Rattle.trace_props.proofs.FactOfObserved.{same_address-refl}
+use Rattle.address.proofs.SameIds.{same_address-refl}
 use Rattle.trace_props.proofs.FactOfInstalls.{EachTwoInstalls-right}
 use Rattle.trace_props.proofs.KeepFourRules.{SameMembers, well_ordered-push}
 

@@ -13,7 +13,8 @@ use Rattle.trace_props.specs.declared.event.Install.{Install}
 use Rattle.trace_props.specs.Observed.{current_view, view_after, install_of, entry_of}
 use Rattle.trace_props.specs.Rules.{IsBelow, RisesAt, EntersAbove, HasRisingViews}
 use Rattle.trace_props.proofs.FactOfPlaces.{slice_get-before, slice_get-last, slice_get-take, EachEvent-before, EachEvent-last}
-use Rattle.trace_props.proofs.FactOfObserved.{same_address-true, same_address-refl, same_view_id-true, same_view_id-refl, current_view-push, current_view-now, current_view-other}
+use Rattle.address.proofs.SameIds.{same_address-true, same_address-refl, same_view_id-true, same_view_id-refl}
+use Rattle.trace_props.proofs.FactOfObserved.{current_view-push, current_view-now, current_view-other}
 use Rattle.trace_props.proofs.FactOfDelivered.{enters, StandsIn, register-stands, register-stays, register-push}
 use Rattle.trace_props.proofs.FactOfInstalls.{EachInstall, EachInstall-still, EachInstall-push, EachTwoInstalls-before}
 use Rattle.trace_props.proofs.KeepFourRules.{SameMembers}

@@ -17,7 +17,7 @@ use Rattle.trace_props.specs.Rules.{MayStand, RisesAt, EachTwoInstalls, HasRisin
 use Rattle.trace_props.specs.Synchrony.{IsWellOrdered}
 use Rattle.trace_props.specs.Following.{MayRise, MayCarry, MayOrder, MayFollow}
 use Rattle.trace_props.proofs.FactOfPlaces.{slice_get-push, EachEvent-nil, EachEvent-push, EachPlace-nil, EachPlace-push, EachPlace-whole, IsBeginningOf-same, IsBeginningOf-grow, IsBeginningOf-next, IsBeginningOf-at}
-use Rattle.trace_props.proofs.FactOfObserved.{same_address-true, same_view_id-true, same_view_id-from}
+use Rattle.address.proofs.SameIds.{same_address-true, same_view_id-true, same_view_id-from}
 use Rattle.trace_props.proofs.FactOfDelivered.{is_delivery_to, is_delivery_to-true, is_delivery_to-at, delivered_in-still, delivered_in-hit, delivered_in-miss, said_by, said_by-true, sent_in-still, sent_in-hit, sent_in-miss, own-hit, own-miss, own-at, is_of, register-stands, register-written}
 use Rattle.trace_props.proofs.FactOfInstalls.{EachInstall, EachTwoInstalls-still, EachTwoInstalls-push}
 
@@ -89,7 +89,7 @@ numbers-push t (Left q) r m p v = numbers-still t (Left q) p v r refl
 numbers-push t (Crashed q) r m p v = numbers-still t (Crashed q) p v r refl
 
 -- what stands at a place is contained
-Contains-at : {X : Type 0} (xs : List X) (k : ℕ) (x : X) → slice_get xs k ≡ Some x → Contains xs x
+pub Contains-at : {X : Type 0} (xs : List X) (k : ℕ) (x : X) → slice_get xs k ≡ Some x → Contains xs x
 Contains-at xs k x e = (k, slice_get_within xs k x e, get_or_from_slice_get xs k x x e)
 
 -- what may follow was sent

@@ -10,7 +10,7 @@ use Rattle.trace_props.specs.declared.event.Delivery.{Delivery}
 use Rattle.trace_props.specs.Observed.{delivered_in, current_view, install_of}
 use Rattle.trace_props.specs.Rules.{MayStand, HasRisingViews, HasOneOrder, HasSameNext}
 use Rattle.trace_props.specs.Agreeing.{is_view, goes, MayMeet}
-use Rattle.trace_props.proofs.FactOfObserved.{same_view_id-true, same_view_id-from}
+use Rattle.address.proofs.SameIds.{same_view_id-true, same_view_id-from}
 use Rattle.trace_props.proofs.FactOfDelivered.{is_delivery_to, is_delivery_to-true, delivered_in-still, delivered_in-miss, register-stands, register-written}
 use Rattle.trace_props.proofs.FactOfInstalls.{EachInstall, EachTwoInstalls-still, EachTwoInstalls-push, EachTwoInstalls-right}
 use Rattle.trace_props.proofs.FactOfRisingViews.{gone}

@@ -10,7 +10,7 @@ use Rattle.trace_props.specs.Observed.{install_of, entry_of}
 use Rattle.trace_props.specs.Rules.{EntersAbove, RisesAt, HasRisingViews, LiesWithin, KnowsTogether}
 use Rattle.trace_props.specs.Agreeing.{KnowEachOther, KnowsAll, MayKnow}
 use Rattle.trace_props.proofs.FactOfPlaces.{EachEvent-last, slice_get-last}
-use Rattle.trace_props.proofs.FactOfObserved.{same_view_id-true, same_view_id-from}
+use Rattle.address.proofs.SameIds.{same_view_id-true, same_view_id-from}
 use Rattle.trace_props.proofs.FactOfDelivered.{enters, is_of, register-stands, register-written}
 use Rattle.trace_props.proofs.FactOfInstalls.{EachInstall, EachInstall-still, EachInstall-push, EachTwoInstalls-still, EachTwoInstalls-push, EachTwoInstalls-left, EachTwoInstalls-right, EachTwoInstalls-last}
 use Rattle.trace_props.proofs.KeepFourRules.{SameMembers}

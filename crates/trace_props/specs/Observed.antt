@@ -1,5 +1,5 @@
 -- What a trace says of a member: whether it runs, its current view, whether it is blocked, what it sent and delivered.
-use Rattle.std.specs.Prelude.{Bool, true, false, ◌&&◌, Option, None, Some, List, fold, IsTrue, if◌then◌else◌}
+use Rattle.std.specs.Prelude.{Bool, true, false, ◌&&◌, Option, None, Some, List, fold, if◌then◌else◌}
 use Rattle.std.specs.List.{list_any, filter_map, find}
 use Rattle.address.specs.Ids.{Address, ViewId, same_address, same_view_id}
 use Rattle.trace_props.specs.declared.event.Event.{Event}
@@ -43,9 +43,6 @@ has_started p t = list_any (λ h. same_address (member_of h) p && is_start h) t
 abbrev pub has_ended : Address → List Event → Bool
 has_ended p t = list_any (λ h. same_address (member_of h) p && is_end h) t
 
-abbrev pub HasEnded : Address → List Event → Type 0
-HasEnded p t = IsTrue (has_ended p t)
-
 abbrev pub view_after : Address → Option ViewId → Event → Option ViewId
 view_after p v (Started q) = v
 view_after p v (Sent s) = v
@@ -71,9 +68,6 @@ block_after p b (Crashed q) = b
 -- whether the member was blocked after its last install
 abbrev pub is_blocked : Address → List Event → Bool
 is_blocked p t = fold (block_after p) false t
-
-abbrev pub IsBlocked : Address → List Event → Type 0
-IsBlocked p t = IsTrue (is_blocked p t)
 
 abbrev pub delivered_message : Address → ViewId → Event → Option Message
 delivered_message p v (Started q) = None

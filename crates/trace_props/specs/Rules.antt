@@ -58,6 +58,7 @@ RisesAt past (Crashed p) = Unit {0}
 abbrev pub EachTwoInstalls : (Install → Install → Type 0) → List Event → Type 0
 EachTwoInstalls P t = (j k : ℕ) (e f : Install) → slice_get t j ≡ Some (Installed e) → slice_get t k ≡ Some (Installed f) → P e f
 
+-- whoever installs a view is in it; the ids that a member installs rise; who installs the same id installs the same members
 pub record HasRisingViews (t : List Event) : Type 0 where
   pub rises : EachEvent RisesAt t
   -- who installs the same view id installs the same members
@@ -83,6 +84,7 @@ IsNumbered messages = (k : ℕ) (m : Numbered) → slice_get messages k ≡ Some
 abbrev pub IsOnce : List Message → Type 0
 IsOnce messages = (j k : ℕ) (a b : Message) → slice_get messages j ≡ Some a → slice_get messages k ≡ Some b → a.sender ≡ b.sender → a.number ≡ b.number → j ≡ k
 
+-- sends are numbered without a gap; what is delivered was sent, is delivered once, and is a beginning of what its sender sent
 pub record HasSoundMessages (t : List Event) : Type 0 where
   pub numbers : (p : Address) (v : ViewId) → IsNumbered (sent_in p v t)
   pub sent : EachEvent WasSent t
@@ -109,6 +111,7 @@ HasSameNext t = EachTwoInstalls
 abbrev pub LiesWithin : List Address → List Address → Type 0
 LiesWithin ps qs = (q : Address) → stands_in q ps ≡ true → stands_in q qs ≡ true
 
+-- whom a member is told to come with it: exactly those of the view's installers that come from the same view
 pub record KnowsTogether (t : List Event) : Type 0 where
   -- the set lies within the view's members
   pub within_view : (k : ℕ) (e : Install) → slice_get t k ≡ Some (Installed e) → LiesWithin e.together e.view.members

@@ -1,13 +1,14 @@
 -- Whether addresses are distinct, by the set of those that were seen.
 use Rattle.std.proofs.Common.{◌≡◌, ℕ, ◌+◌, ◌<◌, Bool, true, false, ◌||◌, List, [], ◌∷◌, ◌++◌, length, take, drop, not, cond, is_eq, get_or, refl, sym, ◌∙◌, ap, suc, add-one, drop-cons}
-use Rattle.std.proofs.lemmas.Bool.{and_from, or_parts, or_cases, or_from, or_left, or_right, and_left, and_right, and_parts, not-true, not-false}
+use Rattle.std.proofs.lemmas.Bool.{or_cases, or_left, or_right, and_left, and_right, not-true, not-false}
 use Rattle.std.proofs.lemmas.List.{take_more, take-append-drop}
 use Rattle.std.proofs.lemmas.List.Folds.{list_any-append}
 use Rattle.std.proofs.Common.{⊎_elim}
 use Rattle.address.specs.Ids.{Address, address_cmp, same_address}
 use Rattle.view.specs.Members.{stands_in, is_distinct}
-use Rattle.trace_props.proofs.FactOfObserved.{same_address-sym}
+use Rattle.address.proofs.SameIds.{same_address-sym}
 use Rattle.trace_props.proofs.FactOfEqual.{is_eq-address}
+use Rattle.view.proofs.FactOfMembers.{distinct-push}
 
 -- the addresses of a set are those of a list
 abbrev pub Sees : (Address → Bool) → List Address → Type 0
@@ -24,16 +25,6 @@ comes_again p (x ∷ xs) ys h =
     and_left (not (stands_in x (xs ++ p ∷ ys))) (is_distinct (xs ++ p ∷ ys)) (ap not again))
     (λ (later : stands_in p xs ≡ true). and_right (not (stands_in x (xs ++ p ∷ ys))) (is_distinct (xs ++ p ∷ ys)) (comes_again p xs ys later))
     (or_cases (same_address p x) (stands_in p xs) h)
-
--- an address that did not come yet keeps a list distinct
-comes_once : (p : Address) (xs : List Address) → is_distinct xs ≡ true → stands_in p xs ≡ false → is_distinct (xs ++ p ∷ []) ≡ true
-comes_once p [] d h = refl
-comes_once p (x ∷ xs) d h =
-    let old : (not (stands_in x xs) ≡ true) × (is_distinct xs ≡ true) = and_parts _ _ d in
-    let new : (same_address p x ≡ false) × (stands_in p xs ≡ false) = or_parts _ _ h in
-    let none : stands_in x (xs ++ p ∷ []) ≡ false =
-    list_any-append (same_address x) xs (p ∷ []) ∙ or_from (stands_in x xs) _ (not-true _ old.0) (or_from (same_address x p) false (same_address-sym x p ∙ new.0) refl) in
-    and_from (not (stands_in x (xs ++ p ∷ []))) (is_distinct (xs ++ p ∷ [])) (ap not none) (comes_once p xs old.1 new.1)
 
 sees_one_more : (has has' : Address → Bool) (past : List Address) (p : Address) → Sees has past → ((q : Address) → has' q ≡ cond (is_eq (address_cmp p q)) true (has q)) → Sees has' (past ++ p ∷ [])
 sees_one_more has has' past p s u q =
@@ -60,7 +51,7 @@ pub one_more_seen : (has has' : Address → Bool) (xs : List Address) (i : ℕ) 
 one_more_seen has has' xs i p added inside at s a fresh u =
     let new : stands_in p (take i xs) ≡ false = sym (s.sees p) ∙ not-true (has p) (sym a ∙ fresh) in
     let more : take (i + 1) xs ≡ take i xs ++ p ∷ [] = take_more xs i p inside ∙ ap (λ x. take i xs ++ x ∷ []) (sym at) in
-    rw more (record { sees = sees_one_more has has' (take i xs) p s.sees u; once = comes_once p (take i xs) s.once new })
+    rw more (record { sees = sees_one_more has has' (take i xs) p s.sees u; once = distinct-push p (take i xs) s.once new })
 
 -- an address is seen again
 pub seen_again : (has : Address → Bool) (xs : List Address) (i : ℕ) (p : Address) (added : Bool) → i < length xs → p ≡ get_or xs i p → SeenOnce has (take i xs)

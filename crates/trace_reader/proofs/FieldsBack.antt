@@ -8,7 +8,7 @@ use Rattle.std.specs.Option.{ForSome}
 use Rattle.std.specs.Str.{bytes_eq}
 use Rattle.std.specs.Fmt.{decimal}
 use Rattle.address.specs.Ids.{Address, ViewId, IsAddress, text_of_address, text_of_view_id}
-use Rattle.limits.specs.declared.TheConstants.{GREATEST_NUMBER, PAYLOAD}
+use Rattle.limits.specs.declared.TheConstants.{GREATEST_NUMBER, PAYLOAD, GREATEST_INCARNATION, GREATEST_NODE}
 use Rattle.view.specs.Members.{View, is_distinct}
 use Rattle.view.specs.View.{view_refusal}
 use Rattle.trace_props.specs.declared.event.Numbered.{Numbered}
@@ -84,8 +84,8 @@ address_back a h =
       address_parts a,
       before_cut 46 (decimal a.node) (46 ∷ decimal a.incarnation) w refl,
       behind_cut 46 (decimal a.node) (46 ∷ decimal a.incarnation) w refl,
-      number_back 1 65535 a.node (omega arith) h.node (omega (arith, h.node_fits)) (omega (arith, h.node_fits)),
-      number_back 1 4294967295 a.incarnation (omega arith) h.incarnation (omega (arith, h.incarnation_fits)) (omega (arith, h.incarnation_fits)),
+      number_back 1 GREATEST_NODE a.node (omega arith) h.node (omega (arith, h.node_fits)) (omega (arith, h.node_fits)),
+      number_back 1 GREATEST_INCARNATION a.incarnation (omega arith) h.incarnation (omega (arith, h.incarnation_fits)) (omega (arith, h.incarnation_fits)),
     ) refl
 
 pub address_spells : (a : Address) → IsAddress a → Spells address_of_text (text_of_address a) a

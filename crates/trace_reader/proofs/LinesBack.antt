@@ -9,15 +9,16 @@ use Rattle.trace_props.specs.declared.event.Sending.{Sending}
 use Rattle.trace_props.specs.declared.event.Delivery.{Delivery}
 use Rattle.trace_props.specs.declared.event.Install.{Install}
 use Rattle.script_reader.specs.Lines.{field_of, behind_field, behind}
-use Rattle.script_reader.specs.Script.{is_skipped}
+use Rattle.script_reader.specs.Texts.{is_skipped, reading_by}
 use Rattle.script_reader.specs.AddressText.{address_of_text}
 use Rattle.vsync_text.specs.TraceText.{text_of_payload, text_of_previous, text_of_addresses, text_of_handed_back, text_of_given, event_word, fields_of, field, sending_fields, delivery_fields, install_view, install_rest}
 use Rattle.trace_reader.specs.declared.line.Word.{Word}
 use Rattle.trace_reader.specs.declared.line.Word.TheVariants.{Started, Sent, Delivered, Blocked, Installed, Left, Crashed}
 use Rattle.limits.specs.declared.TheConstants.{TRACE_LINE}
 use Rattle.trace_reader.specs.Spelling.{number_of_text, view_id_of_text, previous_of_text, payload_of_text, view_of_text, together_of_text, handed_back_of_text, given_of_text}
-use Rattle.trace_reader.specs.Fields.{field_at, spelled_at, end_at, sending_at, delivery_at, view_at, install_at, last}
-use Rattle.trace_reader.specs.Traces.{word_of, event_of, event_in_line, reading_of}
+use Rattle.script_reader.specs.Fields.{field_at, spelled_at, end_at, last}
+use Rattle.trace_reader.specs.Fields.{sending_at, delivery_at, view_at, install_at}
+use Rattle.trace_reader.specs.Traces.{word_of, event_of, event_in_line}
 use Rattle.trace_reader.specs.Spellable.{IsSendable, IsSpellableDelivery, IsInstallable, IsInFormat, IsSpellable}
 use Rattle.trace_reader.proofs.FactOfCutTexts.{Without, is_cut, without_below, before_cut, behind_cut}
 use Rattle.trace_reader.proofs.FieldsBack.{Spells, number_spells, address_spells, view_id_spells, previous_spells, payload_spells, given_spells, view_spells, together_spells, handed_back_spells}
@@ -157,8 +158,8 @@ is_read (event.Left p) = refl
 is_read (event.Crashed p) = refl
 
 -- the line of an event is read back
-pub body_back : (h : Event) → IsSpellable h → reading_of (body_of h) ≡ Ok (Some h)
-unfolding reading_of event_in_line
+pub body_back : (h : Event) → IsSpellable h → reading_by event_in_line (body_of h) ≡ Ok (Some h)
+unfolding event_in_line
 body_back h s =
     let short : nat_lt TRACE_LINE (length (body_of h)) ≡ false = le-ltb TRACE_LINE (length (body_of h)) (omega (arith, s.line, length-append (body_of h) (10 ∷ []))) in
     rw (is_read h, short, word_is h, fields_are h, event_back h s.fields) refl

@@ -5,36 +5,19 @@ ghost use Rattle.std.specs.Option.{option_copied};
 ghost use Rattle.limits.specs.declared.TheConstants.{PAYLOAD};
 ghost use Rattle.script_reader.specs.AddressText.{address_of_text};
 ghost use Rattle.trace_reader.specs.Spelling.{number_of_text, view_id_of_text, previous_of_text, payload_of_text, view_of_text, together_of_text, handed_back_of_text, given_of_text, AreShort};
-ghost use Rattle.trace_reader.specs.Fields.{Gives, field_at, spelled_at, end_at};
+ghost use Rattle.script_reader.specs.Fields.{field_at, spelled_at, end_at};
+ghost use Rattle.script_reader.specs.Texts.{IsReadUnlessRefused};
 
 use crate::spelling::{
     given_in, handed_back_in, message_number_in, payload_in, previous_in, together_in, view_id_in,
     view_in,
 };
 use address::{Address, ViewId};
-use script_reader::{Fault, address_in, first_field};
-use std::alloc::{AllocError, Global};
+use script_reader::{Fault, Unheard, address_in, first_field};
+use std::alloc::Global;
 use std::marker::Model;
 use trace_props::{Bytes, HandedBack};
 use view::{Addresses, View};
-
-/// Why a line was not heard.
-#[derive(Debug, Drop)]
-pub(crate) enum Unheard {
-    Fault(Fault),
-    Memory,
-}
-
-impl From<AllocError> for Unheard {
-    ghost use Rattle.std.specs.Prelude.{◌≡◌};
-    ghost use Rattle.trace_reader.specs.declared.fields.Unheard.TheVariants.{Memory};
-
-    ghost from_gives = { λ _ e. e ≡ Memory };
-
-    fn from(_error: AllocError) -> Unheard {
-        Unheard::Memory
-    }
-}
 
 /// What is left of a line. Each call reads the next field, or answers why it cannot.
 #[derive(Debug, Drop)]
@@ -58,9 +41,9 @@ impl<'a> Fields<'a> {
         Fields { rest }
     }
 
-    #[tactic(auto, unfolding(crate::specs::Fields::field_at))]
+    #[tactic(auto, unfolding(script_reader::specs::Fields::field_at))]
     fn field(&mut self) -> Result<&'a [u8], Unheard>
-        ensures { Gives (λ x. (x.now, self.new)) result (field_at self.old) }
+        ensures { IsReadUnlessRefused (λ x. (x.now, self.new)) result (field_at self.old) }
     {
         let Some(text) = self.rest else {
             return Err(Unheard::Fault(Fault::MissingField));
@@ -70,9 +53,9 @@ impl<'a> Fields<'a> {
         Ok(field)
     }
 
-    #[tactic(auto, unfolding(crate::specs::Fields::end_at))]
+    #[tactic(auto, unfolding(script_reader::specs::Fields::end_at))]
     pub(crate) fn end(&self) -> Result<(), Unheard>
-        ensures { Gives (λ x. x) result (end_at self.now) }
+        ensures { IsReadUnlessRefused (λ x. x) result (end_at self.now) }
     {
         match self.rest {
             None => Ok(()),
@@ -80,9 +63,9 @@ impl<'a> Fields<'a> {
         }
     }
 
-    #[tactic(auto, unfolding(crate::specs::Fields::spelled_at))]
+    #[tactic(auto, unfolding(script_reader::specs::Fields::spelled_at))]
     pub(crate) fn address(&mut self) -> Result<Address, Unheard>
-        ensures { Gives (λ x. (x, self.new)) result (spelled_at address_of_text self.old) }
+        ensures { IsReadUnlessRefused (λ x. (x, self.new)) result (spelled_at address_of_text self.old) }
     {
         let field = self.field()?;
         match address_in(field) {
@@ -91,9 +74,9 @@ impl<'a> Fields<'a> {
         }
     }
 
-    #[tactic(auto, unfolding(crate::specs::Fields::spelled_at))]
+    #[tactic(auto, unfolding(script_reader::specs::Fields::spelled_at))]
     pub(crate) fn view_id(&mut self) -> Result<ViewId, Unheard>
-        ensures { Gives (λ x. (x, self.new)) result (spelled_at view_id_of_text self.old) }
+        ensures { IsReadUnlessRefused (λ x. (x, self.new)) result (spelled_at view_id_of_text self.old) }
     {
         let field = self.field()?;
         match view_id_in(field) {
@@ -102,9 +85,9 @@ impl<'a> Fields<'a> {
         }
     }
 
-    #[tactic(auto, unfolding(crate::specs::Fields::spelled_at))]
+    #[tactic(auto, unfolding(script_reader::specs::Fields::spelled_at))]
     pub(crate) fn previous(&mut self) -> Result<Option<ViewId>, Unheard>
-        ensures { Gives (λ x. (x, self.new)) result (spelled_at previous_of_text self.old) }
+        ensures { IsReadUnlessRefused (λ x. (x, self.new)) result (spelled_at previous_of_text self.old) }
     {
         let field = self.field()?;
         match previous_in(field) {
@@ -113,9 +96,9 @@ impl<'a> Fields<'a> {
         }
     }
 
-    #[tactic(auto, unfolding(crate::specs::Fields::spelled_at))]
+    #[tactic(auto, unfolding(script_reader::specs::Fields::spelled_at))]
     pub(crate) fn number(&mut self) -> Result<u64, Unheard>
-        ensures { Gives (λ x. (x, self.new)) result (spelled_at number_of_text self.old) }
+        ensures { IsReadUnlessRefused (λ x. (x, self.new)) result (spelled_at number_of_text self.old) }
     {
         let field = self.field()?;
         match message_number_in(field) {
@@ -124,9 +107,9 @@ impl<'a> Fields<'a> {
         }
     }
 
-    #[tactic(auto, unfolding(crate::specs::Fields::spelled_at))]
+    #[tactic(auto, unfolding(script_reader::specs::Fields::spelled_at))]
     pub(crate) fn payload(&mut self, alloc: Global) -> Result<Bytes, Unheard>
-        ensures gives { Gives (λ x. (x, self.new)) result (spelled_at payload_of_text self.old) }
+        ensures gives { IsReadUnlessRefused (λ x. (x, self.new)) result (spelled_at payload_of_text self.old) }
         ensures short { IfOk result (λ x. length x ≤ PAYLOAD) }
     {
         let field = self.field()?;
@@ -136,9 +119,9 @@ impl<'a> Fields<'a> {
         }
     }
 
-    #[tactic(auto, unfolding(crate::specs::Fields::spelled_at))]
+    #[tactic(auto, unfolding(script_reader::specs::Fields::spelled_at))]
     pub(crate) fn view(&mut self, alloc: Global, id: ViewId) -> Result<View, Unheard>
-        ensures { Gives (λ x. (x, self.new)) result (spelled_at (view_of_text id) self.old) }
+        ensures { IsReadUnlessRefused (λ x. (x, self.new)) result (spelled_at (view_of_text id) self.old) }
     {
         let field = self.field()?;
         match view_in(alloc, id, field)? {
@@ -147,9 +130,9 @@ impl<'a> Fields<'a> {
         }
     }
 
-    #[tactic(auto, unfolding(crate::specs::Fields::spelled_at))]
+    #[tactic(auto, unfolding(script_reader::specs::Fields::spelled_at))]
     pub(crate) fn together(&mut self, alloc: Global) -> Result<Addresses, Unheard>
-        ensures { Gives (λ x. (x, self.new)) result (spelled_at together_of_text self.old) }
+        ensures { IsReadUnlessRefused (λ x. (x, self.new)) result (spelled_at together_of_text self.old) }
     {
         let field = self.field()?;
         match together_in(alloc, field)? {
@@ -158,9 +141,9 @@ impl<'a> Fields<'a> {
         }
     }
 
-    #[tactic(auto, unfolding(crate::specs::Fields::spelled_at))]
+    #[tactic(auto, unfolding(script_reader::specs::Fields::spelled_at))]
     pub(crate) fn handed_back(&mut self, alloc: Global) -> Result<HandedBack, Unheard>
-        ensures gives { Gives (λ x. (x, self.new)) result (spelled_at handed_back_of_text self.old) }
+        ensures gives { IsReadUnlessRefused (λ x. (x, self.new)) result (spelled_at handed_back_of_text self.old) }
         ensures short { IfOk result AreShort }
     {
         let field = self.field()?;
@@ -170,9 +153,9 @@ impl<'a> Fields<'a> {
         }
     }
 
-    #[tactic(auto, unfolding(crate::specs::Fields::spelled_at))]
+    #[tactic(auto, unfolding(script_reader::specs::Fields::spelled_at))]
     pub(crate) fn given(&mut self, alloc: Global) -> Result<Option<Bytes>, Unheard>
-        ensures { Gives (λ x. (x, self.new)) result (spelled_at given_of_text self.old) }
+        ensures { IsReadUnlessRefused (λ x. (x, self.new)) result (spelled_at given_of_text self.old) }
     {
         let field = self.field()?;
         match given_in(alloc, field)? {

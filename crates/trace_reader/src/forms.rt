@@ -35,7 +35,7 @@ fn hex_byte(high: u8, low: u8) -> Option<u8>
 pub(crate) fn bytes_in(alloc: Global, digits: &[u8]) -> Result<Option<Bytes>, AllocError>
     ensures { IfOk result (λ read. read ≡ bytes_of_hex digits.now) }
 {
-    let mut bytes = Vec::new(alloc);
+    let mut bytes = Vec::with_capacity(alloc, digits.len() / 2)?;
     let mut rest = digits;
     while let Some((high, behind)) = rest.split_first() {
         let Some((low, behind)) = behind.split_first() else {

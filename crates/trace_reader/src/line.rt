@@ -1,19 +1,19 @@
 //! A line of a trace as an event.
 
 ghost use Rattle.std.specs.Prelude.{◌≡◌, ◌≤◌, length, None, Some, Ok, IfOk, IfSome};
-ghost use Rattle.std.specs.Option.{option_copied};
 ghost use Rattle.limits.specs.declared.TheConstants.{PAYLOAD};
 ghost use Rattle.trace_props.specs.Recorded.{IsShort};
-ghost use Rattle.script_reader.specs.Script.{is_skipped};
+ghost use Rattle.script_reader.specs.Texts.{reading_by, IsReadUnlessRefused};
+ghost use Rattle.script_reader.specs.Fields.{spelled_at, last};
 ghost use Rattle.script_reader.specs.AddressText.{address_of_text};
 ghost use Rattle.trace_reader.specs.Spelling.{AreShort};
-ghost use Rattle.trace_reader.specs.Fields.{Gives, spelled_at, sending_at, delivery_at, view_at, install_at, last};
-ghost use Rattle.trace_reader.specs.Traces.{word_of, event_of, event_in_line, reading_of};
+ghost use Rattle.trace_reader.specs.Fields.{sending_at, delivery_at, view_at, install_at};
+ghost use Rattle.trace_reader.specs.Traces.{word_of, event_of, event_in_line};
 
-use crate::fields::{Fields, Unheard};
+use crate::fields::Fields;
 use address::Address;
 use limits::TRACE_LINE;
-use script_reader::{Fault, first_field};
+use script_reader::{Fault, Unheard, first_field, is_skipped};
 use std::alloc::Global;
 use trace_props::{Delivery, Event, Install, Message, Numbered, Sending};
 use view::View;
@@ -55,7 +55,7 @@ fn word_of(name: &[u8]) -> Option<Word>
 /// `P V N X`.
 #[tactic(auto, unfolding(crate::specs::Fields::sending_at))]
 fn sending(alloc: Global, fields: &mut Fields<'_>) -> Result<Sending, Unheard>
-    ensures gives { Gives (λ x. (x, fields.new)) result (sending_at fields.old) }
+    ensures gives { IsReadUnlessRefused (λ x. (x, fields.new)) result (sending_at fields.old) }
     ensures short { IfOk result (λ x. length x.message.payload ≤ PAYLOAD) }
 {
     let member = fields.address()?;
@@ -72,7 +72,7 @@ fn sending(alloc: Global, fields: &mut Fields<'_>) -> Result<Sending, Unheard>
 /// `P V Q N X`.
 #[tactic(auto, unfolding(crate::specs::Fields::delivery_at))]
 fn delivery(alloc: Global, fields: &mut Fields<'_>) -> Result<Delivery, Unheard>
-    ensures gives { Gives (λ x. (x, fields.new)) result (delivery_at fields.old) }
+    ensures gives { IsReadUnlessRefused (λ x. (x, fields.new)) result (delivery_at fields.old) }
     ensures short { IfOk result (λ x. length x.message.payload ≤ PAYLOAD) }
 {
     let member = fields.address()?;
@@ -94,7 +94,7 @@ fn delivery(alloc: Global, fields: &mut Fields<'_>) -> Result<Delivery, Unheard>
 /// `W MEMBERS`.
 #[tactic(auto, unfolding(crate::specs::Fields::view_at))]
 fn view(alloc: Global, fields: &mut Fields<'_>) -> Result<View, Unheard>
-    ensures { Gives (λ x. (x, fields.new)) result (view_at fields.old) }
+    ensures { IsReadUnlessRefused (λ x. (x, fields.new)) result (view_at fields.old) }
 {
     let id = fields.view_id()?;
     fields.view(alloc, id)
@@ -103,7 +103,7 @@ fn view(alloc: Global, fields: &mut Fields<'_>) -> Result<View, Unheard>
 /// `P PREV W MEMBERS TOGETHER BACK STATE`.
 #[tactic(auto, unfolding(crate::specs::Fields::install_at))]
 fn install(alloc: Global, fields: &mut Fields<'_>) -> Result<Install, Unheard>
-    ensures gives { Gives (λ x. (x, fields.new)) result (install_at fields.old) }
+    ensures gives { IsReadUnlessRefused (λ x. (x, fields.new)) result (install_at fields.old) }
     ensures short { IfOk result (λ x. AreShort x.handed_back) }
 {
     let member = fields.address()?;
@@ -123,18 +123,18 @@ fn install(alloc: Global, fields: &mut Fields<'_>) -> Result<Install, Unheard>
 }
 
 /// The address that is all that is left of a line.
-#[tactic(auto, unfolding(crate::specs::Fields::last))]
+#[tactic(auto, unfolding(script_reader::specs::Fields::last))]
 fn lone_address(mut fields: Fields<'_>) -> Result<Address, Unheard>
-    ensures { Gives (λ x. x) result (last (spelled_at address_of_text fields.entry)) }
+    ensures { IsReadUnlessRefused (λ x. x) result (last (spelled_at address_of_text fields.entry)) }
 {
     let address = fields.address()?;
     fields.end()?;
     Ok(address)
 }
 
-#[tactic(auto, unfolding(crate::specs::Fields::last))]
+#[tactic(auto, unfolding(script_reader::specs::Fields::last))]
 fn lone_sending(alloc: Global, mut fields: Fields<'_>) -> Result<Sending, Unheard>
-    ensures gives { Gives (λ x. x) result (last (sending_at fields.entry)) }
+    ensures gives { IsReadUnlessRefused (λ x. x) result (last (sending_at fields.entry)) }
     ensures short { IfOk result (λ x. length x.message.payload ≤ PAYLOAD) }
 {
     let sending = sending(alloc, &mut fields)?;
@@ -142,9 +142,9 @@ fn lone_sending(alloc: Global, mut fields: Fields<'_>) -> Result<Sending, Unhear
     Ok(sending)
 }
 
-#[tactic(auto, unfolding(crate::specs::Fields::last))]
+#[tactic(auto, unfolding(script_reader::specs::Fields::last))]
 fn lone_delivery(alloc: Global, mut fields: Fields<'_>) -> Result<Delivery, Unheard>
-    ensures gives { Gives (λ x. x) result (last (delivery_at fields.entry)) }
+    ensures gives { IsReadUnlessRefused (λ x. x) result (last (delivery_at fields.entry)) }
     ensures short { IfOk result (λ x. length x.message.payload ≤ PAYLOAD) }
 {
     let delivery = delivery(alloc, &mut fields)?;
@@ -152,9 +152,9 @@ fn lone_delivery(alloc: Global, mut fields: Fields<'_>) -> Result<Delivery, Unhe
     Ok(delivery)
 }
 
-#[tactic(auto, unfolding(crate::specs::Fields::last))]
+#[tactic(auto, unfolding(script_reader::specs::Fields::last))]
 fn lone_install(alloc: Global, mut fields: Fields<'_>) -> Result<Install, Unheard>
-    ensures gives { Gives (λ x. x) result (last (install_at fields.entry)) }
+    ensures gives { IsReadUnlessRefused (λ x. x) result (last (install_at fields.entry)) }
     ensures short { IfOk result (λ x. AreShort x.handed_back) }
 {
     let install = install(alloc, &mut fields)?;
@@ -165,7 +165,7 @@ fn lone_install(alloc: Global, mut fields: Fields<'_>) -> Result<Install, Unhear
 /// The event of a word and of what is left behind it.
 #[tactic(auto, unfolding(crate::specs::Traces::event_of))]
 fn event_of(alloc: Global, word: Word, fields: Fields<'_>) -> Result<Event, Unheard>
-    ensures gives { Gives (λ x. x) result (event_of word fields.entry) }
+    ensures gives { IsReadUnlessRefused (λ x. x) result (event_of word fields.entry) }
     ensures short { IfOk result IsShort }
 {
     match word {
@@ -179,20 +179,10 @@ fn event_of(alloc: Global, word: Word, fields: Fields<'_>) -> Result<Event, Unhe
     }
 }
 
-/// Whether a line says nothing: it is empty, or begins with `#`.
-fn is_skipped(line: &[u8]) -> bool
-    ensures { result ≡ is_skipped line.now }
-{
-    match line.first() {
-        None => true,
-        Some(first) => *first == b'#',
-    }
-}
-
 /// The event of a line that is not skipped.
 #[tactic(auto, unfolding(crate::specs::Traces::event_in_line))]
 fn event_in_line(alloc: Global, line: &[u8]) -> Result<Event, Unheard>
-    ensures gives { Gives (λ x. x) result (event_in_line line.now) }
+    ensures gives { IsReadUnlessRefused (λ x. x) result (event_in_line line.now) }
     ensures short { IfOk result IsShort }
 {
     if line.len() > TRACE_LINE {
@@ -206,9 +196,8 @@ fn event_in_line(alloc: Global, line: &[u8]) -> Result<Event, Unheard>
 }
 
 /// What a line says: nothing, or an event.
-#[tactic(auto, unfolding(crate::specs::Traces::reading_of))]
 pub(crate) fn read_line(alloc: Global, line: &[u8]) -> Result<Option<Event>, Unheard>
-    ensures gives { Gives (λ x. x) result (reading_of line.now) }
+    ensures gives { IsReadUnlessRefused (λ x. x) result (reading_by event_in_line line.now) }
     ensures short { IfOk result (λ read. IfSome read IsShort) }
 {
     if is_skipped(line) {

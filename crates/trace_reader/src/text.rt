@@ -2,10 +2,9 @@
 
 ghost use Rattle.std.specs.Prelude.{◌≡◌, ◌++◌, ◌∷◌, [], Ok, OnOk, MatchResult};
 ghost use Rattle.trace_props.specs.Recorded.{IsShort};
-ghost use Rattle.script_reader.specs.Script.{IsUnread};
-ghost use Rattle.trace_reader.specs.Traces.{reading_of, trace_of, HasRead};
+ghost use Rattle.script_reader.specs.Texts.{and_then, reading_by, HasRead, IsUnread};
+ghost use Rattle.trace_reader.specs.Traces.{event_in_line, event_alone, trace_of};
 
-use crate::fields::Unheard;
 use crate::line::read_line;
 use script_reader::{Unread, first_line};
 use std::alloc::{AllocError, Global};
@@ -23,14 +22,10 @@ fn add(trace: &mut Trace, event: Event) -> Result<(), AllocError>
 
 /// Goes on with one line.
 fn read_on(alloc: Global, trace: &mut Trace, number: u64, line: &[u8]) -> Result<(), Unread>
-    ensures { HasRead trace.old.events number (reading_of line.now) result trace.new.events }
+    ensures { HasRead (and_then event_alone) trace.old.events number (reading_by event_in_line line.now) result trace.new.events }
 {
     match read_line(alloc, line) {
-        Err(Unheard::Fault(fault)) => Err(Unread::Fault {
-            line: number,
-            fault,
-        }),
-        Err(Unheard::Memory) => Err(Unread::Memory),
+        Err(unheard) => Err(unheard.at(number)),
         Ok(None) => Ok(()),
         Ok(Some(event)) => match add(trace, event) {
             Err(_) => Err(Unread::Memory),

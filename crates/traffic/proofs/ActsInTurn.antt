@@ -3,19 +3,19 @@ use Rattle.std.proofs.Common.{◌≡◌, ℕ, Option, Some, List, [], ◌++◌, 
 use Rattle.address.specs.Ids.{Address}
 use Rattle.view.specs.Members.{View}
 use Rattle.state_transfer.specs.Meanings.{Meaning}
-use Rattle.agreement.specs.Histories.{Posted}
-use Rattle.agreement.specs.Cores.{Traffic}
-use Rattle.agreement.proofs.LawsOfActs.{nothing-acted, then-acted}
-use Rattle.output.specs.declared.output.Output.{Output}
-use Rattle.output.proofs.FactOfGrows.{grows-nothing, grows-then}
+use Rattle.acts.specs.Histories.{Posted}
+use Rattle.acts.specs.Cores.{ViewCore}
+use Rattle.acts.proofs.LawsOfActs.{nothing-acted, then-acted}
+use Rattle.step_output.specs.declared.output.Output.{Output}
+use Rattle.step_output.proofs.FactOfGrows.{grows-nothing, grows-then}
 use Rattle.traffic.specs.declared.coordinator.Coordinator.{Coordinator}
-use Rattle.traffic.specs.declared.other.Other.{Other}
-use Rattle.traffic.specs.Traffics.{coordinator_traffic, other_traffic}
+use Rattle.traffic.specs.declared.follower.Follower.{Follower}
+use Rattle.traffic.specs.ViewStates.{coordinator_core, follower_core}
 use Rattle.traffic.specs.Coordinators.{IsCoordinator}
-use Rattle.traffic.specs.Goings.{open_core, Goes, CoordinatorGoes, OtherGoes}
+use Rattle.traffic.specs.Goings.{open_core, Goes, CoordinatorGoes, FollowerGoes}
 
 module _ {S : Type 0} (meaning : Meaning S) where
-  nothing-goes : (came : Option Posted) (p : Address) (group : List ℕ) (v : View) (m : Traffic) (s : S) (out : Output) → Goes meaning came p group v m s out m s out
+  nothing-goes : (came : Option Posted) (p : Address) (group : List ℕ) (v : View) (m : ViewCore) (s : S) (out : Output) → Goes meaning came p group v m s out m s out
   nothing-goes came p group v m s out = record {
     posted = [];
     happened = [];
@@ -23,7 +23,7 @@ module _ {S : Type 0} (meaning : Meaning S) where
     grows = grows-nothing group out;
   }
 
-  then-goes : (came : Option Posted) (p : Address) (group : List ℕ) (v w : View) (a b c : Traffic) (s t u : S) (out more most : Output) → w ≡ v
+  then-goes : (came : Option Posted) (p : Address) (group : List ℕ) (v w : View) (a b c : ViewCore) (s t u : S) (out more most : Output) → w ≡ v
       → Goes meaning came p group v a s out b t more → Goes meaning came p group w b t more c u most → Goes meaning came p group v a s out c u most
   then-goes came p group v w a b c s t u out more most same x y =
       let z : Goes meaning came p group v b t more c u most = subst (λ (r : View). Goes meaning came p group r b t more c u most) same y in
@@ -38,22 +38,22 @@ module _ {S : Type 0} (meaning : Meaning S) where
   -- ---- the coordinator
 
   pub goes-nothing : (came : Option Posted) (p : Address) (group : List ℕ) (m : Coordinator) (s : S) (out : Output) → IsCoordinator p m → CoordinatorGoes meaning came p group m s out m s out
-  goes-nothing came p group m s out i = record { goes = nothing-goes came p group m.view (coordinator_traffic m) s out; view = refl; coordinator = i }
+  goes-nothing came p group m s out i = record { goes = nothing-goes came p group m.view (coordinator_core m) s out; view = refl; coordinator = i }
 
   pub goes-then : (came : Option Posted) (p : Address) (group : List ℕ) (a b c : Coordinator) (s t u : S) (out more most : Output) → CoordinatorGoes meaning came p group a s out b t more
       → CoordinatorGoes meaning came p group b t more c u most → CoordinatorGoes meaning came p group a s out c u most
   goes-then came p group a b c s t u out more most x y = record {
-    goes = then-goes came p group a.view b.view (coordinator_traffic a) (coordinator_traffic b) (coordinator_traffic c) s t u out more most x.view x.goes y.goes;
+    goes = then-goes came p group a.view b.view (coordinator_core a) (coordinator_core b) (coordinator_core c) s t u out more most x.view x.goes y.goes;
     view = y.view ∙ x.view;
     coordinator = y.coordinator;
   }
 
   -- ---- another member
 
-  pub other-nothing : (came : Option Posted) (p : Address) (group : List ℕ) (m : Other) (s : S) (out : Output) → OtherGoes meaning came p group m s out m s out
-  other-nothing came p group m s out = (nothing-goes came p group m.view (other_traffic m) s out, refl)
+  pub other-nothing : (came : Option Posted) (p : Address) (group : List ℕ) (m : Follower) (s : S) (out : Output) → FollowerGoes meaning came p group m s out m s out
+  other-nothing came p group m s out = (nothing-goes came p group m.view (follower_core m) s out, refl)
 
-  pub other-then : (came : Option Posted) (p : Address) (group : List ℕ) (a b c : Other) (s t u : S) (out more most : Output) → OtherGoes meaning came p group a s out b t more
-      → OtherGoes meaning came p group b t more c u most → OtherGoes meaning came p group a s out c u most
+  pub other-then : (came : Option Posted) (p : Address) (group : List ℕ) (a b c : Follower) (s t u : S) (out more most : Output) → FollowerGoes meaning came p group a s out b t more
+      → FollowerGoes meaning came p group b t more c u most → FollowerGoes meaning came p group a s out c u most
   other-then came p group a b c s t u out more most x y =
-      (then-goes came p group a.view b.view (other_traffic a) (other_traffic b) (other_traffic c) s t u out more most x.1 x.0 y.0, y.1 ∙ x.1)
+      (then-goes came p group a.view b.view (follower_core a) (follower_core b) (follower_core c) s t u out more most x.1 x.0 y.0, y.1 ∙ x.1)

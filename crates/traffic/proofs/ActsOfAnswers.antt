@@ -8,37 +8,37 @@ use Rattle.std.proofs.lemmas.List.Elements.{Contains-push}
 use Rattle.std.proofs.Math.Nat.{max-eq_right}
 use Rattle.limits.specs.declared.TheConstants.{WINDOW, PAYLOAD}
 use Rattle.address.specs.Ids.{Address}
-use Rattle.wire.specs.Values.{Entry, Progress, held_at}
-use Rattle.wire.specs.Values as wire
-use Rattle.wire.specs.declared.packet.Body.TheVariants as bodies
+use Rattle.wire_values.specs.Values.{Entry, Progress, held_at}
+use Rattle.wire_values.specs.Values as wire
+use Rattle.wire_values.specs.declared.packet.Body.TheVariants as bodies
 use Rattle.state_transfer.specs.Meanings.{Meaning}
 use Rattle.trace_props.specs.declared.event.Numbered.{Numbered}
 use Rattle.nak_stream.specs.Windows.{WindowModel, held_above}
-use Rattle.agreement.specs.Histories.{Posted}
-use Rattle.agreement.specs.Acts.{Sends, Collects, Puts, Announced, HoldsAbove, packet, others_of}
-use Rattle.agreement.specs.Chains.{Acted}
-use Rattle.agreement.proofs.LawsOfActs.{nothing-acted}
+use Rattle.acts.specs.Histories.{Posted}
+use Rattle.acts.specs.Acts.{Sends, Collects, Puts, Announced, HoldsAbove, packet, others_of}
+use Rattle.acts.specs.Chains.{Acted}
+use Rattle.acts.proofs.LawsOfActs.{nothing-acted}
 use Rattle.traffic.specs.declared.coordinator.Coordinator.{Coordinator}
-use Rattle.traffic.specs.declared.other.Other.{Other}
-use Rattle.output.specs.declared.output.Output.{Output}
-use Rattle.output.specs.Outputs.{Grows}
-use Rattle.traffic.specs.Traffics.{coordinator_traffic, other_traffic}
+use Rattle.traffic.specs.declared.follower.Follower.{Follower}
+use Rattle.step_output.specs.declared.output.Output.{Output}
+use Rattle.step_output.specs.Outputs.{Grows}
+use Rattle.traffic.specs.ViewStates.{coordinator_core, follower_core}
 use Rattle.traffic.specs.Coordinators.{IsCoordinator}
-use Rattle.traffic.specs.Goings.{open_core, CoordinatorGoes, OtherGoes}
-use Rattle.traffic.specs.Others.{collected_to}
-use Rattle.traffic.specs.Takes.{TakesStatus, AsksUpTo, status_packet, orders_held, forward_of, ack_of, other_pushing, SendsForward, progress_of}
-use Rattle.traffic.proofs.ActsOfCoordinator.{traffic_at, puts-acts}
+use Rattle.traffic.specs.Goings.{open_core, CoordinatorGoes, FollowerGoes}
+use Rattle.traffic.specs.Followers.{collected_to}
+use Rattle.traffic.specs.Takes.{TakesStatus, AsksUpTo, status_packet, orders_held, forward_of, ack_of, follower_pushing, SendsForward, progress_of}
+use Rattle.traffic.proofs.ActsOfCoordinator.{view_core_at, puts-acts}
 use Rattle.traffic.proofs.Windows.{holds-above}
 use Rattle.traffic.proofs.FactOfQueues.{In, in-itself}
-use Rattle.output.proofs.FactOfGrows.{grows-nothing}
+use Rattle.step_output.proofs.FactOfGrows.{grows-nothing}
 use Rattle.traffic.proofs.ActsInTurn.{other-nothing, other-then}
 use Rattle.traffic.proofs.FactOfDeliveries.{asks-goes}
 
 module _ {S : Type 0} (meaning : Meaning S) where
   -- ---- another member
 
-  announced-by : (b : Bool) (p : Address) (kept : List (Address × wire.Install)) (m : Other) (s : S) (a : Progress) → nat_lt m.window.stable (min a.stable m.window.delivered) ≡ b
-      → Acted meaning (status_packet p m.view a) (Some (open_core p m.view kept (other_traffic m) s)) [] [] (Some (open_core p m.view kept (other_traffic (collected_to a.stable m)) s))
+  announced-by : (b : Bool) (p : Address) (kept : List (Address × wire.Install)) (m : Follower) (s : S) (a : Progress) → nat_lt m.window.stable (min a.stable m.window.delivered) ≡ b
+      → Acted meaning (status_packet p m.view a) (Some (open_core p m.view kept (follower_core m) s)) [] [] (Some (open_core p m.view kept (follower_core (collected_to a.stable m)) s))
   announced-by true p kept m s a more =
       let t = min a.stable m.window.delivered in
       let over : m.window.stable < t = grind (arith, nat_tests) in
@@ -53,8 +53,8 @@ module _ {S : Type 0} (meaning : Meaning S) where
             stable = Announced a refl (omega arith);
             fewer = subst (λ (k : ℕ). HoldsAbove m.window.held k (held_above t m.window.held)) (sym top) (holds-above t m.window.held);
           },
-          ap (λ (k : ℕ). Some (open_core p m.view kept (traffic_at (record next { stable = k }) m.forwards (λ q. 0) (λ q. 0) []) s)) top
-              ∙ ap (λ (w : WindowModel). Some (open_core p m.view kept (traffic_at w m.forwards (λ q. 0) (λ q. 0) []) s)) (sym (cond-true (nat_lt m.window.stable t) next m.window more)),
+          ap (λ (k : ℕ). Some (open_core p m.view kept (view_core_at (record next { stable = k }) m.forwards (λ q. 0) (λ q. 0) []) s)) top
+              ∙ ap (λ (w : WindowModel). Some (open_core p m.view kept (view_core_at w m.forwards (λ q. 0) (λ q. 0) []) s)) (sym (cond-true (nat_lt m.window.stable t) next m.window more)),
         );
         puts = refl;
         happens = refl;
@@ -64,33 +64,33 @@ module _ {S : Type 0} (meaning : Meaning S) where
       let next : WindowModel = record { stable = t; delivered = m.window.delivered; held = held_above t m.window.held } in
       record {
         acts = [];
-        chain = ap (λ (w : WindowModel). Some (open_core p m.view kept (traffic_at w m.forwards (λ q. 0) (λ q. 0) []) s)) (sym (cond-false (nat_lt m.window.stable t) next m.window more));
+        chain = ap (λ (w : WindowModel). Some (open_core p m.view kept (view_core_at w m.forwards (λ q. 0) (λ q. 0) []) s)) (sym (cond-false (nat_lt m.window.stable t) next m.window more));
         puts = refl;
         happens = refl;
       }
 
-  status-by : (b : Bool) (p : Address) (group : List ℕ) (a : Progress) (m : Other) (s : S) (out : Output) (new : Other) (more : Output)
+  status-by : (b : Bool) (p : Address) (group : List ℕ) (a : Progress) (m : Follower) (s : S) (out : Output) (new : Follower) (more : Output)
       → MatchBool b ((new ≡ m) × (more ≡ out)) ((new ≡ collected_to a.stable m) × AsksUpTo p group a.highest new out more)
-      → OtherGoes meaning (status_packet p m.view a) p group m s out new s more
+      → FollowerGoes meaning (status_packet p m.view a) p group m s out new s more
   status-by true p group a m s out new more x =
-      subst (λ (n : Other). OtherGoes meaning (status_packet p m.view a) p group m s out n s more) (sym x.0)
-      (subst (λ (o : Output). OtherGoes meaning (status_packet p m.view a) p group m s out m s o) (sym x.1) (other-nothing meaning _ p group m s out))
+      subst (λ (n : Follower). FollowerGoes meaning (status_packet p m.view a) p group m s out n s more) (sym x.0)
+      (subst (λ (o : Output). FollowerGoes meaning (status_packet p m.view a) p group m s out m s o) (sym x.1) (other-nothing meaning _ p group m s out))
   status-by false p group a m s out new more x =
       let next = collected_to a.stable m in
-      subst (λ (n : Other). OtherGoes meaning (status_packet p m.view a) p group m s out n s more) (sym x.0)
+      subst (λ (n : Follower). FollowerGoes meaning (status_packet p m.view a) p group m s out n s more) (sym x.0)
       (other-then meaning (status_packet p m.view a) p group m next next s s s out out more
       (record { posted = []; happened = []; acted = λ kept. announced-by _ p kept m s a refl; grows = grows-nothing group out }, refl)
-      (asks-goes meaning (status_packet p m.view a) p group a.highest next s out more (subst (λ (n : Other). AsksUpTo p group a.highest n out more) x.0 x.1)))
+      (asks-goes meaning (status_packet p m.view a) p group a.highest next s out more (subst (λ (n : Follower). AsksUpTo p group a.highest n out more) x.0 x.1)))
 
-  pub status-goes : (p : Address) (group : List ℕ) (a : Progress) (m : Other) (s : S) (out : Output) (new : Other) (more : Output) → TakesStatus p group a m out new more
-      → OtherGoes meaning (status_packet p m.view a) p group m s out new s more
+  pub status-goes : (p : Address) (group : List ℕ) (a : Progress) (m : Follower) (s : S) (out : Output) (new : Follower) (more : Output) → TakesStatus p group a m out new more
+      → FollowerGoes meaning (status_packet p m.view a) p group m s out new s more
   status-goes p group a m s out new more x = status-by (nat_lt m.window.delivered a.stable || nat_lt m.window.delivered (a.highest - WINDOW)) p group a m s out new more x
 
-  pub send-goes : (came : Option Posted) (p : Address) (group : List ℕ) (x : List ℕ) (m : Other) (s : S) (out : Output) (new : Other) (more : Output) → length x ≤ PAYLOAD → new ≡ other_pushing x m
-      → SendsForward p group x m out more → OtherGoes meaning came p group m s out new s more
+  pub send-goes : (came : Option Posted) (p : Address) (group : List ℕ) (x : List ℕ) (m : Follower) (s : S) (out : Output) (new : Follower) (more : Output) → length x ≤ PAYLOAD → new ≡ follower_pushing x m
+      → SendsForward p group x m out more → FollowerGoes meaning came p group m s out new s more
   send-goes came p group x m s out new more short now sends =
       let f : Numbered = record { number = m.forwards.sent + 1; payload = x } in
-      subst (λ (n : Other). OtherGoes meaning came p group m s out n s more) (sym now) (
+      subst (λ (n : Follower). FollowerGoes meaning came p group m s out n s more) (sym now) (
         record {
           posted = forward_of p m.view f ∷ [];
           happened = _;
@@ -105,8 +105,8 @@ module _ {S : Type 0} (meaning : Meaning S) where
         refl,
       )
 
-  puts-forwards : (came : Option Posted) (p : Address) (kept : List (Address × wire.Install)) (m : Other) (s : S) (fs : List Numbered) → In fs m.forwards.rest
-      → Acted meaning came (Some (open_core p m.view kept (other_traffic m) s)) (map (forward_of p m.view) fs ++ ack_of p m ∷ []) [] (Some (open_core p m.view kept (other_traffic m) s))
+  puts-forwards : (came : Option Posted) (p : Address) (kept : List (Address × wire.Install)) (m : Follower) (s : S) (fs : List Numbered) → In fs m.forwards.rest
+      → Acted meaning came (Some (open_core p m.view kept (follower_core m) s)) (map (forward_of p m.view) fs ++ ack_of p m ∷ []) [] (Some (open_core p m.view kept (follower_core m) s))
   puts-forwards came p kept m s [] i = record { acts = Puts m.view.id.creator (bodies.Ack m.view.id m.window.delivered) ∷ []; chain = ((refl, omega arith), refl); puts = refl; happens = refl }
   puts-forwards came p kept m s (f ∷ fs) i =
       let rest = puts-forwards came p kept m s fs (record { each = λ k x at. i.each (suc k) x at }) in
@@ -117,8 +117,8 @@ module _ {S : Type 0} (meaning : Meaning S) where
         happens = rest.happens;
       }
 
-  pub tick-goes : (came : Option Posted) (p : Address) (group : List ℕ) (m : Other) (s : S) (out more : Output) → Grows group out more (map (forward_of p m.view) m.forwards.rest ++ ack_of p m ∷ []) []
-      → OtherGoes meaning came p group m s out m s more
+  pub tick-goes : (came : Option Posted) (p : Address) (group : List ℕ) (m : Follower) (s : S) (out more : Output) → Grows group out more (map (forward_of p m.view) m.forwards.rest ++ ack_of p m ∷ []) []
+      → FollowerGoes meaning came p group m s out m s more
   tick-goes came p group m s out more grows =
       (record { posted = _; happened = []; acted = λ kept. puts-forwards came p kept m s m.forwards.rest (in-itself m.forwards.rest); grows = grows }, refl)
 
@@ -130,7 +130,7 @@ module _ {S : Type 0} (meaning : Meaning S) where
     goes = record {
       posted = map (packet p (bodies.Status m.view.id (progress_of m.window))) (others_of p m.view.members);
       happened = [];
-      acted = λ kept. puts-acts meaning came (open_core p m.view kept (coordinator_traffic m) s) (bodies.Status m.view.id (progress_of m.window)) (others_of p m.view.members)
+      acted = λ kept. puts-acts meaning came (open_core p m.view kept (coordinator_core m) s) (bodies.Status m.view.id (progress_of m.window)) (others_of p m.view.members)
           (λ q. (refl, i.coordinator, omega arith, omega arith));
       grows = grows;
     };
@@ -139,14 +139,14 @@ module _ {S : Type 0} (meaning : Meaning S) where
   }
 
   puts-held : (came : Option Posted) (p q : Address) (kept : List (Address × wire.Install)) (m : Coordinator) (s : S) (k n : ℕ) → IsCoordinator p m
-      → Acted meaning came (Some (open_core p m.view kept (coordinator_traffic m) s)) (orders_held p m.view q m.window.held k n) [] (Some (open_core p m.view kept (coordinator_traffic m) s))
-  puts-held came p q kept m s k zero i = nothing-acted meaning came (Some (open_core p m.view kept (coordinator_traffic m) s))
+      → Acted meaning came (Some (open_core p m.view kept (coordinator_core m) s)) (orders_held p m.view q m.window.held k n) [] (Some (open_core p m.view kept (coordinator_core m) s))
+  puts-held came p q kept m s k zero i = nothing-acted meaning came (Some (open_core p m.view kept (coordinator_core m) s))
   puts-held came p q kept m s k (suc n) i = by (held_at k m.window.held) refl (puts-held came p q kept m s (k + 1) n i)
     where
       by : (o : Option Entry) → held_at k m.window.held ≡ o
-          → Acted meaning came (Some (open_core p m.view kept (coordinator_traffic m) s)) (orders_held p m.view q m.window.held (k + 1) n) [] (Some (open_core p m.view kept (coordinator_traffic m) s))
-          → Acted meaning came (Some (open_core p m.view kept (coordinator_traffic m) s))
-          (option_map_or (λ e. packet p (bodies.Order m.view.id k e) q ∷ []) o [] ++ orders_held p m.view q m.window.held (k + 1) n) [] (Some (open_core p m.view kept (coordinator_traffic m) s))
+          → Acted meaning came (Some (open_core p m.view kept (coordinator_core m) s)) (orders_held p m.view q m.window.held (k + 1) n) [] (Some (open_core p m.view kept (coordinator_core m) s))
+          → Acted meaning came (Some (open_core p m.view kept (coordinator_core m) s))
+          (option_map_or (λ e. packet p (bodies.Order m.view.id k e) q ∷ []) o [] ++ orders_held p m.view q m.window.held (k + 1) n) [] (Some (open_core p m.view kept (coordinator_core m) s))
       by None there rest = rest
       by (Some e) there rest = record {
         acts = Puts q (bodies.Order m.view.id k e) ∷ rest.acts;

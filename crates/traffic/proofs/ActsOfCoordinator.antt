@@ -12,10 +12,10 @@ use Rattle.address.specs.Ids.{Address, same_address}
 use Rattle.view.specs.Members.{View, stands_in, is_distinct}
 use Rattle.view.specs.View.{view_refusal, begins_with}
 use Rattle.view.specs.declared.ViewError.TheVariants.{Empty, TooMany, Repeated, NotFirst}
-use Rattle.wire.specs.Values.{Entry, held_at}
-use Rattle.wire.specs.Values as wire
-use Rattle.wire.specs.declared.packet.Body.{Body}
-use Rattle.wire.specs.declared.packet.Body.TheVariants as bodies
+use Rattle.wire_values.specs.Values.{Entry, held_at}
+use Rattle.wire_values.specs.Values as wire
+use Rattle.wire_values.specs.declared.packet.Body.{Body}
+use Rattle.wire_values.specs.declared.packet.Body.TheVariants as bodies
 use Rattle.state_transfer.specs.Meanings.{Meaning}
 use Rattle.trace_props.specs.declared.event.Event.{Event}
 use Rattle.trace_props.specs.declared.event.Numbered.{Numbered}
@@ -25,13 +25,13 @@ use Rattle.sequencer.specs.Forwards.{ForwardsModel, one_delivered}
 use Rattle.sequencer.specs.Queues.{Queue, OrdererModel, change_first, has_next, served, first_next, may_order, next_ordered, ordering, is_from, offered}
 use Rattle.stability.specs.Counts.{members_of, count_of, noted, stable_count}
 use Rattle.stability.proofs.Counts.{members-noted, stable-le-count}
-use Rattle.agreement.specs.Histories.{Posted}
-use Rattle.agreement.specs.Cores.{Traffic, Core, left_of}
-use Rattle.agreement.specs.Acts.{HoldsAbove, Describes, Queues, Orders, Hears, Collects, Puts, All, packet, delivery, one_more}
-use Rattle.agreement.specs.Chains.{Acted}
-use Rattle.agreement.proofs.LawsOfActs.{nothing-acted}
+use Rattle.acts.specs.Histories.{Posted}
+use Rattle.acts.specs.Cores.{ViewCore, Core, left_of}
+use Rattle.acts.specs.Acts.{HoldsAbove, Describes, Queues, Orders, TakesAck, Collects, Puts, All, packet, delivery, one_more}
+use Rattle.acts.specs.Chains.{Acted}
+use Rattle.acts.proofs.LawsOfActs.{nothing-acted}
 use Rattle.traffic.specs.declared.coordinator.Coordinator.{Coordinator}
-use Rattle.traffic.specs.Traffics.{waiting_of, ordered_of, senders_of, coordinator_traffic, after_delivery}
+use Rattle.traffic.specs.ViewStates.{waiting_of, ordered_of, senders_of, coordinator_core, after_delivery}
 use Rattle.traffic.specs.Coordinators.{IsCoordinator, queued, after_one, acknowledged}
 use Rattle.traffic.specs.Goings.{open_core}
 use Rattle.traffic.proofs.FactOfQueues.{served-fact}
@@ -52,8 +52,8 @@ distinct-in v e = distinct-by (nat_eq (length v.members) 0) (nat_lt MEMBERS (len
 
 -- ---- one act
 
-abbrev pub traffic_at : WindowModel → ForwardsModel → (Address → ℕ) → (Address → ℕ) → List Entry → Traffic
-traffic_at w f acks ordered waiting = record {
+abbrev pub view_core_at : WindowModel → ForwardsModel → (Address → ℕ) → (Address → ℕ) → List Entry → ViewCore
+view_core_at w f acks ordered waiting = record {
   stable = w.stable;
   delivered = w.delivered;
   sent = f.sent;
@@ -85,14 +85,14 @@ pub due-fact : (m : Coordinator) (e : Entry) → m.orderer.ordered ≡ m.window.
 due-fact m e same low h = due-by (may_order m.window.stable m.orderer) m e refl same low h h
 
 module _ {S : Type 0} (meaning : Meaning S) where
-  abbrev pub GoesOn : Option Posted → Address → View → List (Address × wire.Install) → Traffic → S → List Posted → List Event → Traffic → S → Type 0
+  abbrev pub GoesOn : Option Posted → Address → View → List (Address × wire.Install) → ViewCore → S → List Posted → List Event → ViewCore → S → Type 0
   GoesOn came p v kept t s posted happened u z = Acted meaning came (Some (open_core p v kept t s)) posted happened (Some (open_core p v kept u z))
 
   -- ---- Orders
 
   pub orders-acts : (came : Option Posted) (p : Address) (kept : List (Address × wire.Install)) (m : Coordinator) (s : S) (e : Entry) → IsCoordinator p m → IsWindow m.window
       → is_distinct m.view.members ≡ true → Due m e
-      → GoesOn came p m.view kept (coordinator_traffic m) s [] (delivery p m.view.id e ∷ []) (coordinator_traffic (after_one p (m.orderer.ordered + 1, e) m)) (meaning.apply s e.sender e.payload)
+      → GoesOn came p m.view kept (coordinator_core m) s [] (delivery p m.view.id e ∷ []) (coordinator_core (after_one p (m.orderer.ordered + 1, e) m)) (meaning.apply s e.sender e.payload)
   orders-acts came p kept m s e i w distinct d =
       let queues = m.orderer.queues in
       let later = change_first has_next served queues in
@@ -122,10 +122,10 @@ module _ {S : Type 0} (meaning : Meaning S) where
             fewer = x.fewer.each;
             more = holds-more g e m.window.held free;
           },
-          ap (λ (w : WindowModel). Some (open_core p m.view kept (traffic_at w left acks (one_more e.sender (ordered_of queues)) (waiting_of later)) (meaning.apply s e.sender e.payload))) window
-              ∙ ap (λ (f : ForwardsModel). Some (open_core p m.view kept (traffic_at (delivering (taken (m.orderer.ordered + 1) e m.window)) f acks (one_more e.sender (ordered_of queues)) (waiting_of later)) (meaning.apply s e.sender e.payload))) forwards
-              ∙ ap (λ (c : Address → ℕ). Some (open_core p m.view kept (traffic_at (delivering (taken (m.orderer.ordered + 1) e m.window)) (after_delivery p e m.forwards) acks c (waiting_of later)) (meaning.apply s e.sender e.payload))) counts
-              ∙ ap (λ (o : OrdererModel). Some (open_core p m.view kept (traffic_at (delivering (taken (m.orderer.ordered + 1) e m.window)) (after_delivery p e m.forwards) acks (ordered_of o.queues) (waiting_of o.queues)) (meaning.apply s e.sender e.payload))) orderer,
+          ap (λ (w : WindowModel). Some (open_core p m.view kept (view_core_at w left acks (one_more e.sender (ordered_of queues)) (waiting_of later)) (meaning.apply s e.sender e.payload))) window
+              ∙ ap (λ (f : ForwardsModel). Some (open_core p m.view kept (view_core_at (delivering (taken (m.orderer.ordered + 1) e m.window)) f acks (one_more e.sender (ordered_of queues)) (waiting_of later)) (meaning.apply s e.sender e.payload))) forwards
+              ∙ ap (λ (c : Address → ℕ). Some (open_core p m.view kept (view_core_at (delivering (taken (m.orderer.ordered + 1) e m.window)) (after_delivery p e m.forwards) acks c (waiting_of later)) (meaning.apply s e.sender e.payload))) counts
+              ∙ ap (λ (o : OrdererModel). Some (open_core p m.view kept (view_core_at (delivering (taken (m.orderer.ordered + 1) e m.window)) (after_delivery p e m.forwards) acks (ordered_of o.queues) (waiting_of o.queues)) (meaning.apply s e.sender e.payload))) orderer,
         );
         puts = refl;
         happens = refl;
@@ -138,7 +138,7 @@ module _ {S : Type 0} (meaning : Meaning S) where
   IsFrom came p m q n x = MatchBool (same_address q p) (Contains m.forwards.rest (record { number = n; payload = x })) (came ≡ Some (packet q (bodies.Forward m.view.id n x) p))
 
   pub queues-by : (b : Bool) (came : Option Posted) (p : Address) (kept : List (Address × wire.Install)) (m : Coordinator) (s : S) (q : Address) (n : ℕ) (x : List ℕ) → is_wanted q n m.orderer.queues ≡ b
-      → IsCoordinator p m → IsFrom came p m q n x → GoesOn came p m.view kept (coordinator_traffic m) s [] [] (coordinator_traffic (queued q n x m)) s
+      → IsCoordinator p m → IsFrom came p m q n x → GoesOn came p m.view kept (coordinator_core m) s [] [] (coordinator_core (queued q n x m)) s
   queues-by true came p kept m s q n x wanted i from =
       let queues = m.orderer.queues in
       let later = change_first (is_from q) (offered n x) queues in
@@ -154,7 +154,7 @@ module _ {S : Type 0} (meaning : Meaning S) where
             sent = from;
             fewer = y.fewer.each;
           },
-          ap (λ (c : Address → ℕ). Some (open_core p m.view kept (traffic_at m.window m.forwards (λ r. count_of r m.acks) c (waiting_of later)) s)) (fun_ext (λ r. sym (y.counts r))),
+          ap (λ (c : Address → ℕ). Some (open_core p m.view kept (view_core_at m.window m.forwards (λ r. count_of r m.acks) c (waiting_of later)) s)) (fun_ext (λ r. sym (y.counts r))),
         );
         puts = refl;
         happens = refl;
@@ -162,7 +162,7 @@ module _ {S : Type 0} (meaning : Meaning S) where
   queues-by false came p kept m s q n x wanted i from =
       record {
         acts = [];
-        chain = ap (λ (queues : List Queue). Some (open_core p m.view kept (traffic_at m.window m.forwards (λ r. count_of r m.acks) (ordered_of queues) (waiting_of queues)) s))
+        chain = ap (λ (queues : List Queue). Some (open_core p m.view kept (view_core_at m.window m.forwards (λ r. count_of r m.acks) (ordered_of queues) (waiting_of queues)) s))
             (sym (unwanted-fact q n x m.orderer.queues wanted));
         puts = refl;
         happens = refl;
@@ -175,7 +175,7 @@ module _ {S : Type 0} (meaning : Meaning S) where
 
   pub hears-by : (b : Bool) (came : Option Posted) (p : Address) (kept : List (Address × wire.Install)) (m : Coordinator) (s : S) (q : Address) (n : ℕ) (listed : stands_in q (members_of m.acks) ≡ true)
       → nat_lt m.window.stable (min (stable_count (noted q n m.acks)) m.window.delivered) ≡ b
-      → IsCoordinator p m → IsAcked came p m q n → GoesOn came p m.view kept (coordinator_traffic m) s [] [] (coordinator_traffic (acknowledged q n m)) s
+      → IsCoordinator p m → IsAcked came p m q n → GoesOn came p m.view kept (coordinator_core m) s [] [] (coordinator_core (acknowledged q n m)) s
   hears-by true came p kept m s q n listed more i acked =
       let acks = noted q n m.acks in
       let t = min (stable_count acks) m.window.delivered in
@@ -184,7 +184,7 @@ module _ {S : Type 0} (meaning : Meaning S) where
       let top : max m.window.stable t ≡ t = max-eq_right over in
       let counts = noted-heard q n m.acks listed in
       record {
-        acts = Hears m.view q n ∷ Collects m.view t (held_above t m.window.held) ∷ [];
+        acts = TakesAck m.view q n ∷ Collects m.view t (held_above t m.window.held) ∷ [];
         chain = (
           record { open_in = record { view = refl; installed = refl }; first = i.coordinator; member = ap (stands_in q) (sym i.heard) ∙ listed; acked = acked },
           (
@@ -195,9 +195,9 @@ module _ {S : Type 0} (meaning : Meaning S) where
                   (let c : stable_count acks ≤ count_of r acks = stable-le-count r acks (ap (stands_in r) (members-noted q n m.acks ∙ i.heard) ∙ there) in omega arith));
               fewer = subst (λ (k : ℕ). HoldsAbove m.window.held k (held_above t m.window.held)) (sym top) (holds-above t m.window.held);
             },
-            ap (λ (a : Address → ℕ). Some (open_core p m.view kept (traffic_at (record next { stable = max m.window.stable t }) m.forwards a (ordered_of m.orderer.queues) (waiting_of m.orderer.queues)) s)) (sym counts)
-                ∙ ap (λ (k : ℕ). Some (open_core p m.view kept (traffic_at (record next { stable = k }) m.forwards (λ r. count_of r acks) (ordered_of m.orderer.queues) (waiting_of m.orderer.queues)) s)) top
-                ∙ ap (λ (w : WindowModel). Some (open_core p m.view kept (traffic_at w m.forwards (λ r. count_of r acks) (ordered_of m.orderer.queues) (waiting_of m.orderer.queues)) s))
+            ap (λ (a : Address → ℕ). Some (open_core p m.view kept (view_core_at (record next { stable = max m.window.stable t }) m.forwards a (ordered_of m.orderer.queues) (waiting_of m.orderer.queues)) s)) (sym counts)
+                ∙ ap (λ (k : ℕ). Some (open_core p m.view kept (view_core_at (record next { stable = k }) m.forwards (λ r. count_of r acks) (ordered_of m.orderer.queues) (waiting_of m.orderer.queues)) s)) top
+                ∙ ap (λ (w : WindowModel). Some (open_core p m.view kept (view_core_at w m.forwards (λ r. count_of r acks) (ordered_of m.orderer.queues) (waiting_of m.orderer.queues)) s))
                 (sym (cond-true (nat_lt m.window.stable t) next m.window more)),
           ),
         );
@@ -210,11 +210,11 @@ module _ {S : Type 0} (meaning : Meaning S) where
       let next : WindowModel = record { stable = t; delivered = m.window.delivered; held = held_above t m.window.held } in
       let counts = noted-heard q n m.acks listed in
       record {
-        acts = Hears m.view q n ∷ [];
+        acts = TakesAck m.view q n ∷ [];
         chain = (
           record { open_in = record { view = refl; installed = refl }; first = i.coordinator; member = ap (stands_in q) (sym i.heard) ∙ listed; acked = acked },
-          ap (λ (a : Address → ℕ). Some (open_core p m.view kept (traffic_at m.window m.forwards a (ordered_of m.orderer.queues) (waiting_of m.orderer.queues)) s)) (sym counts)
-              ∙ ap (λ (w : WindowModel). Some (open_core p m.view kept (traffic_at w m.forwards (λ r. count_of r acks) (ordered_of m.orderer.queues) (waiting_of m.orderer.queues)) s))
+          ap (λ (a : Address → ℕ). Some (open_core p m.view kept (view_core_at m.window m.forwards a (ordered_of m.orderer.queues) (waiting_of m.orderer.queues)) s)) (sym counts)
+              ∙ ap (λ (w : WindowModel). Some (open_core p m.view kept (view_core_at w m.forwards (λ r. count_of r acks) (ordered_of m.orderer.queues) (waiting_of m.orderer.queues)) s))
               (sym (cond-false (nat_lt m.window.stable t) next m.window more)),
         );
         puts = refl;

@@ -2,35 +2,35 @@
 use Rattle.std.proofs.Common.{◌≡◌, ℕ, ◌+◌, ◌<◌, ◌≤◌, Bool, true, false, cond, Option, Some, None, List, [], ◌∷◌, map, length, refl, sym, ap, ◌∙◌, subst, arith, is_some, nat_eq}
 use Rattle.std.specs.Prelude.{MatchBool, MatchOption}
 use Rattle.std.specs.Option.{option_map}
-use Rattle.std.proofs.lemmas.Option.{none-some, same_Some}
 use Rattle.std.specs.List.{Contains}
 use Rattle.std.proofs.lemmas.Bool.Decides.{nat_tests}
 use Rattle.std.proofs.lemmas.Bool.{cond-true}
 use Rattle.address.specs.Ids.{Address, same_address}
 use Rattle.view.specs.Members.{View, stands_in, is_distinct}
 use Rattle.view.specs.View.{view_refusal}
-use Rattle.wire.specs.Values.{Entry, held_at}
-use Rattle.wire.specs.declared.packet.Body.TheVariants as bodies
+use Rattle.wire_values.specs.Values.{Entry, held_at}
+use Rattle.wire_values.specs.declared.packet.Body.TheVariants as bodies
 use Rattle.state_transfer.specs.Meanings.{Meaning}
-use Rattle.trace_props.proofs.FactOfObserved.{same_address-refl, same_address-true}
+use Rattle.address.proofs.SameIds.{same_address-refl, same_address-true}
 use Rattle.nak_stream.specs.Windows.{WindowModel, IsWindow, taken, delivering}
 use Rattle.nak_stream.proofs.Windows.{held_at-with}
 use Rattle.sequencer.specs.Queues.{next_ordered, has_next, served, change_first, OrdererModel}
-use Rattle.agreement.specs.Histories.{Posted}
-use Rattle.agreement.specs.Acts.{packet, delivery, others_of}
-use Rattle.agreement.proofs.ActBegins.{coordinator-in}
+use Rattle.acts.specs.Histories.{Posted}
+use Rattle.acts.specs.Acts.{packet, delivery, others_of}
+use Rattle.view.proofs.FactOfMembers.{coordinator-in}
 use Rattle.traffic.specs.declared.coordinator.Coordinator.{Coordinator}
-use Rattle.output.specs.declared.output.Output.{Output}
-use Rattle.output.specs.Outputs.{Grows}
-use Rattle.traffic.specs.Traffics.{coordinator_traffic, waiting_of, senders_of}
+use Rattle.step_output.specs.declared.output.Output.{Output}
+use Rattle.step_output.specs.Outputs.{Grows}
+use Rattle.traffic.specs.ViewStates.{coordinator_core, waiting_of, senders_of}
 use Rattle.traffic.specs.Coordinators.{IsCoordinator, OrdersOne, queued, after_one, acknowledged}
 use Rattle.traffic.specs.Goings.{open_core, CoordinatorGoes}
 use Rattle.traffic.proofs.FactOfQueues.{served-fact}
 use Rattle.traffic.proofs.FactOfOffered.{is_wanted, offered-fact, unwanted-fact}
 use Rattle.traffic.proofs.Windows.{next-taken}
 use Rattle.traffic.proofs.ActsOfCoordinator.{Due, due-fact, distinct-in, orders-acts, queues-by, hears-by, puts-acts, one-coordinator, heard-coordinator}
-use Rattle.output.proofs.FactOfGrows.{grows-nothing}
+use Rattle.step_output.proofs.FactOfGrows.{grows-nothing}
 use Rattle.traffic.proofs.ActsInTurn.{goes-nothing, goes-then}
+use Rattle.traffic.proofs.FactOfTurns.{next-is, next-none}
 
 -- this member stands in its view
 pub itself-in : (p : Address) (v : View) → view_refusal v.id v.members ≡ None → same_address p v.id.creator ≡ true → stands_in p v.members ≡ true
@@ -118,7 +118,7 @@ module _ {S : Type 0} (meaning : Meaning S) where
         goes = record {
           posted = map (packet p body) list;
           happened = [];
-          acted = λ kept. puts-acts meaning came (open_core p m.view kept (coordinator_traffic next) (meaning.apply s e.sender e.payload)) body list
+          acted = λ kept. puts-acts meaning came (open_core p m.view kept (coordinator_core next) (meaning.apply s e.sender e.payload)) body list
               (λ q. (refl, i.coordinator, one-held m e p i d));
           grows = announced;
         };
@@ -133,15 +133,6 @@ module _ {S : Type 0} (meaning : Meaning S) where
       (subst (λ (z : S). CoordinatorGoes meaning came p group m s out (acknowledged p next.window.delivered next) z most) (sym x.state) all)
 
   -- ---- one turn, as the code has it
-
-  -- what was ordered next
-  ordered-next : (k : ℕ) (o : Option Entry) (n : ℕ × Entry) → Some n ≡ option_map (λ e. (k, e)) o → (n ≡ (k, n.1)) × (o ≡ Some n.1)
-  ordered-next k None n e = absurd (none-some n (sym e))
-  ordered-next k (Some x) n e = let same : n ≡ (k, x) = same_Some n (k, x) e in (same ∙ ap (λ y. (k, y)) (ap (λ (z : ℕ × Entry). z.1) (sym same)), ap (λ (z : ℕ × Entry). Some z.1) (sym same))
-
-  none-next : (k : ℕ) (o : Option Entry) → ◌≡◌ {A = Option (ℕ × Entry)} None (option_map (λ e. (k, e)) o) → o ≡ None
-  none-next k None e = refl
-  none-next k (Some x) e = absurd (none-some (k, x) e)
 
   abbrev pub Does : Address → List ℕ → Option (ℕ × Entry) → Coordinator → S → Output → Coordinator → S → Output → Type 0
   Does p group next m s out new t more = MatchOption next ((new ≡ m) × (t ≡ s) × (more ≡ out)) (λ n. OrdersOne meaning p group n m s out new t more)
@@ -161,7 +152,7 @@ module _ {S : Type 0} (meaning : Meaning S) where
       → Does p group next m s out new t more → next_ordered new.window.stable new.orderer ≡ None
   rest-done p group next m s out new t more is none does =
       let x = subst (λ (o : Option (ℕ × Entry)). Does p group o m s out new t more) none does in
-      ap (λ (n : Coordinator). next_ordered n.window.stable n.orderer) x.0 ∙ none-next (m.orderer.ordered + 1) (next_ordered m.window.stable m.orderer) (sym none ∙ is)
+      ap (λ (n : Coordinator). next_ordered n.window.stable n.orderer) x.0 ∙ next-none (m.orderer.ordered + 1) (next_ordered m.window.stable m.orderer) (sym none ∙ is)
 
   pub turn-goes : (came : Option Posted) (p : Address) (group : List ℕ) (next : Option (ℕ × Entry)) (n : ℕ × Entry) (m : Coordinator) (s : S) (out : Output) (new : Coordinator) (t : S) (more most : Output)
       (reached : ℕ) (last : Coordinator) → IsCoordinator p m → IsWindow m.window → view_refusal m.view.id m.view.members ≡ None → IsNext m next → next ≡ Some n → Does p group next m s out new t more
@@ -170,7 +161,7 @@ module _ {S : Type 0} (meaning : Meaning S) where
   turn-goes came p group next n m s out new t more most reached last i w sound is some does puts same end =
       let k = m.orderer.ordered + 1 in
       let x : OrdersOne meaning p group n m s out new t more = subst (λ (o : Option (ℕ × Entry)). Does p group o m s out new t more) some does in
-      let y = ordered-next k (next_ordered m.window.stable m.orderer) n (sym some ∙ is) in
+      let y = next-is k (next_ordered m.window.stable m.orderer) n (sym some ∙ is) in
       let goes = one-goes came p group m s out n.1 new t more most i w sound y.1 (subst (λ (z : ℕ × Entry). OrdersOne meaning p group z m s out new t more) y.0 x)
       (subst (λ (z : ℕ × Entry). Grows group more most (map (packet p (bodies.Order new.view.id z.0 z.1)) (others_of p new.view.members)) []) y.0 puts) in
       subst (λ (z : Coordinator). CoordinatorGoes meaning came p group m s out z t most) (sym (end ∙ ap (λ (z : ℕ). acknowledged p z new) same)) goes
@@ -181,7 +172,7 @@ module _ {S : Type 0} (meaning : Meaning S) where
   turn-fewer p group next n m s out new t more reached last i w sound is some does end =
       let k = m.orderer.ordered + 1 in
       let x : OrdersOne meaning p group n m s out new t more = subst (λ (o : Option (ℕ × Entry)). Does p group o m s out new t more) some does in
-      let y = ordered-next k (next_ordered m.window.stable m.orderer) n (sym some ∙ is) in
+      let y = next-is k (next_ordered m.window.stable m.orderer) n (sym some ∙ is) in
       let less = one-shorter p m n.1 i (distinct-in m.view sound) (due-fact m n.1 i.ordered w.counts y.1) in
       subst (λ (z : Coordinator). length (waiting_of z.orderer.queues) < length (waiting_of m.orderer.queues)) (sym (end ∙ ap (acknowledged p reached) x.now)) less
 

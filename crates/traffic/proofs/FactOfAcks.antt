@@ -1,5 +1,5 @@
 -- What was acknowledged, in the words of agreement.
-use Rattle.std.proofs.Common.{◌≡◌, ℕ, Bool, ◌||◌, true, false, max, List, [], ◌∷◌, refl, sym, ap, ◌∙◌, subst}
+use Rattle.std.proofs.Common.{◌≡◌, ℕ, Bool, true, false, max, List, [], ◌∷◌, refl, sym, ap, ◌∙◌, subst}
 use Rattle.std.specs.Prelude.{if◌then◌else◌}
 use Rattle.std.proofs.lemmas.Bool.{cond-true, cond-false}
 use mathlib.Core.Path.{fun_ext}
@@ -7,8 +7,9 @@ use Rattle.address.specs.Ids.{Address, same_address}
 use Rattle.view.specs.Members.{stands_in}
 use Rattle.stability.specs.declared.Ack.{Ack}
 use Rattle.stability.specs.Counts.{noted, members_of, count_of}
-use Rattle.trace_props.proofs.FactOfObserved.{same_address-refl, same_address-true}
-use Rattle.agreement.specs.Acts.{heard}
+use Rattle.address.proofs.SameIds.{same_address-refl, same_address-true}
+use Rattle.acts.specs.Acts.{heard}
+use Rattle.address.proofs.Plain.{or-rest}
 
 other-by : (b c : Bool) (p q : Address) (n k m : ℕ) (a : Ack) → same_address q a.member ≡ b → same_address p a.member ≡ c → same_address p q ≡ false → k ≡ m
     → (let r : Ack = if b then record { member = a.member; count = max a.count n } else a in if same_address p r.member then r.count else k) ≡ (if c then a.count else m)
@@ -30,15 +31,11 @@ itself-by : (b : Bool) (q : Address) (n k m : ℕ) (a : Ack) → same_address q 
 itself-by true q n k m a s e = cond-true (same_address q a.member) (max a.count n) k s
 itself-by false q n k m a s e = cond-false (same_address q a.member) a.count k s ∙ e refl
 
-or-false : (b c : Bool) → (b || c) ≡ true → b ≡ false → c ≡ true
-or-false true c h f = cc
-or-false false c h f = h
-
 pub noted-itself : (q : Address) (n : ℕ) (acks : List Ack) → stands_in q (members_of acks) ≡ true → count_of q (noted q n acks) ≡ max (count_of q acks) n
 noted-itself q n [] h = cc
 noted-itself q n (a ∷ acks) h =
     itself-by (same_address q a.member) q n (count_of q (noted q n acks)) (count_of q acks) a refl
-    (λ f. noted-itself q n acks (or-false (same_address q a.member) (stands_in q (members_of acks)) h f))
+    (λ f. noted-itself q n acks (or-rest (same_address q a.member) (stands_in q (members_of acks)) h f))
 
 noted-by : (b : Bool) (p q : Address) (n : ℕ) (acks : List Ack) → same_address p q ≡ b → stands_in q (members_of acks) ≡ true
     → count_of p (noted q n acks) ≡ (if b then max (count_of p acks) n else count_of p acks)

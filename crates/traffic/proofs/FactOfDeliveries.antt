@@ -7,31 +7,31 @@ use Rattle.std.proofs.lemmas.List.Sums.{fold-append}
 use Rattle.limits.specs.declared.TheConstants.{WINDOW}
 use Rattle.address.specs.Ids.{Address}
 use Rattle.view.specs.Members.{View}
-use Rattle.wire.specs.Values.{Entry, held_at}
-use Rattle.wire.specs.declared.packet.Body.TheVariants as bodies
+use Rattle.wire_values.specs.Values.{Entry, held_at}
+use Rattle.wire_values.specs.declared.packet.Body.TheVariants as bodies
 use Rattle.state_transfer.specs.Meanings.{Meaning}
 use Rattle.nak_stream.specs.Windows.{IsWindow, offers}
-use Rattle.agreement.specs.Histories.{Posted}
-use Rattle.agreement.specs.Acts.{delivery}
-use Rattle.traffic.specs.declared.other.Other.{Other}
-use Rattle.output.specs.declared.output.Output.{Output}
-use Rattle.output.specs.Outputs.{Grows}
-use Rattle.traffic.specs.Goings.{OtherGoes}
+use Rattle.acts.specs.Histories.{Posted}
+use Rattle.acts.specs.Acts.{delivery}
+use Rattle.traffic.specs.declared.follower.Follower.{Follower}
+use Rattle.step_output.specs.declared.output.Output.{Output}
+use Rattle.step_output.specs.Outputs.{Grows}
+use Rattle.traffic.specs.Goings.{FollowerGoes}
 use Rattle.traffic.specs.Turns.{IsFew}
-use Rattle.traffic.specs.Others.{DeliversOne, collected_to, held_too}
+use Rattle.traffic.specs.Followers.{DeliversOne, collected_to, held_too}
 use Rattle.traffic.specs.Takes.{DeliversTo, Starts, DeliversMore, DeliversHeld, AsksUpTo, AnswersOrder, TakesNear, TakesOrder, ack_of}
-use Rattle.output.proofs.FactOfGrows.{grows-nothing, grows-then}
-use Rattle.traffic.proofs.ActsOfOthers.{puts-goes}
+use Rattle.step_output.proofs.FactOfGrows.{grows-nothing, grows-then}
+use Rattle.traffic.proofs.ActsOfFollowers.{puts-goes}
 use Rattle.traffic.proofs.ActsInTurn.{other-nothing, other-then}
 
-pub record DeliveredFact (p : Address) (old : Other) (entries : List Entry) (n : Other) : Type 0 where
+pub record DeliveredFact (p : Address) (old : Follower) (entries : List Entry) (n : Follower) : Type 0 where
   pub view : n.view ≡ old.view
   pub held : n.window.held ≡ old.window.held
   pub stable : n.window.stable ≡ old.window.stable
   pub delivered : n.window.delivered ≡ old.window.delivered + length entries
   pub few : length entries ≤ WINDOW
 
-pub delivered-fact : (p : Address) (old n : Other) (entries : List Entry) → DeliversTo p old entries n → IsWindow old.window → DeliveredFact p old entries n
+pub delivered-fact : (p : Address) (old n : Follower) (entries : List Entry) → DeliversTo p old entries n → IsWindow old.window → DeliveredFact p old entries n
 delivered-fact p old n entries (Starts m) w = record { view = refl; held = refl; stable = refl; delivered = omega arith; few = omega arith }
 delivered-fact p old n entries (DeliversMore m k es e x there) w =
     let y = delivered-fact p old k es x w in
@@ -46,32 +46,32 @@ delivered-fact p old n entries (DeliversMore m k es e x there) w =
     }
 
 module _ {S : Type 0} (meaning : Meaning S) where
-  pub delivers-nothing : (p : Address) (group : List ℕ) (m : Other) (s : S) (out : Output) → DeliversHeld meaning p group m s out m s out
+  pub delivers-nothing : (p : Address) (group : List ℕ) (m : Follower) (s : S) (out : Output) → DeliversHeld meaning p group m s out m s out
   delivers-nothing p group m s out = record { entries = []; delivers = Starts m; state = refl; grows = grows-nothing group out; view = refl }
 
-  next-by : (o : Option Entry) (p : Address) (group : List ℕ) (did_deliver : Bool) (a b c : Other) (s t u : S) (out more most : Output) → DeliversHeld meaning p group a s out b t more
+  next-by : (o : Option Entry) (p : Address) (group : List ℕ) (did_deliver : Bool) (a b c : Follower) (s t u : S) (out more most : Output) → DeliversHeld meaning p group a s out b t more
       → held_at (b.window.delivered + 1) b.window.held ≡ o → MatchOption o ((did_deliver ≡ false) × (c ≡ b) × (u ≡ t) × (most ≡ more)) (λ e. (did_deliver ≡ true) × DeliversOne meaning p group e b t more c u most)
       → DeliversHeld meaning p group a s out c u most
   next-by None p group did_deliver a b c s t u out more most x there y =
-      subst (λ (n : Other). DeliversHeld meaning p group a s out n u most) (sym y.1) (subst (λ (z : S). DeliversHeld meaning p group a s out b z most) (sym y.2)
+      subst (λ (n : Follower). DeliversHeld meaning p group a s out n u most) (sym y.1) (subst (λ (z : S). DeliversHeld meaning p group a s out b z most) (sym y.2)
       (subst (λ (o : Output). DeliversHeld meaning p group a s out b t o) (sym y.3) x))
   next-by (Some e) p group did_deliver a b c s t u out more most x there y =
       let z = y.1 in
       record {
         entries = x.entries ++ e ∷ [];
-        delivers = subst (λ (n : Other). DeliversTo p a (x.entries ++ e ∷ []) n) (sym z.now) (DeliversMore a b x.entries e x.delivers there);
+        delivers = subst (λ (n : Follower). DeliversTo p a (x.entries ++ e ∷ []) n) (sym z.now) (DeliversMore a b x.entries e x.delivers there);
         state = z.state ∙ ap (λ (r : S). meaning.apply r e.sender e.payload) x.state ∙ sym (fold-append (λ r f. meaning.apply r f.sender f.payload) s x.entries (e ∷ []));
         grows = subst (λ l. Grows group out most [] l) (sym (map-append (delivery p a.view.id) x.entries (e ∷ [])))
             (grows-then group out more most [] [] _ _ x.grows (subst (λ (v : View). Grows group more most [] (delivery p v.id e ∷ [])) x.view z.grows));
-        view = ap (λ (n : Other). n.view) z.now ∙ x.view;
+        view = ap (λ (n : Follower). n.view) z.now ∙ x.view;
       }
 
-  pub delivers-then : (p : Address) (group : List ℕ) (did_deliver : Bool) (a b c : Other) (s t u : S) (out more most : Output) → DeliversHeld meaning p group a s out b t more
+  pub delivers-then : (p : Address) (group : List ℕ) (did_deliver : Bool) (a b c : Follower) (s t u : S) (out more most : Output) → DeliversHeld meaning p group a s out b t more
       → MatchOption (held_at (b.window.delivered + 1) b.window.held) ((did_deliver ≡ false) × (c ≡ b) × (u ≡ t) × (most ≡ more)) (λ e. (did_deliver ≡ true) × DeliversOne meaning p group e b t more c u most)
       → DeliversHeld meaning p group a s out c u most
   delivers-then p group did_deliver a b c s t u out more most x y = next-by (held_at (b.window.delivered + 1) b.window.held) p group did_deliver a b c s t u out more most x refl y
 
-  pub delivers-few : (p : Address) (group : List ℕ) (m : Other) (s : S) (out : Output) (n : Other) (t : S) (more : Output) → IsWindow m.window → DeliversHeld meaning p group m s out n t more → IsFew out more
+  pub delivers-few : (p : Address) (group : List ℕ) (m : Follower) (s : S) (out : Output) (n : Follower) (t : S) (more : Output) → IsWindow m.window → DeliversHeld meaning p group m s out n t more → IsFew out more
   delivers-few p group m s out n t more w x =
       let k = (delivered-fact p m n x.entries x.delivers w).few in
       let grown : length more.events.items ≡ length out.events.items + length x.entries =
@@ -81,49 +81,49 @@ module _ {S : Type 0} (meaning : Meaning S) where
 
   -- ---- an ORDER
 
-  pub order-ignored : (p : Address) (group : List ℕ) (g : ℕ) (e : Entry) (m : Other) (s : S) (out : Output) (before : ℕ) → before < g - WINDOW → before ≡ m.window.delivered → TakesOrder meaning p group g e m s out m s out
+  pub order-ignored : (p : Address) (group : List ℕ) (g : ℕ) (e : Entry) (m : Follower) (s : S) (out : Output) (before : ℕ) → before < g - WINDOW → before ≡ m.window.delivered → TakesOrder meaning p group g e m s out m s out
   order-ignored p group g e m s out before far is = let t : nat_lt m.window.delivered (g - WINDOW) ≡ true = grind (arith, nat_tests) in rw t (refl, refl, refl)
 
-  pub order-taken : (p : Address) (group : List ℕ) (g : ℕ) (e : Entry) (m a b : Other) (s : S) (out : Output) (n : Other) (t : S) (between more : Output) (before : ℕ) (new : Bool) → g - WINDOW ≤ before → before ≡ m.window.delivered
+  pub order-taken : (p : Address) (group : List ℕ) (g : ℕ) (e : Entry) (m a b : Follower) (s : S) (out : Output) (n : Follower) (t : S) (between more : Output) (before : ℕ) (new : Bool) → g - WINDOW ≤ before → before ≡ m.window.delivered
       → a ≡ collected_to (g - WINDOW) m → new ≡ offers g a.window → b ≡ held_too g e a → DeliversHeld meaning p group b s out n t between → held_at (n.window.delivered + 1) n.window.held ≡ None
       → AnswersOrder p group before new g n between more → TakesOrder meaning p group g e m s out n t more
   order-taken p group g e m a b s out n t between more before new near is now fresh after delivers ready answers =
       let f : nat_lt m.window.delivered (g - WINDOW) ≡ false = grind (arith, nat_tests) in
       let taken : TakesNear meaning p group g e m s out n t more = record {
         between = between;
-        delivers = subst (λ (z : Other). DeliversHeld meaning p group z s out n t between) (after ∙ ap (held_too g e) now) delivers;
+        delivers = subst (λ (z : Follower). DeliversHeld meaning p group z s out n t between) (after ∙ ap (held_too g e) now) delivers;
         ready = ready;
-        answers = subst (λ (z : Bool). AnswersOrder p group m.window.delivered z g n between more) (fresh ∙ ap (λ (z : Other). offers g z.window) now)
+        answers = subst (λ (z : Bool). AnswersOrder p group m.window.delivered z g n between more) (fresh ∙ ap (λ (z : Follower). offers g z.window) now)
             (subst (λ (z : ℕ). AnswersOrder p group z new g n between more) is answers);
       } in
       rw f taken
 
 module _ {S : Type 0} (meaning : Meaning S) where
-  pub asks-goes : (came : Option Posted) (p : Address) (group : List ℕ) (g : ℕ) (m : Other) (s : S) (out more : Output) → AsksUpTo p group g m out more
-      → OtherGoes meaning came p group m s out m s more
+  pub asks-goes : (came : Option Posted) (p : Address) (group : List ℕ) (g : ℕ) (m : Follower) (s : S) (out more : Output) → AsksUpTo p group g m out more
+      → FollowerGoes meaning came p group m s out m s more
   asks-goes came p group g m s out more (inl x) = puts-goes meaning came p group m s out more m.view.id.creator (bodies.Nak m.view.id x.missing) (λ kept. tt) x.grows
-  asks-goes came p group g m s out more (inr x) = subst (λ (o : Output). OtherGoes meaning came p group m s out m s o) (sym x.1) (other-nothing meaning came p group m s out)
+  asks-goes came p group g m s out more (inr x) = subst (λ (o : Output). FollowerGoes meaning came p group m s out m s o) (sym x.1) (other-nothing meaning came p group m s out)
 
-  answers-by : (b c : Bool) (came : Option Posted) (p : Address) (group : List ℕ) (g : ℕ) (m : Other) (s : S) (out more : Output)
-      → MatchBool b (Grows group out more (ack_of p m ∷ []) []) (MatchBool c (AsksUpTo p group g m out more) (more ≡ out)) → OtherGoes meaning came p group m s out m s more
+  answers-by : (b c : Bool) (came : Option Posted) (p : Address) (group : List ℕ) (g : ℕ) (m : Follower) (s : S) (out more : Output)
+      → MatchBool b (Grows group out more (ack_of p m ∷ []) []) (MatchBool c (AsksUpTo p group g m out more) (more ≡ out)) → FollowerGoes meaning came p group m s out m s more
   answers-by true c came p group g m s out more x = puts-goes meaning came p group m s out more m.view.id.creator (bodies.Ack m.view.id m.window.delivered) (λ kept. (refl, omega arith)) x
   answers-by false true came p group g m s out more x = asks-goes came p group g m s out more x
-  answers-by false false came p group g m s out more x = subst (λ (o : Output). OtherGoes meaning came p group m s out m s o) (sym x) (other-nothing meaning came p group m s out)
+  answers-by false false came p group g m s out more x = subst (λ (o : Output). FollowerGoes meaning came p group m s out m s o) (sym x) (other-nothing meaning came p group m s out)
 
-  pub answers-goes : (came : Option Posted) (p : Address) (group : List ℕ) (before : ℕ) (new : Bool) (g : ℕ) (a m : Other) (s t : S) (out more most : Output)
-      → OtherGoes meaning came p group a s out m t more → AnswersOrder p group before new g m more most → OtherGoes meaning came p group a s out m t most
+  pub answers-goes : (came : Option Posted) (p : Address) (group : List ℕ) (before : ℕ) (new : Bool) (g : ℕ) (a m : Follower) (s t : S) (out more most : Output)
+      → FollowerGoes meaning came p group a s out m t more → AnswersOrder p group before new g m more most → FollowerGoes meaning came p group a s out m t most
   answers-goes came p group before new g a m s t out more most x y =
       other-then meaning came p group a m m s t t out more most x (answers-by (nat_lt before m.window.delivered) new came p group g m t more most y)
 
-asks-few : (p : Address) (group : List ℕ) (g : ℕ) (m : Other) (out more : Output) → AsksUpTo p group g m out more → length more.events.items ≡ length out.events.items
+asks-few : (p : Address) (group : List ℕ) (g : ℕ) (m : Follower) (out more : Output) → AsksUpTo p group g m out more → length more.events.items ≡ length out.events.items
 asks-few p group g m out more (inl x) = ap length (x.grows.events ∙ append-nil out.events.items)
 asks-few p group g m out more (inr x) = ap (λ (o : Output). length o.events.items) x.1
 
-pub answers-few : (b c : Bool) (p : Address) (group : List ℕ) (g : ℕ) (m : Other) (out more : Output)
+pub answers-few : (b c : Bool) (p : Address) (group : List ℕ) (g : ℕ) (m : Follower) (out more : Output)
     → MatchBool b (Grows group out more (ack_of p m ∷ []) []) (MatchBool c (AsksUpTo p group g m out more) (more ≡ out)) → length more.events.items ≡ length out.events.items
 answers-few true c p group g m out more x = ap length (x.events ∙ append-nil out.events.items)
 answers-few false true p group g m out more x = asks-few p group g m out more x
 answers-few false false p group g m out more x = ap (λ (o : Output). length o.events.items) x
 
-pub order-few : (p : Address) (group : List ℕ) (before : ℕ) (new : Bool) (g : ℕ) (m : Other) (out more most : Output) → IsFew out more → AnswersOrder p group before new g m more most → IsFew out most
+pub order-few : (p : Address) (group : List ℕ) (before : ℕ) (new : Bool) (g : ℕ) (m : Follower) (out more most : Output) → IsFew out more → AnswersOrder p group before new g m more most → IsFew out most
 order-few p group before new g m out more most x y = let k = answers-few (nat_lt before m.window.delivered) new p group g m more most y in omega (arith, x, k)

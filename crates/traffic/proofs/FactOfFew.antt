@@ -10,19 +10,19 @@ use Rattle.address.specs.Ids.{Address, same_address}
 use Rattle.view.specs.Members.{View, stands_in, is_distinct}
 use Rattle.view.specs.View.{view_refusal, begins_with}
 use Rattle.view.specs.declared.ViewError.TheVariants.{Empty, TooMany, Repeated, NotFirst}
-use Rattle.wire.specs.Values.{Entry}
+use Rattle.wire_values.specs.Values.{Entry}
 use Rattle.state_transfer.specs.Meanings.{Meaning}
-use Rattle.trace_props.proofs.FactOfObserved.{same_address-refl, same_address-true}
+use Rattle.address.proofs.SameIds.{same_address-refl, same_address-true, turned-about}
 use Rattle.nak_stream.specs.Windows.{WindowModel, IsWindow, held_with, held_above, taken, delivering}
 use Rattle.sequencer.specs.Forwards.{IsForwards}
 use Rattle.sequencer.specs.Queues.{Queue, next_ordered, is_from, entry_with}
 use Rattle.stability.specs.Counts.{count_of, raised, noted, stable_count}
 use Rattle.stability.specs.declared.Ack.{Ack}
 use Rattle.stability.proofs.Counts.{stable-le-count}
-use Rattle.agreement.specs.Acts.{delivery}
+use Rattle.acts.specs.Acts.{delivery}
 use Rattle.traffic.specs.declared.coordinator.Coordinator.{Coordinator}
-use Rattle.output.specs.declared.output.Output.{Output}
-use Rattle.traffic.specs.Traffics.{waiting_of, waiting_in, senders_of}
+use Rattle.step_output.specs.declared.output.Output.{Output}
+use Rattle.traffic.specs.ViewStates.{waiting_of, waiting_in, senders_of}
 use Rattle.traffic.specs.Coordinators.{IsCoordinator, after_one}
 use Rattle.traffic.specs.Turns.{turned, TurnsTo, Starts, Turns, Ordering, IsSettled, IsFew, own_queue}
 use Rattle.traffic.proofs.Windows.{next-taken}
@@ -150,10 +150,6 @@ module _ {S : Type 0} (meaning : Meaning S) where
   first-by false false true true e = refl
   first-by false false true false e = absurd (none-some NotFirst (sym e))
   first-by false false false d e = absurd (none-some Repeated (sym e))
-
-  turned-about : (b : Bool) (p q : Address) → same_address q p ≡ b → same_address p q ≡ false → same_address q p ≡ false
-  turned-about true p q s d = let x : true ≡ false = sym (same_address-refl p) ∙ ap (same_address p) (sym (same_address-true q p s)) ∙ d in cc
-  turned-about false p q s d = s
 
   or-none : (b c : Bool) → (not (b || c)) ≡ true → b ≡ false
   or-none true c h = cc

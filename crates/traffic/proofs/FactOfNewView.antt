@@ -6,25 +6,21 @@ use mathlib.Core.Path.{fun_ext}
 use Rattle.address.specs.Ids.{Address, same_address}
 use Rattle.view.specs.Members.{View, stands_in}
 use Rattle.view.specs.View.{view_refusal}
-use Rattle.wire.specs.Values.{Entry}
-use Rattle.trace_props.proofs.FactOfObserved.{same_address-true}
+use Rattle.wire_values.specs.Values.{Entry}
+use Rattle.address.proofs.SameIds.{same_address-true}
 use Rattle.sequencer.specs.Forwards.{no_forwards}
 use Rattle.sequencer.specs.Queues.{Queue, idle, is_from, first_next, next_ordered}
 use Rattle.stability.specs.Counts.{unheard, stable_count}
-use Rattle.stability.proofs.Counts.{count-unheard, members-unheard}
-use Rattle.agreement.specs.Cores as cores
-use Rattle.agreement.specs.Cores.{fresh_traffic}
-use Rattle.traffic.specs.declared.traffic.Traffic.TheVariants as kinds
-use Rattle.traffic.specs.Traffics.{waiting_of, ordered_of, senders_of, coordinator_traffic, traffic_of, view_of, fresh_coordinator, fresh_other, fresh_in}
+use Rattle.stability.proofs.Counts.{count-unheard, members-unheard, zero-either}
+use Rattle.acts.specs.Cores as cores
+use Rattle.acts.specs.Cores.{fresh_view_core}
+use Rattle.traffic.specs.declared.view_state.ViewState.TheVariants as kinds
+use Rattle.traffic.specs.ViewStates.{waiting_of, ordered_of, senders_of, coordinator_core, view_core_of, view_of, fresh_coordinator, fresh_follower, fresh_in}
 use Rattle.traffic.specs.Coordinators.{IsCoordinator}
 use Rattle.traffic.specs.Turns.{IsSettled, own_queue}
 use Rattle.traffic.proofs.ActsOfTurns.{itself-in}
 
 -- ---- nothing is kept of a new view but the view
-
-zero-either : (b : Bool) (n : ℕ) → n ≡ 0 → (if b then 0 else n) ≡ 0
-zero-either true n z = refl
-zero-either false n z = z
 
 none-ordered : (p : Address) (members : List Address) → ordered_of (map idle members) p ≡ 0
 none-ordered p [] = refl
@@ -34,23 +30,23 @@ none-waits : (members : List Address) → waiting_of (map idle members) ≡ []
 none-waits [] = refl
 none-waits (q ∷ members) = none-waits members
 
-abbrev beginning_with : (Address → ℕ) → (Address → ℕ) → List Entry → cores.Traffic
-beginning_with acks ordered waiting = record fresh_traffic { acks = acks; ordered = ordered; waiting = waiting }
+abbrev beginning_with : (Address → ℕ) → (Address → ℕ) → List Entry → cores.ViewCore
+beginning_with acks ordered waiting = record fresh_view_core { acks = acks; ordered = ordered; waiting = waiting }
 
-pub fresh-coordinator-is : (v : View) → coordinator_traffic (fresh_coordinator v) ≡ fresh_traffic
+pub fresh-coordinator-is : (v : View) → coordinator_core (fresh_coordinator v) ≡ fresh_view_core
 fresh-coordinator-is v =
     ap (λ (a : Address → ℕ). beginning_with a (ordered_of (map idle v.members)) (waiting_of (map idle v.members))) (fun_ext (λ p. count-unheard p v.members))
     ∙ ap (λ (o : Address → ℕ). beginning_with (λ p. 0) o (waiting_of (map idle v.members))) (fun_ext (λ p. none-ordered p v.members))
     ∙ ap (λ (w : List Entry). beginning_with (λ p. 0) (λ p. 0) w) (none-waits v.members)
 
-fresh-by : (b : Bool) (v : View) → traffic_of (if b then kinds.Coordinator (fresh_coordinator v) else kinds.Other (fresh_other v)) ≡ fresh_traffic
+fresh-by : (b : Bool) (v : View) → view_core_of (if b then kinds.Coordinator (fresh_coordinator v) else kinds.Follower (fresh_follower v)) ≡ fresh_view_core
 fresh-by true v = fresh-coordinator-is v
 fresh-by false v = refl
 
-pub fresh-is : (p : Address) (v : View) → traffic_of (fresh_in p v) ≡ fresh_traffic
+pub fresh-is : (p : Address) (v : View) → view_core_of (fresh_in p v) ≡ fresh_view_core
 fresh-is p v = fresh-by (same_address p v.id.creator) v
 
-view-by : (b : Bool) (v : View) → view_of (if b then kinds.Coordinator (fresh_coordinator v) else kinds.Other (fresh_other v)) ≡ v
+view-by : (b : Bool) (v : View) → view_of (if b then kinds.Coordinator (fresh_coordinator v) else kinds.Follower (fresh_follower v)) ≡ v
 view-by true v = refl
 view-by false v = refl
 

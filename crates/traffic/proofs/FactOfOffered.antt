@@ -8,10 +8,10 @@ use Rattle.std.proofs.lemmas.Bool.{cond-true, cond-false}
 use Rattle.std.proofs.lemmas.List.{map-append}
 use Rattle.address.specs.Ids.{Address, same_address}
 use Rattle.view.specs.Members.{stands_in}
-use Rattle.wire.specs.Values.{Entry}
-use Rattle.trace_props.proofs.FactOfObserved.{same_address-true}
+use Rattle.wire_values.specs.Values.{Entry}
+use Rattle.address.proofs.SameIds.{same_address-true}
 use Rattle.sequencer.specs.Queues.{Queue, change_first, entry_with, is_from, takes, offered}
-use Rattle.traffic.specs.Traffics.{waiting_in, waiting_of, ordered_of, senders_of}
+use Rattle.traffic.specs.ViewStates.{waiting_in, waiting_of, ordered_of, senders_of}
 use Rattle.traffic.proofs.FactOfQueues.{In, in-itself, in-left, in-right, in-both}
 
 abbrev pub entry_from : Address → ℕ → List ℕ → Entry

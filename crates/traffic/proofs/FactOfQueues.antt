@@ -5,17 +5,18 @@ use Rattle.std.specs.List.{find, Contains}
 use Rattle.std.specs.Option.{option_map}
 use Rattle.std.proofs.lemmas.Bool.Decides.{nat_tests}
 use Rattle.std.proofs.lemmas.Bool.{cond-true, cond-false}
-use Rattle.std.proofs.lemmas.Option.{none-some, same_Some, slice_get_within, get_or_from_slice_get}
+use Rattle.std.proofs.lemmas.Option.{none-some, same_Some}
 use Rattle.std.proofs.lemmas.List.Elements.{Contains-append_left, Contains-append_right}
 use Rattle.address.specs.Ids.{Address, same_address}
 use Rattle.view.specs.Members.{stands_in, is_distinct}
-use Rattle.wire.specs.Values.{Entry}
+use Rattle.wire_values.specs.Values.{Entry}
 use Rattle.trace_props.specs.declared.event.Numbered.{Numbered}
-use Rattle.trace_props.proofs.FactOfObserved.{same_address-refl, same_address-true}
+use Rattle.address.proofs.SameIds.{same_address-refl, same_address-true}
 use Rattle.sequencer.specs.Queues.{Queue, change_first, without_first, follows, has_next, next_of, entry_with, served, first_next}
-use Rattle.agreement.specs.Acts.{one_more}
-use Rattle.agreement.proofs.Lists.{slice_get-split, slice_get-one}
-use Rattle.traffic.specs.Traffics.{waiting_in, waiting_of, ordered_of, senders_of}
+use Rattle.acts.specs.Acts.{one_more}
+use Rattle.acts.proofs.Lists.{slice_get-split, slice_get-one}
+use Rattle.traffic.specs.ViewStates.{waiting_in, waiting_of, ordered_of, senders_of}
+use Rattle.trace_props.proofs.KeepFourRules.{Contains-at}
 
 -- ---- lists within lists
 
@@ -23,11 +24,8 @@ use Rattle.traffic.specs.Traffics.{waiting_in, waiting_of, ordered_of, senders_o
 pub record In {X : Type 0} (xs ys : List X) : Type 0 where
   pub each : (k : ℕ) (x : X) → slice_get xs k ≡ Some x → Contains ys x
 
-pub stands-at : {X : Type 0} (xs : List X) (k : ℕ) (x : X) → slice_get xs k ≡ Some x → Contains xs x
-stands-at xs k x at = (k, slice_get_within xs k x at, get_or_from_slice_get xs k x x at)
-
 pub in-itself : {X : Type 0} (xs : List X) → In xs xs
-in-itself xs = record { each = stands-at xs }
+in-itself xs = record { each = Contains-at xs }
 
 pub in-left : {X : Type 0} (xs ys zs : List X) → In xs ys → In xs (ys ++ zs)
 in-left xs ys zs i = record { each = λ k x at. Contains-append_left ys zs x (i.each k x at) }

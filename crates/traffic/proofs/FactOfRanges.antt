@@ -7,15 +7,15 @@ use Rattle.std.proofs.lemmas.List.{append-nil}
 use Rattle.limits.specs.declared.TheConstants.{WINDOW}
 use Rattle.address.specs.Ids.{Address}
 use Rattle.view.specs.Members.{View}
-use Rattle.wire.specs.Values.{Entry, held_at}
-use Rattle.wire.specs.declared.packet.Body.TheVariants as bodies
+use Rattle.wire_values.specs.Values.{Entry, held_at}
+use Rattle.wire_values.specs.declared.packet.Body.TheVariants as bodies
 use Rattle.nak_stream.specs.Windows.{WindowModel, IsWindow}
-use Rattle.agreement.specs.Histories.{Posted}
-use Rattle.agreement.specs.Acts.{packet}
-use Rattle.output.specs.declared.output.Output.{Output}
-use Rattle.output.specs.Outputs.{Grows}
+use Rattle.acts.specs.Histories.{Posted}
+use Rattle.acts.specs.Acts.{packet}
+use Rattle.step_output.specs.declared.output.Output.{Output}
+use Rattle.step_output.specs.Outputs.{Grows}
 use Rattle.traffic.specs.Takes.{orders_held}
-use Rattle.output.proofs.FactOfGrows.{grows-then}
+use Rattle.step_output.proofs.FactOfGrows.{grows-then}
 
 module _ (p : Address) (v : View) (q : Address) (held : List (ℕ × Entry)) where
   nothing-held : (k n : ℕ) → ((g : ℕ) → k ≤ g → g < k + n → held_at g held ≡ None) → orders_held p v q held k n ≡ []

@@ -9,15 +9,13 @@ use Rattle.std.specs.List.Sorted.{IsStrictlySortedBy}
 use Rattle.std.proofs.lemmas.Bool.Decides.{nat_tests}
 use Rattle.limits.specs.declared.TheConstants.{WINDOW, GREATEST_NUMBER}
 use Rattle.address.specs.Ids.{ViewId}
-use Rattle.wire.specs.Values.{Entry, held_at}
+use Rattle.wire_values.specs.Values.{Entry, held_at}
 use Rattle.view.specs.Members.{View}
-use Rattle.wire.specs.Fields.{IsNumber, IsPlaced, placed_bytes}
-use Rattle.wire.specs.Lists.{highest_next, are_held, is_filled, is_report}
-use Rattle.agreement.specs.Cores.{Traffic, report_with}
+use Rattle.wire_values.specs.Fields.{IsNumber, IsPlaced, placed_bytes}
+use Rattle.wire_values.specs.Lists.{highest_next, are_held, is_filled, is_report}
+use Rattle.acts.specs.Cores.{ViewCore, report_with}
 use Rattle.nak_stream.specs.Windows.{WindowModel, IsWindow}
-
-same-number : (g x : ℕ) → nat_eq g x ≡ true → g ≡ x
-same-number g x q = grind (arith, nat_tests)
+use Rattle.std.proofs.lemmas.Bool.{eqb-true}
 
 other-number : (g x : ℕ) → x < g → nat_eq g x ≡ false
 other-number g x low = grind (arith, nat_tests)
@@ -26,11 +24,11 @@ less-is : (a b : ℕ) → nat_cmp a b ≡ Less → a < b
 less-is a b e = grind (arith, nat_tests)
 
 found-by : (b : Bool) (g : ℕ) (h : ℕ × Entry) (held : List (ℕ × Entry)) → nat_eq g h.0 ≡ b → IsSome (held_at g (h ∷ held)) → (b ≡ false → IsSome (held_at g held) → h.0 < g) → h.0 ≤ g
-found-by true g h held q found rest = let n : g ≡ h.0 = same-number g h.0 q in omega arith
+found-by true g h held q found rest = let n : g ≡ h.0 = eqb-true g h.0 q in omega arith
 found-by false g h held q found rest = let n : h.0 < g = rest refl (sym (ap (λ t. is_some (cond t (Some h.1) (held_at g held))) q) ∙ found) in omega arith
 
 past-by : (b : Bool) (k g : ℕ) (h : ℕ × Entry) (held : List (ℕ × Entry)) → nat_eq g h.0 ≡ b → k < h.0 → (IsSome (held_at g held) → k < g) → IsSome (held_at g (h ∷ held)) → k < g
-past-by true k g h held q low rest found = let n : g ≡ h.0 = same-number g h.0 q in omega arith
+past-by true k g h held q low rest found = let n : g ≡ h.0 = eqb-true g h.0 q in omega arith
 past-by false k g h held q low rest found = rest (sym (ap (λ t. is_some (cond t (Some h.1) (held_at g held))) q) ∙ found)
 
 -- a key that is below all others is below each at which something is held
@@ -68,7 +66,7 @@ rest-rises s d last h held r =
 
 -- the next number up to the delivered count is the very first
 next-is : (b : Bool) (s d last : ℕ) (h : ℕ × Entry) (held : List (ℕ × Entry)) → Rises s d last (h ∷ held) → last < d → nat_eq (last + 1) h.0 ≡ b → h.0 ≡ last + 1
-next-is true s d last h held r low q = sym (same-number (last + 1) h.0 q)
+next-is true s d last h held r low q = sym (eqb-true (last + 1) h.0 q)
 next-is false s d last h held r low q =
     let past : last < h.0 = r.above h.0 (at-head h held) in
     let found : IsSome (held_at (last + 1) held) = sym (ap (λ t. is_some (cond t (Some h.1) (held_at (last + 1) held))) q) ∙ r.there (last + 1) (omega arith) (omega arith) in
@@ -140,8 +138,8 @@ pub window-numbers : (w : WindowModel) → IsWindow w → AllByRecursion (λ h. 
 window-numbers w i = all-numbers w.stable w.delivered w.stable w.held (window-rises w i)
 
 -- so it is where these are said of what a member keeps
-pub traffic-reported : (v : View) (w : WindowModel) (t : Traffic) → IsWindow w → w.stable ≡ t.stable → w.delivered ≡ t.delivered → w.held ≡ t.held → is_report (report_with (Some v) t) ≡ true
-traffic-reported v w t i stable delivered held =
+pub view_state-reported : (v : View) (w : WindowModel) (t : ViewCore) → IsWindow w → w.stable ≡ t.stable → w.delivered ≡ t.delivered → w.held ≡ t.held → is_report (report_with (Some v) t) ≡ true
+view_state-reported v w t i stable delivered held =
     subst (λ h. is_filled (record { previous = Some v.id; stable = t.stable; delivered = t.delivered; held = h }) ≡ true) held
     (subst (λ d. is_filled (record { previous = Some v.id; stable = t.stable; delivered = d; held = w.held }) ≡ true) delivered
     (subst (λ s. is_filled (record { previous = Some v.id; stable = s; delivered = w.delivered; held = w.held }) ≡ true) stable (window-reported v.id w i)))

@@ -5,12 +5,12 @@ use Rattle.limits.specs.declared.TheConstants.{PAYLOAD}
 use Rattle.address.specs.Ids.{Address}
 use Rattle.state_transfer.specs.Meanings.{Meaning}
 use Rattle.trace_props.specs.declared.event.Event.TheVariants.{Sent}
-use Rattle.trace_props.proofs.FactOfObserved.{same_address-refl}
-use Rattle.agreement.specs.Histories.{Posted}
-use Rattle.agreement.specs.Acts.{Sends}
+use Rattle.address.proofs.SameIds.{same_address-refl}
+use Rattle.acts.specs.Histories.{Posted}
+use Rattle.acts.specs.Acts.{Sends}
 use Rattle.traffic.specs.declared.coordinator.Coordinator.{Coordinator}
-use Rattle.output.specs.declared.output.Output.{Output}
-use Rattle.output.specs.Outputs.{Grows}
+use Rattle.step_output.specs.declared.output.Output.{Output}
+use Rattle.step_output.specs.Outputs.{Grows}
 use Rattle.traffic.specs.Coordinators.{IsCoordinator, queued, pushing}
 use Rattle.traffic.specs.Goings.{CoordinatorGoes, sending}
 use Rattle.traffic.proofs.ActsOfTurns.{queue-goes}

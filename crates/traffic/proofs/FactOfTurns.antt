@@ -8,20 +8,20 @@ use Rattle.std.proofs.lemmas.List.{append-nil, map-append}
 use Rattle.std.proofs.lemmas.List.Sums.{fold-append}
 use Rattle.address.specs.Ids.{Address}
 use Rattle.view.specs.Members.{View}
-use Rattle.wire.specs.Values.{Entry}
-use Rattle.wire.specs.declared.packet.Body.TheVariants as bodies
+use Rattle.wire_values.specs.Values.{Entry}
+use Rattle.wire_values.specs.declared.packet.Body.TheVariants as bodies
 use Rattle.state_transfer.specs.Meanings.{Meaning}
 use Rattle.sequencer.specs.Queues.{next_ordered, ordering, OrdererModel, change_first, has_next, served}
-use Rattle.agreement.specs.Histories.{Posted}
-use Rattle.agreement.specs.Acts.{packet, others_of, delivery}
+use Rattle.acts.specs.Histories.{Posted}
+use Rattle.acts.specs.Acts.{packet, others_of, delivery}
 use Rattle.traffic.specs.declared.coordinator.Coordinator.{Coordinator}
-use Rattle.output.specs.declared.output.Output.{Output}
-use Rattle.output.specs.Outputs.{Grows}
+use Rattle.step_output.specs.declared.output.Output.{Output}
+use Rattle.step_output.specs.Outputs.{Grows}
 use Rattle.traffic.specs.Coordinators.{OrdersOne, after_one, acknowledged}
 use Rattle.traffic.specs.Turns.{order_of, orders_of, TurnsTo, Starts, Turns, TurnsOne, TurnsNext, Ordering}
 use Rattle.stability.specs.Counts.{count_of}
 use Rattle.traffic.proofs.FactOfAcks.{noted-other}
-use Rattle.output.proofs.FactOfGrows.{grows-nothing, grows-then}
+use Rattle.step_output.proofs.FactOfGrows.{grows-nothing, grows-then}
 
 orders-one : (p : Address) (v : View) (k : ℕ) (es : List Entry) (e : Entry) → orders_of p v k (es ++ e ∷ []) ≡ orders_of p v k es ++ order_of p v (k + length es + 1) e
 orders-one p v k [] e = append-nil (order_of p v (k + 1) e) ∙ ap (λ (n : ℕ). order_of p v n e) (let n : k + 1 ≡ k + length {A = Entry} [] + 1 = omega arith in n)
@@ -34,11 +34,11 @@ pub one-ordered : (p : Address) (m : Coordinator) (e : Entry) → next_ordered m
 one-ordered p m e due =
     cond-true (is_some (next_ordered m.window.stable m.orderer)) (record { ordered = m.orderer.ordered + 1; queues = change_first has_next served m.orderer.queues }) m.orderer (ap is_some due)
 
-next-is : (k : ℕ) (o : Option Entry) (n : ℕ × Entry) → Some n ≡ option_map (λ e. (k, e)) o → (n ≡ (k, n.1)) × (o ≡ Some n.1)
+pub next-is : (k : ℕ) (o : Option Entry) (n : ℕ × Entry) → Some n ≡ option_map (λ e. (k, e)) o → (n ≡ (k, n.1)) × (o ≡ Some n.1)
 next-is k None n e = absurd (none-some n (sym e))
 next-is k (Some x) n e = let same : n ≡ (k, x) = same_Some n (k, x) e in (same ∙ ap (λ y. (k, y)) (ap (λ (z : ℕ × Entry). z.1) (sym same)), ap (λ (z : ℕ × Entry). Some z.1) (sym same))
 
-next-none : (k : ℕ) (o : Option Entry) → ◌≡◌ {A = Option (ℕ × Entry)} None (option_map (λ e. (k, e)) o) → o ≡ None
+pub next-none : (k : ℕ) (o : Option Entry) → ◌≡◌ {A = Option (ℕ × Entry)} None (option_map (λ e. (k, e)) o) → o ≡ None
 next-none k None e = refl
 next-none k (Some x) e = absurd (none-some (k, x) e)
 

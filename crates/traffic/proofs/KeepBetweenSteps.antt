@@ -9,30 +9,26 @@ use Rattle.std.proofs.lemmas.Option.{none-some, same_Some}
 use Rattle.limits.specs.declared.TheConstants.{OUTSTANDING, GREATEST_NUMBER, WINDOW}
 use Rattle.address.specs.Ids.{Address, same_address}
 use Rattle.view.specs.Members.{stands_in}
-use Rattle.wire.specs.Values.{Entry}
+use Rattle.wire_values.specs.Values.{Entry}
 use Rattle.state_transfer.specs.Meanings.{Meaning}
 use Rattle.trace_props.specs.declared.event.Numbered.{Numbered}
 use Rattle.trace_props.specs.declared.event.Event.{Event}
-use Rattle.trace_props.proofs.FactOfObserved.{same_address-refl, same_address-true}
+use Rattle.address.proofs.SameIds.{same_address-true, turned-about}
 use Rattle.sequencer.specs.Forwards.{ForwardsModel, IsForwards, pushed, push_refusal}
 use Rattle.limits.specs.declared.refusal.Refusal.TheVariants.{Busy, Exhausted}
 use Rattle.sequencer.specs.Queues.{Queue, change_first, follows, has_next, next_of, entry_with, first_next, next_ordered, may_order, is_from, takes, offered}
 use Rattle.stability.specs.Counts.{count_of, noted, stable_count}
 use Rattle.stability.proofs.Counts.{count-noted-le, stable-le-count, members-noted}
-use Rattle.agreement.specs.Acts.{delivery}
+use Rattle.acts.specs.Acts.{delivery}
 use Rattle.traffic.specs.declared.coordinator.Coordinator.{Coordinator}
-use Rattle.output.specs.declared.output.Output.{Output}
-use Rattle.output.specs.Outputs.{Grows}
+use Rattle.step_output.specs.declared.output.Output.{Output}
+use Rattle.step_output.specs.Outputs.{Grows}
 use Rattle.traffic.specs.Coordinators.{IsCoordinator, queued, acknowledged, pushing}
 use Rattle.traffic.specs.Goings.{sending}
 use Rattle.traffic.specs.Turns.{turned, TurnsTo, Starts, Turns, Ordering, AcksOrdering, IsSettled, own_queue, own_entry, SendsOrdering, DeliversOwnAtOnce}
 use Rattle.trace_props.specs.declared.event.Event.TheVariants.{Sent}
 use Rattle.traffic.proofs.FactOfAcks.{noted-other}
 use Rattle.traffic.proofs.FactOfFew.{collected-by, collected-least, stable-le-noted}
-
-turned-about : (b : Bool) (p q : Address) → same_address q p ≡ b → same_address p q ≡ false → same_address q p ≡ false
-turned-about true p q s d = let x : true ≡ false = sym (same_address-refl p) ∙ ap (same_address p) (sym (same_address-true q p s)) ∙ d in cc
-turned-about false p q s d = s
 
 -- ---- a FORWARD leaves the own queue
 

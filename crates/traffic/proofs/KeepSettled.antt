@@ -9,17 +9,17 @@ use Rattle.std.proofs.lemmas.Option.{none-some, same_Some}
 use Rattle.address.specs.Ids.{Address, same_address}
 use Rattle.view.specs.Members.{stands_in, is_distinct}
 use Rattle.view.specs.View.{view_refusal}
-use Rattle.wire.specs.Values.{Entry}
+use Rattle.wire_values.specs.Values.{Entry}
 use Rattle.state_transfer.specs.Meanings.{Meaning}
 use Rattle.trace_props.specs.declared.event.Numbered.{Numbered}
-use Rattle.trace_props.proofs.FactOfObserved.{same_address-refl, same_address-true}
+use Rattle.address.proofs.SameIds.{same_address-refl, same_address-true, turned-about}
 use Rattle.sequencer.specs.Forwards.{ForwardsModel, IsForwards, one_delivered}
 use Rattle.sequencer.specs.Queues.{Queue, OrdererModel, change_first, without_first, follows, has_next, next_of, entry_with, served, first_next, next_ordered, is_from}
 use Rattle.stability.specs.Counts.{members_of, count_of, noted, stable_count}
 use Rattle.stability.proofs.Counts.{count-noted-le, stable-le-count, members-noted}
 use Rattle.traffic.specs.declared.coordinator.Coordinator.{Coordinator}
-use Rattle.output.specs.declared.output.Output.{Output}
-use Rattle.traffic.specs.Traffics.{senders_of, after_delivery}
+use Rattle.step_output.specs.declared.output.Output.{Output}
+use Rattle.traffic.specs.ViewStates.{senders_of, after_delivery}
 use Rattle.traffic.specs.Coordinators.{IsCoordinator}
 use Rattle.traffic.specs.Turns.{turned, TurnsOne, TurnsNext, IsSettled, own_queue}
 use Rattle.traffic.proofs.ActsOfCoordinator.{due-fact, distinct-in}
@@ -50,10 +50,6 @@ own-served p f i any =
 next-sender : (q : Queue) (o : Option Numbered) (e : Entry) → option_map (entry_with q) o ≡ Some e → e.sender ≡ q.sender
 next-sender q None e h = absurd (none-some e h)
 next-sender q (Some x) e h = ap (λ (y : Entry). y.sender) (sym (same_Some (entry_with q x) e h))
-
-turned-about : (b : Bool) (p q : Address) → same_address q p ≡ b → same_address p q ≡ false → same_address q p ≡ false
-turned-about true p q s d = let x : true ≡ false = sym (same_address-refl p) ∙ ap (same_address p) (sym (same_address-true q p s)) ∙ d in cc
-turned-about false p q s d = s
 
 stands-apart : (b : Bool) (p q : Address) (list : List Address) → same_address p q ≡ b → stands_in p list ≡ true → stands_in q list ≡ false → same_address p q ≡ false
 stands-apart true p q list s there apart = let x : true ≡ false = sym there ∙ ap (λ (r : Address). stands_in r list) (same_address-true p q s) ∙ apart in cc

@@ -6,7 +6,7 @@ mod FactOfAcks
 mod ActsInTurn
 mod ActsOfCoordinator
 mod ActsOfTurns
-mod ActsOfOthers
+mod ActsOfFollowers
 mod FactOfSends
 mod FactOfTurns
 mod FactOfFew

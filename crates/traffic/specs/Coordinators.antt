@@ -1,20 +1,21 @@
 -- What holds of the coordinator of a view, and what it does.
 use Rattle.std.specs.Prelude.{◌≡◌, ℕ, ◌<◌, true, List, [], ◌∷◌, None}
 use Rattle.address.specs.Ids.{Address, same_address}
-use Rattle.wire.specs.Values.{Entry, held_at}
+use Rattle.wire_values.specs.Values.{Entry, held_at}
 use Rattle.state_transfer.specs.Meanings.{Meaning}
 use Rattle.nak_stream.specs.Windows.{taken, delivering, collected}
 use Rattle.sequencer.specs.Forwards.{pushed}
 use Rattle.sequencer.specs.Queues.{ordering, forwarded}
 use Rattle.stability.specs.Counts.{members_of, noted, stable_count}
-use Rattle.agreement.specs.Acts.{delivery}
+use Rattle.acts.specs.Acts.{delivery}
 use Rattle.traffic.specs.declared.coordinator.Coordinator.{Coordinator}
-use Rattle.traffic.specs.Traffics.{senders_of, after_delivery}
-use Rattle.output.specs.declared.output.Output.{Output}
-use Rattle.output.specs.Outputs.{Grows}
+use Rattle.traffic.specs.ViewStates.{senders_of, after_delivery}
+use Rattle.step_output.specs.declared.output.Output.{Output}
+use Rattle.step_output.specs.Outputs.{Grows}
 
 -- ---- what holds of it
 
+-- it made the view; counts, queues and order are those of its members; nothing is held past what was ordered
 pub record IsCoordinator (p : Address) (m : Coordinator) : Type 0 where
   pub coordinator : same_address p m.view.id.creator ≡ true
   pub heard : members_of m.acks ≡ m.view.members
@@ -36,6 +37,7 @@ after_one p n m = record m {
   orderer = ordering m.window.stable m.orderer;
 }
 
+-- the next message is ordered and delivered
 pub record OrdersOne {S : Type 0} (meaning : Meaning S) (p : Address) (group : List ℕ) (n : ℕ × Entry) (old : Coordinator) (s : S) (out : Output) (new : Coordinator) (t : S) (more : Output) : Type 0 where
   pub now : new ≡ after_one p n old
   pub state : t ≡ meaning.apply s n.1.sender n.1.payload

@@ -1,6 +1,6 @@
-pub mod Traffics
+pub mod ViewStates
 pub mod Coordinators
 pub mod Goings
 pub mod Turns
-pub mod Others
+pub mod Followers
 pub mod Takes

@@ -5,31 +5,32 @@ use Rattle.limits.specs.declared.TheConstants.{WINDOW}
 use Rattle.trace_props.specs.declared.event.Numbered.{Numbered}
 use Rattle.address.specs.Ids.{Address}
 use Rattle.view.specs.Members.{View}
-use Rattle.wire.specs.Values.{Entry, held_at, Missing, Progress}
-use Rattle.wire.specs.declared.packet.Body.TheVariants as bodies
+use Rattle.wire_values.specs.Values.{Entry, held_at, Missing, Progress}
+use Rattle.wire_values.specs.declared.packet.Body.TheVariants as bodies
 use Rattle.state_transfer.specs.Meanings.{Meaning}
 use Rattle.nak_stream.specs.Windows.{WindowModel, offers, collected, IsLeastGap, IsGreatestGap}
-use Rattle.agreement.specs.Histories.{Posted}
-use Rattle.agreement.specs.Cores.{applied}
-use Rattle.agreement.specs.Acts.{delivery, packet}
-use Rattle.traffic.specs.declared.other.Other.{Other}
-use Rattle.output.specs.declared.output.Output.{Output}
+use Rattle.acts.specs.Histories.{Posted}
+use Rattle.acts.specs.Cores.{applied}
+use Rattle.acts.specs.Acts.{delivery, packet}
+use Rattle.traffic.specs.declared.follower.Follower.{Follower}
+use Rattle.step_output.specs.declared.output.Output.{Output}
 use Rattle.trace_props.specs.declared.event.Event.TheVariants.{Sent}
 use Rattle.sequencer.specs.Forwards.{pushed}
-use Rattle.traffic.specs.Traffics.{after_delivery}
+use Rattle.traffic.specs.ViewStates.{after_delivery}
 use Rattle.traffic.specs.Goings.{sending}
-use Rattle.traffic.specs.Others.{collected_to, held_too}
-use Rattle.output.specs.Outputs.{Grows}
+use Rattle.traffic.specs.Followers.{collected_to, held_too}
+use Rattle.step_output.specs.Outputs.{Grows}
 
-abbrev pub delivered_next : Address → Entry → Other → Other
+abbrev pub delivered_next : Address → Entry → Follower → Follower
 delivered_next p e m = record m { window = record (m.window) { delivered = m.window.delivered + 1 }; forwards = after_delivery p e m.forwards }
 
 -- it delivered these messages, each where it was held at the next number
-pub data DeliversTo (p : Address) : Other → List Entry → Other → Type 0 where
-  Starts : (m : Other) → DeliversTo p m [] m
-  DeliversMore : (m n : Other) (entries : List Entry) (e : Entry) → DeliversTo p m entries n → held_at (n.window.delivered + 1) n.window.held ≡ Some e → DeliversTo p m (entries ++ e ∷ []) (delivered_next p e n)
+pub data DeliversTo (p : Address) : Follower → List Entry → Follower → Type 0 where
+  Starts : (m : Follower) → DeliversTo p m [] m
+  DeliversMore : (m n : Follower) (entries : List Entry) (e : Entry) → DeliversTo p m entries n → held_at (n.window.delivered + 1) n.window.held ≡ Some e → DeliversTo p m (entries ++ e ∷ []) (delivered_next p e n)
 
-pub record DeliversHeld {S : Type 0} (meaning : Meaning S) (p : Address) (group : List ℕ) (old : Other) (s : S) (out : Output) (new : Other) (t : S) (more : Output) : Type 0 where
+-- it delivered all these, and nothing else was put out or happened
+pub record DeliversHeld {S : Type 0} (meaning : Meaning S) (p : Address) (group : List ℕ) (old : Follower) (s : S) (out : Output) (new : Follower) (t : S) (more : Output) : Type 0 where
   pub entries : List Entry
   pub delivers : DeliversTo p old entries new
   pub state : t ≡ applied meaning s entries
@@ -41,31 +42,32 @@ abbrev pub IsComplete : WindowModel → ℕ → Type 0
 IsComplete w highest = (g : ℕ) → w.delivered < g → g ≤ highest → IsSome (held_at g w.held)
 
 -- it asks for the least and the greatest number that it misses
-pub record Asks (p : Address) (group : List ℕ) (highest : ℕ) (m : Other) (out more : Output) : Type 0 where
+pub record Asks (p : Address) (group : List ℕ) (highest : ℕ) (m : Follower) (out more : Output) : Type 0 where
   pub missing : Missing
   pub least : IsLeastGap m.window highest missing.first
   pub greatest : IsGreatestGap m.window highest missing.last
   pub grows : Grows group out more (packet p (bodies.Nak m.view.id missing) m.view.id.creator ∷ []) []
 
-abbrev pub AsksUpTo : Address → List ℕ → ℕ → Other → Output → Output → Type 0
+abbrev pub AsksUpTo : Address → List ℕ → ℕ → Follower → Output → Output → Type 0
 AsksUpTo p group highest m out more = Asks p group highest m out more ⊎ (IsComplete m.window highest × (more ≡ out))
 
-abbrev pub ack_of : Address → Other → Posted
+abbrev pub ack_of : Address → Follower → Posted
 ack_of p m = packet p (bodies.Ack m.view.id m.window.delivered) m.view.id.creator
 
 -- one ACK where it has delivered more than before, else a NAK where the number was new
-abbrev pub AnswersOrder : Address → List ℕ → ℕ → Bool → ℕ → Other → Output → Output → Type 0
+abbrev pub AnswersOrder : Address → List ℕ → ℕ → Bool → ℕ → Follower → Output → Output → Type 0
 AnswersOrder p group before new g m out more =
     MatchBool (nat_lt before m.window.delivered) (Grows group out more (ack_of p m ∷ []) []) (MatchBool new (AsksUpTo p group g m out more) (more ≡ out))
 
-pub record TakesNear {S : Type 0} (meaning : Meaning S) (p : Address) (group : List ℕ) (g : ℕ) (e : Entry) (old : Other) (s : S) (out : Output) (new : Other) (t : S) (more : Output) : Type 0 where
+-- what lies `WINDOW` below is stable, the entry is held, what is next is delivered, and it is answered
+pub record TakesNear {S : Type 0} (meaning : Meaning S) (p : Address) (group : List ℕ) (g : ℕ) (e : Entry) (old : Follower) (s : S) (out : Output) (new : Follower) (t : S) (more : Output) : Type 0 where
   pub between : Output
   pub delivers : DeliversHeld meaning p group (held_too g e (collected_to (g - WINDOW) old)) s out new t between
   pub ready : held_at (new.window.delivered + 1) new.window.held ≡ None
   pub answers : AnswersOrder p group old.window.delivered (offers g (collected (g - WINDOW) old.window)) g new between more
 
 -- an ORDER too far ahead is ignored
-abbrev pub TakesOrder : {S : Type 0} → Meaning S → Address → List ℕ → ℕ → Entry → Other → S → Output → Other → S → Output → Type 0
+abbrev pub TakesOrder : {S : Type 0} → Meaning S → Address → List ℕ → ℕ → Entry → Follower → S → Output → Follower → S → Output → Type 0
 TakesOrder meaning p group g e old s out new t more =
     MatchBool (nat_lt old.window.delivered (g - WINDOW)) ((new ≡ old) × (t ≡ s) × (more ≡ out)) (TakesNear meaning p group g e old s out new t more)
 
@@ -75,7 +77,7 @@ abbrev pub status_packet : Address → View → Progress → Option Posted
 status_packet p v a = Some (packet v.id.creator (bodies.Status v.id a) p)
 
 -- ignored where it does not fit; else what is stable is let go of, and what is missing asked for
-abbrev pub TakesStatus : Address → List ℕ → Progress → Other → Output → Other → Output → Type 0
+abbrev pub TakesStatus : Address → List ℕ → Progress → Follower → Output → Follower → Output → Type 0
 TakesStatus p group a old out new more =
     MatchBool (nat_lt old.window.delivered a.stable || nat_lt old.window.delivered (a.highest - WINDOW)) ((new ≡ old) × (more ≡ out))
     ((new ≡ collected_to a.stable old) × AsksUpTo p group a.highest new out more)
@@ -98,9 +100,9 @@ progress_of w = record { highest = w.delivered; stable = w.stable }
 
 -- ---- it sends
 
-abbrev pub other_pushing : List ℕ → Other → Other
-other_pushing x m = record m { forwards = pushed x m.forwards }
+abbrev pub follower_pushing : List ℕ → Follower → Follower
+follower_pushing x m = record m { forwards = pushed x m.forwards }
 
-abbrev pub SendsForward : Address → List ℕ → List ℕ → Other → Output → Output → Type 0
+abbrev pub SendsForward : Address → List ℕ → List ℕ → Follower → Output → Output → Type 0
 SendsForward p group x old out more =
     Grows group out more (forward_of p old.view (record { number = old.forwards.sent + 1; payload = x }) ∷ []) (Sent (sending p old.view.id (old.forwards.sent + 1) x) ∷ [])

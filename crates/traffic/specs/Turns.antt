@@ -2,23 +2,23 @@
 use Rattle.std.specs.Prelude.{◌≡◌, ℕ, ◌+◌, ◌-◌, ◌≤◌, true, false, List, [], ◌∷◌, ◌++◌, map, length, None, Some, MatchOption, MatchBool, nat_lt, Bool}
 use Rattle.address.specs.Ids.{Address, same_address}
 use Rattle.view.specs.Members.{View}
-use Rattle.wire.specs.Values.{Entry}
-use Rattle.wire.specs.declared.packet.Body.TheVariants as bodies
+use Rattle.wire_values.specs.Values.{Entry}
+use Rattle.wire_values.specs.declared.packet.Body.TheVariants as bodies
 use Rattle.std.specs.List.{find}
 use Rattle.limits.specs.declared.TheConstants.{WINDOW}
 use Rattle.state_transfer.specs.Meanings.{Meaning}
 use Rattle.stability.specs.Counts.{count_of, stable_count}
 use Rattle.sequencer.specs.Forwards.{ForwardsModel}
 use Rattle.sequencer.specs.Queues.{Queue, is_from, next_ordered}
-use Rattle.agreement.specs.Histories.{Posted}
-use Rattle.agreement.specs.Cores.{applied}
-use Rattle.agreement.specs.Acts.{delivery, packet, others_of}
+use Rattle.acts.specs.Histories.{Posted}
+use Rattle.acts.specs.Cores.{applied}
+use Rattle.acts.specs.Acts.{delivery, packet, others_of}
 use Rattle.traffic.specs.declared.coordinator.Coordinator.{Coordinator}
-use Rattle.output.specs.declared.output.Output.{Output}
+use Rattle.step_output.specs.declared.output.Output.{Output}
 use Rattle.trace_props.specs.declared.event.Event.TheVariants.{Sent}
 use Rattle.traffic.specs.Coordinators.{pushing, after_one, acknowledged, queued}
 use Rattle.traffic.specs.Goings.{sending}
-use Rattle.output.specs.Outputs.{Grows}
+use Rattle.step_output.specs.Outputs.{Grows}
 
 -- a message was ordered, delivered, and acknowledged by the coordinator itself
 abbrev pub turned : Address → Entry → Coordinator → Coordinator
@@ -68,6 +68,7 @@ OrdersAll meaning p group old s out new t more = Ordering meaning p group old s 
 abbrev pub own_queue : Address → ForwardsModel → Queue
 own_queue p f = record { sender = p; ordered = f.sent - length f.rest; waiting = f.rest }
 
+-- acknowledgements, the stable count and the own queue are what was ordered and delivered
 pub record IsSettled (p : Address) (m : Coordinator) : Type 0 where
   -- nobody acknowledged more than was delivered here, and it acknowledged that itself
   pub heard : (q : Address) → count_of q m.acks ≤ m.window.delivered

@@ -1,17 +1,17 @@
 //! The coordinator answers a NAK, and puts out on a tick how far its order has come.
 
-ghost use Rattle.std.specs.Prelude.{◌≡◌, ◌+◌, ◌-◌, ◌≤◌, ◌<◌, [], map, OnOk};
-ghost use Rattle.wire.specs.declared.packet.Body.TheVariants as bodies;
-ghost use Rattle.agreement.specs.Acts.{packet, others_of};
-ghost use Rattle.output.specs.Outputs.{Grows};
+ghost use Rattle.std.specs.Prelude.{◌≡◌, ◌+◌, ◌-◌, ◌<◌, [], map, OnOk};
+ghost use Rattle.wire_values.specs.declared.packet.Body.TheVariants as bodies;
+ghost use Rattle.acts.specs.Acts.{packet, others_of};
+ghost use Rattle.step_output.specs.Outputs.{Grows};
 ghost use Rattle.traffic.specs.Takes.{orders_held, progress_of};
 
 use crate::Coordinator;
 use address::Address;
 use limits::WINDOW;
-use output::{Identity, Output};
 use std::alloc::AllocError;
-use wire::{Body, Count, Missing, Number, Progress};
+use step_output::{Identity, Output};
+use wire_values::{Body, Count, Missing, Number, Progress};
 
 impl Coordinator {
     // Puts out the ORDER of a number to a member again, where a message is held there.

@@ -1,5 +1,5 @@
 ghost use Rattle.std.specs.Prelude.{◌≡◌, IfOk};
-ghost use Rattle.traffic.specs.Traffics.{fresh_coordinator};
+ghost use Rattle.traffic.specs.ViewStates.{fresh_coordinator};
 
 use nak_stream::Window;
 use sequencer::{Forwards, Orderer};

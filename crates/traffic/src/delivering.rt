@@ -1,16 +1,16 @@
 //! A message is delivered.
 
 ghost use Rattle.std.specs.Prelude.{◌≡◌, [], ◌∷◌, IfOk, OnOk};
-ghost use Rattle.agreement.specs.Acts.{delivery};
-ghost use Rattle.output.specs.Outputs.{Grows};
-ghost use Rattle.traffic.specs.Traffics.{after_delivery};
+ghost use Rattle.acts.specs.Acts.{delivery};
+ghost use Rattle.step_output.specs.Outputs.{Grows};
+ghost use Rattle.traffic.specs.ViewStates.{after_delivery};
 
 use address::ViewId;
 use nak_stream::Entry;
-use output::{Identity, Output};
 use sequencer::Forwards;
 use state_transfer::Receiver;
 use std::alloc::AllocError;
+use step_output::{Identity, Output};
 use trace_props::{Bytes, Delivery, Event, Message};
 
 // The event of a message that is delivered.

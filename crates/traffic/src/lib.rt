@@ -5,12 +5,12 @@
 mod answering;
 mod coordinator;
 mod delivering;
+mod follower;
 mod ordering;
-mod other;
 mod sending;
 mod taking;
-mod traffic;
+mod view_state;
 
 pub use coordinator::Coordinator;
-pub use other::Other;
-pub use traffic::Traffic;
+pub use follower::Follower;
+pub use view_state::ViewState;

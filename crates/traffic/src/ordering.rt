@@ -4,12 +4,12 @@ ghost use Rattle.std.specs.Prelude.{◌≡◌, ◌+◌, ◌<◌, Option, Some, N
 ghost use Rattle.std.specs.Option.{option_map};
 ghost use Rattle.address.specs.Ids.{same_address};
 ghost use Rattle.view.specs.Members.{stands_in};
-ghost use Rattle.wire.specs.declared.packet.Body.TheVariants as bodies;
+ghost use Rattle.wire_values.specs.declared.packet.Body.TheVariants as bodies;
 ghost use Rattle.sequencer.specs.Queues.{next_ordered};
-ghost use Rattle.agreement.specs.Histories.{Posted};
-ghost use Rattle.agreement.specs.Acts.{packet, others_of};
-ghost use Rattle.output.specs.Outputs.{Grows};
-ghost use Rattle.traffic.specs.Traffics.{waiting_of};
+ghost use Rattle.acts.specs.Histories.{Posted};
+ghost use Rattle.acts.specs.Acts.{packet, others_of};
+ghost use Rattle.step_output.specs.Outputs.{Grows};
+ghost use Rattle.traffic.specs.ViewStates.{waiting_of};
 ghost use Rattle.traffic.specs.Coordinators.{IsCoordinator, OrdersOne, acknowledged, queued};
 ghost use Rattle.traffic.specs.Goings.{CoordinatorGoes};
 ghost use Rattle.traffic.specs.Turns.{TurnsNext, Ordering, IsSettled, IsFew, AcksOrdering};
@@ -18,10 +18,10 @@ use crate::Coordinator;
 use crate::delivering::deliver;
 use address::Address;
 use nak_stream::Entry;
-use output::{Identity, Output};
 use state_transfer::Receiver;
 use std::alloc::AllocError;
-use wire::{Body, Number, Payload};
+use step_output::{Identity, Output};
+use wire_values::{Body, Number, Payload};
 
 impl Coordinator {
     // Takes a message of a member among those that are to be ordered, where it is new.

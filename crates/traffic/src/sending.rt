@@ -1,25 +1,25 @@
 //! A member sends a message of its own: what is the same for each, and the rule of the coordinator.
 
-ghost use Rattle.std.specs.Prelude.{◌≡◌, ◌+◌, ◌≤◌, length, Option, Some, None, true, [], ◌∷◌, OnOk, IfOk};
+ghost use Rattle.std.specs.Prelude.{◌≡◌, ◌+◌, ◌≤◌, length, Option, None, true, [], ◌∷◌, OnOk, IfOk};
 ghost use Rattle.trace_props.specs.declared.event.Event.TheVariants.{Sent};
-ghost use Rattle.agreement.specs.Histories.{Posted};
+ghost use Rattle.acts.specs.Histories.{Posted};
 ghost use Rattle.sequencer.specs.Forwards.{pushed, push_refusal};
 ghost use Rattle.sequencer.specs.Queues.{next_ordered, may_order};
 ghost use Rattle.limits.specs.declared.TheConstants.{PAYLOAD};
-ghost use Rattle.output.specs.Outputs.{Grows};
+ghost use Rattle.step_output.specs.Outputs.{Grows};
 ghost use Rattle.traffic.specs.Coordinators.{IsCoordinator, pushing};
 ghost use Rattle.traffic.specs.Goings.{CoordinatorGoes, sending};
 ghost use Rattle.traffic.specs.Turns.{IsSettled, SendsOrdering, DeliversOwnAtOnce, IsFewMore};
 
 use crate::Coordinator;
 use address::ViewId;
-use nak_stream::KeptPayload;
-use output::{Identity, Output};
+use nak_stream::OwnedPayload;
 use sequencer::Forwards;
 use state_transfer::Receiver;
 use std::alloc::AllocError;
+use step_output::{Identity, Output};
 use trace_props::{Bytes, Event, Numbered, Sending};
-use wire::{Number, Payload};
+use wire_values::{Number, Payload};
 
 // The event of a message that is sent.
 fn sending(
@@ -55,7 +55,7 @@ pub(crate) fn say(
     ensures short { OnOk result (length payload.now ≤ PAYLOAD) }
 {
     let _bytes = payload.as_slice();
-    let kept = KeptPayload::copy_of(who.alloc, payload)?;
+    let kept = OwnedPayload::copy_of(who.alloc, payload)?;
     let number = match forwards.push(kept) {
         Ok(number) => number,
         Err(_) => return Err(AllocError),

@@ -1,32 +1,32 @@
 //! The rules of a member of a view other than its coordinator: what it takes, what it asks for, and what it sends.
 
-ghost use Rattle.std.specs.Prelude.{◌≡◌, ◌+◌, ◌-◌, ◌<◌, ◌≤◌, ◌||◌, nat_lt, map, length, Option, Some, None, true, false, [], ◌∷◌, ◌++◌, OnOk, IfOk, MatchBool, MatchOption};
-ghost use Rattle.wire.specs.declared.packet.Body.TheVariants as bodies;
-ghost use Rattle.agreement.specs.Histories.{Posted};
-ghost use Rattle.agreement.specs.Acts.{packet};
+ghost use Rattle.std.specs.Prelude.{◌≡◌, ◌+◌, ◌-◌, ◌<◌, ◌≤◌, ◌||◌, map, length, Option, Some, None, true, false, [], ◌∷◌, ◌++◌, OnOk, IfOk, MatchOption};
+ghost use Rattle.wire_values.specs.declared.packet.Body.TheVariants as bodies;
+ghost use Rattle.acts.specs.Histories.{Posted};
+ghost use Rattle.acts.specs.Acts.{packet};
 ghost use Rattle.address.specs.Ids.{same_address};
-ghost use Rattle.wire.specs.Values.{held_at};
+ghost use Rattle.wire_values.specs.Values.{held_at};
 ghost use Rattle.nak_stream.specs.Windows.{offers, IsLeastGap, IsGreatestGap};
-ghost use Rattle.output.specs.Outputs.{Grows};
+ghost use Rattle.step_output.specs.Outputs.{Grows};
 ghost use Rattle.limits.specs.declared.TheConstants.{PAYLOAD, GREATEST_NUMBER};
-ghost use Rattle.traffic.specs.Goings.{OtherGoes, sending};
+ghost use Rattle.traffic.specs.Goings.{FollowerGoes, sending};
 ghost use Rattle.traffic.specs.Turns.{IsFew};
-ghost use Rattle.traffic.specs.Others.{order_packet, DeliversOne, collected_to, held_too};
-ghost use Rattle.traffic.specs.Takes.{DeliversHeld, TakesStatus, forward_of, ack_of, other_pushing, SendsForward, IsComplete, AsksUpTo, AnswersOrder, TakesOrder};
+ghost use Rattle.traffic.specs.Followers.{order_packet, DeliversOne, collected_to, held_too};
+ghost use Rattle.traffic.specs.Takes.{DeliversHeld, TakesStatus, forward_of, ack_of, follower_pushing, SendsForward, IsComplete, AsksUpTo, AnswersOrder, TakesOrder};
 ghost use Rattle.trace_props.specs.declared.event.Event.TheVariants.{Sent};
 ghost use Rattle.sequencer.specs.Forwards.{push_refusal};
 
-use crate::Other;
+use crate::Follower;
 use crate::delivering::deliver;
 use crate::sending::say;
 use limits::WINDOW;
-use output::{Identity, Output};
 use sequencer::Forward;
 use state_transfer::Receiver;
 use std::alloc::AllocError;
-use wire::{Body, Count, Entry as LentEntry, Missing, Number, Payload, Progress};
+use step_output::{Identity, Output};
+use wire_values::{Body, Count, Entry as LentEntry, Missing, Number, Payload, Progress};
 
-impl Other {
+impl Follower {
     // Delivers the next message, where it is held. Answers whether it is.
     fn deliver_one<R: Receiver>(
         &mut self,
@@ -78,7 +78,7 @@ impl Other {
         out: &mut Output,
     ) -> Result<(), AllocError>
         requires other { same_address who.now.address self.old.view.id.creator ≡ false }
-        ensures goes { OnOk result ((came : Option Posted) → OtherGoes R.meaning came who.now.address who.now.group self.old receiver.old out.old self.new receiver.new out.new) }
+        ensures goes { OnOk result ((came : Option Posted) → FollowerGoes R.meaning came who.now.address who.now.group self.old receiver.old out.old self.new receiver.new out.new) }
         ensures done { OnOk result (held_at (self.new.window.delivered + 1) self.new.window.held ≡ None) }
         ensures delivers { OnOk result (DeliversHeld R.meaning who.now.address who.now.group self.old receiver.old out.old self.new receiver.new out.new) }
         ensures few { OnOk result (IsFew out.old out.new) }
@@ -178,7 +178,7 @@ impl Other {
         out: &mut Output,
     ) -> Result<(), AllocError>
         requires other { same_address who.now.address self.old.view.id.creator ≡ false }
-        ensures goes { OnOk result (OtherGoes R.meaning (order_packet who.now.address self.old.view place entry.now) who.now.address who.now.group self.old receiver.old out.old self.new receiver.new out.new) }
+        ensures goes { OnOk result (FollowerGoes R.meaning (order_packet who.now.address self.old.view place entry.now) who.now.address who.now.group self.old receiver.old out.old self.new receiver.new out.new) }
         ensures takes { OnOk result (TakesOrder R.meaning who.now.address who.now.group place entry.now self.old receiver.old out.old self.new receiver.new out.new) }
         ensures few { OnOk result (IsFew out.old out.new) }
     {
@@ -274,7 +274,7 @@ impl Other {
     ) -> Result<Number, AllocError>
         requires { push_refusal self.old.forwards ≡ None }
         ensures number { IfOk result (λ n. n ≡ self.old.forwards.sent + 1) }
-        ensures now { OnOk result (self.new ≡ other_pushing payload.now self.old) }
+        ensures now { OnOk result (self.new ≡ follower_pushing payload.now self.old) }
         ensures happens { OnOk result (Grows who.now.group out.old out.new [] (Sent (sending who.now.address self.old.view.id (self.old.forwards.sent + 1) payload.now) ∷ [])) }
     {
         let number = say(who, self.view.id(), payload, &mut self.forwards, out)?;
@@ -289,7 +289,7 @@ impl Other {
         out: &mut Output,
     ) -> Result<(), AllocError>
         requires free { push_refusal self.old.forwards ≡ None }
-        ensures now { OnOk result (self.new ≡ other_pushing payload.now self.old) }
+        ensures now { OnOk result (self.new ≡ follower_pushing payload.now self.old) }
         ensures short { length payload.now ≤ PAYLOAD }
         ensures sends { OnOk result (SendsForward who.now.address who.now.group payload.now self.old out.old out.new) }
     {

@@ -1,7 +1,7 @@
 -- Offers in a row.
 use Rattle.std.proofs.Common.{◌≡◌, List, [], ◌∷◌, map, Option, Some, None, ap, append_assoc, subst, sym}
 use Rattle.std.proofs.lemmas.List.{append-nil}
-use Rattle.output.specs.declared.output.Outgoing.{Outgoing}
+use Rattle.step_output.specs.declared.output.Outgoing.{Outgoing}
 use Rattle.udp_net.specs.Logs.{Log, Offer, Lists, offering}
 use Rattle.udp_member.specs.Offers.{offering_all, offer_of}
 

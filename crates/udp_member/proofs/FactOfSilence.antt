@@ -1,5 +1,5 @@
 -- Who is suspected is watched.
-use Rattle.std.proofs.Common.{◌≡◌, ℕ, ◌<◌, List, length, slice_index_or, Option, Some, Result, Ok, Err, subst, sym, ◌∙◌}
+use Rattle.std.proofs.Common.{◌≡◌, ℕ, ◌<◌, List, length, slice_index_or, Result, Ok, Err, subst, sym, ◌∙◌}
 use Rattle.std.specs.Prelude.{Contains, Vec}
 use Rattle.address.specs.Ids.{Address}
 use Rattle.member.specs.declared.error.Error.{Error}

@@ -1,6 +1,6 @@
 -- What a net is offered of a channel's packets.
 use Rattle.std.specs.Prelude.{◌≡◌, ℕ, List, [], ◌++◌, map, Option}
-use Rattle.output.specs.declared.output.Outgoing.{Outgoing}
+use Rattle.step_output.specs.declared.output.Outgoing.{Outgoing}
 use Rattle.channel.specs.Channels.{ChannelModel}
 use Rattle.udp_net.specs.Logs.{Log, Offer, Lists}
 

@@ -3,7 +3,8 @@
 use address::{Address, ViewId};
 use limits::MEMBERS;
 use view::View;
-use wire::{Body, decode};
+use wire::decode;
+use wire_values::Body;
 
 // As many as are ever watched: the others of a view, and the others of the list of a flush.
 const PLACES: usize = 2 * MEMBERS;

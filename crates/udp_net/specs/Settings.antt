@@ -3,7 +3,7 @@ use Rattle.std.specs.Prelude.{◌≡◌, ⊤, ℕ, suc, pos, Bool, not, ◌&&◌
 use Rattle.std.specs.Option.{option_and_then}
 use Rattle.std.specs.List.{list_all}
 use Rattle.toml.specs.Data.{Data, string, integer, array, table, Items, no_items, item, Members, no_members, member, get_member}
-use Rattle.wire.specs.Names.{is_group_name}
+use Rattle.wire_values.specs.Names.{is_group_name}
 use Rattle.udp_net.specs.declared.error.SettingsError.{SettingsError}
 use Rattle.udp_net.specs.declared.error.SettingsError.TheVariants.{Config, Memory}
 use Rattle.udp_net.specs.declared.node_ports.NodePort.{NodePort}

@@ -1,8 +1,8 @@
 //! Settings from text.
 
-ghost use Rattle.std.specs.Prelude.{◌≡◌, ◌≤◌, ◌++◌, ◌∷◌, [], ℕ, true, nat_eq, length, codes, Some, None, OnOk, IfErr, if◌then◌else◌};
+ghost use Rattle.std.specs.Prelude.{◌≡◌, ◌++◌, ◌∷◌, [], true, nat_eq, codes, Some, None, if◌then◌else◌};
 ghost use Rattle.std.specs.Option.{option_and_then};
-ghost use Rattle.toml.specs.Data.{Data, get_member};
+ghost use Rattle.toml.specs.Data.{get_member};
 ghost use Rattle.toml.specs.Parse.{parse_document};
 ghost use Rattle.toml.specs.View.{table_view, view, items_view};
 ghost use Rattle.udp_net.specs.Settings.{Reads, key_count, number_of, number_at, group_of, node_of, may_be_nodes, nodes_of, nodes_behind, is_new, settings_in};
@@ -10,10 +10,10 @@ ghost use Rattle.udp_net.specs.Settings.{Reads, key_count, number_of, number_at,
 use crate::node_ports::{MOST_NODES, MOST_SILENT};
 use crate::{NodePort, Settings, SettingsError};
 use address::Node;
-use output::KeptName;
 use std::alloc::Global;
+use step_output::OwnedName;
 use toml::{Table, Value};
-use wire::GroupName;
+use wire_values::GroupName;
 
 /// The settings of a text: a document of TOML with a `group`, a number `silent` from 1 to 10,000, and 1 to 16 tables `[[node]]`, each with a `number` and a `port`
 /// from 1 to 65535, of which no two are the same. Refused with 50 where it is none, also for any other key, and with 7 where memory was refused.
@@ -89,14 +89,14 @@ fn number_in(table: &Table, key: &str, highest: u16) -> Result<u16, SettingsErro
 }
 
 // The name of the group.
-fn group_in(table: &Table) -> Result<KeptName, SettingsError>
+fn group_in(table: &Table) -> Result<OwnedName, SettingsError>
     ensures { Reads (λ g. g) result (option_and_then group_of (get_member (codes "group") (table_view table.now))) }
 {
     let Some(text) = value_at(table, "group")?.as_str() else {
         return Err(SettingsError::Config);
     };
     match GroupName::new(text.as_bytes()) {
-        Some(name) => Ok(KeptName::of(&name)),
+        Some(name) => Ok(OwnedName::of(&name)),
         None => Err(SettingsError::Config),
     }
 }

@@ -16,7 +16,7 @@ pub enum Received {
     Failed,
 }
 
-/// What carries datagrams between nodes: each may be lost, repeated, late, or come out of order (docs/PROTOCOL.md, "Members over datagrams").
+/// What carries datagrams between nodes: each may be lost, repeated, late, or come out of order (docs/PROTOCOL.md, "Rounds").
 pub trait Net: Drop {
     /// What it lists of itself: what its receives answered and what it was offered since it was made; none, where it lists nothing, as a socket does, or does so no longer.
     ghost log: { Self → Option Log };

@@ -2,9 +2,9 @@ ghost use Rattle.std.specs.Prelude.{◌≡◌};
 ghost use Rattle.udp_net.specs.Settings.{port_of};
 
 use address::Node;
-use output::KeptName;
 use std::marker::Model;
-use wire::GroupName;
+use step_output::OwnedName;
+use wire_values::GroupName;
 
 /// The most nodes that settings list.
 pub const MOST_NODES: usize = 16;
@@ -25,7 +25,7 @@ pub struct NodePort {
 /// are.
 #[derive(Drop)]
 pub struct Settings {
-    pub(crate) group: KeptName,
+    pub(crate) group: OwnedName,
     pub(crate) silent: u16,
     pub(crate) nodes: Vec<NodePort>,
 }

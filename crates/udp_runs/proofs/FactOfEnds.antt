@@ -1,33 +1,30 @@
 -- How the text of a command over datagrams ends.
-use Rattle.std.proofs.Common.{◌≡◌, ℕ, List, [], ◌++◌, length, take, Option, Result, Ok, Err, sym, ap, ◌∙◌, subst, arith}
-use Rattle.std.proofs.lemmas.List.{append-nil, take_all}
+use Rattle.std.proofs.Common.{◌≡◌, ℕ, List, [], ◌++◌, length, Option, Result, Err, sym, ap, ◌∙◌, subst, arith}
+use Rattle.std.proofs.lemmas.List.{take_all}
 use Rattle.std.specs.Io.KnownBytes.{Appends}
 use Rattle.udp_net.specs.declared.error.BindError.{BindError}
 use Rattle.udp_net.specs.declared.error.BindError.TheVariants as bind
 use Rattle.udp_net.specs.Errors.{bind_number}
-use Rattle.vsync_runs.specs.declared.status.Status.{Status}
-use Rattle.vsync_runs.specs.declared.status.Status.TheVariants.{Done, Refused, Memory, Outside}
-use Rattle.vsync_runs.specs.Outcomes.{Ends, Written, memory_line, fault_line}
-use Rattle.vsync_runs.specs.Outcomes.Ends.{Whole, Cut}
-use Rattle.vsync_runs.proofs.FactOfTexts.{appends-then, appends-none, ends-then}
+use Rattle.commands.specs.declared.status.Status.{Status}
+use Rattle.commands.specs.declared.status.Status.TheVariants.{Done, Refused, Memory, Outside}
+use Rattle.commands.specs.Outcomes.{Ends, Written, memory_line, fault_line}
+use Rattle.commands.specs.Outcomes.Ends.{Whole, Cut}
+use Rattle.commands.proofs.FactOfTexts.{ends-then}
 use Rattle.udp_runs.specs.declared.ends.Cut.{Cut as Why}
 use Rattle.udp_runs.specs.declared.ends.Cut.TheVariants as cut
 use Rattle.udp_runs.specs.Ends.{TakesMore, IsEndText, IsEndOf, IsNetlessText}
 use Rattle.udp_runs.specs.Ends.IsEndText.{Finished, Unfinished}
 use Rattle.udp_runs.specs.Ends.IsEndOf.{Over, Lacking, Failing}
 use Rattle.udp_runs.specs.Ends.IsNetlessText.{Unlisted, Unbound, Unprinted}
+use Rattle.vsync_text.proofs.FactOfWriting.{appends_nothing, appends_then}
 
 -- a writer took some, and then more
 pub takes-then : (a b c : Option (List ℕ)) → TakesMore a b → TakesMore b c → TakesMore a c
-takes-then a b c f g = record { text = f.text ++ g.text; appends = appends-then a b c f.text g.text f.appends g.appends }
+takes-then a b c f g = record { text = f.text ++ g.text; appends = appends_then a b c f.text g.text f.appends g.appends }
 
 -- it took nothing
 pub takes-none : (a : Option (List ℕ)) → TakesMore a a
-takes-none a = record { text = []; appends = appends-none a }
-
--- nothing was written, and then a text
-pub after-none : (P : Status → List ℕ → Type 0) (a b c : Option (List ℕ)) (status : Status) → Appends a b [] → Written P b c status → Written P a c status
-after-none P a b c status none w = record { meant = w.meant; text = w.text; says = w.says; ends = ends-then a b c [] w.text w.meant status none w.ends }
+takes-none a = record { text = []; appends = appends_nothing a }
 
 -- a writer that took a text and then failed took a beginning of any text that goes on from it
 pub cut-late : (P : Status → List ℕ → Type 0) (a b c : Option (List ℕ)) (text : List ℕ) → P Done (text ++ []) → Appends a b text → Appends b c [] → Written P a c Outside
@@ -35,7 +32,7 @@ cut-late P a b c text says f g = record {
   meant = Done;
   text = text ++ [];
   says = says;
-  ends = Cut (length (text ++ [])) (subst (λ l. Appends a c l) (sym (take_all (length (text ++ [])) (text ++ []) (omega arith))) (appends-then a b c text [] f g));
+  ends = Cut (length (text ++ [])) (subst (λ l. Appends a c l) (sym (take_all (length (text ++ [])) (text ++ []) (omega arith))) (appends_then a b c text [] f g));
 }
 
 ends-so : (P : Status → List ℕ → Type 0) (text : List ℕ) (a b c : Option (List ℕ)) (written : Result Unit Why) (meant status : Status) (end : List ℕ)
@@ -59,7 +56,7 @@ end-lacking a b why status is e = record { meant = Memory; text = memory_line; s
 
 -- the writer failed
 pub end-failing : (a : Option (List ℕ)) (why : Why) → why ≡ cut.Failed → Written (IsEndOf (Err why)) a a Outside
-end-failing a why is = record { meant = Outside; text = []; says = rw is Failing; ends = Whole (appends-none a) }
+end-failing a why is = record { meant = Outside; text = []; says = rw is Failing; ends = Whole (appends_nothing a) }
 
 -- a node has no net, for it is not listed
 pub unlisted-text : (a b : Option (List ℕ)) (line number : ℕ) (error : BindError) (meant status : Status) (text : List ℕ) → error ≡ bind.Config → meant ≡ Refused

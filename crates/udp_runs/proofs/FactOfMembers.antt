@@ -1,25 +1,26 @@
 -- How a command ends that runs one node over datagrams by itself.
-use Rattle.std.proofs.Common.{◌≡◌, ℕ, List, [], ◌++◌, take, Option, Some, None, Result, Ok, Err, refl, sym, ◌∙◌, subst, arith}
+use Rattle.std.proofs.Common.{◌≡◌, ℕ, List, [], ◌++◌, take, Option, None, Result, Ok, Err, refl, sym, ◌∙◌, subst, arith}
 use Rattle.std.proofs.lemmas.List.{append-nil, take_all}
 use Rattle.std.specs.Io.KnownBytes.{Appends}
 use Rattle.address.specs.Ids.{Address}
 use Rattle.udp_net.specs.declared.error.BindError.{BindError}
 use Rattle.udp_net.specs.declared.error.BindError.TheVariants as bind
-use Rattle.vsync_runs.specs.declared.status.Status.{Status}
-use Rattle.vsync_runs.specs.declared.status.Status.TheVariants.{Done, Memory, Outside}
-use Rattle.vsync_runs.specs.Outcomes.{Ends, Written, memory_line}
-use Rattle.vsync_runs.specs.Outcomes.Ends.{Whole, Cut}
-use Rattle.vsync_runs.proofs.FactOfTexts.{appends-then, written-as}
+use Rattle.commands.specs.declared.status.Status.{Status}
+use Rattle.commands.specs.declared.status.Status.TheVariants.{Done, Memory, Outside}
+use Rattle.commands.specs.Outcomes.{Ends, Written, memory_line}
+use Rattle.commands.specs.Outcomes.Ends.{Whole, Cut}
+use Rattle.commands.proofs.FactOfTexts.{written-as, after-none}
 use Rattle.udp_runs.specs.declared.ends.Cut.{Cut as Why}
 use Rattle.udp_runs.specs.declared.ends.Cut.TheVariants as cut
-use Rattle.udp_runs.specs.Ends.{TakesMore, IsEndText, IsEndOf, IsNetlessText}
-use Rattle.udp_runs.specs.Ends.IsEndText.{Finished, Unfinished}
+use Rattle.udp_runs.specs.Ends.{TakesMore, IsEndOf, IsNetlessText}
+use Rattle.udp_runs.specs.Ends.IsEndText.{Finished}
 use Rattle.udp_runs.specs.Ends.IsEndOf.{Over, Lacking, Failing}
 use Rattle.udp_runs.specs.Ends.IsNetlessText.{Unprinted}
 use Rattle.udp_runs.specs.Members.{IsListedText, StartsUp, WritesStart, started_line}
 use Rattle.udp_runs.specs.Members.IsListedText.{Netless, Runs}
 use Rattle.udp_runs.specs.Members.StartsUp.{Unstarted, Unwritten, Goes}
-use Rattle.udp_runs.proofs.FactOfEnds.{after-none, ended}
+use Rattle.udp_runs.proofs.FactOfEnds.{ended}
+use Rattle.vsync_text.proofs.FactOfWriting.{appends_then}
 
 -- memory was refused before it was started
 unstarted : (member : Address) (b c : Option (List ℕ)) (written : Result Unit Why) (meant status : Status) (end : List ℕ)
@@ -35,7 +36,7 @@ cut-early member a b c count f g =
     let whole : started_line member ≡ started_line member ++ [] ++ [] =
     sym (append-nil (started_line member)) ∙ sym (append-nil (started_line member ++ [])) in
     let took : Appends a c (take count (started_line member)) =
-    subst (λ l. Appends a c l) (append-nil (take count (started_line member))) (appends-then a b c (take count (started_line member)) [] f g) in
+    subst (λ l. Appends a c l) (append-nil (take count (started_line member))) (appends_then a b c (take count (started_line member)) [] f g) in
     record {
       meant = Done;
       text = started_line member ++ [] ++ [];
@@ -68,7 +69,7 @@ start-failed member a b cut.Failed (count, took) = Unwritten count took
 
 -- it was started, and went on
 pub start-went : (member : Address) (a b c : Option (List ℕ)) (r : Result Unit Why) → Appends a b (started_line member) → TakesMore b c → StartsUp member a c r
-start-went member a b c r f g = Goes g.text r (appends-then a b c (started_line member) g.text f g.appends)
+start-went member a b c r f g = Goes g.text r (appends_then a b c (started_line member) g.text f g.appends)
 
 -- it has no net
 pub netless-ended : (member : Address) (a b : Option (List ℕ)) (error : BindError) (status : Status) → Written (IsNetlessText 0 error) a b status → Written (IsListedText member) a b status

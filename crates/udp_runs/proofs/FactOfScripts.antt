@@ -1,25 +1,24 @@
 -- How a command ends that runs nodes over datagrams by a script.
-use Rattle.std.proofs.Common.{◌≡◌, ℕ, ◌<◌, List, [], ◌++◌, length, get_or, Option, Result, Ok, Err, IfSome, unwrap_or, sym, subst}
-use Rattle.std.specs.Io.KnownBytes.{Appends}
+use Rattle.std.proofs.Common.{◌≡◌, ℕ, ◌<◌, List, [], ◌++◌, length, get_or, Option, Result, Err, IfSome, unwrap_or, sym, subst}
 use Rattle.script_reader.specs.declared.fault.Fault.{Fault}
 use Rattle.script_reader.specs.declared.udp_script.UdpLine.{UdpLine}
 use Rattle.script_reader.specs.Script.{fault_number}
 use Rattle.script_reader.specs.UdpScript.{udp_script_of}
 use Rattle.udp_net.specs.declared.error.BindError.{BindError}
-use Rattle.vsync_runs.specs.declared.status.Status.{Status}
-use Rattle.vsync_runs.specs.declared.status.Status.TheVariants.{Memory}
-use Rattle.vsync_runs.specs.Outcomes.{Ends, Written, IsFaultText, IsAnswer, memory_line}
-use Rattle.vsync_runs.specs.Outcomes.IsAnswer.{ReaderFails, Answers}
-use Rattle.vsync_runs.proofs.FactOfTexts.{written-as, answer-as, left-of, ends-then}
+use Rattle.commands.specs.declared.status.Status.{Status}
+use Rattle.commands.specs.declared.status.Status.TheVariants.{Memory}
+use Rattle.commands.specs.Outcomes.{Ends, Written, IsFaultText, IsAnswer, memory_line}
+use Rattle.commands.specs.Outcomes.IsAnswer.{Answers}
+use Rattle.commands.proofs.FactOfTexts.{written-as, answer-as, left-of, ends-then, after-none}
 use Rattle.udp_runs.specs.declared.ends.Cut.{Cut as Why}
 use Rattle.udp_runs.specs.declared.ends.Stop.{Stop}
 use Rattle.udp_runs.specs.declared.ends.Stop.TheVariants.{Cut, NoNet}
-use Rattle.udp_runs.specs.Ends.{TakesMore, IsEndText, IsEndOf, IsNetlessText}
-use Rattle.udp_runs.specs.Scripts.{IsRunText, IsUnreadText, IsScriptText, RunsUdp, ReadsLines, StopsAt, StopsIn, start_line}
+use Rattle.udp_runs.specs.Ends.{TakesMore, IsEndOf, IsNetlessText}
+use Rattle.udp_runs.specs.Scripts.{IsRunText, IsUnreadText, IsScriptText, RunsUdp, ReadsLines, StopsAt, StopsIn}
 use Rattle.udp_runs.specs.Scripts.IsRunText.{Goes, Stops}
 use Rattle.udp_runs.specs.Scripts.IsUnreadText.{Faulty, Unread}
 use Rattle.udp_runs.specs.Scripts.IsScriptText.{Runs, Unrun}
-use Rattle.udp_runs.proofs.FactOfEnds.{after-none, ended}
+use Rattle.udp_runs.proofs.FactOfEnds.{ended}
 
 -- memory was refused before the script was read
 pub unread-text : (left a b : Option (List ℕ)) (status : Status) → Ends a b memory_line Memory status → IsAnswer IsUnreadText left a b status

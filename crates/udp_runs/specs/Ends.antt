@@ -1,11 +1,11 @@
 -- How the text of a command over datagrams ends.
-use Rattle.std.specs.Prelude.{◌≡◌, ℕ, List, [], Option, Result, Ok, Err}
+use Rattle.std.specs.Prelude.{ℕ, List, [], Option, Result, Ok, Err}
 use Rattle.std.specs.Io.KnownBytes.{Appends}
 use Rattle.udp_net.specs.declared.error.BindError.{BindError}
 use Rattle.udp_net.specs.declared.error.BindError.TheVariants as bind
-use Rattle.vsync_runs.specs.declared.status.Status.{Status}
-use Rattle.vsync_runs.specs.declared.status.Status.TheVariants.{Done, Refused, Memory, Outside}
-use Rattle.vsync_runs.specs.Outcomes.{memory_line, fault_line}
+use Rattle.commands.specs.declared.status.Status.{Status}
+use Rattle.commands.specs.declared.status.Status.TheVariants.{Done, Refused, Memory, Outside}
+use Rattle.commands.specs.Outcomes.{memory_line, fault_line}
 use Rattle.udp_runs.specs.declared.ends.Cut.{Cut}
 use Rattle.udp_runs.specs.declared.ends.Cut.TheVariants as cut
 

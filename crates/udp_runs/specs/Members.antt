@@ -6,8 +6,8 @@ use Rattle.trace_props.specs.declared.event.Event.TheVariants.{Started}
 use Rattle.vsync_text.specs.TraceText.{line_of}
 use Rattle.udp_net.specs.declared.error.BindError.{BindError}
 use Rattle.udp_net.specs.declared.error.BindError.TheVariants.{Config}
-use Rattle.vsync_runs.specs.declared.status.Status.{Status}
-use Rattle.vsync_runs.specs.Outcomes.{Written}
+use Rattle.commands.specs.declared.status.Status.{Status}
+use Rattle.commands.specs.Outcomes.{Written}
 use Rattle.udp_runs.specs.declared.ends.Cut.{Cut}
 use Rattle.udp_runs.specs.declared.ends.Cut.TheVariants as cut
 use Rattle.udp_runs.specs.Ends.{IsEndText, IsNetlessText}

@@ -1,5 +1,5 @@
 -- What a command writes that runs nodes over datagrams by a script.
-use Rattle.std.specs.Prelude.{◌≡◌, ℕ, List, ◌++◌, Option, Result, Ok, Err, IfSome, [], Contains}
+use Rattle.std.specs.Prelude.{◌≡◌, ℕ, List, ◌++◌, Option, Ok, Err, IfSome, [], Contains}
 use Rattle.std.specs.Io.KnownBytes.{Appends}
 use Rattle.world_model.specs.declared.WorldEvent.TheVariants.{Start}
 use Rattle.script_reader.specs.declared.fault.Fault.{Fault}
@@ -8,12 +8,12 @@ use Rattle.script_reader.specs.declared.udp_script.UdpLine.{UdpLine}
 use Rattle.script_reader.specs.Script.{fault_number}
 use Rattle.script_reader.specs.UdpScript.{udp_script_of}
 use Rattle.udp_net.specs.declared.error.BindError.{BindError}
-use Rattle.vsync_runs.specs.declared.status.Status.{Status}
-use Rattle.vsync_runs.specs.declared.status.Status.TheVariants.{Memory}
-use Rattle.vsync_runs.specs.Outcomes.{IsFaultText, IsAnswer, memory_line}
+use Rattle.commands.specs.declared.status.Status.{Status}
+use Rattle.commands.specs.declared.status.Status.TheVariants.{Memory}
+use Rattle.commands.specs.Outcomes.{IsFaultText, IsAnswer, memory_line}
 use Rattle.udp_runs.specs.declared.ends.Stop.{Stop}
 use Rattle.udp_runs.specs.declared.ends.Stop.TheVariants.{Cut, NoNet}
-use Rattle.udp_runs.specs.Ends.{TakesMore, IsEndText, IsNetlessText}
+use Rattle.udp_runs.specs.Ends.{IsEndText, IsNetlessText}
 
 -- the line that starts a node
 abbrev pub start_line : ℕ → ℕ → UdpLine

@@ -12,5 +12,6 @@ mod script;
 
 pub use loopback::Loopback;
 pub use machine::Machine;
-pub use one_node::{MemberPlan, run_member};
+pub use one_node::run_member;
 pub use script::run_udp;
+pub use script_reader::MemberPlan;

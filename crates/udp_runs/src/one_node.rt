@@ -1,7 +1,7 @@
 //! One node that runs by itself.
 
 ghost use Rattle.udp_net.specs.Settings.{port_of};
-ghost use Rattle.vsync_runs.specs.Outcomes.{Written};
+ghost use Rattle.commands.specs.Outcomes.{Written};
 ghost use Rattle.udp_runs.specs.Ends.{TakesMore};
 ghost use Rattle.udp_runs.specs.Members.{IsListedText, RunsMember, StartsUp, WritesStart};
 
@@ -11,27 +11,15 @@ use crate::node_state::{append_chat_of, append_events, member_at};
 use address::Address;
 use channel::Error;
 use chat_log::Chat;
+use commands::Status;
 use limits::Refusal;
+use script_reader::MemberPlan;
 use std::alloc::Global;
 use std::io::Write;
 use trace_props::Event;
 use udp_member::Runner;
 use udp_net::{BindError, Net, Settings};
-use vsync_runs::Status;
 use vsync_text::append_event;
-
-/// What one node does that runs by itself.
-#[derive(Clone, Copy, Debug)]
-pub struct MemberPlan<'a> {
-    /// The address of its member.
-    pub address: Address,
-    /// How many rounds it runs, 0 to `ROUNDS` (`script_reader`).
-    pub rounds: u64,
-    /// Whom it asks to be let into a group; `None` where it makes a group of itself alone.
-    pub contact: Option<Address>,
-    /// What it sends, once, in the first round in which it may.
-    pub send: Option<&'a [u8]>,
-}
 
 /// A member that runs by itself.
 #[derive(Drop)]

@@ -1,7 +1,7 @@
 //! Nodes over datagrams in one process, by a script.
 
 ghost use Rattle.std.specs.Prelude.{IfOk, IfErr};
-ghost use Rattle.vsync_runs.specs.Outcomes.{IsAnswer};
+ghost use Rattle.commands.specs.Outcomes.{IsAnswer};
 ghost use Rattle.udp_runs.specs.Ends.{TakesMore};
 ghost use Rattle.udp_runs.specs.Scripts.{IsUnreadText, ReadsLines, RunsUdp, StopsAt, StopsIn};
 
@@ -9,11 +9,11 @@ use crate::Machine;
 use crate::ends::{Cut, Stop, end, end_without_net, settle};
 use crate::nodes::Nodes;
 use chat_log::Chat;
+use commands::{Status, Unreadable, end_in_fault, end_in_memory, read_all};
 use script_reader::{UdpLine, Unread, read_udp_script};
 use std::alloc::Global;
 use std::io::{Read, Write};
 use udp_net::{Net, Settings};
-use vsync_runs::{Status, Unreadable, end_in_fault, end_in_memory, read_all};
 
 // The lines of a script; or the status with which the command ended, where it is none or is not read.
 fn lines_from<I: Read, W: Write>(

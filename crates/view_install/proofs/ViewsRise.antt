@@ -6,7 +6,7 @@ use Rattle.std.specs.Ordering.{nat_cmp, ordering_then}
 use Rattle.std.specs.Cmp.Lexicographic.{pointwise}
 use Rattle.std.specs.declared.cmp.Ordering.{Ordering}
 use Rattle.std.specs.declared.cmp.Ordering.TheVariants.{Less, Equal, Greater}
-use Rattle.std.proofs.lemmas.Bool.{and_parts}
+use Rattle.std.proofs.lemmas.Bool.{and_parts, not-true}
 use Rattle.std.proofs.lemmas.Bool.Decides.{nat_tests}
 use Rattle.address.specs.Ids.{Address, ViewId, view_id_cmp, same_address, same_view_id}
 use Rattle.view.specs.Members.{View, stands_in}
@@ -14,6 +14,7 @@ use Rattle.view_install.specs.declared.promise.OfferAnswer.{OfferAnswer}
 use Rattle.view_install.specs.declared.promise.OfferAnswer.TheVariants.{Accept, Behind, Ignore}
 use Rattle.view_install.specs.Promises.{PromiseModel, answer_past, offered, is_accept, after_offer, promising, same_view, may_install, installing}
 use Rattle.view_install.specs.Runs.{Asked, Offer, Install, installs, AreRising, InstallsRise, OnlyThePromised, PromisesRise}
+use Rattle.address.proofs.SameIds.{same_address-true}
 
 -- not below, and above where the promise is installed
 abbrev is_past : Ordering → Bool → Bool
@@ -58,18 +59,13 @@ past-any Less installed h = let n : false ≡ true = h in cc
 
 -- ---- equal views
 
-address-is : (a b : Address) → same_address a b ≡ true → a ≡ b
-address-is a b e =
-    let parts = and_parts (nat_eq a.node b.node) (nat_eq a.incarnation b.incarnation) e in
-    λ j. record { node = eqb-true a.node b.node parts.0 j; incarnation = eqb-true a.incarnation b.incarnation parts.1 j }
-
 addresses-are : (xs ys : List Address) → pointwise same_address xs ys ≡ true → xs ≡ ys
 addresses-are [] [] e = refl
 addresses-are [] (y ∷ ys) e = let n : false ≡ true = e in cc
 addresses-are (x ∷ xs) [] e = let n : false ≡ true = e in cc
 addresses-are (x ∷ xs) (y ∷ ys) e =
     let parts = and_parts (same_address x y) (pointwise same_address xs ys) e in
-    λ j. address-is x y parts.0 j ∷ addresses-are xs ys parts.1 j
+    λ j. same_address-true x y parts.0 j ∷ addresses-are xs ys parts.1 j
 
 view-is : (w v : View) → same_view w v ≡ true → w ≡ v
 view-is w v e =
@@ -77,15 +73,11 @@ view-is w v e =
     let ids = and_parts (nat_eq w.id.counter v.id.counter) (same_address w.id.creator v.id.creator) parts.0 in
     let members = addresses-are w.members v.members parts.1 in
     λ j. record {
-      id = record { counter = eqb-true w.id.counter v.id.counter ids.0 j; creator = address-is w.id.creator v.id.creator ids.1 j };
+      id = record { counter = eqb-true w.id.counter v.id.counter ids.0 j; creator = same_address-true w.id.creator v.id.creator ids.1 j };
       members = members j;
     }
 
 -- ---- one call
-
-not-true : (b : Bool) → not b ≡ true → b ≡ false
-not-true true h = let n : false ≡ true = h in cc
-not-true false h = refl
 
 only-by : (o : Option View) (installed : Bool) (w : View) → option_map_or (λ v. same_view w v && not installed) o false ≡ true → (o ≡ Some w) × (installed ≡ false)
 only-by None installed w h = let n : false ≡ true = h in absurd cc

@@ -5,7 +5,7 @@ ghost use Rattle.view_install.specs.Promises.{PromiseModel, offered, after_offer
 use address::Address;
 use std::cmp::Ordering;
 use std::marker::Model;
-use wire::Roster;
+use wire_values::Roster;
 
 /// What the offer of a proposal is answered with.
 #[derive(Clone, Copy, Debug, PartialEq, Eq)]

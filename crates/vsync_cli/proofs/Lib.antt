@@ -1,4 +1,1 @@
-pub mod Computing
-pub mod Grammars
-pub mod Numbers
 pub mod SettingsOfBytes

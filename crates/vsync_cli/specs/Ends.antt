@@ -4,14 +4,14 @@ use Rattle.clap.specs.Words.{IsAmong, Kinds}
 use Rattle.clap.specs.declared.error.kind.ErrorKind.{ErrorKind}
 use Rattle.clap.specs.declared.error.kind.ErrorKind.TheVariants.{DisplayHelp, DisplayVersion, OutOfMemory}
 use Rattle.chat_log.specs.Meanings.{chat_meaning}
-use Rattle.vsync_runs.specs.Outcomes.{RunsScript}
-use Rattle.vsync_runs.specs.Chats.{RunsChat}
-use Rattle.vsync_runs.specs.Packets.{RunsPackets}
-use Rattle.vsync_runs.specs.Checks.{ChecksTrace}
-use Rattle.vsync_runs.specs.declared.status.Status.{Status}
-use Rattle.vsync_runs.specs.declared.status.Status.TheVariants.{Done, Memory, Outside, Usage}
-use Rattle.vsync_cli.specs.declared.words.TextCommand.{TextCommand}
-use Rattle.vsync_cli.specs.declared.words.TextCommand.TheVariants.{World, Chat, Packets, Check}
+use Rattle.commands.specs.Outcomes.{RunsScript}
+use Rattle.commands.specs.Chats.{RunsChat}
+use Rattle.commands.specs.Packets.{RunsPackets}
+use Rattle.commands.specs.Checks.{ChecksTrace}
+use Rattle.commands.specs.declared.status.Status.{Status}
+use Rattle.commands.specs.declared.status.Status.TheVariants.{Done, Memory, Outside, Usage}
+use Rattle.vsync_words.specs.declared.words.TextCommand.{TextCommand}
+use Rattle.vsync_words.specs.declared.words.TextCommand.TheVariants.{World, Chat, Packets, Check}
 
 -- the command is done, from a reader with these bytes left to a writer: a script is run; or it is run and the chats, or the packets, are
 -- printed; or a trace is checked. Its members keep a chat

@@ -1,20 +1,20 @@
 ghost use Rattle.std.specs.Prelude.{◌≡◌, ◌≢◌, ◌⊎◌, ◌<◌, [], length, map, string_bytes};
 ghost use Rattle.clap.specs.Words.{fault_of, kind_of};
 ghost use Rattle.vsync_cli.specs.Ends.{Does, EndsBy, EndsByFault};
-ghost use Rattle.vsync_cli.specs.Grammar.{program_app};
+ghost use Rattle.vsync_words.specs.Grammar.{program_app};
 
 use crate::udp_programs::{member, udp};
-use crate::{Invocation, TextCommand, command};
 use chat_log::ChatLog;
 use clap::Error;
 use clap::error::ErrorKind;
+use commands::{Status, run_chat, run_check, run_packets, run_script};
 use std::alloc::Global;
 use std::io::{Read, Write};
 use std::net::Net;
 use std::rt::{Env, Files};
 use std::time::Clock;
 use std::{env, fs, io};
-use vsync_runs::{Status, run_chat, run_check, run_packets, run_script};
+use vsync_words::{Invocation, TextCommand, command};
 
 /// Says on the standard error why the program ends with status 5.
 pub(crate) fn complain<R: Eprint>(rt: &R, what: &str, path: &str) -> Status

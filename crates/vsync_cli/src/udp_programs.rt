@@ -1,14 +1,14 @@
 //! The commands for members over datagrams, on files and sockets.
 
 ghost use Rattle.std.specs.Prelude.{◌≡◌, ◌⊎◌, Err, IfErr};
-ghost use Rattle.vsync_cli.specs.declared.udp_words.MemberMistake.{MemberMistake};
+ghost use Rattle.vsync_words.specs.declared.udp_words.MemberMistake.{MemberMistake};
 ghost use Rattle.vsync_cli.specs.Ends.{EndsBy};
-ghost use Rattle.vsync_cli.specs.Plans.{contact_of, payload_of, text_of};
+ghost use Rattle.vsync_words.specs.Plans.{contact_of, payload_of, text_of};
 ghost use Rattle.vsync_cli.specs.Settings.{EndsWithout, GivesSettings};
 
 use crate::programs::{complain, failed, without_memory};
-use crate::udp_words::{MemberWords, UdpWords};
 use chat_log::ChatLog;
+use commands::{Status, Unreadable, read_all};
 use std::io::Read;
 use std::net::Net;
 use std::rt::Files;
@@ -16,7 +16,7 @@ use std::time::Clock;
 use std::{fs, io};
 use udp_net::{Settings, SettingsError, settings};
 use udp_runs::{Loopback, run_member, run_udp};
-use vsync_runs::{Status, Unreadable, read_all};
+use vsync_words::{MemberWords, UdpWords};
 
 // Says that the input is refused as a whole.
 fn refuse<R: Print>(rt: &R, number: u8) -> Status

@@ -22,7 +22,7 @@ appends_then (Some xs) None c s t ab bc = absurd ab
 appends_then (Some xs) (Some ys) None s t ab bc = absurd bc
 appends_then (Some xs) (Some ys) (Some zs) s t ab bc = bc ∙ ap (λ l. l ++ t) ab ∙ append_assoc xs s t
 
-concat_append : (xs ys : List (List ℕ)) → concat (xs ++ ys) ≡ concat xs ++ concat ys
+pub concat_append : (xs ys : List (List ℕ)) → concat (xs ++ ys) ≡ concat xs ++ concat ys
 concat_append [] ys = refl
 concat_append (x ∷ xs) ys = ap (λ l. x ++ l) (concat_append xs ys) ∙ sym (append_assoc x (concat xs) (concat ys))
 

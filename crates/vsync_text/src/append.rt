@@ -1,11 +1,11 @@
 //! Texts of ids, payloads and lists, appended to a buffer. Each comes behind one byte that separates it from what stands before.
 //! Where memory is refused, a part may have been appended.
 
-ghost use Rattle.std.specs.Prelude.{◌≡◌, ◌<◌, ◌++◌, ◌∷◌, [], flat_map, OnOk};
+ghost use Rattle.std.specs.Prelude.{◌≡◌, ◌<◌, ◌++◌, ◌∷◌, flat_map, OnOk};
 ghost use Rattle.std.specs.Option.{option_copied};
 ghost use Rattle.std.specs.Fmt.{decimal};
 ghost use Rattle.address.specs.Ids.{text_of_address, text_of_view_id};
-ghost use Rattle.vsync_text.specs.TraceText.{GoesOnFrom, hex_digit, hex_of, hex_of_byte, text_of_payload, text_of_previous, text_of_addresses, text_of_numbered, text_of_handed_back, text_of_given};
+ghost use Rattle.vsync_text.specs.TraceText.{GoesOnFrom, hex_digit, hex_of, text_of_payload, text_of_previous, text_of_addresses, text_of_numbered, text_of_handed_back, text_of_given};
 
 use address::{Address, ViewId};
 use itoa::Buffer;

@@ -9,7 +9,8 @@ ghost use Rattle.vsync_text.specs.PacketText.{kind_name, packet_fields, packet_l
 use crate::{put, put_address, put_decimal, put_hex};
 use std::alloc::AllocError;
 use trace_props::Bytes;
-use wire::{Body, Packet, decode};
+use wire::decode;
+use wire_values::{Body, Packet};
 
 /// The name of what a packet says.
 fn kind_name(body: &Body<'_>) -> &'static [u8]

@@ -1,6 +1,6 @@
-ghost use Rattle.std.specs.Prelude.{◌≡◌, [], take, drop, map};
+ghost use Rattle.std.specs.Prelude.{◌≡◌, [], map};
 ghost use Rattle.vsync_text.specs.TraceText.{line_of};
-ghost use Rattle.vsync_text.specs.Runs.{stretch, refused_lines, answer_lines, reply_lines, lines_from, lines_of_run};
+ghost use Rattle.vsync_text.specs.Runs.{stretch, refused_lines, answer_lines, reply_lines, lines_of_run};
 ghost use Rattle.vsync_text.specs.Writing.{Writes, Prints};
 
 use crate::buffered::{PIECE, Unwritten, settle, write_event, write_refusal};

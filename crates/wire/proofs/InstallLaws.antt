@@ -3,23 +3,24 @@ use Rattle.std.proofs.Common.{◌≡◌, ℕ, ◌+◌, ◌≤◌, Bool, true, fa
 use Rattle.std.specs.Prelude.{IfSome, ◌⊎◌}
 use Rattle.std.specs.List.{flat_map, AllByRecursion}
 use Rattle.std.specs.Option.{option_map_or}
-use Rattle.std.proofs.lemmas.Bool.{leb-true, le-leb, eqb-true}
+use Rattle.std.proofs.lemmas.Bool.{leb-true, le-leb, eqb-true, and_parts}
 use Rattle.std.proofs.lemmas.Bool.Decides.{nat_tests}
 use Rattle.std.proofs.lemmas.List.{nil_from_length}
 use Rattle.byteorder.specs.Endian.{big_bytes}
 use Rattle.address.specs.Ids.{Address, ViewId}
 use Rattle.limits.specs.declared.TheConstants.{GREATEST_NUMBER, MEMBERS, WINDOW, STATE}
 use Rattle.view.specs.Members.{View}
-use Rattle.wire.specs.declared.error.WireError.{WireError}
-use Rattle.wire.specs.declared.error.WireError.TheVariants.{Length, Value}
-use Rattle.wire.specs.Values.{Entry, Report, Install, nothing_reported}
-use Rattle.wire.specs.Reading.{◌>>=◌, bytes_at, number_at, list_at}
-use Rattle.wire.specs.Fields.{IsAddress, IsViewId, IsEntry, IsPlaced, address_bytes, number_bytes, entry_bytes, entry_at}
-use Rattle.wire.specs.Lists.{IsReport, IsInstall, is_filled, is_nothing, is_report, filled_bytes, report_bytes, filled_at, report_at, is_in_order, is_install, addresses_bytes, view_bytes, items_bytes, state_bytes, given_bytes, install_bytes, IsView, view_at, together_at, items_count_at, state_at, given_at, install_at}
-use Rattle.wire.proofs.Bytes.{IsBytes, wide1, wide4, wide8}
-use Rattle.wire.proofs.FieldLaws.{bind_ok, ok_is, both_true, along, back, Takes, Takes-then, IsPart, entry_part, bytes_takes, bytes_again, number_takes, number_again, eight_again}
-use Rattle.wire.proofs.ListLaws.{list_takes, list_again}
-use Rattle.wire.proofs.MemberLaws.{view_part, Ordered, together_take, together_again}
+use Rattle.wire_values.specs.declared.error.WireError.{WireError}
+use Rattle.wire_values.specs.declared.error.WireError.TheVariants.{Length, Value}
+use Rattle.wire_values.specs.Values.{Entry, Report, Install, nothing_reported}
+use Rattle.wire_values.specs.Reading.{◌>>=◌, bytes_at, number_at, list_at}
+use Rattle.wire_values.specs.Fields.{IsAddress, IsViewId, IsEntry, IsPlaced, address_bytes, number_bytes, entry_bytes, entry_at}
+use Rattle.wire_values.specs.Lists.{IsReport, IsInstall, is_filled, is_nothing, is_report, filled_bytes, report_bytes, filled_at, report_at, is_in_order, is_install, addresses_bytes, view_bytes, items_bytes, state_bytes, given_bytes, install_bytes, IsView, view_at, together_at, items_count_at, state_at, given_at, install_at}
+use Rattle.big_endian.specs.Spelled.{IsBytes}
+use Rattle.big_endian.proofs.Bytes.{wide1, wide4, wide8}
+use Rattle.wire_values.proofs.FieldLaws.{bind_ok, ok_is, along, back, Takes, Takes-then, IsPart, entry_part, bytes_takes, bytes_again, number_takes, number_again, eight_again}
+use Rattle.wire_values.proofs.ListLaws.{list_takes, list_again}
+use Rattle.wire_values.proofs.MemberLaws.{view_part, Ordered, together_take, together_again}
 use Rattle.wire.proofs.ReportLaws.{Filled, filled-rules, rules-filled, filled_takes, filled_again, items_count_takes, items_count_again}
 
 -- ---- a flag before what may be there
@@ -54,7 +55,7 @@ no_entries held e = nil_from_length held (eqb-true _ _ e)
 pub none_fits : (r : Report) → r.previous ≡ None → is_report r ≡ true → IsReport r
 none_fits r named rules =
     let nothing : is_nothing r ≡ true = subst (λ (o : Option ViewId). option_map_or (λ _. is_filled r) o (is_nothing r) ≡ true) named rules in
-    let t = both_true (eqb r.stable 0 && eqb r.delivered 0) (eqb (length r.held) 0) nothing in
+    let t = and_parts (eqb r.stable 0 && eqb r.delivered 0) (eqb (length r.held) 0) nothing in
     record {
       previous = subst (λ (o : Option ViewId). IfSome o IsViewId) (sym named) tt;
       entries = subst (λ (h : List (ℕ × Entry)). AllByRecursion IsPlaced h) (sym (no_entries r.held t.1)) tt;
@@ -68,8 +69,8 @@ none_again : (r : Report) (rest : List ℕ) → r.previous ≡ None → is_repor
 unfolding report_at
 none_again r rest named rules =
     let nothing : is_nothing r ≡ true = subst (λ (o : Option ViewId). option_map_or (λ _. is_filled r) o (is_nothing r) ≡ true) named rules in
-    let t = both_true (eqb r.stable 0 && eqb r.delivered 0) (eqb (length r.held) 0) nothing in
-    let u = both_true (eqb r.stable 0) (eqb r.delivered 0) t.0 in
+    let t = and_parts (eqb r.stable 0 && eqb r.delivered 0) (eqb (length r.held) 0) nothing in
+    let u = and_parts (eqb r.stable 0) (eqb r.delivered 0) t.0 in
     let text : report_bytes r ≡ big_bytes 1 0 = ap (λ (o : Option ViewId). option_map_or (λ v. big_bytes 1 1 ++ filled_bytes v r) o (big_bytes 1 0)) named in
     let is : nothing_reported ≡ r =
     ap (λ (o : Option ViewId). record { previous = o; stable = 0; delivered = 0; held = [] }) (sym named)
@@ -167,10 +168,10 @@ placed-rules i e =
     let c = is_in_order i.together i.view.members in
     let d = leb (length i.items) WINDOW in
     let f = leb (i.base + length i.items) GREATEST_NUMBER in
-    let t = both_true (((a && b) && c) && d) f e in
-    let u = both_true ((a && b) && c) d t.0 in
-    let v = both_true (a && b) c u.0 in
-    let w = both_true a b v.0 in
+    let t = and_parts (((a && b) && c) && d) f e in
+    let u = and_parts ((a && b) && c) d t.0 in
+    let v = and_parts (a && b) c u.0 in
+    let w = and_parts a b v.0 in
     record { some = leb-true _ _ w.0; few = leb-true _ _ w.1; ordered = v.1; near = leb-true _ _ u.1; small = leb-true _ _ t.1 }
 
 pub rules-placed : (i : Install) → Placed i → is_install i ≡ true

@@ -1,11 +1,6 @@
-pub mod Bytes
-pub mod FieldLaws
-pub mod ListLaws
-pub mod MemberLaws
 pub mod ReportLaws
 pub mod InstallLaws
 pub mod BodyLaws
 pub mod PacketLaws
 pub mod Sizes
 pub mod OneSpelling
-pub mod Loops

@@ -4,13 +4,13 @@ use Rattle.std.specs.Prelude.{IfOk, IfErr}
 use Rattle.std.proofs.lemmas.Bool.{le-ltb, eqb-true}
 use Rattle.std.proofs.lemmas.List.{append-nil, nil_from_length}
 use Rattle.limits.specs.declared.TheConstants.{DATAGRAM}
-use Rattle.wire.specs.declared.error.WireError.{WireError}
-use Rattle.wire.specs.declared.error.WireError.TheVariants.{Length, Trailing}
-use Rattle.wire.specs.declared.packet.Packet.{Packet}
-use Rattle.wire.specs.Reading.{Read, ◌>>=◌}
+use Rattle.wire_values.specs.declared.error.WireError.{WireError}
+use Rattle.wire_values.specs.declared.error.WireError.TheVariants.{Length, Trailing}
+use Rattle.wire_values.specs.declared.packet.Packet.{Packet}
+use Rattle.wire_values.specs.Reading.{Read, ◌>>=◌}
 use Rattle.wire.specs.Packets.{spelling, Spells, packet_at, packet_of, error_in, wire_refusal}
-use Rattle.wire.proofs.Bytes.{IsBytes}
-use Rattle.wire.proofs.FieldLaws.{bind_ok, test_ok, ok_is}
+use Rattle.big_endian.specs.Spelled.{IsBytes}
+use Rattle.wire_values.proofs.FieldLaws.{bind_ok, test_ok, ok_is}
 use Rattle.wire.proofs.PacketLaws.{packet_takes, packet_again}
 use Rattle.wire.proofs.Sizes.{packet_few}
 

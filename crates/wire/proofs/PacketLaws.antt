@@ -2,28 +2,27 @@
 -- begins another.
 use Rattle.std.proofs.Common.{◌≡◌, ℕ, ◌≤◌, true, cond, leb, ◌&&◌, List, ◌++◌, length, Ok, Err, refl, ap, ◌∙◌, append_assoc, arith}
 use Rattle.std.specs.List.{list_all}
-use Rattle.std.proofs.lemmas.Bool.{leb-true, le-leb}
+use Rattle.std.proofs.lemmas.Bool.{leb-true, and_parts}
 use Rattle.byteorder.specs.Endian.{big_bytes}
 use Rattle.address.specs.Ids.{Address}
 use Rattle.limits.specs.declared.TheConstants.{GROUP_NAME, MAGIC, VERSION, KINDS}
-use Rattle.wire.specs.declared.error.WireError.TheVariants.{NotOurs, Version, Kind, Length, Value}
-use Rattle.wire.specs.declared.packet.Body.{Body}
-use Rattle.wire.specs.declared.packet.Body.TheVariants as bodies
-use Rattle.wire.specs.declared.packet.Packet.{Packet}
-use Rattle.wire.specs.Reading.{◌>>=◌, bytes_at, number_at}
-use Rattle.wire.specs.Fields.{address_bytes, address_at}
-use Rattle.wire.specs.Names.{is_name_byte, is_group_name}
-use Rattle.wire.specs.Texts.{group_bytes, group_at}
-use Rattle.wire.specs.Packets.{kind_of, body_bytes, body_at, IsPacket, front_bytes, header_bytes, spelling, front_at, packet_at}
-use Rattle.wire.proofs.Bytes.{IsBytes, wide1, wide2}
-use Rattle.wire.proofs.FieldLaws.{bind_ok, ok_is, test_ok, both_true, along, back, Takes, Takes-then, IsPart, address_part, bytes_takes, bytes_again, number_takes, number_again}
+use Rattle.wire_values.specs.declared.error.WireError.TheVariants.{NotOurs, Version, Kind, Length, Value}
+use Rattle.wire_values.specs.declared.packet.Body.{Body}
+use Rattle.wire_values.specs.declared.packet.Body.TheVariants as bodies
+use Rattle.wire_values.specs.declared.packet.Packet.{Packet}
+use Rattle.wire_values.specs.Reading.{◌>>=◌, bytes_at, number_at}
+use Rattle.wire_values.specs.Fields.{address_bytes, address_at}
+use Rattle.wire_values.specs.Names.{is_name_byte, is_group_name}
+use Rattle.wire_values.proofs.Names.{name_is}
+use Rattle.wire_values.specs.Texts.{group_bytes, group_at}
+use Rattle.wire_values.specs.Kinds.{kind_of}
+use Rattle.wire.specs.Packets.{body_bytes, body_at, IsPacket, front_bytes, header_bytes, spelling, front_at, packet_at}
+use Rattle.big_endian.specs.Spelled.{IsBytes}
+use Rattle.big_endian.proofs.Bytes.{wide1, wide2}
+use Rattle.wire_values.proofs.FieldLaws.{bind_ok, ok_is, test_ok, along, back, Takes, Takes-then, IsPart, address_part, bytes_takes, bytes_again, number_takes, number_again}
 use Rattle.wire.proofs.BodyLaws.{Took, body_takes, body_again}
 
 -- ---- the name of a group
-
--- a name of a length that was tested
-pub name_is : (name : List ℕ) → 1 ≤ length name → length name ≤ GROUP_NAME → list_all is_name_byte name ≡ true → is_group_name name ≡ true
-name_is name some few plain = rw (le-leb _ _ some, le-leb _ _ few) plain
 
 pub record Name (name : List ℕ) : Type 0 where
   pub some : 1 ≤ length name
@@ -32,8 +31,8 @@ pub record Name (name : List ℕ) : Type 0 where
 
 pub is_name : (name : List ℕ) → is_group_name name ≡ true → Name name
 is_name name e =
-    let t = both_true (leb 1 (length name) && leb (length name) GROUP_NAME) (list_all is_name_byte name) e in
-    let u = both_true (leb 1 (length name)) (leb (length name) GROUP_NAME) t.0 in
+    let t = and_parts (leb 1 (length name) && leb (length name) GROUP_NAME) (list_all is_name_byte name) e in
+    let u = and_parts (leb 1 (length name)) (leb (length name) GROUP_NAME) t.0 in
     record { some = leb-true _ _ u.0; few = leb-true _ _ u.1; plain = t.1 }
 
 group_takes : (bytes name rest : List ℕ) → IsBytes bytes → group_at bytes ≡ Ok (name, rest) → Takes bytes (group_bytes name) rest × (is_group_name name ≡ true)

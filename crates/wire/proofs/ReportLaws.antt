@@ -2,18 +2,19 @@
 use Rattle.std.proofs.Common.{◌≡◌, ℕ, ◌+◌, ◌≤◌, true, cond, leb, ◌&&◌, List, ◌++◌, length, Option, Some, Ok, Err, refl, sym, ap, subst, ◌∙◌, append_assoc, arith}
 use Rattle.std.specs.Prelude.{min}
 use Rattle.std.specs.List.{flat_map, AllByRecursion}
-use Rattle.std.proofs.lemmas.Bool.{leb-true, le-leb}
+use Rattle.std.proofs.lemmas.Bool.{leb-true, le-leb, and_parts}
 use Rattle.byteorder.specs.Endian.{big_bytes}
 use Rattle.address.specs.Ids.{ViewId}
 use Rattle.limits.specs.declared.TheConstants.{GREATEST_NUMBER, WINDOW}
-use Rattle.wire.specs.declared.error.WireError.TheVariants.{Length, Value}
-use Rattle.wire.specs.Values.{Entry, Report}
-use Rattle.wire.specs.Reading.{◌>>=◌, number_at}
-use Rattle.wire.specs.Fields.{IsViewId, IsPlaced, number_bytes, view_id_bytes, placed_bytes, view_id_at}
-use Rattle.wire.specs.Lists.{are_held, is_filled, held_bytes, held_at, held_count_at, filled_at, items_count_at}
-use Rattle.wire.proofs.Bytes.{IsBytes, wide1, wide8}
-use Rattle.wire.proofs.FieldLaws.{bind_ok, ok_is, test_ok, both_true, along, back, Takes, Takes-then, view_id_part, number_takes, number_again, eight_again}
-use Rattle.wire.proofs.ListLaws.{held_takes, held_again}
+use Rattle.wire_values.specs.declared.error.WireError.TheVariants.{Length, Value}
+use Rattle.wire_values.specs.Values.{Entry, Report}
+use Rattle.wire_values.specs.Reading.{◌>>=◌, number_at}
+use Rattle.wire_values.specs.Fields.{IsViewId, IsPlaced, number_bytes, view_id_bytes, placed_bytes, view_id_at}
+use Rattle.wire_values.specs.Lists.{are_held, is_filled, held_bytes, held_at, held_count_at, filled_at, items_count_at}
+use Rattle.big_endian.specs.Spelled.{IsBytes}
+use Rattle.big_endian.proofs.Bytes.{wide1, wide8}
+use Rattle.wire_values.proofs.FieldLaws.{bind_ok, ok_is, test_ok, along, back, Takes, Takes-then, view_id_part, number_takes, number_again, eight_again}
+use Rattle.wire_values.proofs.ListLaws.{held_takes, held_again}
 
 -- ---- how many entries there are
 
@@ -61,10 +62,10 @@ filled-rules r e =
     let c = leb (length r.held) WINDOW in
     let d = leb r.delivered (r.stable + length r.held) in
     let f = are_held r.stable r.delivered r.stable r.held in
-    let t = both_true (((a && b) && c) && d) f e in
-    let u = both_true ((a && b) && c) d t.0 in
-    let v = both_true (a && b) c u.0 in
-    let w = both_true a b v.0 in
+    let t = and_parts (((a && b) && c) && d) f e in
+    let u = and_parts ((a && b) && c) d t.0 in
+    let v = and_parts (a && b) c u.0 in
+    let w = and_parts a b v.0 in
     record { stable = leb-true _ _ w.0; near = leb-true _ _ w.1; few = leb-true _ _ v.1; enough = leb-true _ _ u.1; rising = t.1 }
 
 pub rules-filled : (r : Report) → Filled r → is_filled r ≡ true

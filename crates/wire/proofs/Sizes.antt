@@ -7,15 +7,17 @@ use Rattle.byteorder.specs.Endian.{big_bytes}
 use Rattle.address.specs.Ids.{Address, ViewId}
 use Rattle.view.specs.Members.{View}
 use Rattle.limits.specs.declared.TheConstants.{MEMBERS, PAYLOAD, WINDOW, STATE, GROUP_NAME, DATAGRAM}
-use Rattle.wire.specs.declared.packet.Body.{Body}
-use Rattle.wire.specs.declared.packet.Body.TheVariants as bodies
-use Rattle.wire.specs.declared.packet.Packet.{Packet}
-use Rattle.wire.specs.Values.{Entry, Report, Install}
-use Rattle.wire.specs.Fields.{IsEntry, IsPlaced, address_bytes, number_bytes, view_id_bytes, payload_bytes, entry_bytes, placed_bytes}
-use Rattle.wire.specs.Lists.{IsView, IsReport, IsInstall, is_filled, is_nothing, addresses_bytes, view_bytes, held_bytes, filled_bytes, report_bytes, items_bytes, state_bytes, given_bytes, install_bytes}
-use Rattle.wire.specs.Packets.{IsBody, kind_of, body_bytes, IsPacket, front_bytes, header_bytes, spelling}
-use Rattle.wire.specs.Texts.{group_bytes}
-use Rattle.wire.proofs.MemberLaws.{sound_view}
+use Rattle.wire_values.specs.declared.packet.Body.{Body}
+use Rattle.wire_values.specs.declared.packet.Body.TheVariants as bodies
+use Rattle.wire_values.specs.declared.packet.Packet.{Packet}
+use Rattle.wire_values.specs.Values.{Report, Install}
+use Rattle.wire_values.specs.Fields.{IsPlaced, address_bytes, number_bytes, view_id_bytes, payload_bytes, entry_bytes, placed_bytes}
+use Rattle.wire_values.specs.Lists.{IsView, IsReport, IsInstall, is_filled, is_nothing, addresses_bytes, view_bytes, held_bytes, filled_bytes, report_bytes, items_bytes, state_bytes, given_bytes, install_bytes}
+use Rattle.wire_values.specs.Kinds.{kind_of}
+use Rattle.wire.specs.Packets.{IsBody, body_bytes, IsPacket, front_bytes, header_bytes, spelling}
+use Rattle.wire_values.specs.Texts.{group_bytes}
+use Rattle.wire_values.proofs.Lengths.{length-entry, length-items, length-held}
+use Rattle.wire_values.proofs.MemberLaws.{sound_view}
 use Rattle.wire.proofs.ReportLaws.{Filled, filled-rules}
 use Rattle.wire.proofs.InstallLaws.{IsState, placed-rules}
 use Rattle.wire.proofs.PacketLaws.{is_name}
@@ -23,17 +25,6 @@ use Rattle.wire.proofs.PacketLaws.{is_name}
 pub length-addresses : (addresses : List Address) → length (flat_map address_bytes addresses) ≡ 6 * length addresses
 length-addresses [] = refl
 length-addresses (a ∷ addresses) = let e = length-addresses addresses in omega (arith, length-append (address_bytes a) (flat_map address_bytes addresses))
-
-pub length-entry : (m : Entry) → length (entry_bytes m) ≡ 16 + length m.payload
-length-entry m = omega (arith, length-append (address_bytes m.sender ++ number_bytes m.number) (payload_bytes m.payload), length-append (big_bytes 2 (length m.payload)) m.payload)
-
-pub length-items : (items : List Entry) → AllByRecursion IsEntry items → length (flat_map entry_bytes items) ≤ (16 + PAYLOAD) * length items
-length-items [] fits = omega arith
-length-items (m ∷ items) fits = let e = length-items items fits.1 in omega (arith, length-append (entry_bytes m) (flat_map entry_bytes items), length-entry m, fits.0.payload)
-
-pub length-held : (held : List (ℕ × Entry)) → AllByRecursion IsPlaced held → length (flat_map placed_bytes held) ≤ (24 + PAYLOAD) * length held
-length-held [] fits = omega arith
-length-held (h ∷ held) fits = let e = length-held held fits.1 in omega (arith, length-append (placed_bytes h) (flat_map placed_bytes held), length-append (number_bytes h.0) (entry_bytes h.1), length-entry h.1, fits.0.entry.payload)
 
 pub length-view : (v : View) → length (view_bytes v) ≡ 15 + 6 * length v.members
 length-view v = omega (arith, length-append (view_id_bytes v.id) (addresses_bytes v.members), length-append (big_bytes 1 (length v.members)) (flat_map address_bytes v.members), length-addresses v.members)

@@ -1,7 +1,1 @@
-pub mod Values
-pub mod Names
-pub mod Reading
-pub mod Fields
-pub mod Texts
-pub mod Lists
 pub mod Packets

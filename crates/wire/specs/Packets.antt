@@ -2,18 +2,19 @@
 use Rattle.std.specs.Prelude.{◌≡◌, ◌≤◌, ◌+◌, ◌-◌, ℕ, true, List, [], ◌++◌, length, Option, Some, None, Result, Ok, Err, nat_lt, ◌==◌, if◌then◌else◌}
 use Rattle.std.specs.Option.{option_map_or}
 use Rattle.byteorder.specs.Endian.{big_bytes}
-use Rattle.wire.specs.Values.{Entry}
+use Rattle.wire_values.specs.Values.{Entry}
 use Rattle.limits.specs.declared.TheConstants.{GREATEST_NUMBER, PAYLOAD, WINDOW, DATAGRAM, VERSION, MAGIC, KINDS}
-use Rattle.wire.specs.declared.error.WireError.{WireError}
-use Rattle.wire.specs.declared.error.WireError.TheVariants.{NotOurs, Version, Kind, Length, Value, Trailing}
-use Rattle.wire.specs.declared.packet.Body.{Body}
-use Rattle.wire.specs.declared.packet.Body.TheVariants as bodies
-use Rattle.wire.specs.declared.packet.Packet.{Packet}
-use Rattle.wire.specs.Names.{is_group_name}
-use Rattle.wire.specs.Texts.{group_bytes, group_at}
-use Rattle.wire.specs.Reading.{Read, ◌>>=◌, number_at}
-use Rattle.wire.specs.Fields.{IsAddress, IsNumber, IsCount, IsViewId, IsEntry, address_bytes, number_bytes, view_id_bytes, payload_bytes, entry_bytes, placed_bytes, address_at, view_id_at, payload_at, entry_at}
-use Rattle.wire.specs.Lists.{IsView, IsReport, IsInstall, view_bytes, report_bytes, install_bytes, view_at, report_at, install_at}
+use Rattle.wire_values.specs.declared.error.WireError.{WireError}
+use Rattle.wire_values.specs.declared.error.WireError.TheVariants.{NotOurs, Version, Kind, Length, Value, Trailing}
+use Rattle.wire_values.specs.declared.packet.Body.{Body}
+use Rattle.wire_values.specs.declared.packet.Body.TheVariants as bodies
+use Rattle.wire_values.specs.declared.packet.Packet.{Packet}
+use Rattle.wire_values.specs.Kinds.{kind_of}
+use Rattle.wire_values.specs.Names.{is_group_name}
+use Rattle.wire_values.specs.Texts.{group_bytes, group_at}
+use Rattle.wire_values.specs.Reading.{Read, ◌>>=◌, number_at}
+use Rattle.wire_values.specs.Fields.{IsAddress, IsNumber, IsCount, IsViewId, IsEntry, address_bytes, number_bytes, view_id_bytes, payload_bytes, entry_bytes, placed_bytes, address_at, view_id_at, payload_at, entry_at}
+use Rattle.wire_values.specs.Lists.{IsView, IsReport, IsInstall, view_bytes, report_bytes, install_bytes, view_at, report_at, install_at}
 
 -- ---- bodies
 
@@ -31,22 +32,6 @@ IsBody (bodies.Behind proposal counter) = IsViewId proposal × IsNumber counter
 IsBody (bodies.Report proposal report) = IsViewId proposal × IsReport report
 IsBody (bodies.Install install) = IsInstall install
 IsBody (bodies.Merge view) = IsView view
-
--- the number of its kind
-abbrev pub kind_of : Body → ℕ
-kind_of bodies.Join = 1
-kind_of (bodies.Redirect coordinator) = 2
-kind_of bodies.Leave = 3
-kind_of (bodies.Forward view number payload) = 4
-kind_of (bodies.Order view place entry) = 5
-kind_of (bodies.Nak view missing) = 6
-kind_of (bodies.Ack view delivered) = 7
-kind_of (bodies.Status view progress) = 8
-kind_of (bodies.Flush proposal) = 9
-kind_of (bodies.Behind proposal counter) = 10
-kind_of (bodies.Report proposal report) = 11
-kind_of (bodies.Install install) = 12
-kind_of (bodies.Merge view) = 13
 
 abbrev pub body_bytes : Body → List ℕ
 body_bytes bodies.Join = []
@@ -145,7 +130,8 @@ body_at kind bytes =
     else if kind == 10 then behind_at bytes
     else if kind == 11 then reported_at bytes
     else if kind == 12 then installed_at bytes
-    else merge_at bytes
+    else if kind == 13 then merge_at bytes
+    else Err Kind
 
 -- ---- packets
 

@@ -1,5 +1,5 @@
 ghost use Rattle.std.specs.Prelude.{◌≡◌, ◌++◌, ℕ, List, [], Ok};
-ghost use Rattle.wire.specs.declared.packet.Packet.{Packet as PacketValue};
+ghost use Rattle.wire_values.specs.declared.packet.Packet.{Packet as PacketValue};
 ghost use Rattle.wire.specs.Packets.{Spells, packet_of};
 
 /// The law of the grammar: no two packets have one spelling, a packet has one spelling only, and no spelling

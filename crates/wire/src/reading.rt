@@ -1,25 +1,19 @@
 //! Packets from bytes.
 
 ghost use Rattle.std.specs.Prelude.{◌≡◌, Ok, Some, IfOk, IfErr};
-ghost use Rattle.wire.specs.Reading.{Gives};
-ghost use Rattle.wire.specs.declared.packet.Packet.{Packet as PacketValue};
+ghost use Rattle.wire_values.specs.Reading.{IsRead};
+ghost use Rattle.wire_values.specs.declared.packet.Packet.{Packet as PacketValue};
 ghost use Rattle.wire.specs.Packets.{redirect_at, forward_at, order_at, nak_at, ack_at, status_at, flush_at, behind_at, reported_at, installed_at, merge_at, body_at, front_at, packet_at, packet_of, Spells, wire_refusal};
 
-use crate::entries::entry_at;
-use crate::error::WireError;
-use crate::fields::Reader;
-use crate::install::install_at;
-use crate::members::view_at;
-use crate::numbers::{count_at, number_at};
-use crate::packet::{Body, Packet};
-use crate::report::report_at;
-use crate::text::{group_at, payload_at};
-use crate::{Missing, Progress};
 use limits::{DATAGRAM, GREATEST_NUMBER, KINDS, MAGIC, VERSION, WINDOW};
+use wire_values::{
+    Body, Missing, Packet, Progress, Reader, WireError, count_at, entry_at, group_at, install_at,
+    number_at, payload_at, report_at, view_at,
+};
 
 #[tactic(auto, unfolding(crate::specs::Packets::redirect_at))]
 fn redirect_at<'a>(from: &mut Reader<'a>) -> Result<Body<'a>, WireError>
-    ensures { Gives (λ x. (x, from.new)) result (redirect_at from.old) }
+    ensures { IsRead (λ x. (x, from.new)) result (redirect_at from.old) }
 {
     let coordinator = from.address()?;
     Ok(Body::Redirect(coordinator))
@@ -27,7 +21,7 @@ fn redirect_at<'a>(from: &mut Reader<'a>) -> Result<Body<'a>, WireError>
 
 #[tactic(auto, unfolding(crate::specs::Packets::forward_at))]
 fn forward_at<'a>(from: &mut Reader<'a>) -> Result<Body<'a>, WireError>
-    ensures { Gives (λ x. (x, from.new)) result (forward_at from.old) }
+    ensures { IsRead (λ x. (x, from.new)) result (forward_at from.old) }
 {
     let view = from.view_id()?;
     let number = number_at(1, GREATEST_NUMBER, from)?;
@@ -41,7 +35,7 @@ fn forward_at<'a>(from: &mut Reader<'a>) -> Result<Body<'a>, WireError>
 
 #[tactic(auto, unfolding(crate::specs::Packets::order_at))]
 fn order_at<'a>(from: &mut Reader<'a>) -> Result<Body<'a>, WireError>
-    ensures { Gives (λ x. (x, from.new)) result (order_at from.old) }
+    ensures { IsRead (λ x. (x, from.new)) result (order_at from.old) }
 {
     let view = from.view_id()?;
     let place = number_at(1, GREATEST_NUMBER, from)?;
@@ -51,7 +45,7 @@ fn order_at<'a>(from: &mut Reader<'a>) -> Result<Body<'a>, WireError>
 
 #[tactic(auto, unfolding(crate::specs::Packets::nak_at))]
 fn nak_at<'a>(from: &mut Reader<'a>) -> Result<Body<'a>, WireError>
-    ensures { Gives (λ x. (x, from.new)) result (nak_at from.old) }
+    ensures { IsRead (λ x. (x, from.new)) result (nak_at from.old) }
 {
     let view = from.view_id()?;
     let first = number_at(1, GREATEST_NUMBER, from)?;
@@ -64,7 +58,7 @@ fn nak_at<'a>(from: &mut Reader<'a>) -> Result<Body<'a>, WireError>
 
 #[tactic(auto, unfolding(crate::specs::Packets::ack_at))]
 fn ack_at<'a>(from: &mut Reader<'a>) -> Result<Body<'a>, WireError>
-    ensures { Gives (λ x. (x, from.new)) result (ack_at from.old) }
+    ensures { IsRead (λ x. (x, from.new)) result (ack_at from.old) }
 {
     let view = from.view_id()?;
     let delivered = count_at(0, GREATEST_NUMBER, from)?;
@@ -73,7 +67,7 @@ fn ack_at<'a>(from: &mut Reader<'a>) -> Result<Body<'a>, WireError>
 
 #[tactic(auto, unfolding(crate::specs::Packets::status_at))]
 fn status_at<'a>(from: &mut Reader<'a>) -> Result<Body<'a>, WireError>
-    ensures { Gives (λ x. (x, from.new)) result (status_at from.old) }
+    ensures { IsRead (λ x. (x, from.new)) result (status_at from.old) }
 {
     let view = from.view_id()?;
     let highest = count_at(0, GREATEST_NUMBER, from)?;
@@ -87,7 +81,7 @@ fn status_at<'a>(from: &mut Reader<'a>) -> Result<Body<'a>, WireError>
 
 #[tactic(auto, unfolding(crate::specs::Packets::flush_at))]
 fn flush_at<'a>(from: &mut Reader<'a>) -> Result<Body<'a>, WireError>
-    ensures { Gives (λ x. (x, from.new)) result (flush_at from.old) }
+    ensures { IsRead (λ x. (x, from.new)) result (flush_at from.old) }
 {
     let proposal = view_at(from)?;
     Ok(Body::Flush(proposal))
@@ -95,7 +89,7 @@ fn flush_at<'a>(from: &mut Reader<'a>) -> Result<Body<'a>, WireError>
 
 #[tactic(auto, unfolding(crate::specs::Packets::behind_at))]
 fn behind_at<'a>(from: &mut Reader<'a>) -> Result<Body<'a>, WireError>
-    ensures { Gives (λ x. (x, from.new)) result (behind_at from.old) }
+    ensures { IsRead (λ x. (x, from.new)) result (behind_at from.old) }
 {
     let proposal = from.view_id()?;
     let counter = number_at(1, GREATEST_NUMBER, from)?;
@@ -104,7 +98,7 @@ fn behind_at<'a>(from: &mut Reader<'a>) -> Result<Body<'a>, WireError>
 
 #[tactic(auto, unfolding(crate::specs::Packets::reported_at))]
 fn reported_at<'a>(from: &mut Reader<'a>) -> Result<Body<'a>, WireError>
-    ensures { Gives (λ x. (x, from.new)) result (reported_at from.old) }
+    ensures { IsRead (λ x. (x, from.new)) result (reported_at from.old) }
 {
     let proposal = from.view_id()?;
     let report = report_at(from)?;
@@ -113,7 +107,7 @@ fn reported_at<'a>(from: &mut Reader<'a>) -> Result<Body<'a>, WireError>
 
 #[tactic(auto, unfolding(crate::specs::Packets::installed_at))]
 fn installed_at<'a>(from: &mut Reader<'a>) -> Result<Body<'a>, WireError>
-    ensures { Gives (λ x. (x, from.new)) result (installed_at from.old) }
+    ensures { IsRead (λ x. (x, from.new)) result (installed_at from.old) }
 {
     let install = install_at(from)?;
     Ok(Body::Install(install))
@@ -121,7 +115,7 @@ fn installed_at<'a>(from: &mut Reader<'a>) -> Result<Body<'a>, WireError>
 
 #[tactic(auto, unfolding(crate::specs::Packets::merge_at))]
 fn merge_at<'a>(from: &mut Reader<'a>) -> Result<Body<'a>, WireError>
-    ensures { Gives (λ x. (x, from.new)) result (merge_at from.old) }
+    ensures { IsRead (λ x. (x, from.new)) result (merge_at from.old) }
 {
     let view = view_at(from)?;
     Ok(Body::Merge(view))
@@ -129,7 +123,7 @@ fn merge_at<'a>(from: &mut Reader<'a>) -> Result<Body<'a>, WireError>
 
 #[tactic(auto, unfolding(crate::specs::Packets::body_at))]
 fn body_at<'a>(kind: u8, from: &mut Reader<'a>) -> Result<Body<'a>, WireError>
-    ensures { Gives (λ x. (x, from.new)) result (body_at kind from.old) }
+    ensures { IsRead (λ x. (x, from.new)) result (body_at kind from.old) }
 {
     match kind {
         1 => Ok(Body::Join),
@@ -144,14 +138,15 @@ fn body_at<'a>(kind: u8, from: &mut Reader<'a>) -> Result<Body<'a>, WireError>
         10 => behind_at(from),
         11 => reported_at(from),
         12 => installed_at(from),
-        _ => merge_at(from),
+        13 => merge_at(from),
+        _ => Err(WireError::Kind),
     }
 }
 
 // What every packet begins with: the kind is answered.
 #[tactic(auto, unfolding(crate::specs::Packets::front_at))]
 fn front_at(from: &mut Reader<'_>) -> Result<u8, WireError>
-    ensures { Gives (λ x. (x, from.new)) result (front_at from.old) }
+    ensures { IsRead (λ x. (x, from.new)) result (front_at from.old) }
 {
     let _ = from.u16(MAGIC, MAGIC, WireError::NotOurs)?;
     let _ = from.u8(VERSION, VERSION, WireError::Version)?;
@@ -160,7 +155,7 @@ fn front_at(from: &mut Reader<'_>) -> Result<u8, WireError>
 
 #[tactic(auto, unfolding(crate::specs::Packets::packet_at))]
 fn packet_at<'a>(from: &mut Reader<'a>) -> Result<Packet<'a>, WireError>
-    ensures { Gives (λ x. (x, from.new)) result (packet_at from.old) }
+    ensures { IsRead (λ x. (x, from.new)) result (packet_at from.old) }
 {
     let kind = front_at(from)?;
     let group = group_at(from)?;

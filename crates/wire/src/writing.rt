@@ -2,20 +2,39 @@
 
 ghost use Rattle.std.specs.Prelude.{◌≡◌, ◌≤◌, ◌+◌, ◌*◌, ◌++◌, ◌<◌, ◌^◌, true, length, vec_len, vec_capacity, IfSome, OnOk, OnErr};
 ghost use Rattle.std.specs.List.{flat_map, AllByRecursion};
-ghost use Rattle.wire.specs.Fields.{IsAddress, IsViewId, IsNumber, IsEntry, IsPlaced, address_bytes, view_id_bytes, number_bytes, payload_bytes, entry_bytes};
-ghost use Rattle.wire.specs.Lists.{IsView, IsReport, IsInstall, addresses_bytes, view_bytes, held_bytes, filled_bytes, report_bytes, state_bytes, given_bytes, install_bytes};
-ghost use Rattle.wire.specs.Names.{is_group_name};
-ghost use Rattle.wire.specs.Texts.{group_bytes};
+ghost use Rattle.wire_values.specs.Fields.{IsAddress, IsViewId, IsNumber, IsEntry, IsPlaced, address_bytes, view_id_bytes, number_bytes, payload_bytes, entry_bytes};
+ghost use Rattle.wire_values.specs.Lists.{IsView, IsReport, IsInstall, addresses_bytes, view_bytes, held_bytes, filled_bytes, report_bytes, state_bytes, given_bytes, install_bytes};
+ghost use Rattle.wire_values.specs.Names.{is_group_name};
+ghost use Rattle.wire_values.specs.Texts.{group_bytes};
 ghost use Rattle.limits.specs.declared.TheConstants.{MEMBERS, PAYLOAD, STATE};
 ghost use Rattle.wire.specs.Packets.{IsBody, Spells, front_bytes, header_bytes, body_bytes, spelling, listed_bytes};
 
-use crate::{
-    Body, Entry, GroupName, Held, Install, Items, Number, Packet, Payload, Report, Roster, State,
-};
 use address::{Address, ViewId};
 use big_endian::{put, put_address, put_u8, put_u16, put_u32, put_u64};
 use limits::{MAGIC, VERSION};
 use std::alloc::AllocError;
+use wire_values::{
+    Body, Entry, GroupName, Held, Install, Items, Number, Packet, Payload, Report, Roster, State,
+};
+
+// How many bytes a spelling has: of a flag, of how many are listed, of the length of a payload and of a state;
+const FLAG: usize = 1;
+
+const COUNT: usize = 1;
+
+const PAYLOAD_LENGTH: usize = 2;
+
+const STATE_LENGTH: usize = 4;
+// of an address, of a number, of a view id, of an entry without its payload's bytes;
+const ADDRESS: usize = 6;
+
+const NUMBER: usize = 8;
+
+const VIEW_ID: usize = NUMBER + ADDRESS;
+
+const ENTRY: usize = ADDRESS + NUMBER + PAYLOAD_LENGTH;
+// and of what stands before a body, without the bytes of the group's name: two bytes of ours, the version, the kind, the length of the name, two addresses.
+const HEADER: usize = 5 + 2 * ADDRESS;
 
 fn put_view_id(id: ViewId, out: &mut Vec<u8>)
     requires { vec_len out.old + length (view_id_bytes id) ≤ vec_capacity out.old }
@@ -328,8 +347,8 @@ fn state_len(state: &Option<State<'_>>) -> usize
     ensures few { result ≤ 5 + STATE }
 {
     match state {
-        None => 1,
-        Some(state) => 5 + state.as_slice().len(),
+        None => FLAG,
+        Some(state) => FLAG + STATE_LENGTH + state.as_slice().len(),
     }
 }
 
@@ -337,7 +356,7 @@ fn view_len(view: &Roster) -> usize
     ensures size { result ≡ length (view_bytes view.now) }
     ensures few { result ≤ 15 + 6 * MEMBERS }
 {
-    15 + 6 * view.members().len()
+    VIEW_ID + COUNT + ADDRESS * view.members().len()
 }
 
 fn items_len(items: &Items<'_>) -> usize
@@ -352,8 +371,8 @@ fn install_len(install: &Install<'_>) -> usize
     ensures few { result < 2 ^ 19 }
 {
     let view = view_len(install.view());
-    let together = 6 * install.together().len();
-    10 + view + together + items_len(&install.items()) + state_len(install.state())
+    let together = ADDRESS * install.together().len();
+    NUMBER + 2 * COUNT + view + together + items_len(&install.items()) + state_len(install.state())
 }
 
 fn report_len(report: &Report<'_>) -> usize
@@ -361,8 +380,8 @@ fn report_len(report: &Report<'_>) -> usize
     ensures few { result < 2 ^ 19 }
 {
     match report.previous() {
-        None => 1,
-        Some(_) => 32 + report.held().text().len(),
+        None => FLAG,
+        Some(_) => FLAG + VIEW_ID + 2 * NUMBER + COUNT + report.held().text().len(),
     }
 }
 
@@ -373,16 +392,19 @@ fn body_len(body: &Body<'_>) -> usize
 {
     match body {
         Body::Join => 0,
-        Body::Redirect(_) => 6,
+        Body::Redirect(_) => ADDRESS,
         Body::Leave => 0,
-        Body::Forward { payload, .. } => 24 + payload.as_slice().len(),
-        Body::Order { entry, .. } => 38 + entry.payload.as_slice().len(),
-        Body::Nak { .. } => 30,
-        Body::Ack { .. } => 22,
-        Body::Status { .. } => 30,
+        Body::Forward { payload, .. } => VIEW_ID
+            + NUMBER
+            + PAYLOAD_LENGTH
+            + payload.as_slice().len(),
+        Body::Order { entry, .. } => VIEW_ID + NUMBER + ENTRY + entry.payload.as_slice().len(),
+        Body::Nak { .. } => VIEW_ID + 2 * NUMBER,
+        Body::Ack { .. } => VIEW_ID + NUMBER,
+        Body::Status { .. } => VIEW_ID + 2 * NUMBER,
         Body::Flush(proposal) => view_len(proposal),
-        Body::Behind { .. } => 22,
-        Body::Report { report, .. } => 14 + report_len(report),
+        Body::Behind { .. } => VIEW_ID + NUMBER,
+        Body::Report { report, .. } => VIEW_ID + report_len(report),
         Body::Install(install) => install_len(install),
         Body::Merge(view) => view_len(view),
     }
@@ -395,7 +417,7 @@ pub fn encode(packet: &Packet<'_>, out: &mut Vec<u8>) -> Result<(), AllocError>
     // What is appended is in the grammar.
     ensures packet { OnOk result (Spells packet.now (spelling packet.now)) }
 {
-    out.reserve(17 + packet.group.as_slice().len() + body_len(&packet.body))?;
+    out.reserve(HEADER + packet.group.as_slice().len() + body_len(&packet.body))?;
     put_header(packet, out);
     put_body(&packet.body, out);
     Ok(())

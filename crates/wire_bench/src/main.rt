@@ -4,7 +4,8 @@
 
 use std::io::{self, Read};
 use std::time::Instant;
-use wire::{Packet, decode, encode};
+use wire::{decode, encode};
+use wire_values::Packet;
 
 const ROUNDS: u64 = 20_000;
 

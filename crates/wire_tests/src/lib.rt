@@ -5,6 +5,8 @@
 #[cfg(test)]
 mod changes;
 #[cfg(test)]
+mod fields;
+#[cfg(test)]
 mod longest;
 #[cfg(test)]
 mod samples;

@@ -1,9 +1,10 @@
 use crate::samples::{address, is_exact, second_view};
 use address::{Address, Node};
 use std::alloc::Global;
-use wire::{
+use wire::{encode, put_entry};
+use wire_values::{
     Body, Count, Entry, GroupName, Held, Install, Items, Members, Number, Packet, Payload, Report,
-    Roster, State, encode, put_entry,
+    Roster, State,
 };
 
 /// The bytes of a packet with the longest name, from the greatest address.

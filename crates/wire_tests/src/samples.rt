@@ -3,7 +3,8 @@ ghost use Rattle.limits.specs.declared.TheConstants.{GREATEST_NUMBER, PAYLOAD};
 
 use address::{Address, Node, ViewId};
 use std::alloc::{AllocError, Global};
-use wire::{Entry, Number, Packet, Payload, decode, encode};
+use wire::{decode, encode};
+use wire_values::{Entry, Number, Packet, Payload};
 
 // One packet of each kind in the group `world`, between 1.1 and 2.1, spelled by hand from the tables of
 // docs/WIRE.md. JOIN, ORDER and FLUSH are vectors of the format.

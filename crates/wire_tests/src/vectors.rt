@@ -4,8 +4,9 @@ use crate::samples::{
 };
 use address::Address;
 use std::alloc::Global;
-use wire::{
-    Body, Count, GroupName, Held, Install, Items, Members, Packet, Report, Roster, State, decode,
+use wire::decode;
+use wire_values::{
+    Body, Count, GroupName, Held, Install, Items, Members, Packet, Report, Roster, State,
 };
 
 /// Whether a packet of the group `world` is written as a text says in hexadecimal.

@@ -1,7 +1,7 @@
 use crate::words::{refusal, words_of};
 use clap::error::ErrorKind;
 use std::alloc::Global;
-use vsync_cli::{Invocation, MemberMistake, MemberPlan, command};
+use vsync_words::{Invocation, MemberMistake, MemberPlan, command};
 
 /// Whether the words ask for the script of this path with the settings of that.
 fn is_udp(alloc: Global, line: &[&str], config: &str, script: &str) -> bool {

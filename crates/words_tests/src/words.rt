@@ -1,6 +1,6 @@
 use clap::error::ErrorKind;
 use std::alloc::{AllocError, Global};
-use vsync_cli::{Invocation, TextCommand, command};
+use vsync_words::{Invocation, TextCommand, command};
 
 /// The words of a command line, as the environment gives them.
 pub(crate) fn words_of(alloc: Global, line: &[&str]) -> Result<Vec<String>, AllocError> {

@@ -1,40 +1,38 @@
 -- Whom a catch-up is about, and what comes of it: the two are level, or one has crashed, or both run.
-use Rattle.std.proofs.Common.{◌≡◌, ℕ, ◌+◌, Bool, true, false, cond, not, ◌&&◌, Option, Some, None, [], ◌∷◌, ◌++◌, length, is_some, inl, inr, ◌⊎◌, refl, sym, ap, ◌∙◌, subst}
-use Rattle.std.specs.Prelude.{MatchOption}
-use Rattle.std.specs.Option.{IsSomeAnd, option_map, option_map_or, option_and_then}
+use Rattle.std.proofs.Common.{◌≡◌, ℕ, Bool, true, false, cond, Option, Some, None, length, refl, sym, ap, ◌∙◌, subst}
+use Rattle.std.specs.Option.{option_map, option_map_or, option_and_then}
 use Rattle.std.proofs.lemmas.Bool.{and_parts}
 use Rattle.std.proofs.lemmas.Option.{none-some, same_Some}
 use Rattle.address.specs.Ids.{Address, ViewId, same_address, same_view_id}
 use Rattle.view.specs.Members.{View}
-use Rattle.wire.specs.declared.packet.Body.TheVariants as bodies
+use Rattle.wire_values.specs.declared.packet.Body.TheVariants as bodies
 use Rattle.state_transfer.specs.Meanings.{Meaning}
-use Rattle.trace_props.specs.declared.event.Event.{Event}
-use Rattle.trace_props.specs.declared.event.Event.TheVariants.{Crashed}
-use Rattle.trace_props.proofs.FactOfObserved.{same_address-refl, same_address-true, same_address-sym, same_view_id-true, same_view_id-refl}
-use Rattle.agreement.specs.Cores.{Core, is_frozen}
-use Rattle.agreement.specs.Acts.{packet}
+use Rattle.address.proofs.SameIds.{same_address-refl, same_address-true, same_address-sym, same_view_id-true}
+use Rattle.acts.specs.Cores.{Core, is_frozen}
+use Rattle.acts.specs.Acts.{packet}
 use Rattle.agreement.proofs.KeepBySteps
 use Rattle.traffic.specs.declared.coordinator.Coordinator.{Coordinator}
-use Rattle.traffic.specs.declared.other.Other.{Other}
-use Rattle.traffic.specs.declared.traffic.Traffic.{Traffic}
-use Rattle.traffic.specs.declared.traffic.Traffic.TheVariants as kinds
-use Rattle.traffic.specs.Traffics.{view_of}
+use Rattle.traffic.specs.declared.follower.Follower.{Follower}
+use Rattle.traffic.specs.declared.view_state.ViewState.{ViewState}
+use Rattle.traffic.specs.declared.view_state.ViewState.TheVariants as kinds
+use Rattle.traffic.specs.ViewStates.{view_of}
 use Rattle.traffic.specs.Takes.{progress_of}
-use Rattle.membership.specs.declared.life.Life.{Life}
-use Rattle.membership.specs.Lives.{core_of as core_at, view_in}
+use Rattle.membership.specs.declared.member_state.MemberState.{MemberState}
+use Rattle.membership.specs.MemberStates.{core_of as core_at}
 use Rattle.member_messages.specs.Ordered.{IsOrderly}
-use Rattle.member.specs.Members.{MemberModel, core_of}
+use Rattle.member.specs.Members.{MemberModel}
 use Rattle.world_model.specs.declared.WorldEvent.TheVariants.{Deliver, Tick}
 use Rattle.world_model.specs.Histories.{last_of, is_connected}
 use Rattle.world.specs.declared.gaps.Pair.{Pair}
-use Rattle.world.specs.declared.node_state.NodeState.{NodeState}
-use Rattle.world.specs.declared.node_state.NodeState.TheVariants.{Vacant, Ended, Running}
-use Rattle.world.specs.NodeStates.{system_of}
-use Rattle.world.specs.Invariant.{IsWorld, IsNodeStateOf}
-use Rattle.world.specs.Worlds.{WorldModel}
-use Rattle.world.specs.Gaps.{open_view, is_open_in, pair_of, pair_in, pair_at, first_for, lacks_memory, Plays, Hands, CatchesUp, BothRun, IsLevel}
+use Rattle.world_step.specs.declared.node_state.NodeState.{NodeState}
+use Rattle.world_step.specs.declared.node_state.NodeState.TheVariants.{Vacant, Ended, Running}
+use Rattle.world_step.specs.NodeStates.{system_of}
+use Rattle.world_step.specs.Invariant.{IsWorld, IsNodeStateOf}
+use Rattle.world_step.specs.Worlds.{WorldModel}
+use Rattle.world_step.specs.Pools.{first_for}
+use Rattle.world.specs.Gaps.{open_view, is_open_in, pair_of, pair_in, pair_at, lacks_memory, Plays, Hands, CatchesUp, IsLevel}
 use Rattle.world.proofs.FactOfPairs
-use Rattle.world.proofs.KeepOfWorlds
+use Rattle.world_step.proofs.KeepOfWorlds
 use Rattle.world.proofs.FactOfReplies
 use Rattle.world.proofs.CatchUpLevels
 
@@ -42,30 +40,30 @@ use Rattle.world.proofs.CatchUpLevels
 
 module _ {S : Type 0} where
   pub record IsOpen (m : MemberModel S) (v : View) : Type 0 where
-    pub life : Life S
-    pub traffic : Traffic
-    pub lives : m.life ≡ Some life
-    pub keeps : life.traffic ≡ Some traffic
-    pub view : view_of traffic ≡ v
-    pub installed : life.promise.is_installed ≡ true
+    pub member_state : MemberState S
+    pub view_state : ViewState
+    pub lives : m.member_state ≡ Some member_state
+    pub keeps : member_state.view_state ≡ Some view_state
+    pub view : view_of view_state ≡ v
+    pub installed : member_state.promise.is_installed ≡ true
 
-  open-by : (m : MemberModel S) (v : View) (l : Life S) (t : Traffic) (b : Bool) → m.life ≡ Some l → l.traffic ≡ Some t → l.promise.is_installed ≡ b
+  open-by : (m : MemberModel S) (v : View) (l : MemberState S) (t : ViewState) (b : Bool) → m.member_state ≡ Some l → l.view_state ≡ Some t → l.promise.is_installed ≡ b
       → cond (is_frozen (Some (view_of t)) b) None (Some (view_of t)) ≡ Some v → IsOpen m v
-  open-by m v l t true lives keeps inst e = record { life = l; traffic = t; lives = lives; keeps = keeps; view = same_Some (view_of t) v e; installed = inst }
+  open-by m v l t true lives keeps inst e = record { member_state = l; view_state = t; lives = lives; keeps = keeps; view = same_Some (view_of t) v e; installed = inst }
   open-by m v l t false lives keeps inst e = absurd (none-some v e)
 
-  open-life : (m : MemberModel S) (v : View) (l : Life S) (o : Option Traffic) → m.life ≡ Some l → l.traffic ≡ o
+  open-member_state : (m : MemberModel S) (v : View) (l : MemberState S) (o : Option ViewState) → m.member_state ≡ Some l → l.view_state ≡ o
       → cond (is_frozen (option_map view_of o) l.promise.is_installed) None (option_map view_of o) ≡ Some v → IsOpen m v
-  open-life m v l None lives keeps e = absurd (none-some v e)
-  open-life m v l (Some t) lives keeps e = open-by m v l t l.promise.is_installed lives keeps refl e
+  open-member_state m v l None lives keeps e = absurd (none-some v e)
+  open-member_state m v l (Some t) lives keeps e = open-by m v l t l.promise.is_installed lives keeps refl e
 
   pub open-is : (m : MemberModel S) (v : View) → open_view (Running m) ≡ Some v → IsOpen m v
-  open-is m v e = by m.life refl e
+  open-is m v e = by m.member_state refl e
     where
-      by : (o : Option (Life S)) → m.life ≡ o
+      by : (o : Option (MemberState S)) → m.member_state ≡ o
           → option_and_then (λ (c : Core S). cond (is_frozen c.view c.installed) None c.view) (option_map (core_at m.address) o) ≡ Some v → IsOpen m v
       by None lives x = absurd (none-some v x)
-      by (Some l) lives x = open-life m v l l.traffic lives refl x
+      by (Some l) lives x = open-member_state m v l l.view_state lives refl x
 
   -- where a member of an address is open in a view of an id
   pub record IsOpenIn (p : Address) (v : ViewId) (s : NodeState S) : Type 0 where
@@ -127,7 +125,7 @@ module _ {S : Type 0} (meaning : Meaning S) (laws : KeepBySteps.Laws meaning) wh
   abbrev Keeps : WorldModel S → Type 0
   Keeps w = IsWorld meaning w.node_states w.history
 
-  abbrev Couple : WorldModel S → Address → Address → Life S → Life S → Coordinator → Other → Type 0
+  abbrev Couple : WorldModel S → Address → Address → MemberState S → MemberState S → Coordinator → Follower → Type 0
   Couple w c q lc lq kc kq = CatchUpLevels.Couple meaning laws w c q lc lq kc kq
 
   -- who runs at a node, as it runs
@@ -135,22 +133,22 @@ module _ {S : Type 0} (meaning : Meaning S) (laws : KeepBySteps.Laws meaning) wh
   node_state-of w n m keeps node_state = subst (IsNodeStateOf n (last_of n w.history.trace) (is_connected n w.history) w.history.trace) node_state (keeps.node_states n)
 
   runs-open : (w : WorldModel S) (n : ℕ) (p : Address) (m : MemberModel S) (v : View) → Keeps w → w.node_states n ≡ Running m → m.address ≡ p → (o : IsOpen m v)
-      → FactOfReplies.RunsAs meaning w p o.life o.traffic
+      → FactOfReplies.RunsAs meaning w p o.member_state o.view_state
   runs-open w n p m v keeps node_state is o =
       let k = node_state-of w n m keeps node_state in
       let node : p.node ≡ n = ap (λ (q : Address). q.node) (sym is) ∙ k.1 in
-      record { member = m; node_state = ap (λ (j : ℕ). w.node_states j) node ∙ node_state; address = is; group = k.2.group; life = o.lives; traffic = o.keeps; installed = o.installed }
+      record { member = m; node_state = ap (λ (j : ℕ). w.node_states j) node ∙ node_state; address = is; group = k.2.group; member_state = o.lives; view_state = o.keeps; installed = o.installed }
 
-  orderly-of : (w : WorldModel S) (n : ℕ) (p : Address) (m : MemberModel S) (v : View) → Keeps w → w.node_states n ≡ Running m → m.address ≡ p → (o : IsOpen m v) → IsOrderly p o.traffic
+  orderly-of : (w : WorldModel S) (n : ℕ) (p : Address) (m : MemberModel S) (v : View) → Keeps w → w.node_states n ≡ Running m → m.address ≡ p → (o : IsOpen m v) → IsOrderly p o.view_state
   orderly-of w n p m v keeps node_state is o =
       let k = node_state-of w n m keeps node_state in
-      subst (λ (q : Address). IsOrderly q o.traffic) is ((k.3 o.life o.lives).ordered o.traffic o.keeps)
+      subst (λ (q : Address). IsOrderly q o.view_state) is ((k.3 o.member_state o.lives).ordered o.view_state o.keeps)
 
   pub record Found (w : WorldModel S) (pair : Pair) : Type 0 where
-    pub first : Life S
-    pub other : Life S
+    pub first : MemberState S
+    pub other : MemberState S
     pub leads : Coordinator
-    pub follows : Other
+    pub follows : Follower
     pub couple : Couple w pair.view.creator pair.member first other leads follows
     pub id : leads.view.id ≡ pair.view
 
@@ -161,12 +159,12 @@ module _ {S : Type 0} (meaning : Meaning S) (laws : KeepBySteps.Laws meaning) wh
     abbrev q : Address
     q = pair.member
 
-    joined : (lc lq : Life S) (kc : Coordinator) (kq : Other) → FactOfReplies.RunsAs meaning w c lc (kinds.Coordinator kc)
-        → FactOfReplies.RunsAs meaning w q lq (kinds.Other kq) → kc.view.id ≡ pair.view → kq.view.id ≡ pair.view → Found w pair
+    joined : (lc lq : MemberState S) (kc : Coordinator) (kq : Follower) → FactOfReplies.RunsAs meaning w c lc (kinds.Coordinator kc)
+        → FactOfReplies.RunsAs meaning w q lq (kinds.Follower kq) → kc.view.id ≡ pair.view → kq.view.id ≡ pair.view → Found w pair
     joined lc lq kc kq rc rq ic iq =
         let one = FactOfPairs.one-view meaning (system_of w.node_states w.history.pool w.history.trace) keeps.agreed c q (core_at c lc) (core_at q lq) kc.view kq.view
-        (CatchUpLevels.runs-in meaning laws w c lc (kinds.Coordinator kc) rc) (CatchUpLevels.runs-in meaning laws w q lq (kinds.Other kq) rq)
-        (rw rc.traffic refl) (rw rq.traffic refl) (iq ∙ sym ic) in
+        (CatchUpLevels.runs-in meaning laws w c lc (kinds.Coordinator kc) rc) (CatchUpLevels.runs-in meaning laws w q lq (kinds.Follower kq) rq)
+        (rw rc.view_state refl) (rw rq.view_state refl) (iq ∙ sym ic) in
         record {
           first = lc;
           other = lq;
@@ -177,15 +175,15 @@ module _ {S : Type 0} (meaning : Meaning S) (laws : KeepBySteps.Laws meaning) wh
         }
 
     -- the coordinator of a view keeps what a coordinator does, and another member what another does
-    kinds-by : (lc lq : Life S) (tc tq : Traffic) → FactOfReplies.RunsAs meaning w c lc tc → FactOfReplies.RunsAs meaning w q lq tq → IsOrderly c tc → IsOrderly q tq
+    kinds-by : (lc lq : MemberState S) (tc tq : ViewState) → FactOfReplies.RunsAs meaning w c lc tc → FactOfReplies.RunsAs meaning w q lq tq → IsOrderly c tc → IsOrderly q tq
         → (view_of tc).id ≡ pair.view → (view_of tq).id ≡ pair.view → Found w pair
-    kinds-by lc lq (kinds.Other k) tq rc rq oc oq ic iq =
+    kinds-by lc lq (kinds.Follower k) tq rc rq oc oq ic iq =
         let bad : true ≡ false = sym (same_address-refl c) ∙ ap (λ (v : ViewId). same_address c v.creator) (sym ic) ∙ oc.0 in
         absurd cc
     kinds-by lc lq (kinds.Coordinator k) (kinds.Coordinator j) rc rq oc oq ic iq =
         let bad : true ≡ false = sym oq.0.coordinator ∙ ap (λ (v : ViewId). same_address q v.creator) iq ∙ same_address-sym q c ∙ apart in
         absurd cc
-    kinds-by lc lq (kinds.Coordinator k) (kinds.Other j) rc rq oc oq ic iq = joined lc lq k j rc rq ic iq
+    kinds-by lc lq (kinds.Coordinator k) (kinds.Follower j) rc rq oc oq ic iq = joined lc lq k j rc rq ic iq
 
   pub found : (w : WorldModel S) (n : ℕ) (pair : Pair) → Keeps w → pair_at w.node_states n ≡ Some pair → Found w pair
   found w n pair keeps e =
@@ -193,7 +191,7 @@ module _ {S : Type 0} (meaning : Meaning S) (laws : KeepBySteps.Laws meaning) wh
       let f = open-in pair.view.creator pair.view (w.node_states pair.view.creator.node) x.first in
       let oq = open-is x.member x.view x.opens in
       let oc = open-is f.member f.view f.opens in
-      kinds-by w pair keeps x.apart oc.life oq.life oc.traffic oq.traffic
+      kinds-by w pair keeps x.apart oc.member_state oq.member_state oc.view_state oq.view_state
       (runs-open w pair.view.creator.node pair.view.creator f.member f.view keeps f.node_state f.address oc)
       (runs-open w n pair.member x.member x.view keeps x.node_state x.address oq)
       (orderly-of w pair.view.creator.node pair.view.creator f.member f.view keeps f.node_state f.address oc)
@@ -222,7 +220,7 @@ module _ {S : Type 0} (meaning : Meaning S) (laws : KeepBySteps.Laws meaning) wh
       subst (λ (o : Option ℕ). Hands meaning o announced asked) t.found hands in
       let m = packet pair.view.creator (bodies.Status f.leads.view.id (progress_of f.leads.window)) pair.member in
       let h = CatchUpLevels.sure meaning laws (lacks_memory x.step.answer) x.whole
-      (FactOfReplies.heard meaning announced asked t.number pair.member f.other (kinds.Other f.follows) t.couple.other m t.status x.step) in
+      (FactOfReplies.heard meaning announced asked t.number pair.member f.other (kinds.Follower f.follows) t.couple.other m t.status x.step) in
       CatchUpLevels.asked-by meaning laws announced asked pair.view.creator pair.member f.first f.other f.leads f.follows t.couple
       (keeps-on announced asked (Deliver t.number) x t.couple.keeps) h
 

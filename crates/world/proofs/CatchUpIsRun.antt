@@ -1,17 +1,17 @@
 -- A catch-up is a run of events, of all of its steps or of the first few.
-use Rattle.std.proofs.Common.{◌≡◌, ℕ, Option, Some, None, List, [], ◌∷◌, ◌++◌, length, inl, inr, sym, subst}
+use Rattle.std.proofs.Common.{ℕ, Option, Some, None, List, [], ◌∷◌, ◌++◌, inl, inr, sym, subst}
 use Rattle.std.specs.Option.{IsSomeAnd}
 use Rattle.state_transfer.specs.Meanings.{Meaning}
 use Rattle.world_model.specs.declared.WorldEvent.{WorldEvent}
-use Rattle.world_model.specs.declared.WorldEvent.TheVariants.{Deliver, Tick}
+use Rattle.world_model.specs.declared.WorldEvent.TheVariants.{Deliver}
 use Rattle.world.specs.declared.gaps.Pair.{Pair}
-use Rattle.world.specs.Worlds.{WorldModel, WorldStep, Runs, IsLonger}
-use Rattle.world.specs.Worlds.Runs.{Still as NoEvent, Next as OneMore}
-use Rattle.world.specs.Gaps.{first_for, Plays, Hands, Fails, Delivers, Breaks, CatchesUp, Stops}
+use Rattle.world_step.specs.Worlds.{WorldModel, WorldStep, Runs, IsLonger}
+use Rattle.world_step.specs.Worlds.Runs.{Still as NoEvent, Next as OneMore}
+use Rattle.world.specs.Gaps.{Hands, Fails, Delivers, Breaks, CatchesUp, Stops}
 use Rattle.world.specs.Gaps.Delivers.{Still, Next}
 use Rattle.world.specs.Gaps.Breaks.{Here, Later}
 use Rattle.world.specs.Gaps.Stops.{AtTick, AtStatus, AtRequest, AtAnswer}
-use Rattle.world.proofs.FactOfRuns.{runs-longer}
+use Rattle.world_step.proofs.FactOfRuns.{runs-longer}
 
 module _ {S : Type 0} (meaning : Meaning S) where
   -- some events run from one world to another

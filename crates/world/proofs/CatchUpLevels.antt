@@ -1,65 +1,64 @@
 -- A catch-up brings a member level with the coordinator of its view.
-use Rattle.std.proofs.Common.{◌≡◌, ℕ, zero, suc, ◌+◌, ◌-◌, ◌<◌, ◌≤◌, Bool, true, false, cond, not, ◌&&◌, Option, Some, None, Ok, List, [], ◌∷◌, ◌++◌, map, drop, length, is_some, nat_eq, nat_lt, inl, inr, ◌⊎◌, refl, sym, ap, ◌∙◌, subst, arith}
-use Rattle.std.specs.Prelude.{◌||◌, IsSome}
+use Rattle.std.proofs.Common.{◌≡◌, ℕ, zero, suc, ◌+◌, ◌-◌, ◌<◌, ◌≤◌, Bool, true, false, Option, Some, None, Ok, List, [], ◌∷◌, ◌++◌, map, drop, length, is_some, nat_eq, nat_lt, inl, inr, ◌⊎◌, refl, sym, ap, ◌∙◌, subst, arith}
+use Rattle.std.specs.Prelude.{◌||◌}
 use Rattle.std.specs.List.{slice_get, position_from, AllByRecursion}
 use Rattle.std.specs.Option.{option_map, option_map_or}
 use Rattle.std.proofs.lemmas.Bool.{cond-true, cond-false, eqb-true}
 use Rattle.std.proofs.lemmas.Bool.Decides.{nat_tests}
-use Rattle.std.proofs.lemmas.Option.{none-some, same_Some, slice_get-map}
+use Rattle.std.proofs.lemmas.Option.{none-some, same_Some}
 use Rattle.std.proofs.lemmas.List.{append-nil, length-append, length-map}
 use Rattle.std.proofs.Math.Seq.{drop-append_seam}
 use Rattle.limits.specs.declared.TheConstants.{WINDOW}
 use Rattle.address.specs.Ids.{Address, ViewId, same_address}
 use Rattle.view.specs.Members.{View, stands_in}
-use Rattle.wire.specs.Values.{Entry, Missing, held_at}
+use Rattle.wire_values.specs.Values.{Entry, Missing, held_at}
 use Rattle.state_transfer.specs.Meanings.{Meaning}
-use Rattle.nak_stream.specs.Windows.{WindowModel, IsLeastGap, IsGreatestGap}
-use Rattle.wire.specs.declared.packet.Body.{Body}
-use Rattle.wire.specs.declared.packet.Body.TheVariants as bodies
-use Rattle.trace_props.specs.declared.event.Event.{Event}
+use Rattle.wire_values.specs.declared.packet.Body.{Body}
+use Rattle.wire_values.specs.declared.packet.Body.TheVariants as bodies
 use Rattle.trace_props.specs.Observed.{delivered_in}
-use Rattle.trace_props.proofs.FactOfObserved.{same_address-refl, same_address-true, same_address-sym}
+use Rattle.address.proofs.SameIds.{same_address-refl, same_address-true, same_address-sym}
 use Rattle.trace_props.proofs.FactOfPlaces.{slice_get-before}
-use Rattle.agreement.specs.Histories.{Posted}
-use Rattle.agreement.specs.Cores.{Core, Traffic as CoreTraffic}
-use Rattle.agreement.specs.Acts.{packet, others_of}
+use Rattle.acts.specs.Histories.{Posted}
+use Rattle.acts.specs.Cores.{ViewCore}
+use Rattle.acts.specs.Acts.{packet, others_of}
 use Rattle.agreement.specs.Packets.{HoldsAll}
-use Rattle.agreement.proofs.Lists.{slice_get-right}
+use Rattle.acts.proofs.Lists.{slice_get-right}
 use Rattle.agreement.proofs.ActBegins.{others-there}
 use Rattle.agreement.proofs.KeepBySteps
-use Rattle.output.specs.declared.output.Output.{Output}
-use Rattle.output.specs.Outputs.{Puts, Grows, spelled}
+use Rattle.step_output.specs.declared.output.Output.{Output}
+use Rattle.step_output.specs.Outputs.{Puts, Grows, spelled}
 use Rattle.traffic.specs.declared.coordinator.Coordinator.{Coordinator}
-use Rattle.traffic.specs.declared.other.Other.{Other}
-use Rattle.traffic.specs.declared.traffic.Traffic.{Traffic}
-use Rattle.traffic.specs.declared.traffic.Traffic.TheVariants as kinds
-use Rattle.traffic.specs.Traffics.{coordinator_traffic, other_traffic}
-use Rattle.traffic.specs.Others.{collected_to, held_too}
-use Rattle.traffic.specs.Takes.{Asks, AsksUpTo, IsComplete, progress_of, orders_held}
-use Rattle.membership.specs.declared.life.Life.{Life}
-use Rattle.membership.specs.Lives.{core_of as core_at, traffic_in}
-use Rattle.member_messages.specs.Hears.{is_near}
-use Rattle.member_messages.specs.Ordered.{IsOrderly, HasNoneNext}
-use Rattle.member.specs.Members.{MemberModel, core_of}
-use Rattle.world_model.specs.declared.WorldEvent.TheVariants.{Deliver, Tick}
+use Rattle.traffic.specs.declared.follower.Follower.{Follower}
+use Rattle.traffic.specs.declared.view_state.ViewState.{ViewState}
+use Rattle.traffic.specs.declared.view_state.ViewState.TheVariants as kinds
+use Rattle.traffic.specs.ViewStates.{coordinator_core, follower_core}
+use Rattle.traffic.specs.Followers.{collected_to, held_too}
+use Rattle.traffic.specs.Takes.{Asks, AsksUpTo, progress_of, orders_held}
+use Rattle.membership.specs.declared.member_state.MemberState.{MemberState}
+use Rattle.membership.specs.MemberStates.{core_of as core_at, view_core_in}
+use Rattle.member_messages.specs.Heard.{is_near}
+use Rattle.member_messages.specs.Ordered.{IsOrderly}
+use Rattle.member.specs.Members.{MemberModel}
+use Rattle.world_model.specs.declared.WorldEvent.TheVariants.{Deliver}
 use Rattle.world_model.specs.Histories.{last_of, is_connected}
-use Rattle.world_model.specs.Packets.{world_group, packet_numbered, destination_of}
-use Rattle.world.specs.declared.node_state.NodeState.{NodeState}
-use Rattle.world.specs.declared.node_state.NodeState.TheVariants.{Running}
-use Rattle.world.specs.NodeStates.{bytes_of, core_here, system_of}
-use Rattle.world.specs.Turns.{OthersStand}
-use Rattle.world.specs.Invariant.{IsWorld, IsNodeStateOf}
-use Rattle.world.specs.Worlds.{WorldModel, WorldStep}
-use Rattle.world.specs.Gaps.{is_destined, first_for, lacks_memory, Plays, Delivers, DeliversPast}
+use Rattle.world_model.specs.Packets.{world_group, packet_numbered}
+use Rattle.world_step.specs.declared.node_state.NodeState.TheVariants.{Running}
+use Rattle.world_step.specs.NodeStates.{bytes_of, core_here, system_of}
+use Rattle.world_step.specs.Turns.{OthersStand}
+use Rattle.world_step.specs.Invariant.{IsWorld, IsNodeStateOf}
+use Rattle.world_step.specs.Worlds.{WorldModel}
+use Rattle.world_step.specs.Pools.{is_destined, first_for}
+use Rattle.world.specs.Gaps.{lacks_memory, Plays, Delivers, DeliversPast}
 use Rattle.world.specs.Gaps.Delivers.{Still, Next}
-use Rattle.world.proofs.WindowFills.{MissesWithin, asked-within, nothing-missing, collected-delivered, filled}
+use Rattle.world.proofs.WindowFills.{MissesWithin, asked-within, nothing-missing, filled}
 use Rattle.world.proofs.FactOfPairs
-use Rattle.world.proofs.FactOfSystem.{runs, core-running}
-use Rattle.world.proofs.FactOfPosts.{EachSound, bytes_for}
-use Rattle.world.proofs.KeepOfWorlds
+use Rattle.world_step.proofs.FactOfSystem.{runs, core-running}
+use Rattle.world_step.proofs.FactOfPosts.{EachSound, bytes_for}
+use Rattle.world_step.proofs.KeepOfWorlds
 use Rattle.world.proofs.FactOfPlayed
 use Rattle.world.proofs.FactOfReplies
 use Rattle.world.proofs.FactOfReplies.{bytes_as, IsSound, goes-to}
+use Rattle.world_step.proofs.FactOfFirst.{numbered-at}
 
 -- ---- packets by their numbers
 
@@ -67,13 +66,10 @@ use Rattle.world.proofs.FactOfReplies.{bytes_as, IsSound, goes-to}
 abbrev pub AreNext : ℕ → List Posted → List (List ℕ) → Type 0
 AreNext past posted pool = (j : ℕ) (m : Posted) → slice_get posted j ≡ Some m → packet_numbered (past + 1 + j) pool ≡ Some (bytes_as m)
 
-numbered : (k : ℕ) (pool : List (List ℕ)) → packet_numbered (k + 1) pool ≡ slice_get pool k
-numbered k pool = let e : nat_eq (k + 1) 0 ≡ false = grind (arith, nat_tests) in let f : (k + 1) - 1 ≡ k = omega arith in rw (e, f) refl
-
 pub put-next : (pool : List (List ℕ)) (posted : List Posted) → AreNext (length pool) posted (pool ++ bytes_for posted)
 put-next pool posted j m at =
     let e : length pool + 1 + j ≡ length pool + j + 1 = omega arith in
-    ap (λ (k : ℕ). packet_numbered k (pool ++ bytes_for posted)) e ∙ numbered (length pool + j) (pool ++ bytes_for posted)
+    ap (λ (k : ℕ). packet_numbered k (pool ++ bytes_for posted)) e ∙ numbered-at (length pool + j) (pool ++ bytes_for posted)
     ∙ slice_get-right pool (bytes_for posted) j ∙ by posted j at
   where
     by : (l : List Posted) (i : ℕ) → slice_get l i ≡ Some m → slice_get (bytes_for l) i ≡ Some (bytes_as m)
@@ -162,13 +158,13 @@ module _ {S : Type 0} (meaning : Meaning S) where
 
 -- different members run at different nodes
 module _ {S : Type 0} (meaning : Meaning S) (laws : KeepBySteps.Laws meaning) where
-  abbrev pub RunsAs : WorldModel S → Address → Life S → Traffic → Type 0
+  abbrev pub RunsAs : WorldModel S → Address → MemberState S → ViewState → Type 0
   RunsAs w p l t = FactOfReplies.RunsAs meaning w p l t
 
   same-member : (m n : MemberModel S) → Running m ≡ Running n → m ≡ n
   same-member m n e = cc
 
-  nodes-by : (w : WorldModel S) (p q : Address) (l k : Life S) (t u : Traffic) → RunsAs w p l t → RunsAs w q k u → same_address q p ≡ false → (b : Bool) → nat_eq p.node q.node ≡ b → b ≡ false
+  nodes-by : (w : WorldModel S) (p q : Address) (l k : MemberState S) (t u : ViewState) → RunsAs w p l t → RunsAs w q k u → same_address q p ≡ false → (b : Bool) → nat_eq p.node q.node ≡ b → b ≡ false
   nodes-by w p q l k t u x y other false e = refl
   nodes-by w p q l k t u x y other true e =
       let node : p.node ≡ q.node = eqb-true p.node q.node e in
@@ -177,23 +173,23 @@ module _ {S : Type 0} (meaning : Meaning S) (laws : KeepBySteps.Laws meaning) wh
       let bad : true ≡ false = sym (same_address-refl q) ∙ ap (same_address q) (sym is) ∙ other in
       absurd cc
 
-  pub nodes-apart : (w : WorldModel S) (p q : Address) (l k : Life S) (t u : Traffic) → RunsAs w p l t → RunsAs w q k u → same_address q p ≡ false → nat_eq p.node q.node ≡ false
+  pub nodes-apart : (w : WorldModel S) (p q : Address) (l k : MemberState S) (t u : ViewState) → RunsAs w p l t → RunsAs w q k u → same_address q p ≡ false → nat_eq p.node q.node ≡ false
   nodes-apart w p q l k t u x y other = nodes-by w p q l k t u x y other (nat_eq p.node q.node) refl
 
   -- the coordinator of a view and another member of it
-  pub record Couple (w : WorldModel S) (c q : Address) (lc lq : Life S) (kc : Coordinator) (kq : Other) : Type 0 where
+  pub record Couple (w : WorldModel S) (c q : Address) (lc lq : MemberState S) (kc : Coordinator) (kq : Follower) : Type 0 where
     pub keeps : IsWorld meaning w.node_states w.history
     pub first : RunsAs w c lc (kinds.Coordinator kc)
-    pub other : RunsAs w q lq (kinds.Other kq)
+    pub other : RunsAs w q lq (kinds.Follower kq)
     pub own : kc.view.id.creator ≡ c
     pub same : kq.view ≡ kc.view
     pub apart : same_address q c ≡ false
 
-  pub runs-in : (w : WorldModel S) (p : Address) (l : Life S) (t : Traffic) → RunsAs w p l t → runs w.node_states p ≡ Some (core_at p l)
+  pub runs-in : (w : WorldModel S) (p : Address) (l : MemberState S) (t : ViewState) → RunsAs w p l t → runs w.node_states p ≡ Some (core_at p l)
   runs-in w p l t r = ap (core_here p) r.node_state ∙ core-running p r.member r.address ∙ FactOfReplies.core-is meaning w p l t r
 
   -- how far they have come
-  pub record Numbers (w : WorldModel S) (c q : Address) (kc : Coordinator) (kq : Other) : Type 0 where
+  pub record Numbers (w : WorldModel S) (c q : Address) (kc : Coordinator) (kq : Follower) : Type 0 where
     pub stable : kc.window.stable ≤ kq.window.delivered
     pub reach : kc.window.delivered ≤ kc.window.stable + WINDOW
     pub top : kq.window.delivered ≤ kc.window.delivered
@@ -202,20 +198,20 @@ module _ {S : Type 0} (meaning : Meaning S) (laws : KeepBySteps.Laws meaning) wh
     pub coordinator : stands_in c kc.view.members ≡ true
     pub level : kc.window.delivered ≤ kq.window.delivered → delivered_in q kc.view.id w.history.trace ≡ delivered_in c kc.view.id w.history.trace
 
-  pub numbers : (w : WorldModel S) (c q : Address) (lc lq : Life S) (kc : Coordinator) (kq : Other) → Couple w c q lc lq kc kq → Numbers w c q kc kq
+  pub numbers : (w : WorldModel S) (c q : Address) (lc lq : MemberState S) (kc : Coordinator) (kq : Follower) → Couple w c q lc lq kc kq → Numbers w c q kc kq
   numbers w c q lc lq kc kq x =
       let p = FactOfPairs.compared meaning (system_of w.node_states w.history.pool w.history.trace) x.keeps.agreed c q (core_at c lc) (core_at q lq) kc.view (record {
         coordinator = runs-in w c lc (kinds.Coordinator kc) x.first;
-        member = runs-in w q lq (kinds.Other kq) x.other;
+        member = runs-in w q lq (kinds.Follower kq) x.other;
         own = x.own;
-        leads = rw x.first.traffic refl;
-        inside = rw x.other.traffic (ap (λ (v : View). Some v) x.same);
+        leads = rw x.first.view_state refl;
+        inside = rw x.other.view_state (ap (λ (v : View). Some v) x.same);
       }) in
-      let a : traffic_in lc.traffic ≡ coordinator_traffic kc = rw x.first.traffic refl in
-      let b : traffic_in lq.traffic ≡ other_traffic kq = rw x.other.traffic refl in
-      let s : (traffic_in lc.traffic).stable ≡ kc.window.stable = ap (λ (t : CoreTraffic). t.stable) a in
-      let d : (traffic_in lc.traffic).delivered ≡ kc.window.delivered = ap (λ (t : CoreTraffic). t.delivered) a in
-      let e : (traffic_in lq.traffic).delivered ≡ kq.window.delivered = ap (λ (t : CoreTraffic). t.delivered) b in
+      let a : view_core_in lc.view_state ≡ coordinator_core kc = rw x.first.view_state refl in
+      let b : view_core_in lq.view_state ≡ follower_core kq = rw x.other.view_state refl in
+      let s : (view_core_in lc.view_state).stable ≡ kc.window.stable = ap (λ (t : ViewCore). t.stable) a in
+      let d : (view_core_in lc.view_state).delivered ≡ kc.window.delivered = ap (λ (t : ViewCore). t.delivered) a in
+      let e : (view_core_in lq.view_state).delivered ≡ kq.window.delivered = ap (λ (t : ViewCore). t.delivered) b in
       let stable = p.stable in
       let reach = p.reach in
       let top = p.top in
@@ -223,19 +219,19 @@ module _ {S : Type 0} (meaning : Meaning S) (laws : KeepBySteps.Laws meaning) wh
         stable = omega (arith, stable, s, e);
         reach = omega (arith, reach, s, d);
         top = omega (arith, top, d, e);
-        holds = subst (λ (t : CoreTraffic). HoldsAll t.stable t.delivered t.held) a p.holds;
+        holds = subst (λ (t : ViewCore). HoldsAll t.stable t.delivered t.held) a p.holds;
         listed = p.listed;
         coordinator = p.coordinator_listed;
         level = λ l. p.level (omega (arith, l, d, e));
       }
 
   -- the other holds nothing that comes next
-  pub none-next : (w : WorldModel S) (c q : Address) (lc lq : Life S) (kc : Coordinator) (kq : Other) → Couple w c q lc lq kc kq → held_at (kq.window.delivered + 1) kq.window.held ≡ None
+  pub none-next : (w : WorldModel S) (c q : Address) (lc lq : MemberState S) (kc : Coordinator) (kq : Follower) → Couple w c q lc lq kc kq → held_at (kq.window.delivered + 1) kq.window.held ≡ None
   none-next w c q lc lq kc kq x =
       let m = x.other.member in
       let k : IsNodeStateOf q.node (last_of q.node w.history.trace) (is_connected q.node w.history) w.history.trace (Running m) =
       subst (IsNodeStateOf q.node (last_of q.node w.history.trace) (is_connected q.node w.history) w.history.trace) x.other.node_state (x.keeps.node_states q.node) in
-      let o : IsOrderly m.address (kinds.Other kq) = (k.3 lq x.other.life).ordered (kinds.Other kq) x.other.traffic in
+      let o : IsOrderly m.address (kinds.Follower kq) = (k.3 lq x.other.member_state).ordered (kinds.Follower kq) x.other.view_state in
       o.1
 
   -- ---- the steps
@@ -252,25 +248,25 @@ module _ {S : Type 0} (meaning : Meaning S) (laws : KeepBySteps.Laws meaning) wh
   sure b e (inr x) = absurd (let bad : true ≡ false = sym x.0 ∙ e in cc)
 
   -- the coordinator did something, and stays as it was
-  pub coordinator-moves : (old new : WorldModel S) (c q : Address) (lc lq : Life S) (kc : Coordinator) (kq : Other) → Couple old c q lc lq kc kq → Keeps new
+  pub coordinator-moves : (old new : WorldModel S) (c q : Address) (lc lq : MemberState S) (kc : Coordinator) (kq : Follower) → Couple old c q lc lq kc kq → Keeps new
       → RunsAs new c lc (kinds.Coordinator kc) → OthersStand c.node old.node_states new.node_states → Couple new c q lc lq kc kq
   coordinator-moves old new c q lc lq kc kq x keeps runs others = record {
     keeps = keeps;
     first = runs;
-    other = FactOfReplies.runs-still meaning old q lq (kinds.Other kq) x.other new c (nodes-apart old c q lc lq (kinds.Coordinator kc) (kinds.Other kq) x.first x.other x.apart) others;
+    other = FactOfReplies.runs-still meaning old q lq (kinds.Follower kq) x.other new c (nodes-apart old c q lc lq (kinds.Coordinator kc) (kinds.Follower kq) x.first x.other x.apart) others;
     own = x.own;
     same = x.same;
     apart = x.apart;
   }
 
   -- the other did something
-  pub other-moves : (old new : WorldModel S) (c q : Address) (lc lq after : Life S) (kc : Coordinator) (kq now : Other) → Couple old c q lc lq kc kq → Keeps new
-      → RunsAs new q after (kinds.Other now) → OthersStand q.node old.node_states new.node_states → now.view ≡ kq.view → Couple new c q lc after kc now
+  pub other-moves : (old new : WorldModel S) (c q : Address) (lc lq after : MemberState S) (kc : Coordinator) (kq now : Follower) → Couple old c q lc lq kc kq → Keeps new
+      → RunsAs new q after (kinds.Follower now) → OthersStand q.node old.node_states new.node_states → now.view ≡ kq.view → Couple new c q lc after kc now
   other-moves old new c q lc lq after kc kq now x keeps runs others view =
       let turned : same_address c q ≡ false = same_address-sym c q ∙ x.apart in
       record {
         keeps = keeps;
-        first = FactOfReplies.runs-still meaning old c lc (kinds.Coordinator kc) x.first new q (nodes-apart old q c lq lc (kinds.Other kq) (kinds.Coordinator kc) x.other x.first turned) others;
+        first = FactOfReplies.runs-still meaning old c lc (kinds.Coordinator kc) x.first new q (nodes-apart old q c lq lc (kinds.Follower kq) (kinds.Coordinator kc) x.other x.first turned) others;
         other = runs;
         own = x.own;
         same = view ∙ x.same;
@@ -279,13 +275,13 @@ module _ {S : Type 0} (meaning : Meaning S) (laws : KeepBySteps.Laws meaning) wh
 
   -- ---- the tick, and the STATUS
 
-  pub record AnnouncedSo (old announced : WorldModel S) (c q : Address) (lc lq : Life S) (kc : Coordinator) (kq : Other) : Type 0 where
+  pub record AnnouncedSo (old announced : WorldModel S) (c q : Address) (lc lq : MemberState S) (kc : Coordinator) (kq : Follower) : Type 0 where
     pub couple : Couple announced c q lc lq kc kq
     pub number : ℕ
     pub found : first_for q (length old.history.pool) announced.history.pool ≡ Some number
     pub status : FactOfReplies.IsFor meaning announced number q (packet c (bodies.Status kc.view.id (progress_of kc.window)) q)
 
-  pub announced-by : (old announced : WorldModel S) (c q : Address) (lc lq : Life S) (kc : Coordinator) (kq : Other) → Couple old c q lc lq kc kq → Keeps announced
+  pub announced-by : (old announced : WorldModel S) (c q : Address) (lc lq : MemberState S) (kc : Coordinator) (kq : Follower) → Couple old c q lc lq kc kq → Keeps announced
       → FactOfReplies.Ticked meaning old announced c lc kc → AnnouncedSo old announced c q lc lq kc kq
   announced-by old announced c q lc lq kc kq x keeps t =
       let n = numbers old c q lc lq kc kq x in
@@ -306,7 +302,7 @@ module _ {S : Type 0} (meaning : Meaning S) (laws : KeepBySteps.Laws meaning) wh
         };
       }
 
-  near-by : (w : WorldModel S) (c q : Address) (kc : Coordinator) (kq : Other) → Numbers w c q kc kq → is_near (progress_of kc.window) kq ≡ true
+  near-by : (w : WorldModel S) (c q : Address) (kc : Coordinator) (kq : Follower) → Numbers w c q kc kq → is_near (progress_of kc.window) kq ≡ true
   near-by w c q kc kq n =
       let stable = n.stable in
       let reach = n.reach in
@@ -322,9 +318,9 @@ module _ {S : Type 0} (meaning : Meaning S) (laws : KeepBySteps.Laws meaning) wh
   listed-of v w c same there = ap (λ (z : View). stands_in c z.members) same ∙ there
 
   -- it heard the STATUS
-  pub record AskedSo (announced asked : WorldModel S) (c q : Address) (lc : Life S) (kc : Coordinator) : Type 0 where
-    pub after : Life S
-    pub now : Other
+  pub record AskedSo (announced asked : WorldModel S) (c q : Address) (lc : MemberState S) (kc : Coordinator) : Type 0 where
+    pub after : MemberState S
+    pub now : Follower
     pub couple : Couple asked c q lc after kc now
     pub start : Output
     pub out : Output
@@ -332,7 +328,7 @@ module _ {S : Type 0} (meaning : Meaning S) (laws : KeepBySteps.Laws meaning) wh
     pub asks : AsksUpTo q world_group kc.window.delivered now start out
     pub puts : asked.history.pool ≡ announced.history.pool ++ map bytes_of out.packets.items
 
-  pub asked-by : (announced asked : WorldModel S) (c q : Address) (lc lq : Life S) (kc : Coordinator) (kq : Other) → Couple announced c q lc lq kc kq → Keeps asked
+  pub asked-by : (announced asked : WorldModel S) (c q : Address) (lc lq : MemberState S) (kc : Coordinator) (kq : Follower) → Couple announced c q lc lq kc kq → Keeps asked
       → FactOfReplies.Heard meaning announced asked q lq (packet c (bodies.Status kc.view.id (progress_of kc.window)) q) → AskedSo announced asked c q lc kc
   asked-by announced asked c q lc lq kc kq x keeps h =
       let n = numbers announced c q lc lq kc kq x in
@@ -343,7 +339,7 @@ module _ {S : Type 0} (meaning : Meaning S) (laws : KeepBySteps.Laws meaning) wh
       record {
         after = r.after;
         now = r.now;
-        couple = other-moves announced asked c q lc lq r.after kc kq r.now x keeps r.runs r.others (ap (λ (o : Other). o.view) r.is);
+        couple = other-moves announced asked c q lc lq r.after kc kq r.now x keeps r.runs r.others (ap (λ (o : Follower). o.view) r.is);
         start = r.start;
         out = r.out;
         nothing = r.nothing;
@@ -353,10 +349,10 @@ module _ {S : Type 0} (meaning : Meaning S) (laws : KeepBySteps.Laws meaning) wh
 
   -- ---- the answers
 
-  pub record Ended (new : WorldModel S) (c q : Address) (lc : Life S) (kc : Coordinator) (last : ℕ) : Type 0 where
-    pub life : Life S
-    pub now : Other
-    pub couple : Couple new c q lc life kc now
+  pub record Ended (new : WorldModel S) (c q : Address) (lc : MemberState S) (kc : Coordinator) (last : ℕ) : Type 0 where
+    pub member_state : MemberState S
+    pub now : Follower
+    pub couple : Couple new c q lc member_state kc now
     pub within : MissesWithin (last + 1) last kc.window.delivered now.window
 
   some-of : (o : Option Entry) → is_some o ≡ true → (e : Entry) × (o ≡ Some e)
@@ -364,15 +360,15 @@ module _ {S : Type 0} (meaning : Meaning S) (laws : KeepBySteps.Laws meaning) wh
   some-of (Some e) x = (e, refl)
 
   -- one ORDER is heard
-  pub record Round (w mid : WorldModel S) (c q : Address) (lc : Life S) (kc : Coordinator) (g last : ℕ) : Type 0 where
-    pub life : Life S
-    pub now : Other
-    pub couple : Couple mid c q lc life kc now
+  pub record Round (w mid : WorldModel S) (c q : Address) (lc : MemberState S) (kc : Coordinator) (g last : ℕ) : Type 0 where
+    pub member_state : MemberState S
+    pub now : Follower
+    pub couple : Couple mid c q lc member_state kc now
     pub within : MissesWithin (g + 1) last kc.window.delivered now.window
     pub more : List (List ℕ)
     pub puts : mid.history.pool ≡ w.history.pool ++ more
 
-  pub round : (w mid : WorldModel S) (c q : Address) (lc lq : Life S) (kc : Coordinator) (kq : Other) (g last : ℕ) (e : Entry) → Couple w c q lc lq kc kq
+  pub round : (w mid : WorldModel S) (c q : Address) (lc lq : MemberState S) (kc : Coordinator) (kq : Follower) (g last : ℕ) (e : Entry) → Couple w c q lc lq kc kq
       → MissesWithin g last kc.window.delivered kq.window → g ≤ kc.window.delivered → IsSound (packet c (bodies.Order kc.view.id g e) q) → Keeps mid
       → FactOfReplies.Heard meaning w mid q lq (packet c (bodies.Order kc.view.id g e) q) → Round w mid c q lc kc g last
   round w mid c q lc lq kc kq g last e x within known sound keeps h =
@@ -384,7 +380,7 @@ module _ {S : Type 0} (meaning : Meaning S) (laws : KeepBySteps.Laws meaning) wh
       let r = FactOfReplies.ordered meaning w mid c q lq kq g e x.other (own-of kc.view kq.view c x.same x.own) (listed-of kc.view kq.view c x.same n.coordinator) near
       (subst (λ (v : View). FactOfReplies.Heard meaning w mid q lq (packet c (bodies.Order v.id g e) q)) (sym x.same) h) in
       record {
-        life = r.after;
+        member_state = r.after;
         now = r.now;
         couple = other-moves w mid c q lc lq r.after kc kq r.now x keeps r.runs r.others r.takes.delivers.view;
         within = filled q g last kc.window.delivered e kq (held_too g e (collected_to (g - WINDOW) kq)) r.now r.takes.delivers.entries sound.body.1.1 far refl r.takes.delivers.delivers within;
@@ -400,7 +396,7 @@ module _ {S : Type 0} (meaning : Meaning S) (laws : KeepBySteps.Laws meaning) wh
     pub is : orders c q kc g (suc n) ≡ packet c (bodies.Order kc.view.id g entry) q ∷ orders c q kc (g + 1) n
 
   -- the next answer is the ORDER of the next number
-  pub order-at : (w : WorldModel S) (c q : Address) (lc lq : Life S) (kc : Coordinator) (kq : Other) (n g last : ℕ) → Couple w c q lc lq kc kq → g + suc n ≡ last + 1 → kc.window.stable < g
+  pub order-at : (w : WorldModel S) (c q : Address) (lc lq : MemberState S) (kc : Coordinator) (kq : Follower) (n g last : ℕ) → Couple w c q lc lq kc kq → g + suc n ≡ last + 1 → kc.window.stable < g
       → last ≤ kc.window.delivered → OrderAt c q kc n g
   order-at w c q lc lq kc kq n g last x count low high =
       let known : g ≤ kc.window.delivered = omega (arith, count, high) in
@@ -410,14 +406,14 @@ module _ {S : Type 0} (meaning : Meaning S) (laws : KeepBySteps.Laws meaning) wh
         is = ap (λ (o : Option Entry). option_map_or (λ y. packet c (bodies.Order kc.view.id g y) q ∷ []) o [] ++ orders c q kc (g + 1) n) e.1;
       }
 
-  pub rounds : (n g past : ℕ) (w new : WorldModel S) (c q : Address) (lc lq : Life S) (kc : Coordinator) (kq : Other) (last : ℕ) → Couple w c q lc lq kc kq
+  pub rounds : (n g past : ℕ) (w new : WorldModel S) (c q : Address) (lc lq : MemberState S) (kc : Coordinator) (kq : Follower) (last : ℕ) → Couple w c q lc lq kc kq
       → MissesWithin g last kc.window.delivered kq.window → g + n ≡ last + 1 → kc.window.stable < g → last ≤ kc.window.delivered → EachSound (orders c q kc g n)
       → AreNext past (orders c q kc g n) w.history.pool → Delivers meaning past (length (orders c q kc g n)) w new → Ended new c q lc kc last
   rounds zero g past w new c q lc lq kc kq last x within count low high sound next all =
       let is : new ≡ w = delivers-none meaning past 0 w new refl all in
       let end : g ≡ last + 1 = omega (arith, count) in
       record {
-        life = lq;
+        member_state = lq;
         now = kq;
         couple = subst (λ (v : WorldModel S). Couple v c q lc lq kc kq) (sym is) x;
         within = subst (λ (k : ℕ). MissesWithin k last kc.window.delivered kq.window) end within;
@@ -433,10 +429,10 @@ module _ {S : Type 0} (meaning : Meaning S) (laws : KeepBySteps.Laws meaning) wh
       (subst (λ (l : List Posted). Delivers meaning past (length l) w new) o.is all) in
       let f : FactOfReplies.IsFor meaning w (past + 1) q m =
       record { there = next-first past m rest w.history.pool nexts; sound = sounds.0; goes = refl; other = same_address-sym c q ∙ x.apart; plain = refl } in
-      let h = sure (lacks_memory d.plays.step.answer) d.plays.whole (FactOfReplies.heard meaning w d.mid (past + 1) q lq (kinds.Other kq) x.other m f d.plays.step) in
+      let h = sure (lacks_memory d.plays.step.answer) d.plays.whole (FactOfReplies.heard meaning w d.mid (past + 1) q lq (kinds.Follower kq) x.other m f d.plays.step) in
       let keeps = KeepOfWorlds.step-keeps meaning laws w d.mid (Deliver (past + 1)) d.plays.step x.keeps in
       let r = round w d.mid c q lc lq kc kq g last o.entry x within known sounds.0 keeps h in
-      rounds n (g + 1) (past + 1) d.mid new c q lc r.life kc r.now last r.couple r.within (omega (arith, count)) (omega (arith, low)) high sounds.1
+      rounds n (g + 1) (past + 1) d.mid new c q lc r.member_state kc r.now last r.couple r.within (omega (arith, count)) (omega (arith, low)) high sounds.1
       (subst (AreNext (past + 1) rest) (sym r.puts) (next-rest past m rest w.history.pool r.more nexts)) d.rest
 
   -- ---- the whole
@@ -444,10 +440,10 @@ module _ {S : Type 0} (meaning : Meaning S) (laws : KeepBySteps.Laws meaning) wh
   abbrev pub Level : WorldModel S → Address → Address → ViewId → Type 0
   Level w c q v = delivered_in q v w.history.trace ≡ delivered_in c v w.history.trace
 
-  ended-level : (new : WorldModel S) (c q : Address) (lc : Life S) (kc : Coordinator) (last : ℕ) → Ended new c q lc kc last → Level new c q kc.view.id
+  ended-level : (new : WorldModel S) (c q : Address) (lc : MemberState S) (kc : Coordinator) (last : ℕ) → Ended new c q lc kc last → Level new c q kc.view.id
   ended-level new c q lc kc last x =
-      (numbers new c q lc x.life kc x.now x.couple).level
-      (nothing-missing x.now.window kc.window.delivered (λ g past known. x.within g past known (by g (nat_lt last g) refl)) (none-next new c q lc x.life kc x.now x.couple))
+      (numbers new c q lc x.member_state kc x.now x.couple).level
+      (nothing-missing x.now.window kc.window.delivered (λ g past known. x.within g past known (by g (nat_lt last g) refl)) (none-next new c q lc x.member_state kc x.now x.couple))
     where
       by : (g : ℕ) (b : Bool) → nat_lt last g ≡ b → (g < last + 1) ⊎ (last < g)
       by g true e = let z : last < g = grind (arith, nat_tests) in inr z
@@ -463,11 +459,11 @@ module _ {S : Type 0} (meaning : Meaning S) (laws : KeepBySteps.Laws meaning) wh
       omega (arith, l, m)
 
   -- the NAK that it put out, if it asks
-  pub record Nak (announced asked : WorldModel S) (c q : Address) (lc : Life S) (kc : Coordinator) (missing : Missing) : Type 0 where
+  pub record Nak (announced asked : WorldModel S) (c q : Address) (lc : MemberState S) (kc : Coordinator) (missing : Missing) : Type 0 where
     pub many : length asked.history.pool - length announced.history.pool ≡ 1
     pub packet : FactOfReplies.IsFor meaning asked (length announced.history.pool + 1) c (packet q (bodies.Nak kc.view.id missing) c)
 
-  module _ (announced asked : WorldModel S) (c q : Address) (lc : Life S) (kc : Coordinator) (s : AskedSo announced asked c q lc kc) where
+  module _ (announced asked : WorldModel S) (c q : Address) (lc : MemberState S) (kc : Coordinator) (s : AskedSo announced asked c q lc kc) where
     pub silent-pool : s.out ≡ s.start → asked.history.pool ≡ announced.history.pool
     silent-pool silent =
         s.puts ∙ ap (λ (l : List _). announced.history.pool ++ map bytes_of l) (ap (λ (o : Output). o.packets.items) silent ∙ s.nothing.packets) ∙ append-nil announced.history.pool
@@ -486,7 +482,7 @@ module _ {S : Type 0} (meaning : Meaning S) (laws : KeepBySteps.Laws meaning) wh
           packet = record { there = next-first (length announced.history.pool) nak [] asked.history.pool next; sound = grows.sound.0; goes = refl; other = s.couple.apart; plain = refl };
         }
 
-  module _ (announced asked replied : WorldModel S) (c q : Address) (lc : Life S) (kc : Coordinator) (s : AskedSo announced asked c q lc kc)
+  module _ (announced asked replied : WorldModel S) (c q : Address) (lc : MemberState S) (kc : Coordinator) (s : AskedSo announced asked c q lc kc)
       (asks : DeliversPast meaning (length announced.history.pool) asked replied) where
     -- nothing was missing, and nothing is asked
     pub none-asked : s.out ≡ s.start → replied ≡ asked

@@ -1,40 +1,36 @@
 -- A catch-up that ends in an error: the coordinator or the member has crashed at last, or both run as before.
-use Rattle.std.proofs.Common.{◌≡◌, ℕ, zero, suc, ◌+◌, ◌-◌, ◌<◌, ◌≤◌, Bool, true, false, cond, Option, Some, None, List, [], ◌∷◌, ◌++◌, length, inl, inr, ◌⊎◌, refl, sym, ap, ◌∙◌, subst, arith, ⊎_elim}
-use Rattle.std.specs.Option.{IsSomeAnd, option_map_or, option_and_then}
+use Rattle.std.proofs.Common.{◌≡◌, ℕ, zero, suc, ◌+◌, ◌-◌, ◌<◌, ◌≤◌, true, false, Option, Some, None, List, ◌∷◌, length, inl, inr, ◌⊎◌, refl, sym, ap, ◌∙◌, subst, arith, ⊎_elim}
+use Rattle.std.specs.Option.{IsSomeAnd, option_map_or}
 use Rattle.std.proofs.lemmas.Bool.{and_from}
 use Rattle.address.specs.Ids.{Address, ViewId, same_address, same_view_id}
 use Rattle.view.specs.Members.{View}
-use Rattle.wire.specs.Values.{Entry, held_at}
-use Rattle.wire.specs.declared.packet.Body.TheVariants as bodies
+use Rattle.wire_values.specs.declared.packet.Body.TheVariants as bodies
 use Rattle.state_transfer.specs.Meanings.{Meaning}
-use Rattle.trace_props.specs.declared.event.Event.TheVariants.{Crashed}
-use Rattle.trace_props.proofs.FactOfObserved.{same_address-refl, same_address-sym, same_view_id-refl}
-use Rattle.agreement.specs.Histories.{Posted}
-use Rattle.agreement.specs.Cores.{Core, is_frozen}
-use Rattle.agreement.specs.Acts.{packet}
+use Rattle.address.proofs.SameIds.{same_address-refl, same_address-sym, same_view_id-refl}
+use Rattle.acts.specs.Histories.{Posted}
+use Rattle.acts.specs.Acts.{packet}
 use Rattle.agreement.proofs.KeepBySteps
 use Rattle.traffic.specs.declared.coordinator.Coordinator.{Coordinator}
-use Rattle.traffic.specs.declared.other.Other.{Other}
-use Rattle.traffic.specs.declared.traffic.Traffic.{Traffic}
-use Rattle.traffic.specs.declared.traffic.Traffic.TheVariants as kinds
-use Rattle.traffic.specs.Traffics.{view_of}
-use Rattle.traffic.specs.Takes.{AsksUpTo, progress_of}
-use Rattle.membership.specs.declared.life.Life.{Life}
-use Rattle.member.specs.Members.{core_of}
-use Rattle.world_model.specs.declared.WorldEvent.{WorldEvent}
+use Rattle.traffic.specs.declared.follower.Follower.{Follower}
+use Rattle.traffic.specs.declared.view_state.ViewState.{ViewState}
+use Rattle.traffic.specs.declared.view_state.ViewState.TheVariants as kinds
+use Rattle.traffic.specs.ViewStates.{view_of}
+use Rattle.traffic.specs.Takes.{AsksUpTo}
+use Rattle.membership.specs.declared.member_state.MemberState.{MemberState}
 use Rattle.world_model.specs.declared.WorldEvent.TheVariants.{Deliver, Tick}
 use Rattle.world_model.specs.Packets.{world_group}
 use Rattle.world.specs.declared.gaps.Pair.{Pair}
-use Rattle.world.specs.declared.node_state.NodeState.{NodeState}
-use Rattle.world.specs.declared.node_state.NodeState.TheVariants.{Running}
-use Rattle.world.specs.Invariant.{IsWorld}
-use Rattle.world.specs.Worlds.{WorldModel}
-use Rattle.world.specs.Gaps.{open_view, is_open_in, pair_at, first_for, lacks_memory, Plays, Hands, Fails, Breaks, BreaksPast, DeliversPast, Stops, LosesOne, BothRun, EndsSo}
+use Rattle.world_step.specs.declared.node_state.NodeState.{NodeState}
+use Rattle.world_step.specs.declared.node_state.NodeState.TheVariants.{Running}
+use Rattle.world_step.specs.Invariant.{IsWorld}
+use Rattle.world_step.specs.Worlds.{WorldModel}
+use Rattle.world_step.specs.Pools.{first_for}
+use Rattle.world.specs.Gaps.{open_view, is_open_in, pair_at, lacks_memory, Plays, Hands, Fails, Breaks, BreaksPast, DeliversPast, Stops, BothRun, EndsSo}
 use Rattle.world.specs.Gaps.Breaks.{Here, Later}
 use Rattle.world.specs.Gaps.Stops.{AtTick, AtStatus, AtRequest, AtAnswer}
 use Rattle.world.proofs.WindowFills.{MissesWithin}
-use Rattle.world.proofs.FactOfPosts.{EachSound}
-use Rattle.world.proofs.KeepOfWorlds
+use Rattle.world_step.proofs.FactOfPosts.{EachSound}
+use Rattle.world_step.proofs.KeepOfWorlds
 use Rattle.world.proofs.FactOfReplies
 use Rattle.world.proofs.CatchUpLevels
 use Rattle.world.proofs.CatchUpLevels.{AreNext, next-first, next-rest}
@@ -58,28 +54,28 @@ module _ {S : Type 0} (meaning : Meaning S) where
       inr (record { mid = mid; plays = plays; rest = subst (λ (k : ℕ). Breaks meaning (past + 1) k mid new) same rest })
 
   -- who runs in a view is open there
-  open-run : (w : WorldModel S) (p : Address) (l : Life S) (t : Traffic) (v : ViewId) (r : FactOfReplies.RunsAs meaning w p l t) → (view_of t).id ≡ v → is_open_in p v (w.node_states p.node) ≡ true
+  open-run : (w : WorldModel S) (p : Address) (l : MemberState S) (t : ViewState) (v : ViewId) (r : FactOfReplies.RunsAs meaning w p l t) → (view_of t).id ≡ v → is_open_in p v (w.node_states p.node) ≡ true
   open-run w p l t v r id =
-      let view : open_view (Running r.member) ≡ Some (view_of t) = rw (FactOfReplies.core-is meaning w p l t r, r.traffic, r.installed) refl in
+      let view : open_view (Running r.member) ≡ Some (view_of t) = rw (FactOfReplies.core-is meaning w p l t r, r.view_state, r.installed) refl in
       let same : same_address r.member.address p ≡ true = ap (λ z. same_address z p) r.address ∙ same_address-refl p in
       let seen : option_map_or (λ (x : View). same_view_id x.id v) (open_view (Running r.member)) false ≡ true =
       ap (λ (o : Option View). option_map_or (λ (x : View). same_view_id x.id v) o false) view ∙ ap (λ (x : ViewId). same_view_id x v) id ∙ same_view_id-refl v in
       subst (λ (s : NodeState S). is_open_in p v s ≡ true) (sym r.node_state) (and_from (same_address r.member.address p) _ same seen)
 
 module _ {S : Type 0} (meaning : Meaning S) (laws : KeepBySteps.Laws meaning) where
-  abbrev Couple : WorldModel S → Address → Address → Life S → Life S → Coordinator → Other → Type 0
+  abbrev Couple : WorldModel S → Address → Address → MemberState S → MemberState S → Coordinator → Follower → Type 0
   Couple w c q lc lq kc kq = CatchUpLevels.Couple meaning laws w c q lc lq kc kq
 
   -- both of a couple run
-  both-run : (w : WorldModel S) (pair : Pair) (lc lq : Life S) (kc : Coordinator) (kq : Other) → Couple w pair.view.creator pair.member lc lq kc kq → kc.view.id ≡ pair.view → BothRun pair w
+  both-run : (w : WorldModel S) (pair : Pair) (lc lq : MemberState S) (kc : Coordinator) (kq : Follower) → Couple w pair.view.creator pair.member lc lq kc kq → kc.view.id ≡ pair.view → BothRun pair w
   both-run w pair lc lq kc kq x id = record {
     coordinator = open-run meaning w pair.view.creator lc (kinds.Coordinator kc) pair.view x.first id;
-    member = open-run meaning w pair.member lq (kinds.Other kq) pair.view x.other (ap (λ (v : View). v.id) x.same ∙ id);
+    member = open-run meaning w pair.member lq (kinds.Follower kq) pair.view x.other (ap (λ (v : View). v.id) x.same ∙ id);
   }
 
   -- ---- one step that fails
 
-  ends-tick : (old new : WorldModel S) (pair : Pair) (lc lq : Life S) (kc : Coordinator) (kq : Other) → Couple old pair.view.creator pair.member lc lq kc kq → kc.view.id ≡ pair.view
+  ends-tick : (old new : WorldModel S) (pair : Pair) (lc lq : MemberState S) (kc : Coordinator) (kq : Follower) → Couple old pair.view.creator pair.member lc lq kc kq → kc.view.id ≡ pair.view
       → Fails meaning old (Tick pair.view.creator.node) new → EndsSo pair new
   ends-tick old new pair lc lq kc kq x id (inl same) = inr (subst (BothRun pair) (sym same) (both-run old pair lc lq kc kq x id))
   ends-tick old new pair lc lq kc kq x id (inr f) =
@@ -87,7 +83,7 @@ module _ {S : Type 0} (meaning : Meaning S) (laws : KeepBySteps.Laws meaning) wh
       inl (record { before = old.history.trace; crash = inl y.trace })
 
   -- a packet to the coordinator
-  ends-first : (w new : WorldModel S) (pair : Pair) (lc lq : Life S) (kc : Coordinator) (kq : Other) (k : ℕ) (m : Posted) → Couple w pair.view.creator pair.member lc lq kc kq
+  ends-first : (w new : WorldModel S) (pair : Pair) (lc lq : MemberState S) (kc : Coordinator) (kq : Follower) (k : ℕ) (m : Posted) → Couple w pair.view.creator pair.member lc lq kc kq
       → kc.view.id ≡ pair.view → FactOfReplies.IsFor meaning w k pair.view.creator m → Fails meaning w (Deliver k) new → EndsSo pair new
   ends-first w new pair lc lq kc kq k m x id f (inl same) = inr (subst (BothRun pair) (sym same) (both-run w pair lc lq kc kq x id))
   ends-first w new pair lc lq kc kq k m x id f (inr y) =
@@ -96,17 +92,17 @@ module _ {S : Type 0} (meaning : Meaning S) (laws : KeepBySteps.Laws meaning) wh
       inl (record { before = w.history.trace; crash = inl z.trace })
 
   -- and one to the member
-  ends-other : (w new : WorldModel S) (pair : Pair) (lc lq : Life S) (kc : Coordinator) (kq : Other) (k : ℕ) (m : Posted) → Couple w pair.view.creator pair.member lc lq kc kq
+  ends-other : (w new : WorldModel S) (pair : Pair) (lc lq : MemberState S) (kc : Coordinator) (kq : Follower) (k : ℕ) (m : Posted) → Couple w pair.view.creator pair.member lc lq kc kq
       → kc.view.id ≡ pair.view → FactOfReplies.IsFor meaning w k pair.member m → Fails meaning w (Deliver k) new → EndsSo pair new
   ends-other w new pair lc lq kc kq k m x id f (inl same) = inr (subst (BothRun pair) (sym same) (both-run w pair lc lq kc kq x id))
   ends-other w new pair lc lq kc kq k m x id f (inr y) =
       let z = CatchUpLevels.lost meaning laws (lacks_memory y.0.answer) y.1
-      (FactOfReplies.heard meaning w new k pair.member lq (kinds.Other kq) x.other m f y.0) in
+      (FactOfReplies.heard meaning w new k pair.member lq (kinds.Follower kq) x.other m f y.0) in
       inl (record { before = w.history.trace; crash = inr z.trace })
 
   -- ---- the answers
 
-  rounds-break : (n g past : ℕ) (w new : WorldModel S) (pair : Pair) (lc lq : Life S) (kc : Coordinator) (kq : Other) (last : ℕ) → Couple w pair.view.creator pair.member lc lq kc kq
+  rounds-break : (n g past : ℕ) (w new : WorldModel S) (pair : Pair) (lc lq : MemberState S) (kc : Coordinator) (kq : Follower) (last : ℕ) → Couple w pair.view.creator pair.member lc lq kc kq
       → kc.view.id ≡ pair.view → MissesWithin g last kc.window.delivered kq.window → g + n ≡ last + 1 → kc.window.stable < g → last ≤ kc.window.delivered
       → EachSound (CatchUpLevels.orders meaning laws pair.view.creator pair.member kc g n)
       → AreNext past (CatchUpLevels.orders meaning laws pair.view.creator pair.member kc g n) w.history.pool
@@ -125,11 +121,11 @@ module _ {S : Type 0} (meaning : Meaning S) (laws : KeepBySteps.Laws meaning) wh
       ⊎_elim (λ fails. ends-other w new pair lc lq kc kq (past + 1) m x id f fails)
       (λ d.
       let h = CatchUpLevels.sure meaning laws (lacks_memory d.plays.step.answer) d.plays.whole
-      (FactOfReplies.heard meaning w d.mid (past + 1) q lq (kinds.Other kq) x.other m f d.plays.step) in
+      (FactOfReplies.heard meaning w d.mid (past + 1) q lq (kinds.Follower kq) x.other m f d.plays.step) in
       let keeps = KeepOfWorlds.step-keeps meaning laws w d.mid (Deliver (past + 1)) d.plays.step x.keeps in
       let known : g ≤ kc.window.delivered = omega (arith, count, high) in
       let r = CatchUpLevels.round meaning laws w d.mid c q lc lq kc kq g last o.entry x within known sounds.0 keeps h in
-      rounds-break n (g + 1) (past + 1) d.mid new pair lc r.life kc r.now last r.couple id r.within (omega (arith, count)) (omega (arith, low)) high sounds.1
+      rounds-break n (g + 1) (past + 1) d.mid new pair lc r.member_state kc r.now last r.couple id r.within (omega (arith, count)) (omega (arith, low)) high sounds.1
       (subst (AreNext (past + 1) rest) (sym r.puts) (next-rest past m rest w.history.pool r.more nexts)) d.rest)
       (breaks-next meaning past (length (m ∷ rest)) (length rest) w new refl (subst (λ (l : List Posted). Breaks meaning past (length l) w new) o.is all))
 

@@ -1,5 +1,5 @@
 -- Whether there are the two whom a catch-up is about, as the trace says.
-use Rattle.std.proofs.Common.{◌≡◌, ℕ, Bool, true, false, cond, not, ◌&&◌, Option, Some, None, List, refl, sym, ap, ◌∙◌, subst}
+use Rattle.std.proofs.Common.{◌≡◌, ℕ, Bool, true, false, cond, not, ◌&&◌, Option, Some, None, List, refl, sym, subst}
 use Rattle.std.specs.Prelude.{is_some, if◌then◌else◌}
 use Rattle.std.specs.Option.{option_eq, option_map_or, option_and_then}
 use Rattle.address.specs.Ids.{Address, ViewId, same_address, same_view_id}
@@ -7,17 +7,17 @@ use Rattle.view.specs.Members.{View}
 use Rattle.state_transfer.specs.Meanings.{Meaning}
 use Rattle.trace_props.specs.declared.event.Event.{Event}
 use Rattle.trace_props.specs.Observed.{current_view, is_blocked}
-use Rattle.trace_props.proofs.FactOfObserved.{same_address-true}
-use Rattle.agreement.specs.Cores.{Core, id_of, is_frozen}
-use Rattle.member.specs.Members.{MemberModel, core_of}
+use Rattle.address.proofs.SameIds.{same_address-true}
+use Rattle.acts.specs.Cores.{Core, id_of, is_frozen}
+use Rattle.member.specs.Members.{MemberModel}
 use Rattle.world_model.specs.Histories.{History, running}
 use Rattle.world.specs.declared.gaps.Pair.{Pair}
-use Rattle.world.specs.declared.node_state.NodeState.{NodeState}
-use Rattle.world.specs.declared.node_state.NodeState.TheVariants.{Vacant, Ended, Running}
-use Rattle.world.specs.Gaps.{open_view, is_open_in, pair_of, pair_in, pair_at, runs_open_in, has_open_pair}
-use Rattle.world.proofs.KeepByTurn
-use Rattle.world.proofs.FactOfMembers
-use Rattle.world.proofs.FactOfWorlds
+use Rattle.world_step.specs.declared.node_state.NodeState.{NodeState}
+use Rattle.world_step.specs.declared.node_state.NodeState.TheVariants.{Vacant, Ended, Running}
+use Rattle.world.specs.Gaps.{is_open_in, pair_of, pair_in, pair_at, runs_open_in, has_open_pair}
+use Rattle.world_step.proofs.KeepByTurn
+use Rattle.world_step.proofs.FactOfMembers
+use Rattle.world_step.proofs.FactOfWorlds
 
 -- ---- one member
 

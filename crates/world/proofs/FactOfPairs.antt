@@ -1,5 +1,5 @@
 -- A member of a view and the view's coordinator, compared: how far each has come.
-use Rattle.std.proofs.Common.{◌≡◌, ℕ, ◌+◌, ◌<◌, ◌≤◌, Bool, true, false, Option, Some, None, List, [], ◌∷◌, length, take, refl, sym, ap, ◌∙◌, subst, arith}
+use Rattle.std.proofs.Common.{◌≡◌, ℕ, ◌+◌, ◌<◌, ◌≤◌, Bool, true, false, Option, Some, None, List, [], length, take, refl, sym, ap, ◌∙◌, subst, arith}
 use Rattle.std.specs.Prelude.{is_some, nat_lt}
 use Rattle.std.specs.Option.{option_map, option_map_or}
 use Rattle.std.proofs.lemmas.Bool.Decides.{nat_tests}
@@ -8,18 +8,14 @@ use Rattle.std.proofs.lemmas.List.{length-take, take_all}
 use Rattle.address.specs.Ids.{Address, ViewId}
 use Rattle.view.specs.Members.{View, stands_in}
 use Rattle.limits.specs.declared.TheConstants.{WINDOW}
-use Rattle.wire.specs.Values.{held_at}
+use Rattle.wire_values.specs.Values.{held_at}
 use Rattle.state_transfer.specs.Meanings.{Meaning}
-use Rattle.trace_props.specs.declared.event.Event.{Event}
 use Rattle.trace_props.specs.declared.event.Install.{Install}
-use Rattle.trace_props.specs.declared.event.Message.{Message}
 use Rattle.trace_props.specs.Observed.{delivered_in, entry_of}
-use Rattle.trace_props.specs.Rules.{HasOneOrder}
-use Rattle.agreement.specs.Words.{list_of, members_of, open_count, Tally}
-use Rattle.agreement.specs.Histories.{Posted, History}
-use Rattle.agreement.specs.Cores.{Core}
+use Rattle.acts.specs.Words.{members_of, open_count, Tally}
+use Rattle.acts.specs.Cores.{Core}
 use Rattle.agreement.specs.Packets.{HoldsAll}
-use Rattle.agreement.specs.Members.{installed_as, MemberFact, ViewFact}
+use Rattle.agreement.specs.Members.{installed_as, ViewFact}
 use Rattle.agreement.specs.Invariant.{Invariant}
 use Rattle.agreement.specs.Steps.{System}
 use Rattle.agreement.proofs.FactOfOrder.{many-delivered}
@@ -50,13 +46,13 @@ module _ {S : Type 0} (meaning : Meaning S) (s : System S) (i : Invariant meanin
 
   -- how far they have come
   pub record Compared (c q : Address) (first other : Core S) (v : View) : Type 0 where
-    pub stable : first.traffic.stable ≤ other.traffic.delivered
-    pub reach : first.traffic.delivered ≤ first.traffic.stable + WINDOW
-    pub top : other.traffic.delivered ≤ first.traffic.delivered
-    pub holds : HoldsAll first.traffic.stable first.traffic.delivered first.traffic.held
+    pub stable : first.view_state.stable ≤ other.view_state.delivered
+    pub reach : first.view_state.delivered ≤ first.view_state.stable + WINDOW
+    pub top : other.view_state.delivered ≤ first.view_state.delivered
+    pub holds : HoldsAll first.view_state.stable first.view_state.delivered first.view_state.held
     pub listed : stands_in q v.members ≡ true
     pub coordinator_listed : stands_in c v.members ≡ true
-    pub level : first.traffic.delivered ≤ other.traffic.delivered → delivered_in q v.id s.history.trace ≡ delivered_in c v.id s.history.trace
+    pub level : first.view_state.delivered ≤ other.view_state.delivered → delivered_in q v.id s.history.trace ≡ delivered_in c v.id s.history.trace
 
   -- a view has one list of members
   pub one-view : (c q : Address) (first other : Core S) (v w : View) → s.running c ≡ Some first → s.running q ≡ Some other → first.view ≡ Some v → other.view ≡ Some w → w.id ≡ v.id → w ≡ v
@@ -67,20 +63,20 @@ module _ {S : Type 0} (meaning : Meaning S) (s : System S) (i : Invariant meanin
 
   pub compared : (c q : Address) (first other : Core S) (v : View) → Both c q first other v → Compared c q first other v
   compared c q first other v b =
-      let f : ViewFact s.history c first.installed first.traffic first.kept v = (i.members c first b.coordinator).view v b.leads in
-      let o : ViewFact s.history q other.installed other.traffic other.kept v = (i.members q other b.member).view v b.inside in
+      let f : ViewFact s.history c first.installed first.view_state first.sent_installs v = (i.members c first b.coordinator).view v b.leads in
+      let o : ViewFact s.history q other.installed other.view_state other.sent_installs v = (i.members q other b.member).view v b.inside in
       let members : members_of v.id s.history.trace ≡ v.members = members-by (entry_of v.id.creator v.id s.history.trace) v f.inside.first in
       let one : delivered_in q v.id s.history.trace ≡ take (length (delivered_in q v.id s.history.trace)) (delivered_in v.id.creator v.id s.history.trace) =
       (rules-of meaning s.history i.trace).ordered.order q v.id in
-      let mine : length (delivered_in q v.id s.history.trace) ≡ other.traffic.delivered = sym (many-delivered q v.id s.history.trace) ∙ o.counts.delivered_count in
-      let all : length (delivered_in v.id.creator v.id s.history.trace) ≡ first.traffic.delivered =
+      let mine : length (delivered_in q v.id s.history.trace) ≡ other.view_state.delivered = sym (many-delivered q v.id s.history.trace) ∙ o.counts.delivered_count in
+      let all : length (delivered_in v.id.creator v.id s.history.trace) ≡ first.view_state.delivered =
       ap (λ (p : Address). length (delivered_in p v.id s.history.trace)) b.own ∙ sym (many-delivered c v.id s.history.trace) ∙ f.counts.delivered_count in
-      let so_many : first.traffic.stable ≤ open_count q v.id s.history.trace + 0 = f.window.all_have q (subst (λ (l : List Address). stands_in q l ≡ true) (sym members) o.inside.listed) in
-      let count : open_count q v.id s.history.trace ≡ other.traffic.delivered = ap (λ (x : Tally). x.count) o.counts.tally in
+      let so_many : first.view_state.stable ≤ open_count q v.id s.history.trace + 0 = f.window.all_have q (subst (λ (l : List Address). stands_in q l ≡ true) (sym members) o.inside.listed) in
+      let count : open_count q v.id s.history.trace ≡ other.view_state.delivered = ap (λ (x : Tally). x.count) o.counts.tally in
       let short : length (delivered_in q v.id s.history.trace) ≤ length (delivered_in v.id.creator v.id s.history.trace) = shorter _ _ one in
       record {
         stable = omega (arith, so_many, count);
-        reach = reach-by (nat_lt first.traffic.stable first.traffic.delivered) refl f.window.all f.window.near;
+        reach = reach-by (nat_lt first.view_state.stable first.view_state.delivered) refl f.window.all f.window.near;
         top = omega (arith, mine, all, short);
         holds = f.window.all;
         listed = o.inside.listed;
@@ -88,7 +84,7 @@ module _ {S : Type 0} (meaning : Meaning S) (s : System S) (i : Invariant meanin
         level = λ l. as-long _ _ one (omega (arith, mine, all, l)) ∙ ap (λ (p : Address). delivered_in p v.id s.history.trace) b.own;
       }
     where
-      reach-by : (z : Bool) → nat_lt first.traffic.stable first.traffic.delivered ≡ z → HoldsAll first.traffic.stable first.traffic.delivered first.traffic.held
-          → ((g : ℕ) → is_some (held_at g first.traffic.held) ≡ true → g ≤ first.traffic.stable + WINDOW) → first.traffic.delivered ≤ first.traffic.stable + WINDOW
-      reach-by true e all near = let low : first.traffic.stable < first.traffic.delivered = grind (arith, nat_tests) in near first.traffic.delivered (all first.traffic.delivered low (omega arith))
-      reach-by false e all near = let low : first.traffic.delivered ≤ first.traffic.stable = grind (arith, nat_tests) in omega (arith, low)
+      reach-by : (z : Bool) → nat_lt first.view_state.stable first.view_state.delivered ≡ z → HoldsAll first.view_state.stable first.view_state.delivered first.view_state.held
+          → ((g : ℕ) → is_some (held_at g first.view_state.held) ≡ true → g ≤ first.view_state.stable + WINDOW) → first.view_state.delivered ≤ first.view_state.stable + WINDOW
+      reach-by true e all near = let low : first.view_state.stable < first.view_state.delivered = grind (arith, nat_tests) in near first.view_state.delivered (all first.view_state.delivered low (omega arith))
+      reach-by false e all near = let low : first.view_state.delivered ≤ first.view_state.stable = grind (arith, nat_tests) in omega (arith, low)

@@ -1,5 +1,5 @@
 -- One event that is played: where no growth was refused in it the member took its input, and did by it what its rules say; else it crashed.
-use Rattle.std.proofs.Common.{◌≡◌, ℕ, Bool, true, false, cond, Option, Some, None, Result, Ok, Err, List, [], ◌∷◌, ◌++◌, map, inl, inr, ◌⊎◌, refl, sym, ap, ◌∙◌, subst}
+use Rattle.std.proofs.Common.{◌≡◌, ℕ, Bool, true, false, Option, Some, None, Result, Ok, Err, List, [], ◌∷◌, ◌++◌, map, inl, inr, ◌⊎◌, refl, sym, ap, ◌∙◌, subst}
 use Rattle.std.specs.Prelude.{if◌then◌else◌}
 use Rattle.std.specs.Borrow.{Bor}
 use Rattle.std.specs.Option.{IsSomeAnd, option_map}
@@ -9,28 +9,25 @@ use Rattle.state_transfer.specs.Meanings.{Meaning}
 use Rattle.trace_props.specs.declared.event.Event.{Event}
 use Rattle.trace_props.specs.declared.event.Event.TheVariants.{Started, Delivered, Blocked, Installed, Left, Crashed}
 use Rattle.trace_props.specs.declared.event.Event.TheVariants as event
-use Rattle.agreement.specs.Histories.{Posted}
-use Rattle.agreement.specs.Cores.{Core}
-use Rattle.output.specs.declared.output.Output.{Output}
-use Rattle.output.specs.Outputs.{Puts}
-use Rattle.membership.specs.declared.life.Life.{Life}
+use Rattle.acts.specs.Cores.{Core}
+use Rattle.step_output.specs.declared.output.Output.{Output}
+use Rattle.membership.specs.declared.member_state.MemberState.{MemberState}
 use Rattle.member.specs.declared.error.Error.{Error}
 use Rattle.member.specs.declared.input.Input.{Input}
 use Rattle.member.specs.declared.input.Input.TheVariants as input
 use Rattle.member.specs.Errors.{is_memory}
-use Rattle.member.specs.Members.{MemberModel, core_of, leaves, came_at, refusal_of, is_unreadable}
-use Rattle.member.specs.Doing.{DoesBy}
+use Rattle.member.specs.Members.{MemberModel, leaves, refusal_of, is_unreadable}
 use Rattle.member.specs.Handling.{Handled}
 use Rattle.world_model.specs.declared.WorldEvent.TheVariants.{Deliver, Tick}
 use Rattle.world_model.specs.declared.Answer.{Answer}
 use Rattle.world_model.specs.Packets.{packet_numbered, destination_of}
-use Rattle.world.specs.declared.node_state.NodeState.{NodeState}
-use Rattle.world.specs.declared.node_state.NodeState.TheVariants.{Ended, Running}
-use Rattle.world.specs.NodeStates.{bytes_of, answer_to}
-use Rattle.world.specs.Turns.{about, OthersStand, Gives, HandsHere, Hands, HandsOver, Delivers, Hears}
-use Rattle.world.specs.Worlds.{WorldModel, WorldStep}
+use Rattle.world_step.specs.declared.node_state.NodeState.{NodeState}
+use Rattle.world_step.specs.declared.node_state.NodeState.TheVariants.{Ended, Running}
+use Rattle.world_step.specs.NodeStates.{bytes_of, answer_to}
+use Rattle.world_step.specs.Turns.{about, OthersStand, CallGives, HandsHere, Hands, HandsOver, Delivers, HandsPacket}
+use Rattle.world_step.specs.Worlds.{WorldModel, WorldStep}
 use Rattle.world.specs.Gaps.{lacks_memory}
-use Rattle.world.proofs.FactOfTaken.{when-true, when-false}
+use Rattle.world_step.proofs.FactOfTaken.{when-true, when-false}
 
 -- what happened is no want of memory
 lacks-nothing : (hs : List Event) → lacks_memory (answer_to hs) ≡ false
@@ -63,7 +60,7 @@ module _ {S : Type 0} (meaning : Meaning S) where
 
   module _ (input : Input) (m : MemberModel S) (t : List Event) (pool : List (List ℕ)) (a : Answer) (new : NodeState S) (t' : List Event) (pool' : List (List ℕ))
       (free : refusal_of m input ≡ None) (readable : is_unreadable meaning m input ≡ false) where
-    by-error : (b : Bool) (e : Error) (left : MemberModel S) → is_memory e ≡ b → Handled meaning m input (Err e) left → Gives m.address input (Err e) left (about (Running m) t pool) a (about new t' pool')
+    by-error : (b : Bool) (e : Error) (left : MemberModel S) → is_memory e ≡ b → Handled meaning m input (Err e) left → CallGives m.address input (Err e) left (about (Running m) t pool) a (about new t' pool')
         → Outcome input m t pool a new t' pool'
     by-error true e left is handled g =
         let x = when-true (is_memory e) _ _ is g in
@@ -72,7 +69,7 @@ module _ {S : Type 0} (meaning : Meaning S) where
         let x = when-false (is_unreadable meaning m input) _ _ readable (when-false (is_memory e) _ _ is handled.refused) in
         absurd (none-some e (sym free ∙ x.0))
 
-    by-result : (result : Result Output Error) (left : MemberModel S) → Handled meaning m input result left → Gives m.address input result left (about (Running m) t pool) a (about new t' pool')
+    by-result : (result : Result Output Error) (left : MemberModel S) → Handled meaning m input result left → CallGives m.address input result left (about (Running m) t pool) a (about new t' pool')
         → Outcome input m t pool a new t' pool'
     by-result (Ok out) left handled (inl g) =
         inl (ap lacks_memory g.answer ∙ lacks-nothing out.events.items, record { out = out; left = left; handled = handled; node_state = g.node_state; trace = g.trace; puts = g.puts })
@@ -107,12 +104,12 @@ module _ {S : Type 0} (meaning : Meaning S) where
       subst (λ (o : Option (List ℕ)). Delivers meaning o (about old.node_states old.history.trace old.history.pool) step.answer (about new.node_states new.history.trace new.history.pool)) there step.does in
       let y : HandsOver meaning bytes (Some q) (about old.node_states old.history.trace old.history.pool) step.answer (about new.node_states new.history.trace new.history.pool) =
       subst (λ (o : Option Address). HandsOver meaning bytes o (about old.node_states old.history.trace old.history.pool) step.answer (about new.node_states new.history.trace new.history.pool)) goes x in
-      let z : Hears meaning bytes (about (Running m) old.history.trace old.history.pool) step.answer (about (new.node_states q.node) new.history.trace new.history.pool) =
-      subst (λ (s : NodeState S). Hears meaning bytes (about s old.history.trace old.history.pool) step.answer (about (new.node_states q.node) new.history.trace new.history.pool)) node_state y.0 in
+      let z : HandsPacket meaning bytes (about (Running m) old.history.trace old.history.pool) step.answer (about (new.node_states q.node) new.history.trace new.history.pool) =
+      subst (λ (s : NodeState S). HandsPacket meaning bytes (about s old.history.trace old.history.pool) step.answer (about (new.node_states q.node) new.history.trace new.history.pool)) node_state y.0 in
       record { lent = z.0; is = z.1; here = z.2; others = y.1 }
 
   -- ---- what it did
 
-  life-there : (p : Address) (o : Option (Life S)) (f : Life S → Core S) (P : Core S → Type 0) → IsSomeAnd (option_map f o) P → (l : Life S) × (o ≡ Some l)
-  life-there p None f P x = absurd x
-  life-there p (Some l) f P x = (l, refl)
+  member_state-there : (p : Address) (o : Option (MemberState S)) (f : MemberState S → Core S) (P : Core S → Type 0) → IsSomeAnd (option_map f o) P → (l : MemberState S) × (o ≡ Some l)
+  member_state-there p None f P x = absurd x
+  member_state-there p (Some l) f P x = (l, refl)

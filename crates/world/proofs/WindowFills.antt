@@ -1,15 +1,15 @@
 -- A window fills up: each ORDER that answers a request brings it one number further.
-use Rattle.std.proofs.Common.{◌≡◌, ℕ, ◌+◌, ◌-◌, ◌<◌, ◌≤◌, Bool, true, false, cond, not, ◌&&◌, Option, Some, None, List, [], ◌∷◌, ◌++◌, inl, inr, nat_eq, nat_lt, min, refl, sym, ap, ◌∙◌, subst, arith}
-use Rattle.std.specs.Prelude.{nat_le, is_some, IsSome, ◌⊎◌}
-use Rattle.std.proofs.lemmas.Bool.{cond-true}
+use Rattle.std.proofs.Common.{◌≡◌, ℕ, ◌+◌, ◌-◌, ◌<◌, ◌≤◌, Bool, true, false, cond, not, Option, Some, None, List, inl, inr, nat_eq, nat_lt, min, refl, sym, ap, ◌∙◌, subst, arith}
+use Rattle.std.specs.Prelude.{nat_le, IsSome, ◌⊎◌}
+use Rattle.std.proofs.lemmas.Bool.{cond-true, eqb-true}
 use Rattle.std.proofs.lemmas.Bool.Decides.{nat_tests}
 use Rattle.limits.specs.declared.TheConstants.{WINDOW, GREATEST_NUMBER}
 use Rattle.address.specs.Ids.{Address}
-use Rattle.wire.specs.Values.{Entry, held_at}
-use Rattle.nak_stream.specs.Windows.{WindowModel, held_above, held_with, offers, taken, collected, IsMissing, IsLeastGap, IsGreatestGap}
-use Rattle.nak_stream.proofs.Windows.{same-number, held_at-above, held_at-with}
-use Rattle.traffic.specs.declared.other.Other.{Other}
-use Rattle.traffic.specs.Takes.{DeliversTo, delivered_next, IsComplete}
+use Rattle.wire_values.specs.Values.{Entry, held_at}
+use Rattle.nak_stream.specs.Windows.{WindowModel, held_above, held_with, offers, taken, collected, IsLeastGap, IsGreatestGap}
+use Rattle.nak_stream.proofs.Windows.{held_at-above, held_at-with}
+use Rattle.traffic.specs.declared.follower.Follower.{Follower}
+use Rattle.traffic.specs.Takes.{DeliversTo}
 use Rattle.traffic.specs.Takes.DeliversTo.{Starts, DeliversMore}
 
 -- all that is missing up to the highest number lies in this range
@@ -107,11 +107,11 @@ taken-here g e w past near small = by (held-or-not (held_at g w.held))
 
 -- ---- what is next is delivered
 
-pub delivers-held : (p : Address) (m n : Other) (entries : List Entry) → DeliversTo p m entries n → n.window.held ≡ m.window.held
+pub delivers-held : (p : Address) (m n : Follower) (entries : List Entry) → DeliversTo p m entries n → n.window.held ≡ m.window.held
 delivers-held p m _ _ (Starts _) = refl
 delivers-held p m _ _ (DeliversMore _ n entries e so there) = delivers-held p m n entries so
 
-pub delivers-further : (p : Address) (m n : Other) (entries : List Entry) → DeliversTo p m entries n → m.window.delivered ≤ n.window.delivered
+pub delivers-further : (p : Address) (m n : Follower) (entries : List Entry) → DeliversTo p m entries n → m.window.delivered ≤ n.window.delivered
 delivers-further p m _ _ (Starts _) = omega arith
 delivers-further p m _ _ (DeliversMore _ n entries e so there) = let before : m.window.delivered ≤ n.window.delivered = delivers-further p m n entries so in omega (arith, before)
 
@@ -120,7 +120,7 @@ different k g other below = grind (arith, nat_tests)
 
 -- ---- so an ORDER with the first number of the range makes the range smaller
 
-pub filled : (p : Address) (g last highest : ℕ) (e : Entry) (old mid new : Other) (entries : List Entry) → g ≤ GREATEST_NUMBER → g - WINDOW ≤ old.window.delivered
+pub filled : (p : Address) (g last highest : ℕ) (e : Entry) (old mid new : Follower) (entries : List Entry) → g ≤ GREATEST_NUMBER → g - WINDOW ≤ old.window.delivered
     → mid.window ≡ taken g e (collected (g - WINDOW) old.window) → DeliversTo p mid entries new → MissesWithin g last highest old.window → MissesWithin (g + 1) last highest new.window
 filled p g last highest e old mid new entries small near is delivers m k past known outside =
     let between = collected (g - WINDOW) old.window in
@@ -135,7 +135,7 @@ filled p g last highest e old mid new entries small near is delivers m k past kn
     by : (b : Bool) → nat_eq k g ≡ b → old.window.delivered < k → (collected (g - WINDOW) old.window).delivered ≡ old.window.delivered → g - WINDOW ≤ (collected (g - WINDOW) old.window).stable → (k < g + 1) ⊎ (last < k)
         → IsSome (held_at k (taken g e (collected (g - WINDOW) old.window)).held)
     by true same before here stable o =
-        let is : g ≡ k = sym (same-number k g same) in
+        let is : g ≡ k = sym (eqb-true k g same) in
         subst (λ (j : ℕ). IsSome (held_at j (taken g e (collected (g - WINDOW) old.window)).held)) is
         (taken-here g e (collected (g - WINDOW) old.window) (omega (arith, before, here, is)) (omega (arith, stable)) small)
     by false other before here stable (inl below) =

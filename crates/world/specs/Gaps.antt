@@ -1,26 +1,25 @@
 -- Gaps close: whom a catch-up is about, which events it plays, and what an error leaves.
-use Rattle.std.specs.Prelude.{◌≡◌, ℕ, ◌+◌, ◌-◌, zero, suc, Bool, true, false, not, ◌&&◌, List, [], ◌∷◌, ◌++◌, length, drop, Option, None, Some, MatchOption, nat_eq, ◌⊎◌, if◌then◌else◌}
+use Rattle.std.specs.Prelude.{◌≡◌, ℕ, ◌+◌, ◌-◌, zero, suc, Bool, true, false, not, ◌&&◌, List, [], ◌∷◌, ◌++◌, length, Option, None, Some, MatchOption, ◌⊎◌, if◌then◌else◌}
 use Rattle.std.specs.Option.{IsSomeAnd, option_eq, option_map_or, option_and_then}
-use Rattle.std.specs.List.{position_from}
 use Rattle.address.specs.Ids.{Address, ViewId, same_address, same_view_id}
 use Rattle.view.specs.Members.{View}
 use Rattle.state_transfer.specs.Meanings.{Meaning}
 use Rattle.trace_props.specs.declared.event.Event.{Event}
 use Rattle.trace_props.specs.declared.event.Event.TheVariants.{Crashed}
 use Rattle.trace_props.specs.Observed.{current_view, is_blocked, delivered_in}
-use Rattle.agreement.specs.Cores.{is_frozen}
+use Rattle.acts.specs.Cores.{is_frozen}
 use Rattle.member.specs.Members.{core_of}
 use Rattle.world_model.specs.declared.WorldEvent.{WorldEvent}
 use Rattle.world_model.specs.declared.WorldEvent.TheVariants.{Deliver, Tick}
 use Rattle.world_model.specs.declared.Answer.{Answer}
 use Rattle.world_model.specs.declared.Answer.TheVariants.{Done, Sent, Refused}
 use Rattle.world_model.specs.Histories.{running}
-use Rattle.world_model.specs.Packets.{destination_of}
-use Rattle.limits.specs.Refusals.{number_of}
+use Rattle.limits.specs.Refusals.{is_memory}
 use Rattle.world.specs.declared.gaps.Pair.{Pair}
-use Rattle.world.specs.declared.node_state.NodeState.{NodeState}
-use Rattle.world.specs.declared.node_state.NodeState.TheVariants.{Vacant, Ended, Running}
-use Rattle.world.specs.Worlds.{WorldModel, WorldStep}
+use Rattle.world_step.specs.declared.node_state.NodeState.{NodeState}
+use Rattle.world_step.specs.declared.node_state.NodeState.TheVariants.{Vacant, Ended, Running}
+use Rattle.world_step.specs.Worlds.{WorldModel, WorldStep}
+use Rattle.world_step.specs.Pools.{first_for}
 
 -- ---- whom it is about
 
@@ -65,19 +64,11 @@ has_open_pair n t =
 
 -- ---- what it plays
 
--- whether the packet that some bytes spell is for an address
-abbrev pub is_destined : Address → List ℕ → Bool
-is_destined p bytes = option_map_or (λ q. same_address q p) (destination_of bytes) false
-
--- the number of the first packet past so many that is for an address
-abbrev pub first_for : Address → ℕ → List (List ℕ) → Option ℕ
-first_for p past pool = position_from (is_destined p) (past + 1) (drop past pool)
-
 -- memory was refused in a step: 7
 abbrev pub lacks_memory : Answer → Bool
 lacks_memory Done = false
 lacks_memory (Sent n) = false
-lacks_memory (Refused r) = nat_eq (number_of r) 7
+lacks_memory (Refused r) = is_memory r
 
 module _ {S : Type 0} (meaning : Meaning S) where
   -- one event, carried out with no growth refused to a member

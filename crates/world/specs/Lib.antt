@@ -1,6 +1,1 @@
-pub mod NodeStates
-pub mod Outputs
-pub mod Turns
-pub mod Invariant
-pub mod Worlds
 pub mod Gaps

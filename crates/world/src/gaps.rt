@@ -8,18 +8,19 @@ ghost use Rattle.trace_props.specs.Places.{EachPlace};
 ghost use Rattle.trace_props.specs.Synchrony.{IsWellOrdered, IsVirtuallySynchronous};
 ghost use Rattle.world_model.specs.Faithful.{IsFaithful};
 ghost use Rattle.world_model.specs.declared.WorldEvent.TheVariants.{Deliver};
-ghost use Rattle.world.specs.NodeStates.{node_states_in};
-ghost use Rattle.world.specs.Worlds.{shown, IsLonger};
+ghost use Rattle.world_step.specs.NodeStates.{node_states_in};
+ghost use Rattle.world_step.specs.Worlds.{shown, IsLonger};
 ghost use Rattle.world.specs.Gaps.{open_view, is_open_in, pair_of, pair_at, has_open_pair, lacks_memory, Plays, Hands, Fails, DeliversPast, BreaksPast, CatchesUp, Stops, EndsSo, IsLevel};
 
 use crate::World;
-use crate::node_state::NodeState;
 use address::{Address, Node, ViewId};
+use limits::Refusal;
 use state_transfer::Receiver;
 use std::alloc::AllocError;
 use std::collections::BTreeMap;
 use view::View;
 use world_model::{Answer, WorldEvent};
+use world_step::NodeState;
 
 /// A member and the coordinator of its view: two members that run in that view and are not blocked.
 #[derive(Clone, Copy, Debug)]
@@ -102,8 +103,8 @@ fn lacks_memory(answer: Answer) -> bool
     ensures { result ≡ lacks_memory answer }
 {
     match answer {
-        Answer::Done | Answer::Sent(_) => false,
-        Answer::Refused(refusal) => refusal.number() == 7,
+        Answer::Refused(Refusal::Memory) => true,
+        Answer::Done | Answer::Sent(_) | Answer::Refused(_) => false,
     }
 }
 

@@ -1,26 +1,20 @@
 //! A world of members: it carries out events one after another and records what happened.
 #![tactic(auto)]
 
-ghost use Rattle.std.specs.Prelude.{◌≡◌, ◌+◌, ◌<◌, ◌≤◌, ◌++◌, ◌∷◌, [], ℕ, true, false, nat_eq, length, take, List, Some, is_some, IfOk, OnOk, OnErr, vec_len, vec_capacity};
-ghost use Rattle.std.specs.Ordering.{nat_cmp};
+ghost use Rattle.std.specs.Prelude.{◌≡◌, ◌+◌, ◌<◌, ◌≤◌, ℕ, true, length, take, Some, IfOk, OnOk, OnErr, vec_len, vec_capacity};
 ghost use Rattle.std.specs.BTreeMap.{get};
 ghost use Rattle.trace_props.specs.Places.{EachPlace};
 ghost use Rattle.trace_props.specs.Synchrony.{IsWellOrdered, IsVirtuallySynchronous};
 ghost use Rattle.trace_props.specs.State.{state_of};
 ghost use Rattle.std.specs.Option.{option_copied, option_map};
-ghost use Rattle.world_model.specs.Histories.{target_of, running};
-ghost use Rattle.world.specs.Worlds.{shown, no_world, IsLonger, WorldStep, Runs};
+ghost use Rattle.world_model.specs.Histories.{running};
+ghost use Rattle.world_step.specs.Worlds.{shown, no_world, IsLonger, WorldStep, Runs};
 ghost use Rattle.world_model.specs.Packets.{packet_numbered};
 ghost use Rattle.world_model.specs.Faithful.{IsFaithful};
-ghost use Rattle.world.specs.NodeStates.{node_state_at, node_states_in};
-ghost use Rattle.world.specs.Turns.{about, ActsAt, KeepsNodeState, CarriesOut, Carries, Hears, Delivers, SameNodeStates};
+ghost use Rattle.world_step.specs.Turns.{Carries};
 
 mod gaps;
-mod node_state;
-mod pool;
 
-use crate::node_state::NodeState;
-use crate::pool::Pool;
 use address::{Address, Node};
 use limits::{Refusal, STEP_EVENTS};
 use state_transfer::Receiver;
@@ -28,7 +22,8 @@ use std::alloc::{AllocError, Global};
 use std::collections::BTreeMap;
 use std::marker::Model;
 use trace_props::{Bytes, Trace};
-use world_model::{Answer, Reply, Target, WorldEvent};
+use world_model::{Answer, Reply, WorldEvent};
+use world_step::{NodeState, Pool, carry};
 
 /// A world of members, one at a node at a time, each with its receiver (docs/GUARANTEES.md, "The world"). Contracts see its history and
 /// what stands at each node: nothing yet, one that has ended, or the member that runs.
@@ -45,7 +40,7 @@ pub struct World<R: Receiver> {
 impl<R: Receiver> Model for World<R> {
     ghost use Rattle.std.specs.Ordering.{nat_cmp};
     ghost use Rattle.std.specs.BTreeMap.{get};
-    ghost use Rattle.world.specs.Worlds.{WorldValue, IsReached, shown};
+    ghost use Rattle.world_step.specs.Worlds.{WorldValue, IsReached, shown};
 
     // What stands at its nodes, as data, which `shown` shows by node.
     ghost Value = { WorldValue R };
@@ -54,118 +49,6 @@ impl<R: Receiver> Model for World<R> {
 
     // It came from nothing by world steps. All that is kept follows from that alone (proofs/KeepOfWorlds.antt).
     ghost invariant = { λ w. IsReached R.meaning (shown (record { history = record { events = w.events.items; replies = w.replies.items; pool = w.pool; trace = w.trace.events }; table = w.node_states.entries })) };
-}
-
-/// Makes room for what runs at a node, where there is none yet.
-fn keep_node_state<R: Receiver>(
-    node_states: &mut BTreeMap<Node, NodeState<R>>,
-    node: Node,
-) -> Result<(), AllocError>
-    ensures kept { OnOk result (KeepsNodeState (get nat_cmp node_states.old node) (get nat_cmp node_states.new node)) }
-    ensures others { (m : ℕ) → nat_eq node m ≡ false → get nat_cmp node_states.new m ≡ get nat_cmp node_states.old m }
-    ensures err { OnErr result (get nat_cmp node_states.new node ≡ get nat_cmp node_states.old node) }
-{
-    if !node_states.contains_key(&node) {
-        node_states.insert(node, NodeState::Vacant)?;
-    }
-    Ok(())
-}
-
-/// Carries out an event at its node. A node that is not kept was never started: 1.
-fn act_at<R: Receiver>(
-    alloc: Global,
-    node_states: &mut BTreeMap<Node, NodeState<R>>,
-    trace: &mut Trace,
-    pool: &mut Pool,
-    node: Node,
-    event: &WorldEvent,
-) -> Answer
-    requires room { STEP_EVENTS ≤ trace.old.room }
-    ensures acts { ActsAt R.meaning event.now (about (get nat_cmp node_states.old node) trace.old.events pool.old) result (about (get nat_cmp node_states.new node) trace.new.events pool.new) }
-    ensures others { (m : ℕ) → nat_eq node m ≡ false → get nat_cmp node_states.new m ≡ get nat_cmp node_states.old m }
-{
-    match node_states.get_mut(&node) {
-        Some(node_state) => node_state::act(alloc, node_state, trace, pool, event),
-        None => Answer::Refused(Refusal::NotConnected),
-    }
-}
-
-/// Carries out an event at its node: for a start the node is kept first, which memory may refuse: then nothing is carried out.
-fn carry_out<R: Receiver>(
-    alloc: Global,
-    node_states: &mut BTreeMap<Node, NodeState<R>>,
-    trace: &mut Trace,
-    pool: &mut Pool,
-    node: Node,
-    event: &WorldEvent,
-) -> Result<Answer, AllocError>
-    requires room { STEP_EVENTS ≤ trace.old.room }
-    ensures ok { IfOk result (λ a. CarriesOut R.meaning event.now (about (get nat_cmp node_states.old node) trace.old.events pool.old) a (about (get nat_cmp node_states.new node) trace.new.events pool.new)) }
-    ensures others { (m : ℕ) → nat_eq node m ≡ false → get nat_cmp node_states.new m ≡ get nat_cmp node_states.old m }
-    ensures err { OnErr result (get nat_cmp node_states.new node ≡ get nat_cmp node_states.old node) }
-    ensures err_trace { OnErr result (trace.new.events ≡ trace.old.events) }
-    ensures err_pool { OnErr result (pool.new ≡ pool.old) }
-{
-    if event.is_start() {
-        keep_node_state(node_states, node)?;
-        Ok(act_at(alloc, node_states, trace, pool, node, event))
-    } else {
-        Ok(act_at(alloc, node_states, trace, pool, node, event))
-    }
-}
-
-/// Hands the packet of a number to the member that runs at a node, if one does.
-fn hear_at<R: Receiver>(
-    node_states: &mut BTreeMap<Node, NodeState<R>>,
-    trace: &mut Trace,
-    pool: &mut Pool,
-    node: Node,
-    number: u64,
-) -> Answer
-    requires room { STEP_EVENTS ≤ trace.old.room }
-    ensures hears { (bytes : List ℕ) → packet_numbered number pool.old ≡ Some bytes → Hears R.meaning bytes (about (node_state_at (get nat_cmp node_states.old node)) trace.old.events pool.old) result (about (node_state_at (get nat_cmp node_states.new node)) trace.new.events pool.new) }
-    ensures others { (m : ℕ) → nat_eq node m ≡ false → get nat_cmp node_states.new m ≡ get nat_cmp node_states.old m }
-{
-    match node_states.get_mut(&node) {
-        Some(node_state) => node_state::hear(node_state, trace, pool, number),
-        None => Answer::Done,
-    }
-}
-
-/// Hands the packet of a number to the running member of its destination's node, if there are both.
-fn deliver<R: Receiver>(
-    node_states: &mut BTreeMap<Node, NodeState<R>>,
-    trace: &mut Trace,
-    pool: &mut Pool,
-    number: u64,
-) -> Answer
-    requires room { STEP_EVENTS ≤ trace.old.room }
-    ensures { Delivers R.meaning (packet_numbered number pool.old) (about (node_states_in (get nat_cmp node_states.old)) trace.old.events pool.old) result (about (node_states_in (get nat_cmp node_states.new)) trace.new.events pool.new) }
-{
-    match pool.destination(number) {
-        Some(destination) => hear_at(node_states, trace, pool, destination.node(), number),
-        None => Answer::Done,
-    }
-}
-
-/// Carries out an event. Memory may be refused for a new node: then nothing is carried out.
-fn carry<R: Receiver>(
-    alloc: Global,
-    node_states: &mut BTreeMap<Node, NodeState<R>>,
-    trace: &mut Trace,
-    pool: &mut Pool,
-    event: &WorldEvent,
-) -> Result<Answer, AllocError>
-    requires room { STEP_EVENTS ≤ trace.old.room }
-    ensures ok { IfOk result (λ a. Carries R.meaning (target_of event.now) event.now (about (node_states_in (get nat_cmp node_states.old)) trace.old.events pool.old) a (about (node_states_in (get nat_cmp node_states.new)) trace.new.events pool.new)) }
-    ensures err { OnErr result (SameNodeStates (node_states_in (get nat_cmp node_states.old)) (node_states_in (get nat_cmp node_states.new))) }
-    ensures err_trace { OnErr result (trace.new.events ≡ trace.old.events) }
-    ensures err_pool { OnErr result (pool.new ≡ pool.old) }
-{
-    match event.target() {
-        Target::Member(node) => carry_out(alloc, node_states, trace, pool, node, event),
-        Target::Packet(number) => Ok(deliver(node_states, trace, pool, number)),
-    }
 }
 
 /// Makes room for the places of a step, for its event and for the reply to it.

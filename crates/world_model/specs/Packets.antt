@@ -2,8 +2,8 @@
 use Rattle.std.specs.Prelude.{ℕ, ◌-◌, List, Option, None, Some, Result, Ok, Err, codes, nat_eq, slice_get, if◌then◌else◌}
 use Rattle.std.specs.Option.{option_and_then}
 use Rattle.address.specs.Ids.{Address}
-use Rattle.wire.specs.declared.error.WireError.{WireError}
-use Rattle.wire.specs.declared.packet.Packet.{Packet}
+use Rattle.wire_values.specs.declared.error.WireError.{WireError}
+use Rattle.wire_values.specs.declared.packet.Packet.{Packet}
 use Rattle.wire.specs.Packets.{packet_of}
 use Rattle.world_model.specs.Histories.{History, running}
 

@@ -1,4 +1,4 @@
-use Rattle.std.proofs.Common.{◌≡◌, ◌≤◌, ◌<◌, ◌^◌, ◌∙◌, ℕ, sym, subst}
+use Rattle.std.proofs.Common.{◌≤◌, ◌<◌, ◌^◌, ◌∙◌, ℕ, subst}
 use Rattle.big_endian.proofs.put_address.Goals as goal
 
 pub returns-clause-fits : goal.returns-clause-fits

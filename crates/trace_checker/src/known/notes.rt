@@ -1,20 +1,19 @@
-ghost use Rattle.std.specs.Prelude.{◌≡◌, ℕ, OnOk, Some, List, ◌++◌, ◌∷◌, [], is_some, if◌then◌else◌, MatchBool};
-ghost use Rattle.std.specs.BTreeMap.{get};
-ghost use Rattle.std.specs.Ordering.{is_eq};
+ghost use Rattle.std.specs.Prelude.{◌≡◌, OnOk, Some, List, ◌++◌, ◌∷◌, [], is_some, if◌then◌else◌, MatchBool};
+ghost use Rattle.std.specs.HashMap.{get};
 ghost use Rattle.std.specs.Option.{option_copied};
 ghost use Rattle.trace_props.specs.Observed.{install_of};
-ghost use Rattle.address.specs.Ids.{view_id_cmp};
+ghost use Rattle.address.specs.Ids.{same_view_id};
 ghost use Rattle.trace_props.specs.declared.event.Event.{Event};
-ghost use Rattle.trace_checker.specs.declared.known.keys.Pair.{Pair};
 ghost use Rattle.trace_props.specs.Following.{MayCarry};
-ghost use Rattle.trace_checker.specs.Known.{sending_of, delivery_of, in_view_cmp, pair_cmp, view_change_cmp, same_pair, KnowsSent, KnowsDelivered, KnowsLast, KnowsEntries, KnowsFirsts, KnowsViewChanges};
+ghost use Rattle.trace_checker.specs.Known.{sending_of, delivery_of, same_in_view, same_view_change, KnowsSent, KnowsDelivered, KnowsLast, KnowsEntries, KnowsFirsts, KnowsViewChanges};
 
-use super::keys::{MemberInView, Pair, ViewChange};
-use super::lists::Lists;
+use super::in_views::{InView, note_delivered, note_sent};
+use super::keys::{MemberInView, ViewChange};
 use address::ViewId;
 use std::alloc::{AllocError, Global};
-use std::collections::BTreeMap;
-use trace_props::{Delivery, Event, Install, Message, Numbered, Sending};
+use std::collections::HashMap;
+use std::hash::Hash;
+use trace_props::{Delivery, Event, Install, Sending};
 
 /// The message that an event sends.
 pub fn sending_in<'a>(event: &'a Event) -> Option<&'a Sending>
@@ -61,86 +60,48 @@ pub fn install_in<'a>(event: &'a Event) -> Option<&'a Install>
     }
 }
 
-/// Keeps a message that is sent.
-pub fn note_sent<'a>(
+/// Keeps the message that an event sends or delivers, which, if it delivers one, is its sender's next.
+pub fn note_message<'a>(
     alloc: Global,
-    sent: &mut Lists<'a, Numbered>,
+    in_views: &mut HashMap<MemberInView, InView<'a>>,
     event: &'a Event,
 ) -> Result<(), AllocError>
-    ensures { OnOk result ((t : List Event) → KnowsSent (get in_view_cmp sent.old.lists) t → KnowsSent (get in_view_cmp sent.new.lists) (t ++ event.now ∷ [])) }
+    ensures sent { OnOk result ((t : List Event) → KnowsSent (get same_in_view in_views.old) t → KnowsSent (get same_in_view in_views.new) (t ++ event.now ∷ [])) }
+    ensures delivered { OnOk result ((t : List Event) → KnowsDelivered (get same_in_view in_views.old) t → KnowsDelivered (get same_in_view in_views.new) (t ++ event.now ∷ [])) }
+    ensures last { OnOk result ((t : List Event) → MayCarry t event.now → KnowsLast (get same_in_view in_views.old) t → KnowsLast (get same_in_view in_views.new) (t ++ event.now ∷ [])) }
 {
     match sending_in(event) {
-        None => Ok(()),
         Some(sending) => {
             let in_view = MemberInView {
                 view: sending.view,
                 member: sending.member,
             };
-            sent.push(alloc, in_view, &sending.message)?;
+            note_sent(alloc, in_views, in_view, &sending.message)?;
             Ok(())
         }
-    }
-}
-
-/// Keeps a message that is delivered.
-pub fn note_delivered<'a>(
-    alloc: Global,
-    delivered: &mut Lists<'a, Message>,
-    event: &'a Event,
-) -> Result<(), AllocError>
-    ensures { OnOk result ((t : List Event) → KnowsDelivered (get in_view_cmp delivered.old.lists) t → KnowsDelivered (get in_view_cmp delivered.new.lists) (t ++ event.now ∷ [])) }
-{
-    match delivery_in(event) {
-        None => Ok(()),
-        Some(delivery) => {
-            let in_view = MemberInView {
-                view: delivery.view,
-                member: delivery.member,
-            };
-            delivered.push(alloc, in_view, &delivery.message)?;
-            Ok(())
-        }
-    }
-}
-
-// Keeps a number.
-fn keep_last(last: &mut BTreeMap<Pair, u64>, pair: Pair, number: u64) -> Result<(), AllocError>
-    ensures { OnOk result ((other : Pair) → get pair_cmp last.new other ≡ (if same_pair pair other then Some number else get pair_cmp last.old other)) }
-{
-    last.insert(pair, number)?;
-    Ok(())
-}
-
-/// Keeps the number of a message that is delivered, where it is its sender's next.
-pub fn note_last(last: &mut BTreeMap<Pair, u64>, event: &Event) -> Result<(), AllocError>
-    ensures { OnOk result ((t : List Event) → MayCarry t event.now → KnowsLast (get pair_cmp last.old) t → KnowsLast (get pair_cmp last.new) (t ++ event.now ∷ [])) }
-{
-    match delivery_in(event) {
-        None => Ok(()),
-        Some(delivery) => {
-            let in_view = MemberInView {
-                view: delivery.view,
-                member: delivery.member,
-            };
-            let pair = Pair {
-                in_view,
-                sender: delivery.message.sender,
-            };
-            keep_last(last, pair, delivery.message.number)?;
-            Ok(())
-        }
+        None => match delivery_in(event) {
+            Some(delivery) => {
+                let in_view = MemberInView {
+                    view: delivery.view,
+                    member: delivery.member,
+                };
+                note_delivered(alloc, in_views, in_view, &delivery.message)?;
+                Ok(())
+            }
+            None => Ok(()),
+        },
     }
 }
 
 // Keeps an install where none is kept.
-fn write<'a, K: Ord + Copy + Drop>(
-    registers: &mut BTreeMap<K, &'a Install>,
+fn write<'a, K: Eq + Hash + Copy + Drop>(
+    registers: &mut HashMap<K, &'a Install>,
     key: K,
     install: &'a Install,
 ) -> Result<(), AllocError>
-    ensures { OnOk result (MatchBool (is_some (get K.cmp registers.old key))
-        ((other : K) → get K.cmp registers.new other ≡ get K.cmp registers.old other)
-        ((other : K) → get K.cmp registers.new other ≡ (if is_eq (K.cmp key other) then Some install.entry else get K.cmp registers.old other))) }
+    ensures { OnOk result (MatchBool (is_some (get K.eq registers.old key))
+        ((other : K) → get K.eq registers.new other ≡ get K.eq registers.old other)
+        ((other : K) → get K.eq registers.new other ≡ (if K.eq key other then Some install.entry else get K.eq registers.old other))) }
 {
     if registers.contains_key(&key) {
         return Ok(());
@@ -151,10 +112,10 @@ fn write<'a, K: Ord + Copy + Drop>(
 
 /// Keeps a member's install of a view.
 pub fn note_entry<'a>(
-    entries: &mut BTreeMap<MemberInView, &'a Install>,
+    entries: &mut HashMap<MemberInView, &'a Install>,
     event: &'a Event,
 ) -> Result<(), AllocError>
-    ensures { OnOk result ((t : List Event) → KnowsEntries (get in_view_cmp entries.old) t → KnowsEntries (get in_view_cmp entries.new) (t ++ event.now ∷ [])) }
+    ensures { OnOk result ((t : List Event) → KnowsEntries (get same_in_view entries.old) t → KnowsEntries (get same_in_view entries.new) (t ++ event.now ∷ [])) }
 {
     match install_in(event) {
         None => Ok(()),
@@ -171,10 +132,10 @@ pub fn note_entry<'a>(
 
 /// Keeps the first install of a view.
 pub fn note_first<'a>(
-    firsts: &mut BTreeMap<ViewId, &'a Install>,
+    firsts: &mut HashMap<ViewId, &'a Install>,
     event: &'a Event,
 ) -> Result<(), AllocError>
-    ensures { OnOk result ((t : List Event) → KnowsFirsts (get view_id_cmp firsts.old) t → KnowsFirsts (get view_id_cmp firsts.new) (t ++ event.now ∷ [])) }
+    ensures { OnOk result ((t : List Event) → KnowsFirsts (get same_view_id firsts.old) t → KnowsFirsts (get same_view_id firsts.new) (t ++ event.now ∷ [])) }
 {
     match install_in(event) {
         None => Ok(()),
@@ -187,10 +148,10 @@ pub fn note_first<'a>(
 
 /// Keeps the first install that goes from a view to another.
 pub fn note_view_change<'a>(
-    view_changes: &mut BTreeMap<ViewChange, &'a Install>,
+    view_changes: &mut HashMap<ViewChange, &'a Install>,
     event: &'a Event,
 ) -> Result<(), AllocError>
-    ensures { OnOk result ((t : List Event) → KnowsViewChanges (get view_change_cmp view_changes.old) t → KnowsViewChanges (get view_change_cmp view_changes.new) (t ++ event.now ∷ [])) }
+    ensures { OnOk result ((t : List Event) → KnowsViewChanges (get same_view_change view_changes.old) t → KnowsViewChanges (get same_view_change view_changes.new) (t ++ event.now ∷ [])) }
 {
     match install_in(event) {
         None => Ok(()),

@@ -5,7 +5,8 @@ ghost use Rattle.trace_props.specs.Agreeing.{first_from};
 ghost use Rattle.trace_props.specs.Following.{MayCarry};
 ghost use Rattle.trace_checker.specs.Known.{standing_of};
 
-use super::keys::{MemberInView, Pair, ViewChange};
+use super::in_views;
+use super::keys::{MemberInView, ViewChange};
 use super::standing::{self, Standing};
 use super::tables::{self, Tables};
 use address::{Address, ViewId};
@@ -21,17 +22,17 @@ pub struct Past<'a> {
 
 impl<'a> Model for Past<'a> {
     ghost use Rattle.std.specs.Prelude.{List};
-    ghost use Rattle.std.specs.BTreeMap.{get};
-    ghost use Rattle.address.specs.Ids.{address_cmp, view_id_cmp};
+    ghost use Rattle.std.specs.HashMap.{get};
+    ghost use Rattle.address.specs.Ids.{same_address, same_view_id};
     ghost use Rattle.trace_props.specs.declared.event.Event.{Event};
-    ghost use Rattle.trace_checker.specs.Known.{KnowsPast, pointed, in_view_cmp, pair_cmp, view_change_cmp};
+    ghost use Rattle.trace_checker.specs.Known.{KnowsPast, pointed, same_in_view, same_view_change};
 
     ghost Value = { List Event };
 
     ghost view = { λ p. pointed p.tables.events.items };
 
-    ghost invariant = { λ p. KnowsPast (get address_cmp p.tables.standings) (get in_view_cmp p.tables.sent.lists) (get in_view_cmp p.tables.delivered.lists) (get pair_cmp p.tables.last)
-        (get in_view_cmp p.tables.entries) (get view_id_cmp p.tables.firsts) (get view_change_cmp p.tables.view_changes) (pointed p.tables.events.items) };
+    ghost invariant = { λ p. KnowsPast (get same_address p.tables.standings) (get same_in_view p.tables.in_views)
+        (get same_in_view p.tables.entries) (get same_view_id p.tables.firsts) (get same_view_change p.tables.view_changes) (pointed p.tables.events.items) };
 }
 
 impl<'a> Past<'a> {
@@ -55,41 +56,35 @@ impl<'a> Past<'a> {
     pub fn sent_count(&self, member: Address, view: ViewId) -> usize
         ensures { result ≡ length (sent_in member view self.now) }
     {
-        self.tables.sent.count(MemberInView { view, member })
+        in_views::sent_count(self.tables.in_view(member, view))
     }
 
     /// A message that a member sent in a view, by its index from 0.
     pub fn sent_at(&self, member: Address, view: ViewId, index: usize) -> Option<&'a Numbered>
         ensures { option_copied result ≡ slice_get (sent_in member view self.now) index }
     {
-        self.tables.sent.at(MemberInView { view, member }, index)
+        in_views::sent_at(self.tables.in_view(member, view), index)
     }
 
     /// How many messages a member delivered in a view.
     pub fn delivered_count(&self, member: Address, view: ViewId) -> usize
         ensures { result ≡ length (delivered_in member view self.now) }
     {
-        self.tables.delivered.count(MemberInView { view, member })
+        in_views::delivered_count(self.tables.in_view(member, view))
     }
 
     /// A message that a member delivered in a view, by its index from 0.
     pub fn delivered_at(&self, member: Address, view: ViewId, index: usize) -> Option<&'a Message>
         ensures { option_copied result ≡ slice_get (delivered_in member view self.now) index }
     {
-        self.tables
-            .delivered
-            .at(MemberInView { view, member }, index)
+        in_views::delivered_at(self.tables.in_view(member, view), index)
     }
 
     /// How many messages of a sender a member delivered in a view.
     pub fn own_count(&self, member: Address, sender: Address, view: ViewId) -> u64
         ensures { result ≡ length (own sender (delivered_in member view self.now)) }
     {
-        let in_view = MemberInView { view, member };
-        match self.tables.last.get(&Pair { in_view, sender }) {
-            Some(number) => *number,
-            None => 0,
-        }
+        in_views::last(self.tables.in_view(member, view), sender)
     }
 
     /// A member's install of a view.

@@ -1,13 +1,13 @@
 ghost use Rattle.std.specs.Prelude.{◌≡◌, OnOk, Some, List, ◌++◌, ◌∷◌, [], if◌then◌else◌};
-ghost use Rattle.std.specs.BTreeMap.{get};
-ghost use Rattle.address.specs.Ids.{Address, address_cmp, same_address};
+ghost use Rattle.std.specs.HashMap.{get};
+ghost use Rattle.address.specs.Ids.{Address, same_address};
 ghost use Rattle.trace_props.specs.declared.event.Event.{Event};
 ghost use Rattle.trace_props.specs.Observed.{member_of};
-ghost use Rattle.trace_checker.specs.Known.{stood, standing_after, KnowsStandings};
+ghost use Rattle.trace_checker.specs.Known.{stood, standing_after, leaves_standing, KnowsStandings};
 
 use address::{Address, ViewId};
 use std::alloc::AllocError;
-use std::collections::BTreeMap;
+use std::collections::HashMap;
 use trace_props::Event;
 
 /// How a member stands: whether it has started, has ended, is blocked, and its current view.
@@ -20,8 +20,8 @@ pub struct Standing {
 }
 
 /// How a member stands that nothing has happened to, or what is kept of it.
-pub fn how_stands(standings: &BTreeMap<Address, Standing>, member: Address) -> Standing
-    ensures { result ≡ stood (get address_cmp standings.now member) }
+pub fn how_stands(standings: &HashMap<Address, Standing>, member: Address) -> Standing
+    ensures { result ≡ stood (get same_address standings.now member) }
 {
     match standings.get(&member) {
         Some(standing) => *standing,
@@ -80,13 +80,31 @@ pub fn member(event: &Event) -> Address
     }
 }
 
+// Whether an event leaves its member standing as it did.
+fn leaves_standing(event: &Event) -> bool
+    ensures { result ≡ leaves_standing event.now }
+{
+    match event {
+        Event::Started(_) => false,
+        Event::Sent(_) => true,
+        Event::Delivered(_) => true,
+        Event::Blocked(_) => false,
+        Event::Installed(_) => false,
+        Event::Left(_) => false,
+        Event::Crashed(_) => false,
+    }
+}
+
 /// Keeps how the member stands to whom an event happens.
 pub fn note_standing(
-    standings: &mut BTreeMap<Address, Standing>,
+    standings: &mut HashMap<Address, Standing>,
     event: &Event,
 ) -> Result<(), AllocError>
-    ensures { OnOk result ((t : List Event) → KnowsStandings (get address_cmp standings.old) t → KnowsStandings (get address_cmp standings.new) (t ++ event.now ∷ [])) }
+    ensures { OnOk result ((t : List Event) → KnowsStandings (get same_address standings.old) t → KnowsStandings (get same_address standings.new) (t ++ event.now ∷ [])) }
 {
+    if leaves_standing(event) {
+        return Ok(());
+    }
     let member = member(event);
     let next = after(how_stands(standings, member), event);
     keep(standings, member, next)?;
@@ -95,11 +113,11 @@ pub fn note_standing(
 
 // Keeps how a member stands.
 fn keep(
-    standings: &mut BTreeMap<Address, Standing>,
+    standings: &mut HashMap<Address, Standing>,
     member: Address,
     standing: Standing,
 ) -> Result<(), AllocError>
-    ensures { OnOk result ((other : Address) → get address_cmp standings.new other ≡ (if same_address member other then Some standing else get address_cmp standings.old other)) }
+    ensures { OnOk result ((other : Address) → get same_address standings.new other ≡ (if same_address member other then Some standing else get same_address standings.old other)) }
 {
     let started = standing.started;
     let ended = standing.ended;

@@ -1,6 +1,6 @@
 ghost use Rattle.std.specs.Prelude.{◌≡◌, ◌≤◌, ◌++◌, ◌∷◌, [], List, true, Some, length, unwrap_or, option_and_then, OnOk, IfOk, if◌then◌else◌, is_some, IsSome, MatchBool};
-ghost use Rattle.std.specs.BTreeMap.{get};
-ghost use Rattle.address.specs.Ids.{Address, IsAddress, address_cmp, view_id_cmp, same_address};
+ghost use Rattle.std.specs.HashMap.{get};
+ghost use Rattle.address.specs.Ids.{Address, IsAddress, same_address, same_view_id};
 ghost use Rattle.limits.specs.declared.TheConstants.{PAYLOAD};
 ghost use Rattle.std.specs.Bool.{Decides};
 ghost use Rattle.std.specs.Option.{ForSome};
@@ -14,7 +14,7 @@ use super::notes::{delivery_in, install_in};
 use address::{Address, ViewId};
 use state_transfer::Receiver;
 use std::alloc::{AllocError, Global};
-use std::collections::BTreeMap;
+use std::collections::HashMap;
 use trace_props::{Bytes, Delivery, Event, Install};
 
 /// An address that a program holds is one.
@@ -26,11 +26,11 @@ pub fn known_address(address: Address)
 
 // Puts a receiver for a member.
 fn put<R: Receiver>(
-    states: &mut BTreeMap<Address, R>,
+    states: &mut HashMap<Address, R>,
     member: Address,
     state: R,
 ) -> Result<(), AllocError>
-    ensures { OnOk result ((other : Address) → get address_cmp states.new other ≡ (if same_address member other then Some state else get address_cmp states.old other)) }
+    ensures { OnOk result ((other : Address) → get same_address states.new other ≡ (if same_address member other then Some state else get same_address states.old other)) }
 {
     states.insert(member, state)?;
     Ok(())
@@ -39,11 +39,11 @@ fn put<R: Receiver>(
 // Puts a receiver in the opening state for a member that has none.
 fn begin<R: Receiver>(
     alloc: Global,
-    states: &mut BTreeMap<Address, R>,
+    states: &mut HashMap<Address, R>,
     member: Address,
 ) -> Result<(), AllocError>
-    ensures has { OnOk result (is_some (get address_cmp states.new member) ≡ true) }
-    ensures same { OnOk result ((other : Address) → unwrap_or (get address_cmp states.new other) R.meaning.opening ≡ unwrap_or (get address_cmp states.old other) R.meaning.opening) }
+    ensures has { OnOk result (is_some (get same_address states.new member) ≡ true) }
+    ensures same { OnOk result ((other : Address) → unwrap_or (get same_address states.new other) R.meaning.opening ≡ unwrap_or (get same_address states.old other) R.meaning.opening) }
 {
     if states.contains_key(&member) {
         return Ok(());
@@ -52,34 +52,41 @@ fn begin<R: Receiver>(
     put(states, member, state)
 }
 
-// Applies a message at a member that has a receiver.
-fn receive_there<R: Receiver>(
-    states: &mut BTreeMap<Address, R>,
+// Applies a message at a member.
+fn receive<R: Receiver>(
+    alloc: Global,
+    states: &mut HashMap<Address, R>,
     member: Address,
     sender: Address,
     payload: &[u8],
 ) -> Result<(), AllocError>
-    requires has { is_some (get address_cmp states.old member) ≡ true }
     requires short { length payload.now ≤ PAYLOAD }
-    ensures { OnOk result ((other : Address) → unwrap_or (get address_cmp states.new other) R.meaning.opening
-        ≡ (if same_address member other then R.meaning.apply (unwrap_or (get address_cmp states.old member) R.meaning.opening) sender payload.now else unwrap_or (get address_cmp states.old other) R.meaning.opening)) }
+    ensures { OnOk result ((other : Address) → unwrap_or (get same_address states.new other) R.meaning.opening
+        ≡ (if same_address member other then R.meaning.apply (unwrap_or (get same_address states.old member) R.meaning.opening) sender payload.now else unwrap_or (get same_address states.old other) R.meaning.opening)) }
 {
-    if let Some(state) = states.get_mut(&member) {
-        state.receive(sender, payload)?;
+    match states.get_mut(&member) {
+        Some(state) => {
+            state.receive(sender, payload)?;
+            Ok(())
+        }
+        None => {
+            let mut state = R::opening(alloc)?;
+            state.receive(sender, payload)?;
+            put(states, member, state)
+        }
     }
-    Ok(())
 }
 
 // Takes a given state at a member that has a receiver, if it can be read.
 fn take_there<R: Receiver>(
-    states: &mut BTreeMap<Address, R>,
+    states: &mut HashMap<Address, R>,
     member: Address,
     given: &[u8],
 ) -> Result<bool, AllocError>
-    requires has { is_some (get address_cmp states.old member) ≡ true }
+    requires has { is_some (get same_address states.old member) ≡ true }
     ensures read { IfOk result (λ taken. taken ≡ is_some (R.meaning.decode given.now)) }
-    ensures takes { OnOk result ((other : Address) → unwrap_or (get address_cmp states.new other) R.meaning.opening
-        ≡ (if same_address member other then unwrap_or (R.meaning.decode given.now) (unwrap_or (get address_cmp states.old member) R.meaning.opening) else unwrap_or (get address_cmp states.old other) R.meaning.opening)) }
+    ensures takes { OnOk result ((other : Address) → unwrap_or (get same_address states.new other) R.meaning.opening
+        ≡ (if same_address member other then unwrap_or (R.meaning.decode given.now) (unwrap_or (get same_address states.old member) R.meaning.opening) else unwrap_or (get same_address states.old other) R.meaning.opening)) }
 {
     match states.get_mut(&member) {
         Some(state) => state.set_state(given),
@@ -87,36 +94,38 @@ fn take_there<R: Receiver>(
     }
 }
 
-// The bytes of a member's state.
-fn bytes_of<R: Receiver>(
+// Writes a member's state in place of other bytes.
+fn write_state<R: Receiver>(
     alloc: Global,
-    states: &BTreeMap<Address, R>,
+    states: &HashMap<Address, R>,
     member: Address,
-) -> Result<Bytes, AllocError>
-    ensures { IfOk result (λ b. b ≡ R.meaning.encode (unwrap_or (get address_cmp states.now member) R.meaning.opening)) }
+    bytes: &mut Vec<u8>,
+) -> Result<(), AllocError>
+    ensures { OnOk result (bytes.new.items ≡ R.meaning.encode (unwrap_or (get same_address states.now member) R.meaning.opening)) }
 {
-    let mut bytes = Vec::new(alloc);
+    bytes.clear();
     match states.get(&member) {
-        Some(state) => state.get_state(&mut bytes)?,
-        None => R::opening(alloc)?.get_state(&mut bytes)?,
+        Some(state) => state.get_state(bytes)?,
+        None => R::opening(alloc)?.get_state(bytes)?,
     }
-    Ok(Bytes::from_vec(bytes))
+    Ok(())
 }
 
 // Whether a view is entered with the bytes of its entry, which the coordinator writes.
 fn enter_with(
-    entering: &mut BTreeMap<ViewId, Bytes>,
+    alloc: Global,
+    entering: &mut HashMap<ViewId, Bytes>,
     view: ViewId,
     first: bool,
-    bytes: Bytes,
+    bytes: &[u8],
 ) -> Result<bool, AllocError>
-    ensures { IfOk result (λ ok. EntersWith (get view_id_cmp entering.old) (get view_id_cmp entering.new) view first bytes ok) }
+    ensures { IfOk result (λ ok. EntersWith (get same_view_id entering.old) (get same_view_id entering.new) view first bytes.now ok) }
 {
     match entering.get(&view) {
-        Some(entry) => Ok(entry.as_slice() == bytes.as_slice()),
+        Some(entry) => Ok(entry.as_slice() == bytes),
         None => {
             if first {
-                entering.insert(view, bytes)?;
+                entering.insert(view, Bytes::from_slice(alloc, bytes)?)?;
                 Ok(true)
             } else {
                 Ok(false)
@@ -128,13 +137,13 @@ fn enter_with(
 // Takes a given state at a member, if there is one and it can be read.
 fn take<R: Receiver>(
     alloc: Global,
-    states: &mut BTreeMap<Address, R>,
+    states: &mut HashMap<Address, R>,
     member: Address,
     given: &Option<Bytes>,
 ) -> Result<bool, AllocError>
     ensures read { IfOk result (λ taken. Decides taken (ForSome given.now (λ g. IsSome (R.meaning.decode g)))) }
-    ensures takes { OnOk result ((other : Address) → unwrap_or (get address_cmp states.new other) R.meaning.opening
-        ≡ (if same_address member other then unwrap_or (option_and_then R.meaning.decode given.now) (unwrap_or (get address_cmp states.old member) R.meaning.opening) else unwrap_or (get address_cmp states.old other) R.meaning.opening)) }
+    ensures takes { OnOk result ((other : Address) → unwrap_or (get same_address states.new other) R.meaning.opening
+        ≡ (if same_address member other then unwrap_or (option_and_then R.meaning.decode given.now) (unwrap_or (get same_address states.old member) R.meaning.opening) else unwrap_or (get same_address states.old other) R.meaning.opening)) }
 {
     match given {
         None => Ok(true),
@@ -145,11 +154,12 @@ fn take<R: Receiver>(
     }
 }
 
-/// A receiver for each member, and the bytes with which each view was entered.
+/// A receiver for each member, and the bytes with which each view was entered; beside them room to write a state in.
 #[derive(Drop)]
 pub struct States<R> {
-    states: BTreeMap<Address, R>,
-    entering: BTreeMap<ViewId, Bytes>,
+    states: HashMap<Address, R>,
+    entering: HashMap<ViewId, Bytes>,
+    bytes: Vec<u8>,
 }
 
 /// Applies a message that is delivered.
@@ -159,12 +169,12 @@ fn hear<R: Receiver>(
     delivery: &Delivery,
 ) -> Result<(), AllocError>
     requires short { length delivery.now.message.payload ≤ PAYLOAD }
-    ensures { OnOk result ((t : List Event) → KnowsStates R.meaning (get address_cmp states.old.states) (get view_id_cmp states.old.entering) t
-        → KnowsStates R.meaning (get address_cmp states.new.states) (get view_id_cmp states.new.entering) (t ++ Delivered delivery.now ∷ [])) }
+    ensures { OnOk result ((t : List Event) → KnowsStates R.meaning (get same_address states.old.states) (get same_view_id states.old.entering) t
+        → KnowsStates R.meaning (get same_address states.new.states) (get same_view_id states.new.entering) (t ++ Delivered delivery.now ∷ [])) }
 {
     known_address(delivery.message.sender);
-    begin(alloc, &mut states.states, delivery.member)?;
-    receive_there(
+    receive(
+        alloc,
         &mut states.states,
         delivery.member,
         delivery.message.sender,
@@ -179,40 +189,47 @@ fn enter<R: Receiver>(
     states: &mut States<R>,
     install: &Install,
 ) -> Result<bool, AllocError>
-    ensures { IfOk result (λ ok. (t : List Event) → KnowsStates R.meaning (get address_cmp states.old.states) (get view_id_cmp states.old.entering) t
+    ensures { IfOk result (λ ok. (t : List Event) → KnowsStates R.meaning (get same_address states.old.states) (get same_view_id states.old.entering) t
         → MatchBool ok
         (MayEnter R.meaning t (Installed install.now)
-        × KnowsStates R.meaning (get address_cmp states.new.states) (get view_id_cmp states.new.entering) (t ++ Installed install.now ∷ []))
+        × KnowsStates R.meaning (get same_address states.new.states) (get same_view_id states.new.entering) (t ++ Installed install.now ∷ []))
         (MayEnter R.meaning t (Installed install.now) → ⊥)) }
 {
     if !take(alloc, &mut states.states, install.member, &install.given)? {
         return Ok(false);
     }
-    let bytes = bytes_of(alloc, &states.states, install.member)?;
+    write_state(alloc, &states.states, install.member, &mut states.bytes)?;
     let view = install.view.id();
     let first = install.member == install.view.first();
-    let alike = enter_with(&mut states.entering, view, first, bytes)?;
+    let alike = enter_with(
+        alloc,
+        &mut states.entering,
+        view,
+        first,
+        states.bytes.as_slice(),
+    )?;
     Ok(alike)
 }
 
 impl<R: Receiver> States<R> {
     /// Of nothing. Takes no memory.
     pub fn new(alloc: Global) -> States<R>
-        ensures { KnowsStates R.meaning (get address_cmp result.states) (get view_id_cmp result.entering) [] }
+        ensures { KnowsStates R.meaning (get same_address result.states) (get same_view_id result.entering) [] }
     {
         States {
-            states: BTreeMap::new(alloc),
-            entering: BTreeMap::new(alloc),
+            states: HashMap::new(alloc),
+            entering: HashMap::new(alloc),
+            bytes: Vec::new(alloc),
         }
     }
 
     /// Goes one event further, and whether it keeps the rule on states.
     pub fn advance(&mut self, alloc: Global, event: &Event) -> Result<bool, AllocError>
         requires short { IsShort event.now }
-        ensures { IfOk result (λ ok. (t : List Event) → KnowsStates R.meaning (get address_cmp self.old.states) (get view_id_cmp self.old.entering) t
+        ensures { IfOk result (λ ok. (t : List Event) → KnowsStates R.meaning (get same_address self.old.states) (get same_view_id self.old.entering) t
             → MatchBool ok
             (MayEnter R.meaning t event.now
-            × KnowsStates R.meaning (get address_cmp self.new.states) (get view_id_cmp self.new.entering) (t ++ event.now ∷ []))
+            × KnowsStates R.meaning (get same_address self.new.states) (get same_view_id self.new.entering) (t ++ event.now ∷ []))
             (MayEnter R.meaning t event.now → ⊥)) }
     {
         match delivery_in(event) {

@@ -1,80 +1,66 @@
 ghost use Rattle.std.specs.Prelude.{◌≡◌, OnOk, List, ◌++◌, ◌∷◌, []};
-ghost use Rattle.std.specs.BTreeMap.{get};
-ghost use Rattle.address.specs.Ids.{address_cmp, view_id_cmp};
+ghost use Rattle.std.specs.HashMap.{get};
+ghost use Rattle.std.specs.Option.{option_copied};
+ghost use Rattle.address.specs.Ids.{same_address, same_view_id};
 ghost use Rattle.trace_props.specs.declared.event.Event.{Event};
 ghost use Rattle.trace_props.specs.Following.{MayCarry};
-ghost use Rattle.trace_checker.specs.Known.{in_view_cmp, pair_cmp, view_change_cmp, KnowsPast, KnowsSent, KnowsDelivered, KnowsLast, KnowsEntries, KnowsFirsts, KnowsViewChanges, pointed};
+ghost use Rattle.trace_checker.specs.Known.{same_in_view, same_view_change, KnowsPast, KnowsEntries, KnowsFirsts, KnowsViewChanges, pointed};
 
-use super::keys::{MemberInView, Pair, ViewChange};
-use super::lists::Lists;
+use super::in_views::InView;
+use super::keys::{MemberInView, ViewChange};
 use super::standing::Standing;
 use super::{notes, standing};
 use address::{Address, ViewId};
 use std::alloc::{AllocError, Global};
-use std::collections::BTreeMap;
-use trace_props::{Event, Install, Message, Numbered};
+use std::collections::HashMap;
+use trace_props::{Event, Install};
 
 /// The events so far, and what is looked up of them: by member, by view, or by both.
 #[derive(Drop)]
 pub struct Tables<'a> {
     pub events: Vec<&'a Event>,
-    pub standings: BTreeMap<Address, Standing>,
-    pub sent: Lists<'a, Numbered>,
-    pub delivered: Lists<'a, Message>,
-    pub last: BTreeMap<Pair, u64>,
-    pub entries: BTreeMap<MemberInView, &'a Install>,
-    pub firsts: BTreeMap<ViewId, &'a Install>,
-    pub view_changes: BTreeMap<ViewChange, &'a Install>,
+    pub standings: HashMap<Address, Standing>,
+    pub in_views: HashMap<MemberInView, InView<'a>>,
+    pub entries: HashMap<MemberInView, &'a Install>,
+    pub firsts: HashMap<ViewId, &'a Install>,
+    pub view_changes: HashMap<ViewChange, &'a Install>,
 }
 
 impl<'a> Tables<'a> {
     /// Of nothing. Takes no memory.
     pub fn new(alloc: Global) -> Tables<'a>
         ensures nothing { pointed result.events.items ≡ [] }
-        ensures known { KnowsPast (get address_cmp result.standings) (get in_view_cmp result.sent.lists) (get in_view_cmp result.delivered.lists) (get pair_cmp result.last)
-            (get in_view_cmp result.entries) (get view_id_cmp result.firsts) (get view_change_cmp result.view_changes) [] }
+        ensures known { KnowsPast (get same_address result.standings) (get same_in_view result.in_views)
+            (get same_in_view result.entries) (get same_view_id result.firsts) (get same_view_change result.view_changes) [] }
     {
         Tables {
             events: Vec::new(alloc),
-            standings: BTreeMap::new(alloc),
-            sent: Lists::new(alloc),
-            delivered: Lists::new(alloc),
-            last: BTreeMap::new(alloc),
-            entries: BTreeMap::new(alloc),
-            firsts: BTreeMap::new(alloc),
-            view_changes: BTreeMap::new(alloc),
+            standings: HashMap::new(alloc),
+            in_views: HashMap::new(alloc),
+            entries: HashMap::new(alloc),
+            firsts: HashMap::new(alloc),
+            view_changes: HashMap::new(alloc),
         }
     }
-}
 
-// Keeps the message that an event sends or delivers.
-fn keep_message<'a>(
-    alloc: Global,
-    sent: &mut Lists<'a, Numbered>,
-    delivered: &mut Lists<'a, Message>,
-    last: &mut BTreeMap<Pair, u64>,
-    event: &'a Event,
-) -> Result<(), AllocError>
-    ensures sent { OnOk result ((t : List Event) → KnowsSent (get in_view_cmp sent.old.lists) t → KnowsSent (get in_view_cmp sent.new.lists) (t ++ event.now ∷ [])) }
-    ensures delivered { OnOk result ((t : List Event) → KnowsDelivered (get in_view_cmp delivered.old.lists) t → KnowsDelivered (get in_view_cmp delivered.new.lists) (t ++ event.now ∷ [])) }
-    ensures last { OnOk result ((t : List Event) → MayCarry t event.now → KnowsLast (get pair_cmp last.old) t → KnowsLast (get pair_cmp last.new) (t ++ event.now ∷ [])) }
-{
-    notes::note_sent(alloc, sent, event)?;
-    notes::note_delivered(alloc, delivered, event)?;
-    notes::note_last(last, event)?;
-    Ok(())
+    /// What is kept of a member in a view.
+    pub fn in_view(&self, member: Address, view: ViewId) -> Option<&InView<'a>>
+        ensures { option_copied result ≡ get same_in_view self.now.in_views (record { view = view; member = member }) }
+    {
+        self.in_views.get(&MemberInView { view, member })
+    }
 }
 
 // Keeps the install that an event is.
 fn keep_install<'a>(
-    entries: &mut BTreeMap<MemberInView, &'a Install>,
-    firsts: &mut BTreeMap<ViewId, &'a Install>,
-    view_changes: &mut BTreeMap<ViewChange, &'a Install>,
+    entries: &mut HashMap<MemberInView, &'a Install>,
+    firsts: &mut HashMap<ViewId, &'a Install>,
+    view_changes: &mut HashMap<ViewChange, &'a Install>,
     event: &'a Event,
 ) -> Result<(), AllocError>
-    ensures entries { OnOk result ((t : List Event) → KnowsEntries (get in_view_cmp entries.old) t → KnowsEntries (get in_view_cmp entries.new) (t ++ event.now ∷ [])) }
-    ensures firsts { OnOk result ((t : List Event) → KnowsFirsts (get view_id_cmp firsts.old) t → KnowsFirsts (get view_id_cmp firsts.new) (t ++ event.now ∷ [])) }
-    ensures view_changes { OnOk result ((t : List Event) → KnowsViewChanges (get view_change_cmp view_changes.old) t → KnowsViewChanges (get view_change_cmp view_changes.new) (t ++ event.now ∷ [])) }
+    ensures entries { OnOk result ((t : List Event) → KnowsEntries (get same_in_view entries.old) t → KnowsEntries (get same_in_view entries.new) (t ++ event.now ∷ [])) }
+    ensures firsts { OnOk result ((t : List Event) → KnowsFirsts (get same_view_id firsts.old) t → KnowsFirsts (get same_view_id firsts.new) (t ++ event.now ∷ [])) }
+    ensures view_changes { OnOk result ((t : List Event) → KnowsViewChanges (get same_view_change view_changes.old) t → KnowsViewChanges (get same_view_change view_changes.new) (t ++ event.now ∷ [])) }
 {
     notes::note_entry(entries, event)?;
     notes::note_first(firsts, event)?;
@@ -86,19 +72,13 @@ fn keep_install<'a>(
 pub fn keep<'a>(alloc: Global, tables: &mut Tables<'a>, event: &'a Event) -> Result<(), AllocError>
     ensures kept { OnOk result (pointed tables.new.events.items ≡ pointed tables.old.events.items ++ event.now ∷ []) }
     ensures known { OnOk result ((t : List Event) → MayCarry t event.now
-        → KnowsPast (get address_cmp tables.old.standings) (get in_view_cmp tables.old.sent.lists) (get in_view_cmp tables.old.delivered.lists) (get pair_cmp tables.old.last)
-        (get in_view_cmp tables.old.entries) (get view_id_cmp tables.old.firsts) (get view_change_cmp tables.old.view_changes) t
-        → KnowsPast (get address_cmp tables.new.standings) (get in_view_cmp tables.new.sent.lists) (get in_view_cmp tables.new.delivered.lists) (get pair_cmp tables.new.last)
-        (get in_view_cmp tables.new.entries) (get view_id_cmp tables.new.firsts) (get view_change_cmp tables.new.view_changes) (t ++ event.now ∷ [])) }
+        → KnowsPast (get same_address tables.old.standings) (get same_in_view tables.old.in_views)
+        (get same_in_view tables.old.entries) (get same_view_id tables.old.firsts) (get same_view_change tables.old.view_changes) t
+        → KnowsPast (get same_address tables.new.standings) (get same_in_view tables.new.in_views)
+        (get same_in_view tables.new.entries) (get same_view_id tables.new.firsts) (get same_view_change tables.new.view_changes) (t ++ event.now ∷ [])) }
 {
     standing::note_standing(&mut tables.standings, event)?;
-    keep_message(
-        alloc,
-        &mut tables.sent,
-        &mut tables.delivered,
-        &mut tables.last,
-        event,
-    )?;
+    notes::note_message(alloc, &mut tables.in_views, event)?;
     keep_install(
         &mut tables.entries,
         &mut tables.firsts,

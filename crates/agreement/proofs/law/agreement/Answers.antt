@@ -1,4 +1,5 @@
 use Rattle.agreement.proofs.KeepBySteps.{keeps-invariant, always-synchronous}
+use Rattle.agreement.proofs.KeepByCall.{acted-keeps}
 use Rattle.agreement.proofs.law.agreement.Goals as goal
 
 pub returns-clause-invariant : goal.returns-clause-invariant
@@ -9,4 +10,9 @@ returns-clause-invariant g c =
 pub returns-clause-synchronous : goal.returns-clause-synchronous
 returns-clause-synchronous g c =
     always-synchronous g.R.Receiver.meaning
+    (record { opens = g.met.R.Receiver.opens; applies = g.met.R.Receiver.applies; decodes = g.met.R.Receiver.decodes; reads_back = g.met.R.Receiver.reads_back })
+
+pub returns-clause-keep : goal.returns-clause-keep
+returns-clause-keep g c =
+    acted-keeps g.R.Receiver.meaning
     (record { opens = g.met.R.Receiver.opens; applies = g.met.R.Receiver.applies; decodes = g.met.R.Receiver.decodes; reads_back = g.met.R.Receiver.reads_back })

@@ -14,18 +14,18 @@ returns-in-Err-clause-alive g c =
 
 pub returns-in-Err-clause-handled : goal.returns-in-Err-clause-handled
 returns-in-Err-clause-handled g c =
-    from-some g.R.Receiver.meaning c.args.who.now.address c.args.who.now.group c.args.life.now c.in-Some.running _ _ _ c.in-Some.is
+    from-some g.R.Receiver.meaning c.args.who.now.address c.args.who.now.group c.args.member_state.now c.in-Some.running _ _ _ c.in-Some.is
     (wire-handled g.R.Receiver.meaning c.args.who.now.address c.args.who.now.group
     c.args.bytes c.in-Err.refusal c.in-Some.running (sym c.decode.ensures.exact ∙ c.in-Err.is) (c.requires.alive c.in-Some.running c.in-Some.is))
 
 pub returns-in-Ok-take_packet-clause-handled : goal.returns-in-Ok-take_packet-clause-handled
 returns-in-Ok-take_packet-clause-handled g c =
-    from-some g.R.Receiver.meaning c.args.who.now.address c.args.who.now.group c.args.life.now c.in-Some.running _ _ _ c.in-Some.is
-    (packet-handled g.R.Receiver.meaning c.args.who.now.address c.args.who.now.group c.args.bytes c.in-Ok.packet c.in-Some.running c.take_packet.new.life c.nothing-out.result c.take_packet.new.out (sym c.decode.ensures.exact ∙ c.in-Ok.is) c.nothing-out.ensures c.in-Ok-take_packet.ensures.does c.in-Ok-take_packet.ensures.did c.in-Ok-take_packet.ensures.connected c.in-Ok-take_packet.ensures.calm
+    from-some g.R.Receiver.meaning c.args.who.now.address c.args.who.now.group c.args.member_state.now c.in-Some.running _ _ _ c.in-Some.is
+    (packet-handled g.R.Receiver.meaning c.args.who.now.address c.args.who.now.group c.args.bytes c.in-Ok.packet c.in-Some.running c.take_packet.new.member_state c.nothing-out.result c.take_packet.new.out (sym c.decode.ensures.exact ∙ c.in-Ok.is) c.nothing-out.ensures c.in-Ok-take_packet.ensures.does c.in-Ok-take_packet.ensures.did c.in-Ok-take_packet.ensures.connected c.in-Ok-take_packet.ensures.calm
     (λ i. (c.in-Ok-take_packet.ensures.ignored i).1) c.in-Ok-take_packet.ensures.running)
 
 pub returns-in-Err-take_packet-clause-handled : goal.returns-in-Err-take_packet-clause-handled
 returns-in-Err-take_packet-clause-handled g c =
-    from-some g.R.Receiver.meaning c.args.who.now.address c.args.who.now.group c.args.life.now c.in-Some.running _ _ _ c.in-Some.is
+    from-some g.R.Receiver.meaning c.args.who.now.address c.args.who.now.group c.args.member_state.now c.in-Some.running _ _ _ c.in-Some.is
     (packet-stopped g.R.Receiver.meaning c.args.who.now.address c.args.who.now.group c.in-Err-take_packet.stop c.from.result c.args.bytes c.in-Ok.packet c.in-Some.running c.from.ensures (sym c.decode.ensures.exact ∙ c.in-Ok.is)
     (λ i. let y = c.in-Err-take_packet.ensures.ignored i in let n = y.0 in absurd (cc)) (λ e. c.in-Err-take_packet.ensures.unreadable (ap (λ (s : Stop). Err s) e)))

@@ -1,14 +1,14 @@
 use Rattle.std.proofs.Common.{sym, ap, not, ◌∙◌}
-use Rattle.member.proofs.FactOfDatagram.{none-in}
 use Rattle.member_views.proofs.ActsOfRules.{ask-again-did, flush-again-did}
 use Rattle.member.proofs.hearing.pass_time.Goals as goal
+use Rattle.address.proofs.Plain.{is-none}
 
 pub returns-then-is_none-clause-did : goal.returns-then-is_none-clause-did
 returns-then-is_none-clause-did g c = λ came.
-    ask-again-did g.R.Receiver.meaning c.args.who.now.group c.args.who.now.address came c.args.life.now c.args.out.now c.ask_again.new.out c.requires.running.life
-    (none-in c.args.life.now.traffic (c.is_none.ensures ∙ ap not c.if-is_none.true)) c.in_ok-ask_again.ensures
+    ask-again-did g.R.Receiver.meaning c.args.who.now.group c.args.who.now.address came c.args.member_state.now c.args.out.now c.ask_again.new.out c.requires.running.member_state
+    (is-none c.args.member_state.now.view_state (c.is_none.ensures ∙ ap not c.if-is_none.true)) c.in_ok-ask_again.ensures
 
 pub returns-in_ok-flush_again-clause-did : goal.returns-in_ok-flush_again-clause-did
 returns-in_ok-flush_again-clause-did g c = λ came.
-    flush-again-did g.R.Receiver.meaning c.args.who.now.group c.args.who.now.address came c.args.life.now c.args.out.now c.flush_again.new.out c.requires.running.life (c.is_none.ensures ∙ ap not c.if-is_none.false)
+    flush-again-did g.R.Receiver.meaning c.args.who.now.group c.args.who.now.address came c.args.member_state.now c.args.out.now c.flush_again.new.out c.requires.running.member_state (c.is_none.ensures ∙ ap not c.if-is_none.false)
     (sym c.is_installed.ensures ∙ c.if-is_installed.false) c.in_ok-flush_again.ensures

@@ -1,124 +1,125 @@
 -- By the rule of each kind of packet.
 use Rattle.std.proofs.Common.{Some, sym, ap, ◌∙◌, refl}
-use Rattle.wire.specs.declared.packet.Body.{Body}
-use Rattle.agreement.specs.Acts.{packet}
+use Rattle.wire_values.specs.declared.packet.Body.{Body}
+use Rattle.acts.specs.Acts.{packet}
 use Rattle.membership.proofs.ActsOfChanges.{takes-install-did}
 use Rattle.member.specs.Hearing.{ignores}
-use Rattle.member.proofs.KeepOrder.{steady-ordered, items-few, not-so}
+use Rattle.member.proofs.KeepOrder.{steady-ordered, items-few}
 use Rattle.member_views.proofs.KeepSteady as steady
 use Rattle.member_views.proofs.ActsOfRules as acts
 use Rattle.member_views.proofs.FactOfCalm as calm
 use Rattle.member.proofs.rules.hear.Goals as goal
+use Rattle.std.proofs.lemmas.Bool.{not-true}
 
 pub returns-in_ok-on_join-in-Join-clause-ordered : goal.returns-in_ok-on_join-in-Join-clause-ordered
 returns-in_ok-on_join-in-Join-clause-ordered g c =
-    steady-ordered c.args.who.now.group c.args.who.now.address c.args.life.now c.on_join.new.life (steady.join-steady c.args.who.now.address g.R.Receiver.meaning c.args.who.now.group c.args.source c.args.life.now c.on_join.new.life c.args.out.now c.on_join.new.out c.in_ok-on_join-in-Join.ensures.does)
-    c.in_ok-on_join-in-Join.ensures.life c.requires.ordered
+    steady-ordered c.args.who.now.group c.args.who.now.address c.args.member_state.now c.on_join.new.member_state (steady.join-steady c.args.who.now.address g.R.Receiver.meaning c.args.who.now.group c.args.source c.args.member_state.now c.on_join.new.member_state c.args.out.now c.on_join.new.out c.in_ok-on_join-in-Join.ensures.does)
+    c.in_ok-on_join-in-Join.ensures.member_state c.requires.ordered
 
 pub returns-in_ok-on_join-in-Join-clause-did : goal.returns-in_ok-on_join-in-Join-clause-did
 returns-in_ok-on_join-in-Join-clause-did g c =
-    acts.join-did g.R.Receiver.meaning c.args.who.now.group c.args.who.now.address _ c.args.source c.args.life.now c.on_join.new.life c.args.out.now c.on_join.new.out c.requires.life c.in_ok-on_join-in-Join.ensures.does
+    acts.join-did g.R.Receiver.meaning c.args.who.now.group c.args.who.now.address _ c.args.source c.args.member_state.now c.on_join.new.member_state c.args.out.now c.on_join.new.out c.requires.member_state c.in_ok-on_join-in-Join.ensures.does
 
 pub returns-in_ok-on_join-in-Join-clause-calm : goal.returns-in_ok-on_join-in-Join-clause-calm
 returns-in_ok-on_join-in-Join-clause-calm g c =
-    calm.join-calm c.args.who.now.address c.args.who.now.group g.R.Receiver.meaning c.args.source c.args.life.now c.on_join.new.life c.args.out.now c.on_join.new.out c.in_ok-on_join-in-Join.ensures.does
+    calm.join-calm c.args.who.now.address c.args.who.now.group g.R.Receiver.meaning c.args.source c.args.member_state.now c.on_join.new.member_state c.args.out.now c.on_join.new.out c.in_ok-on_join-in-Join.ensures.does
 
 pub returns-in_ok-on_redirect-in-Redirect-clause-did : goal.returns-in_ok-on_redirect-in-Redirect-clause-did
 returns-in_ok-on_redirect-in-Redirect-clause-did g c =
-    acts.redirect-did g.R.Receiver.meaning c.args.who.now.group c.args.who.now.address _ c.in-Redirect.coordinator c.args.life.now c.on_redirect.new.life c.args.out.now c.on_redirect.new.out c.requires.life c.in_ok-on_redirect-in-Redirect.ensures.does
+    acts.redirect-did g.R.Receiver.meaning c.args.who.now.group c.args.who.now.address _ c.in-Redirect.coordinator c.args.member_state.now c.on_redirect.new.member_state c.args.out.now c.on_redirect.new.out c.requires.member_state c.in_ok-on_redirect-in-Redirect.ensures.does
 
 pub returns-in_ok-on_suspect-in-Leave-clause-ordered : goal.returns-in_ok-on_suspect-in-Leave-clause-ordered
 returns-in_ok-on_suspect-in-Leave-clause-ordered g c =
-    steady-ordered c.args.who.now.group c.args.who.now.address c.args.life.now c.on_suspect.new.life (steady.suspect-steady c.args.who.now.address g.R.Receiver.meaning c.args.who.now.group c.args.source c.args.life.now c.on_suspect.new.life c.args.out.now c.on_suspect.new.out c.in_ok-on_suspect-in-Leave.ensures.does)
-    c.in_ok-on_suspect-in-Leave.ensures.life c.requires.ordered
+    steady-ordered c.args.who.now.group c.args.who.now.address c.args.member_state.now c.on_suspect.new.member_state (steady.suspect-steady c.args.who.now.address g.R.Receiver.meaning c.args.who.now.group c.args.source c.args.member_state.now c.on_suspect.new.member_state c.args.out.now c.on_suspect.new.out c.in_ok-on_suspect-in-Leave.ensures.does)
+    c.in_ok-on_suspect-in-Leave.ensures.member_state c.requires.ordered
 
 pub returns-in_ok-on_suspect-in-Leave-clause-did : goal.returns-in_ok-on_suspect-in-Leave-clause-did
 returns-in_ok-on_suspect-in-Leave-clause-did g c =
-    acts.suspect-did g.R.Receiver.meaning c.args.who.now.group c.args.who.now.address _ c.args.source c.args.life.now c.on_suspect.new.life c.args.out.now c.on_suspect.new.out c.requires.life c.in_ok-on_suspect-in-Leave.ensures.does
+    acts.suspect-did g.R.Receiver.meaning c.args.who.now.group c.args.who.now.address _ c.args.source c.args.member_state.now c.on_suspect.new.member_state c.args.out.now c.on_suspect.new.out c.requires.member_state c.in_ok-on_suspect-in-Leave.ensures.does
 
 pub returns-in_ok-on_suspect-in-Leave-clause-calm : goal.returns-in_ok-on_suspect-in-Leave-clause-calm
 returns-in_ok-on_suspect-in-Leave-clause-calm g c =
-    calm.suspect-calm c.args.who.now.address c.args.who.now.group g.R.Receiver.meaning c.args.source c.args.life.now c.on_suspect.new.life c.args.out.now c.on_suspect.new.out c.in_ok-on_suspect-in-Leave.ensures.does
+    calm.suspect-calm c.args.who.now.address c.args.who.now.group g.R.Receiver.meaning c.args.source c.args.member_state.now c.on_suspect.new.member_state c.args.out.now c.on_suspect.new.out c.in_ok-on_suspect-in-Leave.ensures.does
 
 pub returns-in_ok-on_flush-in-Flush-clause-did : goal.returns-in_ok-on_flush-in-Flush-clause-did
 returns-in_ok-on_flush-in-Flush-clause-did g c =
-    acts.flush-did g.R.Receiver.meaning c.args.who.now.group c.args.who.now.address _ c.args.source c.in-Flush.proposal c.args.life.now c.on_flush.new.life c.args.out.now c.on_flush.new.out c.requires.life c.requires.connected
+    acts.flush-did g.R.Receiver.meaning c.args.who.now.group c.args.who.now.address _ c.args.source c.in-Flush.proposal c.args.member_state.now c.on_flush.new.member_state c.args.out.now c.on_flush.new.out c.requires.member_state c.requires.connected
     (ap (λ (b : Body). Some (packet c.args.source b c.args.who.now.address)) c.in-Flush.is) c.in_ok-on_flush-in-Flush.ensures.does
 
 pub returns-in_ok-on_flush-in-Flush-clause-calm : goal.returns-in_ok-on_flush-in-Flush-clause-calm
 returns-in_ok-on_flush-in-Flush-clause-calm g c =
-    calm.flush-calm c.args.who.now.address c.args.who.now.group g.R.Receiver.meaning c.args.source c.in-Flush.proposal c.args.life.now c.on_flush.new.life c.args.out.now c.on_flush.new.out c.in_ok-on_flush-in-Flush.ensures.does
+    calm.flush-calm c.args.who.now.address c.args.who.now.group g.R.Receiver.meaning c.args.source c.in-Flush.proposal c.args.member_state.now c.on_flush.new.member_state c.args.out.now c.on_flush.new.out c.in_ok-on_flush-in-Flush.ensures.does
 
 pub returns-in_ok-on_behind-in-Behind-clause-ordered : goal.returns-in_ok-on_behind-in-Behind-clause-ordered
 returns-in_ok-on_behind-in-Behind-clause-ordered g c =
-    steady-ordered c.args.who.now.group c.args.who.now.address c.args.life.now c.on_behind.new.life (steady.behind-steady c.args.who.now.address g.R.Receiver.meaning c.args.who.now.group c.in-Behind.proposal c.in-Behind.counter c.args.life.now c.on_behind.new.life c.args.out.now c.on_behind.new.out c.in_ok-on_behind-in-Behind.ensures.does)
-    c.in_ok-on_behind-in-Behind.ensures.life c.requires.ordered
+    steady-ordered c.args.who.now.group c.args.who.now.address c.args.member_state.now c.on_behind.new.member_state (steady.behind-steady c.args.who.now.address g.R.Receiver.meaning c.args.who.now.group c.in-Behind.proposal c.in-Behind.counter c.args.member_state.now c.on_behind.new.member_state c.args.out.now c.on_behind.new.out c.in_ok-on_behind-in-Behind.ensures.does)
+    c.in_ok-on_behind-in-Behind.ensures.member_state c.requires.ordered
 
 pub returns-in_ok-on_behind-in-Behind-clause-did : goal.returns-in_ok-on_behind-in-Behind-clause-did
 returns-in_ok-on_behind-in-Behind-clause-did g c =
-    acts.behind-did g.R.Receiver.meaning c.args.who.now.group c.args.who.now.address _ c.in-Behind.proposal c.in-Behind.counter c.args.life.now c.on_behind.new.life c.args.out.now c.on_behind.new.out c.requires.life c.in_ok-on_behind-in-Behind.ensures.does
+    acts.behind-did g.R.Receiver.meaning c.args.who.now.group c.args.who.now.address _ c.in-Behind.proposal c.in-Behind.counter c.args.member_state.now c.on_behind.new.member_state c.args.out.now c.on_behind.new.out c.requires.member_state c.in_ok-on_behind-in-Behind.ensures.does
 
 pub returns-in_ok-on_behind-in-Behind-clause-calm : goal.returns-in_ok-on_behind-in-Behind-clause-calm
 returns-in_ok-on_behind-in-Behind-clause-calm g c =
-    calm.behind-calm c.args.who.now.address c.args.who.now.group g.R.Receiver.meaning c.in-Behind.proposal c.in-Behind.counter c.args.life.now c.on_behind.new.life c.args.out.now c.on_behind.new.out c.in_ok-on_behind-in-Behind.ensures.does
+    calm.behind-calm c.args.who.now.address c.args.who.now.group g.R.Receiver.meaning c.in-Behind.proposal c.in-Behind.counter c.args.member_state.now c.on_behind.new.member_state c.args.out.now c.on_behind.new.out c.in_ok-on_behind-in-Behind.ensures.does
 
 pub returns-in_ok-on_report-in-Report-clause-ordered : goal.returns-in_ok-on_report-in-Report-clause-ordered
 returns-in_ok-on_report-in-Report-clause-ordered g c =
-    steady-ordered c.args.who.now.group c.args.who.now.address c.args.life.now c.on_report.new.life (steady.report-steady c.args.who.now.address g.R.Receiver.meaning c.args.who.now.group c.args.source c.in-Report.proposal c.in-Report.report c.args.life.now c.on_report.new.life c.args.out.now c.on_report.new.out c.in_ok-on_report-in-Report.ensures.does)
-    c.in_ok-on_report-in-Report.ensures.life c.requires.ordered
+    steady-ordered c.args.who.now.group c.args.who.now.address c.args.member_state.now c.on_report.new.member_state (steady.report-steady c.args.who.now.address g.R.Receiver.meaning c.args.who.now.group c.args.source c.in-Report.proposal c.in-Report.report c.args.member_state.now c.on_report.new.member_state c.args.out.now c.on_report.new.out c.in_ok-on_report-in-Report.ensures.does)
+    c.in_ok-on_report-in-Report.ensures.member_state c.requires.ordered
 
 pub returns-in_ok-on_report-in-Report-clause-did : goal.returns-in_ok-on_report-in-Report-clause-did
 returns-in_ok-on_report-in-Report-clause-did g c =
-    acts.report-did g.R.Receiver.meaning c.args.who.now.group c.args.who.now.address _ c.args.source c.in-Report.proposal c.in-Report.report c.args.life.now c.on_report.new.life c.args.out.now c.on_report.new.out c.requires.life
+    acts.report-did g.R.Receiver.meaning c.args.who.now.group c.args.who.now.address _ c.args.source c.in-Report.proposal c.in-Report.report c.args.member_state.now c.on_report.new.member_state c.args.out.now c.on_report.new.out c.requires.member_state
     (ap (λ (b : Body). Some (packet c.args.source b c.args.who.now.address)) c.in-Report.is) c.in_ok-on_report-in-Report.ensures.does
 
 pub returns-in_ok-on_report-in-Report-clause-calm : goal.returns-in_ok-on_report-in-Report-clause-calm
 returns-in_ok-on_report-in-Report-clause-calm g c =
-    calm.report-calm c.args.who.now.address c.args.who.now.group g.R.Receiver.meaning c.args.source c.in-Report.proposal c.in-Report.report c.args.life.now c.on_report.new.life c.args.out.now c.on_report.new.out c.in_ok-on_report-in-Report.ensures.does
+    calm.report-calm c.args.who.now.address c.args.who.now.group g.R.Receiver.meaning c.args.source c.in-Report.proposal c.in-Report.report c.args.member_state.now c.on_report.new.member_state c.args.out.now c.on_report.new.out c.in_ok-on_report-in-Report.ensures.does
 
 pub returns-in_ok-take_install-in-Install-clause-ordered : goal.returns-in_ok-take_install-in-Install-clause-ordered
 returns-in_ok-take_install-in-Install-clause-ordered g c =
-    steady-ordered c.args.who.now.group c.args.who.now.address c.args.life.now c.take_install.new.self (steady.install-steady c.args.who.now.address g.R.Receiver.meaning c.args.who.now.group c.args.source c.in-Install.install c.args.life.now c.take_install.new.self c.args.out.now c.take_install.new.out c.in_ok-take_install-in-Install.ensures.takes)
-    c.in_ok-take_install-in-Install.ensures.life c.requires.ordered
+    steady-ordered c.args.who.now.group c.args.who.now.address c.args.member_state.now c.take_install.new.self (steady.install-steady c.args.who.now.address g.R.Receiver.meaning c.args.who.now.group c.args.source c.in-Install.install c.args.member_state.now c.take_install.new.self c.args.out.now c.take_install.new.out c.in_ok-take_install-in-Install.ensures.takes)
+    c.in_ok-take_install-in-Install.ensures.member_state c.requires.ordered
 
 pub returns-in_ok-take_install-in-Install-clause-did : goal.returns-in_ok-take_install-in-Install-clause-did
 returns-in_ok-take_install-in-Install-clause-did g c =
-    takes-install-did g.R.Receiver.meaning c.args.who.now.group c.args.who.now.address _ c.args.life.now c.take_install.new.self c.args.source c.in-Install.install c.args.out.now c.take_install.new.out c.requires.life
+    takes-install-did g.R.Receiver.meaning c.args.who.now.group c.args.who.now.address _ c.args.member_state.now c.take_install.new.self c.args.source c.in-Install.install c.args.out.now c.take_install.new.out c.requires.member_state
     c.in_ok-take_install-in-Install.ensures.takes (ap (λ (b : Body). Some (packet c.args.source b c.args.who.now.address)) c.in-Install.is)
 
 pub returns-in_ok-take_install-in-Install-clause-calm : goal.returns-in_ok-take_install-in-Install-clause-calm
 returns-in_ok-take_install-in-Install-clause-calm g c =
-    calm.install-calm c.args.who.now.address c.args.who.now.group g.R.Receiver.meaning c.args.source c.in-Install.install c.args.life.now c.take_install.new.self c.args.out.now c.take_install.new.out (items-few c.in-Install.install c.view.ensures.install) c.in_ok-take_install-in-Install.ensures.takes
+    calm.install-calm c.args.who.now.address c.args.who.now.group g.R.Receiver.meaning c.args.source c.in-Install.install c.args.member_state.now c.take_install.new.self c.args.out.now c.take_install.new.out (items-few c.in-Install.install c.view.ensures.install) c.in_ok-take_install-in-Install.ensures.takes
 
 pub returns-in_ok-on_merge-in-Merge-clause-ordered : goal.returns-in_ok-on_merge-in-Merge-clause-ordered
 returns-in_ok-on_merge-in-Merge-clause-ordered g c =
-    steady-ordered c.args.who.now.group c.args.who.now.address c.args.life.now c.on_merge.new.life (steady.merge-steady c.args.who.now.address g.R.Receiver.meaning c.args.who.now.group c.args.source c.in-Merge.view c.args.life.now c.on_merge.new.life c.args.out.now c.on_merge.new.out c.in_ok-on_merge-in-Merge.ensures.does)
-    c.in_ok-on_merge-in-Merge.ensures.life c.requires.ordered
+    steady-ordered c.args.who.now.group c.args.who.now.address c.args.member_state.now c.on_merge.new.member_state (steady.merge-steady c.args.who.now.address g.R.Receiver.meaning c.args.who.now.group c.args.source c.in-Merge.view c.args.member_state.now c.on_merge.new.member_state c.args.out.now c.on_merge.new.out c.in_ok-on_merge-in-Merge.ensures.does)
+    c.in_ok-on_merge-in-Merge.ensures.member_state c.requires.ordered
 
 pub returns-in_ok-on_merge-in-Merge-clause-did : goal.returns-in_ok-on_merge-in-Merge-clause-did
 returns-in_ok-on_merge-in-Merge-clause-did g c =
-    acts.merge-did g.R.Receiver.meaning c.args.who.now.group c.args.who.now.address _ c.args.source c.in-Merge.view c.args.life.now c.on_merge.new.life c.args.out.now c.on_merge.new.out c.requires.life c.in_ok-on_merge-in-Merge.ensures.does
+    acts.merge-did g.R.Receiver.meaning c.args.who.now.group c.args.who.now.address _ c.args.source c.in-Merge.view c.args.member_state.now c.on_merge.new.member_state c.args.out.now c.on_merge.new.out c.requires.member_state c.in_ok-on_merge-in-Merge.ensures.does
 
 pub returns-in_ok-on_merge-in-Merge-clause-calm : goal.returns-in_ok-on_merge-in-Merge-clause-calm
 returns-in_ok-on_merge-in-Merge-clause-calm g c =
-    calm.merge-calm c.args.who.now.address c.args.who.now.group g.R.Receiver.meaning c.args.source c.in-Merge.view c.args.life.now c.on_merge.new.life c.args.out.now c.on_merge.new.out c.in_ok-on_merge-in-Merge.ensures.does
+    calm.merge-calm c.args.who.now.address c.args.who.now.group g.R.Receiver.meaning c.args.source c.in-Merge.view c.args.member_state.now c.on_merge.new.member_state c.args.out.now c.on_merge.new.out c.in_ok-on_merge-in-Merge.ensures.does
 
 pub returns-in_ok-on_order-in-Order-clause-ignored : goal.returns-in_ok-on_order-in-Order-clause-ignored
 returns-in_ok-on_order-in-Order-clause-ignored g c =
-    λ i. let y = c.in_ok-on_order-in-Order.ensures.ignored (not-so _ (sym (ap (λ (b : Body). ignores c.args.who.now.address c.args.source b c.args.life.now) c.in-Order.is) ∙ i)) in (refl, y.1)
+    λ i. let y = c.in_ok-on_order-in-Order.ensures.ignored (not-true _ (sym (ap (λ (b : Body). ignores c.args.who.now.address c.args.source b c.args.member_state.now) c.in-Order.is) ∙ i)) in (refl, y.1)
 
 pub returns-in_ok-on_ack-in-Ack-clause-ignored : goal.returns-in_ok-on_ack-in-Ack-clause-ignored
 returns-in_ok-on_ack-in-Ack-clause-ignored g c =
-    λ i. let y = c.in_ok-on_ack-in-Ack.ensures.ignored (not-so _ (sym (ap (λ (b : Body). ignores c.args.who.now.address c.args.source b c.args.life.now) c.in-Ack.is) ∙ i)) in (refl, y.1)
+    λ i. let y = c.in_ok-on_ack-in-Ack.ensures.ignored (not-true _ (sym (ap (λ (b : Body). ignores c.args.who.now.address c.args.source b c.args.member_state.now) c.in-Ack.is) ∙ i)) in (refl, y.1)
 
 pub returns-in_ok-on_status-in-Status-clause-ignored : goal.returns-in_ok-on_status-in-Status-clause-ignored
 returns-in_ok-on_status-in-Status-clause-ignored g c =
-    λ i. let y = c.in_ok-on_status-in-Status.ensures.ignored (not-so _ (sym (ap (λ (b : Body). ignores c.args.who.now.address c.args.source b c.args.life.now) c.in-Status.is) ∙ i)) in (refl, y.1)
+    λ i. let y = c.in_ok-on_status-in-Status.ensures.ignored (not-true _ (sym (ap (λ (b : Body). ignores c.args.who.now.address c.args.source b c.args.member_state.now) c.in-Status.is) ∙ i)) in (refl, y.1)
 
 pub returns-in_ok-take_install-in-Install-clause-ignored : goal.returns-in_ok-take_install-in-Install-clause-ignored
 returns-in_ok-take_install-in-Install-clause-ignored g c =
-    λ i. let y = c.in_ok-take_install-in-Install.ensures.ignored (not-so _ (sym (ap (λ (b : Body). ignores c.args.who.now.address c.args.source b c.args.life.now) c.in-Install.is) ∙ i)) in (refl, y.1)
+    λ i. let y = c.in_ok-take_install-in-Install.ensures.ignored (not-true _ (sym (ap (λ (b : Body). ignores c.args.who.now.address c.args.source b c.args.member_state.now) c.in-Install.is) ∙ i)) in (refl, y.1)
 
 pub returns-in_err-take_install-in-Install-clause-ignored : goal.returns-in_err-take_install-in-Install-clause-ignored
 returns-in_err-take_install-in-Install-clause-ignored g c =
-    λ i. let y = c.in_err-take_install-in-Install.ensures.ignored (not-so _ (sym (ap (λ (b : Body). ignores c.args.who.now.address c.args.source b c.args.life.now) c.in-Install.is) ∙ i)) in absurd (let n = y.0 in cc)
+    λ i. let y = c.in_err-take_install-in-Install.ensures.ignored (not-true _ (sym (ap (λ (b : Body). ignores c.args.who.now.address c.args.source b c.args.member_state.now) c.in-Install.is) ∙ i)) in absurd (let n = y.0 in cc)

@@ -1,8 +1,8 @@
 use Rattle.std.proofs.Common.{Some, sym}
-use Rattle.wire.specs.declared.packet.Body.TheVariants as bodies
-use Rattle.agreement.specs.Acts.{packet}
+use Rattle.wire_values.specs.declared.packet.Body.TheVariants as bodies
+use Rattle.acts.specs.Acts.{packet}
 use Rattle.member_messages.proofs.FactOfOpen.{there-is, orderly-in, nothing-did}
-use Rattle.member_messages.proofs.FactOfHeard.{heard-in, heard-life, heard-did}
+use Rattle.member_messages.proofs.FactOfHeard.{heard-in, heard-member_state, heard-did}
 use Rattle.member_messages.proofs.FactOfCalm.{acks-calm}
 use Rattle.member_messages.proofs.ordering.on_ack.Goals as goal
 
@@ -19,12 +19,12 @@ ack-requires-clause-settled g c =
     let there = there-is _ _ _ c.in-Some-Coordinator.is c.in-Some-Coordinator.field-0-is in
     (orderly-in _ _ _ c.requires.ordered there).1
 
-pub returns-in_ok-ack-in-Some-Coordinator-clause-life : goal.returns-in_ok-ack-in-Some-Coordinator-clause-life
-returns-in_ok-ack-in-Some-Coordinator-clause-life g c =
+pub returns-in_ok-ack-in-Some-Coordinator-clause-member_state : goal.returns-in_ok-ack-in-Some-Coordinator-clause-member_state
+returns-in_ok-ack-in-Some-Coordinator-clause-member_state g c =
     let there = there-is _ _ _ c.in-Some-Coordinator.is c.in-Some-Coordinator.field-0-is in
     let heard = heard-in _ _ _ _ _ there (sym c.if-not-takes_ack.ensures) in
     let does = c.in_ok-ack-in-Some-Coordinator.ensures in
-    heard-life _ _ _ _ _ _ _ _ c.requires.life heard there does.goes.view
+    heard-member_state _ _ _ _ _ _ _ _ c.requires.member_state heard there does.goes.view
 
 pub returns-in_ok-ack-in-Some-Coordinator-clause-did : goal.returns-in_ok-ack-in-Some-Coordinator-clause-did
 returns-in_ok-ack-in-Some-Coordinator-clause-did g c =
@@ -34,7 +34,7 @@ returns-in_ok-ack-in-Some-Coordinator-clause-did g c =
     let same = c.get-count.ensures.value in
     rw (sym same)
     (heard-did g.R.Receiver.meaning (λ i. Some (packet c.args.source.now (bodies.Ack i c.get-count.result) c.args.who.now.address)) _ _ _ _ _ _ _ _ _ _
-    c.requires.life heard there does.goes.view does.goes.goes)
+    c.requires.member_state heard there does.goes.view does.goes.goes)
 
 pub returns-in_ok-ack-in-Some-Coordinator-clause-calm : goal.returns-in_ok-ack-in-Some-Coordinator-clause-calm
 returns-in_ok-ack-in-Some-Coordinator-clause-calm g c =

@@ -1,6 +1,6 @@
 use Rattle.std.proofs.Common.{Some, sym}
-use Rattle.wire.specs.declared.packet.Body.TheVariants as bodies
-use Rattle.agreement.specs.Acts.{packet}
+use Rattle.wire_values.specs.declared.packet.Body.TheVariants as bodies
+use Rattle.acts.specs.Acts.{packet}
 use Rattle.traffic.proofs.ActsOfAnswers.{nak-goes}
 use Rattle.member_messages.proofs.FactOfOpen.{there-is, orderly-in, nothing-did}
 use Rattle.member_messages.proofs.FactOfHeard.{heard-in, heard-same}
@@ -13,5 +13,5 @@ pub returns-in_ok-nak-in-Coordinator-clause-did : goal.returns-in_ok-nak-in-Coor
 returns-in_ok-nak-in-Coordinator-clause-did g c =
     let there = there-is _ _ _ c.in-Some.is c.in-Coordinator.is in
     let heard = heard-in _ _ _ _ _ there (sym c.if-not-takes_forward.ensures) in
-    heard-same g.R.Receiver.meaning (λ i. Some (packet c.args.source.now (bodies.Nak i c.args.missing) c.args.who.now.address)) _ _ _ _ _ _ _ _ c.requires.life heard there
+    heard-same g.R.Receiver.meaning (λ i. Some (packet c.args.source.now (bodies.Nak i c.args.missing) c.args.who.now.address)) _ _ _ _ _ _ _ _ c.requires.member_state heard there
     (nak-goes g.R.Receiver.meaning _ _ _ _ _ _ _ _ _ _ (orderly-in _ _ _ c.requires.ordered there).0 c.in_ok-nak-in-Coordinator.ensures).goes

@@ -1,10 +1,10 @@
 use Rattle.std.proofs.Common.{◌-◌, Some, not, sym}
 use Rattle.std.specs.Prelude.{nat_lt}
 use Rattle.limits.specs.declared.TheConstants.{WINDOW}
-use Rattle.wire.specs.declared.packet.Body.TheVariants as bodies
-use Rattle.agreement.specs.Acts.{packet}
+use Rattle.wire_values.specs.declared.packet.Body.TheVariants as bodies
+use Rattle.acts.specs.Acts.{packet}
 use Rattle.member_messages.proofs.FactOfOpen.{there-is, orderly-in, ordered-by, nothing-did}
-use Rattle.member_messages.proofs.FactOfHeard.{heard-in, heard-life, from-in, other-did}
+use Rattle.member_messages.proofs.FactOfHeard.{heard-in, heard-member_state, from-in, other-did}
 use Rattle.member_messages.proofs.FactOfCalm.{takes-calm}
 use Rattle.member_messages.proofs.FactOfNext.{order-orderly}
 use Rattle.member_messages.proofs.taking.on_order.Goals as goal
@@ -12,33 +12,33 @@ use Rattle.member_messages.proofs.taking.on_order.Goals as goal
 pub returns-then-not-takes_order-clause-did : goal.returns-then-not-takes_order-clause-did
 returns-then-not-takes_order-clause-did g c = nothing-did g.R.Receiver.meaning _ _ _ _ _
 
-pub returns-in_ok-order-in-Some-Other-clause-life : goal.returns-in_ok-order-in-Some-Other-clause-life
-returns-in_ok-order-in-Some-Other-clause-life g c =
-    let there = there-is _ _ _ c.in-Some-Other.is c.in-Some-Other.field-0-is in
+pub returns-in_ok-order-in-Some-Follower-clause-member_state : goal.returns-in_ok-order-in-Some-Follower-clause-member_state
+returns-in_ok-order-in-Some-Follower-clause-member_state g c =
+    let there = there-is _ _ _ c.in-Some-Follower.is c.in-Some-Follower.field-0-is in
     let heard = heard-in _ _ _ _ _ there (sym c.if-not-takes_order.ensures) in
-    let does = c.in_ok-order-in-Some-Other.ensures in
-    heard-life _ _ _ _ _ _ _ _ c.requires.life heard there does.goes.1
+    let does = c.in_ok-order-in-Some-Follower.ensures in
+    heard-member_state _ _ _ _ _ _ _ _ c.requires.member_state heard there does.goes.1
 
 pub order-requires : goal.order-requires
 order-requires g c =
-    let there = there-is _ _ _ c.in-Some-Other.is c.in-Some-Other.field-0-is in
+    let there = there-is _ _ _ c.in-Some-Follower.is c.in-Some-Follower.field-0-is in
     record { other = (orderly-in _ _ _ c.requires.ordered there).0 }
 
-pub returns-in_ok-order-in-Some-Other-clause-ordered : goal.returns-in_ok-order-in-Some-Other-clause-ordered
-returns-in_ok-order-in-Some-Other-clause-ordered g c =
-    let there = there-is _ _ _ c.in-Some-Other.is c.in-Some-Other.field-0-is in
-    let does = c.in_ok-order-in-Some-Other.ensures in
-    ordered-by _ _ (order-orderly g.R.Receiver.meaning c.args.who.now.address c.args.who.now.group _ _ c.in-Some-Other.other _ _ _ _ _ does.takes does.goes.1 (orderly-in _ _ _ c.requires.ordered there))
+pub returns-in_ok-order-in-Some-Follower-clause-ordered : goal.returns-in_ok-order-in-Some-Follower-clause-ordered
+returns-in_ok-order-in-Some-Follower-clause-ordered g c =
+    let there = there-is _ _ _ c.in-Some-Follower.is c.in-Some-Follower.field-0-is in
+    let does = c.in_ok-order-in-Some-Follower.ensures in
+    ordered-by _ _ (order-orderly g.R.Receiver.meaning c.args.who.now.address c.args.who.now.group _ _ c.in-Some-Follower.follower _ _ _ _ _ does.takes does.goes.1 (orderly-in _ _ _ c.requires.ordered there))
 
-pub returns-in_ok-order-in-Some-Other-clause-did : goal.returns-in_ok-order-in-Some-Other-clause-did
-returns-in_ok-order-in-Some-Other-clause-did g c =
-    let there = there-is _ _ _ c.in-Some-Other.is c.in-Some-Other.field-0-is in
+pub returns-in_ok-order-in-Some-Follower-clause-did : goal.returns-in_ok-order-in-Some-Follower-clause-did
+returns-in_ok-order-in-Some-Follower-clause-did g c =
+    let there = there-is _ _ _ c.in-Some-Follower.is c.in-Some-Follower.field-0-is in
     let heard = heard-in _ _ _ _ _ there (sym c.if-not-takes_order.ensures) in
-    let does = c.in_ok-order-in-Some-Other.ensures in
-    other-did g.R.Receiver.meaning (λ q i. Some (packet q (bodies.Order i c.args.place c.args.entry.now) c.args.who.now.address)) _ _ _ _ _ _ _ _ _ _ c.requires.life heard there
-    (from-in _ _ c.args.life.now c.in-Some-Other.other (λ m. not (nat_lt m.window.delivered (c.args.place - WINDOW))) there (sym c.if-not-takes_order.ensures)) does.goes
+    let does = c.in_ok-order-in-Some-Follower.ensures in
+    other-did g.R.Receiver.meaning (λ q i. Some (packet q (bodies.Order i c.args.place c.args.entry.now) c.args.who.now.address)) _ _ _ _ _ _ _ _ _ _ c.requires.member_state heard there
+    (from-in _ _ c.args.member_state.now c.in-Some-Follower.follower (λ m. not (nat_lt m.window.delivered (c.args.place - WINDOW))) there (sym c.if-not-takes_order.ensures)) does.goes
 
-pub returns-in_ok-order-in-Some-Other-clause-calm : goal.returns-in_ok-order-in-Some-Other-clause-calm
-returns-in_ok-order-in-Some-Other-clause-calm g c =
-    let does = c.in_ok-order-in-Some-Other.ensures in
+pub returns-in_ok-order-in-Some-Follower-clause-calm : goal.returns-in_ok-order-in-Some-Follower-clause-calm
+returns-in_ok-order-in-Some-Follower-clause-calm g c =
+    let does = c.in_ok-order-in-Some-Follower.ensures in
     takes-calm g.R.Receiver.meaning _ _ _ _ _ _ _ _ _ _ does.takes does.few

@@ -1,35 +1,35 @@
 use Rattle.std.proofs.Common.{Some, sym}
-use Rattle.wire.specs.declared.packet.Body.TheVariants as bodies
-use Rattle.agreement.specs.Acts.{packet}
+use Rattle.wire_values.specs.declared.packet.Body.TheVariants as bodies
+use Rattle.acts.specs.Acts.{packet}
 use Rattle.traffic.proofs.ActsOfAnswers.{status-goes}
-use Rattle.member_messages.specs.Hears.{is_near}
+use Rattle.member_messages.specs.Heard.{is_near}
 use Rattle.member_messages.proofs.FactOfOpen.{there-is, orderly-in, ordered-by, nothing-did}
-use Rattle.member_messages.proofs.FactOfHeard.{heard-in, heard-life, from-in, other-did}
+use Rattle.member_messages.proofs.FactOfHeard.{heard-in, heard-member_state, from-in, other-did}
 use Rattle.member_messages.proofs.FactOfNext.{status-orderly}
 use Rattle.member_messages.proofs.taking.on_status.Goals as goal
 
 pub returns-then-not-takes_status-clause-did : goal.returns-then-not-takes_status-clause-did
 returns-then-not-takes_status-clause-did g c = nothing-did g.R.Receiver.meaning _ _ _ _ _
 
-pub returns-in_ok-status-in-Some-Other-clause-life : goal.returns-in_ok-status-in-Some-Other-clause-life
-returns-in_ok-status-in-Some-Other-clause-life g c =
-    let there = there-is _ _ _ c.in-Some-Other.is c.in-Some-Other.field-0-is in
+pub returns-in_ok-status-in-Some-Follower-clause-member_state : goal.returns-in_ok-status-in-Some-Follower-clause-member_state
+returns-in_ok-status-in-Some-Follower-clause-member_state g c =
+    let there = there-is _ _ _ c.in-Some-Follower.is c.in-Some-Follower.field-0-is in
     let heard = heard-in _ _ _ _ _ there (sym c.if-not-takes_status.ensures) in
-    let goes = status-goes g.R.Receiver.meaning c.args.who.now.address c.args.who.now.group c.args.progress c.in-Some-Other.other c.args.life.now.receiver
-    c.args.out.now c.status.new.self c.status.new.out c.in_ok-status-in-Some-Other.ensures in
-    heard-life _ _ _ _ _ _ _ _ c.requires.life heard there goes.1
+    let goes = status-goes g.R.Receiver.meaning c.args.who.now.address c.args.who.now.group c.args.progress c.in-Some-Follower.follower c.args.member_state.now.receiver
+    c.args.out.now c.status.new.self c.status.new.out c.in_ok-status-in-Some-Follower.ensures in
+    heard-member_state _ _ _ _ _ _ _ _ c.requires.member_state heard there goes.1
 
-pub returns-in_ok-status-in-Some-Other-clause-ordered : goal.returns-in_ok-status-in-Some-Other-clause-ordered
-returns-in_ok-status-in-Some-Other-clause-ordered g c =
-    let there = there-is _ _ _ c.in-Some-Other.is c.in-Some-Other.field-0-is in
-    ordered-by _ _ (status-orderly c.args.who.now.address c.args.who.now.group c.args.progress c.in-Some-Other.other c.args.out.now c.status.new.self c.status.new.out c.in_ok-status-in-Some-Other.ensures
+pub returns-in_ok-status-in-Some-Follower-clause-ordered : goal.returns-in_ok-status-in-Some-Follower-clause-ordered
+returns-in_ok-status-in-Some-Follower-clause-ordered g c =
+    let there = there-is _ _ _ c.in-Some-Follower.is c.in-Some-Follower.field-0-is in
+    ordered-by _ _ (status-orderly c.args.who.now.address c.args.who.now.group c.args.progress c.in-Some-Follower.follower c.args.out.now c.status.new.self c.status.new.out c.in_ok-status-in-Some-Follower.ensures
     (orderly-in _ _ _ c.requires.ordered there))
 
-pub returns-in_ok-status-in-Some-Other-clause-did : goal.returns-in_ok-status-in-Some-Other-clause-did
-returns-in_ok-status-in-Some-Other-clause-did g c =
-    let there = there-is _ _ _ c.in-Some-Other.is c.in-Some-Other.field-0-is in
+pub returns-in_ok-status-in-Some-Follower-clause-did : goal.returns-in_ok-status-in-Some-Follower-clause-did
+returns-in_ok-status-in-Some-Follower-clause-did g c =
+    let there = there-is _ _ _ c.in-Some-Follower.is c.in-Some-Follower.field-0-is in
     let heard = heard-in _ _ _ _ _ there (sym c.if-not-takes_status.ensures) in
-    let goes = status-goes g.R.Receiver.meaning c.args.who.now.address c.args.who.now.group c.args.progress c.in-Some-Other.other c.args.life.now.receiver
-    c.args.out.now c.status.new.self c.status.new.out c.in_ok-status-in-Some-Other.ensures in
-    other-did g.R.Receiver.meaning (λ q i. Some (packet q (bodies.Status i c.args.progress) c.args.who.now.address)) _ _ _ _ _ _ _ _ _ _ c.requires.life heard there
-    (from-in _ _ c.args.life.now c.in-Some-Other.other (is_near c.args.progress) there (sym c.if-not-takes_status.ensures)) goes
+    let goes = status-goes g.R.Receiver.meaning c.args.who.now.address c.args.who.now.group c.args.progress c.in-Some-Follower.follower c.args.member_state.now.receiver
+    c.args.out.now c.status.new.self c.status.new.out c.in_ok-status-in-Some-Follower.ensures in
+    other-did g.R.Receiver.meaning (λ q i. Some (packet q (bodies.Status i c.args.progress) c.args.who.now.address)) _ _ _ _ _ _ _ _ _ _ c.requires.member_state heard there
+    (from-in _ _ c.args.member_state.now c.in-Some-Follower.follower (is_near c.args.progress) there (sym c.if-not-takes_status.ensures)) goes

@@ -1,5 +1,5 @@
-use Rattle.member_views.proofs.KeepLife.{asked-life}
+use Rattle.member_views.proofs.KeepMemberState.{asked-member_state}
 use Rattle.member_views.proofs.joining.ask.Goals as goal
 
-pub returns-clause-life : goal.returns-clause-life
-returns-clause-life g c = asked-life _ _ _ c.args.life.now c.requires.life
+pub returns-clause-member_state : goal.returns-clause-member_state
+returns-clause-member_state g c = asked-member_state _ _ _ c.args.member_state.now c.requires.member_state

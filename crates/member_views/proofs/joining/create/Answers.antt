@@ -1,6 +1,6 @@
 use Rattle.std.proofs.Common.{rules}
-use Rattle.member_views.proofs.KeepLife.{created-life}
+use Rattle.member_views.proofs.KeepMemberState.{created-member_state}
 use Rattle.member_views.proofs.joining.create.Goals as goal
 
-pub returns-clause-life : goal.returns-clause-life
-returns-clause-life g c = created-life c.args.who.now.group c.args.who.now.address c.args.life.now _ c.requires.life c.requires.idle (search rules)
+pub returns-clause-member_state : goal.returns-clause-member_state
+returns-clause-member_state g c = created-member_state c.args.who.now.group c.args.who.now.address c.args.member_state.now _ c.requires.member_state c.requires.idle (search rules)

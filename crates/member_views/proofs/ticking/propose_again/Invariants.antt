@@ -1,9 +1,9 @@
 use Rattle.std.proofs.Common.{map, take, [], not}
 use Rattle.std.specs.Prelude.{filter}
-use Rattle.wire.specs.declared.packet.Body.TheVariants as bodies
+use Rattle.wire_values.specs.declared.packet.Body.TheVariants as bodies
 use Rattle.flush.specs.Flushes.{has_reported}
-use Rattle.agreement.specs.Acts.{packet, proposed}
-use Rattle.output.specs.Outputs.{Grows}
+use Rattle.acts.specs.Acts.{packet, proposed}
+use Rattle.step_output.specs.Outputs.{Grows}
 use Rattle.member_views.proofs.ticking.propose_again.Given as goal
 
 abbrev pub invariant-loop-member : goal.invariant-loop-member

@@ -1,13 +1,14 @@
 use Rattle.std.proofs.Common.{◌≡◌, ◌+◌, ◌≤◌, length}
-use Rattle.script_reader.specs.UdpScript.{udp_script_of}
+use Rattle.script_reader.specs.UdpScript.{udp_script_of, udp_said, numbered}
+use Rattle.script_reader.specs.Texts.{and_then}
 use Rattle.script_reader.specs.Lines.{lines_of}
-use Rattle.script_reader.proofs.FactOfUdpReading.{going_on}
+use Rattle.script_reader.proofs.FactOfTexts.{going_on}
 use Rattle.script_reader.proofs.udp_script.read_udp_script.Given as goal
 
 -- what was read goes on with the lines that are left
 abbrev pub invariant-loop-rest : goal.invariant-loop-rest
 invariant-loop-rest l =
-    (udp_script_of l.text ≡ going_on l.lines.items (l.number + 1) (lines_of l.rest))
+    (udp_script_of l.text ≡ going_on udp_said (and_then numbered) l.lines.items (l.number + 1) (lines_of l.rest))
     × (l.number + length l.rest ≤ length l.text)
 
 abbrev pub decreases-loop-rest : goal.decreases-loop-rest

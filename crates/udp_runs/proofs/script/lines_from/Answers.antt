@@ -1,15 +1,15 @@
 use Rattle.std.proofs.Common.{◌∙◌, ap, sym}
 use Rattle.script_reader.specs.UdpScript.{udp_script_of}
-use Rattle.vsync_runs.specs.Outcomes.IsAnswer.{ReaderFails}
-use Rattle.vsync_runs.proofs.FactOfTexts.{appends-none}
-use Rattle.udp_runs.proofs.FactOfScripts.{unread-text, fault-text}
+use Rattle.commands.specs.Outcomes.IsAnswer.{ReaderFails}
+use Rattle.udp_runs.proofs.FactOfScripts.{fault-text, unread-text}
 use Rattle.udp_runs.proofs.script.lines_from.Goals as goal
+use Rattle.vsync_text.proofs.FactOfWriting.{appends_nothing}
 
 pub returns-in-Err-Memory-clause-err : goal.returns-in-Err-Memory-clause-err
 returns-in-Err-Memory-clause-err g c = unread-text _ _ _ _ c.end_in_memory.ensures
 
 pub returns-in-Err-Failed-clause-err : goal.returns-in-Err-Failed-clause-err
-returns-in-Err-Failed-clause-err g c = ReaderFails (appends-none _)
+returns-in-Err-Failed-clause-err g c = ReaderFails (appends_nothing _)
 
 pub returns-in-Err-Fault-clause-err : goal.returns-in-Err-Fault-clause-err
 returns-in-Err-Fault-clause-err g c =

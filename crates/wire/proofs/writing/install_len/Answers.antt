@@ -1,9 +1,9 @@
 use Rattle.std.proofs.Common.{ℕ, Option, List, length, ap, arith}
 use Rattle.std.specs.List.{flat_map}
-use Rattle.wire.specs.Values.{Entry}
+use Rattle.wire_values.specs.Values.{Entry}
 use Rattle.view.specs.Members.{View}
-use Rattle.wire.specs.Fields.{entry_bytes}
-use Rattle.wire.specs.Lists.{view_bytes, state_bytes}
+use Rattle.wire_values.specs.Fields.{entry_bytes}
+use Rattle.wire_values.specs.Lists.{view_bytes, state_bytes}
 use Rattle.wire.proofs.Sizes.{length-install, length-view}
 use Rattle.wire.proofs.writing.install_len.Goals as goal
 

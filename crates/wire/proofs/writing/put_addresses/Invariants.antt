@@ -1,6 +1,6 @@
 use Rattle.std.proofs.Common.{◌≡◌, ◌≤◌, ◌+◌, ◌++◌, take, drop, length, vec_len, vec_capacity}
 use Rattle.std.specs.List.{flat_map, AllByRecursion}
-use Rattle.wire.specs.Fields.{IsAddress, address_bytes}
+use Rattle.wire_values.specs.Fields.{IsAddress, address_bytes}
 use Rattle.wire.proofs.writing.put_addresses.Given as goal
 
 -- the addresses so far are put, and there is room for the others

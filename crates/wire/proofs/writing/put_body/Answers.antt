@@ -1,8 +1,8 @@
 use Rattle.std.proofs.Common.{◌∙◌}
-use Rattle.wire.specs.declared.packet.Body.TheVariants as bodies
-use Rattle.wire.specs.Fields.{IsCount, IsNumber}
+use Rattle.wire_values.specs.declared.packet.Body.TheVariants as bodies
+use Rattle.wire_values.specs.Fields.{IsCount, IsNumber}
 use Rattle.wire.specs.Packets.{IsBody}
-use Rattle.wire.proofs.FieldLaws.{along, back}
+use Rattle.wire_values.proofs.FieldLaws.{along, back}
 use Rattle.wire.proofs.writing.put_body.Goals as goal
 
 pub returns-in-Forward-clause-fits : goal.returns-in-Forward-clause-fits

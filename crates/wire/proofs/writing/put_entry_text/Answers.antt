@@ -1,6 +1,6 @@
 use Rattle.std.proofs.Common.{subst}
-use Rattle.wire.specs.Fields.{IsEntry, IsNumber}
-use Rattle.wire.proofs.FieldLaws.{along}
+use Rattle.wire_values.specs.Fields.{IsEntry, IsNumber}
+use Rattle.wire_values.proofs.FieldLaws.{along}
 use Rattle.wire.proofs.writing.put_entry_text.Goals as goal
 
 pub returns-clause-fits : goal.returns-clause-fits

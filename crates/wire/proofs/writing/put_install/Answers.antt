@@ -1,9 +1,9 @@
 use Rattle.std.proofs.Common.{◌∙◌, List}
 use Rattle.std.specs.List.{AllByRecursion}
 use Rattle.address.specs.Ids.{Address}
-use Rattle.wire.specs.Fields.{IsAddress}
-use Rattle.wire.specs.Lists.{IsView}
-use Rattle.wire.proofs.FieldLaws.{along}
+use Rattle.wire_values.specs.Fields.{IsAddress}
+use Rattle.wire_values.specs.Lists.{IsView}
+use Rattle.wire_values.proofs.FieldLaws.{along}
 use Rattle.wire.proofs.writing.put_install.Goals as goal
 
 pub returns-clause-fits : goal.returns-clause-fits

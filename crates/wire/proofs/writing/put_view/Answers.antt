@@ -1,8 +1,8 @@
 use Rattle.std.proofs.Common.{◌∙◌, List}
 use Rattle.std.specs.List.{AllByRecursion}
 use Rattle.address.specs.Ids.{Address}
-use Rattle.wire.specs.Fields.{IsAddress, IsViewId}
-use Rattle.wire.proofs.FieldLaws.{along}
+use Rattle.wire_values.specs.Fields.{IsAddress, IsViewId}
+use Rattle.wire_values.proofs.FieldLaws.{along}
 use Rattle.wire.proofs.writing.put_view.Goals as goal
 
 pub returns-clause-fits : goal.returns-clause-fits

@@ -1,5 +1,5 @@
-use Rattle.wire.specs.Fields.{IsAddress, IsNumber}
-use Rattle.wire.proofs.FieldLaws.{along}
+use Rattle.wire_values.specs.Fields.{IsAddress, IsNumber}
+use Rattle.wire_values.proofs.FieldLaws.{along}
 use Rattle.wire.proofs.writing.put_view_id.Goals as goal
 
 pub returns-clause-fits : goal.returns-clause-fits

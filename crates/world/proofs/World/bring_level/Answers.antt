@@ -1,10 +1,11 @@
 use Rattle.std.proofs.Common.{ℕ, ap, ◌∙◌, length}
 use Rattle.address.specs.Ids.{Address}
-use Rattle.world.specs.Worlds.{WorldValue, shown}
-use Rattle.world.specs.Gaps.{first_for}
-use Rattle.world.proofs.FactOfNumbers.{on-err, on-err-map}
+use Rattle.world_step.specs.Worlds.{WorldValue, shown}
+use Rattle.world_step.specs.Pools.{first_for}
+use Rattle.world.proofs.FactOfNumbers.{on-err-map}
 use Rattle.world.proofs.CatchUpStops.{at-tick, at-status, at-request, at-answer}
 use Rattle.world.proofs.World.bring_level.Goals as goal
+use Rattle.address.proofs.Plain.{on-err}
 
 -- the tick fails
 pub returns-in_err-play-clause-err : goal.returns-in_err-play-clause-err

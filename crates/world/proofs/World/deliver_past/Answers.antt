@@ -1,7 +1,8 @@
-use Rattle.std.proofs.Common.{ap, ◌∙◌, ◌≤◌, ◌<◌, ◌+◌, length, arith}
-use Rattle.world.specs.Worlds.{WorldValue, shown}
-use Rattle.world.proofs.FactOfNumbers.{on-err, delivers-start, delivers-one, breaks-one}
+use Rattle.std.proofs.Common.{ap, ◌∙◌, ◌<◌, length, arith}
+use Rattle.world_step.specs.Worlds.{WorldValue, shown}
+use Rattle.world.proofs.FactOfNumbers.{delivers-start, delivers-one, breaks-one}
 use Rattle.world.proofs.World.deliver_past.Goals as goal
+use Rattle.address.proofs.Plain.{on-err}
 
 pub loop-number-init : goal.loop-number-init
 loop-number-init g c =

@@ -1,5 +1,5 @@
 use Rattle.std.proofs.Common.{◌≡◌, ◌-◌, ◌≤◌, max, length}
-use Rattle.world.specs.Worlds.{shown}
+use Rattle.world_step.specs.Worlds.{shown}
 use Rattle.world.specs.Gaps.{Delivers}
 use Rattle.world.proofs.World.deliver_past.Given as goal
 

@@ -2,8 +2,8 @@ use Rattle.std.proofs.Common.{subst}
 use Rattle.trace_props.specs.Places.{EachPlace}
 use Rattle.trace_props.specs.Synchrony.{IsWellOrdered, IsVirtuallySynchronous}
 use Rattle.world_model.specs.Faithful.{IsFaithful}
-use Rattle.world.specs.Worlds.{WorldValue}
-use Rattle.world.proofs.KeepOfWorlds.{reached-keeps}
+use Rattle.world_step.specs.Worlds.{WorldValue}
+use Rattle.world_step.proofs.KeepOfWorlds.{reached-keeps}
 use Rattle.world.proofs.World.kept.Goals as goal
 
 pub returns-clause-faithful : goal.returns-clause-faithful

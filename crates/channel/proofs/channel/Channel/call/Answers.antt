@@ -1,8 +1,9 @@
 use Rattle.std.proofs.Common.{rules, sym, ◌∙◌}
 use Rattle.std.proofs.lemmas.Result.{err_from_is_err_and}
 use Rattle.channel.proofs.FactOfSteps.{left-refused, taken}
-use Rattle.channel.proofs.FactOfQueues.{first-behind, on-ok}
+use Rattle.channel.proofs.FactOfQueues.{first-behind}
 use Rattle.channel.proofs.channel.Channel.call.Goals as goal
+use Rattle.address.proofs.Plain.{on-ok}
 
 -- after a step that is refused
 pub returns-in_err-out-clause-left : goal.returns-in_err-out-clause-left

@@ -1,7 +1,7 @@
 use Rattle.std.proofs.Common.{◌≡◌, ◌≤◌, ◌+◌, ◌-◌, ℕ, length}
 use Rattle.std.specs.Prelude.{slice_get, Some}
 use Rattle.limits.specs.declared.TheConstants.{WINDOW}
-use Rattle.wire.specs.Values.{Entry}
+use Rattle.wire_values.specs.Values.{Entry}
 use Rattle.flush.specs.Cuts.{held_among}
 use Rattle.flush.specs.Flushes.{group}
 use Rattle.flush.proofs.flushing.Flush.cut.Given as goal

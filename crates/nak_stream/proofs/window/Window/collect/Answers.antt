@@ -2,7 +2,7 @@ use Rattle.std.proofs.Common.{sym, arith, subst, ◌≤◌, ℕ, List}
 use Rattle.std.specs.Map.{keys_of}
 use Rattle.std.specs.Ordering.{nat_cmp}
 use Rattle.std.specs.List.Sorted.{IsStrictlySortedBy}
-use Rattle.wire.specs.Values.{Entry}
+use Rattle.wire_values.specs.Values.{Entry}
 use Rattle.nak_stream.specs.Windows.{WindowModel, IsWindow}
 use Rattle.nak_stream.proofs.Windows.{above-kept}
 use Rattle.nak_stream.proofs.window.Window.collect.Goals as goal

@@ -1,6 +1,6 @@
 use Rattle.std.proofs.Common.{ℕ, ◌<◌, ◌≤◌, ◌-◌}
 use Rattle.std.specs.Prelude.{IsSome}
-use Rattle.wire.specs.Values.{held_at}
+use Rattle.wire_values.specs.Values.{held_at}
 use Rattle.nak_stream.proofs.window.Window.least_gap.Given as goal
 
 -- all numbers so far are held

@@ -1,12 +1,12 @@
-use Rattle.std.specs.BTreeMap.{get}
-use Rattle.trace_checker.specs.Known.{in_view_cmp}
+use Rattle.std.specs.HashMap.{get}
+use Rattle.trace_checker.specs.Known.{same_in_view}
 use Rattle.trace_checker.proofs.KeepMessages.{no-entry, an-entry}
 use Rattle.trace_checker.proofs.known.notes.note_entry.Goals as goal
 
 -- nothing is installed
 pub returns-in-None : goal.returns-in-None
-returns-in-None c = λ t r. no-entry (get in_view_cmp c.args.entries.now) t c.args.event.now c.in-None.ensures r
+returns-in-None c = λ t r. no-entry (get same_in_view c.args.entries.now) t c.args.event.now c.in-None.ensures r
 
 -- the install is kept
 pub returns-in_ok-write-in-Some : goal.returns-in_ok-write-in-Some
-returns-in_ok-write-in-Some c = λ t r. an-entry (get in_view_cmp c.args.entries.now) (get in_view_cmp c.write.new.registers) t c.args.event.now c.in-Some.install c.id.result c.in-Some.ensures c.id.ensures c.in_ok-write-in-Some.ensures r
+returns-in_ok-write-in-Some c = λ t r. an-entry (get same_in_view c.args.entries.now) (get same_in_view c.write.new.registers) t c.args.event.now c.in-Some.install c.id.result c.in-Some.ensures c.id.ensures c.in_ok-write-in-Some.ensures r

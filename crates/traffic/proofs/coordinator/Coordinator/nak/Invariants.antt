@@ -1,5 +1,5 @@
 use Rattle.std.proofs.Common.{◌+◌, ◌-◌, ◌≤◌, max, []}
-use Rattle.output.specs.Outputs.{Grows}
+use Rattle.step_output.specs.Outputs.{Grows}
 use Rattle.traffic.specs.Takes.{orders_held}
 use Rattle.traffic.proofs.coordinator.Coordinator.nak.Given as goal
 

@@ -1,6 +1,6 @@
 use Rattle.std.proofs.Common.{Option, length}
-use Rattle.agreement.specs.Histories.{Posted}
-use Rattle.traffic.specs.Traffics.{waiting_of}
+use Rattle.acts.specs.Histories.{Posted}
+use Rattle.traffic.specs.ViewStates.{waiting_of}
 use Rattle.traffic.specs.Goings.{CoordinatorGoes}
 use Rattle.traffic.specs.Turns.{Ordering, IsSettled}
 use Rattle.traffic.proofs.coordinator.Coordinator.order.Given as goal

@@ -1,0 +1,5 @@
+pub mod Words
+pub mod Histories
+pub mod Cores
+pub mod Acts
+pub mod Chains

@@ -1,0 +1,28 @@
+use Rattle.std.proofs.Common.{◌≡◌, ◌∙◌, ap, sym, subst, List, ℕ, codes, ◌++◌, ◌∷◌, []}
+use Rattle.std.specs.Fmt.{decimal}
+use Rattle.trace_props.specs.declared.verdict.Verdict.{Verdict}
+use Rattle.trace_props.specs.declared.verdict.Verdict.TheVariants.{Breaks}
+use Rattle.commands.specs.declared.status.Status.TheVariants.{Done, Broken, Memory}
+use Rattle.commands.specs.Outcomes.{memory_line}
+use Rattle.commands.specs.Checks.{broken_line, IsVerdictText}
+use Rattle.commands.specs.Checks.IsVerdictText.{Held, Broke, Unprinted}
+use Rattle.commands.proofs.checks.print_verdict.Goals as goal
+
+pub returns-in-Holds : goal.returns-in-Holds
+returns-in-Holds g c =
+    record { meant = Done; text = codes "holds\n"; says = subst (λ (v : Verdict). IsVerdictText v Done (codes "holds\n")) (sym c.in-Holds.is) Held; ends = c.end_with.ensures }
+
+pub returns-in-Ok : goal.returns-in-Ok
+returns-in-Ok g c =
+    let line : c.as_bytes.result.now ≡ broken_line c.in-Breaks.rule c.in-Breaks.place =
+    c.as_bytes.ensures.value ∙ c.in-Ok.ensures.ok ∙ ap (λ (code : List ℕ). codes "broken " ++ (code ++ 32 ∷ (decimal c.in-Breaks.place ++ 10 ∷ []))) c.code_of-code.ensures in
+    record {
+      meant = Broken;
+      text = c.as_bytes.result.now;
+      says = subst (λ (v : Verdict). IsVerdictText v Broken c.as_bytes.result.now) (sym c.in-Breaks.is)
+          (subst (λ (x : List ℕ). IsVerdictText (Breaks c.in-Breaks.rule c.in-Breaks.place) Broken x) (sym line) (Broke c.in-Breaks.rule c.in-Breaks.place));
+      ends = c.end_with-in-Ok.ensures;
+    }
+
+pub returns-in-Err : goal.returns-in-Err
+returns-in-Err g c = record { meant = Memory; text = memory_line; says = Unprinted c.args.verdict; ends = c.end_in_memory.ensures }

@@ -1,0 +1,77 @@
+ghost use Rattle.std.specs.Prelude.{◌≡◌};
+ghost use Rattle.commands.specs.Outcomes.{Written};
+ghost use Rattle.commands.specs.Checks.{rule_code, IsVerdictText, IsJudgedText, ChecksTrace};
+
+use crate::Status;
+use crate::ends::{Unreadable, end_in_fault, end_in_memory, end_with, read_all};
+use script_reader::Unread;
+use state_transfer::Receiver;
+use std::alloc::Global;
+use std::io::{Read, Write};
+use trace_checker::check;
+use trace_props::{Rule, Trace, Verdict};
+use trace_reader::read_trace;
+
+/// The code under which a broken rule is printed (docs/GUARANTEES.md, "What check prints").
+fn code_of(rule: Rule) -> &'static str
+    ensures { result.now ≡ rule_code rule }
+{
+    match rule {
+        Rule::WellPlaced => "D5",
+        Rule::RisingViews => "D6",
+        Rule::SoundMessages => "D7",
+        Rule::OneOrder => "D8",
+        Rule::SameNext => "D9",
+        Rule::Together => "D10",
+        Rule::HandedBack => "D11",
+        Rule::StateOfEntry => "D12",
+    }
+}
+
+/// Writes a verdict.
+fn print_verdict<W: Write>(alloc: Global, writer: &mut W, verdict: Verdict) -> Status
+    ensures { Written (IsVerdictText verdict) (W.contents writer.old) (W.contents writer.new) result }
+{
+    match verdict {
+        Verdict::Holds => end_with(writer, b"holds\n", Status::Done),
+        Verdict::Breaks { rule, place } => {
+            let code = code_of(rule);
+            match format!(in alloc; "broken {code} {place}\n") {
+                Ok(text) => end_with(writer, text.as_bytes(), Status::Broken),
+                Err(_) => end_in_memory(writer),
+            }
+        }
+    }
+}
+
+/// Checks a trace, and writes the verdict.
+fn judge<R: Receiver, W: Write>(alloc: Global, trace: &Trace, writer: &mut W) -> Status
+    ensures { Written (IsJudgedText R.meaning trace.now.events) (W.contents writer.old) (W.contents writer.new) result }
+{
+    match check::<R>(alloc, trace) {
+        Ok(verdict) => print_verdict(alloc, writer, verdict),
+        Err(_) => end_in_memory(writer),
+    }
+}
+
+/// Checks the text of a trace from a reader, for receivers that are `R`, and writes to a writer whether it is virtually
+/// synchronous: `holds`, or `broken RULE PLACE` with the rule that breaks first and the length of the shortest beginning that breaks
+/// one; or the text's first fault (docs/FORMATS.md, "Checking a trace"). Answers the exit status.
+pub fn run_check<R: Receiver, I: Read, W: Write>(
+    alloc: Global,
+    reader: &mut I,
+    writer: &mut W,
+) -> Status
+    ensures { ChecksTrace R.meaning (I.remaining reader.old) (W.contents writer.old) (W.contents writer.new) result }
+{
+    let bytes = match read_all(alloc, reader) {
+        Ok(bytes) => bytes,
+        Err(Unreadable::Memory) => return end_in_memory(writer),
+        Err(Unreadable::Failed) => return Status::Outside,
+    };
+    match read_trace(alloc, bytes.as_slice()) {
+        Ok(trace) => judge::<R, W>(alloc, &trace, writer),
+        Err(Unread::Fault { line, fault }) => end_in_fault(alloc, writer, line, fault),
+        Err(Unread::Memory) => end_in_memory(writer),
+    }
+}

@@ -1,0 +1,365 @@
+-- What always holds of a member goes on to hold, whatever it does in a change of view.
+use Rattle.std.proofs.Common.{◌≡◌, ℕ, Bool, true, false, cond, not, ◌&&◌, ◌||◌, Option, Some, None, List, [], ◌∷◌, ◌++◌, map, refl, sym, ap, ◌∙◌, subst, is_some}
+use Rattle.std.specs.Prelude.{IsSome, MatchOption, MatchBool}
+use Rattle.std.specs.Option.{option_map, option_map_or}
+use Rattle.std.specs.List.{AllByRecursion}
+use Rattle.std.specs.Cmp.Lexicographic.{pointwise}
+use Rattle.std.proofs.lemmas.Bool.{and_parts, cond-true}
+use Rattle.std.proofs.lemmas.Option.{none-some, same_Some}
+use Rattle.address.specs.Ids.{Address, ViewId, view_id_cmp, same_address, same_view_id}
+use Rattle.view.specs.Members.{View, stands_in}
+use Rattle.state_transfer.specs.Meanings.{Meaning}
+use Rattle.next_view.specs.Notes.{NotesModel}
+use Rattle.wire_values.specs.Values as wire
+use Rattle.wire.specs.Packets.{IsPacket}
+use Rattle.flush.specs.Flushes.{FlushModel, is_awaited, has_reported, report_from}
+use Rattle.view_install.specs.Promises.{PromiseModel, offered, is_accept, same_view, may_install, after_offer, after_install, installing, promising, answer_past}
+use Rattle.view_install.specs.declared.promise.OfferAnswer.TheVariants.{Accept, Ignore}
+use Rattle.view_install.proofs.ViewsRise.{only-the-promised}
+use Rattle.address.proofs.SameIds.{same_view_id-refl, same_address-refl}
+use Rattle.acts.specs.Acts.{others_of, proposed, lone_view}
+use Rattle.decisions.specs.Decisions.{is_fitting, is_entry}
+use Rattle.decisions.proofs.FactOfOffer.{accepted-parts}
+use Rattle.step_output.specs.declared.output.Output.{Output}
+use Rattle.step_output.specs.Outputs.{packet_in, spelled}
+use Rattle.traffic.specs.declared.view_state.ViewState.{ViewState}
+use Rattle.traffic.specs.ViewStates.{view_of, fresh_in}
+use Rattle.traffic.proofs.FactOfNewView.{fresh-view}
+use Rattle.membership.specs.declared.member_state.MemberState.{MemberState}
+use Rattle.membership.specs.MemberStates.{core_of, view_in, view_core_in, is_connected, report_in, begun_with, recording, is_complete, leads_in, idle_member, install_packet, IsFlushing, IsKept, IsMemberState}
+use Rattle.membership.specs.Installs.{instruction_to, instructing, finished_state}
+use Rattle.membership.specs.Changes.{StaysAs, Promises, Begins, ProposesIf, Finishes, FinishesAndProposes, GoesOn, Enters}
+use Rattle.membership.proofs.FactOfProposed.{IsProposal}
+use Rattle.view.proofs.FactOfMembers.{coordinator-in}
+
+-- ---- small things
+
+not-both : {P : Type 0} (b : Bool) → b ≡ true → b ≡ false → P
+not-both b x y = absurd (let n : true ≡ false = sym x ∙ y in cc)
+
+inside-some : (view_state : Option ViewState) (v : View) → view_in view_state ≡ Some v → IsSome view_state
+inside-some None v e = absurd (none-some v e)
+inside-some (Some t) v e = refl
+
+connected-by : (view_state : Option ViewState) (b : Bool) → IsSome view_state → is_some view_state || b ≡ true
+connected-by view_state b e = ap (λ x. x || b) e
+
+or-true : (b : Bool) → b || true ≡ true
+or-true true = refl
+or-true false = refl
+
+-- who reported has reported when there are more reports
+reported-more : (p : Address) (reports more : List (Address × wire.Report)) → has_reported p reports ≡ true → has_reported p (reports ++ more) ≡ true
+reported-more p [] more e = absurd (let n : false ≡ true = e in cc)
+reported-more p (x ∷ reports) more e = by (same_address p x.0) e (reported-more p reports more)
+  where
+    by : (b : Bool) → is_some (cond b (Some x.1) (report_from p reports)) ≡ true → (has_reported p reports ≡ true → has_reported p (reports ++ more) ≡ true)
+        → is_some (cond b (Some x.1) (report_from p (reports ++ more))) ≡ true
+    by true e later = refl
+    by false e later = later e
+
+-- ---- the promise of an own flush may be installed
+
+all-same : (l : List Address) → pointwise same_address l l ≡ true
+all-same [] = refl
+all-same (x ∷ l) = ap (λ b. b && pointwise same_address l l) (same_address-refl x) ∙ all-same l
+
+installs-own : (w : View) (p : PromiseModel) → p.proposal ≡ Some w → p.is_installed ≡ false → may_install w p ≡ true
+installs-own w p promise waiting =
+    ap (λ (o : Option View). option_map_or (λ v. same_view w v && not p.is_installed) o false) promise
+    ∙ ap (λ b. same_view w w && not b) waiting
+    ∙ ap (λ b. (b && pointwise same_address w.members w.members) && true) (same_view_id-refl w.id)
+    ∙ ap (λ b. b && true) (all-same w.members)
+
+-- a promise of a member that is installed
+abbrev pub installed_as : Address → View → PromiseModel
+installed_as me w = record { member = me; proposal = Some w; is_installed = true }
+
+pub own-installed : (me : Address) (w : View) (p : PromiseModel) → p.member ≡ me → p.proposal ≡ Some w → p.is_installed ≡ false → after_install w p ≡ installed_as me w
+own-installed me w p own promise waiting =
+    cond-true (may_install w p) (installing p) p (installs-own w p promise waiting)
+    ∙ ap (λ (q : Address). record { member = q; proposal = p.proposal; is_installed = true }) own
+    ∙ ap (λ (o : Option View). record { member = me; proposal = o; is_installed = true }) promise
+
+pub other-installed : (me : Address) (w : View) (p : PromiseModel) → p.member ≡ me → may_install w p ≡ true → after_install w p ≡ installed_as me w
+other-installed me w p own may =
+    let x = only-the-promised w p may in
+    own-installed me w p own x.0 x.1
+
+-- ---- what was kept
+
+-- what was kept before it is kept with the same view
+kept-on : {S : Type 0} (group : List ℕ) (me : Address) (l new : MemberState S) → new.sent_installs ≡ l.sent_installs → new.view_state ≡ l.view_state → IsKept group me l → IsKept group me new
+kept-on group me l new kept view_state k = record {
+  given = k.given;
+  spelled = ap (λ v. v.items) kept ∙ k.spelled;
+  sound = k.sound;
+  current = subst (λ (t : Option ViewState). AllByRecursion (λ p. view_in t ≡ Some p.1.view) k.given) (sym view_state) k.current;
+}
+
+nothing-kept : {S : Type 0} (group : List ℕ) (me : Address) (l : MemberState S) → l.sent_installs.items ≡ [] → IsKept group me l
+nothing-kept group me l e = record { given = []; spelled = e; sound = tt; current = tt }
+
+-- each INSTALL of a flush, with whom it is for
+abbrev pub given_by : FlushModel → ViewId → List ℕ → List Address → List (Address × wire.Install)
+given_by f v state list = map (λ q. (q, instruction_to f v state q)) list
+
+pub given-packets : (me : Address) (f : FlushModel) (v : ViewId) (state : List ℕ) (list : List Address) → map (install_packet me) (given_by f v state list) ≡ map (instructing me f v state) list
+given-packets me f v state [] = refl
+given-packets me f v state (q ∷ list) = ap (λ l. instructing me f v state q ∷ l) (given-packets me f v state list)
+
+all-current : (f : FlushModel) (v : ViewId) (state : List ℕ) (list : List Address) (o : Option View) → o ≡ Some (proposed f) → AllByRecursion (λ p. o ≡ Some p.1.view) (given_by f v state list)
+all-current f v state [] o e = tt
+all-current f v state (q ∷ list) o e = (e, all-current f v state list o e)
+
+-- ---- a first view of itself alone
+
+outside : (view_state : Option ViewState) (b : Bool) → is_some view_state || b ≡ false → view_state ≡ None
+outside None b e = refl
+outside (Some t) b e = absurd (let n : true ≡ false = e in cc)
+
+none-given : (view : Option View) (given : List (Address × wire.Install)) → view ≡ None → AllByRecursion (λ p. view ≡ Some p.1.view) given → given ≡ []
+none-given view [] e all = refl
+none-given view (p ∷ given) e all = absurd (none-some p.1.view (sym e ∙ all.0))
+
+-- a member that promised nothing promises and installs such a view
+pub created-promise : (me : Address) (p : PromiseModel) → p.member ≡ me → p.proposal ≡ None → after_install (lone_view me) (after_offer (lone_view me) p) ≡ installed_as me (lone_view me)
+created-promise me p own none =
+    let w = lone_view me in
+    let stands : stands_in p.member w.members ≡ true = ap (λ b. b || false) (ap (λ q. same_address q me) own ∙ same_address-refl me) in
+    let accepted : is_accept (offered w p) ≡ true =
+    ap (λ b. is_accept (cond b (option_map_or (λ v. answer_past (view_id_cmp w.id v.id) v p.is_installed) p.proposal Accept) Ignore)) stands
+    ∙ ap (λ (o : Option View). is_accept (option_map_or (λ v. answer_past (view_id_cmp w.id v.id) v p.is_installed) o Accept)) none in
+    ap (after_install w) (cond-true (is_accept (offered w p)) (promising w p) p accepted) ∙ own-installed me w (promising w p) own refl refl
+
+module _ {S : Type 0} (group : List ℕ) (me : Address) where
+  -- ---- at its start
+
+  pub idle-is-member_state : (s : S) (l : MemberState S) → idle_member me s l → IsMemberState group me l
+  idle-is-member_state s l i =
+      let none : l.promise.proposal ≡ None = ap (λ (p : PromiseModel). p.proposal) i.promise in
+      record {
+        own = ap (λ (p : PromiseModel). p.member) i.promise;
+        unsuspected = ap (λ (b : NotesModel). stands_in me b.suspects) i.notes;
+        inside = λ v e. absurd (none-some v (sym (ap view_in i.view_state) ∙ e));
+        unconnected = λ e. none;
+        listed = λ w e. absurd (none-some w (sym none ∙ e));
+        waiting = λ e f w q. absurd (none-some w (sym none ∙ q));
+        installed = λ e. not-both l.promise.is_installed e (ap (λ (p : PromiseModel). p.is_installed) i.promise);
+        flushing = λ f e. absurd (none-some f (sym i.flush ∙ e));
+        sent_installs = nothing-kept group me l i.sent_installs;
+      }
+
+  -- ---- a FLUSH is promised
+
+  pub promised-member_state : (l new : MemberState S) (w : View) (out later : Output) → IsMemberState group me l → is_connected l ≡ true → same_address w.id.creator me ≡ false
+      → is_accept (offered w l.promise) ≡ true → Promises group me w l new out later → IsMemberState group me new
+  promised-member_state l new w out later kept on other accepted p =
+      let listed : stands_in l.promise.member w.members ≡ true = (accepted-parts (stands_in l.promise.member w.members) _ accepted).0 in
+      subst (λ (z : MemberState S). IsMemberState group me z) (sym p.member_state) (record {
+        own = kept.own;
+        unsuspected = kept.unsuspected;
+        inside = kept.inside;
+        unconnected = λ e. not-both (is_connected l) on e;
+        listed = λ v e. subst (λ (z : View). stands_in me z.members ≡ true) (same_Some w v e) (subst (λ (q : Address). stands_in q w.members ≡ true) kept.own listed);
+        waiting = λ e f v q. subst (λ (z : View). same_address z.id.creator me ≡ false) (same_Some w v q) other;
+        installed = λ e. absurd (let n : false ≡ true = e in cc);
+        flushing = λ f e. absurd (none-some f e);
+        sent_installs = kept-on group me l _ refl refl kept.sent_installs;
+      })
+
+  -- ---- a flush of its own begins
+
+  begun-flushing : (l : MemberState S) (w : View) → IsProposal me l w → (z : MemberState S) → z.view_state ≡ l.view_state → z.promise ≡ promising w l.promise → z.notes ≡ l.notes → IsFlushing me z (begun_with me w (report_in l))
+  begun-flushing l w p z view_state promise notes = record {
+    inside = ap is_some view_state ∙ inside-some l.view_state p.before p.inside;
+    promise = ap (λ (x : PromiseModel). x.proposal) promise;
+    own = p.own;
+    waiting = ap (λ (x : PromiseModel). x.is_installed) promise;
+    list = p.sound;
+    reported = ap (λ b. is_some (cond b (Some (report_in l)) None)) (same_address-refl me);
+    leads = λ v e.
+        let same : p.before ≡ v = same_Some p.before v (sym p.inside ∙ sym (ap view_in view_state) ∙ e) in
+        ap (leads_in me v) notes ∙ subst (λ (u : View). leads_in me u l.notes ≡ true) same p.leads;
+  }
+
+  pub begun-member_state : (l new : MemberState S) (w : View) (out later : Output) → IsMemberState group me l → IsProposal me l w → Begins group me w l new out later → IsMemberState group me new
+  begun-member_state l new w out later kept p b =
+      subst (λ (z : MemberState S). IsMemberState group me z) (sym b.member_state) (record {
+        own = kept.own;
+        unsuspected = kept.unsuspected;
+        inside = kept.inside;
+        unconnected = λ e. not-both (is_connected l) (connected-by l.view_state (is_some l.contact) (inside-some l.view_state p.before p.inside)) e;
+        listed = λ v e. subst (λ (z : View). stands_in me z.members ≡ true) (same_Some w v e) p.listed;
+        waiting = λ e f. absurd (none-some (begun_with me w (report_in l)) (sym f));
+        installed = λ e. absurd (let n : false ≡ true = e in cc);
+        flushing = λ f e. subst (λ (g : FlushModel). IsFlushing me (record l { promise = promising w l.promise; flush = Some (begun_with me w (report_in l)) }) g)
+            (same_Some (begun_with me w (report_in l)) f e) (begun-flushing l w p _ refl refl refl);
+        sent_installs = kept-on group me l _ refl refl kept.sent_installs;
+      })
+
+  -- ---- a view is entered
+
+  -- in a view that is the promised one, with no notes of suspects
+  pub gone-member_state : (new : MemberState S) (w : View) → new.view_state ≡ Some (fresh_in me w) → new.promise ≡ installed_as me w → new.flush ≡ None → new.notes.suspects ≡ [] → stands_in me w.members ≡ true
+      → IsKept group me new → IsMemberState group me new
+  gone-member_state new w view_state promise flush suspects stands kept =
+      let view : view_in new.view_state ≡ Some w = ap view_in view_state ∙ ap Some (fresh-view me w) in
+      let proposal : new.promise.proposal ≡ Some w = ap (λ (p : PromiseModel). p.proposal) promise in
+      record {
+        own = ap (λ (p : PromiseModel). p.member) promise;
+        unsuspected = ap (stands_in me) suspects;
+        inside = λ v e. subst (λ (z : View). stands_in me z.members ≡ true) (same_Some w v (sym view ∙ e)) stands;
+        unconnected = λ e. not-both (is_connected new) (connected-by new.view_state (is_some new.contact) (ap is_some view_state)) e;
+        listed = λ v e. subst (λ (z : View). stands_in me z.members ≡ true) (same_Some w v (sym proposal ∙ e)) stands;
+        waiting = λ e f. not-both new.promise.is_installed (ap (λ (p : PromiseModel). p.is_installed) promise) e;
+        installed = λ e. view ∙ sym proposal;
+        flushing = λ f e. absurd (none-some f (sym flush ∙ e));
+        sent_installs = kept;
+      }
+
+  -- it goes into its own proposal
+  pub finished-member_state : (meaning : Meaning S) (f : FlushModel) (t : ViewState) (l old new : MemberState S) (out later : Output) → IsMemberState group me l → l.flush ≡ Some f
+      → old.promise ≡ l.promise → Finishes meaning group me f t old new out later → IsMemberState group me new
+  finished-member_state meaning f t l old new out later kept flush same z =
+      let x = kept.flushing f flush in
+      let state = meaning.encode (finished_state meaning f t old.receiver) in
+      let same_packets = given-packets me f (view_of t).id state (others_of me f.members) in
+      let view_state : new.view_state ≡ Some (fresh_in me (proposed f)) = ap (λ (n : MemberState S). n.view_state) z.member_state in
+      let promise : after_install (proposed f) old.promise ≡ installed_as me (proposed f) =
+      own-installed me (proposed f) old.promise (ap (λ (p : PromiseModel). p.member) same ∙ kept.own) (ap (λ (p : PromiseModel). p.proposal) same ∙ x.promise) (ap (λ (p : PromiseModel). p.is_installed) same ∙ x.waiting) in
+      gone-member_state new (proposed f) view_state (ap (λ (n : MemberState S). n.promise) z.member_state ∙ promise) (ap (λ (n : MemberState S). n.flush) z.member_state) (ap (λ (n : MemberState S). n.notes.suspects) z.member_state)
+      (subst (λ (p : Address). stands_in p f.members ≡ true) x.own (coordinator-in f.proposal f.members x.list))
+      (record {
+        given = given_by f (view_of t).id state (others_of me f.members);
+        spelled = z.sent_installs ∙ ap (map (spelled group)) (sym same_packets);
+        sound = subst (λ ps. AllByRecursion (λ m. IsPacket (packet_in group m)) ps) (sym same_packets) z.grows.sound;
+        current = all-current f (view_of t).id state (others_of me f.members) (view_in new.view_state) (ap view_in view_state ∙ ap Some (fresh-view me (proposed f)));
+      })
+
+  -- all have reported: it goes into its own proposal, and proposes what is due then
+  pub goes-on : (meaning : Meaning S) (old mid new : MemberState S) (f : FlushModel) (t : ViewState) (out between later : Output) → old.flush ≡ Some f → old.view_state ≡ Some t
+      → option_map_or is_complete old.flush false ≡ true → Finishes meaning group me f t old mid out between → ProposesIf group me mid new between later → GoesOn meaning group me old new out later
+  goes-on meaning old mid new f t out between later flush view_state complete finishes proposes =
+      let all : is_complete f ≡ true = subst (λ (o : Option FlushModel). option_map_or is_complete o false ≡ true) flush complete in
+      let then : FinishesAndProposes meaning group me f t old new out later = record { mid = mid; between = between; finishes = finishes; proposes = proposes } in
+      let inside : MatchOption old.view_state ⊥ (λ u. FinishesAndProposes meaning group me f u old new out later) =
+      subst (λ (o : Option ViewState). MatchOption o ⊥ (λ u. FinishesAndProposes meaning group me f u old new out later)) (sym view_state) then in
+      let done : MatchBool (is_complete f) (MatchOption old.view_state ⊥ (λ u. FinishesAndProposes meaning group me f u old new out later)) (StaysAs old new out later) =
+      subst (λ (b : Bool). MatchBool b (MatchOption old.view_state ⊥ (λ u. FinishesAndProposes meaning group me f u old new out later)) (StaysAs old new out later)) (sym all) inside in
+      subst (λ (o : Option FlushModel). MatchOption o (StaysAs old new out later)
+      (λ g. MatchBool (is_complete g) (MatchOption old.view_state ⊥ (λ u. FinishesAndProposes meaning group me g u old new out later)) (StaysAs old new out later))) (sym flush) done
+
+  -- it enters the view of another
+  pub entered-member_state : (meaning : Meaning S) (q : Address) (i : wire.Install) (view_state : Option ViewState) (l old new : MemberState S) (out later : Output)
+      → IsMemberState group me l → is_entry (core_of me l) q i ≡ true → old.promise ≡ l.promise → Enters meaning group me view_state i old new out later → IsMemberState group me new
+  entered-member_state meaning q i view_state l old new out later kept enters same z =
+      let parts = and_parts (same_address q i.view.id.creator && may_install i.view l.promise) (is_fitting (view_in l.view_state) (view_core_in l.view_state).delivered i) enters in
+      let may : may_install i.view l.promise ≡ true = (and_parts (same_address q i.view.id.creator) (may_install i.view l.promise) parts.0).1 in
+      let promise : after_install i.view old.promise ≡ installed_as me i.view = ap (after_install i.view) same ∙ other-installed me i.view l.promise kept.own may in
+      gone-member_state new i.view (ap (λ (n : MemberState S). n.view_state) z.member_state) (ap (λ (n : MemberState S). n.promise) z.member_state ∙ promise) (ap (λ (n : MemberState S). n.flush) z.member_state) (ap (λ (n : MemberState S). n.notes.suspects) z.member_state)
+      (kept.listed i.view (only-the-promised i.view l.promise may).0) (nothing-kept group me new z.sent_installs)
+
+  -- a member whose flush and view are these
+  pub whole-member_state : (l : MemberState S) (f : FlushModel) (t : ViewState) → l.flush ≡ Some f → l.view_state ≡ Some t → IsMemberState group me l → IsMemberState group me (record l { flush = Some f; view_state = Some t })
+  whole-member_state l f t flush view_state kept =
+      let same : l ≡ record l { flush = Some f; view_state = Some t } = λ j. record l { flush = flush j; view_state = view_state j } in
+      subst (λ (z : MemberState S). IsMemberState group me z) same kept
+
+  -- ---- a report is recorded
+
+  recorded-flushing : (l : MemberState S) (q : Address) (w : ViewId) (r : wire.Report) (f : FlushModel) (b d : Bool) (o : Option FlushModel) → IsFlushing me l f
+      → IsFlushing me (record l { flush = o }) (cond b (cond d (record f { reports = f.reports ++ (q, r) ∷ [] }) f) f)
+  recorded-flushing l q w r f true true o x = record { inside = x.inside; promise = x.promise; own = x.own; waiting = x.waiting; list = x.list; reported = reported-more me f.reports ((q, r) ∷ []) x.reported; leads = x.leads }
+  recorded-flushing l q w r f true false o x = record { inside = x.inside; promise = x.promise; own = x.own; waiting = x.waiting; list = x.list; reported = x.reported; leads = x.leads }
+  recorded-flushing l q w r f false d o x = record { inside = x.inside; promise = x.promise; own = x.own; waiting = x.waiting; list = x.list; reported = x.reported; leads = x.leads }
+
+  recorded-by : (l : MemberState S) (q : Address) (w : ViewId) (r : wire.Report) (flush : Option FlushModel) → l.flush ≡ flush → IsMemberState group me l → IsMemberState group me (record l { flush = option_map (recording q w r) flush })
+  recorded-by l q w r None e kept = record {
+    own = kept.own;
+    unsuspected = kept.unsuspected;
+    inside = kept.inside;
+    unconnected = kept.unconnected;
+    listed = kept.listed;
+    waiting = λ i f. kept.waiting i e;
+    installed = kept.installed;
+    flushing = λ f same. absurd (none-some f same);
+    sent_installs = kept-on group me l _ refl refl kept.sent_installs;
+  }
+  recorded-by l q w r (Some f) e kept = record {
+    own = kept.own;
+    unsuspected = kept.unsuspected;
+    inside = kept.inside;
+    unconnected = kept.unconnected;
+    listed = kept.listed;
+    waiting = λ i none. absurd (none-some (recording q w r f) (sym none));
+    installed = kept.installed;
+    flushing = λ g same. subst (λ (z : FlushModel). IsFlushing me (record l { flush = Some (recording q w r f) }) z) (same_Some (recording q w r f) g same)
+        (recorded-flushing l q w r f (same_view_id f.proposal w) (is_awaited q f) (Some (recording q w r f)) (kept.flushing f e));
+    sent_installs = kept-on group me l _ refl refl kept.sent_installs;
+  }
+
+  pub recorded-member_state : (l new : MemberState S) (q : Address) (w : ViewId) (r : wire.Report) → IsMemberState group me l → new ≡ record l { flush = option_map (recording q w r) l.flush } → IsMemberState group me new
+  recorded-member_state l new q w r kept is = subst (λ (z : MemberState S). IsMemberState group me z) (sym is) (recorded-by l q w r l.flush refl kept)
+
+  -- ---- notes
+
+  -- notes by which it does not suspect itself, and goes on to lead where it led
+  pub noted-member_state : (l new : MemberState S) (b : NotesModel) → IsMemberState group me l → new ≡ record l { notes = b } → stands_in me b.suspects ≡ false
+      → ((v : View) → leads_in me v l.notes ≡ true → leads_in me v b ≡ true) → IsMemberState group me new
+  noted-member_state l new b kept is free leads = subst (λ (z : MemberState S). IsMemberState group me z) (sym is) (record {
+    own = kept.own;
+    unsuspected = free;
+    inside = kept.inside;
+    unconnected = kept.unconnected;
+    listed = kept.listed;
+    waiting = kept.waiting;
+    installed = kept.installed;
+    flushing = λ f e. let x = kept.flushing f e in
+        record { inside = x.inside; promise = x.promise; own = x.own; waiting = x.waiting; list = x.list; reported = x.reported; leads = λ v i. leads v (x.leads v i) };
+    sent_installs = kept-on group me l _ refl refl kept.sent_installs;
+  })
+
+  -- ---- a new contact
+
+  pub contact-member_state : (l new : MemberState S) (q : Address) → IsMemberState group me l → new ≡ record l { contact = Some q } → IsMemberState group me new
+  contact-member_state l new q kept is = subst (λ (z : MemberState S). IsMemberState group me z) (sym is) (record {
+    own = kept.own;
+    unsuspected = kept.unsuspected;
+    inside = kept.inside;
+    unconnected = λ e. not-both (is_some l.view_state || true) (or-true (is_some l.view_state)) e;
+    listed = kept.listed;
+    waiting = kept.waiting;
+    installed = kept.installed;
+    flushing = λ f e. let x = kept.flushing f e in
+        record { inside = x.inside; promise = x.promise; own = x.own; waiting = x.waiting; list = x.list; reported = x.reported; leads = x.leads };
+    sent_installs = kept-on group me l _ refl refl kept.sent_installs;
+  })
+
+  -- ---- a first view of itself alone
+
+  unflushed : (flush : Option FlushModel) (l : MemberState S) → l.flush ≡ flush → l.view_state ≡ None → IsMemberState group me l → flush ≡ None
+  unflushed None l e none kept = refl
+  unflushed (Some f) l e none kept = not-both (is_some l.view_state) (kept.flushing f e).inside (ap is_some none)
+
+  pub created-member_state : (l new : MemberState S) → IsMemberState group me l → is_connected l ≡ false → new ≡ record l { view_state = Some (fresh_in me (lone_view me)); promise = installed_as me (lone_view me) } → IsMemberState group me new
+  created-member_state l new kept off is =
+      let none : l.view_state ≡ None = outside l.view_state (is_some l.contact) off in
+      let no-items : l.sent_installs.items ≡ [] = kept.sent_installs.spelled ∙ ap (λ g. map (spelled group) (map (install_packet me) g)) (none-given (view_in l.view_state) kept.sent_installs.given (ap view_in none) kept.sent_installs.current) in
+      let view_state : new.view_state ≡ Some (fresh_in me (lone_view me)) = ap (λ (n : MemberState S). n.view_state) is in
+      let promise : new.promise ≡ installed_as me (lone_view me) = ap (λ (n : MemberState S). n.promise) is in
+      let view : view_in new.view_state ≡ Some (lone_view me) = ap view_in view_state ∙ ap Some (fresh-view me (lone_view me)) in
+      let proposal : new.promise.proposal ≡ Some (lone_view me) = ap (λ (p : PromiseModel). p.proposal) promise in
+      let stands : stands_in me (lone_view me).members ≡ true = ap (λ b. b || false) (same_address-refl me) in
+      let flush : new.flush ≡ None = ap (λ (n : MemberState S). n.flush) is ∙ unflushed l.flush l refl none kept in
+      record {
+        own = ap (λ (p : PromiseModel). p.member) promise;
+        unsuspected = ap (λ (n : MemberState S). stands_in me n.notes.suspects) is ∙ kept.unsuspected;
+        inside = λ v e. subst (λ (z : View). stands_in me z.members ≡ true) (same_Some (lone_view me) v (sym view ∙ e)) stands;
+        unconnected = λ e. not-both (is_connected new) (connected-by new.view_state (is_some new.contact) (ap is_some view_state)) e;
+        listed = λ v e. subst (λ (z : View). stands_in me z.members ≡ true) (same_Some (lone_view me) v (sym proposal ∙ e)) stands;
+        waiting = λ e f. not-both new.promise.is_installed (ap (λ (p : PromiseModel). p.is_installed) promise) e;
+        installed = λ e. view ∙ sym proposal;
+        flushing = λ f e. absurd (none-some f (sym flush ∙ e));
+        sent_installs = nothing-kept group me new (ap (λ (n : MemberState S). n.sent_installs.items) is ∙ no-items);
+      }

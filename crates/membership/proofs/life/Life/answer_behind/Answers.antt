@@ -1,6 +1,0 @@
-use Rattle.std.proofs.Common.{rules}
-use Rattle.membership.proofs.FactOfBehind.{answered-behind}
-use Rattle.membership.proofs.life.Life.answer_behind.Goals as goal
-
-pub returns : goal.returns
-returns g c = answered-behind c.args.who.now.group c.args.who.now.address c.args.proposal.now c.unwrap-promised.result.now c.args.self.now c.args.out.now c.put.new.out (search rules) (search rules) (search rules)

@@ -1,0 +1,15 @@
+use Rattle.std.proofs.Common.{ap, subst, rules}
+use Rattle.next_view.specs.Notes.{NotesModel}
+use Rattle.membership.specs.Changes.{BeginsAnew}
+use Rattle.membership.proofs.KeepNotes.{heard-member_state}
+use Rattle.membership.proofs.member_state.MemberState.take_behind.Goals as goal
+
+pub begin_anew-requires : goal.begin_anew-requires
+begin_anew-requires g c = record {
+  member_state = heard-member_state c.args.who.now.group c.args.who.now.address c.args.self.now _ c.args.counter c.requires.member_state (ap (λ (b : NotesModel). record c.args.self.now { notes = b }) (search rules));
+}
+
+pub returns-clause-takes : goal.returns-clause-takes
+returns-clause-takes g c =
+    subst (λ (b : NotesModel). BeginsAnew g.R.Receiver.meaning c.args.who.now.group c.args.who.now.address (record c.args.self.now { notes = b }) c.begin_anew.new.self c.args.out.now c.begin_anew.new.out)
+    (search rules) c.in_ok-begin_anew.ensures.begins

@@ -1,0 +1,155 @@
+-- A member while it runs: what it decides by, and what always holds of it.
+use Rattle.std.specs.Prelude.{◌≡◌, ℕ, Bool, true, false, ◌&&◌, ◌||◌, is_some, List, [], ◌∷◌, map, Option, None, Some, Result, Ok, Err, IsSome, if◌then◌else◌}
+use Rattle.std.specs.Option.{ForSome, option_map, option_map_or, option_and_then}
+use Rattle.std.specs.List.{list_all, filter_map, AllByRecursion}
+use Rattle.address.specs.Ids.{Address, ViewId, same_address, same_view_id}
+use Rattle.view.specs.Members.{View, stands_in}
+use Rattle.view.specs.View.{view_refusal}
+use Rattle.suspicion.specs.Suspicion.{leads}
+use Rattle.next_view.specs.Notes.{NotesModel, no_notes}
+use Rattle.wire_values.specs.Values as wire
+use Rattle.wire_values.specs.declared.error.WireError.{WireError}
+use Rattle.wire_values.specs.declared.packet.Packet.{Packet}
+use Rattle.wire_values.specs.declared.packet.Body.TheVariants as bodies
+use Rattle.wire.specs.Packets.{IsPacket, packet_of}
+use Rattle.trace_props.specs.declared.event.Event.{Event}
+use Rattle.trace_props.specs.declared.event.Event.TheVariants.{Blocked}
+use Rattle.flush.specs.Flushes.{FlushModel, reported, has_reported, is_awaited}
+use Rattle.acts.specs.Histories.{Posted}
+use Rattle.acts.specs.Cores as cores
+use Rattle.acts.specs.Cores.{Core, fresh_view_core, report_with, is_open}
+use Rattle.acts.specs.Acts.{packet, proposed}
+use Rattle.decisions.specs.Decisions.{proposal_after}
+use Rattle.step_output.specs.declared.output.Outgoing.{Outgoing}
+use Rattle.step_output.specs.Outputs.{packet_in, spelled}
+use Rattle.traffic.specs.declared.view_state.ViewState.{ViewState}
+use Rattle.traffic.specs.ViewStates.{view_of, view_core_of}
+use Rattle.membership.specs.declared.member_state.MemberState.{MemberState}
+use Rattle.wire_values.specs.Kinds.{install_said}
+
+-- ---- its core, in the words of agreement
+
+abbrev pub view_in : Option ViewState → Option View
+view_in view_state = option_map view_of view_state
+
+abbrev pub view_core_in : Option ViewState → cores.ViewCore
+view_core_in view_state = option_map_or view_core_of view_state fresh_view_core
+
+abbrev pub is_connected : {S : Type 0} → MemberState S → Bool
+is_connected l = is_some l.view_state || is_some l.contact
+
+abbrev pub said_by : Result Packet WireError → Option (Address × wire.Install)
+said_by (Ok p) = option_map (λ i. (p.destination, i)) (install_said p.body)
+said_by (Err e) = None
+
+-- the INSTALLs that kept bytes spell, each with whom it is for
+abbrev pub sent_installs_in : List Outgoing → List (Address × wire.Install)
+sent_installs_in packets = filter_map (λ o. said_by (packet_of o.bytes)) packets
+
+-- what it decides by
+abbrev pub core_of : {S : Type 0} → Address → MemberState S → Core S
+core_of me l = record {
+  me = me;
+  connected = is_connected l;
+  promise = l.promise.proposal;
+  installed = l.promise.is_installed;
+  view = view_in l.view_state;
+  view_state = view_core_in l.view_state;
+  flush = l.flush;
+  sent_installs = sent_installs_in l.sent_installs.items;
+  state = l.receiver;
+}
+
+-- ---- what it says
+
+-- its report
+abbrev pub report_in : {S : Type 0} → MemberState S → wire.Report
+report_in l = report_with (view_in l.view_state) (view_core_in l.view_state)
+
+-- where it is open it is blocked from now on
+abbrev pub blocked_by : {S : Type 0} → Address → MemberState S → List Event
+blocked_by me l = if is_open (view_in l.view_state) l.promise.is_installed then Blocked me ∷ [] else []
+
+-- a flush that begins, with this report of the member's own
+abbrev pub begun_with : Address → View → wire.Report → FlushModel
+begun_with me w r = record { proposal = w.id; members = w.members; reports = (me, r) ∷ [] }
+
+-- whether a packet that is kept is for this address
+abbrev pub is_sent_to : Address → Outgoing → Bool
+is_sent_to q o = same_address o.destination q
+
+-- ---- its own flush
+
+-- all of its list have reported
+abbrev pub is_complete : FlushModel → Bool
+is_complete f = list_all (λ m. has_reported m f.reports) f.members
+
+-- a report of this address is awaited for this proposal
+abbrev pub is_expected : Address → ViewId → FlushModel → Bool
+is_expected q w f = same_view_id f.proposal w && is_awaited q f
+
+-- the flush with one report more, where it is awaited
+abbrev pub recording : Address → ViewId → wire.Report → FlushModel → FlushModel
+recording q w r f = if same_view_id f.proposal w then reported q r f else f
+
+-- what it proposes anew while its own flush goes on
+abbrev pub anew_proposal : {S : Type 0} → Address → MemberState S → Option View
+anew_proposal me l = option_and_then (λ v. if is_some l.flush then proposal_after (core_of me l) l.notes v else None) (view_in l.view_state)
+
+-- ---- at its start
+
+-- it asks nobody, is in no view, has promised nothing, and notes nobody
+pub record idle_member {S : Type 0} (me : Address) (s : S) (l : MemberState S) : Type 0 where
+  pub contact : l.contact ≡ None
+  pub view_state : l.view_state ≡ None
+  pub promise : l.promise ≡ record { member = me; proposal = None; is_installed = false }
+  pub flush : l.flush ≡ None
+  pub sent_installs : l.sent_installs.items ≡ []
+  pub receiver : l.receiver ≡ s
+  pub notes : l.notes ≡ no_notes
+
+-- ---- what always holds
+
+-- it leads a view, by what it notes
+abbrev pub leads_in : Address → View → NotesModel → Bool
+leads_in me v b = leads b.suspects v.members me
+
+-- its own flush is of what it promised and did not install, in a view that it leads, and has its own report
+pub record IsFlushing {S : Type 0} (me : Address) (l : MemberState S) (f : FlushModel) : Type 0 where
+  pub inside : IsSome l.view_state
+  pub promise : l.promise.proposal ≡ Some (proposed f)
+  pub own : f.proposal.creator ≡ me
+  pub waiting : l.promise.is_installed ≡ false
+  pub list : view_refusal f.proposal f.members ≡ None
+  pub reported : has_reported me f.reports ≡ true
+  pub leads : ForSome (view_in l.view_state) (λ v. leads_in me v l.notes ≡ true)
+
+-- a packet of its own that gives an INSTALL
+abbrev pub install_packet : Address → Address × wire.Install → Posted
+install_packet me p = packet me (bodies.Install p.1) p.0
+
+-- what it kept are INSTALLs of its view, to others, as it spelled them
+pub record IsKept {S : Type 0} (group : List ℕ) (me : Address) (l : MemberState S) : Type 0 where
+  pub given : List (Address × wire.Install)
+  pub spelled : l.sent_installs.items ≡ map (spelled group) (map (install_packet me) given)
+  pub sound : AllByRecursion (λ m. IsPacket (packet_in group m)) (map (install_packet me) given)
+  pub current : AllByRecursion (λ p. view_in l.view_state ≡ Some p.1.view) given
+
+-- what always holds of a member that runs, as its acts need it
+pub record IsMemberState {S : Type 0} (group : List ℕ) (me : Address) (l : MemberState S) : Type 0 where
+  -- its promise is its own
+  pub own : l.promise.member ≡ me
+  -- it never suspects itself
+  pub unsuspected : stands_in me l.notes.suspects ≡ false
+  -- it stands in its view
+  pub inside : ForSome (view_in l.view_state) (λ v. stands_in me v.members ≡ true)
+  -- before it is connected it has promised nothing, and has no flush
+  pub unconnected : is_connected l ≡ false → l.promise.proposal ≡ None
+  -- it stands in what it promised
+  pub listed : ForSome l.promise.proposal (λ w. stands_in me w.members ≡ true)
+  -- what it promised and did not install, without a flush of its own, another proposed
+  pub waiting : l.promise.is_installed ≡ false → l.flush ≡ None → ForSome l.promise.proposal (λ w. same_address w.id.creator me ≡ false)
+  -- where what it promised is installed, it is in that view
+  pub installed : l.promise.is_installed ≡ true → view_in l.view_state ≡ l.promise.proposal
+  pub flushing : ForSome l.flush (IsFlushing me l)
+  pub sent_installs : IsKept group me l

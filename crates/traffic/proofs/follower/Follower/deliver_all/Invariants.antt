@@ -1,0 +1,13 @@
+use Rattle.std.proofs.Common.{Option, ◌+◌, ◌-◌}
+use Rattle.limits.specs.declared.TheConstants.{WINDOW}
+use Rattle.acts.specs.Histories.{Posted}
+use Rattle.traffic.specs.Goings.{FollowerGoes}
+use Rattle.traffic.specs.Takes.{DeliversHeld}
+use Rattle.traffic.proofs.follower.Follower.deliver_all.Given as goal
+
+abbrev pub invariant-loop : goal.invariant-loop
+invariant-loop g l = ((came : Option Posted) → FollowerGoes g.R.Receiver.meaning came l.who.address l.who.group l.fn.self l.fn.receiver l.fn.out l.self l.receiver l.out)
+    × DeliversHeld g.R.Receiver.meaning l.who.address l.who.group l.fn.self l.fn.receiver l.fn.out l.self l.receiver l.out
+
+abbrev pub decreases-loop : goal.decreases-loop
+decreases-loop g l = l.self.window.stable + WINDOW - l.self.window.delivered

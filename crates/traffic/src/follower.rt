@@ -1,0 +1,28 @@
+ghost use Rattle.std.specs.Prelude.{◌≡◌, IfOk};
+ghost use Rattle.traffic.specs.ViewStates.{fresh_follower};
+
+use nak_stream::Window;
+use sequencer::Forwards;
+use std::alloc::{AllocError, Global};
+use view::View;
+
+/// What a member of a view other than its coordinator keeps of it: the view, the window of its messages, and its own messages that are outstanding.
+#[derive(Debug, Drop)]
+pub struct Follower {
+    pub view: View,
+    pub window: Window,
+    pub forwards: Forwards,
+}
+
+impl Follower {
+    /// In a new view: nothing was sent, and nothing came. An error comes for want of memory.
+    pub fn fresh(alloc: Global, view: View) -> Result<Follower, AllocError>
+        ensures { IfOk result (λ m. m ≡ fresh_follower view) }
+    {
+        Ok(Follower {
+            view,
+            window: Window::new(alloc)?,
+            forwards: Forwards::new(alloc),
+        })
+    }
+}

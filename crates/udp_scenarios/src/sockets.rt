@@ -1,0 +1,147 @@
+//! Members over sockets of this machine.
+
+use crate::lines::{put_number, put_refusal, put_truth};
+use address::Node;
+use chat_log::ChatLog;
+use commands::{Status, run_check};
+use std::alloc::{AllocError, Global};
+use udp_net::{BindError, Settings, SocketNet, settings};
+use udp_runs::{Loopback, run_udp};
+
+/// The settings of nodes 1 to 4, with 50 rounds of silence.
+pub const FOUR: &str =
+    "group = \"chat\"\nsilent = 50\n[[node]]\nnumber = 1\nport = 47401\n[[node]]\nnumber = 2\nport = 47402\n[[node]]\nnumber = 3\nport = 47403\n[[node]]\nnumber = 4\nport = 47404\n";
+
+/// Four that part into two pairs, send on each side, and merge.
+const MERGE: &[u8] =
+    b"start 1\nstart 2\nstart 3\nstart 4\ncreate 1\njoin 2 1.1\njoin 3 1.1\njoin 4 1.1\nrounds 20\nsuspect 1 3.1\nsuspect 1 4.1\nsuspect 3 1.1\nsuspect 3 2.1\nrounds 20\nsend 1 a\nsend 3 b\nrounds 20\nhint 3 1.1\nrounds 20\n";
+
+/// How their text ends.
+pub const MERGED: &[u8] = b"chat 1.1 1.1:61\nchat 2.1 1.1:61\nchat 3.1 1.1:61\nchat 4.1 1.1:61\n";
+
+/// At how many places of ports it is tried, since others may have taken some.
+const PLACES: u16 = 40;
+
+/// Settings of a text that is one of settings.
+pub fn settings_of(alloc: Global, text: &str) -> Result<Settings, AllocError> {
+    match settings(alloc, text) {
+        Ok(found) => Ok(found),
+        Err(_) => Err(AllocError),
+    }
+}
+
+/// The beginning of a text before its chat lines.
+fn trace_of(text: &[u8]) -> &[u8] {
+    let end = text.windows(5).position(|word| word == b"chat ".as_slice());
+    let (trace, _) = text.split_at(end.unwrap_or(text.len()).min(text.len()));
+    trace
+}
+
+/// Whether a text's trace is virtually synchronous.
+pub fn holds(alloc: Global, text: &[u8]) -> bool {
+    let mut reader = trace_of(text);
+    let mut verdict = Vec::new(alloc);
+    let _ = run_check::<ChatLog, _, _>(alloc, &mut reader, &mut verdict);
+    verdict.as_slice() == b"holds\n".as_slice()
+}
+
+/// The settings of nodes 1 to 4 at ports behind this one.
+fn settings_at(alloc: Global, port: u16) -> Result<Settings, AllocError> {
+    let mut text = format!(in alloc; "group = \"chat\"\nsilent = 50\n")?;
+    for number in 1..=4u16 {
+        let at = port.wrapping_add(number);
+        let node = format!(in alloc; "[[node]]\nnumber = {number}\nport = {at}\n")?;
+        text.push_str(node.as_str())?;
+    }
+    settings_of(alloc, text.as_str())
+}
+
+/// The port before the four of a place.
+fn port(place: u16) -> u16 {
+    place.wrapping_mul(8).wrapping_add(47_400)
+}
+
+/// What a script writes over sockets, and its status.
+fn run(rt: &HostRuntime, settings: &Settings, script: &[u8]) -> (Vec<u8>, Status) {
+    let mut machine = Loopback::new(rt.alloc(), rt, settings);
+    let mut text = Vec::new(rt.alloc());
+    let mut reader = script;
+    let status = run_udp::<ChatLog, _, _, _>(
+        rt.alloc(),
+        settings,
+        &mut machine,
+        &mut reader,
+        &mut text,
+    );
+    (text, status)
+}
+
+/// The settings of a place whose four ports are free.
+fn free_settings(rt: &HostRuntime) -> Result<Settings, AllocError> {
+    for place in 0..PLACES {
+        let settings = settings_at(rt.alloc(), port(place))?;
+        let (_, status) = run(rt, &settings, b"start 1\nstart 2\nstart 3\nstart 4\n");
+        if status == Status::Done {
+            return Ok(settings);
+        }
+    }
+    Err(AllocError)
+}
+
+/// The text of a run, of which the trace is judged and the chats are told.
+fn put_judged(
+    alloc: Global,
+    told: &mut Vec<u8>,
+    text: &[u8],
+    status: Status,
+) -> Result<(), AllocError> {
+    put_number(told, "status", u64::from(status.code()))?;
+    put_truth(told, "the trace holds", holds(alloc, text))?;
+    let before = trace_of(text).len();
+    if let Some(chats) = text.get(before..) {
+        told.extend_from_slice(chats)?;
+    }
+    Ok(())
+}
+
+/// Four part and merge over sockets: the trace holds, and then the chats are printed.
+pub fn merge(rt: &HostRuntime, told: &mut Vec<u8>) -> Result<(), AllocError> {
+    let settings = free_settings(rt)?;
+    let (text, status) = run(rt, &settings, MERGE);
+    put_judged(rt.alloc(), told, text.as_slice(), status)
+}
+
+/// The socket of a node.
+fn bound(rt: &HostRuntime, settings: &Settings, number: u16) -> Result<SocketNet, BindError> {
+    match Node::new(number) {
+        Some(node) => SocketNet::bind(rt.alloc(), rt, settings, node),
+        None => Err(BindError::Config),
+    }
+}
+
+/// The number of a refusal; 0 where there is none.
+fn number(answer: &Result<SocketNet, BindError>) -> u8 {
+    match answer {
+        Ok(_) => 0,
+        Err(error) => error.number(),
+    }
+}
+
+/// What comes of the port of node 1 while it is taken, and of a node that is not listed.
+fn put_taken(rt: &HostRuntime, told: &mut Vec<u8>, settings: &Settings) -> Result<(), AllocError> {
+    let second = number(&bound(rt, settings, 1));
+    put_refusal(told, "another at the same port", second)?;
+    let ninth = number(&bound(rt, settings, 9));
+    put_refusal(told, "of a node that is not listed", ninth)?;
+    let (text, status) = run(rt, settings, b"start 2\nstart 1\nstart 3\n");
+    told.extend_from_slice(text.as_slice())?;
+    put_number(told, "status", u64::from(status.code()))
+}
+
+/// A port that is taken, and a node that is not listed.
+pub fn two(rt: &HostRuntime, told: &mut Vec<u8>) -> Result<(), AllocError> {
+    let settings = free_settings(rt)?;
+    let first = bound(rt, &settings, 1);
+    put_refusal(told, "a socket at a port that is free", number(&first))?;
+    put_taken(rt, told, &settings)
+}

@@ -1,9 +1,0 @@
-use Rattle.vsync_runs.specs.Outcomes.{IsRunText}
-use Rattle.vsync_runs.proofs.FactOfTexts.{ran-text, unrun-text}
-use Rattle.vsync_runs.proofs.scripts.run_script.Goals as goal
-
-pub returns-in-Ok : goal.returns-in-Ok
-returns-in-Ok g c = ran-text (IsRunText g.R.Receiver.meaning) _ _ _ _ c.in-Ok.script _ c.in-Ok.ensures c.play.ensures
-
-pub returns-in-Err : goal.returns-in-Err
-returns-in-Err g c = unrun-text (IsRunText g.R.Receiver.meaning) _ _ _ _ c.in-Err.ensures

@@ -1,0 +1,293 @@
+-- What the grammar makes of words, by computing.
+use Rattle.std.proofs.Common.{◌≡◌, ◌==◌, ℕ, Bool, true, false, refl, codes, List, [], ◌∷◌, Option, Some, None, option_map, subst, Result, Ok, Err, inl, inr, IsSomeAnd, IfOk, eqb-true, ap, arith, length, sym, ◌∙◌}
+use Rattle.std.specs.Option.{option_map_or}
+use Rattle.std.specs.Str.{bytes_eq}
+use Rattle.std.proofs.lemmas.Slice.Eq.{bytes_eq-Decides}
+use Rattle.std.proofs.lemmas.Result.{IfOk-weaker}
+use Rattle.std.specs.Result.{IsErrAnd}
+use Rattle.clap.specs.Kinds.{HasKind}
+use Rattle.clap.specs.Words.{FailsBy, Kinds, Row, Text, fault_of, first_of, is_simple_and_free, is_simple, kind_of, subcommand_of}
+use Rattle.clap.specs.declared.error.Error.{Error}
+use Rattle.clap.specs.declared.error.kind.ErrorKind.TheVariants.{OutOfMemory}
+use Rattle.clap.specs.Walk.{is_empty}
+use Rattle.clap.proofs.OnLiterals.{clap_on_literals}
+use Rattle.vsync_words.specs.declared.words.Invocation.{Invocation}
+use Rattle.vsync_words.specs.declared.words.Invocation.TheVariants.{Text as TextOf, Udp, Member}
+use Rattle.vsync_words.specs.declared.words.TextCommand.TheVariants.{World, Chat, Packets, Check}
+use Rattle.vsync_words.specs.Grammar.{IsSaid, is_path, program_app}
+use Rattle.vsync_words.specs.Words.{IsChatOn, IsCheckOn, IsOrNoMemory, IsPacketsOn, IsUdpOn, IsWorldOn}
+
+pub simple : is_simple_and_free program_app ≡ true
+unfolding clap_on_literals
+simple = refl
+
+pub simple_app : is_simple program_app ≡ true
+unfolding clap_on_literals
+simple_app = refl
+
+-- a word, one of two subcommands, and a path that is no flag
+abbrev words_on : Text → Text → Text → List Text
+words_on name subcommand path = name ∷ subcommand ∷ path ∷ []
+
+-- where the subcommand passes with `-`, the empty path and each path with a first letter other than `-`, it passes with each path
+by_first : (P : Text → Type 0) → P [] → P (45 ∷ []) → ((x : ℕ) (xs : Text) → (x == 45) ≡ false → P (x ∷ xs)) → (path : Text) → is_path path ≡ true → P path
+by_first P empty dash other [] is = empty
+by_first P empty dash other (x ∷ xs) is = go (x == 45) refl
+  where
+    go : (b : Bool) → (x == 45) ≡ b → P (x ∷ xs)
+    go false e = other x xs e
+    go true e = one_dash xs (rw e at is)
+      where
+        one_dash : (rest : Text) → is_empty rest ≡ true → P (x ∷ rest)
+        one_dash [] none = rw (eqb-true x 45 e) dash
+        one_dash (y ∷ ys) none =
+            let short : length (y ∷ ys) ≡ 0 = eqb-true (length (y ∷ ys)) 0 none in
+            absurd (omega arith)
+
+-- the subcommand, with the first value of this argument
+abbrev pub value_in : Text → Option (Text × List Row) → Option (Text × Option Text)
+value_in argument = option_map (λ said. (said.0, first_of argument said.1))
+
+-- the words pass, and are this subcommand with the path as this argument's value
+abbrev Reads : Text → Text → Text → Text → Type 0
+Reads subcommand argument name path =
+    (fault_of program_app (words_on name subcommand path) ≡ [])
+    × (value_in argument (subcommand_of program_app (words_on name subcommand path)) ≡ Some (subcommand, Some path))
+
+other_world : (name : Text) (x : ℕ) (xs : Text) → (x == 45) ≡ false → Reads (codes "world") (codes "SCRIPT") name (x ∷ xs)
+unfolding clap_on_literals
+other_world name x xs e = (simp e refl, simp e refl)
+
+other_chat : (name : Text) (x : ℕ) (xs : Text) → (x == 45) ≡ false → Reads (codes "chat") (codes "SCRIPT") name (x ∷ xs)
+unfolding clap_on_literals
+other_chat name x xs e = (simp e refl, simp e refl)
+
+other_packets : (name : Text) (x : ℕ) (xs : Text) → (x == 45) ≡ false → Reads (codes "packets") (codes "SCRIPT") name (x ∷ xs)
+unfolding clap_on_literals
+other_packets name x xs e = (simp e refl, simp e refl)
+
+other_check : (name : Text) (x : ℕ) (xs : Text) → (x == 45) ≡ false → Reads (codes "check") (codes "TRACE") name (x ∷ xs)
+unfolding clap_on_literals
+other_check name x xs e = (simp e refl, simp e refl)
+
+empty_world : (name : Text) → Reads (codes "world") (codes "SCRIPT") name []
+unfolding clap_on_literals
+empty_world name = (refl, refl)
+
+empty_chat : (name : Text) → Reads (codes "chat") (codes "SCRIPT") name []
+unfolding clap_on_literals
+empty_chat name = (refl, refl)
+
+empty_packets : (name : Text) → Reads (codes "packets") (codes "SCRIPT") name []
+unfolding clap_on_literals
+empty_packets name = (refl, refl)
+
+empty_check : (name : Text) → Reads (codes "check") (codes "TRACE") name []
+unfolding clap_on_literals
+empty_check name = (refl, refl)
+
+dash_world : (name : Text) → Reads (codes "world") (codes "SCRIPT") name (45 ∷ [])
+unfolding clap_on_literals
+dash_world name = (refl, refl)
+
+dash_chat : (name : Text) → Reads (codes "chat") (codes "SCRIPT") name (45 ∷ [])
+unfolding clap_on_literals
+dash_chat name = (refl, refl)
+
+dash_packets : (name : Text) → Reads (codes "packets") (codes "SCRIPT") name (45 ∷ [])
+unfolding clap_on_literals
+dash_packets name = (refl, refl)
+
+dash_check : (name : Text) → Reads (codes "check") (codes "TRACE") name (45 ∷ [])
+unfolding clap_on_literals
+dash_check name = (refl, refl)
+
+pub reads_world : (name path : Text) → is_path path ≡ true → Reads (codes "world") (codes "SCRIPT") name path
+reads_world name = by_first (Reads (codes "world") (codes "SCRIPT") name) (empty_world name) (dash_world name) (other_world name)
+
+pub reads_chat : (name path : Text) → is_path path ≡ true → Reads (codes "chat") (codes "SCRIPT") name path
+reads_chat name = by_first (Reads (codes "chat") (codes "SCRIPT") name) (empty_chat name) (dash_chat name) (other_chat name)
+
+pub reads_packets : (name path : Text) → is_path path ≡ true → Reads (codes "packets") (codes "SCRIPT") name path
+reads_packets name = by_first (Reads (codes "packets") (codes "SCRIPT") name) (empty_packets name) (dash_packets name) (other_packets name)
+
+pub reads_check : (name path : Text) → is_path path ≡ true → Reads (codes "check") (codes "TRACE") name path
+reads_check name = by_first (Reads (codes "check") (codes "TRACE") name) (empty_check name) (dash_check name) (other_check name)
+
+-- a subcommand that was said with one name was not said with another
+other_name : (said : Text × List Row) (name other : Text) → said.0 ≡ name → said.0 ≡ other → bytes_eq name other ≡ false → ⊥
+other_name said name other is was differs =
+    let same : bytes_eq name other ≡ true = (bytes_eq-Decides name other).1 (sym is ∙ was) in
+    absurd cc
+
+-- what a subcommand that was said has by `value_in`
+name_in : (argument : Text) (said : Text × List Row) (name path : Text) → value_in argument (Some said) ≡ Some (name, Some path) → said.0 ≡ name
+name_in argument said name path e = ap (λ (o : Option (Text × Option Text)). option_map_or (λ q. q.0) o []) e
+
+path_in : (argument : Text) (said : Text × List Row) (name path : Text) → value_in argument (Some said) ≡ Some (name, Some path)
+    → first_of argument said.1 ≡ Some path
+path_in argument said name path e = ap (λ (o : Option (Text × Option Text)). option_map_or (λ q. q.1) o None) e
+
+-- the path of the command is that of the words
+same_path : (path : Text) (p : Text) (value : Option Text) → value ≡ Some path → value ≡ Some p → p ≡ path
+same_path path p value is was = cc
+
+-- a subcommand that was said, with this name and value, is this command
+said_world : (o : Option (Text × List Row)) (path : Text) (i : Invocation)
+    → value_in (codes "SCRIPT") o ≡ Some (codes "world", Some path) → IsSomeAnd o (λ said. IsSaid said i) → IsWorldOn path i
+said_world None path i e h = absurd h
+said_world (Some said) path (TextOf (World p)) e h = same_path path p.now _ (path_in (codes "SCRIPT") said (codes "world") path e) h.1
+said_world (Some said) path (TextOf (Chat p)) e h = absurd (other_name said (codes "world") (codes "chat") (name_in (codes "SCRIPT") said (codes "world") path e) h.0 refl)
+said_world (Some said) path (TextOf (Packets p)) e h = absurd (other_name said (codes "world") (codes "packets") (name_in (codes "SCRIPT") said (codes "world") path e) h.0 refl)
+said_world (Some said) path (TextOf (Check p)) e h = absurd (other_name said (codes "world") (codes "check") (name_in (codes "SCRIPT") said (codes "world") path e) h.0 refl)
+said_world (Some said) path (Udp w) e h = absurd (other_name said (codes "world") (codes "udp") (name_in (codes "SCRIPT") said (codes "world") path e) h.0 refl)
+said_world (Some said) path (Member w) e h = absurd (other_name said (codes "world") (codes "member") (name_in (codes "SCRIPT") said (codes "world") path e) h.0 refl)
+
+said_chat : (o : Option (Text × List Row)) (path : Text) (i : Invocation)
+    → value_in (codes "SCRIPT") o ≡ Some (codes "chat", Some path) → IsSomeAnd o (λ said. IsSaid said i) → IsChatOn path i
+said_chat None path i e h = absurd h
+said_chat (Some said) path (TextOf (World p)) e h = absurd (other_name said (codes "chat") (codes "world") (name_in (codes "SCRIPT") said (codes "chat") path e) h.0 refl)
+said_chat (Some said) path (TextOf (Chat p)) e h = same_path path p.now _ (path_in (codes "SCRIPT") said (codes "chat") path e) h.1
+said_chat (Some said) path (TextOf (Packets p)) e h = absurd (other_name said (codes "chat") (codes "packets") (name_in (codes "SCRIPT") said (codes "chat") path e) h.0 refl)
+said_chat (Some said) path (TextOf (Check p)) e h = absurd (other_name said (codes "chat") (codes "check") (name_in (codes "SCRIPT") said (codes "chat") path e) h.0 refl)
+said_chat (Some said) path (Udp w) e h = absurd (other_name said (codes "chat") (codes "udp") (name_in (codes "SCRIPT") said (codes "chat") path e) h.0 refl)
+said_chat (Some said) path (Member w) e h = absurd (other_name said (codes "chat") (codes "member") (name_in (codes "SCRIPT") said (codes "chat") path e) h.0 refl)
+
+said_packets : (o : Option (Text × List Row)) (path : Text) (i : Invocation)
+    → value_in (codes "SCRIPT") o ≡ Some (codes "packets", Some path) → IsSomeAnd o (λ said. IsSaid said i) → IsPacketsOn path i
+said_packets None path i e h = absurd h
+said_packets (Some said) path (TextOf (World p)) e h = absurd (other_name said (codes "packets") (codes "world") (name_in (codes "SCRIPT") said (codes "packets") path e) h.0 refl)
+said_packets (Some said) path (TextOf (Chat p)) e h = absurd (other_name said (codes "packets") (codes "chat") (name_in (codes "SCRIPT") said (codes "packets") path e) h.0 refl)
+said_packets (Some said) path (TextOf (Packets p)) e h = same_path path p.now _ (path_in (codes "SCRIPT") said (codes "packets") path e) h.1
+said_packets (Some said) path (TextOf (Check p)) e h = absurd (other_name said (codes "packets") (codes "check") (name_in (codes "SCRIPT") said (codes "packets") path e) h.0 refl)
+said_packets (Some said) path (Udp w) e h = absurd (other_name said (codes "packets") (codes "udp") (name_in (codes "SCRIPT") said (codes "packets") path e) h.0 refl)
+said_packets (Some said) path (Member w) e h = absurd (other_name said (codes "packets") (codes "member") (name_in (codes "SCRIPT") said (codes "packets") path e) h.0 refl)
+
+said_check : (o : Option (Text × List Row)) (path : Text) (i : Invocation)
+    → value_in (codes "TRACE") o ≡ Some (codes "check", Some path) → IsSomeAnd o (λ said. IsSaid said i) → IsCheckOn path i
+said_check None path i e h = absurd h
+said_check (Some said) path (TextOf (World p)) e h = absurd (other_name said (codes "check") (codes "world") (name_in (codes "TRACE") said (codes "check") path e) h.0 refl)
+said_check (Some said) path (TextOf (Chat p)) e h = absurd (other_name said (codes "check") (codes "chat") (name_in (codes "TRACE") said (codes "check") path e) h.0 refl)
+said_check (Some said) path (TextOf (Packets p)) e h = absurd (other_name said (codes "check") (codes "packets") (name_in (codes "TRACE") said (codes "check") path e) h.0 refl)
+said_check (Some said) path (TextOf (Check p)) e h = same_path path p.now _ (path_in (codes "TRACE") said (codes "check") path e) h.1
+said_check (Some said) path (Udp w) e h = absurd (other_name said (codes "check") (codes "udp") (name_in (codes "TRACE") said (codes "check") path e) h.0 refl)
+said_check (Some said) path (Member w) e h = absurd (other_name said (codes "check") (codes "member") (name_in (codes "TRACE") said (codes "check") path e) h.0 refl)
+
+-- `udp` and two paths
+abbrev words_of_udp : Text → Text → Text → List Text
+words_of_udp name config script = name ∷ codes "udp" ∷ config ∷ script ∷ []
+
+-- the subcommand, with the first values of both arguments
+abbrev pub paths_in : Option (Text × List Row) → Option (Text × Option Text × Option Text)
+paths_in = option_map (λ said. (said.0, first_of (codes "CONFIG") said.1, first_of (codes "SCRIPT") said.1))
+
+-- the words pass, and are `udp` with these paths
+abbrev ReadsUdp : Text → Text → Text → Type 0
+ReadsUdp name config script =
+    (fault_of program_app (words_of_udp name config script) ≡ [])
+    × (paths_in (subcommand_of program_app (words_of_udp name config script)) ≡ Some (codes "udp", Some config, Some script))
+
+empty_empty : (name : Text) → ReadsUdp name [] []
+unfolding clap_on_literals
+empty_empty name = (refl, refl)
+
+empty_dash : (name : Text) → ReadsUdp name [] (45 ∷ [])
+unfolding clap_on_literals
+empty_dash name = (refl, refl)
+
+empty_other : (name : Text) (y : ℕ) (ys : Text) → (y == 45) ≡ false → ReadsUdp name [] (y ∷ ys)
+unfolding clap_on_literals
+empty_other name y ys d = (simp d refl, simp d refl)
+
+dash_empty : (name : Text) → ReadsUdp name (45 ∷ []) []
+unfolding clap_on_literals
+dash_empty name = (refl, refl)
+
+dash_dash : (name : Text) → ReadsUdp name (45 ∷ []) (45 ∷ [])
+unfolding clap_on_literals
+dash_dash name = (refl, refl)
+
+dash_other : (name : Text) (y : ℕ) (ys : Text) → (y == 45) ≡ false → ReadsUdp name (45 ∷ []) (y ∷ ys)
+unfolding clap_on_literals
+dash_other name y ys d = (simp d refl, simp d refl)
+
+other_empty : (name : Text) (x : ℕ) (xs : Text) → (x == 45) ≡ false → ReadsUdp name (x ∷ xs) []
+unfolding clap_on_literals
+other_empty name x xs e = (simp e refl, simp e refl)
+
+other_dash : (name : Text) (x : ℕ) (xs : Text) → (x == 45) ≡ false → ReadsUdp name (x ∷ xs) (45 ∷ [])
+unfolding clap_on_literals
+other_dash name x xs e = (simp e refl, simp e refl)
+
+other_other : (name : Text) (x : ℕ) (xs : Text) (y : ℕ) (ys : Text) → (x == 45) ≡ false → (y == 45) ≡ false → ReadsUdp name (x ∷ xs) (y ∷ ys)
+unfolding clap_on_literals
+other_other name x xs y ys e d = (simp (e, d) refl, simp (e, d) refl)
+
+pub reads_udp : (name config script : Text) → is_path config ≡ true → is_path script ≡ true → ReadsUdp name config script
+reads_udp name config script one two =
+    by_first (λ (c : Text). ReadsUdp name c script)
+    (by_first (ReadsUdp name []) (empty_empty name) (empty_dash name) (empty_other name) script two)
+    (by_first (ReadsUdp name (45 ∷ [])) (dash_empty name) (dash_dash name) (dash_other name) script two)
+    (λ x xs e. by_first (ReadsUdp name (x ∷ xs)) (other_empty name x xs e) (other_dash name x xs e) (λ y ys d. other_other name x xs y ys e d) script two)
+    config one
+
+udp_name : (said : Text × List Row) (config script : Text) → paths_in (Some said) ≡ Some (codes "udp", Some config, Some script) → said.0 ≡ codes "udp"
+udp_name said config script e = ap (λ (o : Option (Text × Option Text × Option Text)). option_map_or (λ q. q.0) o []) e
+
+said_udp : (o : Option (Text × List Row)) (config script : Text) (i : Invocation)
+    → paths_in o ≡ Some (codes "udp", Some config, Some script) → IsSomeAnd o (λ said. IsSaid said i) → IsUdpOn config script i
+said_udp None config script i e h = absurd h
+said_udp (Some said) config script (TextOf (World p)) e h = absurd (other_name said (codes "udp") (codes "world") (udp_name said config script e) h.0 refl)
+said_udp (Some said) config script (TextOf (Chat p)) e h = absurd (other_name said (codes "udp") (codes "chat") (udp_name said config script e) h.0 refl)
+said_udp (Some said) config script (TextOf (Packets p)) e h = absurd (other_name said (codes "udp") (codes "packets") (udp_name said config script e) h.0 refl)
+said_udp (Some said) config script (TextOf (Check p)) e h = absurd (other_name said (codes "udp") (codes "check") (udp_name said config script e) h.0 refl)
+said_udp (Some said) config script (Member w) e h = absurd (other_name said (codes "udp") (codes "member") (udp_name said config script e) h.0 refl)
+said_udp (Some said) config script (Udp w) e h = (
+  same_path config w.config.now _ (ap (λ (o : Option (Text × Option Text × Option Text)). option_map_or (λ q. q.1) o None) e) h.1.config,
+  same_path script w.script.now _ (ap (λ (o : Option (Text × Option Text × Option Text)). option_map_or (λ q. q.2) o None) e) h.1.script,
+)
+
+-- an error that is handed on keeps its kind
+pub fails_as : (kinds : Kinds) (r : Result Invocation Error) (e : Error) → IsErrAnd r (λ x. x ≡ e) → HasKind kinds e → FailsBy kinds r
+fails_as kinds (Ok i) e is has = absurd is
+fails_as kinds (Err x) e is has = subst (HasKind kinds) (sym is) has
+
+-- where the words have no fault, an error is for want of memory
+pub is_or_no_memory : (IsIt : Invocation → Type 0) (r : Result Invocation Error) (kinds : Kinds) → kinds ≡ [] → IfOk r IsIt → FailsBy kinds r
+    → IsOrNoMemory IsIt r
+is_or_no_memory IsIt (Ok i) kinds none is fails = is
+is_or_no_memory IsIt (Err e) kinds none is fails = by_memory (subst (λ (k : Kinds). FailsBy {T = Invocation} k (Err e)) none fails)
+  where
+    by_memory : FailsBy {T = Invocation} [] (Err e) → kind_of e ≡ OutOfMemory
+    by_memory (inl memory) = memory
+    by_memory (inr other) = absurd other
+
+pub world_or_no_memory : (r : Result Invocation Error) (o : Option (Text × List Row)) (kinds : Kinds) (path : Text) → kinds ≡ []
+    → value_in (codes "SCRIPT") o ≡ Some (codes "world", Some path) → IfOk r (λ i. IsSomeAnd o (λ said. IsSaid said i)) → FailsBy kinds r
+    → IsOrNoMemory (IsWorldOn path) r
+world_or_no_memory r o kinds path none value is fails =
+    is_or_no_memory (IsWorldOn path) r kinds none (IfOk-weaker r _ _ (λ i said. said_world o path i value said) is) fails
+
+pub chat_or_no_memory : (r : Result Invocation Error) (o : Option (Text × List Row)) (kinds : Kinds) (path : Text) → kinds ≡ []
+    → value_in (codes "SCRIPT") o ≡ Some (codes "chat", Some path) → IfOk r (λ i. IsSomeAnd o (λ said. IsSaid said i)) → FailsBy kinds r
+    → IsOrNoMemory (IsChatOn path) r
+chat_or_no_memory r o kinds path none value is fails =
+    is_or_no_memory (IsChatOn path) r kinds none (IfOk-weaker r _ _ (λ i said. said_chat o path i value said) is) fails
+
+pub packets_or_no_memory : (r : Result Invocation Error) (o : Option (Text × List Row)) (kinds : Kinds) (path : Text) → kinds ≡ []
+    → value_in (codes "SCRIPT") o ≡ Some (codes "packets", Some path) → IfOk r (λ i. IsSomeAnd o (λ said. IsSaid said i)) → FailsBy kinds r
+    → IsOrNoMemory (IsPacketsOn path) r
+packets_or_no_memory r o kinds path none value is fails =
+    is_or_no_memory (IsPacketsOn path) r kinds none (IfOk-weaker r _ _ (λ i said. said_packets o path i value said) is) fails
+
+pub check_or_no_memory : (r : Result Invocation Error) (o : Option (Text × List Row)) (kinds : Kinds) (path : Text) → kinds ≡ []
+    → value_in (codes "TRACE") o ≡ Some (codes "check", Some path) → IfOk r (λ i. IsSomeAnd o (λ said. IsSaid said i)) → FailsBy kinds r
+    → IsOrNoMemory (IsCheckOn path) r
+check_or_no_memory r o kinds path none value is fails =
+    is_or_no_memory (IsCheckOn path) r kinds none (IfOk-weaker r _ _ (λ i said. said_check o path i value said) is) fails
+
+pub udp_or_no_memory : (r : Result Invocation Error) (o : Option (Text × List Row)) (kinds : Kinds) (config script : Text) → kinds ≡ []
+    → paths_in o ≡ Some (codes "udp", Some config, Some script) → IfOk r (λ i. IsSomeAnd o (λ said. IsSaid said i)) → FailsBy kinds r
+    → IsOrNoMemory (IsUdpOn config script) r
+udp_or_no_memory r o kinds config script none value is fails =
+    is_or_no_memory (IsUdpOn config script) r kinds none (IfOk-weaker r _ _ (λ i said. said_udp o config script i value said) is) fails

@@ -1,0 +1,50 @@
+use Rattle.std.proofs.Common.{◌∙◌, ap, codes, List, map, string_bytes}
+use Rattle.clap.specs.Words.{Text, fault_of, subcommand_of}
+use Rattle.vsync_words.specs.Grammar.{program_app}
+use Rattle.vsync_words.proofs.Computing.{chat_or_no_memory, check_or_no_memory, packets_or_no_memory, reads_chat, reads_check, paths_in, reads_packets, reads_udp, reads_world, udp_or_no_memory, value_in, world_or_no_memory}
+use Rattle.vsync_words.proofs.words.command.Goals as goal
+
+pub returns-clause-world : goal.returns-clause-world
+returns-clause-world c = λ name path is words.
+    let reads = reads_world name path is in
+    world_or_no_memory c.parsed.result (subcommand_of program_app (map string_bytes c.args.words.now))
+    (fault_of program_app (map string_bytes c.args.words.now)) path
+    (ap (fault_of program_app) words ∙ reads.0)
+    (ap (λ (w : List Text). value_in (codes "SCRIPT") (subcommand_of program_app w)) words ∙ reads.1)
+    c.parsed.ensures.said c.parsed.ensures.refused
+
+pub returns-clause-chat : goal.returns-clause-chat
+returns-clause-chat c = λ name path is words.
+    let reads = reads_chat name path is in
+    chat_or_no_memory c.parsed.result (subcommand_of program_app (map string_bytes c.args.words.now))
+    (fault_of program_app (map string_bytes c.args.words.now)) path
+    (ap (fault_of program_app) words ∙ reads.0)
+    (ap (λ (w : List Text). value_in (codes "SCRIPT") (subcommand_of program_app w)) words ∙ reads.1)
+    c.parsed.ensures.said c.parsed.ensures.refused
+
+pub returns-clause-packets : goal.returns-clause-packets
+returns-clause-packets c = λ name path is words.
+    let reads = reads_packets name path is in
+    packets_or_no_memory c.parsed.result (subcommand_of program_app (map string_bytes c.args.words.now))
+    (fault_of program_app (map string_bytes c.args.words.now)) path
+    (ap (fault_of program_app) words ∙ reads.0)
+    (ap (λ (w : List Text). value_in (codes "SCRIPT") (subcommand_of program_app w)) words ∙ reads.1)
+    c.parsed.ensures.said c.parsed.ensures.refused
+
+pub returns-clause-check : goal.returns-clause-check
+returns-clause-check c = λ name path is words.
+    let reads = reads_check name path is in
+    check_or_no_memory c.parsed.result (subcommand_of program_app (map string_bytes c.args.words.now))
+    (fault_of program_app (map string_bytes c.args.words.now)) path
+    (ap (fault_of program_app) words ∙ reads.0)
+    (ap (λ (w : List Text). value_in (codes "TRACE") (subcommand_of program_app w)) words ∙ reads.1)
+    c.parsed.ensures.said c.parsed.ensures.refused
+
+pub returns-clause-udp : goal.returns-clause-udp
+returns-clause-udp c = λ name config script one two words.
+    let reads = reads_udp name config script one two in
+    udp_or_no_memory c.parsed.result (subcommand_of program_app (map string_bytes c.args.words.now))
+    (fault_of program_app (map string_bytes c.args.words.now)) config script
+    (ap (fault_of program_app) words ∙ reads.0)
+    (ap (λ (w : List Text). paths_in (subcommand_of program_app w)) words ∙ reads.1)
+    c.parsed.ensures.said c.parsed.ensures.refused

@@ -1,0 +1,116 @@
+-- The grammar of the command line, in clap's words, and what its words ask for.
+use Rattle.std.specs.Prelude.{◌≡◌, ◌==◌, ◌||◌, ℕ, Bool, true, false, not, List, [], ◌∷◌, Option, Some, codes, option_map, IsSomeAnd}
+use Rattle.std.specs.Str.Parse.{digits_value, without_leading_plus}
+use Rattle.clap.specs.Walk.{is_empty}
+use Rattle.clap.specs.Words.{App, IsUnsignedIn, Row, Rule, Text, app_of, first_of, one_of, new_app, new_rule, rule_of, with_rule, with_subcommand}
+use Rattle.clap.specs.Simple.{new_shape}
+use Rattle.clap.specs.declared.builder.arg.Arg.{Arg}
+use Rattle.clap.specs.declared.builder.command.Command.{Command}
+use Rattle.clap.specs.declared.builder.command.Command.TheViews.{out-Command}
+use Rattle.clap.specs.declared.builder.value_parser.ValueParser.TheVariants.{Unsigned}
+use Rattle.script_reader.specs.declared.udp_script.TheConstants.{ROUNDS}
+use Rattle.vsync_words.specs.declared.udp_words.UdpWords.{UdpWords}
+use Rattle.vsync_words.specs.declared.udp_words.MemberWords.{MemberWords}
+use Rattle.vsync_words.specs.declared.words.Invocation.{Invocation}
+use Rattle.vsync_words.specs.declared.words.Invocation.TheVariants.{Text as TextOf, Udp, Member}
+use Rattle.vsync_words.specs.declared.words.TextCommand.{TextCommand}
+use Rattle.vsync_words.specs.declared.words.TextCommand.TheVariants.{World, Chat, Packets, Check}
+use Rattle.limits.specs.declared.TheConstants.{GREATEST_INCARNATION, GREATEST_NODE}
+
+-- an argument that is required; one that is a number in a range; and an option with a value
+abbrev pub required_rule : Text → Rule
+required_rule argument = record (new_rule argument) { required = true }
+
+abbrev pub number_rule : Text → ℕ → ℕ → Rule
+number_rule argument low high = record (required_rule argument) { parser = Some (Unsigned low high) }
+
+abbrev pub option_rule : Text → Rule
+option_rule name = record (new_rule name) { long = Some name; value_names = 1 }
+
+-- clap's argument has this rule, and is of its own command alone
+abbrev pub IsArg : Rule → Arg → Type 0
+IsArg rule a = (rule_of a ≡ rule) × (a.global ≡ false)
+
+-- clap reads the command in this way, and it has no argument for other commands
+abbrev pub IsCommand : App → Command → Type 0
+IsCommand app c = (app_of c ≡ app) × ((out-Command c).has_globals ≡ false)
+
+-- clap's program `new` is `old` with a subcommand that is read in this way as well
+abbrev pub AddsCommand : Command → App → Command → Type 0
+AddsCommand old app new = app_of new ≡ with_subcommand (app_of old) app.top
+
+-- a subcommand with one argument, which is required
+abbrev pub path_app : Text → Text → App
+path_app name argument = with_rule (new_app name) (required_rule argument)
+
+-- a program that requires a subcommand, with none yet
+abbrev pub program_of_subcommands : Text → App
+program_of_subcommands name =
+    record { top = record (new_shape name) { subcommand_required = true }; subs = [] }
+
+-- `udp CONFIG SCRIPT`
+abbrev pub udp_app : App
+udp_app = with_rule (with_rule (new_app (codes "udp")) (required_rule (codes "CONFIG"))) (required_rule (codes "SCRIPT"))
+
+-- `member CONFIG NODE INCARNATION ROUNDS`, and the same with `[--contact ADDR] [--send TEXT]`
+abbrev pub member_numbers_app : App
+member_numbers_app = with_rule (with_rule (with_rule (with_rule (new_app (codes "member"))
+    (required_rule (codes "CONFIG")))
+    (number_rule (codes "NODE") 1 GREATEST_NODE))
+    (number_rule (codes "INCARNATION") 1 GREATEST_INCARNATION))
+    (number_rule (codes "ROUNDS") 0 ROUNDS)
+
+abbrev pub member_app : App
+member_app = with_rule (with_rule member_numbers_app (option_rule (codes "contact"))) (option_rule (codes "send"))
+
+-- `vsync world SCRIPT`, `vsync chat SCRIPT`, `vsync packets SCRIPT`, `vsync check TRACE`, `vsync udp CONFIG SCRIPT` and `vsync member ..`
+abbrev pub program_app : App
+program_app = with_subcommand (with_subcommand (with_subcommand (with_subcommand (with_subcommand (with_subcommand (program_of_subcommands (codes "vsync"))
+    (path_app (codes "world") (codes "SCRIPT")).top)
+    (path_app (codes "chat") (codes "SCRIPT")).top)
+    (path_app (codes "packets") (codes "SCRIPT")).top)
+    (path_app (codes "check") (codes "TRACE")).top)
+    udp_app.top)
+    member_app.top
+
+-- the words of `udp` are the first values of its arguments
+pub record AreUdpWords (rows : List Row) (words : UdpWords) : Type 0 where
+  pub config : first_of (codes "CONFIG") rows ≡ Some words.config.now
+  pub script : first_of (codes "SCRIPT") rows ≡ Some words.script.now
+
+-- the value of an argument is this number, in decimal digits, from low to high
+abbrev pub IsNumberIn : ℕ → ℕ → Option Text → ℕ → Type 0
+IsNumberIn low high value n =
+    IsSomeAnd value (λ t. IsUnsignedIn low high t × (digits_value 10 (without_leading_plus t) ≡ n))
+
+-- the words of `member` are the first values of its arguments and options: its numbers in their ranges
+pub record AreMemberWords (rows : List Row) (words : MemberWords) : Type 0 where
+  pub config : first_of (codes "CONFIG") rows ≡ Some words.config.now
+  pub node : IsNumberIn 1 GREATEST_NODE (one_of (codes "NODE") rows) words.address.node
+  pub incarnation : IsNumberIn 1 GREATEST_INCARNATION (one_of (codes "INCARNATION") rows) words.address.incarnation
+  pub rounds : IsNumberIn 0 ROUNDS (one_of (codes "ROUNDS") rows) words.rounds
+  pub contact : first_of (codes "contact") rows ≡ option_map (λ s. s.now) words.contact
+  pub send : first_of (codes "send") rows ≡ option_map (λ s. s.now) words.send
+
+-- a subcommand over a text that was said, with its matches, is this command: it has that name, and the path is the first value
+-- of its argument
+abbrev pub IsTextSaid : Text × List Row → TextCommand → Type 0
+IsTextSaid said (World path) =
+    (said.0 ≡ codes "world") × (first_of (codes "SCRIPT") said.1 ≡ Some path.now)
+IsTextSaid said (Chat path) =
+    (said.0 ≡ codes "chat") × (first_of (codes "SCRIPT") said.1 ≡ Some path.now)
+IsTextSaid said (Packets path) =
+    (said.0 ≡ codes "packets") × (first_of (codes "SCRIPT") said.1 ≡ Some path.now)
+IsTextSaid said (Check path) =
+    (said.0 ≡ codes "check") × (first_of (codes "TRACE") said.1 ≡ Some path.now)
+
+-- a subcommand that was said, with its matches, is this command
+abbrev pub IsSaid : Text × List Row → Invocation → Type 0
+IsSaid said (TextOf command) = IsTextSaid said command
+IsSaid said (Udp words) = (said.0 ≡ codes "udp") × AreUdpWords said.1 words
+IsSaid said (Member words) = (said.0 ≡ codes "member") × AreMemberWords said.1 words
+
+-- the word is no flag: it is `-`, or does not begin with `-`
+abbrev pub is_path : Text → Bool
+is_path [] = true
+is_path (first ∷ rest) = not (first == 45) || is_empty rest

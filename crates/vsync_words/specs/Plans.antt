@@ -1,0 +1,41 @@
+-- What a node does by the words of `member`, and what is wrong with them.
+use Rattle.std.specs.Prelude.{◌≡◌, ℕ, List, Option, None, Some, Result, Ok, Err, length, nat_lt, option_map, is_ok, true, if◌then◌else◌}
+use Rattle.std.specs.Borrow.{Bor}
+use Rattle.address.specs.Ids.{Address}
+use Rattle.limits.specs.declared.TheConstants.{PAYLOAD}
+use Rattle.script_reader.specs.AddressText.{address_of_text}
+use Rattle.script_reader.specs.declared.member_plan.MemberPlan.{MemberPlan}
+use Rattle.vsync_words.specs.declared.udp_words.MemberWords.{MemberWords}
+use Rattle.vsync_words.specs.declared.udp_words.MemberMistake.{MemberMistake}
+use Rattle.vsync_words.specs.declared.udp_words.MemberMistake.TheVariants.{NoAddress, LongText}
+
+-- the text that stands there, if one does
+abbrev pub text_of : Option (Bor (List ℕ)) → Option (List ℕ)
+text_of = option_map (λ s. s.now)
+
+-- an address that was read, or else this is wrong
+abbrev pub read_contact : Option Address → Result (Option Address) MemberMistake
+read_contact None = Err NoAddress
+read_contact (Some a) = Ok (Some a)
+
+-- the contact: the address that ADDR spells
+abbrev pub contact_of : Option (List ℕ) → Result (Option Address) MemberMistake
+contact_of None = Ok None
+contact_of (Some text) = read_contact (address_of_text text)
+
+-- the payload: TEXT, of at most `PAYLOAD` bytes
+abbrev pub payload_of : Option (List ℕ) → Result (Option (List ℕ)) MemberMistake
+payload_of None = Ok None
+payload_of (Some text) = if nat_lt PAYLOAD (length text) then Err LongText else Ok (Some text)
+
+-- the node does what the words say: it has their address and rounds, ADDR's address as its contact, and TEXT as what it sends
+pub record IsPlan (words : MemberWords) (plan : MemberPlan) : Type 0 where
+  pub address : plan.address ≡ words.address
+  pub rounds : plan.rounds ≡ words.rounds
+  pub contact : contact_of (text_of words.contact) ≡ Ok plan.contact
+  pub send : payload_of (text_of words.send) ≡ Ok (text_of plan.send)
+
+-- this is wrong with the words: ADDR is no address; or it is none or an address, and TEXT is too long
+abbrev pub IsMistaken : MemberWords → MemberMistake → Type 0
+IsMistaken words NoAddress = contact_of (text_of words.contact) ≡ Err NoAddress
+IsMistaken words LongText = (is_ok (contact_of (text_of words.contact)) ≡ true) × (payload_of (text_of words.send) ≡ Err LongText)

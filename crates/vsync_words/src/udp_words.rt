@@ -1,0 +1,259 @@
+//! The words of the commands for members over datagrams.
+
+ghost use Rattle.std.specs.Prelude.{◌≡◌, codes, IfOk, IfSome, MatchResult, Ok, Err};
+ghost use Rattle.clap.specs.Words.{found_of, one_of, rows_of};
+ghost use Rattle.script_reader.specs.declared.udp_script.TheConstants.{ROUNDS};
+ghost use Rattle.vsync_words.specs.Grammar.{required_rule, number_rule, option_rule, udp_app, member_numbers_app, member_app, AddsCommand, AreUdpWords, AreMemberWords, IsArg, IsCommand, IsNumberIn};
+ghost use Rattle.vsync_words.specs.Plans.{contact_of, payload_of, text_of, IsMistaken, IsPlan};
+ghost use Rattle.limits.specs.declared.TheConstants.{GREATEST_NODE, GREATEST_INCARNATION};
+
+use address::{Address, Node};
+use clap::builder::ValueParser;
+use clap::{Arg, ArgMatches};
+use limits::{GREATEST_INCARNATION, GREATEST_NODE, PAYLOAD};
+use script_reader::{MemberPlan, ROUNDS, address_in};
+use std::alloc::{AllocError, Global};
+use thiserror::Error;
+
+/// The words of `udp CONFIG SCRIPT`.
+#[derive(Clone, Copy, Debug)]
+pub struct UdpWords<'a> {
+    /// The path of the settings.
+    pub config: &'a str,
+    /// The path of the script; `-` is the standard input.
+    pub script: &'a str,
+}
+
+/// The words of `member CONFIG NODE INCARNATION ROUNDS [--contact ADDR] [--send TEXT]`, as clap matches them.
+#[derive(Clone, Copy, Debug)]
+pub struct MemberWords<'a> {
+    /// The path of the settings.
+    pub config: &'a str,
+    /// The address of NODE and INCARNATION.
+    pub address: Address,
+    /// How many rounds it runs, 0 to `ROUNDS` (`script_reader`).
+    pub rounds: u64,
+    /// ADDR, if it stands there.
+    pub contact: Option<&'a str>,
+    /// TEXT, if it stands there.
+    pub send: Option<&'a str>,
+}
+
+/// What is wrong with the words of `member` that clap takes.
+#[derive(Clone, Copy, Debug, PartialEq, Eq, Error)]
+pub enum MemberMistake {
+    /// ADDR is no address.
+    #[error("invalid value for '--contact <ADDR>': it is no address, such as 3.1")]
+    NoAddress,
+    /// TEXT has more than `PAYLOAD` bytes (`limits`).
+    #[error("invalid value for '--send <TEXT>': it has more than {limit} bytes", limit = PAYLOAD)]
+    LongText,
+}
+
+impl<'a> MemberWords<'a> {
+    /// What the node does: refused where ADDR is no address, and then where TEXT is too long.
+    pub fn plan(&self) -> Result<MemberPlan<'a>, MemberMistake>
+        ensures { MatchResult result (IsPlan self.now) (IsMistaken self.now) }
+    {
+        let contact = contact_in(self.contact)?;
+        let send = payload_in(self.send)?;
+        Ok(MemberPlan {
+            address: self.address,
+            rounds: self.rounds,
+            contact,
+            send,
+        })
+    }
+}
+
+// The contact that a word spells, if there is one.
+fn contact_in(word: Option<&str>) -> Result<Option<Address>, MemberMistake>
+    ensures { result ≡ contact_of (text_of word.entry) }
+{
+    let Some(word) = word else {
+        return Ok(None);
+    };
+    match address_in(word.as_bytes()) {
+        Some(address) => Ok(Some(address)),
+        None => Err(MemberMistake::NoAddress),
+    }
+}
+
+// The payload that a word is, if there is one.
+fn payload_in(word: Option<&str>) -> Result<Option<&[u8]>, MemberMistake>
+    ensures { MatchResult result (λ payload. payload_of (text_of word.entry) ≡ Ok (text_of payload)) (λ e. payload_of (text_of word.entry) ≡ Err e) }
+{
+    let Some(word) = word else {
+        return Ok(None);
+    };
+    if word.len() > PAYLOAD {
+        return Err(MemberMistake::LongText);
+    }
+    Ok(Some(word.as_bytes()))
+}
+
+// An argument that is required.
+fn required<'a>(alloc: Global, name: &'a str, help: &'a str) -> Arg<'a>
+    ensures { IsArg (required_rule name.now) result }
+{
+    Arg::new(alloc, name).required(true).help(help)
+}
+
+// An argument that is a number in a range, and is required.
+fn number<'a>(alloc: Global, name: &'a str, low: u64, high: u64, help: &'a str) -> Arg<'a>
+    ensures { IsArg (number_rule name.now low high) result }
+{
+    required(alloc, name, help).value_parser(ValueParser::unsigned(low, high))
+}
+
+// An option with a value.
+fn option<'a>(alloc: Global, name: &'a str, value: &'a str, help: &'a str) -> Arg<'a>
+    ensures { IsArg (option_rule name.now) result }
+{
+    Arg::new(alloc, name)
+        .long(name)
+        .value_name(value)
+        .help(help)
+}
+
+// The argument that names the settings.
+fn config<'a>(alloc: Global) -> Arg<'a>
+    ensures { IsArg (required_rule (codes "CONFIG")) result }
+{
+    required(
+        alloc,
+        "CONFIG",
+        "The path of the settings: the group's name, the rounds of silence, and each node's port",
+    )
+}
+
+// The subcommand `udp`.
+fn udp_command<'a>(alloc: Global) -> Result<clap::Command<'a>, AllocError>
+    ensures { IfOk result (IsCommand udp_app) }
+{
+    clap::Command::new(alloc, "udp")
+        .about("Runs nodes over UDP in one process by a script, and prints the trace and the chats")
+        .after_help(
+            "The script has a line for each event: start N, create N, join N ADDR, send N TEXT, suspect N ADDR, hint N ADDR, leave N, crash N,\nand rounds K for K rounds of each running node.\n\nExample:\n  vsync udp examples/four.toml examples/merge.udp",
+        )
+        .arg(config(alloc))?
+        .arg(required(
+            alloc,
+            "SCRIPT",
+            "The script's path, or - for the standard input",
+        ))
+}
+
+/// The program with `udp CONFIG SCRIPT` as well.
+pub(crate) fn with_udp<'a>(
+    alloc: Global,
+    program: clap::Command<'a>,
+) -> Result<clap::Command<'a>, AllocError>
+    ensures { IfOk result (AddsCommand program.entry udp_app) }
+{
+    let command = udp_command(alloc)?;
+    program.subcommand(command)
+}
+
+// The subcommand `member` with its numbers.
+fn member_numbers<'a>(alloc: Global) -> Result<clap::Command<'a>, AllocError>
+    ensures { IfOk result (IsCommand member_numbers_app) }
+{
+    clap::Command::new(alloc, "member")
+        .about("Runs one node over UDP by itself, and prints its trace as it happens and its chat")
+        .after_help(
+            "It joins the group of the contact's member, or makes a group of itself alone. A round takes a millisecond or more.\n\nExample, in two terminals:\n  vsync member examples/four.toml 1 1 20000 --send hello\n  vsync member examples/four.toml 2 1 20000 --contact 1.1",
+        )
+        .arg(config(alloc))?
+        .arg(number(
+            alloc,
+            "NODE",
+            1,
+            GREATEST_NODE,
+            "The node's number in the settings",
+        ))?
+        .arg(number(
+            alloc,
+            "INCARNATION",
+            1,
+            GREATEST_INCARNATION,
+            "Its incarnation: a greater one at each start",
+        ))?
+        .arg(number(alloc, "ROUNDS", 0, ROUNDS, "How many rounds it runs"))
+}
+
+// The subcommand `member`.
+fn member_command<'a>(alloc: Global) -> Result<clap::Command<'a>, AllocError>
+    ensures { IfOk result (IsCommand member_app) }
+{
+    member_numbers(alloc)?
+        .arg(option(
+            alloc,
+            "contact",
+            "ADDR",
+            "The address, such as 1.1, of a member of the group to join",
+        ))?
+        .arg(option(
+            alloc,
+            "send",
+            "TEXT",
+            "What it sends, once, as soon as it may",
+        ))
+}
+
+/// The program with `member CONFIG NODE INCARNATION ROUNDS [--contact ADDR] [--send TEXT]` as well.
+pub(crate) fn with_member<'a>(
+    alloc: Global,
+    program: clap::Command<'a>,
+) -> Result<clap::Command<'a>, AllocError>
+    ensures { IfOk result (AddsCommand program.entry member_app) }
+{
+    let command = member_command(alloc)?;
+    program.subcommand(command)
+}
+
+/// The words of `udp` in its matches.
+pub(crate) fn udp_words<'a>(matches: &ArgMatches<'a>) -> Option<UdpWords<'a>>
+    ensures { IfSome result (AreUdpWords (rows_of (found_of matches.now))) }
+{
+    let config = matches.get_str("CONFIG")?;
+    let script = matches.get_str("SCRIPT")?;
+    Some(UdpWords { config, script })
+}
+
+// The address of NODE and INCARNATION.
+fn address_of(matches: &ArgMatches<'_>) -> Option<Address>
+    ensures { IfSome result (λ a. IsNumberIn 1 GREATEST_NODE (one_of (codes "NODE") (rows_of (found_of matches.now))) a.node
+        × IsNumberIn 1 GREATEST_INCARNATION (one_of (codes "INCARNATION") (rows_of (found_of matches.now))) a.incarnation) }
+{
+    let node: u16 = matches.get_one("NODE")?;
+    let incarnation: u32 = matches.get_one("INCARNATION")?;
+    Address::new(Node::new(node)?, incarnation)
+}
+
+// ROUNDS, which clap has found to be at most `ROUNDS`.
+fn rounds_of(matches: &ArgMatches<'_>) -> Option<u64>
+    ensures { IfSome result (IsNumberIn 0 ROUNDS (one_of (codes "ROUNDS") (rows_of (found_of matches.now)))) }
+{
+    let rounds: u64 = matches.get_one("ROUNDS")?;
+    if rounds > ROUNDS {
+        return None;
+    }
+    Some(rounds)
+}
+
+/// The words of `member` in its matches.
+pub(crate) fn member_words<'a>(matches: &ArgMatches<'a>) -> Option<MemberWords<'a>>
+    ensures { IfSome result (AreMemberWords (rows_of (found_of matches.now))) }
+{
+    let config = matches.get_str("CONFIG")?;
+    let address = address_of(matches)?;
+    let rounds = rounds_of(matches)?;
+    Some(MemberWords {
+        config,
+        address,
+        rounds,
+        contact: matches.get_str("contact"),
+        send: matches.get_str("send"),
+    })
+}

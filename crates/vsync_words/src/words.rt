@@ -1,0 +1,268 @@
+ghost use Rattle.std.specs.Prelude.{◌≡◌, ◌≤◌, ◌<◌, ◌∷◌, [], true, length, map, codes, string_bytes, IfOk, IfSome, IsOkAnd, IsSomeAnd};
+ghost use Rattle.clap.specs.Words.{app_of, fault_of, found_of, rows_of, subcommand_of, subcommand_rows_of, FailsBy, Text};
+ghost use Rattle.vsync_words.specs.Words.{input_of, IsWorldOn, IsChatOn, IsPacketsOn, IsCheckOn, IsUdpOn, IsOrNoMemory, RunsStandardInput};
+ghost use Rattle.vsync_words.specs.Grammar.{is_path, program_app, program_of_subcommands, path_app, AddsCommand, IsCommand, IsSaid, IsTextSaid};
+
+use crate::udp_words::{MemberWords, UdpWords, member_words, udp_words, with_member, with_udp};
+use clap::{Arg, ArgMatches, Error};
+use std::alloc::{AllocError, Global};
+
+/// A command over one text, a script or a trace, which it reads at a path; `-` is the standard input.
+#[derive(Clone, Copy, Debug)]
+pub enum TextCommand<'a> {
+    /// `world SCRIPT`: the script is run.
+    World(&'a str),
+    /// `chat SCRIPT`: the script is run, and the chats of the running members are printed.
+    Chat(&'a str),
+    /// `packets SCRIPT`: the script is run, and the packets that were put out are printed.
+    Packets(&'a str),
+    /// `check TRACE`: the trace is checked.
+    Check(&'a str),
+}
+
+impl<'a> TextCommand<'a> {
+    /// The path of its input.
+    pub fn path(&self) -> &'a str
+        ensures { result.now ≡ input_of self.now }
+    {
+        match self {
+            TextCommand::World(path) => path,
+            TextCommand::Chat(path) => path,
+            TextCommand::Packets(path) => path,
+            TextCommand::Check(path) => path,
+        }
+    }
+}
+
+/// What the words of a command line ask for.
+#[derive(Clone, Copy, Debug)]
+pub enum Invocation<'a> {
+    /// `world SCRIPT`, `chat SCRIPT`, `packets SCRIPT` or `check TRACE`.
+    Text(TextCommand<'a>),
+    /// `udp CONFIG SCRIPT`: nodes run over datagrams in one process.
+    Udp(UdpWords<'a>),
+    /// `member CONFIG NODE INCARNATION ROUNDS`: one node runs over datagrams by itself.
+    Member(MemberWords<'a>),
+}
+
+/// A subcommand with one argument, the path of its input.
+#[derive(Drop)]
+struct PathCommand<'a> {
+    name: &'a str,
+    about: &'a str,
+    after_help: &'a str,
+    argument: &'a str,
+    argument_help: &'a str,
+}
+
+impl<'a> PathCommand<'a> {
+    /// The subcommand as clap reads it.
+    fn grammar(&self, alloc: Global) -> Result<clap::Command<'a>, AllocError>
+        ensures { IfOk result (IsCommand (path_app self.now.name.now self.now.argument.now)) }
+    {
+        let path = Arg::new(alloc, self.argument)
+            .required(true)
+            .help(self.argument_help);
+        clap::Command::new(alloc, self.name)
+            .about(self.about)
+            .after_help(self.after_help)
+            .arg(path)
+    }
+
+    /// The program with this subcommand as well.
+    fn add_to(
+        &self,
+        alloc: Global,
+        program: clap::Command<'a>,
+    ) -> Result<clap::Command<'a>, AllocError>
+        ensures { IfOk result (AddsCommand program.entry (path_app self.now.name.now self.now.argument.now)) }
+    {
+        let command = self.grammar(alloc)?;
+        program.subcommand(command)
+    }
+}
+
+/// The program with `world SCRIPT` as well.
+fn with_world<'a>(
+    alloc: Global,
+    program: clap::Command<'a>,
+) -> Result<clap::Command<'a>, AllocError>
+    ensures { IfOk result (AddsCommand program.entry (path_app (codes "world") (codes "SCRIPT"))) }
+{
+    let command = PathCommand {
+        name: "world",
+        about: "Runs a script of members in a world, and prints the trace of what happened",
+        after_help: "The script has a line for each event: start N, create N, join N ADDR, send N TEXT, deliver K, tick N, leave N, crash N.\nIt prints a line for each event, and `# refused LINE NUMBER` for each event that is refused.\n\nExample:\n  vsync world examples/hello.script",
+        argument: "SCRIPT",
+        argument_help: "The script's path, or - for the standard input",
+    };
+    command.add_to(alloc, program)
+}
+
+/// The program with `chat SCRIPT` as well.
+fn with_chat<'a>(alloc: Global, program: clap::Command<'a>) -> Result<clap::Command<'a>, AllocError>
+    ensures { IfOk result (AddsCommand program.entry (path_app (codes "chat") (codes "SCRIPT"))) }
+{
+    let command = PathCommand {
+        name: "chat",
+        about: "Runs a script as `world` does, and prints the chat of each running member",
+        after_help: "It prints `chat ADDR LINES` for each member that runs at the end. LINES is `-`, or `ADDR:hex` joined by commas, the oldest line first.\n\nExample:\n  vsync chat examples/hello.script",
+        argument: "SCRIPT",
+        argument_help: "The script's path, or - for the standard input",
+    };
+    command.add_to(alloc, program)
+}
+
+/// The program with `packets SCRIPT` as well.
+fn with_packets<'a>(
+    alloc: Global,
+    program: clap::Command<'a>,
+) -> Result<clap::Command<'a>, AllocError>
+    ensures { IfOk result (AddsCommand program.entry (path_app (codes "packets") (codes "SCRIPT"))) }
+{
+    let command = PathCommand {
+        name: "packets",
+        about: "Runs a script as `world` does, and prints each packet that was put out",
+        after_help: "It prints `NUMBER KIND SOURCE DESTINATION HEX` for each packet, in order. NUMBER counts from 1, and HEX is all of the packet's bytes.\n\nExample:\n  vsync packets examples/join.script",
+        argument: "SCRIPT",
+        argument_help: "The script's path, or - for the standard input",
+    };
+    command.add_to(alloc, program)
+}
+
+/// The program with `check TRACE` as well.
+fn with_check<'a>(
+    alloc: Global,
+    program: clap::Command<'a>,
+) -> Result<clap::Command<'a>, AllocError>
+    ensures { IfOk result (AddsCommand program.entry (path_app (codes "check") (codes "TRACE"))) }
+{
+    let command = PathCommand {
+        name: "check",
+        about: "Checks whether a trace is virtually synchronous",
+        after_help: "The trace has a line for each event, as `vsync world` prints it; empty lines and lines that begin with # are skipped.\nIt prints `holds`, or `broken RULE PLACE`: the rule that breaks first, and the length of the shortest beginning that breaks one.\n\nExample:\n  vsync check examples/hello.trace",
+        argument: "TRACE",
+        argument_help: "The trace's path, or - for the standard input",
+    };
+    command.add_to(alloc, program)
+}
+
+/// The program, which requires a subcommand, with none yet, as clap reads it.
+fn program_grammar<'a>(alloc: Global) -> Result<clap::Command<'a>, AllocError>
+    ensures { IfOk result (λ c. app_of c ≡ program_of_subcommands (codes "vsync")) }
+{
+    let program = clap::Command::new(alloc, "vsync")
+        .bin_name("vsync")?
+        .about(
+            "A virtually synchronous group channel, proved. Without words it runs `vsync world -`",
+        )
+        .after_help(
+            "Exit status: 0 done, 1 a trace breaks a rule, 2 usage, 3 the input is refused, 4 memory, 5 a file or the output failed.",
+        )
+        .subcommand_required(true);
+    Ok(program)
+}
+
+/// The command line as clap reads it.
+fn grammar<'a>(alloc: Global) -> Result<clap::Command<'a>, AllocError>
+    ensures { IfOk result (λ c. app_of c ≡ program_app) }
+{
+    let program = program_grammar(alloc)?;
+    let program = with_world(alloc, program)?;
+    let program = with_chat(alloc, program)?;
+    let program = with_packets(alloc, program)?;
+    let program = with_check(alloc, program)?;
+    let program = with_udp(alloc, program)?;
+    with_member(alloc, program)
+}
+
+/// The command over a text that a subcommand's matches name.
+fn text_command<'a>(name: &str, matches: &ArgMatches<'a>) -> Option<TextCommand<'a>>
+    ensures { IfSome result (IsTextSaid (name.now, rows_of (found_of matches.now))) }
+{
+    if name == "world" {
+        return Some(TextCommand::World(matches.get_str("SCRIPT")?));
+    }
+    if name == "chat" {
+        return Some(TextCommand::Chat(matches.get_str("SCRIPT")?));
+    }
+    if name == "packets" {
+        return Some(TextCommand::Packets(matches.get_str("SCRIPT")?));
+    }
+    if name == "check" {
+        return Some(TextCommand::Check(matches.get_str("TRACE")?));
+    }
+    None
+}
+
+/// The command that a subcommand's matches name.
+fn named<'a>(name: &str, matches: &ArgMatches<'a>) -> Option<Invocation<'a>>
+    ensures { IfSome result (IsSaid (name.now, rows_of (found_of matches.now))) }
+{
+    if name == "udp" {
+        return Some(Invocation::Udp(udp_words(matches)?));
+    }
+    if name == "member" {
+        return match member_words(matches) {
+            Some(words) => Some(Invocation::Member(words)),
+            None => None,
+        };
+    }
+    Some(Invocation::Text(text_command(name, matches)?))
+}
+
+/// What matches of the whole command line ask for.
+fn asked<'a>(matches: &ArgMatches<'a>) -> Option<Invocation<'a>>
+    ensures { IfSome result (λ i. IsSomeAnd (subcommand_rows_of matches.now) (λ said. IsSaid said i)) }
+{
+    let (name, inner) = matches.subcommand()?;
+    named(name, inner)
+}
+
+/// The command that words ask for by the grammar.
+fn parsed<'a>(alloc: Global, words: &'a [String]) -> Result<Invocation<'a>, Error>
+    ensures said { IfOk result (λ i.
+        IsSomeAnd (subcommand_of program_app (map string_bytes words.now)) (λ said. IsSaid said i)) }
+    ensures refused { FailsBy (fault_of program_app (map string_bytes words.now)) result }
+{
+    let matches = grammar(alloc)?.try_get_matches_from(words)?;
+    match asked(&matches) {
+        Some(command) => Ok(command),
+        None => Err(Error::from(AllocError)),
+    }
+}
+
+/// The command that the words of a command line ask for, the program's name first: `world SCRIPT`, `chat SCRIPT`,
+/// `packets SCRIPT`, `check TRACE`, `udp CONFIG SCRIPT` or `member CONFIG NODE INCARNATION ROUNDS` with its options.
+/// No words after the name are `world -`. A path that begins with `-` and is more than that stands behind `--`.
+///
+/// Words that are no command give clap's error, whose text says what is wrong (`error.kind()` says which kind of
+/// mistake), or the help that was asked for. Words that are a command give an error of kind `OutOfMemory` alone.
+/// docs/FORMATS.md, "Exit statuses", says how the program ends then: 2 for a mistake, 0 for help, 4 for memory.
+pub fn command<'a>(alloc: Global, words: &'a [String]) -> Result<Invocation<'a>, Error>
+    ensures alone { length words.now ≤ 1 → IsOkAnd result RunsStandardInput }
+    ensures said { 1 < length words.now → IfOk result (λ i.
+        IsSomeAnd (subcommand_of program_app (map string_bytes words.now)) (λ said. IsSaid said i)) }
+    ensures refused { 1 < length words.now
+        → FailsBy (fault_of program_app (map string_bytes words.now)) result }
+    ensures world { (name path : Text) → is_path path ≡ true
+        → map string_bytes words.now ≡ name ∷ codes "world" ∷ path ∷ []
+        → IsOrNoMemory (IsWorldOn path) result }
+    ensures chat { (name path : Text) → is_path path ≡ true
+        → map string_bytes words.now ≡ name ∷ codes "chat" ∷ path ∷ []
+        → IsOrNoMemory (IsChatOn path) result }
+    ensures packets { (name path : Text) → is_path path ≡ true
+        → map string_bytes words.now ≡ name ∷ codes "packets" ∷ path ∷ []
+        → IsOrNoMemory (IsPacketsOn path) result }
+    ensures check { (name path : Text) → is_path path ≡ true
+        → map string_bytes words.now ≡ name ∷ codes "check" ∷ path ∷ []
+        → IsOrNoMemory (IsCheckOn path) result }
+    ensures udp { (name config script : Text) → is_path config ≡ true → is_path script ≡ true
+        → map string_bytes words.now ≡ name ∷ codes "udp" ∷ config ∷ script ∷ []
+        → IsOrNoMemory (IsUdpOn config script) result }
+{
+    if words.len() <= 1 {
+        return Ok(Invocation::Text(TextCommand::World("-")));
+    }
+    parsed(alloc, words)
+}

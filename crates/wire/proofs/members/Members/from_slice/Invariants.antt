@@ -1,6 +1,0 @@
-use Rattle.std.proofs.Common.{◌≡◌, take}
-use Rattle.wire.proofs.members.Members.from_slice.Given as goal
-
--- the addresses so far
-abbrev pub invariant-loop-address : goal.invariant-loop-address
-invariant-loop-address l = l.members ≡ take l.address-index l.addresses

@@ -1,0 +1,7 @@
+pub mod Values
+pub mod Names
+pub mod Reading
+pub mod Kinds
+pub mod Fields
+pub mod Texts
+pub mod Lists

@@ -1,0 +1,171 @@
+ghost use Rattle.std.specs.Prelude.{◌≡◌, ◌≤◌, ◌+◌, true, None, Some, min, IfOk};
+ghost use Rattle.std.specs.Option.{SomeIff};
+ghost use Rattle.wire_values.specs.Values.{nothing_reported};
+ghost use Rattle.wire_values.specs.Reading.{IsRead};
+ghost use Rattle.wire_values.specs.Lists.{are_held, is_filled, is_report, held_count_at, filled_at, report_at};
+
+use crate::Count;
+use crate::entries::{Held, held_at, highest_next};
+use crate::error::WireError;
+use crate::fields::Reader;
+use crate::numbers::count_at;
+use address::ViewId;
+use limits::{GREATEST_NUMBER, WINDOW};
+use std::marker::Model;
+
+/// What a member reports of the view that it comes from: its id, how far it has the view's order, and the
+/// entries past the stable one, in lent bytes.
+#[derive(Drop)]
+pub struct Report<'a> {
+    previous: Option<ViewId>,
+    stable: Count,
+    delivered: Count,
+    held: Held<'a>,
+}
+
+impl<'a> Model for Report<'a> {
+    ghost use Rattle.std.specs.Prelude.{◌≡◌, true};
+    ghost use Rattle.wire_values.specs.Values.{Report};
+    ghost use Rattle.wire_values.specs.Lists.{is_report};
+
+    ghost Value = { Report };
+
+    ghost view = { λ r. record { previous = r.previous; stable = r.stable; delivered = r.delivered; held = r.held } };
+
+    ghost invariant = { λ r. is_report (record { previous = r.previous; stable = r.stable; delivered = r.delivered; held = r.held }) ≡ true };
+}
+
+// Whether the entries' places rise as a report's do.
+fn are_held(stable: Count, delivered: Count, held: &Held<'_>) -> bool
+    ensures { result ≡ are_held stable delivered stable held.now }
+{
+    let mut left = held.again();
+    let mut last = stable.get();
+    while let Some((place, _)) = left.take_first() {
+        let highest = highest_next(stable.get(), delivered.get(), last);
+        if !(last < place.get() && place.get() <= highest) {
+            return false;
+        }
+        last = place.get();
+    }
+    true
+}
+
+// Whether counts and entries are those of a report of a view.
+fn is_filled(stable: Count, delivered: Count, held: &Held<'_>) -> bool
+    ensures { result ≡ is_filled (record { previous = None; stable = stable; delivered = delivered; held = held.now }) }
+{
+    let highest = (stable.get() + WINDOW).min(GREATEST_NUMBER);
+    let near = stable.get() <= delivered.get() && delivered.get() <= highest;
+    let enough = delivered.get() <= stable.get() + held.len() as u64;
+    near && held.len() as u64 <= WINDOW && enough && are_held(stable, delivered, held)
+}
+
+impl<'a> Report<'a> {
+    /// The report of a member that comes from no view.
+    pub fn nothing() -> Report<'a>
+        ensures { result ≡ nothing_reported }
+    {
+        Report {
+            previous: None,
+            stable: Count::zero(),
+            delivered: Count::zero(),
+            held: Held::none(),
+        }
+    }
+
+    /// The report of a member of a view. `None` where the counts are no report's (the stable one is above the
+    /// delivered one, or more than the window below it), or the entries are none: their places must rise from
+    /// the stable count, by one up to the delivered count, and lie within the window.
+    pub fn new(
+        previous: ViewId,
+        stable: Count,
+        delivered: Count,
+        held: Held<'a>,
+    ) -> Option<Report<'a>>
+        ensures { SomeIff result (is_filled (record { previous = Some previous; stable = stable; delivered = delivered; held = held.entry }) ≡ true) (record { previous = Some previous; stable = stable; delivered = delivered; held = held.entry }) }
+    {
+        if !is_filled(stable, delivered, &held) {
+            return None;
+        }
+        Some(Report {
+            previous: Some(previous),
+            stable,
+            delivered,
+            held,
+        })
+    }
+
+    /// The view that it comes from.
+    pub fn previous(&self) -> Option<ViewId>
+        ensures value { result ≡ self.now.previous }
+        ensures report { is_report self.now ≡ true }
+    {
+        self.previous
+    }
+
+    /// Up to which number of that view's order it knows that all have it.
+    pub fn stable(&self) -> Count
+        ensures { result ≡ self.now.stable }
+    {
+        self.stable
+    }
+
+    /// How many messages of that view it has delivered.
+    pub fn delivered(&self) -> Count
+        ensures { result ≡ self.now.delivered }
+    {
+        self.delivered
+    }
+
+    /// The entries past the stable one that it has, with their places.
+    pub fn held(&self) -> Held<'a>
+        ensures { result ≡ self.now.held }
+    {
+        self.held.again()
+    }
+}
+
+#[tactic(auto, unfolding(crate::specs::Lists::held_count_at))]
+fn held_count_at(stable: u64, delivered: u64, from: &mut Reader<'_>) -> Result<u8, WireError>
+    requires { stable ≤ GREATEST_NUMBER }
+    ensures gives { IsRead (λ x. (x, from.new)) result (held_count_at stable delivered from.old) }
+    ensures few { IfOk result (λ x. x ≤ WINDOW) }
+    ensures enough { IfOk result (λ x. delivered ≤ stable + x) }
+{
+    let count = from.u8(0, WINDOW as u8, WireError::Length)?;
+    if delivered > stable + count as u64 {
+        return Err(WireError::Value);
+    }
+    Ok(count)
+}
+
+#[tactic(auto, unfolding(crate::specs::Lists::filled_at))]
+fn filled_at<'a>(from: &mut Reader<'a>) -> Result<Report<'a>, WireError>
+    ensures { IsRead (λ x. (x, from.new)) result (filled_at from.old) }
+{
+    let previous = from.view_id()?;
+    let stable = count_at(0, GREATEST_NUMBER, from)?;
+    let highest = (stable.get() + WINDOW).min(GREATEST_NUMBER);
+    let delivered = count_at(stable.get(), highest, from)?;
+    let count = held_count_at(stable.get(), delivered.get(), from)?;
+    let held = held_at(stable.get(), delivered.get(), count, from)?;
+    Ok(Report {
+        previous: Some(previous),
+        stable,
+        delivered,
+        held,
+    })
+}
+
+/// Reads what a REPORT says: of no view, or of one with its counts and what is held. An error is that of the first field that fails.
+#[tactic(auto, unfolding(crate::specs::Lists::report_at))]
+pub fn report_at<'a>(from: &mut Reader<'a>) -> Result<Report<'a>, WireError>
+    ensures { IsRead (λ x. (x, from.new)) result (report_at from.old) }
+{
+    let flag = from.u8(0, 1, WireError::Value)?;
+    if flag == 0 {
+        return Ok(Report::nothing());
+    }
+    filled_at(from)
+}

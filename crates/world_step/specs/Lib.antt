@@ -1,0 +1,6 @@
+pub mod NodeStates
+pub mod Outputs
+pub mod Turns
+pub mod Invariant
+pub mod Worlds
+pub mod Pools
