@@ -99,7 +99,7 @@ fn print_silence(rt: &HostRuntime, text: &mut Vec<u8>) -> io::Result<()> {
     let told = silent::fourth(rt.alloc(), text);
     print(rt, "a silent member", told, text)?;
     let told = silent::signs(rt.alloc(), text);
-    print(rt, "signs of member_state", told, text)?;
+    print(rt, "signs of life", told, text)?;
     let told = silent::while_blocked(rt.alloc(), text);
     print(rt, "silence while blocked", told, text)
 }
