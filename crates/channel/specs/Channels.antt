@@ -9,10 +9,10 @@ use Rattle.step_output.specs.declared.output.Outgoing.{Outgoing}
 use Rattle.step_output.specs.Names.{same_name}
 use Rattle.member.specs.declared.error.Error.{Error}
 use Rattle.member.specs.Members.{MemberModel, core_of}
+use Rattle.member.specs.Sources.{source_of}
 use Rattle.channel.specs.declared.stage.Stage.{Stage}
 use Rattle.channel.specs.declared.stage.Stage.TheVariants.{Apart, Connected, Ended}
 use Rattle.channel.specs.Errors.{is_end}
-use Rattle.channel.specs.Sources.{source_of}
 
 -- its address; what it is: apart, with its receiver's state, or a member, or ended; the packets and the events that wait
 pub record ChannelModel (S : Type 0) : Type 0 where

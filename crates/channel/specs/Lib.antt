@@ -1,5 +1,4 @@
 pub mod Errors
-pub mod Sources
 pub mod Queues
 pub mod Channels
 pub mod Calls

@@ -6,6 +6,7 @@ ghost use Rattle.channel.specs.declared.stage.Stage.TheVariants.{Apart, Ended};
 ghost use Rattle.channel.specs.Channels.{left_by, view_in, is_blocked, receiver_in, source_at};
 ghost use Rattle.channel.specs.Calls.{Calls, CallsLent, Connects, Reconnects, Watches};
 ghost use Rattle.channel.specs.Queues.{TakesFirst, sent_at};
+ghost use Rattle.channel.specs.Stages.{Keeps};
 
 use crate::queues::{number_sent, put_all};
 use crate::stage::Stage;
@@ -16,7 +17,7 @@ use state_transfer::Receiver;
 use std::alloc::Global;
 use std::collections::VecDeque;
 use std::marker::Model;
-use step_output::Outgoing;
+use step_output::{Outgoing, Output};
 use trace_props::Event;
 use view::View;
 
@@ -118,9 +119,9 @@ impl<R: Receiver> Channel<R> {
         ensures left { IfErr result (λ e. self.new ≡ left_by e self.old) }
         ensures source { IfOk result (λ source. source ≡ source_at bytes.now self.old) }
     {
-        let source = self.stage.source_of(bytes);
-        self.call(&Input::Datagram(bytes))?;
-        Ok(source)
+        let taken = self.stage.take(bytes)?;
+        self.keep(taken.out)?;
+        Ok(taken.source)
     }
 
     /// Tells it that the member of an address has failed (docs/PROTOCOL.md, "Suspicion"). Refused with 1 before a connect, with 6 after its end, and with 7 where
@@ -214,10 +215,18 @@ impl<R: Receiver> Channel<R> {
     {
         let out = self.stage.hand(input)?;
         let number = number_sent(&out.events);
+        self.keep(out)?;
+        Ok(number)
+    }
+
+    // What a step put out waits behind what waited; where room for it is refused, it has ended.
+    fn keep(&mut self, out: Output) -> Result<(), Error>
+        ensures { Keeps out self.old (result_err result) self.new }
+    {
         if put_all(&mut self.outgoing, &mut self.happened, out).is_err() {
             self.stage = Stage::Ended;
             return Err(Error::Refused(Refusal::Memory));
         }
-        Ok(number)
+        Ok(())
     }
 }

@@ -3,7 +3,6 @@
 #![tactic(auto)]
 
 mod channel;
-mod connection;
 mod queues;
 mod stage;
 

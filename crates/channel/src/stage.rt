@@ -1,16 +1,17 @@
 //! How far a channel has come.
 
-ghost use Rattle.std.specs.Prelude.{◌≡◌};
+ghost use Rattle.std.specs.Prelude.{◌≡◌, IfOk};
 ghost use Rattle.std.specs.Option.{option_copied, option_and_then};
 ghost use Rattle.channel.specs.Channels.{member_in, view_in, is_blocked, receiver_in, is_in};
-ghost use Rattle.channel.specs.Sources.{source_of};
+ghost use Rattle.member.specs.declared.input.Input.TheVariants as input;
+ghost use Rattle.member.specs.Handling.{Handled};
+ghost use Rattle.member.specs.Sources.{source_of, output_of};
 ghost use Rattle.channel.specs.Calls.{Watches};
-ghost use Rattle.channel.specs.Stages.{Begins, Hands};
+ghost use Rattle.channel.specs.Stages.{Begins, Hands, without_ended};
 
-use crate::connection::Connection;
 use address::Address;
 use limits::Refusal;
-use member::{Error, Input};
+use member::{Error, Input, Member, Taken};
 use state_transfer::Receiver;
 use std::alloc::Global;
 use std::mem;
@@ -18,13 +19,30 @@ use step_output::Output;
 use view::View;
 use wire_values::GroupName;
 
+// One step of a member.
+fn handle<R: Receiver>(member: &mut Member<R>, input: &Input<'_>) -> Result<Output, Error>
+    ensures { Handled R.meaning member.old input.now result member.new }
+{
+    // By its parts, since an enum that lends bytes is not passed on whole.
+    match input {
+        Input::Create => member.handle(Input::Create),
+        Input::Join(contact) => member.handle(Input::Join(*contact)),
+        Input::Send(payload) => member.handle(Input::Send(payload)),
+        Input::Datagram(bytes) => member.handle(Input::Datagram(bytes)),
+        Input::Tick => member.handle(Input::Tick),
+        Input::Suspect(address) => member.handle(Input::Suspect(*address)),
+        Input::MergeHint(address) => member.handle(Input::MergeHint(*address)),
+        Input::Leave => member.handle(Input::Leave),
+    }
+}
+
 /// How far a channel has come.
 #[derive(Drop)]
 pub enum Stage<R: Receiver> {
     /// It was never connected, and has the receiver that its member will have.
     Apart(R),
     /// Its member runs.
-    Connected(Connection<R>),
+    Connected(Member<R>),
     /// It has ended, for good.
     Ended,
 }
@@ -35,7 +53,7 @@ impl<R: Receiver> Stage<R> {
         ensures { option_copied result ≡ view_in self.now }
     {
         match self {
-            Stage::Connected(connection) => connection.member().view(),
+            Stage::Connected(member) => member.view(),
             Stage::Apart(_) | Stage::Ended => None,
         }
     }
@@ -45,7 +63,7 @@ impl<R: Receiver> Stage<R> {
         ensures { result ≡ is_blocked self.now }
     {
         match self {
-            Stage::Connected(connection) => connection.member().is_blocked(),
+            Stage::Connected(member) => member.is_blocked(),
             Stage::Apart(_) | Stage::Ended => false,
         }
     }
@@ -56,7 +74,7 @@ impl<R: Receiver> Stage<R> {
     {
         match self {
             Stage::Apart(receiver) => Some(receiver),
-            Stage::Connected(connection) => connection.member().receiver(),
+            Stage::Connected(member) => member.receiver(),
             Stage::Ended => None,
         }
     }
@@ -66,18 +84,8 @@ impl<R: Receiver> Stage<R> {
         ensures { result ≡ is_in name.now self.now }
     {
         match self {
-            Stage::Connected(connection) => connection.is_in(name),
+            Stage::Connected(member) => name == member.group().as_slice(),
             Stage::Apart(_) | Stage::Ended => false,
-        }
-    }
-
-    // From whom a datagram came that is for its member.
-    pub(crate) fn source_of(&self, bytes: &[u8]) -> Option<Address>
-        ensures { result ≡ option_and_then (λ m. source_of m.address m.group bytes.now) (member_in self.now) }
-    {
-        match self {
-            Stage::Connected(connection) => connection.source_of(bytes),
-            Stage::Apart(_) | Stage::Ended => None,
         }
     }
 
@@ -87,7 +95,7 @@ impl<R: Receiver> Stage<R> {
     {
         match self {
             Stage::Apart(_) => Err(Error::Refused(Refusal::NotConnected)),
-            Stage::Connected(connection) => Ok(connection.member().watched()?),
+            Stage::Connected(member) => Ok(member.watched()?),
             Stage::Ended => Err(Error::Refused(Refusal::Closed)),
         }
     }
@@ -107,9 +115,22 @@ impl<R: Receiver> Stage<R> {
             Stage::Ended => return Err(Error::Refused(Refusal::Closed)),
         };
         if let Stage::Apart(receiver) = mem::replace(self, Stage::Ended) {
-            *self = Stage::Connected(Connection::new(alloc, address, &group, receiver));
+            *self = Stage::Connected(Member::new(alloc, address, group, receiver));
         }
         Ok(())
+    }
+
+    // Lets go of its member where that has ended.
+    fn let_go(&mut self)
+        ensures { self.new ≡ without_ended self.old }
+    {
+        let has_ended = match self {
+            Stage::Connected(member) => member.receiver().is_none(),
+            Stage::Apart(_) | Stage::Ended => false,
+        };
+        if has_ended {
+            *self = Stage::Ended;
+        }
     }
 
     // One step of its member. Once that has ended, so has the channel.
@@ -118,13 +139,26 @@ impl<R: Receiver> Stage<R> {
     {
         match self {
             Stage::Apart(_) => Err(Error::Refused(Refusal::NotConnected)),
-            Stage::Connected(connection) => {
-                let called = connection.handle(input);
-                let has_ended = connection.has_ended();
-                if has_ended {
-                    *self = Stage::Ended;
-                }
+            Stage::Connected(member) => {
+                let called = handle(member, input);
+                self.let_go();
                 called
+            }
+            Stage::Ended => Err(Error::Refused(Refusal::Closed)),
+        }
+    }
+
+    // One step of its member by a datagram; it answers from whom that came, where it is for the member. Once that has ended, so has the channel.
+    pub(crate) fn take(&mut self, bytes: &[u8]) -> Result<Taken, Error>
+        ensures hands { Hands R.meaning (input.Datagram bytes.entry) self.old (output_of result) self.new }
+        ensures source { IfOk result (λ taken. taken.source ≡ option_and_then (λ m. source_of m.address m.group bytes.now) (member_in self.old)) }
+    {
+        match self {
+            Stage::Apart(_) => Err(Error::Refused(Refusal::NotConnected)),
+            Stage::Connected(member) => {
+                let taken = member.take(bytes);
+                self.let_go();
+                taken
             }
             Stage::Ended => Err(Error::Refused(Refusal::Closed)),
         }

@@ -1,6 +1,7 @@
 pub mod Running
 pub mod Hearing
 pub mod Errors
+pub mod Sources
 pub mod Members
 pub mod Doing
 pub mod Handling

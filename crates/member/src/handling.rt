@@ -1,13 +1,14 @@
 //! What a member does by each input. After its end it answers 6; want of memory ends it.
 
-ghost use Rattle.std.specs.Prelude.{◌≡◌, Some, None};
+ghost use Rattle.std.specs.Prelude.{◌≡◌, Some, None, Ok, IfOk};
 ghost use Rattle.limits.specs.declared.refusal.Refusal.TheVariants as refusal;
 ghost use Rattle.member.specs.declared.error.Error.TheVariants as error;
 ghost use Rattle.member.specs.Running.{IsAlive};
 ghost use Rattle.member.specs.declared.input.Input.TheVariants as input;
 ghost use Rattle.member.specs.Handling.{Handled};
+ghost use Rattle.member.specs.Sources.{source_in, source_of, output_of};
 
-use crate::Error;
+use crate::{Error, Taken};
 use crate::hearing::{pass_time, take_packet};
 use address::Address;
 use limits::Refusal;
@@ -17,6 +18,7 @@ use membership::MemberState;
 use state_transfer::Receiver;
 use step_output::{Identity, Output};
 use wire::decode;
+use wire_values::Packet;
 
 // Ends the member, which was refused memory, and answers that.
 fn end_without_memory<R: Receiver>(member_state: &mut Option<MemberState<R>>) -> Error
@@ -95,15 +97,27 @@ pub(crate) fn send_message<R: Receiver>(
     }
 }
 
-// A datagram came.
+// From whom a packet came, where it is for the member.
+fn source_in(who: &Identity, packet: &Packet<'_>) -> Option<Address>
+    ensures { result ≡ source_in who.now.address who.now.group (Ok packet.now) }
+{
+    if who.is_for(packet) {
+        Some(packet.source)
+    } else {
+        None
+    }
+}
+
+// A datagram came. It is read here, and nowhere else.
 pub(crate) fn take_datagram<R: Receiver>(
     member_state: &mut Option<MemberState<R>>,
     who: &Identity,
     bytes: &[u8],
-) -> Result<Output, Error>
+) -> Result<Taken, Error>
     requires alive { IsAlive who.now.group who.now.address member_state.old }
     ensures alive { IsAlive who.now.group who.now.address member_state.new }
-    ensures handled { Handled R.meaning (record { address = who.now.address; group = who.now.group; member_state = member_state.old }) (input.Datagram bytes.entry) result (record { address = who.now.address; group = who.now.group; member_state = member_state.new }) }
+    ensures handled { Handled R.meaning (record { address = who.now.address; group = who.now.group; member_state = member_state.old }) (input.Datagram bytes.entry) (output_of result) (record { address = who.now.address; group = who.now.group; member_state = member_state.new }) }
+    ensures source { IfOk result (λ taken. taken.source ≡ source_of who.now.address who.now.group bytes.now) }
 {
     let Some(running) = member_state else {
         return Err(Error::Refused(Refusal::Closed));
@@ -113,7 +127,10 @@ pub(crate) fn take_datagram<R: Receiver>(
         Ok(packet) => {
             let mut out = Output::nothing(who.alloc);
             match take_packet(running, who, &packet, &mut out) {
-                Ok(()) => Ok(out),
+                Ok(()) => Ok(Taken {
+                    out,
+                    source: source_in(who, &packet),
+                }),
                 Err(stop) => {
                     *member_state = None;
                     Err(Error::from(stop))

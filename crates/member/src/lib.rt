@@ -9,8 +9,10 @@ mod hearing;
 mod input;
 mod member;
 mod rules;
+mod taken;
 mod watching;
 
 pub use error::Error;
 pub use input::Input;
 pub use member::Member;
+pub use taken::Taken;

@@ -6,14 +6,16 @@ ghost use Rattle.membership.specs.MemberStates.{idle_member};
 ghost use Rattle.member.specs.Running.{IsAlive};
 ghost use Rattle.member.specs.Members.{core_of, refusal_of, is_unreadable};
 ghost use Rattle.member.specs.Doing.{Does};
-ghost use Rattle.member.specs.Handling.{HasActed, RefusesAs, EndsWithout, IsClosed, Replies, IsPrompt, Ignores};
+ghost use Rattle.member.specs.declared.input.Input.TheVariants as input;
+ghost use Rattle.member.specs.Sources.{source_of, output_of};
+ghost use Rattle.member.specs.Handling.{Handled, HasActed, RefusesAs, EndsWithout, IsClosed, Replies, IsPrompt, Ignores};
 ghost use Rattle.member.specs.Watching.{watched};
 
 use crate::handling::{
     create_group, join_group, leave_group, merge_hint, send_message, suspect, take_datagram, tick,
 };
 use crate::watching::watched_in;
-use crate::{Error, Input};
+use crate::{Error, Input, Taken};
 use address::Address;
 use limits::STEP_EVENTS;
 use membership::MemberState;
@@ -69,6 +71,13 @@ impl<R: Receiver> Member<R> {
         self.identity.address
     }
 
+    /// The name of its group.
+    pub fn group(&self) -> GroupName<'_>
+        ensures { result ≡ self.now.group }
+    {
+        self.identity.group.lent()
+    }
+
     /// Its view; `None` where it has none yet, and after its end.
     pub fn view(&self) -> Option<&View>
         ensures { option_copied result ≡ option_and_then (λ c. c.view) (core_of self.now) }
@@ -114,6 +123,14 @@ impl<R: Receiver> Member<R> {
         }
     }
 
+    /// One step by a datagram: what `handle` does by `Input::Datagram` of these bytes, and from whom they came, where they are for it. They are read once.
+    pub fn take(&mut self, bytes: &[u8]) -> Result<Taken, Error>
+        ensures handled { Handled R.meaning self.old (input.Datagram bytes.entry) (output_of result) self.new }
+        ensures source { IfOk result (λ taken. taken.source ≡ source_of self.old.address self.old.group bytes.now) }
+    {
+        take_datagram(&mut self.member_state, &self.identity, bytes)
+    }
+
     /// One step: an input comes in, packets and events come out, in order (docs/PROTOCOL.md, "The atomic step").
     ///
     /// Refused with 6 after its end, and before it with 1 to 5, 8 and 20 to 26 as the inputs say: the member is then as before. Refused with 7
@@ -149,7 +166,10 @@ impl<R: Receiver> Member<R> {
             Input::Create => create_group(&mut self.member_state, &self.identity),
             Input::Join(contact) => join_group(&mut self.member_state, &self.identity, contact),
             Input::Send(payload) => send_message(&mut self.member_state, &self.identity, payload),
-            Input::Datagram(bytes) => take_datagram(&mut self.member_state, &self.identity, bytes),
+            Input::Datagram(bytes) => {
+                let taken = take_datagram(&mut self.member_state, &self.identity, bytes)?;
+                Ok(taken.out)
+            }
             Input::Tick => tick(&mut self.member_state, &self.identity),
             Input::Suspect(address) => suspect(&mut self.member_state, &self.identity, address),
             Input::MergeHint(address) => merge_hint(

@@ -3,7 +3,6 @@
 use address::{Address, ViewId};
 use limits::MEMBERS;
 use view::View;
-use wire::decode;
 use wire_values::Body;
 
 // As many as are ever watched: the others of a view, and the others of the list of a flush.
@@ -31,12 +30,12 @@ fn no_counts() -> [Option<Count>; PLACES] {
     [None; PLACES]
 }
 
-// Whether a datagram is a JOIN.
+// Where the kind stands in a packet (docs/WIRE.md, "The header").
+const KIND: usize = 3;
+
+// Whether a datagram that spells a packet spells a JOIN.
 fn is_join(bytes: &[u8]) -> bool {
-    match decode(bytes) {
-        Ok(packet) => matches!(packet.body, Body::Join),
-        Err(_) => false,
-    }
+    bytes.get(KIND) == Some(&Body::Join.kind())
 }
 
 // Whether an address is a member of the view, if there is one.
