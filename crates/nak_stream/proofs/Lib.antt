@@ -1,3 +1,4 @@
 pub mod Lists
 pub mod Orders
+pub mod Rings
 pub mod Windows

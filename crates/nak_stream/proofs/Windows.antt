@@ -1,8 +1,8 @@
 -- What holds of each window goes on to hold as entries come, are delivered and are let go.
 use Rattle.std.proofs.Common.{◌≡◌, ℕ, ◌+◌, ◌<◌, ◌≤◌, Bool, true, false, List, [], ◌∷◌, Some, None, refl, sym, ap, ◌∙◌, subst, arith, cond}
 use Rattle.std.specs.Prelude.{IsSome, is_some, nat_lt, nat_eq}
-use Rattle.std.specs.Ordering.{nat_cmp, is_eq}
-use Rattle.std.specs.Map.{keys_of, lookup}
+use Rattle.std.specs.Ordering.{nat_cmp}
+use Rattle.std.specs.Map.{keys_of}
 use Rattle.std.specs.List.Sorted.{IsStrictlySortedBy}
 use Rattle.std.proofs.lemmas.Bool.Decides.{nat_tests}
 use Rattle.std.proofs.lemmas.Map.Entries.{lookup-filter-keys}
@@ -10,29 +10,6 @@ use Rattle.limits.specs.declared.TheConstants.{WINDOW, GREATEST_NUMBER}
 use Rattle.wire_values.specs.Values.{Entry, held_at}
 use Rattle.nak_stream.specs.Windows.{WindowModel, held_above, held_with, offers, IsWindow}
 use Rattle.std.proofs.lemmas.Bool.{eqb-true}
-use Rattle.address.proofs.SameIds.{is_eq-nat}
-
--- so what a map has at a number is what is held there
-pub map-holds : (g : ℕ) (held : List (ℕ × Entry)) → lookup (λ k. is_eq (nat_cmp g k)) held ≡ held_at g held
-map-holds g held = λ i. lookup (λ k. is_eq-nat g k i) held
-
--- and what it has after an insertion, too
-pub map-updates : (g k : ℕ) (e : Entry) (held more : List (ℕ × Entry))
-    → lookup (λ n. is_eq (nat_cmp k n)) more ≡ cond (is_eq (nat_cmp g k)) (Some e) (lookup (λ n. is_eq (nat_cmp k n)) held)
-    → held_at k more ≡ cond (nat_eq g k) (Some e) (held_at k held)
-map-updates g k e held more at = sym (map-holds k more) ∙ at ∙ (λ i. cond (is_eq-nat g k i) (Some e) (map-holds k held i))
-
--- the next number was held, and is delivered
-pub delivering-kept : (w : WindowModel) → IsWindow w → IsSome (held_at (w.delivered + 1) w.held) → IsWindow (record w { delivered = w.delivered + 1 })
-delivering-kept w i next = record {
-  counts = omega (arith, i.counts);
-  last = i.small (w.delivered + 1) next;
-  above = i.above;
-  within = i.within;
-  small = i.small;
-  there = λ g a b. grind (arith, i.there g, next);
-  rising = i.rising;
-}
 
 -- a number at which an entry more is held is that entry's, or one that was held
 of-one-more : (b : Bool) (g k low high : ℕ) (e : Entry) (held more : List (ℕ × Entry)) → nat_eq g k ≡ b

@@ -1,4 +1,4 @@
-ghost use Rattle.std.specs.Prelude.{◌≡◌, IfOk};
+ghost use Rattle.std.specs.Prelude.{◌≡◌, ◌<◌, length, IfOk, OnErr};
 
 use crate::OwnedPayload;
 use address::Address;
@@ -27,9 +27,10 @@ impl Model for Entry {
 }
 
 impl Entry {
-    /// A copy of a lent entry.
+    /// A copy of a lent entry. One whose payload is empty takes no memory.
     pub fn copy_of(alloc: Global, entry: &LentEntry<'_>) -> Result<Entry, AllocError>
-        ensures { IfOk result (λ e. e ≡ entry.now) }
+        ensures value { IfOk result (λ e. e ≡ entry.now) }
+        ensures err { OnErr result (0 < length entry.now.payload) }
     {
         let payload = OwnedPayload::copy_of(alloc, &entry.payload)?;
         Ok(Entry {
@@ -52,7 +53,8 @@ impl Entry {
 
     /// A copy of it.
     pub(crate) fn copied(&self, alloc: Global) -> Result<Entry, AllocError>
-        ensures { IfOk result (λ e. e ≡ self.now) }
+        ensures value { IfOk result (λ e. e ≡ self.now) }
+        ensures err { OnErr result (0 < length self.now.payload) }
     {
         Entry::copy_of(alloc, &self.lent())
     }

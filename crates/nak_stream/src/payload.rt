@@ -1,4 +1,4 @@
-ghost use Rattle.std.specs.Prelude.{◌≡◌, IfOk};
+ghost use Rattle.std.specs.Prelude.{◌≡◌, ◌<◌, length, IfOk, OnErr};
 
 use std::alloc::{AllocError, Global};
 use std::marker::Model;
@@ -22,11 +22,16 @@ impl Model for OwnedPayload {
 }
 
 impl OwnedPayload {
-    /// A copy of a payload.
+    /// A copy of a payload. An empty one takes no memory.
     pub fn copy_of(alloc: Global, payload: &Payload<'_>) -> Result<OwnedPayload, AllocError>
-        ensures { IfOk result (λ kept. kept ≡ payload.now) }
+        ensures value { IfOk result (λ kept. kept ≡ payload.now) }
+        ensures err { OnErr result (0 < length payload.now) }
     {
         let lent = payload.as_slice();
+        if lent.is_empty() {
+            let bytes = Vec::new(alloc);
+            return Ok(OwnedPayload { bytes });
+        }
         let bytes = Vec::from_slice(alloc, lent)?;
         Ok(OwnedPayload { bytes })
     }

@@ -1,15 +1,15 @@
-ghost use Rattle.std.specs.Prelude.{◌≡◌, ℕ, ◌+◌, ◌≤◌, ◌<◌, IfOk, OnOk, OnErr, IsSome, IsTrue, MatchOption, is_some};
+ghost use Rattle.std.specs.Prelude.{◌≡◌, ℕ, ◌+◌, ◌≤◌, ◌<◌, length, slice_set, Some, [], IfOk, OnOk, OnErr, IsSome, IsSomeAnd, IsTrue, MatchOption, is_some};
 ghost use Rattle.std.specs.Option.{option_copied};
-ghost use Rattle.std.specs.Ordering.{nat_cmp};
-ghost use Rattle.std.specs.Map.{keys_of};
-ghost use Rattle.std.specs.List.Sorted.{IsStrictlySortedBy};
+ghost use Rattle.circular_buffer.specs.Buffer.{buffer};
+ghost use Rattle.limits.specs.declared.TheConstants.{WINDOW};
 ghost use Rattle.wire_values.specs.Values.{held_at};
 ghost use Rattle.nak_stream.specs.Windows.{WindowModel, empty_window, held_above, offers, taken, delivering, collected, IsWindow, IsLeastGap, IsGreatestGap};
+ghost use Rattle.nak_stream.specs.Rings.{numbered, IsFull};
 
 use crate::Entry;
+use circular_buffer::{HeapCircularBuffer, Iter};
 use limits::{GREATEST_NUMBER, WINDOW};
 use std::alloc::{AllocError, Global};
-use std::collections::BTreeMap;
 use std::marker::Model;
 use wire_values::Entry as LentEntry;
 
@@ -17,23 +17,25 @@ use wire_values::Entry as LentEntry;
 /// that are held, each at its number in the view's one order. Numbers run from 1 to `GREATEST_NUMBER`.
 ///
 /// The stable count is at most the delivered one. All that is held lies above the stable count and at most `WINDOW` above
-/// it, and each number from the stable count to the delivered one is held (docs/PROTOCOL.md, "Window").
+/// it, and each number from the stable count to the delivered one is held (docs/PROTOCOL.md, "Window"). They lie in a ring of `WINDOW` slots that
+/// stands from the beginning: slot i, from 0, is that of the number stable + 1 + i, and has the entry or none.
 #[derive(Debug, Drop)]
 pub struct Window {
     alloc: Global,
     stable: u64,
     delivered: u64,
-    held: BTreeMap<u64, Entry>,
+    slots: HeapCircularBuffer<Option<Entry>>,
 }
 
 impl Model for Window {
-    ghost use Rattle.nak_stream.specs.Windows.{WindowModel, IsWindow};
+    ghost use Rattle.nak_stream.specs.Windows.{WindowModel};
+    ghost use Rattle.nak_stream.specs.Rings.{numbered, IsRing};
 
     ghost Value = { WindowModel };
 
-    ghost view = { λ w. record { stable = w.stable; delivered = w.delivered; held = w.held.entries } };
+    ghost view = { λ w. record { stable = w.stable; delivered = w.delivered; held = numbered w.stable w.slots.items } };
 
-    ghost invariant = { λ w. IsWindow (record { stable = w.stable; delivered = w.delivered; held = w.held.entries }) };
+    ghost invariant = { λ w. IsRing w.stable w.delivered w.slots };
 }
 
 impl Window {
@@ -45,7 +47,7 @@ impl Window {
             alloc,
             stable: 0,
             delivered: 0,
-            held: BTreeMap::new(alloc),
+            slots: empty_slots(alloc)?,
         })
     }
 
@@ -70,34 +72,36 @@ impl Window {
         let _ = &self.stable;
     }
 
-    /// What is held: each entry at its number in the view's one order.
-    pub fn held(&self) -> &BTreeMap<u64, Entry>
-        ensures { result.now.entries ≡ self.now.held }
+    /// The slots, in the order of their numbers, from the one after the stable count: each has the entry that is held at its number, or none.
+    pub fn slots(&self) -> Iter<'_, Option<Entry>>
+        ensures held { numbered self.now.stable result ≡ self.now.held }
+        ensures all { length result ≡ WINDOW }
     {
-        &self.held
+        self.slots.iter()
     }
 
     /// The entry that is held at a number.
     pub fn entry(&self, g: u64) -> Option<&Entry>
         ensures { option_copied result ≡ held_at g self.now.held }
     {
-        entry_at(&self.held, g)
+        entry_at(&self.slots, self.stable, g)
     }
 
     /// Offers a lent entry at the number `g`. It is taken, and true is answered, exactly where `g` is above the delivered count, at most
     /// `WINDOW` above the stable count and at most `GREATEST_NUMBER`, and nothing is held there. The entry is copied.
-    /// An error for want of memory comes only where it was to be taken; it leaves the window as it was.
+    /// An error for want of memory comes only where it was to be taken and its payload is not empty; it leaves the window as it was.
     pub fn accept(&mut self, g: u64, entry: &LentEntry<'_>) -> Result<bool, AllocError>
         ensures answer { IfOk result (λ answer. answer ≡ offers g self.old) }
         ensures ok { OnOk result (self.new ≡ taken g entry.now self.old) }
         ensures err { OnErr result (self.new ≡ self.old) }
         ensures err_only { OnErr result (IsTrue (offers g self.old)) }
+        ensures err_empty { OnErr result (0 < length entry.now.payload) }
     {
         if !self.offers(g) {
             return Ok(false);
         }
         let entry = Entry::copy_of(self.alloc, entry)?;
-        self.held.insert(g, entry)?;
+        fill(&mut self.slots, (g - self.stable - 1) as usize, entry);
         Ok(true)
     }
 
@@ -107,26 +111,53 @@ impl Window {
         self.delivered < g
             && g - self.stable <= WINDOW
             && g <= GREATEST_NUMBER
-            && !holds(&self.held, g)
+            && !holds(&self.slots, self.stable, g)
     }
 
     /// Delivers the next number, where it is held: the delivered count rises by one, and a copy of the entry is answered, which
     /// stays held until it is collected. `None` where it is not held. An error for want of memory comes only where it was
-    /// to be delivered; it leaves the window as it was.
+    /// to be delivered and its payload is not empty; it leaves the window as it was.
     pub fn take_ready(&mut self) -> Result<Option<Entry>, AllocError>
         ensures answer { IfOk result (λ next. next ≡ held_at (self.old.delivered + 1) self.old.held) }
         ensures ok { OnOk result (self.new ≡ delivering self.old) }
         ensures err { OnErr result (self.new ≡ self.old) }
         ensures err_only { OnErr result (IsSome (held_at (self.old.delivered + 1) self.old.held)) }
+        ensures err_empty { OnErr result (IsSomeAnd (held_at (self.old.delivered + 1) self.old.held) (λ e. 0 < length e.payload)) }
     {
-        match entry_at(&self.held, self.delivered + 1) {
+        match entry_at(&self.slots, self.stable, self.delivered + 1) {
             None => Ok(None),
             Some(entry) => {
                 let copy = entry.copied(self.alloc)?;
-                self.delivered += 1;
+                let _held = self.deliver_next();
                 Ok(Some(copy))
             }
         }
+    }
+
+    /// Delivers the next number, where it is held: the delivered count rises by one. Answers whether it is held; its entry stays held, and is read by
+    /// `entry`. Takes no memory.
+    pub fn deliver_next(&mut self) -> bool
+        ensures answer { result ≡ is_some (held_at (self.old.delivered + 1) self.old.held) }
+        ensures after { self.new ≡ delivering self.old }
+    {
+        let held = holds(&self.slots, self.stable, self.delivered + 1);
+        if held {
+            self.delivered += 1;
+        }
+        held
+    }
+
+    /// How many entries are held, at most `WINDOW`. Takes no memory.
+    pub fn held_count(&self) -> u8
+        ensures { result ≡ length self.now.held }
+    {
+        let mut count: u8 = 0;
+        for slot in self.slots.iter() {
+            if slot.is_some() {
+                count += 1;
+            }
+        }
+        count
     }
 
     /// Raises the stable count to `stable`, or to the delivered count where that is less, and lets go what is held up to it.
@@ -136,7 +167,7 @@ impl Window {
     {
         let stable = stable.min(self.delivered);
         if self.stable < stable {
-            let_go(&mut self.held, stable);
+            advance(&mut self.slots, self.stable, stable);
             self.stable = stable;
         }
     }
@@ -157,7 +188,7 @@ impl Window {
     {
         let mut before = self.delivered;
         while before < highest {
-            if !holds(&self.held, before + 1) {
+            if !holds(&self.slots, self.stable, before + 1) {
                 return Some(before + 1);
             }
             before += 1;
@@ -170,7 +201,7 @@ impl Window {
     {
         let mut number = highest;
         while number > self.delivered {
-            if !holds(&self.held, number) {
+            if !holds(&self.slots, self.stable, number) {
                 return Some(number);
             }
             number -= 1;
@@ -179,21 +210,53 @@ impl Window {
     }
 }
 
-fn entry_at(held: &BTreeMap<u64, Entry>, g: u64) -> Option<&Entry>
-    ensures { option_copied result ≡ held_at g held.now.entries }
+fn empty_slots(alloc: Global) -> Result<HeapCircularBuffer<Option<Entry>>, AllocError>
+    ensures full { IfOk result IsFull }
+    ensures empty { IfOk result (λ slots. numbered 0 slots.items ≡ []) }
 {
-    held.get(&g)
+    let mut slots = HeapCircularBuffer::with_capacity(alloc, WINDOW as usize)?;
+    for many in 0..WINDOW {
+        let _none = slots.push_back(None);
+    }
+    Ok(slots)
 }
 
-fn holds(held: &BTreeMap<u64, Entry>, g: u64) -> bool
-    ensures { result ≡ is_some (held_at g held.now.entries) }
+fn entry_at(slots: &HeapCircularBuffer<Option<Entry>>, stable: u64, g: u64) -> Option<&Entry>
+    ensures { option_copied result ≡ held_at g (numbered stable slots.now.items) }
 {
-    entry_at(held, g).is_some()
+    if g <= stable {
+        return None;
+    }
+    match slots.get((g - stable - 1) as usize) {
+        None => None,
+        Some(slot) => slot.as_ref(),
+    }
 }
 
-fn let_go(held: &mut BTreeMap<u64, Entry>, stable: u64)
-    ensures above { held.new.entries ≡ held_above stable held.old.entries }
-    ensures rising { IsStrictlySortedBy nat_cmp (keys_of held.new.entries) }
+fn holds(slots: &HeapCircularBuffer<Option<Entry>>, stable: u64, g: u64) -> bool
+    ensures { result ≡ is_some (held_at g (numbered stable slots.now.items)) }
 {
-    held.retain(|number, _| stable < *number);
+    entry_at(slots, stable, g).is_some()
+}
+
+fn fill(slots: &mut HeapCircularBuffer<Option<Entry>>, index: usize, entry: Entry)
+    requires { index < length slots.old.items }
+    ensures { slots.new ≡ buffer (slice_set slots.old.items index (Some entry)) slots.old.capacity }
+{
+    let Some(slot) = slots.get_mut(index) else {
+        unreachable!();
+    };
+    *slot = Some(entry);
+}
+
+fn advance(slots: &mut HeapCircularBuffer<Option<Entry>>, stable: u64, to: u64)
+    requires full { IsFull slots.old }
+    requires order { stable ≤ to }
+    ensures full { IsFull slots.new }
+    ensures above { numbered to slots.new.items ≡ held_above to (numbered stable slots.old.items) }
+{
+    for gone in stable..to {
+        let _first = slots.pop_front();
+        let _none = slots.push_back(None);
+    }
 }

@@ -1,12 +1,12 @@
--- The first element of a list that passes a test: found, changed or taken out.
+-- The first element of a list that passes a test: found or changed.
 use Rattle.std.proofs.Common.{◌≡◌, ℕ, zero, suc, ◌<◌, Bool, true, false, List, [], ◌∷◌, Some, None, refl, sym, ap, ◌∙◌, arith, length, get_or, position, cond}
 use Rattle.std.specs.Prelude.{slice_get, slice_set, nat_lt, if◌then◌else◌}
-use Rattle.std.specs.List.{find, remove, position_or_len}
+use Rattle.std.specs.List.{find, position_or_len}
 use Rattle.std.proofs.lemmas.Bool.Decides.{nat_tests}
 use Rattle.std.proofs.lemmas.Option.{slice_get_read, slice_get_within, get_or_from_slice_get}
 use Rattle.std.proofs.lemmas.List.Quantifiers.{position-Some}
 use Rattle.std.proofs.lemmas.List.Sums.{fails_before_first}
-use Rattle.sequencer.specs.Queues.{change_first, without_first}
+use Rattle.sequencer.specs.Queues.{change_first}
 
 -- x stands at i, and is the first that passes
 pub record IsFirst {X : Type 0} (test : X → Bool) (xs : List X) (i : ℕ) (x : X) : Type 0 where
@@ -55,15 +55,6 @@ change-at test f (y ∷ xs) zero x t =
 change-at test f (y ∷ xs) (suc i) x t =
     let p : test y ≡ false = t.before 0 y (omega arith) refl in
     ap (λ zs. y ∷ zs) (change-at test f xs i x (rest-first test y xs i x t)) ∙ sym (ap (λ b. if b then f y ∷ xs else y ∷ change_first test f xs) p)
-
-pub without-at : {X : Type 0} (test : X → Bool) (xs : List X) (i : ℕ) (x : X) → IsFirst test xs i x → remove xs i ≡ without_first test xs
-without-at test [] i x t = let e : None ≡ Some x = t.at in cc
-without-at test (y ∷ xs) zero x t =
-    let p : test y ≡ true = ap test (same-head test y xs x t) ∙ t.passes in
-    sym (ap (λ b. if b then xs else y ∷ without_first test xs) p)
-without-at test (y ∷ xs) (suc i) x t =
-    let p : test y ≡ false = t.before 0 y (omega arith) refl in
-    ap (λ zs. y ∷ zs) (without-at test xs i x (rest-first test y xs i x t)) ∙ sym (ap (λ b. if b then xs else y ∷ without_first test xs) p)
 
 pub find-at : {X : Type 0} (test : X → Bool) (xs : List X) (i : ℕ) (x : X) → IsFirst test xs i x → find test xs ≡ Some x
 find-at test [] i x t = let e : None ≡ Some x = t.at in cc

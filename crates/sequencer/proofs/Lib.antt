@@ -1,3 +1,3 @@
 pub mod FactOfFirst
 pub mod Queues
-pub mod KeepWaiting
+pub mod Slots

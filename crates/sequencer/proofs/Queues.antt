@@ -1,27 +1,10 @@
 -- The queue that is served, and what it gives.
-use Rattle.std.proofs.Common.{◌≡◌, ℕ, zero, suc, ◌+◌, get_or, Ok, Err, Bool, true, List, [], ◌∷◌, Option, Some, None, refl, ap, ◌∙◌, arith}
+use Rattle.std.proofs.Common.{◌≡◌, ℕ, zero, suc, get_or, Ok, Err, Bool, List, [], ◌∷◌, Option, Some, None, refl, ap, ◌∙◌, arith}
 use Rattle.std.specs.Prelude.{if◌then◌else◌, slice_set, MatchOption, Result, OnOk}
 use Rattle.std.proofs.lemmas.List.{set-get_or}
-use Rattle.std.specs.List.{remove}
-use Rattle.std.specs.Option.{option_map}
-use Rattle.std.proofs.lemmas.Bool.Decides.{nat_tests}
 use Rattle.wire_values.specs.Values.{Entry}
-use Rattle.trace_props.specs.declared.event.Numbered.{Numbered}
-use Rattle.sequencer.specs.Queues.{Queue, follows, has_next, next_of, entry_with, served, first_next, change_first}
-use Rattle.sequencer.proofs.FactOfFirst.{IsFirst, IsNone, without-at, find-at, change-at}
-
-next-number : (q : Queue) (f : Numbered) → follows q f ≡ true → f.number ≡ q.ordered + 1
-next-number q f h = grind (arith, nat_tests)
-
--- the queue without the message that is found to be next
-pub served-is : (q : Queue) (i : ℕ) (f : Numbered) → IsFirst (follows q) q.waiting i f
-    → record { sender = q.sender; ordered = f.number; waiting = remove q.waiting i } ≡ served q
-served-is q i f t =
-    ap (λ n. record { sender = q.sender; ordered = n; waiting = remove q.waiting i }) (next-number q f t.passes)
-    ∙ ap (λ fs. record { sender = q.sender; ordered = q.ordered + 1; waiting = fs }) (without-at (follows q) q.waiting i f t)
-
-pub next-is : (q : Queue) (i : ℕ) (f : Numbered) → IsFirst (follows q) q.waiting i f → next_of q ≡ Some (entry_with q f)
-next-is q i f t = ap (option_map (entry_with q)) (find-at (follows q) q.waiting i f t)
+use Rattle.sequencer.specs.Queues.{Queue, has_next, next_of, served, first_next, change_first}
+use Rattle.sequencer.proofs.FactOfFirst.{IsFirst, IsNone, change-at}
 
 -- the first queue whose next message waits gives the next message of all
 pub first-next-at : (queues : List Queue) (i : ℕ) (q : Queue) → IsFirst has_next queues i q → first_next queues ≡ next_of q

@@ -1,5 +1,5 @@
 -- The queues of a view's senders, and the order that comes of them.
-use Rattle.std.specs.Prelude.{ℕ, ◌+◌, ◌-◌, Bool, false, not, ◌&&◌, List, [], ◌∷◌, ◌++◌, Option, None, nat_eq, nat_lt, nat_le, is_some, if◌then◌else◌}
+use Rattle.std.specs.Prelude.{ℕ, ◌+◌, ◌-◌, Bool, false, not, ◌&&◌, List, [], ◌∷◌, Option, None, nat_eq, nat_lt, nat_le, is_some, if◌then◌else◌}
 use Rattle.std.specs.List.{list_any, find}
 use Rattle.std.specs.Option.{option_map, option_map_or}
 use Rattle.address.specs.Ids.{Address, same_address}
@@ -17,7 +17,7 @@ abbrev pub without_first : {X : Type 0} → (X → Bool) → List X → List X
 without_first test [] = []
 without_first test (x ∷ xs) = if test x then xs else x ∷ without_first test xs
 
--- the messages of a sender: how many were ordered, and those that wait
+-- the messages of a sender: how many were ordered, and those that wait, by number
 pub record Queue : Type 0 where
   pub sender : Address
   pub ordered : ℕ
@@ -30,9 +30,14 @@ idle p = record { sender = p; ordered = 0; waiting = [] }
 abbrev pub takes : ℕ → Queue → Bool
 takes n q = nat_lt q.ordered n && nat_le n (q.ordered + OUTSTANDING) && not (list_any (λ f. nat_eq n f.number) q.waiting)
 
+-- a message more, at its place among the rising numbers
+abbrev pub waiting_with : Numbered → List Numbered → List Numbered
+waiting_with f [] = f ∷ []
+waiting_with f (g ∷ waiting) = if nat_lt f.number g.number then f ∷ g ∷ waiting else g ∷ waiting_with f waiting
+
 -- the queue after a message was offered
 abbrev pub offered : ℕ → List ℕ → Queue → Queue
-offered n x q = if takes n q then record { sender = q.sender; ordered = q.ordered; waiting = q.waiting ++ record { number = n; payload = x } ∷ [] } else q
+offered n x q = if takes n q then record { sender = q.sender; ordered = q.ordered; waiting = waiting_with (record { number = n; payload = x }) q.waiting } else q
 
 -- whether this is the number that comes next
 abbrev pub follows : Queue → Numbered → Bool

@@ -1,6 +1,6 @@
-ghost use Rattle.std.specs.Prelude.{◌≡◌, ◌+◌, ◌≤◌, ◌++◌, None, drop, length, IfOk, OnOk, MatchResult, MatchOption};
+ghost use Rattle.std.specs.Prelude.{◌≡◌, ◌+◌, ◌≤◌, ◌++◌, None, Some, drop, length, IfOk, OnOk, MatchResult};
+ghost use Rattle.std.specs.Vec.{vec_capacity};
 ghost use Rattle.limits.specs.declared.TheConstants.{PAYLOAD};
-ghost use Rattle.limits.specs.declared.refusal.Refusal.TheVariants as refusal;
 ghost use Rattle.sequencer.specs.Forwards.{ForwardsModel, no_forwards, pushed, delivered_to, one_delivered, push_refusal, IsForwards, AreShort};
 
 use crate::Forward;
@@ -12,6 +12,7 @@ use trace_props::{Bytes, HandedBack, Numbered};
 use wire_values::Number;
 
 /// A member's own messages of a view that were sent and not delivered here, at most `OUTSTANDING` of them, by their numbers. Numbers run from 1 to `GREATEST_NUMBER`.
+/// Room for all of them stands from the beginning.
 #[derive(Debug, Drop)]
 pub struct Forwards {
     sent: u64,
@@ -19,32 +20,33 @@ pub struct Forwards {
 }
 
 impl Model for Forwards {
+    ghost use Rattle.std.specs.Prelude.{◌≤◌};
+    ghost use Rattle.std.specs.Vec.{vec_capacity};
+    ghost use Rattle.limits.specs.declared.TheConstants.{OUTSTANDING};
     ghost use Rattle.sequencer.specs.Forwards.{ForwardsModel, IsForwards};
 
     ghost Value = { ForwardsModel };
 
     ghost view = { λ f. record { sent = f.sent; rest = f.rest.items } };
 
-    ghost invariant = { λ f. IsForwards (record { sent = f.sent; rest = f.rest.items }) };
+    ghost invariant = { λ f. (OUTSTANDING ≤ vec_capacity f.rest) × IsForwards (record { sent = f.sent; rest = f.rest.items }) };
 }
 
 impl Forwards {
-    /// Nothing was sent. Takes no memory.
-    pub fn new(alloc: Global) -> Forwards
-        ensures { result ≡ no_forwards }
+    /// Nothing was sent. An error comes for want of memory.
+    pub fn new(alloc: Global) -> Result<Forwards, AllocError>
+        ensures { IfOk result (λ f. f ≡ no_forwards) }
     {
-        Forwards {
-            sent: 0,
-            rest: Vec::new(alloc),
-        }
+        let rest = Vec::with_capacity(alloc, OUTSTANDING as usize)?;
+        Ok(Forwards { sent: 0, rest })
     }
 
     /// Takes a message under the next number, which is answered. Refused, with the payload given back and all as it was, with 3 exactly where `OUTSTANDING`
-    /// messages are outstanding, else with 8 exactly where `GREATEST_NUMBER` were sent, else with 7 where memory was refused.
+    /// messages are outstanding, else with 8 exactly where `GREATEST_NUMBER` were sent. Takes no memory.
     pub fn push(&mut self, payload: OwnedPayload) -> Result<Number, (OwnedPayload, Refusal)>
         ensures number { MatchResult result (λ number. number ≡ self.old.sent + 1) (λ refused. refused.0 ≡ payload) }
         ensures after { MatchResult result (λ _. self.new ≡ pushed payload self.old) (λ _. self.new ≡ self.old) }
-        ensures refused { MatchResult result (λ _. push_refusal self.old ≡ None) (λ refused. MatchOption (push_refusal self.old) (refused.1 ≡ refusal.Memory) (λ why. refused.1 ≡ why)) }
+        ensures refused { MatchResult result (λ _. push_refusal self.old ≡ None) (λ refused. push_refusal self.old ≡ Some refused.1) }
     {
         if self.rest.len() as u64 == OUTSTANDING {
             return Err((payload, Refusal::Busy));
@@ -56,13 +58,9 @@ impl Forwards {
         let Some(number) = Number::new(sent) else {
             unreachable!();
         };
-        match self.rest.push(Forward { number, payload }) {
-            Ok(()) => {
-                self.sent = sent;
-                Ok(number)
-            }
-            Err(refused) => Err((refused.value.payload, Refusal::Memory)),
-        }
+        self.rest.push_reserved(Forward { number, payload });
+        self.sent = sent;
+        Ok(number)
     }
 
     /// The messages with numbers up to `number` were delivered: they are outstanding no longer. Takes no memory.
@@ -136,7 +134,8 @@ fn copy_all(rest: &[Forward], items: &mut Vec<Numbered>) -> Result<(), AllocErro
 
 fn let_go(rest: &mut Vec<Forward>, count: usize)
     requires { count ≤ length rest.old.items }
-    ensures { rest.new.items ≡ drop count rest.old.items }
+    ensures items { rest.new.items ≡ drop count rest.old.items }
+    ensures room { vec_capacity rest.new ≡ vec_capacity rest.old }
 {
     for gone in 0..count {
         let _first = rest.remove(0);

@@ -1,4 +1,4 @@
-ghost use Rattle.std.specs.Prelude.{◌≡◌, ◌+◌, ◌≤◌, false, map, position, IfOk, OnOk, OnErr, IsTrue, MatchOption};
+ghost use Rattle.std.specs.Prelude.{◌≡◌, ◌+◌, ◌<◌, ◌≤◌, length, false, map, position, IfOk, OnOk, OnErr, IsTrue, MatchOption};
 ghost use Rattle.std.specs.List.{find};
 ghost use Rattle.std.specs.Option.{option_map, option_map_or};
 ghost use Rattle.sequencer.specs.Queues.{OrdererModel, idle, has_next, is_from, is_taken, forwarded, first_next, change_first, served, takes, offered, may_order, next_ordered, ordering};
@@ -55,7 +55,7 @@ impl Orderer {
 
     /// Offers a sender's message. It is taken, and true is answered, exactly where the sender is a member of the view and the number is not ordered yet, does
     /// not wait already, and is at most `OUTSTANDING` past the sender's ordered ones. The payload is copied. An error for want of memory comes only where it was
-    /// to be taken; it leaves all as it was.
+    /// to be taken and its payload is not empty; it leaves all as it was.
     pub fn forward(
         &mut self,
         sender: &Address,
@@ -66,6 +66,7 @@ impl Orderer {
         ensures ok { OnOk result (self.new ≡ forwarded sender.now number payload.now self.old) }
         ensures err { OnErr result (self.new ≡ self.old) }
         ensures err_only { OnErr result (IsTrue (is_taken sender.now number self.old)) }
+        ensures err_empty { OnErr result (0 < length payload.now) }
     {
         offer_to(&mut self.queues, self.alloc, sender, number, payload)
     }
@@ -99,7 +100,7 @@ fn idle_queues(alloc: Global, members: &[Address]) -> Result<Vec<Queue>, AllocEr
 {
     let mut queues = Vec::new(alloc);
     for member in members {
-        queues.push(Queue::new(alloc, *member))?;
+        queues.push(Queue::new(alloc, *member)?)?;
     }
     Ok(queues)
 }
@@ -128,6 +129,7 @@ fn offer_to(
     ensures ok { OnOk result (queues.new.items ≡ change_first (is_from sender.now) (offered number payload.now) queues.old.items) }
     ensures err { OnErr result (queues.new.items ≡ queues.old.items) }
     ensures err_only { OnErr result (IsTrue (option_map_or (takes number) (find (is_from sender.now) queues.old.items) false)) }
+    ensures err_empty { OnErr result (0 < length payload.now) }
 {
     match rank_of(queues.as_slice(), sender) {
         None => Ok(false),

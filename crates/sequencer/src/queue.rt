@@ -1,40 +1,47 @@
-ghost use Rattle.std.specs.Prelude.{◌≡◌, ◌+◌, nat_eq, position, IfOk, OnOk, OnErr, IsTrue, MatchOption};
+ghost use Rattle.std.specs.Prelude.{◌≡◌, ◌<◌, ◌∷◌, ◌++◌, [], drop, length, slice_get, slice_set, None, Some, true, nat_eq, IfOk, OnOk, OnErr, IsTrue, MatchOption};
 ghost use Rattle.std.specs.List.{list_any};
-ghost use Rattle.sequencer.specs.Queues.{idle, takes, offered, follows, has_next, next_of, served};
+ghost use Rattle.circular_buffer.specs.Buffer.{buffer};
+ghost use Rattle.sequencer.specs.Queues.{idle, takes, offered, has_next, next_of, served};
+ghost use Rattle.sequencer.specs.Slots.{numbered, IsFull, is_first};
 
-use crate::Forward;
 use address::Address;
+use circular_buffer::HeapCircularBuffer;
 use limits::OUTSTANDING;
 use nak_stream::{Entry, OwnedPayload};
 use std::alloc::{AllocError, Global};
 use std::marker::Model;
 use wire_values::{Number, Payload};
 
-/// The messages of one sender: how many were ordered, and those that wait, each once, in the order in which they came.
+/// The messages of one sender: how many were ordered, and those that wait, each once, by number. They lie in a ring of `OUTSTANDING` slots that stands from
+/// the beginning: slot i, from 0, is that of the number ordered + 1 + i, and has the message's payload or none.
 #[derive(Debug, Drop)]
 pub struct Queue {
     sender: Address,
     ordered: u64,
-    waiting: Vec<Forward>,
+    slots: HeapCircularBuffer<Option<OwnedPayload>>,
 }
 
 impl Model for Queue {
     ghost use Rattle.sequencer.specs.Queues.{Queue};
+    ghost use Rattle.sequencer.specs.Slots.{numbered, IsRing};
 
     ghost Value = { Queue };
 
-    ghost view = { λ q. record { sender = q.sender; ordered = q.ordered; waiting = q.waiting.items } };
+    ghost view = { λ q. record { sender = q.sender; ordered = q.ordered; waiting = numbered q.ordered q.slots.items } };
+
+    ghost invariant = { λ q. IsRing q.ordered q.slots };
 }
 
 impl Queue {
-    pub fn new(alloc: Global, sender: Address) -> Queue
-        ensures { result ≡ idle sender }
+    /// Nothing was ordered, and nothing waits. An error comes for want of memory.
+    pub fn new(alloc: Global, sender: Address) -> Result<Queue, AllocError>
+        ensures { IfOk result (λ q. q ≡ idle sender) }
     {
-        Queue {
+        Ok(Queue {
             sender,
             ordered: 0,
-            waiting: Vec::new(alloc),
-        }
+            slots: empty_slots(alloc)?,
+        })
     }
 
     pub fn sender(&self) -> Address
@@ -43,21 +50,15 @@ impl Queue {
         self.sender
     }
 
-    fn waits(&self, number: u64) -> bool
-        ensures { result ≡ list_any (λ f. nat_eq number f.number) self.now.waiting }
-    {
-        self.waiting
-            .iter()
-            .any(|forward| number == forward.number.get())
-    }
-
     fn takes(&self, number: u64) -> bool
         ensures { result ≡ takes number self.now }
     {
-        self.ordered < number && number - self.ordered <= OUTSTANDING && !self.waits(number)
+        self.ordered < number
+            && number - self.ordered <= OUTSTANDING
+            && !waits(&self.slots, self.ordered, number)
     }
 
-    /// Takes a copy of the message, where it is new and at most `OUTSTANDING` past what was ordered.
+    /// Takes a copy of the message, where it is new and at most `OUTSTANDING` past what was ordered. An empty payload takes no memory.
     pub fn offer(
         &mut self,
         alloc: Global,
@@ -68,58 +69,98 @@ impl Queue {
         ensures ok { OnOk result (self.new ≡ offered number payload.now self.old) }
         ensures err { OnErr result (self.new ≡ self.old) }
         ensures err_only { OnErr result (IsTrue (takes number self.old)) }
+        ensures err_empty { OnErr result (0 < length payload.now) }
     {
-        if !self.takes(number.get()) {
+        let number = number.get();
+        if !self.takes(number) {
             return Ok(false);
         }
         let payload = OwnedPayload::copy_of(alloc, payload)?;
-        self.waiting.push(Forward { number, payload })?;
+        fill(
+            &mut self.slots,
+            (number - self.ordered - 1) as usize,
+            payload,
+        );
         Ok(true)
-    }
-
-    fn next_place(&self) -> Option<usize>
-        ensures { result ≡ position (follows self.now) self.now.waiting }
-    {
-        let ordered = self.ordered;
-        self.waiting
-            .iter()
-            .position(|forward| follows(ordered, forward.number.get()))
     }
 
     /// Whether the next message waits.
     pub fn has_next(&self) -> bool
         ensures { result ≡ has_next self.now }
     {
-        let ordered = self.ordered;
-        self.waiting
-            .iter()
-            .any(|forward| follows(ordered, forward.number.get()))
+        has_first(&self.slots)
     }
 
-    /// Takes out the next message, where it waits, and counts it as ordered.
+    /// Takes out the next message, where it waits, and counts it as ordered. Takes no memory.
     pub fn take_next(&mut self) -> Option<Entry>
         ensures answer { result ≡ next_of self.old }
         ensures after { MatchOption result (self.new ≡ self.old) (λ _. self.new ≡ served self.old) }
     {
-        let place = self.next_place()?;
-        let forward = self.waiting.remove(place);
-        self.ordered = forward.number.get();
-        Some(entry_of(self.sender, forward))
+        if !has_first(&self.slots) {
+            return None;
+        }
+        let Some(number) = Number::new(self.ordered + 1) else {
+            unreachable!();
+        };
+        let payload = take_first(&mut self.slots);
+        self.ordered += 1;
+        Some(Entry {
+            sender: self.sender,
+            number,
+            payload,
+        })
     }
 }
 
-fn entry_of(sender: Address, forward: Forward) -> Entry
-    ensures { result ≡ record { sender = sender; number = forward.number; payload = forward.payload } }
+fn empty_slots(alloc: Global) -> Result<HeapCircularBuffer<Option<OwnedPayload>>, AllocError>
+    ensures full { IfOk result IsFull }
+    ensures empty { IfOk result (λ slots. numbered 0 slots.items ≡ []) }
 {
-    Entry {
-        sender,
-        number: forward.number,
-        payload: forward.payload,
+    let mut slots = HeapCircularBuffer::with_capacity(alloc, OUTSTANDING as usize)?;
+    for many in 0..OUTSTANDING {
+        let _none = slots.push_back(None);
+    }
+    Ok(slots)
+}
+
+fn waits(slots: &HeapCircularBuffer<Option<OwnedPayload>>, ordered: u64, number: u64) -> bool
+    ensures { result ≡ list_any (λ f. nat_eq number f.number) (numbered ordered slots.now.items) }
+{
+    if number <= ordered {
+        return false;
+    }
+    match slots.get((number - ordered - 1) as usize) {
+        None => false,
+        Some(slot) => slot.is_some(),
     }
 }
 
-fn follows(ordered: u64, number: u64) -> bool
-    ensures { result ≡ nat_eq (ordered + 1) number }
+fn fill(slots: &mut HeapCircularBuffer<Option<OwnedPayload>>, index: usize, payload: OwnedPayload)
+    requires { index < length slots.old.items }
+    ensures { slots.new ≡ buffer (slice_set slots.old.items index (Some payload)) slots.old.capacity }
 {
-    ordered < number && number - ordered == 1
+    let Some(slot) = slots.get_mut(index) else {
+        unreachable!();
+    };
+    *slot = Some(payload);
+}
+
+fn has_first(slots: &HeapCircularBuffer<Option<OwnedPayload>>) -> bool
+    ensures { result ≡ is_first slots.now.items }
+{
+    matches!(slots.front(), Some(Some(_)))
+}
+
+/// Takes out the payload of the first slot; an empty slot comes at the back.
+fn take_first(slots: &mut HeapCircularBuffer<Option<OwnedPayload>>) -> OwnedPayload
+    requires full { IsFull slots.old }
+    requires first { is_first slots.old.items ≡ true }
+    ensures payload { slice_get slots.old.items 0 ≡ Some (Some result) }
+    ensures after { slots.new ≡ buffer (drop 1 slots.old.items ++ None ∷ []) slots.old.capacity }
+{
+    let Some(Some(payload)) = slots.pop_front() else {
+        unreachable!();
+    };
+    let _none = slots.push_back(None);
+    payload
 }

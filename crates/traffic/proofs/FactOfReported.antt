@@ -143,9 +143,3 @@ view_state-reported v w t i stable delivered held =
     subst (λ h. is_filled (record { previous = Some v.id; stable = t.stable; delivered = t.delivered; held = h }) ≡ true) held
     (subst (λ d. is_filled (record { previous = Some v.id; stable = t.stable; delivered = d; held = w.held }) ≡ true) delivered
     (subst (λ s. is_filled (record { previous = Some v.id; stable = s; delivered = w.delivered; held = w.held }) ≡ true) stable (window-reported v.id w i)))
-
--- a loop over what a window holds begins with all of it
-pub all-left : (w : WindowModel) (left : List (ℕ × Entry)) (bytes : List ℕ) → IsWindow w → left ≡ w.held
-    → (bytes ++ flat_map placed_bytes left ≡ bytes ++ flat_map placed_bytes w.held) × AllByRecursion (λ h. IsNumber h.0) left × (AllByRecursion IsPlaced left → AllByRecursion IsPlaced w.held)
-all-left w left bytes i same =
-    (ap (λ l. bytes ++ flat_map placed_bytes l) same, subst (λ l. AllByRecursion (λ h. IsNumber h.0) l) (sym same) (window-numbers w i), λ all. subst (λ l. AllByRecursion IsPlaced l) same all)

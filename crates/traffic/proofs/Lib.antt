@@ -1,4 +1,5 @@
 mod FactOfReported
+mod FactOfSlots
 mod FactOfQueues
 mod FactOfOffered
 mod Windows

@@ -24,12 +24,13 @@ impl Coordinator {
         ensures { IfOk result (λ m. m ≡ fresh_coordinator view) }
     {
         let window = Window::new(alloc)?;
+        let forwards = Forwards::new(alloc)?;
         let acks = Acks::new(alloc, &view)?;
         let orderer = Orderer::new(alloc, &view)?;
         Ok(Coordinator {
             view,
             window,
-            forwards: Forwards::new(alloc),
+            forwards,
             acks,
             orderer,
         })

@@ -22,7 +22,7 @@ impl Follower {
         Ok(Follower {
             view,
             window: Window::new(alloc)?,
-            forwards: Forwards::new(alloc),
+            forwards: Forwards::new(alloc)?,
         })
     }
 }

@@ -53,7 +53,7 @@ impl Coordinator {
             return Ok(None);
         };
         let _new = self.window.accept(place.get(), &entry.lent())?;
-        let _copy = self.window.take_ready()?;
+        let _held = self.window.deliver_next();
         deliver(
             who,
             self.view.id(),

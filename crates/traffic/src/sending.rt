@@ -56,9 +56,8 @@ pub(crate) fn say(
 {
     let _bytes = payload.as_slice();
     let kept = OwnedPayload::copy_of(who.alloc, payload)?;
-    let number = match forwards.push(kept) {
-        Ok(number) => number,
-        Err(_) => return Err(AllocError),
+    let Ok(number) = forwards.push(kept) else {
+        unreachable!();
     };
     let sent = sending(who, view, number, payload)?;
     who.record(sent, out)?;

@@ -38,20 +38,21 @@ impl Follower {
             ((did_deliver ≡ false) × (self.new ≡ self.old) × (receiver.new ≡ receiver.old) × (out.new ≡ out.old))
             (λ e. (did_deliver ≡ true) × DeliversOne R.meaning who.now.address who.now.group e self.old receiver.old out.old self.new receiver.new out.new)) }
     {
-        match self.window.take_ready()? {
-            None => Ok(false),
-            Some(entry) => {
-                deliver(
-                    who,
-                    self.view.id(),
-                    &entry,
-                    &mut self.forwards,
-                    receiver,
-                    out,
-                )?;
-                Ok(true)
-            }
+        if !self.window.deliver_next() {
+            return Ok(false);
         }
+        let Some(entry) = self.window.entry(self.window.delivered()) else {
+            unreachable!();
+        };
+        deliver(
+            who,
+            self.view.id(),
+            entry,
+            &mut self.forwards,
+            receiver,
+            out,
+        )?;
+        Ok(true)
     }
 
     // Lets go of what is stable because a number so far ahead was ordered.

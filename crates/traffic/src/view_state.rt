@@ -41,8 +41,12 @@ fn put_window(window: &Window, out: &mut Vec<u8>) -> Result<(), AllocError>
     ensures placed { OnOk result (AllByRecursion IsPlaced window.now.held) }
 {
     window.kept();
-    for (number, entry) in window.held() {
-        put_placed(*number, entry, out)?;
+    let mut number = window.stable();
+    for slot in window.slots() {
+        number += 1;
+        if let Some(entry) = slot {
+            put_placed(number, entry, out)?;
+        }
     }
     Ok(())
 }
@@ -124,8 +128,7 @@ impl ViewState {
     pub fn held_count(&self) -> u8
         ensures { result ≡ length (view_core_of self.now).held }
     {
-        self.kept();
-        self.window().held().len() as u8
+        self.window().held_count()
     }
 
     /// Appends each entry that is held, with its number before it, to a vector, as REPORT and INSTALL carry them. After an error for want of memory

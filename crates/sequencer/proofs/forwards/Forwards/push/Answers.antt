@@ -8,23 +8,17 @@ returns-then-len-eq-OUTSTANDING-clause-number c = search rules
 pub returns-then-self-eq-GREATEST_NUMBER-clause-number : goal.returns-then-self-eq-GREATEST_NUMBER-clause-number
 returns-then-self-eq-GREATEST_NUMBER-clause-number c = search rules
 
-pub returns-in-Ok-clause-number : goal.returns-in-Ok-clause-number
-returns-in-Ok-clause-number c = search rules
-
-pub returns-in-Err-clause-number : goal.returns-in-Err-clause-number
-returns-in-Err-clause-number c = search rules
-
 pub returns-then-len-eq-OUTSTANDING-clause-refused : goal.returns-then-len-eq-OUTSTANDING-clause-refused
 returns-then-len-eq-OUTSTANDING-clause-refused c = search rules
 
 pub returns-then-self-eq-GREATEST_NUMBER-clause-refused : goal.returns-then-self-eq-GREATEST_NUMBER-clause-refused
 returns-then-self-eq-GREATEST_NUMBER-clause-refused c = search rules
 
-pub returns-in-Ok-clause-refused : goal.returns-in-Ok-clause-refused
-returns-in-Ok-clause-refused c = search rules
+pub returns-clause-number : goal.returns-clause-number
+returns-clause-number c = search rules
 
-pub returns-in-Err-clause-refused : goal.returns-in-Err-clause-refused
-returns-in-Err-clause-refused c = search rules
+pub returns-clause-refused : goal.returns-clause-refused
+returns-clause-refused c = search rules
 
 pub invariant_of-self : goal.invariant_of-self
 invariant_of-self c = grind (arith, elements)

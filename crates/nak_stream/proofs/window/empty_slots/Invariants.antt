@@ -1,0 +1,7 @@
+use Rattle.std.proofs.Common.{◌≡◌, [], length}
+use Rattle.limits.specs.declared.TheConstants.{WINDOW}
+use Rattle.nak_stream.specs.Rings.{numbered}
+use Rattle.nak_stream.proofs.window.empty_slots.Given as goal
+
+abbrev pub invariant-loop-many : goal.invariant-loop-many
+invariant-loop-many l = record { empty : numbered 0 l.slots.items ≡ []; many : length l.slots.items ≡ l.many; room : l.slots.capacity ≡ WINDOW }
