@@ -15,8 +15,8 @@ use Rattle.step_output.specs.Calm.{is_quiet, IsCalm}
 use Rattle.step_output.proofs.FactOfCalm.{calm-nothing, deliveries-quiet}
 use Rattle.traffic.specs.declared.coordinator.Coordinator.{Coordinator}
 use Rattle.traffic.specs.declared.follower.Follower.{Follower}
-use Rattle.traffic.specs.Turns.{Ordering, AcksOrdering, IsFew}
-use Rattle.traffic.specs.Takes.{TakesOrder, TakesNear, AsksUpTo, AnswersOrder, ack_of}
+use Rattle.traffic.specs.Turns.{Ordering, IsFew}
+use Rattle.traffic.specs.Takes.{TakesOrder, AsksUpTo, AnswersOrder, ack_of}
 
 few-calm : (out later : Output) (hs : List Event) → later.events.items ≡ out.events.items ++ hs → list_all is_quiet hs ≡ true → IsFew out later → IsCalm WINDOW out later
 few-calm out later hs grows quiet few =
@@ -29,15 +29,6 @@ module _ {S : Type 0} (meaning : Meaning S) where
   pub ordering-calm : (p : Address) (group : List ℕ) (m : Coordinator) (s : S) (out : Output) (n : Coordinator) (t : S) (later : Output) → Ordering meaning p group m s out n t later → IsFew out later
       → IsCalm WINDOW out later
   ordering-calm p group m s out n t later x few = few-calm out later (map (delivery p m.view.id) x.entries) x.grows.events (deliveries-quiet p m.view.id x.entries) few
-
-  acks-by : (b : Bool) (p : Address) (group : List ℕ) (a m : Coordinator) (s : S) (out : Output) (n : Coordinator) (t : S) (later : Output) (Rest : Type 0)
-      → MatchBool b ((n ≡ m) × (t ≡ s) × (later ≡ out)) (Ordering meaning p group a s out n t later × Rest) → IsFew out later → IsCalm WINDOW out later
-  acks-by true p group a m s out n t later Rest x few = subst (λ (o : Output). IsCalm WINDOW out o) (sym x.2) (calm-nothing WINDOW out)
-  acks-by false p group a m s out n t later Rest x few = ordering-calm p group a s out n t later x.0 few
-
-  pub acks-calm : (p : Address) (group : List ℕ) (q : Address) (count : ℕ) (m : Coordinator) (s : S) (out : Output) (n : Coordinator) (t : S) (later : Output)
-      → AcksOrdering meaning p group q count m s out n t later → IsFew out later → IsCalm WINDOW out later
-  acks-calm p group q count m s out n t later x few = acks-by (nat_lt m.window.delivered count) p group _ m s out n t later _ x few
 
 -- ---- at another member
 
@@ -56,17 +47,8 @@ silent-answer : (p : Address) (group : List ℕ) (before : ℕ) (new : Bool) (g 
 silent-answer p group before new g m out later x = silent-by (nat_lt before m.window.delivered) new p group g m out later x
 
 module _ {S : Type 0} (meaning : Meaning S) where
-  near-calm : (p : Address) (group : List ℕ) (g : ℕ) (e : Entry) (m : Follower) (s : S) (out : Output) (n : Follower) (t : S) (later : Output) → TakesNear meaning p group g e m s out n t later → IsFew out later
-      → IsCalm WINDOW out later
-  near-calm p group g e m s out n t later x few =
-      few-calm out later (map (delivery p m.view.id) x.delivers.entries) (silent-answer p group m.window.delivered _ g n x.between later x.answers ∙ x.delivers.grows.events)
-      (deliveries-quiet p m.view.id x.delivers.entries) few
-
-  takes-by : (b : Bool) (p : Address) (group : List ℕ) (g : ℕ) (e : Entry) (m : Follower) (s : S) (out : Output) (n : Follower) (t : S) (later : Output)
-      → MatchBool b ((n ≡ m) × (t ≡ s) × (later ≡ out)) (TakesNear meaning p group g e m s out n t later) → IsFew out later → IsCalm WINDOW out later
-  takes-by true p group g e m s out n t later x few = subst (λ (o : Output). IsCalm WINDOW out o) (sym x.2) (calm-nothing WINDOW out)
-  takes-by false p group g e m s out n t later x few = near-calm p group g e m s out n t later x few
-
   pub takes-calm : (p : Address) (group : List ℕ) (g : ℕ) (e : Entry) (m : Follower) (s : S) (out : Output) (n : Follower) (t : S) (later : Output) → TakesOrder meaning p group g e m s out n t later → IsFew out later
       → IsCalm WINDOW out later
-  takes-calm p group g e m s out n t later x few = takes-by _ p group g e m s out n t later x few
+  takes-calm p group g e m s out n t later x few =
+      few-calm out later (map (delivery p m.view.id) x.delivers.entries) (silent-answer p group m.window.delivered _ g n x.between later x.answers ∙ x.delivers.grows.events)
+      (deliveries-quiet p m.view.id x.delivers.entries) few

@@ -1,7 +1,6 @@
 -- After an ORDER and a STATUS another member does not hold the number that comes next.
-use Rattle.std.proofs.Common.{◌≡◌, ℕ, ◌+◌, ◌-◌, Bool, true, false, ◌||◌, cond, min, Option, None, List, refl, sym, ◌∙◌, subst}
-use Rattle.std.specs.Prelude.{MatchBool, nat_lt, if◌then◌else◌}
-use Rattle.limits.specs.declared.TheConstants.{WINDOW}
+use Rattle.std.proofs.Common.{◌≡◌, ℕ, ◌+◌, Bool, true, false, cond, min, Option, None, List, refl, sym, ◌∙◌, subst}
+use Rattle.std.specs.Prelude.{nat_lt, if◌then◌else◌}
 use Rattle.address.specs.Ids.{Address, same_address}
 use Rattle.view.specs.Members.{View}
 use Rattle.wire_values.specs.Values.{Entry, Progress, held_at}
@@ -12,7 +11,7 @@ use Rattle.step_output.specs.declared.output.Output.{Output}
 use Rattle.traffic.specs.declared.follower.Follower.{Follower}
 use Rattle.traffic.specs.declared.view_state.ViewState.TheVariants as kinds
 use Rattle.traffic.specs.Followers.{collected_to}
-use Rattle.traffic.specs.Takes.{TakesOrder, TakesNear, TakesStatus, AsksUpTo}
+use Rattle.traffic.specs.Takes.{TakesOrder, TakesStatus}
 use Rattle.member_messages.specs.Ordered.{HasNoneNext, IsOrderly}
 
 either : (b : Bool) (o : Option Entry) → o ≡ None → cond b o None ≡ None
@@ -34,23 +33,13 @@ other-orderly me m n orderly same none = (subst (λ (v : View). same_address me 
 -- ---- an ORDER
 
 module _ {S : Type 0} (meaning : Meaning S) (me : Address) (group : List ℕ) where
-  order-by : (b : Bool) (g : ℕ) (e : Entry) (m : Follower) (s : S) (out : Output) (n : Follower) (t : S) (later : Output)
-      → MatchBool b ((n ≡ m) × (t ≡ s) × (later ≡ out)) (TakesNear meaning me group g e m s out n t later) → HasNoneNext m.window → HasNoneNext n.window
-  order-by true g e m s out n t later x none = subst (λ (o : Follower). HasNoneNext o.window) (sym x.0) none
-  order-by false g e m s out n t later x none = x.ready
-
   pub order-orderly : (g : ℕ) (e : Entry) (m : Follower) (s : S) (out : Output) (n : Follower) (t : S) (later : Output) → TakesOrder meaning me group g e m s out n t later → n.view ≡ m.view
       → IsOrderly me (kinds.Follower m) → IsOrderly me (kinds.Follower n)
-  order-orderly g e m s out n t later x same orderly = other-orderly me m n orderly same (order-by (nat_lt m.window.delivered (g - WINDOW)) g e m s out n t later x orderly.1)
+  order-orderly g e m s out n t later x same orderly = other-orderly me m n orderly same x.ready
 
 -- ---- a STATUS
 
-status-by : (b : Bool) (me : Address) (group : List ℕ) (a : Progress) (m : Follower) (out : Output) (n : Follower) (later : Output)
-    → MatchBool b ((n ≡ m) × (later ≡ out)) ((n ≡ collected_to a.stable m) × AsksUpTo me group a.highest n out later) → IsOrderly me (kinds.Follower m) → IsOrderly me (kinds.Follower n)
-status-by true me group a m out n later x orderly = subst (λ (o : Follower). IsOrderly me (kinds.Follower o)) (sym x.0) orderly
-status-by false me group a m out n later x orderly =
-    subst (λ (o : Follower). IsOrderly me (kinds.Follower o)) (sym x.0) (other-orderly me m (collected_to a.stable m) orderly refl (next-collected a.stable m.window orderly.1))
-
 pub status-orderly : (me : Address) (group : List ℕ) (a : Progress) (m : Follower) (out : Output) (n : Follower) (later : Output) → TakesStatus me group a m out n later
     → IsOrderly me (kinds.Follower m) → IsOrderly me (kinds.Follower n)
-status-orderly me group a m out n later x orderly = status-by (nat_lt m.window.delivered a.stable || nat_lt m.window.delivered (a.highest - WINDOW)) me group a m out n later x orderly
+status-orderly me group a m out n later x orderly =
+    subst (λ (o : Follower). IsOrderly me (kinds.Follower o)) (sym x.0) (other-orderly me m (collected_to a.stable m) orderly refl (next-collected a.stable m.window orderly.1))

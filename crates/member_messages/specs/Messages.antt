@@ -16,9 +16,9 @@ use Rattle.traffic.specs.declared.coordinator.Coordinator.{Coordinator}
 use Rattle.traffic.specs.declared.follower.Follower.{Follower}
 use Rattle.traffic.specs.declared.view_state.ViewState.{ViewState}
 use Rattle.traffic.specs.declared.view_state.ViewState.TheVariants as kinds
-use Rattle.traffic.specs.Coordinators.{queued}
+use Rattle.traffic.specs.Coordinators.{acknowledged, queued}
 use Rattle.traffic.specs.Goings.{sending}
-use Rattle.traffic.specs.Turns.{OrdersAll, AcksOrdering, SendsOrdering}
+use Rattle.traffic.specs.Turns.{OrdersAll, SendsOrdering}
 use Rattle.traffic.specs.Takes.{TakesOrder, TakesStatus, forward_of, ack_of, orders_held, progress_of, follower_pushing, SendsForward}
 use Rattle.membership.specs.declared.member_state.MemberState.{MemberState}
 use Rattle.member_messages.specs.Heard.{takes_forward, takes_nak, takes_ack, takes_order, takes_status, is_coordinator_that}
@@ -55,7 +55,7 @@ OnForward meaning group me source id number payload old new out later =
 abbrev pub OnAck : {S : Type 0} → Meaning S → List ℕ → Address → Address → ViewId → ℕ → MemberState S → MemberState S → Output → Output → Type 0
 OnAck meaning group me source id count old new out later =
     MatchBool (takes_ack source id count old)
-    (AtCoordinator (λ m n. AcksOrdering meaning me group source count m old.receiver out n new.receiver later) old new)
+    (AtCoordinator (λ m n. OrdersAll meaning me group (acknowledged source count m) old.receiver out n new.receiver later) old new)
     (StaysAs old new out later)
 
 -- a NAK: the ORDERs that it asks for go to its source

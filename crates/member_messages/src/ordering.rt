@@ -46,21 +46,18 @@ pub fn on_forward<R: Receiver>(
     if !takes_forward(member_state, source, view) {
         return Ok(());
     }
-    match &mut member_state.view_state {
-        None => Ok(()),
-        Some(ViewState::Follower(_)) => Ok(()),
-        Some(ViewState::Coordinator(coordinator)) => {
-            coordinator.forward(
-                who,
-                source,
-                number,
-                payload,
-                &mut member_state.receiver,
-                out,
-            )?;
-            Ok(())
-        }
-    }
+    let Some(ViewState::Coordinator(coordinator)) = &mut member_state.view_state else {
+        unreachable!();
+    };
+    coordinator.forward(
+        who,
+        source,
+        number,
+        payload,
+        &mut member_state.receiver,
+        out,
+    )?;
+    Ok(())
 }
 
 /// An ACK: where it is taken, what is stable by it is let go of, and all is ordered that may be. Any other is ignored, and takes no memory. After an
@@ -87,14 +84,11 @@ pub fn on_ack<R: Receiver>(
     if !takes_ack(member_state, source, view, count) {
         return Ok(());
     }
-    match &mut member_state.view_state {
-        None => Ok(()),
-        Some(ViewState::Follower(_)) => Ok(()),
-        Some(ViewState::Coordinator(coordinator)) => {
-            coordinator.ack(who, source, count, &mut member_state.receiver, out)?;
-            Ok(())
-        }
-    }
+    let Some(ViewState::Coordinator(coordinator)) = &mut member_state.view_state else {
+        unreachable!();
+    };
+    coordinator.ack(who, source, count, &mut member_state.receiver, out)?;
+    Ok(())
 }
 
 /// A NAK: where it is taken, the ORDER of each of its numbers at which a message is held goes to its source. Any other is ignored, and takes no
@@ -120,14 +114,9 @@ pub fn on_nak<R: Receiver>(
     if !takes_forward(member_state, source, view) {
         return Ok(());
     }
-    let Some(view_state) = &member_state.view_state else {
-        return Ok(());
+    let Some(ViewState::Coordinator(coordinator)) = &member_state.view_state else {
+        unreachable!();
     };
-    match view_state {
-        ViewState::Follower(_) => Ok(()),
-        ViewState::Coordinator(coordinator) => {
-            coordinator.nak(who, source, missing, out)?;
-            Ok(())
-        }
-    }
+    coordinator.nak(who, source, missing, out)?;
+    Ok(())
 }

@@ -6,7 +6,7 @@ ghost use Rattle.membership.specs.MemberStates.{core_of};
 ghost use Rattle.traffic.specs.ViewStates.{view_core_of};
 ghost use Rattle.member_messages.specs.Refusals.{send_refusal};
 
-use limits::{GREATEST_NUMBER, OUTSTANDING, PAYLOAD, Refusal};
+use limits::{PAYLOAD, Refusal};
 use membership::MemberState;
 use sequencer::Forwards;
 use state_transfer::Receiver;
@@ -37,12 +37,5 @@ pub fn send_refusal<R: Receiver>(member_state: &MemberState<R>, payload: &[u8]) 
     if !member_state.promise.is_installed() {
         return Some(Refusal::Blocked);
     }
-    let forwards = forwards(view_state);
-    if forwards.rest().len() as u64 >= OUTSTANDING {
-        return Some(Refusal::Busy);
-    }
-    if forwards.sent() >= GREATEST_NUMBER {
-        return Some(Refusal::Exhausted);
-    }
-    None
+    forwards(view_state).refusal()
 }

@@ -1,5 +1,5 @@
 -- A member's own messages that were sent in a view and not delivered there.
-use Rattle.std.specs.Prelude.{◌≡◌, ℕ, ◌+◌, ◌-◌, ◌≤◌, List, [], ◌∷◌, ◌++◌, Option, Some, None, length, drop, nat_eq, slice_get, if◌then◌else◌}
+use Rattle.std.specs.Prelude.{◌≡◌, ℕ, ◌+◌, ◌-◌, ◌≤◌, List, [], ◌∷◌, ◌++◌, Option, Some, None, length, drop, nat_le, slice_get, if◌then◌else◌}
 use Rattle.limits.specs.declared.TheConstants.{PAYLOAD, OUTSTANDING, GREATEST_NUMBER}
 use Rattle.trace_props.specs.declared.event.Numbered.{Numbered}
 use Rattle.limits.specs.declared.refusal.Refusal.{Refusal}
@@ -36,6 +36,6 @@ delivered_to n w = record { sent = w.sent; rest = drop (n - (w.sent - length w.r
 abbrev pub one_delivered : ForwardsModel → ForwardsModel
 one_delivered w = record { sent = w.sent; rest = drop 1 w.rest }
 
--- why one more message is refused, but for want of memory: the first of these that applies
+-- why one more message is refused: the first of these that applies
 abbrev pub push_refusal : ForwardsModel → Option Refusal
-push_refusal w = if nat_eq (length w.rest) OUTSTANDING then Some Busy else if nat_eq w.sent GREATEST_NUMBER then Some Exhausted else None
+push_refusal w = if nat_le OUTSTANDING (length w.rest) then Some Busy else if nat_le GREATEST_NUMBER w.sent then Some Exhausted else None

@@ -41,18 +41,28 @@ impl Forwards {
         Ok(Forwards { sent: 0, rest })
     }
 
-    /// Takes a message under the next number, which is answered. Refused, with the payload given back and all as it was, with 3 exactly where `OUTSTANDING`
-    /// messages are outstanding, else with 8 exactly where `GREATEST_NUMBER` were sent. Takes no memory.
+    /// Why no message is taken now, if none is: with 3 exactly where `OUTSTANDING` messages are outstanding, else with 8 exactly where `GREATEST_NUMBER` were sent.
+    pub fn refusal(&self) -> Option<Refusal>
+        ensures { result ≡ push_refusal self.now }
+    {
+        if self.rest.len() as u64 >= OUTSTANDING {
+            Some(Refusal::Busy)
+        } else if self.sent >= GREATEST_NUMBER {
+            Some(Refusal::Exhausted)
+        } else {
+            None
+        }
+    }
+
+    /// Takes a message under the next number, which is answered. Refused as `refusal` says, with the payload given back and all as it was. Takes
+    /// no memory.
     pub fn push(&mut self, payload: OwnedPayload) -> Result<Number, (OwnedPayload, Refusal)>
         ensures number { MatchResult result (λ number. number ≡ self.old.sent + 1) (λ refused. refused.0 ≡ payload) }
         ensures after { MatchResult result (λ _. self.new ≡ pushed payload self.old) (λ _. self.new ≡ self.old) }
         ensures refused { MatchResult result (λ _. push_refusal self.old ≡ None) (λ refused. push_refusal self.old ≡ Some refused.1) }
     {
-        if self.rest.len() as u64 == OUTSTANDING {
-            return Err((payload, Refusal::Busy));
-        }
-        if self.sent == GREATEST_NUMBER {
-            return Err((payload, Refusal::Exhausted));
+        if let Some(refusal) = self.refusal() {
+            return Err((payload, refusal));
         }
         let sent = self.sent + 1;
         let Some(number) = Number::new(sent) else {

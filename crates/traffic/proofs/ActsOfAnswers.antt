@@ -69,22 +69,14 @@ module _ {S : Type 0} (meaning : Meaning S) where
         happens = refl;
       }
 
-  status-by : (b : Bool) (p : Address) (group : List ℕ) (a : Progress) (m : Follower) (s : S) (out : Output) (new : Follower) (more : Output)
-      → MatchBool b ((new ≡ m) × (more ≡ out)) ((new ≡ collected_to a.stable m) × AsksUpTo p group a.highest new out more)
+  pub status-goes : (p : Address) (group : List ℕ) (a : Progress) (m : Follower) (s : S) (out : Output) (new : Follower) (more : Output) → TakesStatus p group a m out new more
       → FollowerGoes meaning (status_packet p m.view a) p group m s out new s more
-  status-by true p group a m s out new more x =
-      subst (λ (n : Follower). FollowerGoes meaning (status_packet p m.view a) p group m s out n s more) (sym x.0)
-      (subst (λ (o : Output). FollowerGoes meaning (status_packet p m.view a) p group m s out m s o) (sym x.1) (other-nothing meaning _ p group m s out))
-  status-by false p group a m s out new more x =
+  status-goes p group a m s out new more x =
       let next = collected_to a.stable m in
       subst (λ (n : Follower). FollowerGoes meaning (status_packet p m.view a) p group m s out n s more) (sym x.0)
       (other-then meaning (status_packet p m.view a) p group m next next s s s out out more
       (record { posted = []; happened = []; acted = λ kept. announced-by _ p kept m s a refl; grows = grows-nothing group out }, refl)
       (asks-goes meaning (status_packet p m.view a) p group a.highest next s out more (subst (λ (n : Follower). AsksUpTo p group a.highest n out more) x.0 x.1)))
-
-  pub status-goes : (p : Address) (group : List ℕ) (a : Progress) (m : Follower) (s : S) (out : Output) (new : Follower) (more : Output) → TakesStatus p group a m out new more
-      → FollowerGoes meaning (status_packet p m.view a) p group m s out new s more
-  status-goes p group a m s out new more x = status-by (nat_lt m.window.delivered a.stable || nat_lt m.window.delivered (a.highest - WINDOW)) p group a m s out new more x
 
   pub send-goes : (came : Option Posted) (p : Address) (group : List ℕ) (x : List ℕ) (m : Follower) (s : S) (out : Output) (new : Follower) (more : Output) → length x ≤ PAYLOAD → new ≡ follower_pushing x m
       → SendsForward p group x m out more → FollowerGoes meaning came p group m s out new s more

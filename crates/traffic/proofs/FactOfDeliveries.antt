@@ -19,7 +19,7 @@ use Rattle.step_output.specs.Outputs.{Grows}
 use Rattle.traffic.specs.Goings.{FollowerGoes}
 use Rattle.traffic.specs.Turns.{IsFew}
 use Rattle.traffic.specs.Followers.{DeliversOne, collected_to, held_too}
-use Rattle.traffic.specs.Takes.{DeliversTo, Starts, DeliversMore, DeliversHeld, AsksUpTo, AnswersOrder, TakesNear, TakesOrder, ack_of}
+use Rattle.traffic.specs.Takes.{DeliversTo, Starts, DeliversMore, DeliversHeld, AsksUpTo, AnswersOrder, TakesOrder, ack_of}
 use Rattle.step_output.proofs.FactOfGrows.{grows-nothing, grows-then}
 use Rattle.traffic.proofs.ActsOfFollowers.{puts-goes}
 use Rattle.traffic.proofs.ActsInTurn.{other-nothing, other-then}
@@ -81,22 +81,16 @@ module _ {S : Type 0} (meaning : Meaning S) where
 
   -- ---- an ORDER
 
-  pub order-ignored : (p : Address) (group : List ℕ) (g : ℕ) (e : Entry) (m : Follower) (s : S) (out : Output) (before : ℕ) → before < g - WINDOW → before ≡ m.window.delivered → TakesOrder meaning p group g e m s out m s out
-  order-ignored p group g e m s out before far is = let t : nat_lt m.window.delivered (g - WINDOW) ≡ true = grind (arith, nat_tests) in rw t (refl, refl, refl)
-
-  pub order-taken : (p : Address) (group : List ℕ) (g : ℕ) (e : Entry) (m a b : Follower) (s : S) (out : Output) (n : Follower) (t : S) (between more : Output) (before : ℕ) (new : Bool) → g - WINDOW ≤ before → before ≡ m.window.delivered
+  pub order-taken : (p : Address) (group : List ℕ) (g : ℕ) (e : Entry) (m a b : Follower) (s : S) (out : Output) (n : Follower) (t : S) (between more : Output) (before : ℕ) (new : Bool) → before ≡ m.window.delivered
       → a ≡ collected_to (g - WINDOW) m → new ≡ offers g a.window → b ≡ held_too g e a → DeliversHeld meaning p group b s out n t between → held_at (n.window.delivered + 1) n.window.held ≡ None
       → AnswersOrder p group before new g n between more → TakesOrder meaning p group g e m s out n t more
-  order-taken p group g e m a b s out n t between more before new near is now fresh after delivers ready answers =
-      let f : nat_lt m.window.delivered (g - WINDOW) ≡ false = grind (arith, nat_tests) in
-      let taken : TakesNear meaning p group g e m s out n t more = record {
-        between = between;
-        delivers = subst (λ (z : Follower). DeliversHeld meaning p group z s out n t between) (after ∙ ap (held_too g e) now) delivers;
-        ready = ready;
-        answers = subst (λ (z : Bool). AnswersOrder p group m.window.delivered z g n between more) (fresh ∙ ap (λ (z : Follower). offers g z.window) now)
-            (subst (λ (z : ℕ). AnswersOrder p group z new g n between more) is answers);
-      } in
-      rw f taken
+  order-taken p group g e m a b s out n t between more before new is now fresh after delivers ready answers = record {
+    between = between;
+    delivers = subst (λ (z : Follower). DeliversHeld meaning p group z s out n t between) (after ∙ ap (held_too g e) now) delivers;
+    ready = ready;
+    answers = subst (λ (z : Bool). AnswersOrder p group m.window.delivered z g n between more) (fresh ∙ ap (λ (z : Follower). offers g z.window) now)
+        (subst (λ (z : ℕ). AnswersOrder p group z new g n between more) is answers);
+  }
 
 module _ {S : Type 0} (meaning : Meaning S) where
   pub asks-goes : (came : Option Posted) (p : Address) (group : List ℕ) (g : ℕ) (m : Follower) (s : S) (out more : Output) → AsksUpTo p group g m out more

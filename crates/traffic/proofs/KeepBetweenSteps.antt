@@ -25,7 +25,7 @@ use Rattle.step_output.specs.declared.output.Output.{Output}
 use Rattle.step_output.specs.Outputs.{Grows}
 use Rattle.traffic.specs.Coordinators.{IsCoordinator, queued, acknowledged, pushing}
 use Rattle.traffic.specs.Goings.{sending}
-use Rattle.traffic.specs.Turns.{turned, TurnsTo, Starts, Turns, Ordering, AcksOrdering, IsSettled, own_queue, own_entry, SendsOrdering, DeliversOwnAtOnce}
+use Rattle.traffic.specs.Turns.{turned, TurnsTo, Starts, Turns, Ordering, OrdersAll, IsSettled, own_queue, own_entry, SendsOrdering, DeliversOwnAtOnce}
 use Rattle.trace_props.specs.declared.event.Event.TheVariants.{Sent}
 use Rattle.traffic.proofs.FactOfAcks.{noted-other}
 use Rattle.traffic.proofs.FactOfFew.{collected-by, collected-least, stable-le-noted}
@@ -104,8 +104,8 @@ busy-by false b e = refl
 own-pushed : (p : Address) (x : List ℕ) (f : ForwardsModel) → IsForwards f → push_refusal f ≡ None → offered (f.sent + 1) x (own_queue p f) ≡ own_queue p (pushed x f)
 own-pushed p x f i free =
     let len = length f.rest in
-    let busy : nat_eq len OUTSTANDING ≡ false = busy-by (nat_eq len OUTSTANDING) (nat_eq f.sent GREATEST_NUMBER) free in
-    let room : len < OUTSTANDING = grind (arith, nat_tests, i.few) in
+    let busy : nat_le OUTSTANDING len ≡ false = busy-by (nat_le OUTSTANDING len) (nat_le GREATEST_NUMBER f.sent) free in
+    let room : len < OUTSTANDING = grind (arith, nat_tests) in
     let a : nat_lt (f.sent - len) (f.sent + 1) ≡ true = (let k : f.sent - len < f.sent + 1 = omega arith in grind (arith, nat_tests)) in
     let b : nat_le (f.sent + 1) (f.sent - len + OUTSTANDING) ≡ true = (let k : f.sent + 1 ≤ f.sent - len + OUTSTANDING = omega (arith, room, i.some) in grind (arith, nat_tests)) in
     let c : list_any (λ g. nat_eq (f.sent + 1) g.number) f.rest ≡ false = none-waits f.sent len 0 f.rest (λ k g at. i.numbered k g at ∙ (let e : f.sent + k + 1 ≡ f.sent + (0 + k) + 1 = omega arith in e)) (omega arith) in
@@ -240,10 +240,6 @@ module _ {S : Type 0} (meaning : Meaning S) where
 pub few-more : (v : Event) (out between more : List Event) → between ≡ out ++ v ∷ [] → length more ≤ length between + WINDOW → length more ≤ length out + (WINDOW + 1)
 few-more v out between more sent few = let k : length between ≡ length out + 1 = ap length sent ∙ length-append out (v ∷ []) in omega (arith, k, few)
 
-module _ {S : Type 0} (meaning : Meaning S) where
-  pub ack-ignored : (p : Address) (group : List ℕ) (q : Address) (n : ℕ) (m : Coordinator) (s : S) (out : Output) (reached : ℕ) → reached < n → reached ≡ m.window.delivered → AcksOrdering meaning p group q n m s out m s out
-  ack-ignored p group q n m s out reached over is = let t : nat_lt m.window.delivered n ≡ true = grind (arith, nat_tests) in rw t (refl, refl, refl)
-
-  pub ack-heard : (p : Address) (group : List ℕ) (q : Address) (n : ℕ) (m a : Coordinator) (s : S) (out : Output) (new : Coordinator) (t : S) (more : Output) (reached : ℕ) → n ≤ reached → reached ≡ m.window.delivered → a ≡ acknowledged q n m
-      → Ordering meaning p group a s out new t more → next_ordered new.window.stable new.orderer ≡ None → AcksOrdering meaning p group q n m s out new t more
-  ack-heard p group q n m a s out new t more reached under is heard orders done = let f : nat_lt m.window.delivered n ≡ false = grind (arith, nat_tests) in rw f (subst (λ (z : Coordinator). Ordering meaning p group z s out new t more) heard orders, done)
+pub ack-heard : {S : Type 0} (meaning : Meaning S) (p : Address) (group : List ℕ) (q : Address) (n : ℕ) (m a : Coordinator) (s : S) (out : Output) (new : Coordinator) (t : S) (more : Output) → a ≡ acknowledged q n m
+    → Ordering meaning p group a s out new t more → next_ordered new.window.stable new.orderer ≡ None → OrdersAll meaning p group (acknowledged q n m) s out new t more
+ack-heard meaning p group q n m a s out new t more heard orders done = (subst (λ (z : Coordinator). Ordering meaning p group z s out new t more) heard orders, done)

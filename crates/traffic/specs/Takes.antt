@@ -1,5 +1,5 @@
 -- What another member of a view must do, and has done, on an ORDER.
-use Rattle.std.specs.Prelude.{◌≡◌, ℕ, ◌+◌, ◌-◌, ◌<◌, ◌≤◌, Bool, List, [], ◌∷◌, ◌++◌, map, Option, None, Some, IsSome, MatchBool, nat_lt, ◌⊎◌, ◌||◌, zero, suc}
+use Rattle.std.specs.Prelude.{◌≡◌, ℕ, ◌+◌, ◌-◌, ◌<◌, ◌≤◌, Bool, List, [], ◌∷◌, ◌++◌, map, Option, None, Some, IsSome, MatchBool, nat_lt, ◌⊎◌, zero, suc}
 use Rattle.std.specs.Option.{option_map_or}
 use Rattle.limits.specs.declared.TheConstants.{WINDOW}
 use Rattle.trace_props.specs.declared.event.Numbered.{Numbered}
@@ -60,27 +60,20 @@ AnswersOrder p group before new g m out more =
     MatchBool (nat_lt before m.window.delivered) (Grows group out more (ack_of p m ∷ []) []) (MatchBool new (AsksUpTo p group g m out more) (more ≡ out))
 
 -- what lies `WINDOW` below is stable, the entry is held, what is next is delivered, and it is answered
-pub record TakesNear {S : Type 0} (meaning : Meaning S) (p : Address) (group : List ℕ) (g : ℕ) (e : Entry) (old : Follower) (s : S) (out : Output) (new : Follower) (t : S) (more : Output) : Type 0 where
+pub record TakesOrder {S : Type 0} (meaning : Meaning S) (p : Address) (group : List ℕ) (g : ℕ) (e : Entry) (old : Follower) (s : S) (out : Output) (new : Follower) (t : S) (more : Output) : Type 0 where
   pub between : Output
   pub delivers : DeliversHeld meaning p group (held_too g e (collected_to (g - WINDOW) old)) s out new t between
   pub ready : held_at (new.window.delivered + 1) new.window.held ≡ None
   pub answers : AnswersOrder p group old.window.delivered (offers g (collected (g - WINDOW) old.window)) g new between more
-
--- an ORDER too far ahead is ignored
-abbrev pub TakesOrder : {S : Type 0} → Meaning S → Address → List ℕ → ℕ → Entry → Follower → S → Output → Follower → S → Output → Type 0
-TakesOrder meaning p group g e old s out new t more =
-    MatchBool (nat_lt old.window.delivered (g - WINDOW)) ((new ≡ old) × (t ≡ s) × (more ≡ out)) (TakesNear meaning p group g e old s out new t more)
 
 -- ---- a STATUS
 
 abbrev pub status_packet : Address → View → Progress → Option Posted
 status_packet p v a = Some (packet v.id.creator (bodies.Status v.id a) p)
 
--- ignored where it does not fit; else what is stable is let go of, and what is missing asked for
+-- what is stable is let go of, and what is missing asked for
 abbrev pub TakesStatus : Address → List ℕ → Progress → Follower → Output → Follower → Output → Type 0
-TakesStatus p group a old out new more =
-    MatchBool (nat_lt old.window.delivered a.stable || nat_lt old.window.delivered (a.highest - WINDOW)) ((new ≡ old) × (more ≡ out))
-    ((new ≡ collected_to a.stable old) × AsksUpTo p group a.highest new out more)
+TakesStatus p group a old out new more = (new ≡ collected_to a.stable old) × AsksUpTo p group a.highest new out more
 
 -- ---- its own messages
 

@@ -80,12 +80,6 @@ pub record IsSettled (p : Address) (m : Coordinator) : Type 0 where
 abbrev pub IsFew : Output → Output → Type 0
 IsFew old new = length new.events.items ≤ length old.events.items + WINDOW
 
--- an acknowledgement above what was ordered is ignored; else it is heard, and all is ordered that may be
-abbrev pub AcksOrdering : {S : Type 0} → Meaning S → Address → List ℕ → Address → ℕ → Coordinator → S → Output → Coordinator → S → Output → Type 0
-AcksOrdering meaning p group q n old s out new t more =
-    MatchBool (nat_lt old.window.delivered n) ((new ≡ old) × (t ≡ s) × (more ≡ out))
-    (OrdersAll meaning p group (acknowledged q n old) s out new t more)
-
 -- ---- a message of its own
 
 abbrev pub own_entry : Address → Coordinator → List ℕ → Entry

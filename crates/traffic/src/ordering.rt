@@ -1,6 +1,6 @@
 //! The rules of the coordinator of a view: what it takes to be ordered, what it orders, and what is stable.
 
-ghost use Rattle.std.specs.Prelude.{◌≡◌, ◌+◌, ◌<◌, Option, Some, None, true, false, [], length, map, OnOk, IfOk, MatchBool, MatchOption};
+ghost use Rattle.std.specs.Prelude.{◌≡◌, ◌+◌, ◌<◌, ◌≤◌, Option, Some, None, true, false, [], length, map, OnOk, IfOk, MatchBool, MatchOption};
 ghost use Rattle.std.specs.Option.{option_map};
 ghost use Rattle.address.specs.Ids.{same_address};
 ghost use Rattle.view.specs.Members.{stands_in};
@@ -12,7 +12,7 @@ ghost use Rattle.step_output.specs.Outputs.{Grows};
 ghost use Rattle.traffic.specs.ViewStates.{waiting_of};
 ghost use Rattle.traffic.specs.Coordinators.{IsCoordinator, OrdersOne, acknowledged, queued};
 ghost use Rattle.traffic.specs.Goings.{CoordinatorGoes};
-ghost use Rattle.traffic.specs.Turns.{TurnsNext, Ordering, IsSettled, IsFew, AcksOrdering};
+ghost use Rattle.traffic.specs.Turns.{TurnsNext, Ordering, IsSettled, IsFew, OrdersAll};
 
 use crate::Coordinator;
 use crate::delivering::deliver;
@@ -177,8 +177,8 @@ impl Coordinator {
         Ok(())
     }
 
-    /// A member's ACK: what is stable by it is let go of, and all is ordered that may be. A count above what was delivered here is ignored. After an
-    /// error for want of memory nothing is said of the member.
+    /// A member's ACK of no more than was delivered here: what is stable by it is let go of, and all is ordered that may be. After an error for want of memory
+    /// nothing is said of the member.
     pub fn ack<R: Receiver>(
         &mut self,
         who: &Identity,
@@ -191,14 +191,12 @@ impl Coordinator {
         requires settled { IsSettled who.now.address self.old }
         requires other { same_address source.now who.now.address ≡ false }
         requires member { stands_in source.now self.old.view.members ≡ true }
+        requires delivered { count ≤ self.old.window.delivered }
         ensures goes { OnOk result (CoordinatorGoes R.meaning (Some (packet source.now (bodies.Ack self.old.view.id count) who.now.address)) who.now.address who.now.group self.old receiver.old out.old self.new receiver.new out.new) }
-        ensures orders { OnOk result (AcksOrdering R.meaning who.now.address who.now.group source.now count self.old receiver.old out.old self.new receiver.new out.new) }
+        ensures orders { OnOk result (OrdersAll R.meaning who.now.address who.now.group (acknowledged source.now count self.old) receiver.old out.old self.new receiver.new out.new) }
         ensures settled { OnOk result (IsSettled who.now.address self.new) }
         ensures few { OnOk result (IsFew out.old out.new) }
     {
-        if count > self.window.delivered() {
-            return Ok(());
-        }
         self.acknowledge(source, count);
         self.order(who, receiver, out)?;
         Ok(())

@@ -168,8 +168,7 @@ impl Follower {
     }
 
     /// An ORDER of the coordinator: what lies `WINDOW` below it is stable, it is held where it is new, and what is held in turn is delivered. An ACK is put out
-    /// where messages were delivered, else a NAK where it was new. An ORDER more than `WINDOW` past what was delivered here is ignored. After an error for want of
-    /// memory nothing is said of the member.
+    /// where messages were delivered, else a NAK where it was new. After an error for want of memory nothing is said of the member.
     pub fn order<R: Receiver>(
         &mut self,
         who: &Identity,
@@ -184,9 +183,6 @@ impl Follower {
         ensures few { OnOk result (IsFew out.old out.new) }
     {
         let before = self.window.delivered();
-        if before < place.get().saturating_sub(WINDOW) {
-            return Ok(());
-        }
         self.collect_below(place);
         let new = self.hold(place, entry)?;
         self.deliver_all(who, receiver, out)?;
@@ -194,8 +190,8 @@ impl Follower {
         Ok(())
     }
 
-    /// A STATUS of the coordinator: what is stable is let go of, and a NAK is put out where something is missing. A stable count above what was delivered here,
-    /// or a highest number more than `WINDOW` past it, is ignored. After an error for want of memory nothing is said of the output.
+    /// A STATUS of the coordinator: what is stable is let go of, and a NAK is put out where something is missing. After an error for want of memory nothing is said of
+    /// the output.
     pub fn status(
         &mut self,
         who: &Identity,
@@ -204,14 +200,8 @@ impl Follower {
     ) -> Result<(), AllocError>
         ensures { OnOk result (TakesStatus who.now.address who.now.group progress self.old out.old self.new out.new) }
     {
-        let delivered = self.window.delivered();
-        let stable = progress.stable().get();
-        let highest = progress.highest().get();
-        if delivered < stable || delivered < highest.saturating_sub(WINDOW) {
-            return Ok(());
-        }
-        self.window.collect(stable);
-        self.ask_up_to(who, highest, out)?;
+        self.window.collect(progress.stable().get());
+        self.ask_up_to(who, progress.highest().get(), out)?;
         Ok(())
     }
 

@@ -24,7 +24,7 @@ use Rattle.traffic.specs.declared.coordinator.Coordinator.{Coordinator}
 use Rattle.traffic.specs.declared.follower.Follower.{Follower}
 use Rattle.traffic.specs.declared.view_state.ViewState.{ViewState}
 use Rattle.traffic.specs.declared.view_state.ViewState.TheVariants as kinds
-use Rattle.traffic.specs.Takes.{TakesNear, TakesOrder, TakesStatus, AsksUpTo, progress_of, orders_held}
+use Rattle.traffic.specs.Takes.{TakesOrder, TakesStatus, AsksUpTo, progress_of, orders_held}
 use Rattle.traffic.specs.Followers.{collected_to}
 use Rattle.membership.specs.declared.member_state.MemberState.{MemberState}
 use Rattle.wire_values.specs.Kinds.{install_said}
@@ -316,21 +316,13 @@ module _ {S : Type 0} (meaning : Meaning S) where
     pub others : OthersStand q.node old.node_states new.node_states
     pub puts : new.history.pool ≡ old.history.pool ++ map bytes_of out.packets.items
 
-  fits : (a : Progress) (k : Follower) → is_near a k ≡ true → (nat_lt k.window.delivered a.stable || nat_lt k.window.delivered (a.highest - WINDOW)) ≡ false
-  fits a k near = by (nat_lt k.window.delivered a.stable) (nat_lt k.window.delivered (a.highest - WINDOW)) near
-    where
-      by : (x y : Bool) → (not x && not y) ≡ true → (x || y) ≡ false
-      by true y e = absurd (let bad : false ≡ true = e in cc)
-      by false true e = absurd (let bad : false ≡ true = e in cc)
-      by false false e = refl
-
   pub asked : (old new : WorldModel S) (c q : Address) (l : MemberState S) (k : Follower) (a : Progress) (r : RunsAs old q l (kinds.Follower k)) → k.view.id.creator ≡ c → stands_in c k.view.members ≡ true
       → is_near a k ≡ true → Heard old new q l (packet c (bodies.Status k.view.id a) q) → Asked old new q l k a
   asked old new c q l k a r own listed near h =
       let x : OnStatus world_group q c k.view.id a l h.after h.start h.out = h.hears in
       let y = when-true (takes_status c k.view.id a l) _ _ (takes-status c l k r.view_state r.installed own listed a near) x in
       let z = still-other (λ m n. TakesStatus q world_group a m h.start n h.out × (h.after.receiver ≡ l.receiver)) l h.after k r.view_state y in
-      let u = when-false (nat_lt k.window.delivered a.stable || nat_lt k.window.delivered (a.highest - WINDOW)) _ _ (fits a k near) z.does.0 in
+      let u = z.does.0 in
       record {
         after = h.after;
         now = z.now;
@@ -353,7 +345,7 @@ module _ {S : Type 0} (meaning : Meaning S) where
     pub new_state : S
     pub start : Output
     pub out : Output
-    pub takes : TakesNear meaning q world_group g e k old_state start now new_state out
+    pub takes : TakesOrder meaning q world_group g e k old_state start now new_state out
     pub others : OthersStand q.node old.node_states new.node_states
     pub puts : new.history.pool ≡ old.history.pool ++ map bytes_of out.packets.items
 
@@ -371,7 +363,7 @@ module _ {S : Type 0} (meaning : Meaning S) where
         new_state = h.after.receiver;
         start = h.start;
         out = h.out;
-        takes = when-false (nat_lt k.window.delivered (g - WINDOW)) _ _ near z.does;
+        takes = z.does;
         others = h.others;
         puts = h.puts;
       }

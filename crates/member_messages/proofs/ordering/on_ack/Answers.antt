@@ -3,7 +3,7 @@ use Rattle.wire_values.specs.declared.packet.Body.TheVariants as bodies
 use Rattle.acts.specs.Acts.{packet}
 use Rattle.member_messages.proofs.FactOfOpen.{there-is, orderly-in, nothing-did}
 use Rattle.member_messages.proofs.FactOfHeard.{heard-in, heard-member_state, heard-did}
-use Rattle.member_messages.proofs.FactOfCalm.{acks-calm}
+use Rattle.member_messages.proofs.FactOfCalm.{ordering-calm}
 use Rattle.member_messages.proofs.ordering.on_ack.Goals as goal
 
 pub returns-then-not-takes_ack-clause-did : goal.returns-then-not-takes_ack-clause-did
@@ -39,4 +39,4 @@ returns-in_ok-ack-in-Some-Coordinator-clause-did g c =
 pub returns-in_ok-ack-in-Some-Coordinator-clause-calm : goal.returns-in_ok-ack-in-Some-Coordinator-clause-calm
 returns-in_ok-ack-in-Some-Coordinator-clause-calm g c =
     let does = c.in_ok-ack-in-Some-Coordinator.ensures in
-    acks-calm g.R.Receiver.meaning _ _ _ _ _ _ _ _ _ _ does.orders does.few
+    ordering-calm g.R.Receiver.meaning _ _ _ _ _ _ _ _ does.orders.0 does.few
