@@ -227,10 +227,8 @@ fn entry_at(slots: &HeapCircularBuffer<Option<Entry>>, stable: u64, g: u64) -> O
     if g <= stable {
         return None;
     }
-    match slots.get((g - stable - 1) as usize) {
-        None => None,
-        Some(slot) => slot.as_ref(),
-    }
+    let slot = slots.get((g - stable - 1) as usize)?;
+    slot.as_ref()
 }
 
 fn holds(slots: &HeapCircularBuffer<Option<Entry>>, stable: u64, g: u64) -> bool

@@ -121,6 +121,36 @@ fn says_its_gaps(rt: HostRuntime) {
 }
 
 #[test]
+fn delivers_next_where_it_is_held(rt: HostRuntime) {
+    let mut window = Window::new(rt.alloc()).ok().expect(&rt, "a window");
+    assert!(rt; !window.deliver_next(), "nothing has come");
+    assert!(rt; offered(&mut window, 1), "1 is taken");
+    assert!(rt; window.deliver_next(), "1 is delivered");
+    let entry = window.entry(window.delivered()).expect(&rt, "an entry");
+    assert_eq!(rt; entry.number.get(), 1, "it stays held");
+}
+
+/// The number in the order that the last slot with an entry has; 0 where none has one.
+fn last_held(window: &Window) -> u64 {
+    let mut number = window.stable();
+    let mut last = 0;
+    for slot in window.slots() {
+        number = number.saturating_add(1);
+        if slot.is_some() {
+            last = number;
+        }
+    }
+    last
+}
+
+#[test]
+fn a_slot_has_the_entry_of_its_number(rt: HostRuntime) {
+    let window = after_three(rt.alloc()).ok().expect(&rt, "a window");
+    assert_eq!(rt; window.held_count(), 2, "3 and 32 are held");
+    assert_eq!(rt; last_held(&window), 32, "the last of them");
+}
+
+#[test]
 fn an_entry_gives_its_parts(rt: HostRuntime) {
     let lent = lent(4, &[1, 2]).expect(&rt, "a lent entry");
     let entry = Entry::copy_of(rt.alloc(), &lent).ok().expect(&rt, "a copy");

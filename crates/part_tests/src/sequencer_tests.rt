@@ -1,6 +1,5 @@
 use crate::fixtures::{first_of, view_of};
 use address::Address;
-use limits::Refusal;
 use nak_stream::OwnedPayload;
 use sequencer::{Forwards, Orderer};
 use std::alloc::{AllocError, Global};
@@ -121,18 +120,18 @@ fn takes_eight_behind_what_is_ordered(rt: HostRuntime) {
     assert!(rt; offered(&mut orderer, one, 9, 1), "9 is within reach");
 }
 
-/// What was taken of eight messages.
-fn eight(alloc: Global) -> Forwards {
-    let mut forwards = Forwards::new(alloc);
+/// What was taken of eight messages; `None` where memory was refused.
+fn eight(alloc: Global) -> Option<Forwards> {
+    let mut forwards = Forwards::new(alloc).ok()?;
     for _ in 0..8 {
         pushed(alloc, &mut forwards, 7);
     }
-    forwards
+    Some(forwards)
 }
 
 #[test]
 fn messages_are_numbered_from_1(rt: HostRuntime) {
-    let mut forwards = Forwards::new(rt.alloc());
+    let mut forwards = Forwards::new(rt.alloc()).ok().expect(&rt, "room");
     for number in 1..9 {
         assert_eq!(rt; pushed(rt.alloc(), &mut forwards, 7), number);
     }
@@ -140,13 +139,13 @@ fn messages_are_numbered_from_1(rt: HostRuntime) {
 
 #[test]
 fn a_ninth_outstanding_message_is_refused(rt: HostRuntime) {
-    let mut forwards = eight(rt.alloc());
+    let mut forwards = eight(rt.alloc()).expect(&rt, "room");
     assert_eq!(rt; pushed(rt.alloc(), &mut forwards, 7), 103);
 }
 
 #[test]
 fn a_message_is_taken_once_others_were_delivered(rt: HostRuntime) {
-    let mut forwards = eight(rt.alloc());
+    let mut forwards = eight(rt.alloc()).expect(&rt, "room");
     assert_eq!(rt;
         pushed(rt.alloc(), &mut forwards, 7),
         103,
@@ -170,7 +169,7 @@ fn oldest(forwards: &Forwards) -> Option<u64> {
 
 #[test]
 fn the_oldest_message_is_outstanding_no_longer(rt: HostRuntime) {
-    let mut forwards = eight(rt.alloc());
+    let mut forwards = eight(rt.alloc()).expect(&rt, "room");
     forwards.oldest_delivered();
     assert_eq!(rt; forwards.rest().len(), 7, "how many are outstanding");
     assert_eq!(rt; oldest(&forwards), Some(2), "the oldest of them");
@@ -179,22 +178,22 @@ fn the_oldest_message_is_outstanding_no_longer(rt: HostRuntime) {
 
 #[test]
 fn nothing_changes_where_none_is_outstanding(rt: HostRuntime) {
-    let mut forwards = Forwards::new(rt.alloc());
+    let mut forwards = Forwards::new(rt.alloc()).ok().expect(&rt, "room");
     forwards.oldest_delivered();
     assert!(rt; forwards.rest().is_empty(), "none is outstanding");
 }
 
 #[test]
 fn all_but_the_delivered_messages_are_handed_back(rt: HostRuntime) {
-    let forwards = eight(rt.alloc());
+    let forwards = eight(rt.alloc()).expect(&rt, "room");
     let handed_back = forwards.handed_back(6).expect(&rt, "memory");
     assert_eq!(rt; handed_back.as_slice().len(), 2, "how many");
     let oldest = handed_back.as_slice().first().expect(&rt, "a message");
     assert_eq!(rt; oldest.number, 7, "the oldest of them");
 }
 
-/// Whether a payload of one byte is taken, or is given back for want of memory with nothing changed.
-fn pushed_or_given_back(alloc: Global, forwards: &mut Forwards, byte: u8) -> bool {
+/// Whether a payload of one byte is taken, where there is one.
+fn is_pushed(alloc: Global, forwards: &mut Forwards, byte: u8) -> bool {
     let Some(payload) = payload_of(alloc, byte) else {
         return true;
     };
@@ -203,11 +202,7 @@ fn pushed_or_given_back(alloc: Global, forwards: &mut Forwards, byte: u8) -> boo
         Ok(number) => {
             number.get() == before.saturating_add(1) && forwards.sent() == number.get()
         }
-        Err((payload, refusal)) => {
-            first_byte(&payload) == Some(byte)
-                && matches!(refusal, Refusal::Memory)
-                && forwards.sent() == before
-        }
+        Err(_) => false,
     }
 }
 
@@ -219,14 +214,20 @@ fn taken_or_unchanged(orderer: &mut Orderer, sender: Address, number: u64) -> bo
 
 // With each allocation refused in turn (`rt try --test --fail-alloc N`) it still holds.
 #[test]
-fn a_refused_growth_gives_the_payload_back(rt: HostRuntime) {
-    let mut forwards = Forwards::new(rt.alloc());
-    for byte in 1..4 {
-        assert!(rt;
-            pushed_or_given_back(rt.alloc(), &mut forwards, byte),
-            "the payload {byte}"
-        );
+fn a_message_that_has_its_payload_is_taken(rt: HostRuntime) {
+    if let Ok(mut forwards) = Forwards::new(rt.alloc()) {
+        for byte in 1..4 {
+            assert!(rt;
+                is_pushed(rt.alloc(), &mut forwards, byte),
+                "the payload {byte}"
+            );
+        }
     }
+}
+
+// The same.
+#[test]
+fn a_refused_growth_leaves_the_orderer(rt: HostRuntime) {
     if let Some(mut orderer) = of_two(rt.alloc()) {
         assert!(rt;
             taken_or_unchanged(&mut orderer, first_of(2), 1),

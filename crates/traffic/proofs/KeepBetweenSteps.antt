@@ -5,7 +5,7 @@ use Rattle.std.specs.List.{find, list_any}
 use Rattle.std.specs.Option.{option_map}
 use Rattle.std.proofs.lemmas.Bool.Decides.{nat_tests}
 use Rattle.std.proofs.lemmas.Bool.{cond-true, cond-false}
-use Rattle.std.proofs.lemmas.Option.{none-some, same_Some}
+use Rattle.std.proofs.lemmas.Option.{none-some, same_Some, slice_get_within}
 use Rattle.limits.specs.declared.TheConstants.{OUTSTANDING, GREATEST_NUMBER, WINDOW}
 use Rattle.address.specs.Ids.{Address, same_address}
 use Rattle.view.specs.Members.{stands_in}
@@ -16,7 +16,7 @@ use Rattle.trace_props.specs.declared.event.Event.{Event}
 use Rattle.address.proofs.SameIds.{same_address-true, turned-about}
 use Rattle.sequencer.specs.Forwards.{ForwardsModel, IsForwards, pushed, push_refusal}
 use Rattle.limits.specs.declared.refusal.Refusal.TheVariants.{Busy, Exhausted}
-use Rattle.sequencer.specs.Queues.{Queue, change_first, follows, has_next, next_of, entry_with, first_next, next_ordered, may_order, is_from, takes, offered}
+use Rattle.sequencer.specs.Queues.{Queue, change_first, follows, has_next, next_of, entry_with, first_next, next_ordered, may_order, is_from, takes, offered, waiting_with}
 use Rattle.stability.specs.Counts.{count_of, noted, stable_count}
 use Rattle.stability.proofs.Counts.{count-noted-le, stable-le-count, members-noted}
 use Rattle.acts.specs.Acts.{delivery}
@@ -28,13 +28,14 @@ use Rattle.traffic.specs.Goings.{sending}
 use Rattle.traffic.specs.Turns.{turned, TurnsTo, Starts, Turns, Ordering, OrdersAll, IsSettled, own_queue, own_entry, SendsOrdering, DeliversOwnAtOnce}
 use Rattle.trace_props.specs.declared.event.Event.TheVariants.{Sent}
 use Rattle.traffic.proofs.FactOfAcks.{noted-other}
+use Rattle.traffic.proofs.FactOfOffered.{queue_with}
 use Rattle.traffic.proofs.FactOfFew.{collected-by, collected-least, stable-le-noted}
 
 -- ---- a FORWARD leaves the own queue
 
 offered-sender : (b : Bool) (n : ℕ) (x : List ℕ) (r : Queue) → takes n r ≡ b → (offered n x r).sender ≡ r.sender
-offered-sender true n x r t = ap (λ (z : Queue). z.sender) (cond-true (takes n r) (record { sender = r.sender; ordered = r.ordered; waiting = r.waiting ++ record { number = n; payload = x } ∷ [] }) r t)
-offered-sender false n x r t = ap (λ (z : Queue). z.sender) (cond-false (takes n r) (record { sender = r.sender; ordered = r.ordered; waiting = r.waiting ++ record { number = n; payload = x } ∷ [] }) r t)
+offered-sender true n x r t = ap (λ (z : Queue). z.sender) (cond-true (takes n r) (queue_with (record { number = n; payload = x }) r) r t)
+offered-sender false n x r t = ap (λ (z : Queue). z.sender) (cond-false (takes n r) (queue_with (record { number = n; payload = x }) r) r t)
 
 other-queue-by : (b : Bool) (p q : Address) (n : ℕ) (x : List ℕ) (r : Queue) (queues : List Queue) → same_address q r.sender ≡ b → same_address q p ≡ false
     → find (is_from p) (change_first (is_from q) (offered n x) queues) ≡ find (is_from p) queues
@@ -101,6 +102,14 @@ busy-by : (a b : Bool) → (if a then Some Busy else if b then Some Exhausted el
 busy-by true b e = absurd (none-some Busy (sym e))
 busy-by false b e = refl
 
+-- a number above all that wait comes at the end
+last-with : (f : Numbered) (fs : List Numbered) → ((k : ℕ) (g : Numbered) → slice_get fs k ≡ Some g → g.number < f.number) → waiting_with f fs ≡ fs ++ f ∷ []
+last-with f [] below = refl
+last-with f (g ∷ fs) below =
+    let low : g.number < f.number = below 0 g refl in
+    let t : nat_lt f.number g.number ≡ false = grind (arith, nat_tests) in
+    ap (λ (b : Bool). if b then f ∷ g ∷ fs else g ∷ waiting_with f fs) t ∙ ap (λ (gs : List Numbered). g ∷ gs) (last-with f fs (λ k h at. below (suc k) h at))
+
 own-pushed : (p : Address) (x : List ℕ) (f : ForwardsModel) → IsForwards f → push_refusal f ≡ None → offered (f.sent + 1) x (own_queue p f) ≡ own_queue p (pushed x f)
 own-pushed p x f i free =
     let len = length f.rest in
@@ -112,9 +121,12 @@ own-pushed p x f i free =
     let t : takes (f.sent + 1) (own_queue p f) ≡ true =
     ap (λ (z : Bool). z && nat_le (f.sent + 1) (f.sent - len + OUTSTANDING) && not (list_any (λ g. nat_eq (f.sent + 1) g.number) f.rest)) a
     ∙ ap (λ (z : Bool). z && not (list_any (λ g. nat_eq (f.sent + 1) g.number) f.rest)) b ∙ ap not c in
-    let more = f.rest ++ record { number = f.sent + 1; payload = x } ∷ [] in
+    let new : Numbered = record { number = f.sent + 1; payload = x } in
+    let more = f.rest ++ new ∷ [] in
+    let last : waiting_with new f.rest ≡ more = last-with new f.rest (λ k g at. let m = i.numbered k g at in let w = slice_get_within f.rest k g at in omega (arith, m, w)) in
     let count : f.sent - len ≡ f.sent + 1 - length more = (let k : length more ≡ len + 1 = length-append f.rest (record { number = f.sent + 1; payload = x } ∷ []) in omega (arith, k)) in
-    cond-true (takes (f.sent + 1) (own_queue p f)) (record { sender = p; ordered = f.sent - len; waiting = more }) (own_queue p f) t
+    cond-true (takes (f.sent + 1) (own_queue p f)) (queue_with new (own_queue p f)) (own_queue p f) t
+    ∙ ap (λ (ws : List Numbered). let r : Queue = record { sender = p; ordered = f.sent - len; waiting = ws } in r) last
     ∙ ap (λ (n : ℕ). let r : Queue = record { sender = p; ordered = n; waiting = more } in r) count
 
 pub settled-sent : (p : Address) (n : ℕ) (x : List ℕ) (m a b : Coordinator) → IsForwards m.forwards → push_refusal m.forwards ≡ None → IsSettled p m → n ≡ m.forwards.sent + 1 → a ≡ pushing x m → b ≡ queued p n x a

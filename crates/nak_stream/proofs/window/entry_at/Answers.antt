@@ -6,10 +6,11 @@ use Rattle.nak_stream.proofs.window.entry_at.Goals as goal
 pub returns-then-g-stable : goal.returns-then-g-stable
 returns-then-g-stable c = sym (held-before _ _ c.args.slots.now.items c.if-g-stable.true)
 
-pub returns-in-None : goal.returns-in-None
-returns-in-None c = sym (held-past _ _ (c.args.g - c.args.stable - 1) c.args.slots.now.items (omega arith) (sym c.get.ensures ∙ ap option_copied c.in-None.is))
+pub returns-in_err-slot : goal.returns-in_err-slot
+returns-in_err-slot c =
+    ap option_copied c.from_residual.ensures ∙ sym (held-past _ _ (c.args.g - c.args.stable - 1) c.args.slots.now.items (omega arith) (sym c.get.ensures ∙ ap option_copied c.in_err-slot.was))
 
-pub returns-in-Some : goal.returns-in-Some
-returns-in-Some c =
+pub returns : goal.returns
+returns c =
     c.as_ref.ensures.value
-    ∙ sym (held-in _ _ (c.args.g - c.args.stable - 1) c.args.slots.now.items _ (omega arith) (sym c.get.ensures ∙ ap option_copied c.in-Some.is))
+    ∙ sym (held-in _ _ (c.args.g - c.args.stable - 1) c.args.slots.now.items _ (omega arith) (sym c.get.ensures ∙ ap option_copied c.in_ok-slot.was))
