@@ -101,8 +101,19 @@ impl Window {
             return Ok(false);
         }
         let entry = Entry::copy_of(self.alloc, entry)?;
+        Ok(self.hold(g, entry))
+    }
+
+    /// Offers an entry at the number `g` that is taken where `accept` takes it, and is let go else. It is moved, not copied. Takes no memory.
+    pub fn hold(&mut self, g: u64, entry: Entry) -> bool
+        ensures answer { result ≡ offers g self.old }
+        ensures after { self.new ≡ taken g entry self.old }
+    {
+        if !self.offers(g) {
+            return false;
+        }
         fill(&mut self.slots, (g - self.stable - 1) as usize, entry);
-        Ok(true)
+        true
     }
 
     fn offers(&self, g: u64) -> bool

@@ -17,7 +17,7 @@ use Rattle.acts.specs.Acts.{packet, others_of, delivery}
 use Rattle.traffic.specs.declared.coordinator.Coordinator.{Coordinator}
 use Rattle.step_output.specs.declared.output.Output.{Output}
 use Rattle.step_output.specs.Outputs.{Grows}
-use Rattle.traffic.specs.Coordinators.{OrdersOne, after_one, acknowledged}
+use Rattle.traffic.specs.Coordinators.{OrdersOne, ServesOne, after_one, holding, acknowledged}
 use Rattle.traffic.specs.Turns.{order_of, orders_of, TurnsTo, Starts, Turns, TurnsOne, TurnsNext, Ordering}
 use Rattle.stability.specs.Counts.{count_of}
 use Rattle.traffic.proofs.FactOfAcks.{noted-other}
@@ -34,6 +34,13 @@ pub one-ordered : (p : Address) (m : Coordinator) (e : Entry) → next_ordered m
 one-ordered p m e due =
     cond-true (is_some (next_ordered m.window.stable m.orderer)) (record { ordered = m.orderer.ordered + 1; queues = change_first has_next served m.orderer.queues }) m.orderer (ap is_some due)
 
+-- the ORDERs of a message are those of the view in which it is held
+pub held-view : (p : Address) (group : List ℕ) (n : ℕ × Entry) (served new : Coordinator) (out more : Output) → new ≡ holding n served
+    → Grows group out more (map (packet p (bodies.Order served.view.id n.0 n.1)) (others_of p served.view.members)) []
+    → Grows group out more (map (packet p (bodies.Order new.view.id n.0 n.1)) (others_of p new.view.members)) []
+held-view p group n served new out more now puts =
+    subst (λ (z : Coordinator). Grows group out more (map (packet p (bodies.Order z.view.id n.0 n.1)) (others_of p z.view.members)) []) (sym now) puts
+
 pub next-is : (k : ℕ) (o : Option Entry) (n : ℕ × Entry) → Some n ≡ option_map (λ e. (k, e)) o → (n ≡ (k, n.1)) × (o ≡ Some n.1)
 next-is k None n e = absurd (none-some n (sym e))
 next-is k (Some x) n e = let same : n ≡ (k, x) = same_Some n (k, x) e in (same ∙ ap (λ y. (k, y)) (ap (λ (z : ℕ × Entry). z.1) (sym same)), ap (λ (z : ℕ × Entry). Some z.1) (sym same))
@@ -43,6 +50,26 @@ next-none k None e = refl
 next-none k (Some x) e = absurd (none-some (k, x) e)
 
 module _ {S : Type 0} (meaning : Meaning S) where
+  -- where there is none, and where it is held after it was delivered
+  pub serves-none : (p : Address) (group : List ℕ) (next : Option (ℕ × Entry)) (m : Coordinator) (s : S) (out : Output) (new : Coordinator) (t : S) (more : Output) → next ≡ None
+      → MatchOption next ((new ≡ m) × (t ≡ s) × (more ≡ out)) (λ n. ServesOne meaning p group n m s out new t more)
+      → MatchOption next ((new ≡ m) × (t ≡ s) × (more ≡ out)) (λ n. OrdersOne meaning p group n m s out new t more)
+  serves-none p group next m s out new t more none does =
+      subst (λ (o : Option (ℕ × Entry)). MatchOption o ((new ≡ m) × (t ≡ s) × (more ≡ out)) (λ n. OrdersOne meaning p group n m s out new t more)) (sym none)
+      (subst (λ (o : Option (ℕ × Entry)). MatchOption o ((new ≡ m) × (t ≡ s) × (more ≡ out)) (λ n. ServesOne meaning p group n m s out new t more)) none does)
+
+  held-one : (p : Address) (group : List ℕ) (n : ℕ × Entry) (m : Coordinator) (s : S) (out : Output) (served new : Coordinator) (t : S) (more : Output) → ServesOne meaning p group n m s out served t more
+      → new ≡ holding n served → OrdersOne meaning p group n m s out new t more
+  held-one p group n m s out served new t more x now = record { now = now ∙ ap (holding n) x.now; state = x.state; grows = x.grows }
+
+  pub serves-some : (p : Address) (group : List ℕ) (next : Option (ℕ × Entry)) (n : ℕ × Entry) (m : Coordinator) (s : S) (out : Output) (served new : Coordinator) (t : S) (more : Output) → next ≡ Some n
+      → new ≡ holding n served → MatchOption next ((served ≡ m) × (t ≡ s) × (more ≡ out)) (λ n. ServesOne meaning p group n m s out served t more)
+      → MatchOption next ((new ≡ m) × (t ≡ s) × (more ≡ out)) (λ n. OrdersOne meaning p group n m s out new t more)
+  serves-some p group next n m s out served new t more some now does =
+      subst (λ (o : Option (ℕ × Entry)). MatchOption o ((new ≡ m) × (t ≡ s) × (more ≡ out)) (λ n. OrdersOne meaning p group n m s out new t more)) (sym some)
+      (held-one p group n m s out served new t more
+      (subst (λ (o : Option (ℕ × Entry)). MatchOption o ((served ≡ m) × (t ≡ s) × (more ≡ out)) (λ n. ServesOne meaning p group n m s out served t more)) some does) now)
+
   pub turn-does : (p : Address) (group : List ℕ) (next : Option (ℕ × Entry)) (n : ℕ × Entry) (m : Coordinator) (s : S) (out : Output) (new : Coordinator) (t : S) (more most : Output)
       (reached : ℕ) (last : Coordinator) → MatchOption next ((new ≡ m) × (t ≡ s) × (more ≡ out)) (λ n. OrdersOne meaning p group n m s out new t more)
       → next ≡ option_map (λ e. (m.orderer.ordered + 1, e)) (next_ordered m.window.stable m.orderer) → next ≡ Some n

@@ -37,6 +37,19 @@ after_one p n m = record m {
   orderer = ordering m.window.stable m.orderer;
 }
 
+-- the same in two: the message leaves its queue, and is delivered; it is held at its number
+abbrev pub served_one : Address → Entry → Coordinator → Coordinator
+served_one p e m = record m { forwards = after_delivery p e m.forwards; orderer = ordering m.window.stable m.orderer }
+
+abbrev pub holding : ℕ × Entry → Coordinator → Coordinator
+holding n m = record m { window = delivering (taken n.0 n.1 m.window) }
+
+-- the next message leaves its queue, and is delivered
+pub record ServesOne {S : Type 0} (meaning : Meaning S) (p : Address) (group : List ℕ) (n : ℕ × Entry) (old : Coordinator) (s : S) (out : Output) (new : Coordinator) (t : S) (more : Output) : Type 0 where
+  pub now : new ≡ served_one p n.1 old
+  pub state : t ≡ meaning.apply s n.1.sender n.1.payload
+  pub grows : Grows group out more [] (delivery p old.view.id n.1 ∷ [])
+
 -- the next message is ordered and delivered
 pub record OrdersOne {S : Type 0} (meaning : Meaning S) (p : Address) (group : List ℕ) (n : ℕ × Entry) (old : Coordinator) (s : S) (out : Output) (new : Coordinator) (t : S) (more : Output) : Type 0 where
   pub now : new ≡ after_one p n old

@@ -10,7 +10,7 @@ ghost use Rattle.acts.specs.Histories.{Posted};
 ghost use Rattle.acts.specs.Acts.{packet, others_of};
 ghost use Rattle.step_output.specs.Outputs.{Grows};
 ghost use Rattle.traffic.specs.ViewStates.{waiting_of};
-ghost use Rattle.traffic.specs.Coordinators.{IsCoordinator, OrdersOne, acknowledged, queued};
+ghost use Rattle.traffic.specs.Coordinators.{IsCoordinator, ServesOne, acknowledged, holding, queued};
 ghost use Rattle.traffic.specs.Goings.{CoordinatorGoes};
 ghost use Rattle.traffic.specs.Turns.{TurnsNext, Ordering, IsSettled, IsFew, OrdersAll};
 
@@ -37,8 +37,8 @@ impl Coordinator {
         Ok(())
     }
 
-    // Orders the next message, where one may be ordered: it is held and delivered here. Answers its number in the order, and the message.
-    fn order_one<R: Receiver>(
+    // Takes the next message out of its queue, where one may be ordered, and delivers it here. Answers its number in the order, and the message.
+    fn serve_one<R: Receiver>(
         &mut self,
         who: &Identity,
         receiver: &mut R,
@@ -47,13 +47,11 @@ impl Coordinator {
         ensures next { IfOk result (λ next. next ≡ option_map (λ e. (self.old.orderer.ordered + 1, e)) (next_ordered self.old.window.stable self.old.orderer)) }
         ensures does { IfOk result (λ next. MatchOption next
             ((self.new ≡ self.old) × (receiver.new ≡ receiver.old) × (out.new ≡ out.old))
-            (λ n. OrdersOne R.meaning who.now.address who.now.group n self.old receiver.old out.old self.new receiver.new out.new)) }
+            (λ n. ServesOne R.meaning who.now.address who.now.group n self.old receiver.old out.old self.new receiver.new out.new)) }
     {
         let Some((place, entry)) = self.orderer.ready(self.window.stable()) else {
             return Ok(None);
         };
-        let _new = self.window.accept(place.get(), &entry.lent())?;
-        let _held = self.window.deliver_next();
         deliver(
             who,
             self.view.id(),
@@ -63,6 +61,14 @@ impl Coordinator {
             out,
         )?;
         Ok(Some((place, entry)))
+    }
+
+    // Holds a message at its number, as delivered here.
+    fn hold(&mut self, place: Number, entry: Entry)
+        ensures { self.new ≡ holding (place, entry) self.old }
+    {
+        let _new = self.window.hold(place.get(), entry);
+        let _held = self.window.deliver_next();
     }
 
     // Takes an acknowledgement, and lets go of what is stable.
@@ -114,11 +120,12 @@ impl Coordinator {
         self.window.kept();
         let _members = self.view.members();
         let _rest = self.forwards.rest();
-        let next = self.order_one(who, receiver, out)?;
+        let next = self.serve_one(who, receiver, out)?;
         match next {
             None => Ok(false),
             Some(placed) => {
                 self.announce(who, placed.0, &placed.1, out)?;
+                self.hold(placed.0, placed.1);
                 let reached = self.window.delivered();
                 self.acknowledge(&who.address, reached);
                 Ok(true)
