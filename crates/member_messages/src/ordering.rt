@@ -46,18 +46,20 @@ pub fn on_forward<R: Receiver>(
     if !takes_forward(member_state, source, view) {
         return Ok(());
     }
-    let Some(ViewState::Coordinator(coordinator)) = &mut member_state.view_state else {
-        unreachable!();
-    };
-    coordinator.forward(
-        who,
-        source,
-        number,
-        payload,
-        &mut member_state.receiver,
-        out,
-    )?;
-    Ok(())
+    match &mut member_state.view_state {
+        None | Some(ViewState::Follower(_)) => unreachable!(),
+        Some(ViewState::Coordinator(coordinator)) => {
+            coordinator.forward(
+                who,
+                source,
+                number,
+                payload,
+                &mut member_state.receiver,
+                out,
+            )?;
+            Ok(())
+        }
+    }
 }
 
 /// An ACK: where it is taken, what is stable by it is let go of, and all is ordered that may be. Any other is ignored, and takes no memory. After an
@@ -84,11 +86,13 @@ pub fn on_ack<R: Receiver>(
     if !takes_ack(member_state, source, view, count) {
         return Ok(());
     }
-    let Some(ViewState::Coordinator(coordinator)) = &mut member_state.view_state else {
-        unreachable!();
-    };
-    coordinator.ack(who, source, count, &mut member_state.receiver, out)?;
-    Ok(())
+    match &mut member_state.view_state {
+        None | Some(ViewState::Follower(_)) => unreachable!(),
+        Some(ViewState::Coordinator(coordinator)) => {
+            coordinator.ack(who, source, count, &mut member_state.receiver, out)?;
+            Ok(())
+        }
+    }
 }
 
 /// A NAK: where it is taken, the ORDER of each of its numbers at which a message is held goes to its source. Any other is ignored, and takes no
@@ -114,9 +118,14 @@ pub fn on_nak<R: Receiver>(
     if !takes_forward(member_state, source, view) {
         return Ok(());
     }
-    let Some(ViewState::Coordinator(coordinator)) = &member_state.view_state else {
+    let Some(view_state) = &member_state.view_state else {
         unreachable!();
     };
-    coordinator.nak(who, source, missing, out)?;
-    Ok(())
+    match view_state {
+        ViewState::Follower(_) => unreachable!(),
+        ViewState::Coordinator(coordinator) => {
+            coordinator.nak(who, source, missing, out)?;
+            Ok(())
+        }
+    }
 }

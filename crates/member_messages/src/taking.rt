@@ -46,11 +46,13 @@ pub fn on_order<R: Receiver>(
     if !takes_order(member_state, source, view, place) {
         return Ok(());
     }
-    let Some(ViewState::Follower(follower)) = &mut member_state.view_state else {
-        unreachable!();
-    };
-    follower.order(who, place, entry, &mut member_state.receiver, out)?;
-    Ok(())
+    match &mut member_state.view_state {
+        None | Some(ViewState::Coordinator(_)) => unreachable!(),
+        Some(ViewState::Follower(follower)) => {
+            follower.order(who, place, entry, &mut member_state.receiver, out)?;
+            Ok(())
+        }
+    }
 }
 
 /// A STATUS: where it is taken, what is stable is let go of, and a NAK is put out where something is missing. Any other is ignored, and takes no memory.
@@ -76,9 +78,11 @@ pub fn on_status<R: Receiver>(
     if !takes_status(member_state, source, view, progress) {
         return Ok(());
     }
-    let Some(ViewState::Follower(follower)) = &mut member_state.view_state else {
-        unreachable!();
-    };
-    follower.status(who, progress, out)?;
-    Ok(())
+    match &mut member_state.view_state {
+        None | Some(ViewState::Coordinator(_)) => unreachable!(),
+        Some(ViewState::Follower(follower)) => {
+            follower.status(who, progress, out)?;
+            Ok(())
+        }
+    }
 }

@@ -19,15 +19,15 @@ ack-requires-clause-settled g c =
     let there = there-is _ _ _ c.in-Some-Coordinator.is c.in-Some-Coordinator.field-0-is in
     (orderly-in _ _ _ c.requires.ordered there).1
 
-pub returns-in_ok-ack-in-Some-Coordinator-clause-member_state : goal.returns-in_ok-ack-in-Some-Coordinator-clause-member_state
-returns-in_ok-ack-in-Some-Coordinator-clause-member_state g c =
+pub returns-clause-member_state : goal.returns-clause-member_state
+returns-clause-member_state g c =
     let there = there-is _ _ _ c.in-Some-Coordinator.is c.in-Some-Coordinator.field-0-is in
     let heard = heard-in _ _ _ _ _ there (sym c.if-not-takes_ack.ensures) in
     let does = c.in_ok-ack-in-Some-Coordinator.ensures in
     heard-member_state _ _ _ _ _ _ _ _ c.requires.member_state heard there does.goes.view
 
-pub returns-in_ok-ack-in-Some-Coordinator-clause-did : goal.returns-in_ok-ack-in-Some-Coordinator-clause-did
-returns-in_ok-ack-in-Some-Coordinator-clause-did g c =
+pub returns-clause-did : goal.returns-clause-did
+returns-clause-did g c =
     let there = there-is _ _ _ c.in-Some-Coordinator.is c.in-Some-Coordinator.field-0-is in
     let heard = heard-in _ _ _ _ _ there (sym c.if-not-takes_ack.ensures) in
     let does = c.in_ok-ack-in-Some-Coordinator.ensures in
@@ -36,7 +36,7 @@ returns-in_ok-ack-in-Some-Coordinator-clause-did g c =
     (heard-did g.R.Receiver.meaning (λ i. Some (packet c.args.source.now (bodies.Ack i c.get-count.result) c.args.who.now.address)) _ _ _ _ _ _ _ _ _ _
     c.requires.member_state heard there does.goes.view does.goes.goes)
 
-pub returns-in_ok-ack-in-Some-Coordinator-clause-calm : goal.returns-in_ok-ack-in-Some-Coordinator-clause-calm
-returns-in_ok-ack-in-Some-Coordinator-clause-calm g c =
+pub returns-clause-calm : goal.returns-clause-calm
+returns-clause-calm g c =
     let does = c.in_ok-ack-in-Some-Coordinator.ensures in
     ordering-calm g.R.Receiver.meaning _ _ _ _ _ _ _ _ does.orders.0 does.few

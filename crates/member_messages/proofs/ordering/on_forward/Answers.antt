@@ -19,21 +19,21 @@ forward-requires-clause-settled g c =
     let there = there-is _ _ _ c.in-Some-Coordinator.is c.in-Some-Coordinator.field-0-is in
     (orderly-in _ _ _ c.requires.ordered there).1
 
-pub returns-in_ok-forward-in-Some-Coordinator-clause-member_state : goal.returns-in_ok-forward-in-Some-Coordinator-clause-member_state
-returns-in_ok-forward-in-Some-Coordinator-clause-member_state g c =
+pub returns-clause-member_state : goal.returns-clause-member_state
+returns-clause-member_state g c =
     let there = there-is _ _ _ c.in-Some-Coordinator.is c.in-Some-Coordinator.field-0-is in
     let heard = heard-in _ _ _ _ _ there (sym c.if-not-takes_forward.ensures) in
     let does = c.in_ok-forward-in-Some-Coordinator.ensures in
     heard-member_state _ _ _ _ _ _ _ _ c.requires.member_state heard there does.goes.view
 
-pub returns-in_ok-forward-in-Some-Coordinator-clause-did : goal.returns-in_ok-forward-in-Some-Coordinator-clause-did
-returns-in_ok-forward-in-Some-Coordinator-clause-did g c =
+pub returns-clause-did : goal.returns-clause-did
+returns-clause-did g c =
     let there = there-is _ _ _ c.in-Some-Coordinator.is c.in-Some-Coordinator.field-0-is in
     let heard = heard-in _ _ _ _ _ there (sym c.if-not-takes_forward.ensures) in
     let does = c.in_ok-forward-in-Some-Coordinator.ensures in
     heard-did g.R.Receiver.meaning (λ i. Some (packet c.args.source.now (bodies.Forward i c.args.number c.args.payload.now) c.args.who.now.address)) _ _ _ _ _ _ _ _ _ _ c.requires.member_state heard there does.goes.view does.goes.goes
 
-pub returns-in_ok-forward-in-Some-Coordinator-clause-calm : goal.returns-in_ok-forward-in-Some-Coordinator-clause-calm
-returns-in_ok-forward-in-Some-Coordinator-clause-calm g c =
+pub returns-clause-calm : goal.returns-clause-calm
+returns-clause-calm g c =
     let does = c.in_ok-forward-in-Some-Coordinator.ensures in
     ordering-calm g.R.Receiver.meaning _ _ _ _ _ _ _ _ does.orders does.few

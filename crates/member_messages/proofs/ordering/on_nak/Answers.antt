@@ -9,8 +9,8 @@ use Rattle.member_messages.proofs.ordering.on_nak.Goals as goal
 pub returns-then-not-takes_forward-clause-did : goal.returns-then-not-takes_forward-clause-did
 returns-then-not-takes_forward-clause-did g c = nothing-did g.R.Receiver.meaning _ _ _ _ _
 
-pub returns-in_ok-nak-in-Coordinator-clause-did : goal.returns-in_ok-nak-in-Coordinator-clause-did
-returns-in_ok-nak-in-Coordinator-clause-did g c =
+pub returns-clause-did : goal.returns-clause-did
+returns-clause-did g c =
     let there = there-is _ _ _ c.in-Some.is c.in-Coordinator.is in
     let heard = heard-in _ _ _ _ _ there (sym c.if-not-takes_forward.ensures) in
     heard-same g.R.Receiver.meaning (λ i. Some (packet c.args.source.now (bodies.Nak i c.args.missing) c.args.who.now.address)) _ _ _ _ _ _ _ _ c.requires.member_state heard there

@@ -12,8 +12,8 @@ use Rattle.member_messages.proofs.taking.on_order.Goals as goal
 pub returns-then-not-takes_order-clause-did : goal.returns-then-not-takes_order-clause-did
 returns-then-not-takes_order-clause-did g c = nothing-did g.R.Receiver.meaning _ _ _ _ _
 
-pub returns-in_ok-order-in-Some-Follower-clause-member_state : goal.returns-in_ok-order-in-Some-Follower-clause-member_state
-returns-in_ok-order-in-Some-Follower-clause-member_state g c =
+pub returns-clause-member_state : goal.returns-clause-member_state
+returns-clause-member_state g c =
     let there = there-is _ _ _ c.in-Some-Follower.is c.in-Some-Follower.field-0-is in
     let heard = heard-in _ _ _ _ _ there (sym c.if-not-takes_order.ensures) in
     let does = c.in_ok-order-in-Some-Follower.ensures in
@@ -24,21 +24,21 @@ order-requires g c =
     let there = there-is _ _ _ c.in-Some-Follower.is c.in-Some-Follower.field-0-is in
     record { other = (orderly-in _ _ _ c.requires.ordered there).0 }
 
-pub returns-in_ok-order-in-Some-Follower-clause-ordered : goal.returns-in_ok-order-in-Some-Follower-clause-ordered
-returns-in_ok-order-in-Some-Follower-clause-ordered g c =
+pub returns-clause-ordered : goal.returns-clause-ordered
+returns-clause-ordered g c =
     let there = there-is _ _ _ c.in-Some-Follower.is c.in-Some-Follower.field-0-is in
     let does = c.in_ok-order-in-Some-Follower.ensures in
     ordered-by _ _ (order-orderly g.R.Receiver.meaning c.args.who.now.address c.args.who.now.group _ _ c.in-Some-Follower.follower _ _ _ _ _ does.takes does.goes.1 (orderly-in _ _ _ c.requires.ordered there))
 
-pub returns-in_ok-order-in-Some-Follower-clause-did : goal.returns-in_ok-order-in-Some-Follower-clause-did
-returns-in_ok-order-in-Some-Follower-clause-did g c =
+pub returns-clause-did : goal.returns-clause-did
+returns-clause-did g c =
     let there = there-is _ _ _ c.in-Some-Follower.is c.in-Some-Follower.field-0-is in
     let heard = heard-in _ _ _ _ _ there (sym c.if-not-takes_order.ensures) in
     let does = c.in_ok-order-in-Some-Follower.ensures in
     other-did g.R.Receiver.meaning (λ q i. Some (packet q (bodies.Order i c.args.place c.args.entry.now) c.args.who.now.address)) _ _ _ _ _ _ _ _ _ _ c.requires.member_state heard there
     (from-in _ _ c.args.member_state.now c.in-Some-Follower.follower (λ m. not (nat_lt m.window.delivered (c.args.place - WINDOW))) there (sym c.if-not-takes_order.ensures)) does.goes
 
-pub returns-in_ok-order-in-Some-Follower-clause-calm : goal.returns-in_ok-order-in-Some-Follower-clause-calm
-returns-in_ok-order-in-Some-Follower-clause-calm g c =
+pub returns-clause-calm : goal.returns-clause-calm
+returns-clause-calm g c =
     let does = c.in_ok-order-in-Some-Follower.ensures in
     takes-calm g.R.Receiver.meaning _ _ _ _ _ _ _ _ _ _ does.takes does.few

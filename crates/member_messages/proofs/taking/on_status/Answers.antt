@@ -11,22 +11,22 @@ use Rattle.member_messages.proofs.taking.on_status.Goals as goal
 pub returns-then-not-takes_status-clause-did : goal.returns-then-not-takes_status-clause-did
 returns-then-not-takes_status-clause-did g c = nothing-did g.R.Receiver.meaning _ _ _ _ _
 
-pub returns-in_ok-status-in-Some-Follower-clause-member_state : goal.returns-in_ok-status-in-Some-Follower-clause-member_state
-returns-in_ok-status-in-Some-Follower-clause-member_state g c =
+pub returns-clause-member_state : goal.returns-clause-member_state
+returns-clause-member_state g c =
     let there = there-is _ _ _ c.in-Some-Follower.is c.in-Some-Follower.field-0-is in
     let heard = heard-in _ _ _ _ _ there (sym c.if-not-takes_status.ensures) in
     let goes = status-goes g.R.Receiver.meaning c.args.who.now.address c.args.who.now.group c.args.progress c.in-Some-Follower.follower c.args.member_state.now.receiver
     c.args.out.now c.status.new.self c.status.new.out c.in_ok-status-in-Some-Follower.ensures in
     heard-member_state _ _ _ _ _ _ _ _ c.requires.member_state heard there goes.1
 
-pub returns-in_ok-status-in-Some-Follower-clause-ordered : goal.returns-in_ok-status-in-Some-Follower-clause-ordered
-returns-in_ok-status-in-Some-Follower-clause-ordered g c =
+pub returns-clause-ordered : goal.returns-clause-ordered
+returns-clause-ordered g c =
     let there = there-is _ _ _ c.in-Some-Follower.is c.in-Some-Follower.field-0-is in
     ordered-by _ _ (status-orderly c.args.who.now.address c.args.who.now.group c.args.progress c.in-Some-Follower.follower c.args.out.now c.status.new.self c.status.new.out c.in_ok-status-in-Some-Follower.ensures
     (orderly-in _ _ _ c.requires.ordered there))
 
-pub returns-in_ok-status-in-Some-Follower-clause-did : goal.returns-in_ok-status-in-Some-Follower-clause-did
-returns-in_ok-status-in-Some-Follower-clause-did g c =
+pub returns-clause-did : goal.returns-clause-did
+returns-clause-did g c =
     let there = there-is _ _ _ c.in-Some-Follower.is c.in-Some-Follower.field-0-is in
     let heard = heard-in _ _ _ _ _ there (sym c.if-not-takes_status.ensures) in
     let goes = status-goes g.R.Receiver.meaning c.args.who.now.address c.args.who.now.group c.args.progress c.in-Some-Follower.follower c.args.member_state.now.receiver
