@@ -23,7 +23,7 @@ use Rattle.channel.specs.declared.stage.Stage.TheVariants.{Apart, Connected, End
 use Rattle.channel.specs.Errors.{is_end}
 use Rattle.channel.specs.Channels.{ChannelModel, stage_of, left_by}
 use Rattle.channel.specs.Calls.{CallsAt, Calls}
-use Rattle.channel.specs.Stages.{Hands}
+use Rattle.channel.specs.Stages.{Hands, Keeps}
 
 same_Err : {A E : Type 0} (a b : E) → ◌≡◌ {A = Result A E} (Err a) (Err b) → a ≡ b
 same_Err a b e = cc
@@ -91,23 +91,29 @@ module _ {S : Type 0} (meaning : Meaning S) where
 
   -- ---- a step that is taken
 
-  taken-at : (input : Input) (c : ChannelModel S) (old new : Stage S) (out : Output) (packets : List Outgoing) (events : List Event) → Hands meaning input old (Ok out) new
-      → packets ≡ c.outgoing ++ out.packets.items → events ≡ c.happened ++ out.events.items
-      → CallsAt meaning input old c None (record { address = c.address; stage = new; outgoing = packets; happened = events })
-  taken-at input c (Apart s) new out packets events x p q = let n = x.answer in absurd (cc)
-  taken-at input c (Connected m) new out packets events x p q = record {
+  abbrev at : ChannelModel S → Stage S → ChannelModel S
+  at c s = record { address = c.address; stage = s; outgoing = c.outgoing; happened = c.happened }
+
+  kept-at : (input : Input) (c : ChannelModel S) (old mid : Stage S) (out : Output) (failure : Option Error) (new : ChannelModel S) → Hands meaning input old (Ok out) mid → Keeps out (at c mid) failure new
+      → CallsAt meaning input old c failure new
+  kept-at input c (Apart s) mid out failure new x k = let n = x.answer in absurd (cc)
+  kept-at input c (Connected m) mid out None new x k = record {
     out = out;
     left = x.left;
     handled = x.handled;
-    becomes = rw (x.becomes, p, q) refl;
+    becomes = k ∙ ap (λ (s : Stage S). let d : ChannelModel S = record { address = c.address; stage = s; outgoing = c.outgoing ++ out.packets.items; happened = c.happened ++ out.events.items } in d) x.becomes;
   }
-  taken-at input c Ended new out packets events x p q = let n = x.answer in absurd (cc)
+  kept-at input c (Connected m) mid out (Some e) new x k = record { result = Ok out; left = x.left; handled = x.handled; why = (k.0, k.2) }
+  kept-at input c Ended mid out failure new x k = let n = x.answer in absurd (cc)
 
-  -- what it puts out waits
-  pub taken : (input : Input) (c : ChannelModel S) (r : Result Output Error) (new : Stage S) (out : Output) (packets : List Outgoing) (events : List Event)
-      → Hands meaning input c.stage r new → r ≡ Ok out → packets ≡ c.outgoing ++ out.packets.items → events ≡ c.happened ++ out.events.items
-      → Calls meaning input c None (record { address = c.address; stage = new; outgoing = packets; happened = events })
-  taken input c r new out packets events x is p q = taken-at input c c.stage new out packets events (subst (λ (k : Result Output Error). Hands meaning input c.stage k new) is x) p q
+  -- what it puts out waits, or there was no room for it
+  pub kept : (input : Input) (c : ChannelModel S) (r : Result Output Error) (mid : Stage S) (out : Output) (failure : Option Error) (new : ChannelModel S) → Hands meaning input c.stage r mid → r ≡ Ok out
+      → Keeps out (at c mid) failure new → Calls meaning input c failure new
+  kept input c r mid out failure new x is k = kept-at input c c.stage mid out failure new (subst (λ (z : Result Output Error). Hands meaning input c.stage z mid) is x) k
+
+  -- without room for it the channel has ended
+  pub left-kept : (c : ChannelModel S) (mid : Stage S) (out : Output) (e : Error) (new : ChannelModel S) → Keeps out (at c mid) (Some e) new → new ≡ left_by e c
+  left-kept c mid out e new k = k.1 ∙ sym (ap (λ (z : Error). left_by z c) k.0)
 
   -- ---- a leave
 

@@ -33,12 +33,6 @@ Begins address name (Apart s) (Err e) new = (is_group_name name ≡ false) × (e
 Begins address name (Connected m) result new = Refuses (Refused AlreadyConnected) (Connected m) result new
 Begins address name Ended result new = Refuses (Refused Closed) Ended result new
 
--- a member that has ended is let go
-abbrev pub without_ended : {S : Type 0} → Stage S → Stage S
-without_ended (Apart s) = Apart s
-without_ended (Connected m) = stage_of m
-without_ended Ended = Ended
-
 -- one step of its member
 pub record HandsAt {S : Type 0} (meaning : Meaning S) (input : Input) (m : MemberModel S) (result : Result Output Error) (new : Stage S) : Type 0 where
   pub left : MemberModel S

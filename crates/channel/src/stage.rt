@@ -1,13 +1,13 @@
 //! How far a channel has come.
 
-ghost use Rattle.std.specs.Prelude.{◌≡◌, IfOk};
+ghost use Rattle.std.specs.Prelude.{◌≡◌, not, is_some, IfOk};
 ghost use Rattle.std.specs.Option.{option_copied, option_and_then};
 ghost use Rattle.channel.specs.Channels.{member_in, view_in, is_blocked, receiver_in, is_in};
 ghost use Rattle.member.specs.declared.input.Input.TheVariants as input;
 ghost use Rattle.member.specs.Handling.{Handled};
 ghost use Rattle.member.specs.Sources.{source_of, output_of};
 ghost use Rattle.channel.specs.Calls.{Watches};
-ghost use Rattle.channel.specs.Stages.{Begins, Hands, without_ended};
+ghost use Rattle.channel.specs.Stages.{Begins, Hands};
 
 use address::Address;
 use limits::Refusal;
@@ -34,6 +34,13 @@ fn handle<R: Receiver>(member: &mut Member<R>, input: &Input<'_>) -> Result<Outp
         Input::MergeHint(address) => member.handle(Input::MergeHint(*address)),
         Input::Leave => member.handle(Input::Leave),
     }
+}
+
+// Whether a member has ended.
+fn has_ended<R: Receiver>(member: &Member<R>) -> bool
+    ensures { result ≡ not (is_some member.now.member_state) }
+{
+    member.receiver().is_none()
 }
 
 /// How far a channel has come.
@@ -120,19 +127,6 @@ impl<R: Receiver> Stage<R> {
         Ok(())
     }
 
-    // Lets go of its member where that has ended.
-    fn let_go(&mut self)
-        ensures { self.new ≡ without_ended self.old }
-    {
-        let has_ended = match self {
-            Stage::Connected(member) => member.receiver().is_none(),
-            Stage::Apart(_) | Stage::Ended => false,
-        };
-        if has_ended {
-            *self = Stage::Ended;
-        }
-    }
-
     // One step of its member. Once that has ended, so has the channel.
     pub(crate) fn hand(&mut self, input: &Input<'_>) -> Result<Output, Error>
         ensures { Hands R.meaning input.now self.old result self.new }
@@ -141,7 +135,10 @@ impl<R: Receiver> Stage<R> {
             Stage::Apart(_) => Err(Error::Refused(Refusal::NotConnected)),
             Stage::Connected(member) => {
                 let called = handle(member, input);
-                self.let_go();
+                let is_over = has_ended(member);
+                if is_over {
+                    *self = Stage::Ended;
+                }
                 called
             }
             Stage::Ended => Err(Error::Refused(Refusal::Closed)),
@@ -157,7 +154,10 @@ impl<R: Receiver> Stage<R> {
             Stage::Apart(_) => Err(Error::Refused(Refusal::NotConnected)),
             Stage::Connected(member) => {
                 let taken = member.take(bytes);
-                self.let_go();
+                let is_over = has_ended(member);
+                if is_over {
+                    *self = Stage::Ended;
+                }
                 taken
             }
             Stage::Ended => Err(Error::Refused(Refusal::Closed)),

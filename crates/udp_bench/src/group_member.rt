@@ -23,26 +23,31 @@ pub(crate) struct Member {
     listens: u64,
 }
 
+// Connects the channel of a node: that of node 1 makes the group, and the others join it.
+fn connect(channel: &mut Channel<ChatLog>, settings: &Settings, node: Node) -> io::Result<()> {
+    let group = settings.group();
+    let first = Node::new(1).ok_or(io::Error::from(ErrorKind::InvalidInput))?;
+    let connected = if node == first {
+        channel.connect_new(group.as_slice())
+    } else {
+        channel.connect_to(group.as_slice(), Address::first_at(first))
+    };
+    connected.map_err(|_| io::Error::from(ErrorKind::InvalidInput))
+}
+
 impl Party for Member {
-    // The member of a node: that of node 1 makes the group, and the others join it.
+    // The member of a node.
     fn new(alloc: Global, settings: &Settings, node: Node, net: SocketNet) -> io::Result<Member> {
-        let group = settings.group();
-        let mut channel = Channel::new(alloc, Address::first_at(node), ChatLog::opening(alloc)?);
-        let connected = if node.number() == 1 {
-            channel.connect_new(group.as_slice())
-        } else {
-            let first = Node::new(1).ok_or(io::Error::from(ErrorKind::InvalidInput))?;
-            channel.connect_to(group.as_slice(), Address::first_at(first))
-        };
-        if connected.is_err() {
-            return Err(io::Error::from(ErrorKind::InvalidInput));
-        }
-        let member = Runner::new(alloc, net, channel, u32::from(settings.silent()))?;
-        Ok(Member {
+        let channel = Channel::new(alloc, Address::first_at(node), ChatLog::opening(alloc)?);
+        let mut member = Member {
             alloc,
-            member,
+            member: Runner::new(alloc, net, channel, u32::from(settings.silent()))?,
             listens: 0,
-        })
+        };
+        match connect(member.member.channel(), settings, node) {
+            Ok(()) => Ok(member),
+            Err(refused) => Err(refused),
+        }
     }
 
     fn is_ready(&mut self) -> bool {
