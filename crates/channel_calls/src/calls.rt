@@ -55,13 +55,23 @@ fn put<T: Drop>(told: &mut Told, node: u16, call: &str, answer: Result<T, Error>
 /// It makes a group.
 pub fn connect_new(told: &mut Told, channel: &mut Chat) {
     let answer = channel.connect_new(b"chat");
-    put(told, channel.address().node().number(), "connect_new", answer);
+    put(
+        told,
+        channel.address().node().number(),
+        "connect_new",
+        answer,
+    );
 }
 
 /// It asks the first member of a node to be let in.
 pub fn connect_to(told: &mut Told, channel: &mut Chat, contact: u16) {
     let answer = channel.connect_to(b"chat", first_at(contact));
-    put(told, channel.address().node().number(), "connect_to", answer);
+    put(
+        told,
+        channel.address().node().number(),
+        "connect_to",
+        answer,
+    );
 }
 
 /// It sends the next message: its number behind a 0; behind another number whether the payload came back as it was.
@@ -91,7 +101,12 @@ pub fn send(told: &mut Told, channel: &mut Chat, sends: &mut Vec<Vec<u8>>) {
 /// It leaves.
 pub fn disconnect(told: &mut Told, channel: &mut Chat) {
     let answer = channel.disconnect();
-    put(told, channel.address().node().number(), "disconnect", answer);
+    put(
+        told,
+        channel.address().node().number(),
+        "disconnect",
+        answer,
+    );
 }
 
 /// It suspects the member of a node.
@@ -103,7 +118,12 @@ pub fn suspect(told: &mut Told, channel: &mut Chat, whom: u16) {
 /// It is given a hint of the member of a node.
 pub fn merge_hint(told: &mut Told, channel: &mut Chat, whom: u16) {
     let answer = channel.merge_hint(first_at(whom));
-    put(told, channel.address().node().number(), "merge_hint", answer);
+    put(
+        told,
+        channel.address().node().number(),
+        "merge_hint",
+        answer,
+    );
 }
 
 /// Time passes.
@@ -194,7 +214,11 @@ fn incoming(told: &mut Told, channel: &mut Chat, bytes: &[u8], from: Address) {
     match channel.incoming(bytes) {
         Ok(source) => {
             told.put_number(0);
-            told.put(if source == Some(from) { " source" } else { " none" });
+            told.put(if source == Some(from) {
+                " source"
+            } else {
+                " none"
+            });
         }
         Err(error) => told.put_number(u64::from(error.number())),
     }
