@@ -226,7 +226,7 @@ fn incoming(told: &mut Told, channel: &mut Chat, bytes: &[u8], from: Address) {
 }
 
 /// Hands the next packet of a channel to another; whether there was one.
-fn carry_one(told: &mut Told, from: &mut Chat, to: &mut Chat) -> bool {
+pub fn carry_one(told: &mut Told, from: &mut Chat, to: &mut Chat) -> bool {
     let Some(packet) = from.outgoing() else {
         return false;
     };

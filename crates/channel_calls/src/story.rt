@@ -1,8 +1,8 @@
 //! The story.
 
 use crate::calls::{
-    Chat, carry, connect_new, connect_to, disconnect, happened, lose, merge_hint, send, state,
-    suspect, tick, watched,
+    Chat, carry, carry_one, connect_new, connect_to, disconnect, happened, lose, merge_hint, send,
+    state, suspect, tick, watched,
 };
 use crate::told::Told;
 
@@ -55,13 +55,19 @@ fn part(told: &mut Told, sends: &mut Vec<Vec<u8>>, first: &mut Chat, second: &mu
     look(told, first, second);
 }
 
-/// By a hint they come into one view again; a packet of the flush is lost, and comes after ticks of the one that waits for it and of the one that does not.
-fn merge(told: &mut Told, sends: &mut Vec<Vec<u8>>, first: &mut Chat, second: &mut Chat) {
+/// By a hint they come into one view again; the FLUSH is lost, and comes after a tick.
+fn merge(told: &mut Told, first: &mut Chat, second: &mut Chat) {
     merge_hint(told, second, 1);
-    carry(told, first, second);
-    merge_hint(told, first, 3);
+    carry_one(told, second, first);
     lose(told, first);
     look(told, first, second);
+    tick(told, first);
+    carry(told, first, second);
+    look(told, first, second);
+}
+
+/// 2.1 sends there, is suspected, and is left in the earlier view, where a MERGE of its coordinator is ignored.
+fn leave_behind(told: &mut Told, sends: &mut Vec<Vec<u8>>, first: &mut Chat, second: &mut Chat) {
     send(told, second, sends);
     carry(told, first, second);
     suspect(told, first, 2);
@@ -92,6 +98,7 @@ pub fn tell(told: &mut Told, sends: &mut Vec<Vec<u8>>, first: &mut Chat, second:
     come_together(told, sends, first, second);
     exchange(told, sends, first, second);
     part(told, sends, first, second);
-    merge(told, sends, first, second);
+    merge(told, first, second);
+    leave_behind(told, sends, first, second);
     leave(told, sends, first, second);
 }
