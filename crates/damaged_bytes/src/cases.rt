@@ -2,7 +2,7 @@
 
 use crate::hexadecimal::unhex;
 use crate::next::{next_of, number, put_waiting, send};
-use crate::stands::{Chat, GROUP, Stand, apart, channel_at, first_at, is_silent};
+use crate::stands::{Chat, GROUP, Stand, apart, channel_at, drain, first_at};
 use address::{ViewId, next_after};
 use std::alloc::{AllocError, Global};
 use vsync_text::put_decimal;
@@ -177,14 +177,19 @@ impl Cases {
         self.hand(channel, "FLUSH of 5@3.1, from node", LOWER_FLUSH)
     }
 
+    // A lone member's group is made, and the greatest proposal comes to it.
+    fn found_and_promise(&mut self, channel: &mut Chat) -> Result<(), AllocError> {
+        let answer = number(channel.connect_new(GROUP));
+        self.put_number("connect_new", u64::from(answer))?;
+        put_waiting(&mut self.text, channel)?;
+        self.promise_greatest(channel)
+    }
+
     // The greatest proposal comes to a lone member.
     fn greatest(&mut self) -> Result<(), AllocError> {
         self.text.extend_from_slice(b"== the greatest proposal\n")?;
         let mut channel = apart(self.alloc, 1)?;
-        let answer = number(channel.connect_new(GROUP));
-        self.put_number("connect_new", u64::from(answer))?;
-        put_waiting(&mut self.text, &mut channel)?;
-        self.promise_greatest(&mut channel)
+        self.found_and_promise(&mut channel)
     }
 
     // Whether two channels do the same next.
@@ -215,35 +220,53 @@ impl Cases {
         )
     }
 
-    // The same, and that it is as before; and a packet that it takes.
+    // The same, and that it does next what a fresh one does; and a packet that another takes.
+    fn ignore_and_take(
+        &mut self,
+        channel: &mut Chat,
+        fresh: &mut Chat,
+        other: &mut Chat,
+    ) -> Result<(), AllocError> {
+        self.ignore_at_first(channel)?;
+        self.compare(channel, fresh)?;
+        self.hand(other, "FORWARD as it should be, from node", FORWARD)
+    }
+
+    // What the coordinator ignores.
     fn at_first(&mut self) -> Result<(), AllocError> {
         self.text
             .extend_from_slice(b"== ignored by the coordinator\n")?;
         let mut channel = channel_at(self.alloc, Stand::Coordinator)?;
-        self.ignore_at_first(&mut channel)?;
         let mut fresh = channel_at(self.alloc, Stand::Coordinator)?;
-        self.compare(&mut channel, &mut fresh)?;
         let mut other = channel_at(self.alloc, Stand::Coordinator)?;
-        self.hand(&mut other, "FORWARD as it should be, from node", FORWARD)
-    }
-
-    // A view of three is installed.
-    fn let_in(&mut self, channel: &mut Chat) -> Result<(), AllocError> {
-        let flush = unhex(self.alloc, FLUSH_OF_THREE)?;
-        let install = unhex(self.alloc, INSTALL_OF_THREE)?;
-        let _ = channel.incoming(flush.as_slice());
-        let _ = channel.incoming(install.as_slice());
-        for _ in 0..10u16 {
-            let _ = is_silent(channel);
-        }
-        Ok(())
+        self.ignore_and_take(&mut channel, &mut fresh, &mut other)
     }
 
     // 2.1 in a view of three.
     fn of_three(&mut self) -> Result<Chat, AllocError> {
+        let flush = unhex(self.alloc, FLUSH_OF_THREE)?;
+        let install = unhex(self.alloc, INSTALL_OF_THREE)?;
         let mut channel = channel_at(self.alloc, Stand::Joining)?;
-        self.let_in(&mut channel)?;
+        let _ = channel.incoming(flush.as_slice());
+        let _ = channel.incoming(install.as_slice());
+        drain(&mut channel);
         Ok(channel)
+    }
+
+    // What it ignores there; that it does next what a fresh one does; and a packet that another takes.
+    fn ignore_third(
+        &mut self,
+        channel: &mut Chat,
+        fresh: &mut Chat,
+        other: &mut Chat,
+    ) -> Result<(), AllocError> {
+        self.hand(
+            channel,
+            "ORDER from one that is not the coordinator, from node",
+            ORDER_OF_THIRD,
+        )?;
+        self.compare(channel, fresh)?;
+        self.hand(other, "ORDER as it should be, from node", ORDER_OF_FIRST)
     }
 
     // What another member ignores.
@@ -251,19 +274,9 @@ impl Cases {
         self.text
             .extend_from_slice(b"== ignored by another member\n")?;
         let mut channel = self.of_three()?;
-        self.hand(
-            &mut channel,
-            "ORDER from one that is not the coordinator, from node",
-            ORDER_OF_THIRD,
-        )?;
         let mut fresh = self.of_three()?;
-        self.compare(&mut channel, &mut fresh)?;
         let mut other = self.of_three()?;
-        self.hand(
-            &mut other,
-            "ORDER as it should be, from node",
-            ORDER_OF_FIRST,
-        )
+        self.ignore_third(&mut channel, &mut fresh, &mut other)
     }
 
     /// All cases.

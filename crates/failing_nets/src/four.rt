@@ -56,8 +56,8 @@ fn first_at(number: u16) -> Address {
     Address::first_at(Node::new(number).unwrap_or(Node::new(1).unwrap()))
 }
 
-/// The channel of a node: that of 1.1 has a group of its own, and another asks 1.1 to be let in.
-fn connected(alloc: Global, number: u16) -> Result<Channel<ChatLog>, AllocError> {
+/// A member over a net: that of 1.1, with a group of its own, or another that asks 1.1 to be let in.
+fn member<'a>(alloc: Global, net: Wire<'a>, number: u16) -> Result<Member<'a>, AllocError> {
     let mut channel = Channel::new(alloc, first_at(number), ChatLog::opening(alloc)?);
     let connected = if number == 1 {
         channel.connect_new(b"chat")
@@ -67,7 +67,7 @@ fn connected(alloc: Global, number: u16) -> Result<Channel<ChatLog>, AllocError>
     if connected.is_err() {
         return Err(AllocError);
     }
-    Ok(channel)
+    Runner::new(alloc, net, channel, SILENT)
 }
 
 impl<'a> Four<'a> {
@@ -76,7 +76,7 @@ impl<'a> Four<'a> {
         let mut members = Vec::new(alloc);
         for number in 1..=4u16 {
             let net = Wire::new(wires, first_at(number).node());
-            members.push(Runner::new(alloc, net, connected(alloc, number)?, SILENT)?)?;
+            members.push(member(alloc, net, number)?)?;
         }
         Ok(Four {
             alloc,
