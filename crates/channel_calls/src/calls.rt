@@ -38,17 +38,17 @@ pub fn payloads(alloc: Global) -> Result<Vec<Vec<u8>>, AllocError> {
 }
 
 /// The number of a refusal; 0 where there is none.
-fn number<T: Drop>(answer: &Result<T, Error>) -> u64 {
+fn number(answer: Result<(), Error>) -> u64 {
     match answer {
-        Ok(_) => 0,
+        Ok(()) => 0,
         Err(error) => u64::from(error.number()),
     }
 }
 
 /// A line of a call that answers nothing but a refusal.
-fn put<T: Drop>(told: &mut Told, node: u16, call: &str, answer: Result<T, Error>) {
+fn put(told: &mut Told, node: u16, call: &str, answer: Result<(), Error>) {
     told.begin(node, call);
-    told.put_number(number(&answer));
+    told.put_number(number(answer));
     told.end();
 }
 

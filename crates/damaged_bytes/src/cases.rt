@@ -111,7 +111,7 @@ impl Cases {
         self.text.extend_from_slice(asked.as_bytes())?;
         self.text.extend_from_slice(b": ")?;
         self.text.extend_from_slice(answer.as_bytes())?;
-        self.text.push(b'\n').map_err(AllocError::from)
+        self.text.extend_from_slice(b"\n")
     }
 
     // A line of what was asked and a number.
@@ -119,7 +119,7 @@ impl Cases {
         self.text.extend_from_slice(asked.as_bytes())?;
         self.text.extend_from_slice(b": ")?;
         put_decimal(&mut self.text, answer)?;
-        self.text.push(b'\n').map_err(AllocError::from)
+        self.text.extend_from_slice(b"\n")
     }
 
     // How a packet in hexadecimal is read.

@@ -37,9 +37,9 @@ fn put_step(text: &mut Vec<u8>, channel: &mut Chat, answer: u8) -> Result<(), Al
 }
 
 /// The number of a refusal; 0 where there is none.
-pub fn number<T: Drop>(answer: Result<T, channel::Error>) -> u8 {
+pub fn number(answer: Result<(), channel::Error>) -> u8 {
     match answer {
-        Ok(_) => 0,
+        Ok(()) => 0,
         Err(error) => error.number(),
     }
 }
