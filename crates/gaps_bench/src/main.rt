@@ -1,4 +1,4 @@
-//! Brings a member level that lost two messages, and answers by its exit status what came of it. `bench/gaps` refuses each allocation of it in turn.
+//! Brings a member level that lost two messages, and answers by its exit status what came of it. `tests/sweeps` refuses each allocation of it in turn.
 #![tactic(auto)]
 
 use address::{Address, Node};
@@ -18,11 +18,14 @@ const WRONG: u8 = 1;
 /// Memory was refused before the catch-up began.
 const NOT_BEGUN: u8 = 2;
 
-/// Memory was refused in a step: the last that happened is that one of the two crashed, and the other runs.
-const CRASHED: u8 = 3;
+/// Memory was refused in a step: the last that happened is that the coordinator crashed, and the other runs.
+const COORDINATOR_CRASHED: u8 = 3;
 
 /// Memory was refused before a step was begun: both run, and a second catch-up brings the member level.
 const BETWEEN_STEPS: u8 = 4;
+
+/// Memory was refused in a step: the last that happened is that the other crashed, and the coordinator runs.
+const OTHER_CRASHED: u8 = 5;
 
 /// A node's number as a node.
 fn node(number: u16) -> Node {
@@ -46,12 +49,16 @@ fn of_two(alloc: Global) -> Result<World<ChatLog>, AllocError> {
     Ok(world)
 }
 
-/// The same after two messages of 1.1 that 2.1 lost.
+/// The same after two messages of 1.1 that 2.1 lost; and after deliveries of a packet that is not there, so many that the places of events are used up amid the catch-up.
 fn behind(alloc: Global) -> Result<World<ChatLog>, AllocError> {
     let mut world = of_two(alloc)?;
     let sends = [
         WorldEvent::Send(node(1), Bytes::from_slice(alloc, b"a")?),
         WorldEvent::Send(node(1), Bytes::from_slice(alloc, b"b")?),
+        WorldEvent::Deliver(99),
+        WorldEvent::Deliver(99),
+        WorldEvent::Deliver(99),
+        WorldEvent::Deliver(99),
     ];
     world.run(&sends)?;
     Ok(world)
@@ -86,6 +93,14 @@ fn is_behind(world: &World<ChatLog>) -> bool {
     both && world.packets().len() == 6 && delivered(world, 1) == 2 && delivered(world, 2) == 0
 }
 
+/// That the member of a node crashed, which is the last that happened.
+fn after_crash(world: &World<ChatLog>, number: u16, crashed: u8) -> u8 {
+    match world.trace().events().last() {
+        Some(Event::Crashed(member)) if member.node() == node(number) => crashed,
+        _ => WRONG,
+    }
+}
+
 /// What came of a catch-up for which memory was refused.
 fn after_refusal(world: &mut World<ChatLog>) -> u8 {
     match (runs(world, 1), runs(world, 2)) {
@@ -96,10 +111,8 @@ fn after_refusal(world: &mut World<ChatLog>) -> u8 {
                 WRONG
             }
         }
-        (true, false) | (false, true) => match world.trace().events().last() {
-            Some(Event::Crashed(_)) => CRASHED,
-            _ => WRONG,
-        },
+        (false, true) => after_crash(world, 1, COORDINATOR_CRASHED),
+        (true, false) => after_crash(world, 2, OTHER_CRASHED),
         (false, false) => WRONG,
     }
 }

@@ -5,4 +5,4 @@ mod hub;
 mod wires;
 
 pub use hub::Hub;
-pub use wires::{Wire, Wires};
+pub use wires::{Failing, Wire, Wires};

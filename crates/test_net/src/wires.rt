@@ -7,6 +7,19 @@ use std::collections::VecDeque;
 use trace_props::Bytes;
 use udp_net::{Fault, Net};
 
+/// Which call fails. Of all nodes, the first of each kind is numbered 1.
+#[derive(Clone, Copy, Debug, PartialEq, Eq)]
+pub enum Failing {
+    /// None.
+    Nothing,
+    /// A receive.
+    Receive(u64),
+    /// None, but this receive finds nothing, whatever waits.
+    Empty(u64),
+    /// A send.
+    Send(u64),
+}
+
 /// What waits for the nodes, how often they asked and sent, and which call fails.
 #[derive(Drop)]
 pub struct Wires {
@@ -15,12 +28,9 @@ pub struct Wires {
     waiting: VecDeque<(Node, Bytes)>,
     /// How many receives there were, of all nodes.
     pub receives: u64,
-    /// The receive that fails, the first being numbered 1.
-    pub failing_receive: Option<u64>,
     /// How many sends there were, of all nodes.
     pub sends: u64,
-    /// The send that fails, the first being numbered 1.
-    pub failing_send: Option<u64>,
+    failing: Failing,
     /// The node for which no net can be made.
     pub taken: Option<Node>,
     /// How many pauses there were.
@@ -30,13 +40,17 @@ pub struct Wires {
 impl Wires {
     /// Wires on which nothing waits, and where no call fails.
     pub fn new(alloc: Global) -> Wires {
+        Wires::failing(alloc, Failing::Nothing)
+    }
+
+    /// Wires on which nothing waits, and where one call fails.
+    pub fn failing(alloc: Global, failing: Failing) -> Wires {
         Wires {
             alloc,
             waiting: VecDeque::new(alloc),
             receives: 0,
-            failing_receive: None,
             sends: 0,
-            failing_send: None,
+            failing,
             taken: None,
             pauses: 0,
         }
@@ -45,7 +59,7 @@ impl Wires {
     // Puts a datagram for a node behind the others, unless this send fails.
     fn send(&mut self, node: Node, bytes: &[u8]) {
         self.sends = self.sends.wrapping_add(1);
-        if self.failing_send != Some(self.sends) {
+        if self.failing != Failing::Send(self.sends) {
             if let Ok(bytes) = Bytes::from_slice(self.alloc, bytes) {
                 let _ = self.waiting.push_back((node, bytes));
             }
@@ -62,8 +76,11 @@ impl Wires {
     // The next datagram for a node, unless this receive fails.
     fn receive(&mut self, node: Node) -> Result<Option<Bytes>, Fault> {
         self.receives = self.receives.wrapping_add(1);
-        if self.failing_receive == Some(self.receives) {
+        if self.failing == Failing::Receive(self.receives) {
             return Err(Fault::Receive);
+        }
+        if self.failing == Failing::Empty(self.receives) {
+            return Ok(None);
         }
         Ok(self.take(node))
     }

@@ -6,7 +6,6 @@ mod alone;
 mod calls;
 mod channels;
 mod documents;
-mod failing;
 mod files;
 mod lan;
 mod lines;
@@ -113,12 +112,8 @@ fn print_commands(rt: &HostRuntime, text: &mut Vec<u8>) -> io::Result<()> {
     print(rt, "a node by itself", told, text)
 }
 
-/// Prints the stories in which each call fails in turn, and those over sockets.
+/// Prints the stories over sockets.
 fn print_nets(rt: &HostRuntime, text: &mut Vec<u8>) -> io::Result<()> {
-    let told = failing::receives(rt.alloc(), text);
-    print(rt, "each receive fails in turn", told, text)?;
-    let told = failing::sends(rt.alloc(), text);
-    print(rt, "each send fails in turn", told, text)?;
     let told = sockets::two(rt, text);
     print(rt, "sockets", told, text)?;
     let told = sockets::merge(rt, text);

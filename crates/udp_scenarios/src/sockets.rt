@@ -16,9 +16,6 @@ pub const FOUR: &str =
 const MERGE: &[u8] =
     b"start 1\nstart 2\nstart 3\nstart 4\ncreate 1\njoin 2 1.1\njoin 3 1.1\njoin 4 1.1\nrounds 20\nsuspect 1 3.1\nsuspect 1 4.1\nsuspect 3 1.1\nsuspect 3 2.1\nrounds 20\nsend 1 a\nsend 3 b\nrounds 20\nhint 3 1.1\nrounds 20\n";
 
-/// How their text ends.
-pub const MERGED: &[u8] = b"chat 1.1 1.1:61\nchat 2.1 1.1:61\nchat 3.1 1.1:61\nchat 4.1 1.1:61\n";
-
 /// At how many places of ports it is tried, since others may have taken some.
 const PLACES: u16 = 40;
 
@@ -38,7 +35,7 @@ fn trace_of(text: &[u8]) -> &[u8] {
 }
 
 /// Whether a text's trace is virtually synchronous.
-pub fn holds(alloc: Global, text: &[u8]) -> bool {
+fn holds(alloc: Global, text: &[u8]) -> bool {
     let mut reader = trace_of(text);
     let mut verdict = Vec::new(alloc);
     let _ = run_check::<ChatLog, _, _>(alloc, &mut reader, &mut verdict);

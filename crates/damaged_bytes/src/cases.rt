@@ -1,0 +1,291 @@
+//! Cases by themselves: numbers at their greatest, the greatest proposal, and packets that are ignored.
+
+use crate::hexadecimal::unhex;
+use crate::next::{next_of, number, put_waiting, send};
+use crate::stands::{Chat, GROUP, Stand, apart, channel_at, drain, first_at};
+use address::{ViewId, next_after};
+use std::alloc::{AllocError, Global};
+use vsync_text::put_decimal;
+use wire::decode;
+
+/// The greatest counter, 2^62.
+const GREATEST: u64 = 4_611_686_018_427_387_904;
+
+// Packets with a counter of 2^62, and of one more.
+const GREATEST_VIEW: &[u8] = b"56530107 05 776f726c64 000200000001 000100000001
+    4000000000000000 000100000001 0000000000000000";
+
+const VIEW_ABOVE: &[u8] = b"56530107 05 776f726c64 000200000001 000100000001
+    4000000000000001 000100000001 0000000000000000";
+
+const GREATEST_COUNT: &[u8] = b"56530107 05 776f726c64 000200000001 000100000001
+    0000000000000002 000100000001 4000000000000000";
+
+const COUNT_ABOVE: &[u8] = b"56530107 05 776f726c64 000200000001 000100000001
+    0000000000000002 000100000001 4000000000000001";
+
+const GREATEST_BEHIND: &[u8] = b"5653010a 05 776f726c64 000200000001 000100000001
+    0000000000000002 000100000001 4000000000000000";
+
+const BEHIND_ABOVE: &[u8] = b"5653010a 05 776f726c64 000200000001 000100000001
+    0000000000000002 000100000001 4000000000000001";
+
+// FLUSH of 2^62@2.1 with 2.1 and 1.1, to 1.1.
+const GREATEST_FLUSH: &[u8] = b"56530109 05 776f726c64 000200000001 000100000001
+    4000000000000000 000200000001 02 000200000001 000100000001";
+
+// FLUSH of 5@3.1 with 3.1 and 1.1, to 1.1.
+const LOWER_FLUSH: &[u8] = b"56530109 05 776f726c64 000300000001 000100000001
+    0000000000000005 000300000001 02 000300000001 000100000001";
+
+// JOIN of 3.1 to 1.1.
+const JOIN_OF_THIRD: &[u8] = b"56530101 05 776f726c64 000300000001 000100000001";
+
+// FORWARD of the first message of 2.1 in 2@1.1: in another group, to another incarnation, from the member itself, and as it should be.
+const FORWARD_OF_OTHERS: &[u8] = b"56530104 05 6f74686572 000200000001 000100000001
+    0000000000000002 000100000001 0000000000000001 0002 6869";
+
+const FORWARD_TO_LATER: &[u8] = b"56530104 05 776f726c64 000200000001 000100000002
+    0000000000000002 000100000001 0000000000000001 0002 6869";
+
+const FORWARD_OF_ITSELF: &[u8] = b"56530104 05 776f726c64 000100000001 000100000001
+    0000000000000002 000100000001 0000000000000001 0002 6869";
+
+const FORWARD: &[u8] = b"56530104 05 776f726c64 000200000001 000100000001
+    0000000000000002 000100000001 0000000000000001 0002 6869";
+
+// ORDER from 2.1 to the coordinator 1.1.
+const ORDER_TO_FIRST: &[u8] = b"56530105 05 776f726c64 000200000001 000100000001
+    0000000000000002 000100000001 0000000000000001 000200000001 0000000000000001 0001 61";
+
+// ACK of one message where none was ordered.
+const ACK_ABOVE: &[u8] = b"56530107 05 776f726c64 000200000001 000100000001
+    0000000000000002 000100000001 0000000000000001";
+
+// FLUSH and INSTALL of 3@1.1 with 1.1, 2.1 and 3.1, to 2.1.
+const FLUSH_OF_THREE: &[u8] = b"56530109 05 776f726c64 000100000001 000200000001
+    0000000000000003 000100000001 03 000100000001 000200000001 000300000001";
+
+const INSTALL_OF_THREE: &[u8] = b"5653010c 05 776f726c64 000100000001 000200000001
+    0000000000000003 000100000001 03 000100000001 000200000001 000300000001 01 000200000001
+    0000000000000000 00 01 00000001 00";
+
+// ORDER of the first message of 3.1 in that view: from 3.1, and from the coordinator.
+const ORDER_OF_THIRD: &[u8] = b"56530105 05 776f726c64 000300000001 000200000001
+    0000000000000003 000100000001 0000000000000001 000300000001 0000000000000001 0001 61";
+
+const ORDER_OF_FIRST: &[u8] = b"56530105 05 776f726c64 000100000001 000200000001
+    0000000000000003 000100000001 0000000000000001 000300000001 0000000000000001 0001 61";
+
+/// The number with which bytes are refused; 0 where they are a packet.
+fn refusal(bytes: &[u8]) -> u8 {
+    match decode(bytes) {
+        Ok(_) => 0,
+        Err(error) => error.number(),
+    }
+}
+
+/// The text of the cases.
+#[derive(Drop)]
+pub struct Cases {
+    alloc: Global,
+    text: Vec<u8>,
+}
+
+impl Cases {
+    /// No text yet.
+    pub fn new(alloc: Global) -> Cases {
+        Cases {
+            alloc,
+            text: Vec::new(alloc),
+        }
+    }
+
+    /// The text.
+    pub fn text(&self) -> &[u8] {
+        self.text.as_slice()
+    }
+
+    // A line of what was asked and a word.
+    fn put(&mut self, asked: &str, answer: &str) -> Result<(), AllocError> {
+        self.text.extend_from_slice(asked.as_bytes())?;
+        self.text.extend_from_slice(b": ")?;
+        self.text.extend_from_slice(answer.as_bytes())?;
+        self.text.extend_from_slice(b"\n")
+    }
+
+    // A line of what was asked and a number.
+    fn put_number(&mut self, asked: &str, answer: u64) -> Result<(), AllocError> {
+        self.text.extend_from_slice(asked.as_bytes())?;
+        self.text.extend_from_slice(b": ")?;
+        put_decimal(&mut self.text, answer)?;
+        self.text.extend_from_slice(b"\n")
+    }
+
+    // How a packet in hexadecimal is read.
+    fn read(&mut self, asked: &str, digits: &[u8]) -> Result<(), AllocError> {
+        let bytes = unhex(self.alloc, digits)?;
+        self.put_number(asked, u64::from(refusal(bytes.as_slice())))
+    }
+
+    // Counters at their greatest.
+    fn counters(&mut self) -> Result<(), AllocError> {
+        self.text.extend_from_slice(b"== counters\n")?;
+        self.read("a view's counter of 2^62", GREATEST_VIEW)?;
+        self.read("a view's counter of 2^62 + 1", VIEW_ABOVE)?;
+        self.read("a count of 2^62", GREATEST_COUNT)?;
+        self.read("a count of 2^62 + 1", COUNT_ABOVE)?;
+        self.read("a number of 2^62", GREATEST_BEHIND)?;
+        self.read("a number of 2^62 + 1", BEHIND_ABOVE)
+    }
+
+    // The id after one with this counter.
+    fn next(&mut self, asked: &str, counter: u64) -> Result<(), AllocError> {
+        let Some(last) = ViewId::new(counter, first_at(2)) else {
+            return self.put(asked, "no view id");
+        };
+        match next_after(&last, first_at(1)) {
+            Ok(next) => self.put_number(asked, next.counter()),
+            Err(exhausted) => self.put_number(asked, u64::from(exhausted.number())),
+        }
+    }
+
+    // What a channel answers to a packet in hexadecimal: whose it was, and what came of it.
+    fn hand(&mut self, channel: &mut Chat, asked: &str, digits: &[u8]) -> Result<(), AllocError> {
+        let bytes = unhex(self.alloc, digits)?;
+        match channel.incoming(bytes.as_slice()) {
+            Ok(Some(source)) => self.put_number(asked, u64::from(source.node().number()))?,
+            Ok(None) => self.put(asked, "of nobody")?,
+            Err(error) => self.put_number("refused", u64::from(error.number()))?,
+        }
+        put_waiting(&mut self.text, channel)
+    }
+
+    // What a lone member does by the greatest proposal.
+    fn promise_greatest(&mut self, channel: &mut Chat) -> Result<(), AllocError> {
+        self.hand(channel, "FLUSH of 2^62@2.1, from node", GREATEST_FLUSH)?;
+        let answer = number(channel.suspect(first_at(2)));
+        self.put_number("suspect 2.1", u64::from(answer))?;
+        put_waiting(&mut self.text, channel)?;
+        let answer = number(channel.tick());
+        self.put_number("tick", u64::from(answer))?;
+        put_waiting(&mut self.text, channel)?;
+        let answer = send(channel, Vec::new(self.alloc));
+        self.put_number("send", u64::from(answer))?;
+        put_waiting(&mut self.text, channel)?;
+        self.hand(channel, "JOIN, from node", JOIN_OF_THIRD)?;
+        self.hand(channel, "FLUSH of 5@3.1, from node", LOWER_FLUSH)
+    }
+
+    // A lone member's group is made, and the greatest proposal comes to it.
+    fn found_and_promise(&mut self, channel: &mut Chat) -> Result<(), AllocError> {
+        let answer = number(channel.connect_new(GROUP));
+        self.put_number("connect_new", u64::from(answer))?;
+        put_waiting(&mut self.text, channel)?;
+        self.promise_greatest(channel)
+    }
+
+    // The greatest proposal comes to a lone member.
+    fn greatest(&mut self) -> Result<(), AllocError> {
+        self.text.extend_from_slice(b"== the greatest proposal\n")?;
+        let mut channel = apart(self.alloc, 1)?;
+        self.found_and_promise(&mut channel)
+    }
+
+    // Whether two channels do the same next.
+    fn compare(&mut self, came: &mut Chat, fresh: &mut Chat) -> Result<(), AllocError> {
+        let came = next_of(self.alloc, came)?;
+        let wanted = next_of(self.alloc, fresh)?;
+        let is_same = came.as_slice() == wanted.as_slice() && wanted.len() > 100;
+        self.put(
+            "as one that was handed none of these",
+            if is_same { "yes" } else { "no" },
+        )
+    }
+
+    // What the coordinator ignores.
+    fn ignore_at_first(&mut self, channel: &mut Chat) -> Result<(), AllocError> {
+        self.hand(channel, "FORWARD in another group", FORWARD_OF_OTHERS)?;
+        self.hand(channel, "FORWARD to another incarnation", FORWARD_TO_LATER)?;
+        self.hand(channel, "FORWARD from itself", FORWARD_OF_ITSELF)?;
+        self.hand(
+            channel,
+            "ORDER to the coordinator, from node",
+            ORDER_TO_FIRST,
+        )?;
+        self.hand(
+            channel,
+            "ACK above the highest ordered, from node",
+            ACK_ABOVE,
+        )
+    }
+
+    // The same, and that it does next what a fresh one does; and a packet that another takes.
+    fn ignore_and_take(
+        &mut self,
+        channel: &mut Chat,
+        fresh: &mut Chat,
+        other: &mut Chat,
+    ) -> Result<(), AllocError> {
+        self.ignore_at_first(channel)?;
+        self.compare(channel, fresh)?;
+        self.hand(other, "FORWARD as it should be, from node", FORWARD)
+    }
+
+    // What the coordinator ignores.
+    fn at_first(&mut self) -> Result<(), AllocError> {
+        self.text
+            .extend_from_slice(b"== ignored by the coordinator\n")?;
+        let mut channel = channel_at(self.alloc, Stand::Coordinator)?;
+        let mut fresh = channel_at(self.alloc, Stand::Coordinator)?;
+        let mut other = channel_at(self.alloc, Stand::Coordinator)?;
+        self.ignore_and_take(&mut channel, &mut fresh, &mut other)
+    }
+
+    // 2.1 in a view of three.
+    fn of_three(&mut self) -> Result<Chat, AllocError> {
+        let flush = unhex(self.alloc, FLUSH_OF_THREE)?;
+        let install = unhex(self.alloc, INSTALL_OF_THREE)?;
+        let mut channel = channel_at(self.alloc, Stand::Joining)?;
+        let _ = channel.incoming(flush.as_slice());
+        let _ = channel.incoming(install.as_slice());
+        drain(&mut channel);
+        Ok(channel)
+    }
+
+    // What it ignores there; that it does next what a fresh one does; and a packet that another takes.
+    fn ignore_third(
+        &mut self,
+        channel: &mut Chat,
+        fresh: &mut Chat,
+        other: &mut Chat,
+    ) -> Result<(), AllocError> {
+        self.hand(
+            channel,
+            "ORDER from one that is not the coordinator, from node",
+            ORDER_OF_THIRD,
+        )?;
+        self.compare(channel, fresh)?;
+        self.hand(other, "ORDER as it should be, from node", ORDER_OF_FIRST)
+    }
+
+    // What another member ignores.
+    fn at_other(&mut self) -> Result<(), AllocError> {
+        self.text
+            .extend_from_slice(b"== ignored by another member\n")?;
+        let mut channel = self.of_three()?;
+        let mut fresh = self.of_three()?;
+        let mut other = self.of_three()?;
+        self.ignore_third(&mut channel, &mut fresh, &mut other)
+    }
+
+    /// All cases.
+    pub fn all(&mut self) -> Result<(), AllocError> {
+        self.counters()?;
+        self.next("the counter after 2^62 - 1", GREATEST - 1)?;
+        self.next("the counter after 2^62, refused with", GREATEST)?;
+        self.greatest()?;
+        self.at_first()?;
+        self.at_other()
+    }
+}
