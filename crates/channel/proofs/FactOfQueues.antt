@@ -1,7 +1,6 @@
 -- The first event of a step, among those that wait.
-use Rattle.std.proofs.Common.{◌≡◌, ℕ, ◌++◌, length, Option, List, [], ◌∷◌, Err, refl}
+use Rattle.std.proofs.Common.{◌≡◌, ℕ, ◌++◌, length, Option, List, [], ◌∷◌, refl}
 use Rattle.std.specs.Option.{option_map}
-use Rattle.std.specs.Result.{is_err}
 use Rattle.std.specs.List.{slice_get}
 use Rattle.trace_props.specs.declared.event.Event.{Event}
 use Rattle.channel.specs.Queues.{sent_at}

@@ -1,15 +1,13 @@
 -- What a step of the member leaves of a channel, and what its callers know of it.
-use Rattle.std.proofs.Common.{◌≡◌, ◌++◌, Bool, true, false, cond, Option, Some, None, List, Result, Ok, Err, inl, inr, ◌⊎◌, is_some, refl, sym, ap, ◌∙◌, subst}
+use Rattle.std.proofs.Common.{◌≡◌, ◌++◌, Bool, true, false, cond, Option, Some, None, Result, Ok, Err, inl, inr, ◌⊎◌, is_some, refl, sym, ap, ◌∙◌, subst}
 use Rattle.std.specs.Prelude.{MatchBool}
 use Rattle.std.specs.Option.{IsSomeAnd, option_map, option_map_or}
 use Rattle.std.proofs.lemmas.Option.{same_Some}
 use Rattle.limits.specs.declared.refusal.Refusal.{Refusal}
 use Rattle.limits.specs.declared.refusal.Refusal.TheVariants.{NotConnected, Closed, Memory}
 use Rattle.state_transfer.specs.Meanings.{Meaning}
-use Rattle.trace_props.specs.declared.event.Event.{Event}
 use Rattle.acts.specs.Cores.{Core}
 use Rattle.step_output.specs.declared.output.Output.{Output}
-use Rattle.step_output.specs.declared.output.Outgoing.{Outgoing}
 use Rattle.membership.specs.declared.member_state.MemberState.{MemberState}
 use Rattle.membership.specs.MemberStates.{core_of as core_at}
 use Rattle.member.specs.declared.error.Error.{Error}

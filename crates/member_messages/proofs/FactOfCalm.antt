@@ -1,5 +1,5 @@
 -- What a member is delivered no input asks for.
-use Rattle.std.proofs.Common.{◌≡◌, ℕ, ◌+◌, Bool, true, false, List, [], ◌∷◌, ◌++◌, map, length, inl, inr, sym, ap, ◌∙◌, subst, arith}
+use Rattle.std.proofs.Common.{◌≡◌, ℕ, ◌+◌, Bool, true, false, List, [], ◌∷◌, ◌++◌, map, length, inl, inr, ap, ◌∙◌, arith}
 use Rattle.std.proofs.lemmas.List.{append-nil, length-append}
 use Rattle.std.specs.Prelude.{MatchBool, nat_lt}
 use Rattle.std.specs.List.{list_all}
@@ -12,7 +12,7 @@ use Rattle.acts.specs.Acts.{delivery}
 use Rattle.step_output.specs.declared.output.Output.{Output}
 use Rattle.step_output.specs.Outputs.{Grows}
 use Rattle.step_output.specs.Calm.{is_quiet, IsCalm}
-use Rattle.step_output.proofs.FactOfCalm.{calm-nothing, deliveries-quiet}
+use Rattle.step_output.proofs.FactOfCalm.{deliveries-quiet}
 use Rattle.traffic.specs.declared.coordinator.Coordinator.{Coordinator}
 use Rattle.traffic.specs.declared.follower.Follower.{Follower}
 use Rattle.traffic.specs.Turns.{Ordering, IsFew}

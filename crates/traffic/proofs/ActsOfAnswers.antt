@@ -1,12 +1,12 @@
 -- What is asked, said again and answered is acts.
-use Rattle.std.proofs.Common.{◌≡◌, ℕ, zero, suc, ◌+◌, ◌-◌, ◌<◌, ◌≤◌, Bool, ◌||◌, true, false, max, min, Option, Some, None, List, [], ◌∷◌, ◌++◌, map, length, refl, sym, ap, ◌∙◌, subst, arith}
-use Rattle.std.specs.Prelude.{nat_lt, MatchBool}
+use Rattle.std.proofs.Common.{◌≡◌, ℕ, zero, suc, ◌+◌, ◌<◌, ◌≤◌, Bool, true, false, max, min, Option, Some, None, List, [], ◌∷◌, ◌++◌, map, length, refl, sym, ap, ◌∙◌, subst, arith}
+use Rattle.std.specs.Prelude.{nat_lt}
 use Rattle.std.specs.Option.{option_map_or}
 use Rattle.std.proofs.lemmas.Bool.Decides.{nat_tests}
 use Rattle.std.proofs.lemmas.Bool.{cond-true, cond-false}
 use Rattle.std.proofs.lemmas.List.Elements.{Contains-push}
 use Rattle.std.proofs.Math.Nat.{max-eq_right}
-use Rattle.limits.specs.declared.TheConstants.{WINDOW, PAYLOAD}
+use Rattle.limits.specs.declared.TheConstants.{PAYLOAD}
 use Rattle.address.specs.Ids.{Address}
 use Rattle.wire_values.specs.Values.{Entry, Progress, held_at}
 use Rattle.wire_values.specs.Values as wire
@@ -31,7 +31,7 @@ use Rattle.traffic.proofs.ActsOfCoordinator.{view_core_at, puts-acts}
 use Rattle.traffic.proofs.Windows.{holds-above}
 use Rattle.traffic.proofs.FactOfQueues.{In, in-itself}
 use Rattle.step_output.proofs.FactOfGrows.{grows-nothing}
-use Rattle.traffic.proofs.ActsInTurn.{other-nothing, other-then}
+use Rattle.traffic.proofs.ActsInTurn.{other-then}
 use Rattle.traffic.proofs.FactOfDeliveries.{asks-goes}
 
 module _ {S : Type 0} (meaning : Meaning S) where

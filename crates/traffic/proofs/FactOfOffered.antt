@@ -1,5 +1,5 @@
 -- A message is offered to be ordered.
-use Rattle.std.proofs.Common.{◌≡◌, ℕ, ◌<◌, Bool, ◌||◌, true, false, cond, Some, List, [], ◌∷◌, ◌++◌, map, suc, refl, sym, ap, ◌∙◌, subst, arith, append_assoc}
+use Rattle.std.proofs.Common.{◌≡◌, ℕ, ◌<◌, Bool, ◌||◌, true, false, cond, Some, List, [], ◌∷◌, ◌++◌, map, suc, refl, sym, ap, subst, arith, append_assoc}
 use Rattle.std.specs.Prelude.{if◌then◌else◌, nat_lt}
 use Rattle.std.specs.List.{find, Contains}
 use Rattle.std.specs.Option.{option_map_or}

@@ -1,17 +1,17 @@
 -- What a window holds can be reported: its numbers rise, are near its counts, and none is left out up to the delivered count.
-use Rattle.std.proofs.Common.{◌≡◌, ℕ, ◌+◌, ◌<◌, ◌≤◌, Bool, true, false, cond, Some, List, [], ◌∷◌, ◌++◌, length, refl, sym, ap, ◌∙◌, arith, nat_eq, is_some, subst}
+use Rattle.std.proofs.Common.{◌≡◌, ℕ, ◌+◌, ◌<◌, ◌≤◌, Bool, true, false, cond, Some, List, [], ◌∷◌, length, refl, sym, ap, ◌∙◌, arith, nat_eq, is_some, subst}
 use Rattle.std.specs.Prelude.{IsSome, nat_le, nat_lt, ◌&&◌, min, if◌then◌else◌}
 use Rattle.std.specs.Ordering.{nat_cmp}
 use Rattle.std.specs.declared.cmp.Ordering.TheVariants.{Less}
 use Rattle.std.specs.Map.{keys_of}
-use Rattle.std.specs.List.{AllByRecursion, flat_map}
+use Rattle.std.specs.List.{AllByRecursion}
 use Rattle.std.specs.List.Sorted.{IsStrictlySortedBy}
 use Rattle.std.proofs.lemmas.Bool.Decides.{nat_tests}
 use Rattle.limits.specs.declared.TheConstants.{WINDOW, GREATEST_NUMBER}
 use Rattle.address.specs.Ids.{ViewId}
 use Rattle.wire_values.specs.Values.{Entry, held_at}
 use Rattle.view.specs.Members.{View}
-use Rattle.wire_values.specs.Fields.{IsNumber, IsPlaced, placed_bytes}
+use Rattle.wire_values.specs.Fields.{IsNumber}
 use Rattle.wire_values.specs.Lists.{highest_next, are_held, is_filled, is_report}
 use Rattle.acts.specs.Cores.{ViewCore, report_with}
 use Rattle.nak_stream.specs.Windows.{WindowModel, IsWindow}

@@ -1,5 +1,5 @@
 -- What the coordinator of a view must do, and has done: it ordered all that may be ordered, one after another.
-use Rattle.std.specs.Prelude.{◌≡◌, ℕ, ◌+◌, ◌-◌, ◌≤◌, true, false, List, [], ◌∷◌, ◌++◌, map, length, None, Some, MatchOption, MatchBool, nat_lt, Bool}
+use Rattle.std.specs.Prelude.{◌≡◌, ℕ, ◌+◌, ◌-◌, ◌≤◌, true, false, List, [], ◌∷◌, ◌++◌, map, length, None, Some, MatchOption, Bool}
 use Rattle.address.specs.Ids.{Address, same_address}
 use Rattle.view.specs.Members.{View}
 use Rattle.wire_values.specs.Values.{Entry}
