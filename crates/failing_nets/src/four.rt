@@ -56,18 +56,18 @@ fn first_at(number: u16) -> Address {
     Address::first_at(Node::new(number).unwrap_or(Node::new(1).unwrap()))
 }
 
-/// A member over a net: that of 1.1, with a group of its own, or another that asks 1.1 to be let in.
-fn member<'a>(alloc: Global, net: Wire<'a>, number: u16) -> Result<Member<'a>, AllocError> {
+/// The channel of a node: that of node 1 has a group of its own, and any other asks 1.1 to be let in.
+fn connected(alloc: Global, number: u16) -> Result<Channel<ChatLog>, AllocError> {
     let mut channel = Channel::new(alloc, first_at(number), ChatLog::opening(alloc)?);
-    let connected = if number == 1 {
+    let answer = if number == 1 {
         channel.connect_new(b"chat")
     } else {
         channel.connect_to(b"chat", first_at(1))
     };
-    if connected.is_err() {
-        return Err(AllocError);
+    match answer {
+        Ok(()) => Ok(channel),
+        Err(_) => Err(AllocError),
     }
-    Runner::new(alloc, net, channel, SILENT)
 }
 
 impl<'a> Four<'a> {
@@ -75,8 +75,9 @@ impl<'a> Four<'a> {
     fn new(alloc: Global, wires: &'a RefCell<Wires>) -> Result<Four<'a>, AllocError> {
         let mut members = Vec::new(alloc);
         for number in 1..=4u16 {
+            let channel = connected(alloc, number)?;
             let net = Wire::new(wires, first_at(number).node());
-            members.push(member(alloc, net, number)?)?;
+            members.push(Runner::new(alloc, net, channel, SILENT)?)?;
         }
         Ok(Four {
             alloc,
@@ -150,7 +151,7 @@ impl<'a> Four<'a> {
 }
 
 /// The story of the four, where one call fails.
-pub fn story(alloc: Global, failing: Failing) -> Result<Story, AllocError> {
+pub fn play(alloc: Global, failing: Failing) -> Result<Story, AllocError> {
     let wires = RefCell::new(Wires::failing(alloc, failing));
     let mut four = Four::new(alloc, &wires)?;
     four.part_and_merge()?;

@@ -53,7 +53,7 @@ fn holds(alloc: Global, text: &[u8]) -> bool {
 }
 
 /// What comes of the script over nets of which one call fails.
-fn came(alloc: Global, settings: &Settings, failing: Failing) -> Came {
+fn run(alloc: Global, settings: &Settings, failing: Failing) -> Came {
     let wires = RefCell::new(Wires::failing(alloc, failing));
     let mut text = Vec::new(alloc);
     let mut reader = MERGE;
@@ -75,10 +75,10 @@ fn came(alloc: Global, settings: &Settings, failing: Failing) -> Came {
 pub fn receives(alloc: Global) -> Result<Tried, AllocError> {
     let mut tried = Tried::new();
     let settings = four(alloc)?;
-    let whole = came(alloc, &settings, Failing::Nothing);
+    let whole = run(alloc, &settings, Failing::Nothing);
     tried.count(whole.holds && whole.is_merged);
     for before in 0..whole.receives {
-        tried.count(came(alloc, &settings, Failing::Receive(before + 1)).holds);
+        tried.count(run(alloc, &settings, Failing::Receive(before + 1)).holds);
     }
     Ok(tried)
 }
@@ -87,10 +87,10 @@ pub fn receives(alloc: Global) -> Result<Tried, AllocError> {
 pub fn sends(alloc: Global) -> Result<Tried, AllocError> {
     let mut tried = Tried::new();
     let settings = four(alloc)?;
-    let whole = came(alloc, &settings, Failing::Nothing);
+    let whole = run(alloc, &settings, Failing::Nothing);
     tried.count(whole.holds && whole.is_merged);
     for before in 0..whole.sends {
-        tried.count(came(alloc, &settings, Failing::Send(before + 1)).holds);
+        tried.count(run(alloc, &settings, Failing::Send(before + 1)).holds);
     }
     Ok(tried)
 }

@@ -1,7 +1,7 @@
 //! What is counted of four runners where a call of their nets fails.
 
 use crate::Tried;
-use crate::four::{After, Story, story};
+use crate::four::{After, Story, play};
 use std::alloc::{AllocError, Global};
 use test_net::Failing;
 
@@ -71,11 +71,11 @@ fn are_same_up_to(whole: &Story, less: &Story, number: u64) -> bool {
 /// Each receive fails in turn: it is counted once, hands nothing in, and is the last of its round.
 pub fn receives(alloc: Global) -> Result<Tried, AllocError> {
     let mut tried = Tried::new();
-    let (count, _) = last(&story(alloc, Failing::Nothing)?);
+    let (count, _) = last(&play(alloc, Failing::Nothing)?);
     for before in 0..count {
         let number = before + 1;
-        let failed = story(alloc, Failing::Receive(number))?;
-        let empty = story(alloc, Failing::Empty(number))?;
+        let failed = play(alloc, Failing::Receive(number))?;
+        let empty = play(alloc, Failing::Empty(number))?;
         let is_right = is_counted_once(failed.after.as_slice(), number);
         tried.count(is_right && is_as_empty(&failed, &empty));
     }
@@ -85,11 +85,11 @@ pub fn receives(alloc: Global) -> Result<Tried, AllocError> {
 /// Each send fails in turn: nothing else changes in its round.
 pub fn sends(alloc: Global) -> Result<Tried, AllocError> {
     let mut tried = Tried::new();
-    let whole = story(alloc, Failing::Nothing)?;
+    let whole = play(alloc, Failing::Nothing)?;
     let (_, count) = last(&whole);
     for before in 0..count {
         let number = before + 1;
-        let less = story(alloc, Failing::Send(number))?;
+        let less = play(alloc, Failing::Send(number))?;
         tried.count(are_same_up_to(&whole, &less, number));
     }
     Ok(tried)
