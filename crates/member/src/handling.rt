@@ -8,8 +8,8 @@ ghost use Rattle.member.specs.declared.input.Input.TheVariants as input;
 ghost use Rattle.member.specs.Handling.{Handled};
 ghost use Rattle.member.specs.Sources.{source_in, source_of, output_of};
 
-use crate::{Error, Taken};
 use crate::hearing::{pass_time, take_packet};
+use crate::{Error, Taken};
 use address::Address;
 use limits::Refusal;
 use member_messages::{send, send_refusal};
