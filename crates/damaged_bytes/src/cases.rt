@@ -77,6 +77,25 @@ const ORDER_OF_THIRD: &[u8] = b"56530105 05 776f726c64 000300000001 000200000001
 const ORDER_OF_FIRST: &[u8] = b"56530105 05 776f726c64 000100000001 000200000001
     0000000000000003 000100000001 0000000000000001 000300000001 0000000000000001 0001 61";
 
+/// Packets with a counter at its greatest, and with one more.
+const COUNTERS: &[(&str, &[u8])] = &[
+    ("a view's counter of 2^62", GREATEST_VIEW),
+    ("a view's counter of 2^62 + 1", VIEW_ABOVE),
+    ("a count of 2^62", GREATEST_COUNT),
+    ("a count of 2^62 + 1", COUNT_ABOVE),
+    ("a number of 2^62", GREATEST_BEHIND),
+    ("a number of 2^62 + 1", BEHIND_ABOVE),
+];
+
+/// Packets that the coordinator ignores.
+const FOR_NOBODY: &[(&str, &[u8])] = &[
+    ("FORWARD in another group", FORWARD_OF_OTHERS),
+    ("FORWARD to another incarnation", FORWARD_TO_LATER),
+    ("FORWARD from itself", FORWARD_OF_ITSELF),
+    ("ORDER to the coordinator, from node", ORDER_TO_FIRST),
+    ("ACK above the highest ordered, from node", ACK_ABOVE),
+];
+
 /// The number with which bytes are refused; 0 where they are a packet.
 fn refusal(bytes: &[u8]) -> u8 {
     match decode(bytes) {
@@ -122,21 +141,19 @@ impl Cases {
         self.text.extend_from_slice(b"\n")
     }
 
-    // How a packet in hexadecimal is read.
-    fn read(&mut self, asked: &str, digits: &[u8]) -> Result<(), AllocError> {
-        let bytes = unhex(self.alloc, digits)?;
-        self.put_number(asked, u64::from(refusal(bytes.as_slice())))
+    // How packets in hexadecimal are read.
+    fn read_all(&mut self, packets: &[(&str, &[u8])]) -> Result<(), AllocError> {
+        for (asked, digits) in packets {
+            let bytes = unhex(self.alloc, digits)?;
+            self.put_number(asked, u64::from(refusal(bytes.as_slice())))?;
+        }
+        Ok(())
     }
 
     // Counters at their greatest.
     fn counters(&mut self) -> Result<(), AllocError> {
         self.text.extend_from_slice(b"== counters\n")?;
-        self.read("a view's counter of 2^62", GREATEST_VIEW)?;
-        self.read("a view's counter of 2^62 + 1", VIEW_ABOVE)?;
-        self.read("a count of 2^62", GREATEST_COUNT)?;
-        self.read("a count of 2^62 + 1", COUNT_ABOVE)?;
-        self.read("a number of 2^62", GREATEST_BEHIND)?;
-        self.read("a number of 2^62 + 1", BEHIND_ABOVE)
+        self.read_all(COUNTERS)
     }
 
     // The id after one with this counter.
@@ -203,31 +220,26 @@ impl Cases {
         )
     }
 
-    // What the coordinator ignores.
-    fn ignore_at_first(&mut self, channel: &mut Chat) -> Result<(), AllocError> {
-        self.hand(channel, "FORWARD in another group", FORWARD_OF_OTHERS)?;
-        self.hand(channel, "FORWARD to another incarnation", FORWARD_TO_LATER)?;
-        self.hand(channel, "FORWARD from itself", FORWARD_OF_ITSELF)?;
-        self.hand(
-            channel,
-            "ORDER to the coordinator, from node",
-            ORDER_TO_FIRST,
-        )?;
-        self.hand(
-            channel,
-            "ACK above the highest ordered, from node",
-            ACK_ABOVE,
-        )
+    // What a channel answers to packets, one after another.
+    fn hand_all(
+        &mut self,
+        channel: &mut Chat,
+        packets: &[(&str, &[u8])],
+    ) -> Result<(), AllocError> {
+        for (asked, digits) in packets {
+            self.hand(channel, asked, digits)?;
+        }
+        Ok(())
     }
 
-    // The same, and that it does next what a fresh one does; and a packet that another takes.
+    // What the coordinator ignores; that it does next what a fresh one does; and a packet that another takes.
     fn ignore_and_take(
         &mut self,
         channel: &mut Chat,
         fresh: &mut Chat,
         other: &mut Chat,
     ) -> Result<(), AllocError> {
-        self.ignore_at_first(channel)?;
+        self.hand_all(channel, FOR_NOBODY)?;
         self.compare(channel, fresh)?;
         self.hand(other, "FORWARD as it should be, from node", FORWARD)
     }

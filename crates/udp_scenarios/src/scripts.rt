@@ -3,13 +3,12 @@
 use crate::channels::first_at;
 use crate::files::{first_block, first_line};
 use crate::lines::put_number;
-use crate::sockets::{FOUR, settings_of};
 use address::Node;
 use chat_log::ChatLog;
 use commands::Status;
 use std::alloc::{AllocError, Global};
 use std::cell::RefCell;
-use test_net::{Hub, Wires};
+use test_net::{FOUR, Hub, Wires, settings_of};
 use udp_runs::{MemberPlan, run_member, run_udp};
 
 /// The most scripts of a file.

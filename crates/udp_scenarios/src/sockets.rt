@@ -3,44 +3,14 @@
 use crate::lines::{put_number, put_refusal, put_truth};
 use address::Node;
 use chat_log::ChatLog;
-use commands::{Status, run_check};
+use commands::Status;
 use std::alloc::{AllocError, Global};
-use udp_net::{BindError, Settings, SocketNet, settings};
+use test_net::{MERGE, holds, settings_of, trace_of};
+use udp_net::{BindError, Settings, SocketNet};
 use udp_runs::{Loopback, run_udp};
-
-/// The settings of nodes 1 to 4, with 50 rounds of silence.
-pub const FOUR: &str =
-    "group = \"chat\"\nsilent = 50\n[[node]]\nnumber = 1\nport = 47401\n[[node]]\nnumber = 2\nport = 47402\n[[node]]\nnumber = 3\nport = 47403\n[[node]]\nnumber = 4\nport = 47404\n";
-
-/// Four that part into two pairs, send on each side, and merge.
-const MERGE: &[u8] =
-    b"start 1\nstart 2\nstart 3\nstart 4\ncreate 1\njoin 2 1.1\njoin 3 1.1\njoin 4 1.1\nrounds 20\nsuspect 1 3.1\nsuspect 1 4.1\nsuspect 3 1.1\nsuspect 3 2.1\nrounds 20\nsend 1 a\nsend 3 b\nrounds 20\nhint 3 1.1\nrounds 20\n";
 
 /// At how many places of ports it is tried, since others may have taken some.
 const PLACES: u16 = 40;
-
-/// Settings of a text that is one of settings.
-pub fn settings_of(alloc: Global, text: &str) -> Result<Settings, AllocError> {
-    match settings(alloc, text) {
-        Ok(found) => Ok(found),
-        Err(_) => Err(AllocError),
-    }
-}
-
-/// The beginning of a text before its chat lines.
-fn trace_of(text: &[u8]) -> &[u8] {
-    let end = text.windows(5).position(|word| word == b"chat ".as_slice());
-    let (trace, _) = text.split_at(end.unwrap_or(text.len()).min(text.len()));
-    trace
-}
-
-/// Whether a text's trace is virtually synchronous.
-fn holds(alloc: Global, text: &[u8]) -> bool {
-    let mut reader = trace_of(text);
-    let mut verdict = Vec::new(alloc);
-    let _ = run_check::<ChatLog, _, _>(alloc, &mut reader, &mut verdict);
-    verdict.as_slice() == b"holds\n".as_slice()
-}
 
 /// The settings of nodes 1 to 4 at ports behind this one.
 fn settings_at(alloc: Global, port: u16) -> Result<Settings, AllocError> {
