@@ -17,25 +17,26 @@ use next_view::Notes;
 use state_transfer::Receiver;
 use std::alloc::AllocError;
 use step_output::{Identity, Output};
-use trace_props::{Event, HandedBack, Install};
+use trace_props::{BoxedInstall, Event, HandedBack, Install};
 use traffic::ViewState;
 use view::{Addresses, View};
 use wire_values::{Body, Roster};
 
 // The install of a member's first view, of itself alone.
-fn lone_install(who: &Identity) -> Result<Install, AllocError>
+fn lone_install(who: &Identity) -> Result<BoxedInstall, AllocError>
     ensures { IfOk result (λ i. i ≡ lone_install who.now.address) }
 {
     let view = View::alone(who.alloc, ViewId::first_of(who.address))?;
     let together = Addresses::alone(who.alloc, who.address)?;
-    Ok(Install {
+    let install = Install {
         member: who.address,
         previous: None,
         view,
         together,
         handed_back: HandedBack::nothing(who.alloc),
         given: None,
-    })
+    };
+    BoxedInstall::new(who.alloc, install)
 }
 
 /// Makes a group of itself alone: it promises and installs its first view (docs/PROTOCOL.md, "Joining"). After an error for want of memory nothing is

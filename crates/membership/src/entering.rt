@@ -19,7 +19,7 @@ use address::ViewId;
 use state_transfer::Receiver;
 use std::alloc::{AllocError, Global};
 use step_output::{Identity, Output};
-use trace_props::{Bytes, Event, HandedBack, Install as Installed};
+use trace_props::{BoxedInstall, Bytes, Event, HandedBack, Install as Installed};
 use traffic::ViewState;
 use view::{Addresses, View};
 use wire_values::{Entry, Install, Items, Roster, State};
@@ -171,15 +171,16 @@ fn install_view(
     let together = Addresses::from_vec(together);
     let handed_back = left_of(who.alloc, view_state, own)?;
     let given = state_copied(who.alloc, install.state())?;
+    let install = Installed {
+        member: who.address,
+        previous,
+        view,
+        together,
+        handed_back,
+        given,
+    };
     who.record(
-        Event::Installed(Installed {
-            member: who.address,
-            previous,
-            view,
-            together,
-            handed_back,
-            given,
-        }),
+        Event::Installed(BoxedInstall::new(who.alloc, install)?),
         out,
     )
 }

@@ -19,7 +19,7 @@ use flush::Flush;
 use state_transfer::Receiver;
 use std::alloc::{AllocError, Global};
 use step_output::{Identity, Output};
-use trace_props::{Bytes, Delivery, Event, Install as Installed, Message};
+use trace_props::{BoxedInstall, Bytes, Delivery, Event, Install as Installed, Message};
 use traffic::ViewState;
 use view::{Addresses, View};
 use wire::put_entry;
@@ -251,15 +251,16 @@ fn install_view(
     let view = View::new(flush.proposal(), members).unwrap();
     let together = flush.together(who.alloc, &who.address)?;
     let handed_back = view_state.handed_back(own)?;
+    let install = Installed {
+        member: who.address,
+        previous: Some(previous),
+        view,
+        together,
+        handed_back,
+        given: None,
+    };
     who.record(
-        Event::Installed(Installed {
-            member: who.address,
-            previous: Some(previous),
-            view,
-            together,
-            handed_back,
-            given: None,
-        }),
+        Event::Installed(BoxedInstall::new(who.alloc, install)?),
         out,
     )
 }

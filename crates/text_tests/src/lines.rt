@@ -1,7 +1,9 @@
 use crate::fixtures::address;
 use address::ViewId;
 use std::alloc::{AllocError, Global};
-use trace_props::{Bytes, Delivery, Event, HandedBack, Install, Message, Numbered, Sending};
+use trace_props::{
+    BoxedInstall, Bytes, Delivery, Event, HandedBack, Install, Message, Numbered, Sending,
+};
 use view::{Addresses, View};
 use vsync_text::append_event;
 
@@ -24,14 +26,15 @@ fn install(alloc: Global) -> Option<Event> {
     let view = View::new(ViewId::new(4, address(2, 1))?, both(alloc)?).ok()?;
     let together = both(alloc)?;
     let handed_back = nine_back(alloc, Bytes::from_slice(alloc, b"\x00\xaf").ok()?)?;
-    Some(Event::Installed(Install {
+    let install = Install {
         member: address(3, 4_294_967_295),
         previous: ViewId::new(3, address(1, 1)),
         view,
         together,
         handed_back,
         given: Some(Bytes::from_slice(alloc, b"\x00").ok()?),
-    }))
+    };
+    Some(Event::Installed(BoxedInstall::new(alloc, install).ok()?))
 }
 
 /// The sending of an empty message 9 by 2.1, in its first view.

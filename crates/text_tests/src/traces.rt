@@ -138,7 +138,7 @@ fn an_install_has_its_fields(rt: HostRuntime) {
     let text = b"installed 2.1 6@2.1 7@3.1 3.1,2.1 2.1 4:6869 =0aff\n";
     match read_trace(rt.alloc(), text) {
         Ok(trace) => match trace.events() {
-            [Event::Installed(install)] => are_fields_read(&rt, install),
+            [Event::Installed(install)] => are_fields_read(&rt, install.get()),
             _ => assert!(rt; false, "one install is read"),
         },
         Err(_) => assert!(rt; false, "the line is read"),

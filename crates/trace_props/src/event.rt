@@ -1,8 +1,8 @@
-ghost use Rattle.std.specs.Prelude.{◌≡◌, []};
+ghost use Rattle.std.specs.Prelude.{◌≡◌, [], IfOk};
 
 use crate::Bytes;
 use address::{Address, ViewId};
-use std::alloc::Global;
+use std::alloc::{AllocError, Global};
 use std::marker::Model;
 use view::{Addresses, View};
 
@@ -49,6 +49,38 @@ pub struct Install {
     pub given: Option<Bytes>,
 }
 
+/// An install in a place of its own, so that all other events stay small. Contracts see the install.
+#[derive(Debug, Drop)]
+pub struct BoxedInstall {
+    install: Box<Install>,
+}
+
+impl Model for BoxedInstall {
+    ghost use Rattle.trace_props.specs.declared.event.Install.{Install};
+
+    ghost Value = { Install };
+
+    ghost view = { λ b. b.install.value };
+}
+
+impl BoxedInstall {
+    /// An install in a place of its own.
+    pub fn new(alloc: Global, install: Install) -> Result<BoxedInstall, AllocError>
+        ensures { IfOk result (λ b. b ≡ install) }
+    {
+        Ok(BoxedInstall {
+            install: Box::new(alloc, install)?,
+        })
+    }
+
+    /// The install.
+    pub fn get(&self) -> &Install
+        ensures { result.now ≡ self.now }
+    {
+        &self.install
+    }
+}
+
 /// What happens to a member of a group (docs/GUARANTEES.md, "Traces").
 #[derive(Debug, Drop)]
 pub enum Event {
@@ -61,7 +93,7 @@ pub enum Event {
     /// It may send nothing until its next view.
     Blocked(Address),
     /// It installs a view.
-    Installed(Install),
+    Installed(BoxedInstall),
     /// It has left.
     Left(Address),
     /// It has crashed.

@@ -7,6 +7,6 @@ mod trace;
 mod verdict;
 
 pub use bytes::Bytes;
-pub use event::{Delivery, Event, HandedBack, Install, Message, Numbered, Sending};
+pub use event::{BoxedInstall, Delivery, Event, HandedBack, Install, Message, Numbered, Sending};
 pub use trace::Trace;
 pub use verdict::{Rule, Verdict};

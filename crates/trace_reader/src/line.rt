@@ -15,7 +15,7 @@ use address::Address;
 use limits::TRACE_LINE;
 use script_reader::{Fault, Unheard, first_field, is_skipped};
 use std::alloc::Global;
-use trace_props::{Delivery, Event, Install, Message, Numbered, Sending};
+use trace_props::{BoxedInstall, Delivery, Event, Install, Message, Numbered, Sending};
 use view::View;
 
 /// A word with which a line of a trace begins.
@@ -173,7 +173,10 @@ fn event_of(alloc: Global, word: Word, fields: Fields<'_>) -> Result<Event, Unhe
         Word::Sent => Ok(Event::Sent(lone_sending(alloc, fields)?)),
         Word::Delivered => Ok(Event::Delivered(lone_delivery(alloc, fields)?)),
         Word::Blocked => Ok(Event::Blocked(lone_address(fields)?)),
-        Word::Installed => Ok(Event::Installed(lone_install(alloc, fields)?)),
+        Word::Installed => Ok(Event::Installed(BoxedInstall::new(
+            alloc,
+            lone_install(alloc, fields)?,
+        )?)),
         Word::Left => Ok(Event::Left(lone_address(fields)?)),
         Word::Crashed => Ok(Event::Crashed(lone_address(fields)?)),
     }

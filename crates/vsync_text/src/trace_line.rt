@@ -111,7 +111,7 @@ fn put_fields(out: &mut Vec<u8>, event: &Event) -> Result<(), AllocError>
         Event::Sent(sending) => put_sending_fields(out, sending),
         Event::Delivered(delivery) => put_delivery_fields(out, delivery),
         Event::Blocked(member) => put_address(out, b' ', member),
-        Event::Installed(install) => put_install_fields(out, install),
+        Event::Installed(install) => put_install_fields(out, install.get()),
         Event::Left(member) => put_address(out, b' ', member),
         Event::Crashed(member) => put_address(out, b' ', member),
     }

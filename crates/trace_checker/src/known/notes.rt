@@ -54,7 +54,7 @@ pub fn install_in<'a>(event: &'a Event) -> Option<&'a Install>
         Event::Sent(_) => None,
         Event::Delivered(_) => None,
         Event::Blocked(_) => None,
-        Event::Installed(install) => Some(install),
+        Event::Installed(install) => Some(install.get()),
         Event::Left(_) => None,
         Event::Crashed(_) => None,
     }

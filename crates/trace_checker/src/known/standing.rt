@@ -51,7 +51,7 @@ pub fn after(standing: Standing, event: &Event) -> Standing
         },
         Event::Installed(install) => Standing {
             blocked: false,
-            view: Some(install.view.id()),
+            view: Some(install.get().view.id()),
             ..standing
         },
         Event::Left(_) => Standing {
@@ -74,7 +74,7 @@ pub fn member(event: &Event) -> Address
         Event::Sent(sending) => sending.member,
         Event::Delivered(delivery) => delivery.member,
         Event::Blocked(member) => *member,
-        Event::Installed(install) => install.member,
+        Event::Installed(install) => install.get().member,
         Event::Left(member) => *member,
         Event::Crashed(member) => *member,
     }
