@@ -7,7 +7,6 @@ ghost use Rattle.step_output.specs.Outputs.{Grows, packet_in, spelled, is_for};
 use crate::{Outgoing, Output, OwnedName};
 use address::Address;
 use std::alloc::{AllocError, Global};
-use std::marker::Model;
 use trace_props::{Bytes, Event};
 use wire::encode;
 use wire_values::{Body, Packet};
@@ -18,14 +17,6 @@ pub struct Identity {
     pub alloc: Global,
     pub address: Address,
     pub group: OwnedName,
-}
-
-impl Model for Identity {
-    ghost use Rattle.step_output.specs.Steps.{Who, who};
-
-    ghost Value = { Who };
-
-    ghost view = { λ i. who i.address i.group };
 }
 
 impl Identity {
