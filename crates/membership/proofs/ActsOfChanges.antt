@@ -250,7 +250,7 @@ module _ {S : Type 0} (meaning : Meaning S) (group : List ℕ) (me : Address) wh
     acted = one-acted meaning came (core_of me l) (Puts a.to (bodies.Install a.install)) (a.current, ap (λ (p : Address). install_sent_to p (sent_installs_in l.sent_installs.items)) a.same ∙ ap (install_sent_to q) kept ∙ a.first);
   }
 
-  pub installs-again-did : (came : Option Posted) (q : Address) (l : MemberState S) (out later : Output) → IsMemberState (who me group) l → InstallsAgain q l out later → DidThis came (in_step l out) (in_step l later)
+  pub installs-again-did : (came : Option Posted) (q : Address) (l : MemberState S) (out later : Output) → IsMemberState (who me group) l → InstallsAgain q (in_step l out) later → DidThis came (in_step l out) (in_step l later)
   installs-again-did came q l out later kept x =
       let k = kept.sent_installs in
       again-by came q l k.given (find (is_sent_to q) (map (spelled group) (map (install_packet me) k.given))) out later (ap sent_installs_in k.spelled ∙ kept-are group me k.given k.sound)

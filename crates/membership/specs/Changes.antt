@@ -109,9 +109,9 @@ abbrev pub TakesReport : {S : Type 0} → Meaning S → Who → Address → View
 TakesReport meaning who q w r old new = GoesOn meaning who (in_step (record (old.member) { flush = option_map (recording q w r) old.member.flush }) old.out) new
 
 -- it puts out again the INSTALL that it kept for a member of its view, if it kept one
-pub record InstallsAgain {S : Type 0} (q : Address) (l : MemberState S) (out later : Output) : Type 0 where
-  pub packets : later.packets.items ≡ out.packets.items ++ option_to_list (find (is_sent_to q) l.sent_installs.items)
-  pub events : later.events.items ≡ out.events.items
+pub record InstallsAgain {S : Type 0} (q : Address) (old : InStep S) (later : Output) : Type 0 where
+  pub packets : later.packets.items ≡ old.out.packets.items ++ option_to_list (find (is_sent_to q) old.member.sent_installs.items)
+  pub events : later.events.items ≡ old.out.events.items
 
 -- ---- a BEHIND
 

@@ -114,7 +114,7 @@ impl<R: Receiver> MemberState<R> {
         out: &mut Output,
     ) -> Result<(), AllocError>
         requires member_state { IsMemberState (who_of who.now) self.now }
-        ensures again { OnOk result (InstallsAgain member.now self.now out.old out.new) }
+        ensures again { OnOk result (InstallsAgain member.now (in_step self.now out.old) out.new) }
         ensures ignored { find (is_sent_to member.now) self.now.sent_installs.items ≡ None → (result ≡ Ok tt) × (out.new ≡ out.old) }
     {
         let Some(packet) = install_sent_to(self.sent_installs.as_slice(), member) else {
