@@ -13,6 +13,8 @@ use Rattle.traffic.specs.declared.view_state.ViewState.TheVariants as kinds
 use Rattle.traffic.specs.Followers.{collected_to}
 use Rattle.traffic.specs.Takes.{TakesOrder, TakesStatus}
 use Rattle.member_messages.specs.Ordered.{HasNoneNext, IsOrderly}
+use Rattle.step_output.specs.Steps.{who}
+use Rattle.traffic.specs.InViews.{in_view}
 
 either : (b : Bool) (o : Option Entry) → o ≡ None → cond b o None ≡ None
 either true o e = e
@@ -33,13 +35,13 @@ other-orderly me m n orderly same none = (subst (λ (v : View). same_address me 
 -- ---- an ORDER
 
 module _ {S : Type 0} (meaning : Meaning S) (me : Address) (group : List ℕ) where
-  pub order-orderly : (g : ℕ) (e : Entry) (m : Follower) (s : S) (out : Output) (n : Follower) (t : S) (later : Output) → TakesOrder meaning me group g e m s out n t later → n.view ≡ m.view
+  pub order-orderly : (g : ℕ) (e : Entry) (m : Follower) (s : S) (out : Output) (n : Follower) (t : S) (later : Output) → TakesOrder meaning (who me group) g e (in_view m s out) (in_view n t later) → n.view ≡ m.view
       → IsOrderly me (kinds.Follower m) → IsOrderly me (kinds.Follower n)
   order-orderly g e m s out n t later x same orderly = other-orderly me m n orderly same x.ready
 
 -- ---- a STATUS
 
-pub status-orderly : (me : Address) (group : List ℕ) (a : Progress) (m : Follower) (out : Output) (n : Follower) (later : Output) → TakesStatus me group a m out n later
+pub status-orderly : (me : Address) (group : List ℕ) (a : Progress) (m : Follower) (out : Output) (n : Follower) (later : Output) → TakesStatus (who me group) a m out n later
     → IsOrderly me (kinds.Follower m) → IsOrderly me (kinds.Follower n)
 status-orderly me group a m out n later x orderly =
     subst (λ (o : Follower). IsOrderly me (kinds.Follower o)) (sym x.0) (other-orderly me m (collected_to a.stable m) orderly refl (next-collected a.stable m.window orderly.1))

@@ -21,12 +21,15 @@ use Rattle.membership.specs.declared.member_state.MemberState.{MemberState}
 use Rattle.membership.specs.MemberStates.{IsMemberState, IsFlushing, core_of, view_in, sent_installs_in}
 use Rattle.membership.specs.Doing.{Did}
 use Rattle.member_messages.specs.Ordered.{IsOrderly}
+use Rattle.step_output.specs.Steps.{who}
+use Rattle.traffic.specs.InViews.{in_view}
+use Rattle.membership.specs.InSteps.{in_step}
 
 no-flush-by : {S : Type 0} (me : Address) (l : MemberState S) (f : Option FlushModel) → l.flush ≡ f → ForSome l.flush (IsFlushing me l) → l.promise.is_installed ≡ true → f ≡ None
 no-flush-by me l None here flushing promised = refl
 no-flush-by me l (Some f) here flushing promised = let own : IsFlushing me l f = flushing f here in absurd (false≢true (sym own.waiting ∙ promised))
 
-no-flush : {S : Type 0} (group : List ℕ) (me : Address) (l : MemberState S) → IsMemberState group me l → l.promise.is_installed ≡ true → l.flush ≡ None
+no-flush : {S : Type 0} (group : List ℕ) (me : Address) (l : MemberState S) → IsMemberState (who me group) l → l.promise.is_installed ≡ true → l.flush ≡ None
 no-flush group me l i promised = no-flush-by me l l.flush refl i.flushing promised
 
 pub there-is : (o : Option ViewState) (f t : ViewState) → o ≡ Some f → f ≡ t → o ≡ Some t
@@ -43,15 +46,15 @@ abbrev pub going_on : {S : Type 0} → MemberState S → ViewState → S → Mem
 going_on l t s = record l { view_state = Some t; receiver = s }
 
 -- it is open in its view
-pub core-open : {S : Type 0} (group : List ℕ) (me : Address) (l : MemberState S) (t : ViewState) → IsMemberState group me l → l.promise.is_installed ≡ true → l.view_state ≡ Some t
+pub core-open : {S : Type 0} (group : List ℕ) (me : Address) (l : MemberState S) (t : ViewState) → IsMemberState (who me group) l → l.promise.is_installed ≡ true → l.view_state ≡ Some t
     → core_of me l ≡ open_core me (view_of t) (sent_installs_in l.sent_installs.items) (view_core_of t) l.receiver
 core-open group me l t i promised there =
     let flush : l.flush ≡ None = no-flush group me l i promised in
     let promise : l.promise.proposal ≡ Some (view_of t) = sym (i.installed promised) ∙ ap view_in there in
     rw (there, promised, promise, flush) refl
 
-pub member_state-kept : {S : Type 0} (group : List ℕ) (me : Address) (l : MemberState S) (t u : ViewState) (s : S) → IsMemberState group me l → l.promise.is_installed ≡ true → l.view_state ≡ Some t → view_of u ≡ view_of t
-    → IsMemberState group me (going_on l u s)
+pub member_state-kept : {S : Type 0} (group : List ℕ) (me : Address) (l : MemberState S) (t u : ViewState) (s : S) → IsMemberState (who me group) l → l.promise.is_installed ≡ true → l.view_state ≡ Some t → view_of u ≡ view_of t
+    → IsMemberState (who me group) (going_on l u s)
 member_state-kept group me l t u s i promised there same =
     let inside : view_in l.view_state ≡ Some (view_of u) = ap view_in there ∙ ap (λ (v : View). Some v) (sym same) in
     record {
@@ -72,11 +75,11 @@ member_state-kept group me l t u s i promised there same =
     }
 
 module _ {S : Type 0} (meaning : Meaning S) where
-  pub nothing-did : (came : Option Posted) (group : List ℕ) (me : Address) (l : MemberState S) (out : Output) → Did meaning came group me l l out out
+  pub nothing-did : (came : Option Posted) (group : List ℕ) (me : Address) (l : MemberState S) (out : Output) → Did meaning came (who me group) (in_step l out) (in_step l out)
   nothing-did came group me l out = record { posted = _; happened = _; grows = grows-nothing group out; acted = nothing-acted meaning came (Some (core_of me l)) }
 
-  pub goes-did : (came : Option Posted) (group : List ℕ) (me : Address) (l : MemberState S) (t u : ViewState) (s : S) (out later : Output) → IsMemberState group me l → l.promise.is_installed ≡ true → l.view_state ≡ Some t
-      → view_of u ≡ view_of t → Goes meaning came me group (view_of t) (view_core_of t) l.receiver out (view_core_of u) s later → Did meaning came group me l (going_on l u s) out later
+  pub goes-did : (came : Option Posted) (group : List ℕ) (me : Address) (l : MemberState S) (t u : ViewState) (s : S) (out later : Output) → IsMemberState (who me group) l → l.promise.is_installed ≡ true → l.view_state ≡ Some t
+      → view_of u ≡ view_of t → Goes meaning came (who me group) (view_of t) (in_view (view_core_of t) l.receiver out) (in_view (view_core_of u) s later) → Did meaning came (who me group) (in_step l out) (in_step (going_on l u s) later)
   goes-did came group me l t u s out later i promised there same x = record {
     posted = x.posted;
     happened = x.happened;
@@ -89,8 +92,8 @@ module _ {S : Type 0} (meaning : Meaning S) where
   }
 
   -- nothing of it but what it puts out
-  pub goes-same : (came : Option Posted) (group : List ℕ) (me : Address) (l : MemberState S) (t : ViewState) (out later : Output) → IsMemberState group me l → l.promise.is_installed ≡ true → l.view_state ≡ Some t
-      → Goes meaning came me group (view_of t) (view_core_of t) l.receiver out (view_core_of t) l.receiver later → Did meaning came group me l l out later
+  pub goes-same : (came : Option Posted) (group : List ℕ) (me : Address) (l : MemberState S) (t : ViewState) (out later : Output) → IsMemberState (who me group) l → l.promise.is_installed ≡ true → l.view_state ≡ Some t
+      → Goes meaning came (who me group) (view_of t) (in_view (view_core_of t) l.receiver out) (in_view (view_core_of t) l.receiver later) → Did meaning came (who me group) (in_step l out) (in_step l later)
   goes-same came group me l t out later i promised there x =
-      subst (λ (o : Option ViewState). Did meaning came group me l (record l { view_state = o }) out later) (sym there)
+      subst (λ (o : Option ViewState). Did meaning came (who me group) (in_step l out) (in_step (record l { view_state = o }) later)) (sym there)
       (goes-did came group me l t t l.receiver out later i promised there refl x)

@@ -30,6 +30,9 @@ use Rattle.member_messages.specs.Refusals.{send_refusal}
 use Rattle.member_messages.specs.Messages.{Sends, SendsNext, SendsFirst, DeliversNext, DeliversAtOnce, has_room}
 use Rattle.member_messages.proofs.FactOfOpen.{going_on}
 use Rattle.step_output.proofs.FactOfCalm.{deliveries-quiet}
+use Rattle.step_output.specs.Steps.{who}
+use Rattle.traffic.specs.InViews.{in_view}
+use Rattle.membership.specs.InSteps.{in_step}
 
 -- ---- nothing refuses it
 
@@ -55,7 +58,7 @@ promised-in me l payload t free there =
 -- ---- what happens
 
 module _ {S : Type 0} (meaning : Meaning S) where
-  pub sends-next : (p : Address) (group : List ℕ) (x : List ℕ) (m : Coordinator) (s : S) (out : Output) (n : Coordinator) (t : S) (later : Output) → SendsOrdering meaning p group x m s out n t later
+  pub sends-next : (p : Address) (group : List ℕ) (x : List ℕ) (m : Coordinator) (s : S) (out : Output) (n : Coordinator) (t : S) (later : Output) → SendsOrdering meaning (who p group) x (in_view m s out) (in_view n t later)
       → IsFewMore out later → SendsNext p m.view.id m.forwards.sent x out later
   sends-next p group x m s out n t later sent few =
       let e = Sent (sending p m.view.id (m.forwards.sent + 1) x) in
@@ -83,20 +86,20 @@ room-fact p m i room =
 
 module _ {S : Type 0} (meaning : Meaning S) where
   pub sends-first : (p : Address) (group x y : List ℕ) (l : MemberState S) (m : Coordinator) (out : Output) (n : Coordinator) (t : S) (later : Output) → y ≡ x → l.view_state ≡ Some (kinds.Coordinator m)
-      → SendsOrdering meaning p group y m l.receiver out n t later → IsFewMore out later → SendsFirst p x l out later
+      → SendsOrdering meaning (who p group) y (in_view m l.receiver out) (in_view n t later) → IsFewMore out later → SendsFirst p x (in_step l out) later
   sends-first p group x y l m out n t later same there sent few =
       let next = subst (λ (z : List ℕ). SendsNext p m.view.id m.forwards.sent z out later) same (sends-next meaning p group y m l.receiver out n t later sent few) in
       rw there next
 
   pub sends-other : (p : Address) (group x y : List ℕ) (l : MemberState S) (m : Follower) (out : Output) (n : Follower) (later : Output) → y ≡ x → l.view_state ≡ Some (kinds.Follower m) → n ≡ follower_pushing y m
-      → SendsForward p group y m out later → Sends meaning group p x l (going_on l (kinds.Follower n) l.receiver) out later
+      → SendsForward (who p group) y m out later → Sends meaning (who p group) x (in_step l out) (in_step (going_on l (kinds.Follower n) l.receiver) later)
   sends-other p group x y l m out n later same there now sent =
-      let does : (n ≡ follower_pushing x m) × (l.receiver ≡ l.receiver) × SendsForward p group x m out later =
-      subst (λ (z : List ℕ). (n ≡ follower_pushing z m) × (l.receiver ≡ l.receiver) × SendsForward p group z m out later) same (now, refl, sent) in
+      let does : (n ≡ follower_pushing x m) × (l.receiver ≡ l.receiver) × SendsForward (who p group) x m out later =
+      subst (λ (z : List ℕ). (n ≡ follower_pushing z m) × (l.receiver ≡ l.receiver) × SendsForward (who p group) z m out later) same (now, refl, sent) in
       (refl, rw there does)
 
 pub delivers-first : {S : Type 0} (p : Address) (x y : List ℕ) (l : MemberState S) (m : Coordinator) (out later : Output) → y ≡ x → l.view_state ≡ Some (kinds.Coordinator m) → IsCoordinator p m
-    → (may_order m.window.stable m.orderer ≡ true → DeliversOwnAtOnce p y m out later) → IsFewMore out later → has_room l.view_state ≡ true → DeliversAtOnce p x l out later
+    → (may_order m.window.stable m.orderer ≡ true → DeliversOwnAtOnce p y m out later) → IsFewMore out later → has_room l.view_state ≡ true → DeliversAtOnce p x (in_step l out) later
 delivers-first p x y l m out later same there i prompt few room =
     let here = subst (λ (o : Option ViewState). has_room o ≡ true) there room in
     let next = subst (λ (z : List ℕ). DeliversNext p m.view.id m.forwards.sent z out later) same (delivers-next p y m out later (prompt (room-fact p m i here)) few) in

@@ -12,6 +12,8 @@ ghost use Rattle.member_messages.specs.Ordered.{IsOrdered};
 ghost use Rattle.member_messages.specs.Heard.{takes_forward, takes_ack, takes_nak};
 ghost use Rattle.member_messages.specs.Messages.{OnForward, OnAck, OnNak};
 ghost use Rattle.membership.specs.Changes.{StaysAs};
+ghost use Rattle.step_output.specs.Steps.{who_of};
+ghost use Rattle.membership.specs.InSteps.{in_step};
 
 use crate::hearing::{takes_ack, takes_forward};
 use address::{Address, ViewId};
@@ -33,15 +35,15 @@ pub fn on_forward<R: Receiver>(
     payload: &Payload<'_>,
     out: &mut Output,
 ) -> Result<(), AllocError>
-    requires member_state { IsMemberState who.now.group who.now.address member_state.old }
+    requires member_state { IsMemberState (who_of who.now) member_state.old }
     requires ordered { IsOrdered who.now.address member_state.old }
     requires other { same_address source.now who.now.address ≡ false }
-    ensures member_state { OnOk result (IsMemberState who.now.group who.now.address member_state.new) }
+    ensures member_state { OnOk result (IsMemberState (who_of who.now) member_state.new) }
     ensures ordered { OnOk result (IsOrdered who.now.address member_state.new) }
-    ensures does { OnOk result (OnForward R.meaning who.now.group who.now.address source.now view number payload.now member_state.old member_state.new out.old out.new) }
-    ensures did { OnOk result (Did R.meaning (Some (packet source.now (bodies.Forward view number payload.now) who.now.address)) who.now.group who.now.address member_state.old member_state.new out.old out.new) }
+    ensures does { OnOk result (OnForward R.meaning (who_of who.now) source.now view number payload.now (in_step member_state.old out.old) (in_step member_state.new out.new)) }
+    ensures did { OnOk result (Did R.meaning (Some (packet source.now (bodies.Forward view number payload.now) who.now.address)) (who_of who.now) (in_step member_state.old out.old) (in_step member_state.new out.new)) }
     ensures calm { OnOk result (IsCalm WINDOW out.old out.new) }
-    ensures ignored { takes_forward source.now view member_state.old ≡ false → (result ≡ Ok tt) × StaysAs member_state.old member_state.new out.old out.new }
+    ensures ignored { takes_forward source.now view member_state.old ≡ false → (result ≡ Ok tt) × StaysAs (in_step member_state.old out.old) (in_step member_state.new out.new) }
 {
     if !takes_forward(member_state, source, view) {
         return Ok(());
@@ -72,15 +74,15 @@ pub fn on_ack<R: Receiver>(
     delivered: Count,
     out: &mut Output,
 ) -> Result<(), AllocError>
-    requires member_state { IsMemberState who.now.group who.now.address member_state.old }
+    requires member_state { IsMemberState (who_of who.now) member_state.old }
     requires ordered { IsOrdered who.now.address member_state.old }
     requires other { same_address source.now who.now.address ≡ false }
-    ensures member_state { OnOk result (IsMemberState who.now.group who.now.address member_state.new) }
+    ensures member_state { OnOk result (IsMemberState (who_of who.now) member_state.new) }
     ensures ordered { OnOk result (IsOrdered who.now.address member_state.new) }
-    ensures does { OnOk result (OnAck R.meaning who.now.group who.now.address source.now view delivered member_state.old member_state.new out.old out.new) }
-    ensures did { OnOk result (Did R.meaning (Some (packet source.now (bodies.Ack view delivered) who.now.address)) who.now.group who.now.address member_state.old member_state.new out.old out.new) }
+    ensures does { OnOk result (OnAck R.meaning (who_of who.now) source.now view delivered (in_step member_state.old out.old) (in_step member_state.new out.new)) }
+    ensures did { OnOk result (Did R.meaning (Some (packet source.now (bodies.Ack view delivered) who.now.address)) (who_of who.now) (in_step member_state.old out.old) (in_step member_state.new out.new)) }
     ensures calm { OnOk result (IsCalm WINDOW out.old out.new) }
-    ensures ignored { takes_ack source.now view delivered member_state.old ≡ false → (result ≡ Ok tt) × StaysAs member_state.old member_state.new out.old out.new }
+    ensures ignored { takes_ack source.now view delivered member_state.old ≡ false → (result ≡ Ok tt) × StaysAs (in_step member_state.old out.old) (in_step member_state.new out.new) }
 {
     let count = delivered.get();
     if !takes_ack(member_state, source, view, count) {
@@ -105,15 +107,15 @@ pub fn on_nak<R: Receiver>(
     missing: Missing,
     out: &mut Output,
 ) -> Result<(), AllocError>
-    requires member_state { IsMemberState who.now.group who.now.address member_state.old }
+    requires member_state { IsMemberState (who_of who.now) member_state.old }
     requires ordered { IsOrdered who.now.address member_state.old }
     requires other { same_address source.now who.now.address ≡ false }
-    ensures member_state { OnOk result (IsMemberState who.now.group who.now.address member_state.new) }
+    ensures member_state { OnOk result (IsMemberState (who_of who.now) member_state.new) }
     ensures ordered { OnOk result (IsOrdered who.now.address member_state.new) }
-    ensures does { OnOk result (OnNak who.now.group who.now.address source.now view missing member_state.old member_state.new out.old out.new) }
-    ensures did { OnOk result (Did R.meaning (Some (packet source.now (bodies.Nak view missing) who.now.address)) who.now.group who.now.address member_state.old member_state.new out.old out.new) }
+    ensures does { OnOk result (OnNak (who_of who.now) source.now view missing (in_step member_state.old out.old) (in_step member_state.new out.new)) }
+    ensures did { OnOk result (Did R.meaning (Some (packet source.now (bodies.Nak view missing) who.now.address)) (who_of who.now) (in_step member_state.old out.old) (in_step member_state.new out.new)) }
     ensures calm { OnOk result (IsCalm WINDOW out.old out.new) }
-    ensures ignored { takes_nak source.now view member_state.old ≡ false → (result ≡ Ok tt) × StaysAs member_state.old member_state.new out.old out.new }
+    ensures ignored { takes_nak source.now view member_state.old ≡ false → (result ≡ Ok tt) × StaysAs (in_step member_state.old out.old) (in_step member_state.new out.new) }
 {
     if !takes_forward(member_state, source, view) {
         return Ok(());

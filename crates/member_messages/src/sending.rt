@@ -7,6 +7,8 @@ ghost use Rattle.membership.specs.Doing.{Did};
 ghost use Rattle.member_messages.specs.Ordered.{IsOrdered};
 ghost use Rattle.member_messages.specs.Refusals.{send_refusal};
 ghost use Rattle.member_messages.specs.Messages.{Sends, SendsFirst, DeliversAtOnce, has_room};
+ghost use Rattle.step_output.specs.Steps.{who_of};
+ghost use Rattle.membership.specs.InSteps.{in_step};
 
 use membership::MemberState;
 use state_transfer::Receiver;
@@ -23,15 +25,15 @@ pub fn send<R: Receiver>(
     payload: &[u8],
     out: &mut Output,
 ) -> Result<(), AllocError>
-    requires member_state { IsMemberState who.now.group who.now.address member_state.old }
+    requires member_state { IsMemberState (who_of who.now) member_state.old }
     requires ordered { IsOrdered who.now.address member_state.old }
     requires free { send_refusal (core_of who.now.address member_state.old) payload.now ≡ None }
-    ensures member_state { OnOk result (IsMemberState who.now.group who.now.address member_state.new) }
+    ensures member_state { OnOk result (IsMemberState (who_of who.now) member_state.new) }
     ensures ordered { OnOk result (IsOrdered who.now.address member_state.new) }
-    ensures does { OnOk result (Sends R.meaning who.now.group who.now.address payload.now member_state.old member_state.new out.old out.new) }
-    ensures did { OnOk result ((came : Option Posted) → Did R.meaning came who.now.group who.now.address member_state.old member_state.new out.old out.new) }
-    ensures calm { OnOk result (SendsFirst who.now.address payload.now member_state.old out.old out.new) }
-    ensures prompt { OnOk result (has_room member_state.old.view_state ≡ true → DeliversAtOnce who.now.address payload.now member_state.old out.old out.new) }
+    ensures does { OnOk result (Sends R.meaning (who_of who.now) payload.now (in_step member_state.old out.old) (in_step member_state.new out.new)) }
+    ensures did { OnOk result ((came : Option Posted) → Did R.meaning came (who_of who.now) (in_step member_state.old out.old) (in_step member_state.new out.new)) }
+    ensures calm { OnOk result (SendsFirst who.now.address payload.now (in_step member_state.old out.old) out.new) }
+    ensures prompt { OnOk result (has_room member_state.old.view_state ≡ true → DeliversAtOnce who.now.address payload.now (in_step member_state.old out.old) out.new) }
 {
     let Some(payload) = Payload::new(payload) else {
         unreachable!();

@@ -12,6 +12,8 @@ ghost use Rattle.member_messages.specs.Ordered.{IsOrdered};
 ghost use Rattle.member_messages.specs.Heard.{takes_order, takes_status};
 ghost use Rattle.member_messages.specs.Messages.{OnOrder, OnStatus};
 ghost use Rattle.membership.specs.Changes.{StaysAs};
+ghost use Rattle.step_output.specs.Steps.{who_of};
+ghost use Rattle.membership.specs.InSteps.{in_step};
 
 use crate::hearing::{takes_order, takes_status};
 use address::{Address, ViewId};
@@ -33,15 +35,15 @@ pub fn on_order<R: Receiver>(
     entry: &Entry<'_>,
     out: &mut Output,
 ) -> Result<(), AllocError>
-    requires member_state { IsMemberState who.now.group who.now.address member_state.old }
+    requires member_state { IsMemberState (who_of who.now) member_state.old }
     requires ordered { IsOrdered who.now.address member_state.old }
     requires other { same_address source.now who.now.address ≡ false }
-    ensures member_state { OnOk result (IsMemberState who.now.group who.now.address member_state.new) }
+    ensures member_state { OnOk result (IsMemberState (who_of who.now) member_state.new) }
     ensures ordered { OnOk result (IsOrdered who.now.address member_state.new) }
-    ensures does { OnOk result (OnOrder R.meaning who.now.group who.now.address source.now view place entry.now member_state.old member_state.new out.old out.new) }
-    ensures did { OnOk result (Did R.meaning (Some (packet source.now (bodies.Order view place entry.now) who.now.address)) who.now.group who.now.address member_state.old member_state.new out.old out.new) }
+    ensures does { OnOk result (OnOrder R.meaning (who_of who.now) source.now view place entry.now (in_step member_state.old out.old) (in_step member_state.new out.new)) }
+    ensures did { OnOk result (Did R.meaning (Some (packet source.now (bodies.Order view place entry.now) who.now.address)) (who_of who.now) (in_step member_state.old out.old) (in_step member_state.new out.new)) }
     ensures calm { OnOk result (IsCalm WINDOW out.old out.new) }
-    ensures ignored { takes_order source.now view place member_state.old ≡ false → (result ≡ Ok tt) × StaysAs member_state.old member_state.new out.old out.new }
+    ensures ignored { takes_order source.now view place member_state.old ≡ false → (result ≡ Ok tt) × StaysAs (in_step member_state.old out.old) (in_step member_state.new out.new) }
 {
     if !takes_order(member_state, source, view, place) {
         return Ok(());
@@ -65,15 +67,15 @@ pub fn on_status<R: Receiver>(
     progress: Progress,
     out: &mut Output,
 ) -> Result<(), AllocError>
-    requires member_state { IsMemberState who.now.group who.now.address member_state.old }
+    requires member_state { IsMemberState (who_of who.now) member_state.old }
     requires ordered { IsOrdered who.now.address member_state.old }
     requires other { same_address source.now who.now.address ≡ false }
-    ensures member_state { OnOk result (IsMemberState who.now.group who.now.address member_state.new) }
+    ensures member_state { OnOk result (IsMemberState (who_of who.now) member_state.new) }
     ensures ordered { OnOk result (IsOrdered who.now.address member_state.new) }
-    ensures does { OnOk result (OnStatus who.now.group who.now.address source.now view progress member_state.old member_state.new out.old out.new) }
-    ensures did { OnOk result (Did R.meaning (Some (packet source.now (bodies.Status view progress) who.now.address)) who.now.group who.now.address member_state.old member_state.new out.old out.new) }
+    ensures does { OnOk result (OnStatus (who_of who.now) source.now view progress (in_step member_state.old out.old) (in_step member_state.new out.new)) }
+    ensures did { OnOk result (Did R.meaning (Some (packet source.now (bodies.Status view progress) who.now.address)) (who_of who.now) (in_step member_state.old out.old) (in_step member_state.new out.new)) }
     ensures calm { OnOk result (IsCalm WINDOW out.old out.new) }
-    ensures ignored { takes_status source.now view progress member_state.old ≡ false → (result ≡ Ok tt) × StaysAs member_state.old member_state.new out.old out.new }
+    ensures ignored { takes_status source.now view progress member_state.old ≡ false → (result ≡ Ok tt) × StaysAs (in_step member_state.old out.old) (in_step member_state.new out.new) }
 {
     if !takes_status(member_state, source, view, progress) {
         return Ok(());

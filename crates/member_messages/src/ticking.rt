@@ -7,6 +7,8 @@ ghost use Rattle.membership.specs.MemberStates.{IsMemberState};
 ghost use Rattle.membership.specs.Doing.{Did};
 ghost use Rattle.member_messages.specs.Ordered.{IsOrdered};
 ghost use Rattle.member_messages.specs.Messages.{TicksInView};
+ghost use Rattle.step_output.specs.Steps.{who_of};
+ghost use Rattle.membership.specs.InSteps.{in_step};
 
 use membership::MemberState;
 use state_transfer::Receiver;
@@ -21,11 +23,11 @@ pub fn tick_in_view<R: Receiver>(
     who: &Identity,
     out: &mut Output,
 ) -> Result<(), AllocError>
-    requires member_state { IsMemberState who.now.group who.now.address member_state.now }
+    requires member_state { IsMemberState (who_of who.now) member_state.now }
     requires ordered { IsOrdered who.now.address member_state.now }
     requires installed { member_state.now.promise.is_installed ≡ true }
-    ensures does { OnOk result (TicksInView who.now.group who.now.address member_state.now out.old out.new) }
-    ensures did { OnOk result ((came : Option Posted) → Did R.meaning came who.now.group who.now.address member_state.now member_state.now out.old out.new) }
+    ensures does { OnOk result (TicksInView (who_of who.now) (in_step member_state.now out.old) out.new) }
+    ensures did { OnOk result ((came : Option Posted) → Did R.meaning came (who_of who.now) (in_step member_state.now out.old) (in_step member_state.now out.new)) }
     ensures calm { OnOk result (IsCalm 0 out.old out.new) }
 {
     let Some(view_state) = &member_state.view_state else {

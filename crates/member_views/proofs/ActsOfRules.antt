@@ -36,6 +36,8 @@ use Rattle.member_views.specs.Views.{Creates, Asks, OnJoin, OnRedirect, OnSuspec
 use Rattle.member_views.specs.Doing.{HasLeft}
 use Rattle.member_views.proofs.KeepMemberState.{outdated-member_state, joined-member_state, merged-member_state, outside}
 use Rattle.address.proofs.Plain.{match-bool}
+use Rattle.step_output.specs.Steps.{who}
+use Rattle.membership.specs.InSteps.{InStep, in_step}
 
 -- ---- small things
 
@@ -70,8 +72,8 @@ none-kept view at [] e all = refl
 none-kept view at (p ∷ given) e all = absurd (none-some (at p) (sym e ∙ all.0))
 
 module _ {S : Type 0} (meaning : Meaning S) (group : List ℕ) (me : Address) where
-  abbrev pub DidThis : Option Posted → MemberState S → MemberState S → Output → Output → Type 0
-  DidThis came old new out later = Did meaning came group me old new out later
+  abbrev pub DidThis : Option Posted → InStep S → InStep S → Type 0
+  DidThis came old new = Did meaning came (who me group) old new
 
   abbrev PutsOut : Option Posted → MemberState S → List Posted → Type 0
   PutsOut came l ps = Acted meaning came (Some (core_of me l)) ps [] (Some (core_of me l))
@@ -88,28 +90,28 @@ module _ {S : Type 0} (meaning : Meaning S) (group : List ℕ) (me : Address) wh
       then-acted meaning came (Some (core_of me l)) (Some (core_of me l)) (Some (core_of me l)) (packet me body q ∷ []) (map (packet me body) list) [] []
       (put-acted came l q body says.0) (puts-all-acted came l body list says.1)
 
-  puts-did : (came : Option Posted) (old new : MemberState S) (ps : List Posted) (out later : Output) → new ≡ old → Grows group out later ps [] → PutsOut came old ps → DidThis came old new out later
+  puts-did : (came : Option Posted) (old new : MemberState S) (ps : List Posted) (out later : Output) → new ≡ old → Grows group out later ps [] → PutsOut came old ps → DidThis came (in_step old out) (in_step new later)
   puts-did came old new ps out later is grows acted =
-      subst (λ (z : MemberState S). DidThis came old z out later) (sym is) (record { posted = ps; happened = []; grows = grows; acted = acted })
+      subst (λ (z : MemberState S). DidThis came (in_step old out) (in_step z later)) (sym is) (record { posted = ps; happened = []; grows = grows; acted = acted })
 
-  stays : (came : Option Posted) (old new : MemberState S) (out later : Output) → StaysAs old new out later → DidThis came old new out later
+  stays : (came : Option Posted) (old new : MemberState S) (out later : Output) → StaysAs (in_step old out) (in_step new later) → DidThis came (in_step old out) (in_step new later)
   stays came old new out later x = stays-did meaning came group me old new out later x.0 x.1
 
   -- ---- it makes a group
 
   -- outside of a view it has no flush, and kept nothing
-  unflushed : (flush : Option FlushModel) (l : MemberState S) → l.flush ≡ flush → l.view_state ≡ None → IsMemberState group me l → flush ≡ None
+  unflushed : (flush : Option FlushModel) (l : MemberState S) → l.flush ≡ flush → l.view_state ≡ None → IsMemberState (who me group) l → flush ≡ None
   unflushed None l e none kept = refl
   unflushed (Some f) l e none kept = let n : false ≡ true = sym (ap is_some none) ∙ (kept.flushing f e).inside in absurd (cc)
 
-  unkept : (l : MemberState S) → l.view_state ≡ None → IsMemberState group me l → sent_installs_in l.sent_installs.items ≡ []
+  unkept : (l : MemberState S) → l.view_state ≡ None → IsMemberState (who me group) l → sent_installs_in l.sent_installs.items ≡ []
   unkept l none kept =
       let k = kept.sent_installs in
       let given : k.given ≡ [] = none-kept (view_in l.view_state) (λ (p : Address × wire.Install). p.1.view) k.given (ap view_in none) k.current in
       ap sent_installs_in (k.spelled ∙ ap (λ g. map (spelled group) (map (install_packet me) g)) given)
 
   created-at : (came : Option Posted) (old new : MemberState S) (out later : Output) → is_some old.contact ≡ false → old.promise.proposal ≡ None → sent_installs_in old.sent_installs.items ≡ []
-      → Creates group me (record old { view_state = None; flush = None }) new out later → DidThis came (record old { view_state = None; flush = None }) new out later
+      → Creates (who me group) (in_step (record old { view_state = None; flush = None }) out) (in_step new later) → DidThis came (in_step (record old { view_state = None; flush = None }) out) (in_step new later)
   created-at came old new out later off none kept z =
       let c = core_of me (record old { view_state = None; flush = None }) in
       let w = lone_view me in
@@ -126,19 +128,19 @@ module _ {S : Type 0} (meaning : Meaning S) (group : List ℕ) (me : Address) wh
             (one-acted meaning came c MakesFirst (record { unconnected = off; unpromised = none; outside = refl }));
       }
 
-  pub create-did : (came : Option Posted) (old new : MemberState S) (out later : Output) → IsMemberState group me old → is_connected old ≡ false → Creates group me old new out later → DidThis came old new out later
+  pub create-did : (came : Option Posted) (old new : MemberState S) (out later : Output) → IsMemberState (who me group) old → is_connected old ≡ false → Creates (who me group) (in_step old out) (in_step new later) → DidThis came (in_step old out) (in_step new later)
   create-did came old new out later kept off z =
       let none = outside group me old off in
       let flush = unflushed old.flush old refl none kept in
       let same : old ≡ record old { view_state = None; flush = None } = λ j. record old { view_state = none j; flush = flush j } in
-      subst (λ (l : MemberState S). DidThis came l new out later) (sym same)
+      subst (λ (l : MemberState S). DidThis came (in_step l out) (in_step new later)) (sym same)
       (created-at came old new out later (subst (λ (l : MemberState S). is_connected l ≡ false) same off) (kept.unconnected off) (unkept old none kept)
-      (subst (λ (l : MemberState S). Creates group me l new out later) same z))
+      (subst (λ (l : MemberState S). Creates (who me group) (in_step l out) (in_step new later)) same z))
 
   -- ---- it asks to be let in
 
-  asked-at : (came : Option Posted) (contact : Address) (old new : MemberState S) (out later : Output) → Asks group me contact (record old { view_state = None }) new out later
-      → DidThis came (record old { view_state = None }) new out later
+  asked-at : (came : Option Posted) (contact : Address) (old new : MemberState S) (out later : Output) → Asks (who me group) contact (in_step (record old { view_state = None }) out) (in_step new later)
+      → DidThis came (in_step (record old { view_state = None }) out) (in_step new later)
   asked-at came contact old new out later z =
       let c = core_of me (record old { view_state = None }) in
       let d : Core S = record c { connected = true } in
@@ -152,11 +154,11 @@ module _ {S : Type 0} (meaning : Meaning S) (group : List ℕ) (me : Address) wh
             (one-acted meaning came c Joins refl) (one-acted meaning came d (Puts contact bodies.Join) tt));
       }
 
-  pub ask-did : (came : Option Posted) (contact : Address) (old new : MemberState S) (out later : Output) → IsMemberState group me old → old.view_state ≡ None → Asks group me contact old new out later
-      → DidThis came old new out later
+  pub ask-did : (came : Option Posted) (contact : Address) (old new : MemberState S) (out later : Output) → IsMemberState (who me group) old → old.view_state ≡ None → Asks (who me group) contact (in_step old out) (in_step new later)
+      → DidThis came (in_step old out) (in_step new later)
   ask-did came contact old new out later kept none z =
       let same : old ≡ record old { view_state = None } = λ j. record old { view_state = none j } in
-      subst (λ (l : MemberState S). DidThis came l new out later) (sym same) (asked-at came contact old new out later (subst (λ (l : MemberState S). Asks group me contact l new out later) same z))
+      subst (λ (l : MemberState S). DidThis came (in_step l out) (in_step new later)) (sym same) (asked-at came contact old new out later (subst (λ (l : MemberState S). Asks (who me group) contact (in_step l out) (in_step new later)) same z))
 
   -- ---- it announces its view, and says whom to ask
 
@@ -164,121 +166,121 @@ module _ {S : Type 0} (meaning : Meaning S) (group : List ℕ) (me : Address) wh
   redirect-acted came None q l = nothing-acted meaning came (Some (core_of me l))
   redirect-acted came (Some p) q l = put-acted came l q (bodies.Redirect p) tt
 
-  redirects : (came : Option Posted) (q : Address) (old new : MemberState S) (out later : Output) → Redirects group me q old new out later → DidThis came old new out later
+  redirects : (came : Option Posted) (q : Address) (old new : MemberState S) (out later : Output) → Redirects (who me group) q (in_step old out) (in_step new later) → DidThis came (in_step old out) (in_step new later)
   redirects came q old new out later x = puts-did came old new _ out later x.member_state x.grows (redirect-acted came (first_in old) q old)
 
   merge-acted : (came : Option Posted) (o : Option View) (q : Address) (l : MemberState S) → PutsOut came l (option_map_or (λ v. packet me (bodies.Merge v) q ∷ []) o [])
   merge-acted came None q l = nothing-acted meaning came (Some (core_of me l))
   merge-acted came (Some v) q l = put-acted came l q (bodies.Merge v) tt
 
-  pub hint-did : (came : Option Posted) (p : Address) (old new : MemberState S) (out later : Output) → IsMemberState group me old → AnnouncesView group me p old new out later → DidThis came old new out later
+  pub hint-did : (came : Option Posted) (p : Address) (old new : MemberState S) (out later : Output) → IsMemberState (who me group) old → AnnouncesView (who me group) p (in_step old out) (in_step new later) → DidThis came (in_step old out) (in_step new later)
   hint-did came p old new out later kept x = puts-did came old new _ out later x.member_state x.grows (merge-acted came (view_for me p old) p old)
 
   -- ---- JOIN, REDIRECT, MERGE
 
   -- it notes, and what is due then is begun
-  noted-regroups : (came : Option Posted) (old noted new : MemberState S) (out later : Output) → noted ≡ record old { notes = noted.notes } → IsMemberState group me noted
-      → Regroups meaning group me noted new out later → DidThis came old new out later
+  noted-regroups : (came : Option Posted) (old noted new : MemberState S) (out later : Output) → noted ≡ record old { notes = noted.notes } → IsMemberState (who me group) noted
+      → Regroups meaning (who me group) (in_step noted out) (in_step new later) → DidThis came (in_step old out) (in_step new later)
   noted-regroups came old noted new out later is kept x =
       did-then meaning came group me old noted new out out later (noted-did meaning came group me old noted noted.notes out is)
       (changes.regroups-did meaning group me came noted new out later kept x)
 
-  admits : (came : Option Posted) (q : Address) (l new : MemberState S) (out later : Output) → IsMemberState group me l → Admits meaning group me q l new out later → DidThis came l new out later
+  admits : (came : Option Posted) (q : Address) (l new : MemberState S) (out later : Output) → IsMemberState (who me group) l → Admits meaning (who me group) q (in_step l out) (in_step new later) → DidThis came (in_step l out) (in_step new later)
   admits came q l new out later kept x =
-      match-bool (leads_now me l) (Regroups meaning group me (joined me q l) new out later) (Redirects group me q l new out later) x
+      match-bool (leads_now me l) (Regroups meaning (who me group) (in_step (joined me q l) out) (in_step new later)) (Redirects (who me group) q (in_step l out) (in_step new later)) x
       (λ leads r. noted-regroups came l (joined me q l) new out later refl (joined-member_state group me q l (joined me q l) kept refl) r)
       (λ other r. redirects came q l new out later r)
 
-  pub join-did : (came : Option Posted) (q : Address) (old new : MemberState S) (out later : Output) → IsMemberState group me old → OnJoin meaning group me q old new out later → DidThis came old new out later
+  pub join-did : (came : Option Posted) (q : Address) (old new : MemberState S) (out later : Output) → IsMemberState (who me group) old → OnJoin meaning (who me group) q (in_step old out) (in_step new later) → DidThis came (in_step old out) (in_step new later)
   join-did came q old new out later kept x =
-      match-bool (is_some old.view_state) (Admits meaning group me q (outdated me q old) new out later) (StaysAs old new out later) x
+      match-bool (is_some old.view_state) (Admits meaning (who me group) q (in_step (outdated me q old) out) (in_step new later)) (StaysAs (in_step old out) (in_step new later)) x
       (λ in-view a. did-then meaning came group me old (outdated me q old) new out out later (noted-did meaning came group me old (outdated me q old) (outdated me q old).notes out refl)
       (admits came q (outdated me q old) new out later (outdated-member_state group me q old (outdated me q old) kept refl) a))
       (λ none s. stays came old new out later s)
 
-  redirected : (came : Option Posted) (c : Address) (old new : MemberState S) (out later : Output) → IsMemberState group me old
-      → MatchBool (is_some old.view_state) (AnnouncesView group me c old new out later) (Asks group me c old new out later) → DidThis came old new out later
+  redirected : (came : Option Posted) (c : Address) (old new : MemberState S) (out later : Output) → IsMemberState (who me group) old
+      → MatchBool (is_some old.view_state) (AnnouncesView (who me group) c (in_step old out) (in_step new later)) (Asks (who me group) c (in_step old out) (in_step new later)) → DidThis came (in_step old out) (in_step new later)
   redirected came c old new out later kept x =
-      match-bool (is_some old.view_state) (AnnouncesView group me c old new out later) (Asks group me c old new out later) x
+      match-bool (is_some old.view_state) (AnnouncesView (who me group) c (in_step old out) (in_step new later)) (Asks (who me group) c (in_step old out) (in_step new later)) x
       (λ in-view t. hint-did came c old new out later kept t)
       (λ none a. ask-did came c old new out later kept (none-by old.view_state none) a)
 
-  pub redirect-did : (came : Option Posted) (c : Address) (old new : MemberState S) (out later : Output) → IsMemberState group me old → OnRedirect group me c old new out later → DidThis came old new out later
+  pub redirect-did : (came : Option Posted) (c : Address) (old new : MemberState S) (out later : Output) → IsMemberState (who me group) old → OnRedirect (who me group) c (in_step old out) (in_step new later) → DidThis came (in_step old out) (in_step new later)
   redirect-did came c old new out later kept x =
-      match-bool (same_address c me) (StaysAs old new out later) (MatchBool (is_some old.view_state) (AnnouncesView group me c old new out later) (Asks group me c old new out later)) x
+      match-bool (same_address c me) (StaysAs (in_step old out) (in_step new later)) (MatchBool (is_some old.view_state) (AnnouncesView (who me group) c (in_step old out) (in_step new later)) (Asks (who me group) c (in_step old out) (in_step new later))) x
       (λ own s. stays came old new out later s) (λ other y. redirected came c old new out later kept y)
 
-  meets : (came : Option Posted) (q : Address) (u : View) (old new : MemberState S) (out later : Output) → IsMemberState group me old → Meets meaning group me q u old new out later → DidThis came old new out later
+  meets : (came : Option Posted) (q : Address) (u : View) (old new : MemberState S) (out later : Output) → IsMemberState (who me group) old → Meets meaning (who me group) q u (in_step old out) (in_step new later) → DidThis came (in_step old out) (in_step new later)
   meets came q u old new out later kept x =
-      match-bool (is_less q me) (AnnouncesView group me q old new out later) (Regroups meaning group me (merged me u old) new out later) x
+      match-bool (is_less q me) (AnnouncesView (who me group) q (in_step old out) (in_step new later)) (Regroups meaning (who me group) (in_step (merged me u old) out) (in_step new later)) x
       (λ less t. hint-did came q old new out later kept t)
       (λ greater r. noted-regroups came old (merged me u old) new out later refl (merged-member_state group me u old (merged me u old) kept refl) r)
 
-  found : (came : Option Posted) (q : Address) (u : View) (old new : MemberState S) (out later : Output) → IsMemberState group me old
-      → MatchBool (leads_now me old) (Meets meaning group me q u old new out later) (Redirects group me q old new out later) → DidThis came old new out later
+  found : (came : Option Posted) (q : Address) (u : View) (old new : MemberState S) (out later : Output) → IsMemberState (who me group) old
+      → MatchBool (leads_now me old) (Meets meaning (who me group) q u (in_step old out) (in_step new later)) (Redirects (who me group) q (in_step old out) (in_step new later)) → DidThis came (in_step old out) (in_step new later)
   found came q u old new out later kept x =
-      match-bool (leads_now me old) (Meets meaning group me q u old new out later) (Redirects group me q old new out later) x
+      match-bool (leads_now me old) (Meets meaning (who me group) q u (in_step old out) (in_step new later)) (Redirects (who me group) q (in_step old out) (in_step new later)) x
       (λ leads m. meets came q u old new out later kept m) (λ other r. redirects came q old new out later r)
 
-  pub merge-did : (came : Option Posted) (q : Address) (u : View) (old new : MemberState S) (out later : Output) → IsMemberState group me old → OnMerge meaning group me q u old new out later → DidThis came old new out later
+  pub merge-did : (came : Option Posted) (q : Address) (u : View) (old new : MemberState S) (out later : Output) → IsMemberState (who me group) old → OnMerge meaning (who me group) q u (in_step old out) (in_step new later) → DidThis came (in_step old out) (in_step new later)
   merge-did came q u old new out later kept x =
-      match-bool (is_some old.view_state && not (has_member q old)) (MatchBool (leads_now me old) (Meets meaning group me q u old new out later) (Redirects group me q old new out later)) (StaysAs old new out later) x
+      match-bool (is_some old.view_state && not (has_member q old)) (MatchBool (leads_now me old) (Meets meaning (who me group) q u (in_step old out) (in_step new later)) (Redirects (who me group) q (in_step old out) (in_step new later))) (StaysAs (in_step old out) (in_step new later)) x
       (λ strange y. found came q u old new out later kept y) (λ known s. stays came old new out later s)
 
   -- ---- suspicions, and LEAVE
 
-  pub suspect-did : (came : Option Posted) (p : Address) (old new : MemberState S) (out later : Output) → IsMemberState group me old → OnSuspect meaning group me p old new out later → DidThis came old new out later
+  pub suspect-did : (came : Option Posted) (p : Address) (old new : MemberState S) (out later : Output) → IsMemberState (who me group) old → OnSuspect meaning (who me group) p (in_step old out) (in_step new later) → DidThis came (in_step old out) (in_step new later)
   suspect-did came p old new out later kept x =
-      match-bool (is_suspectable me p old) (TakesSuspicion meaning group me p old new out later) (StaysAs old new out later) x
+      match-bool (is_suspectable me p old) (TakesSuspicion meaning (who me group) p (in_step old out) (in_step new later)) (StaysAs (in_step old out) (in_step new later)) x
       (λ may t. let other = (and_parts (is_some old.view_state) (not (same_address p me)) (and_parts (is_some old.view_state && not (same_address p me)) (has_member p old || has_promised p old) may).0).1 in
       changes.takes-suspicion-did meaning group me came old new p out later kept t (not-true (same_address p me) other))
       (λ none s. stays came old new out later s)
 
   -- ---- FLUSH, BEHIND, REPORT
 
-  pub flush-did : (came : Option Posted) (q : Address) (w : View) (old new : MemberState S) (out later : Output) → IsMemberState group me old → is_connected old ≡ true → came ≡ Some (packet q (bodies.Flush w) me)
-      → OnFlush group me q w old new out later → DidThis came old new out later
+  pub flush-did : (came : Option Posted) (q : Address) (w : View) (old new : MemberState S) (out later : Output) → IsMemberState (who me group) old → is_connected old ≡ true → came ≡ Some (packet q (bodies.Flush w) me)
+      → OnFlush (who me group) q w (in_step old out) (in_step new later) → DidThis came (in_step old out) (in_step new later)
   flush-did came q w old new out later kept on asked x =
-      match-bool (same_address w.id.creator q) (TakesFlush group me w old new out later) (StaysAs old new out later) x
+      match-bool (same_address w.id.creator q) (TakesFlush (who me group) w (in_step old out) (in_step new later)) (StaysAs (in_step old out) (in_step new later)) x
       (λ own t. changes.takes-flush-did meaning group me came old new w out later kept t
       (asked ∙ ap (λ (p : Address). Some (packet p (bodies.Flush w) me)) (sym (same_address-true w.id.creator q own))) on)
       (λ other s. stays came old new out later s)
 
-  pub behind-did : (came : Option Posted) (w : ViewId) (counter : ℕ) (old new : MemberState S) (out later : Output) → IsMemberState group me old → OnBehind meaning group me w counter old new out later
-      → DidThis came old new out later
+  pub behind-did : (came : Option Posted) (w : ViewId) (counter : ℕ) (old new : MemberState S) (out later : Output) → IsMemberState (who me group) old → OnBehind meaning (who me group) w counter (in_step old out) (in_step new later)
+      → DidThis came (in_step old out) (in_step new later)
   behind-did came w counter old new out later kept x =
-      match-bool (is_proposing w old) (TakesBehind meaning group me counter old new out later) (StaysAs old new out later) x
+      match-bool (is_proposing w old) (TakesBehind meaning (who me group) counter (in_step old out) (in_step new later)) (StaysAs (in_step old out) (in_step new later)) x
       (λ own t. changes.takes-behind-did meaning group me came old new counter out later kept t)
       (λ other s. stays came old new out later s)
 
-  says-again : (came : Option Posted) (q : Address) (old new : MemberState S) (out later : Output) → IsMemberState group me old → SaysAgain q old new out later → DidThis came old new out later
+  says-again : (came : Option Posted) (q : Address) (old new : MemberState S) (out later : Output) → IsMemberState (who me group) old → SaysAgain q (in_step old out) (in_step new later) → DidThis came (in_step old out) (in_step new later)
   says-again came q old new out later kept x =
-      subst (λ (z : MemberState S). DidThis came old z out later) (sym x.member_state) (changes.installs-again-did meaning group me came q old out later kept x.again)
+      subst (λ (z : MemberState S). DidThis came (in_step old out) (in_step z later)) (sym x.member_state) (changes.installs-again-did meaning group me came q old out later kept x.again)
 
-  unexpected : (came : Option Posted) (q : Address) (w : ViewId) (old new : MemberState S) (out later : Output) → IsMemberState group me old
-      → MatchBool (is_in w old) (SaysAgain q old new out later) (StaysAs old new out later) → DidThis came old new out later
+  unexpected : (came : Option Posted) (q : Address) (w : ViewId) (old new : MemberState S) (out later : Output) → IsMemberState (who me group) old
+      → MatchBool (is_in w old) (SaysAgain q (in_step old out) (in_step new later)) (StaysAs (in_step old out) (in_step new later)) → DidThis came (in_step old out) (in_step new later)
   unexpected came q w old new out later kept x =
-      match-bool (is_in w old) (SaysAgain q old new out later) (StaysAs old new out later) x
+      match-bool (is_in w old) (SaysAgain q (in_step old out) (in_step new later)) (StaysAs (in_step old out) (in_step new later)) x
       (λ here a. says-again came q old new out later kept a) (λ other s. stays came old new out later s)
 
-  pub report-did : (came : Option Posted) (q : Address) (w : ViewId) (r : wire.Report) (old new : MemberState S) (out later : Output) → IsMemberState group me old → came ≡ Some (packet q (bodies.Report w r) me)
-      → OnReport meaning group me q w r old new out later → DidThis came old new out later
+  pub report-did : (came : Option Posted) (q : Address) (w : ViewId) (r : wire.Report) (old new : MemberState S) (out later : Output) → IsMemberState (who me group) old → came ≡ Some (packet q (bodies.Report w r) me)
+      → OnReport meaning (who me group) q w r (in_step old out) (in_step new later) → DidThis came (in_step old out) (in_step new later)
   report-did came q w r old new out later kept came_so x =
-      match-bool (expects q w old) (TakesReport meaning group me q w r old new out later) (MatchBool (is_in w old) (SaysAgain q old new out later) (StaysAs old new out later)) x
+      match-bool (expects q w old) (TakesReport meaning (who me group) q w r (in_step old out) (in_step new later)) (MatchBool (is_in w old) (SaysAgain q (in_step old out) (in_step new later)) (StaysAs (in_step old out) (in_step new later))) x
       (λ awaited t. changes.takes-report-did meaning group me came old new q w r out later kept t came_so)
       (λ other y. unexpected came q w old new out later kept y)
 
   -- ---- time passes
 
   -- its report for what another proposed
-  reports-acted : (came : Option Posted) (proposal : Option View) (l : MemberState S) → IsMemberState group me l → l.promise.proposal ≡ proposal → l.flush ≡ None → (IsSome proposal → l.promise.is_installed ≡ false)
+  reports-acted : (came : Option Posted) (proposal : Option View) (l : MemberState S) → IsMemberState (who me group) l → l.promise.proposal ≡ proposal → l.flush ≡ None → (IsSome proposal → l.promise.is_installed ≡ false)
       → PutsOut came l (option_map_or (λ w. packet me (bodies.Report w.id (report_in l)) w.id.creator ∷ []) proposal [])
   reports-acted came None l kept is none waits = nothing-acted meaning came (Some (core_of me l))
   reports-acted came (Some w) l kept is none waits =
       put-acted came l w.id.creator (bodies.Report w.id (report_in l)) (w, is, waits refl, refl, kept.waiting (waits refl) none w is, refl, refl)
 
   -- outside of a view what it promised is not installed
-  waiting-by : (b : Bool) (l : MemberState S) → IsMemberState group me l → l.view_state ≡ None → IsSome l.promise.proposal → l.promise.is_installed ≡ b → b ≡ false
+  waiting-by : (b : Bool) (l : MemberState S) → IsMemberState (who me group) l → l.view_state ≡ None → IsSome l.promise.proposal → l.promise.is_installed ≡ b → b ≡ false
   waiting-by true l kept none some e = let n : false ≡ true = ap is_some (sym (ap view_in none) ∙ kept.installed e) ∙ some in absurd (cc)
   waiting-by false l kept none some e = refl
 
@@ -287,24 +289,24 @@ module _ {S : Type 0} (meaning : Meaning S) (group : List ℕ) (me : Address) wh
   asks-acted came (Some c) l ps acted =
       then-acted meaning came (Some (core_of me l)) (Some (core_of me l)) (Some (core_of me l)) (packet me bodies.Join c ∷ []) ps [] [] (put-acted came l c bodies.Join tt) acted
 
-  pub ask-again-did : (came : Option Posted) (old : MemberState S) (out later : Output) → IsMemberState group me old → old.view_state ≡ None → Grows group out later (asks_again me old) [] → DidThis came old old out later
+  pub ask-again-did : (came : Option Posted) (old : MemberState S) (out later : Output) → IsMemberState (who me group) old → old.view_state ≡ None → Grows group out later (asks_again me old) [] → DidThis came (in_step old out) (in_step old later)
   ask-again-did came old out later kept none grows =
       puts-did came old old (asks_again me old) out later refl grows (asks-acted came old.contact old (reports_again me old)
       (reports-acted came old.promise.proposal old kept refl (unflushed old.flush old refl none kept) (λ some. waiting-by old.promise.is_installed old kept none some refl)))
 
   -- its own proposal, to those who have not reported
-  proposes-acted : (came : Option Posted) (f : FlushModel) (l : MemberState S) → IsMemberState group me l → l.flush ≡ Some f → PutsOut came l (proposes_again me f)
+  proposes-acted : (came : Option Posted) (f : FlushModel) (l : MemberState S) → IsMemberState (who me group) l → l.flush ≡ Some f → PutsOut came l (proposes_again me f)
   proposes-acted came f l kept is =
       puts-all-acted came l (bodies.Flush (proposed f)) _ (all-filtered (λ m. Describes (core_of me l) m (bodies.Flush (proposed f))) (λ m. not (has_reported m f.reports)) f.members
       (λ m there missing. (f.reports, is, there, other-by (same_address m me) me m f.reports refl (kept.flushing f is).reported missing)))
 
-  flushes-acted : (came : Option Posted) (flush : Option FlushModel) (l : MemberState S) → IsMemberState group me l → l.flush ≡ flush → l.promise.is_installed ≡ false
+  flushes-acted : (came : Option Posted) (flush : Option FlushModel) (l : MemberState S) → IsMemberState (who me group) l → l.flush ≡ flush → l.promise.is_installed ≡ false
       → PutsOut came l (option_map_or (proposes_again me) flush (reports_again me l))
   flushes-acted came None l kept is waits = reports-acted came l.promise.proposal l kept refl is (λ some. waits)
   flushes-acted came (Some f) l kept is waits = proposes-acted came f l kept is
 
-  pub flush-again-did : (came : Option Posted) (old : MemberState S) (out later : Output) → IsMemberState group me old → is_some old.view_state ≡ true → old.promise.is_installed ≡ false
-      → Grows group out later (flushes_again me old) [] → DidThis came old old out later
+  pub flush-again-did : (came : Option Posted) (old : MemberState S) (out later : Output) → IsMemberState (who me group) old → is_some old.view_state ≡ true → old.promise.is_installed ≡ false
+      → Grows group out later (flushes_again me old) [] → DidThis came (in_step old out) (in_step old later)
   flush-again-did came old out later kept inside waits grows =
       puts-did came old old (flushes_again me old) out later refl grows (flushes-acted came old.flush old kept refl waits)
 
@@ -323,5 +325,5 @@ module _ {S : Type 0} (meaning : Meaning S) (group : List ℕ) (me : Address) wh
       (then-acted meaning came (Some (core_of me l)) (Some (core_of me l)) None ps [] [] (Left me ∷ [])
       (puts-all-acted came l bodies.Leave list (all-each (λ q. Describes (core_of me l) q bodies.Leave) list (λ q. tt))) (leaves-acted came l))
 
-  pub leave-acted : (came : Option Posted) (old : MemberState S) (out later : Output) → Leaves group me old out later → HasLeft meaning came group me old out later
+  pub leave-acted : (came : Option Posted) (old : MemberState S) (out later : Output) → Leaves (who me group) (in_step old out) later → HasLeft meaning came (who me group) (in_step old out) later
   leave-acted came old out later x = record { posted = _; grows = x.grows; acted = leaving-acted came (view_in old.view_state) old }

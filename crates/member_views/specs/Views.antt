@@ -20,21 +20,23 @@ use Rattle.membership.specs.declared.member_state.MemberState.{MemberState}
 use Rattle.membership.specs.MemberStates.{view_in, report_in, leads_in, is_expected}
 use Rattle.membership.specs.Changes.{StaysAs, TakesFlush, TakesReport, TakesBehind, TakesSuspicion, InstallsAgain, Regroups}
 use Rattle.member_views.specs.Firsts.{lone_install}
+use Rattle.step_output.specs.Steps.{Who}
+use Rattle.membership.specs.InSteps.{InStep, in_step}
 
 -- ---- it makes a group, or asks to be let into one
 
 -- it promises and installs a first view of itself alone
-pub record Creates {S : Type 0} (group : List ℕ) (me : Address) (old new : MemberState S) (out later : Output) : Type 0 where
-  pub member_state : new ≡ record old {
-    view_state = Some (fresh_in me (lone_view me));
-    promise = record { member = old.promise.member; proposal = Some (lone_view me); is_installed = true };
+pub record Creates {S : Type 0} (who : Who) (old new : InStep S) : Type 0 where
+  pub member_state : new.member ≡ record (old.member) {
+    view_state = Some (fresh_in who.address (lone_view who.address));
+    promise = record { member = old.member.promise.member; proposal = Some (lone_view who.address); is_installed = true };
   }
-  pub grows : Grows group out later [] (Installed (lone_install me) ∷ [])
+  pub grows : Grows who.group old.out new.out [] (Installed (lone_install who.address) ∷ [])
 
 -- it asks this contact from now on, by a JOIN
-pub record Asks {S : Type 0} (group : List ℕ) (me contact : Address) (old new : MemberState S) (out later : Output) : Type 0 where
-  pub member_state : new ≡ record old { contact = Some contact }
-  pub grows : Grows group out later (packet me bodies.Join contact ∷ []) []
+pub record Asks {S : Type 0} (who : Who) (contact : Address) (old new : InStep S) : Type 0 where
+  pub member_state : new.member ≡ record (old.member) { contact = Some contact }
+  pub grows : Grows who.group old.out new.out (packet who.address bodies.Join contact ∷ []) []
 
 -- ---- what it is in its view
 
@@ -69,18 +71,18 @@ abbrev pub first_in : {S : Type 0} → MemberState S → Option Address
 first_in l = option_and_then (λ v. first_unsuspected l.notes.suspects v.members) (view_in l.view_state)
 
 -- it says to an address whom to ask in its place
-pub record Redirects {S : Type 0} (group : List ℕ) (me q : Address) (old new : MemberState S) (out later : Output) : Type 0 where
-  pub member_state : new ≡ old
-  pub grows : Grows group out later (option_map_or (λ p. packet me (bodies.Redirect p) q ∷ []) (first_in old) []) []
+pub record Redirects {S : Type 0} (who : Who) (q : Address) (old new : InStep S) : Type 0 where
+  pub member_state : new.member ≡ old.member
+  pub grows : Grows who.group old.out new.out (option_map_or (λ p. packet who.address (bodies.Redirect p) q ∷ []) (first_in old.member) []) []
 
 -- where it leads, who asks is noted, and what is due is begun; else it redirects
-abbrev pub Admits : {S : Type 0} → Meaning S → List ℕ → Address → Address → MemberState S → MemberState S → Output → Output → Type 0
-Admits meaning group me q l new out later =
-    MatchBool (leads_now me l) (Regroups meaning group me (joined me q l) new out later) (Redirects group me q l new out later)
+abbrev pub Admits : {S : Type 0} → Meaning S → Who → Address → InStep S → InStep S → Type 0
+Admits meaning who q old new =
+    MatchBool (leads_now who.address old.member) (Regroups meaning who (in_step (joined who.address q old.member) old.out) new) (Redirects who q old new)
 
-abbrev pub OnJoin : {S : Type 0} → Meaning S → List ℕ → Address → Address → MemberState S → MemberState S → Output → Output → Type 0
-OnJoin meaning group me q old new out later =
-    MatchBool (is_some old.view_state) (Admits meaning group me q (outdated me q old) new out later) (StaysAs old new out later)
+abbrev pub OnJoin : {S : Type 0} → Meaning S → Who → Address → InStep S → InStep S → Type 0
+OnJoin meaning who q old new =
+    MatchBool (is_some old.member.view_state) (Admits meaning who q (in_step (outdated who.address q old.member) old.out) new) (StaysAs old new)
 
 -- ---- a hint of another view, and REDIRECT
 
@@ -89,15 +91,15 @@ abbrev pub view_for : {S : Type 0} → Address → Address → MemberState S →
 view_for me p l = if (l.promise.is_installed && leads_now me l) && not (has_member p l) then view_in l.view_state else None
 
 -- it announces its view to an address, by a MERGE, where it may
-pub record AnnouncesView {S : Type 0} (group : List ℕ) (me p : Address) (old new : MemberState S) (out later : Output) : Type 0 where
-  pub member_state : new ≡ old
-  pub grows : Grows group out later (option_map_or (λ v. packet me (bodies.Merge v) p ∷ []) (view_for me p old) []) []
+pub record AnnouncesView {S : Type 0} (who : Who) (p : Address) (old new : InStep S) : Type 0 where
+  pub member_state : new.member ≡ old.member
+  pub grows : Grows who.group old.out new.out (option_map_or (λ v. packet who.address (bodies.Merge v) p ∷ []) (view_for who.address p old.member) []) []
 
 -- without a view it asks the other address from now on; in a view this is a hint; its own address is ignored
-abbrev pub OnRedirect : {S : Type 0} → List ℕ → Address → Address → MemberState S → MemberState S → Output → Output → Type 0
-OnRedirect group me c old new out later =
-    MatchBool (same_address c me) (StaysAs old new out later)
-    (MatchBool (is_some old.view_state) (AnnouncesView group me c old new out later) (Asks group me c old new out later))
+abbrev pub OnRedirect : {S : Type 0} → Who → Address → InStep S → InStep S → Type 0
+OnRedirect who c old new =
+    MatchBool (same_address c who.address) (StaysAs old new)
+    (MatchBool (is_some old.member.view_state) (AnnouncesView who c old new) (Asks who c old new))
 
 -- ---- MERGE
 
@@ -110,16 +112,16 @@ abbrev pub merged : {S : Type 0} → Address → View → MemberState S → Memb
 merged me u l = record l { notes = option_map_or (λ v. noting_view me v.members u l.notes) (view_in l.view_state) l.notes }
 
 -- where it leads: to a lesser address it announces its view; those of a greater one's view are noted, and what is due is begun
-abbrev pub Meets : {S : Type 0} → Meaning S → List ℕ → Address → Address → View → MemberState S → MemberState S → Output → Output → Type 0
-Meets meaning group me q u old new out later =
-    MatchBool (is_less q me) (AnnouncesView group me q old new out later) (Regroups meaning group me (merged me u old) new out later)
+abbrev pub Meets : {S : Type 0} → Meaning S → Who → Address → View → InStep S → InStep S → Type 0
+Meets meaning who q u old new =
+    MatchBool (is_less q who.address) (AnnouncesView who q old new) (Regroups meaning who (in_step (merged who.address u old.member) old.out) new)
 
 -- of one who is in no view or in this one it is ignored
-abbrev pub OnMerge : {S : Type 0} → Meaning S → List ℕ → Address → Address → View → MemberState S → MemberState S → Output → Output → Type 0
-OnMerge meaning group me q u old new out later =
-    MatchBool (is_some old.view_state && not (has_member q old))
-    (MatchBool (leads_now me old) (Meets meaning group me q u old new out later) (Redirects group me q old new out later))
-    (StaysAs old new out later)
+abbrev pub OnMerge : {S : Type 0} → Meaning S → Who → Address → View → InStep S → InStep S → Type 0
+OnMerge meaning who q u old new =
+    MatchBool (is_some old.member.view_state && not (has_member q old.member))
+    (MatchBool (leads_now who.address old.member) (Meets meaning who q u old new) (Redirects who q old new))
+    (StaysAs old new)
 
 -- ---- suspicions, and LEAVE
 
@@ -131,38 +133,36 @@ has_promised p l = option_map_or (λ w. stands_in p w.members) l.promise.proposa
 abbrev pub is_suspectable : {S : Type 0} → Address → Address → MemberState S → Bool
 is_suspectable me p l = is_some l.view_state && not (same_address p me) && (has_member p l || has_promised p l)
 
-abbrev pub OnSuspect : {S : Type 0} → Meaning S → List ℕ → Address → Address → MemberState S → MemberState S → Output → Output → Type 0
-OnSuspect meaning group me p old new out later =
-    MatchBool (is_suspectable me p old) (TakesSuspicion meaning group me p old new out later) (StaysAs old new out later)
+abbrev pub OnSuspect : {S : Type 0} → Meaning S → Who → Address → InStep S → InStep S → Type 0
+OnSuspect meaning who p old new = MatchBool (is_suspectable who.address p old.member) (TakesSuspicion meaning who p old new) (StaysAs old new)
 
 -- ---- FLUSH, BEHIND, REPORT
 
 -- a FLUSH counts where its source proposes
-abbrev pub OnFlush : {S : Type 0} → List ℕ → Address → Address → View → MemberState S → MemberState S → Output → Output → Type 0
-OnFlush group me q w old new out later = MatchBool (same_address w.id.creator q) (TakesFlush group me w old new out later) (StaysAs old new out later)
+abbrev pub OnFlush : {S : Type 0} → Who → Address → View → InStep S → InStep S → Type 0
+OnFlush who q w old new = MatchBool (same_address w.id.creator q) (TakesFlush who w old new) (StaysAs old new)
 
 -- whether this is what its own flush proposes
 abbrev pub is_proposing : {S : Type 0} → ViewId → MemberState S → Bool
 is_proposing w l = option_map_or (λ f. same_view_id f.proposal w) l.flush false
 
-abbrev pub OnBehind : {S : Type 0} → Meaning S → List ℕ → Address → ViewId → ℕ → MemberState S → MemberState S → Output → Output → Type 0
-OnBehind meaning group me w counter old new out later =
-    MatchBool (is_proposing w old) (TakesBehind meaning group me counter old new out later) (StaysAs old new out later)
+abbrev pub OnBehind : {S : Type 0} → Meaning S → Who → ViewId → ℕ → InStep S → InStep S → Type 0
+OnBehind meaning who w counter old new = MatchBool (is_proposing w old.member) (TakesBehind meaning who counter old new) (StaysAs old new)
 
 -- whether it awaits a report of this address for its own proposal
 abbrev pub expects : {S : Type 0} → Address → ViewId → MemberState S → Bool
 expects q w l = option_map_or (is_expected q w) l.flush false
 
 -- it is as it was, and puts out again the INSTALL that it kept for that member
-pub record SaysAgain {S : Type 0} (q : Address) (old new : MemberState S) (out later : Output) : Type 0 where
-  pub member_state : new ≡ old
-  pub again : InstallsAgain q old out later
+pub record SaysAgain {S : Type 0} (q : Address) (old new : InStep S) : Type 0 where
+  pub member_state : new.member ≡ old.member
+  pub again : InstallsAgain q old new.out
 
 -- a report that is awaited is taken; for one that asks for the current view its INSTALL is put out again, where it was kept
-abbrev pub OnReport : {S : Type 0} → Meaning S → List ℕ → Address → Address → ViewId → wire.Report → MemberState S → MemberState S → Output → Output → Type 0
-OnReport meaning group me q w r old new out later =
-    MatchBool (expects q w old) (TakesReport meaning group me q w r old new out later)
-    (MatchBool (is_in w old) (SaysAgain q old new out later) (StaysAs old new out later))
+abbrev pub OnReport : {S : Type 0} → Meaning S → Who → Address → ViewId → wire.Report → InStep S → InStep S → Type 0
+OnReport meaning who q w r old new =
+    MatchBool (expects q w old.member) (TakesReport meaning who q w r old new)
+    (MatchBool (is_in w old.member) (SaysAgain q old new) (StaysAs old new))
 
 -- ---- time passes: what may be lost is put out again
 
@@ -185,5 +185,5 @@ flushes_again me l = option_map_or (proposes_again me) l.flush (reports_again me
 -- ---- it leaves
 
 -- a LEAVE goes to each other member of its view, by rank, and it has left
-pub record Leaves {S : Type 0} (group : List ℕ) (me : Address) (old : MemberState S) (out later : Output) : Type 0 where
-  pub grows : Grows group out later (option_map_or (λ v. map (packet me bodies.Leave) (others_of me v.members)) (view_in old.view_state) []) (Left me ∷ [])
+pub record Leaves {S : Type 0} (who : Who) (old : InStep S) (later : Output) : Type 0 where
+  pub grows : Grows who.group old.out later (option_map_or (λ v. map (packet who.address bodies.Leave) (others_of who.address v.members)) (view_in old.member.view_state) []) (Left who.address ∷ [])

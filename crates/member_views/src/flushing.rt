@@ -6,6 +6,8 @@ ghost use Rattle.membership.specs.MemberStates.{IsMemberState, is_connected};
 ghost use Rattle.membership.specs.Changes.{StaysAs};
 ghost use Rattle.member_views.specs.Views.{OnFlush, OnBehind, OnReport, is_proposing, is_in};
 ghost use Rattle.member_views.specs.Ignoring.{is_flush_ignored, is_report_ignored};
+ghost use Rattle.step_output.specs.Steps.{who_of};
+ghost use Rattle.membership.specs.InSteps.{in_step};
 
 use address::{Address, ViewId};
 use membership::MemberState;
@@ -23,12 +25,12 @@ pub fn on_flush<R: Receiver>(
     proposal: &Roster,
     out: &mut Output,
 ) -> Result<(), AllocError>
-    requires member_state { IsMemberState who.now.group who.now.address member_state.old }
+    requires member_state { IsMemberState (who_of who.now) member_state.old }
     requires other { same_address source who.now.address ≡ false }
     requires connected { is_connected member_state.old ≡ true }
-    ensures member_state { OnOk result (IsMemberState who.now.group who.now.address member_state.new) }
-    ensures does { OnOk result (OnFlush who.now.group who.now.address source proposal.now member_state.old member_state.new out.old out.new) }
-    ensures ignored { is_flush_ignored source proposal.now member_state.old ≡ true → (result ≡ Ok tt) × StaysAs member_state.old member_state.new out.old out.new }
+    ensures member_state { OnOk result (IsMemberState (who_of who.now) member_state.new) }
+    ensures does { OnOk result (OnFlush (who_of who.now) source proposal.now (in_step member_state.old out.old) (in_step member_state.new out.new)) }
+    ensures ignored { is_flush_ignored source proposal.now member_state.old ≡ true → (result ≡ Ok tt) × StaysAs (in_step member_state.old out.old) (in_step member_state.new out.new) }
 {
     if proposal.id().creator() == source {
         member_state.take_flush(who, proposal, out)?;
@@ -55,10 +57,10 @@ pub fn on_behind<R: Receiver>(
     counter: Number,
     out: &mut Output,
 ) -> Result<(), AllocError>
-    requires member_state { IsMemberState who.now.group who.now.address member_state.old }
-    ensures member_state { OnOk result (IsMemberState who.now.group who.now.address member_state.new) }
-    ensures does { OnOk result (OnBehind R.meaning who.now.group who.now.address proposal counter member_state.old member_state.new out.old out.new) }
-    ensures ignored { is_proposing proposal member_state.old ≡ false → (result ≡ Ok tt) × StaysAs member_state.old member_state.new out.old out.new }
+    requires member_state { IsMemberState (who_of who.now) member_state.old }
+    ensures member_state { OnOk result (IsMemberState (who_of who.now) member_state.new) }
+    ensures does { OnOk result (OnBehind R.meaning (who_of who.now) proposal counter (in_step member_state.old out.old) (in_step member_state.new out.new)) }
+    ensures ignored { is_proposing proposal member_state.old ≡ false → (result ≡ Ok tt) × StaysAs (in_step member_state.old out.old) (in_step member_state.new out.new) }
 {
     if is_proposing(member_state, proposal) {
         member_state.take_behind(who, counter, out)?;
@@ -87,10 +89,10 @@ pub fn on_report<R: Receiver>(
     report: &Report<'_>,
     out: &mut Output,
 ) -> Result<(), AllocError>
-    requires member_state { IsMemberState who.now.group who.now.address member_state.old }
-    ensures member_state { OnOk result (IsMemberState who.now.group who.now.address member_state.new) }
-    ensures does { OnOk result (OnReport R.meaning who.now.group who.now.address source proposal report.now member_state.old member_state.new out.old out.new) }
-    ensures ignored { is_report_ignored source proposal member_state.old ≡ true → (result ≡ Ok tt) × StaysAs member_state.old member_state.new out.old out.new }
+    requires member_state { IsMemberState (who_of who.now) member_state.old }
+    ensures member_state { OnOk result (IsMemberState (who_of who.now) member_state.new) }
+    ensures does { OnOk result (OnReport R.meaning (who_of who.now) source proposal report.now (in_step member_state.old out.old) (in_step member_state.new out.new)) }
+    ensures ignored { is_report_ignored source proposal member_state.old ≡ true → (result ≡ Ok tt) × StaysAs (in_step member_state.old out.old) (in_step member_state.new out.new) }
 {
     if member_state.expects(&source, proposal) {
         member_state.take_report(who, source, proposal, report, out)?;

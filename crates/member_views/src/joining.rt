@@ -9,6 +9,8 @@ ghost use Rattle.membership.specs.Changes.{StaysAs};
 ghost use Rattle.member_views.specs.Firsts.{lone_install};
 ghost use Rattle.member_views.specs.Views.{Creates, Asks, OnJoin, OnRedirect, Redirects, Admits, leads_now, first_in, outdated, joined};
 ghost use Rattle.member_views.specs.Ignoring.{is_misdirected};
+ghost use Rattle.step_output.specs.Steps.{who_of};
+ghost use Rattle.membership.specs.InSteps.{in_step};
 
 use crate::merging::announce_view;
 use address::{Address, ViewId};
@@ -46,10 +48,10 @@ pub fn create<R: Receiver>(
     who: &Identity,
     out: &mut Output,
 ) -> Result<(), AllocError>
-    requires member_state { IsMemberState who.now.group who.now.address member_state.old }
+    requires member_state { IsMemberState (who_of who.now) member_state.old }
     requires idle { is_connected member_state.old ≡ false }
-    ensures member_state { OnOk result (IsMemberState who.now.group who.now.address member_state.new) }
-    ensures does { OnOk result (Creates who.now.group who.now.address member_state.old member_state.new out.old out.new) }
+    ensures member_state { OnOk result (IsMemberState (who_of who.now) member_state.new) }
+    ensures does { OnOk result (Creates (who_of who.now) (in_step member_state.old out.old) (in_step member_state.new out.new)) }
 {
     let view = View::alone(who.alloc, ViewId::first_of(who.address))?;
     let install = lone_install(who)?;
@@ -69,10 +71,10 @@ pub fn ask<R: Receiver>(
     contact: Address,
     out: &mut Output,
 ) -> Result<(), AllocError>
-    requires member_state { IsMemberState who.now.group who.now.address member_state.old }
+    requires member_state { IsMemberState (who_of who.now) member_state.old }
     requires outside { member_state.old.view_state ≡ None }
-    ensures member_state { OnOk result (IsMemberState who.now.group who.now.address member_state.new) }
-    ensures does { OnOk result (Asks who.now.group who.now.address contact member_state.old member_state.new out.old out.new) }
+    ensures member_state { OnOk result (IsMemberState (who_of who.now) member_state.new) }
+    ensures does { OnOk result (Asks (who_of who.now) contact (in_step member_state.old out.old) (in_step member_state.new out.new)) }
 {
     who.put(contact, Body::Join, out)?;
     member_state.contact = Some(contact);
@@ -86,7 +88,7 @@ pub(crate) fn redirect<R: Receiver>(
     address: Address,
     out: &mut Output,
 ) -> Result<(), AllocError>
-    ensures { OnOk result (Redirects who.now.group who.now.address address member_state.now member_state.now out.old out.new) }
+    ensures { OnOk result (Redirects (who_of who.now) address (in_step member_state.now out.old) (in_step member_state.now out.new)) }
 {
     match first_in(member_state) {
         None => Ok(()),
@@ -195,10 +197,10 @@ fn admit<R: Receiver>(
     source: Address,
     out: &mut Output,
 ) -> Result<(), AllocError>
-    requires member_state { IsMemberState who.now.group who.now.address member_state.old }
+    requires member_state { IsMemberState (who_of who.now) member_state.old }
     requires other { same_address source who.now.address ≡ false }
-    ensures member_state { OnOk result (IsMemberState who.now.group who.now.address member_state.new) }
-    ensures does { OnOk result (Admits R.meaning who.now.group who.now.address source member_state.old member_state.new out.old out.new) }
+    ensures member_state { OnOk result (IsMemberState (who_of who.now) member_state.new) }
+    ensures does { OnOk result (Admits R.meaning (who_of who.now) source (in_step member_state.old out.old) (in_step member_state.new out.new)) }
 {
     if leads_now(member_state, who) {
         note_joiner(member_state, who, source)?;
@@ -217,11 +219,11 @@ pub fn on_join<R: Receiver>(
     source: Address,
     out: &mut Output,
 ) -> Result<(), AllocError>
-    requires member_state { IsMemberState who.now.group who.now.address member_state.old }
+    requires member_state { IsMemberState (who_of who.now) member_state.old }
     requires other { same_address source who.now.address ≡ false }
-    ensures member_state { OnOk result (IsMemberState who.now.group who.now.address member_state.new) }
-    ensures does { OnOk result (OnJoin R.meaning who.now.group who.now.address source member_state.old member_state.new out.old out.new) }
-    ensures ignored { is_some member_state.old.view_state ≡ false → (result ≡ Ok tt) × StaysAs member_state.old member_state.new out.old out.new }
+    ensures member_state { OnOk result (IsMemberState (who_of who.now) member_state.new) }
+    ensures does { OnOk result (OnJoin R.meaning (who_of who.now) source (in_step member_state.old out.old) (in_step member_state.new out.new)) }
+    ensures ignored { is_some member_state.old.view_state ≡ false → (result ≡ Ok tt) × StaysAs (in_step member_state.old out.old) (in_step member_state.new out.new) }
 {
     if member_state.view_state.is_none() {
         return Ok(());
@@ -239,10 +241,10 @@ pub fn on_redirect<R: Receiver>(
     coordinator: Address,
     out: &mut Output,
 ) -> Result<(), AllocError>
-    requires member_state { IsMemberState who.now.group who.now.address member_state.old }
-    ensures member_state { OnOk result (IsMemberState who.now.group who.now.address member_state.new) }
-    ensures does { OnOk result (OnRedirect who.now.group who.now.address coordinator member_state.old member_state.new out.old out.new) }
-    ensures ignored { is_misdirected who.now.address coordinator member_state.old ≡ true → (result ≡ Ok tt) × StaysAs member_state.old member_state.new out.old out.new }
+    requires member_state { IsMemberState (who_of who.now) member_state.old }
+    ensures member_state { OnOk result (IsMemberState (who_of who.now) member_state.new) }
+    ensures does { OnOk result (OnRedirect (who_of who.now) coordinator (in_step member_state.old out.old) (in_step member_state.new out.new)) }
+    ensures ignored { is_misdirected who.now.address coordinator member_state.old ≡ true → (result ≡ Ok tt) × StaysAs (in_step member_state.old out.old) (in_step member_state.new out.new) }
 {
     if coordinator == who.address {
         return Ok(());

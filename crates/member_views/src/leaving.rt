@@ -8,6 +8,8 @@ ghost use Rattle.traffic.specs.ViewStates.{view_of};
 ghost use Rattle.membership.specs.MemberStates.{IsMemberState};
 ghost use Rattle.membership.specs.Changes.{StaysAs};
 ghost use Rattle.member_views.specs.Views.{Leaves, OnSuspect, has_promised, is_suspectable};
+ghost use Rattle.step_output.specs.Steps.{who_of};
+ghost use Rattle.membership.specs.InSteps.{in_step};
 
 use crate::merging::has_member;
 use address::Address;
@@ -37,7 +39,7 @@ pub fn leave<R: Receiver>(
     who: &Identity,
     out: &mut Output,
 ) -> Result<(), AllocError>
-    ensures { OnOk result (Leaves who.now.group who.now.address member_state.now out.old out.new) }
+    ensures { OnOk result (Leaves (who_of who.now) (in_step member_state.now out.old) out.new) }
 {
     if let Some(view_state) = &member_state.view_state {
         say_to(who, view_state, out)?;
@@ -78,10 +80,10 @@ pub fn on_suspect<R: Receiver>(
     address: Address,
     out: &mut Output,
 ) -> Result<(), AllocError>
-    requires member_state { IsMemberState who.now.group who.now.address member_state.old }
-    ensures member_state { OnOk result (IsMemberState who.now.group who.now.address member_state.new) }
-    ensures does { OnOk result (OnSuspect R.meaning who.now.group who.now.address address member_state.old member_state.new out.old out.new) }
-    ensures ignored { is_suspectable who.now.address address member_state.old ≡ false → (result ≡ Ok tt) × StaysAs member_state.old member_state.new out.old out.new }
+    requires member_state { IsMemberState (who_of who.now) member_state.old }
+    ensures member_state { OnOk result (IsMemberState (who_of who.now) member_state.new) }
+    ensures does { OnOk result (OnSuspect R.meaning (who_of who.now) address (in_step member_state.old out.old) (in_step member_state.new out.new)) }
+    ensures ignored { is_suspectable who.now.address address member_state.old ≡ false → (result ≡ Ok tt) × StaysAs (in_step member_state.old out.old) (in_step member_state.new out.new) }
 {
     if is_suspectable(member_state, who, &address) {
         member_state.take_suspicion(who, address, out)?;

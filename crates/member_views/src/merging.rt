@@ -10,6 +10,8 @@ ghost use Rattle.membership.specs.MemberStates.{IsMemberState, view_in};
 ghost use Rattle.membership.specs.Changes.{StaysAs};
 ghost use Rattle.member_views.specs.Views.{AnnouncesView, Meets, OnMerge, is_less, has_member, view_for, merged};
 ghost use Rattle.member_views.specs.Ignoring.{is_hint_ignored, is_merge_ignored};
+ghost use Rattle.step_output.specs.Steps.{who_of};
+ghost use Rattle.membership.specs.InSteps.{in_step};
 
 use crate::joining::{leads_now, redirect};
 use address::Address;
@@ -68,7 +70,7 @@ pub fn announce_view<R: Receiver>(
     address: Address,
     out: &mut Output,
 ) -> Result<(), AllocError>
-    ensures does { OnOk result (AnnouncesView who.now.group who.now.address address member_state.now member_state.now out.old out.new) }
+    ensures does { OnOk result (AnnouncesView (who_of who.now) address (in_step member_state.now out.old) (in_step member_state.now out.new)) }
     ensures ignored { is_hint_ignored who.now.address address member_state.now ≡ true → (result ≡ Ok tt) × (out.new ≡ out.old) }
 {
     match view_for(member_state, who, &address) {
@@ -138,10 +140,10 @@ fn meet<R: Receiver>(
     other: &Roster,
     out: &mut Output,
 ) -> Result<(), AllocError>
-    requires member_state { IsMemberState who.now.group who.now.address member_state.old }
-    ensures member_state { OnOk result (IsMemberState who.now.group who.now.address member_state.new) }
-    ensures does { OnOk result (Meets R.meaning who.now.group who.now.address source other.now member_state.old member_state.new out.old out.new) }
-    ensures ignored { is_less source who.now.address ≡ true → is_hint_ignored who.now.address source member_state.old ≡ true → (result ≡ Ok tt) × StaysAs member_state.old member_state.new out.old out.new }
+    requires member_state { IsMemberState (who_of who.now) member_state.old }
+    ensures member_state { OnOk result (IsMemberState (who_of who.now) member_state.new) }
+    ensures does { OnOk result (Meets R.meaning (who_of who.now) source other.now (in_step member_state.old out.old) (in_step member_state.new out.new)) }
+    ensures ignored { is_less source who.now.address ≡ true → is_hint_ignored who.now.address source member_state.old ≡ true → (result ≡ Ok tt) × StaysAs (in_step member_state.old out.old) (in_step member_state.new out.new) }
 {
     if is_less(&source, &who.address) {
         announce_view(member_state, who, source, out)?;
@@ -162,10 +164,10 @@ pub fn on_merge<R: Receiver>(
     other: &Roster,
     out: &mut Output,
 ) -> Result<(), AllocError>
-    requires member_state { IsMemberState who.now.group who.now.address member_state.old }
-    ensures member_state { OnOk result (IsMemberState who.now.group who.now.address member_state.new) }
-    ensures does { OnOk result (OnMerge R.meaning who.now.group who.now.address source other.now member_state.old member_state.new out.old out.new) }
-    ensures ignored { is_merge_ignored who.now.address source member_state.old ≡ true → (result ≡ Ok tt) × StaysAs member_state.old member_state.new out.old out.new }
+    requires member_state { IsMemberState (who_of who.now) member_state.old }
+    ensures member_state { OnOk result (IsMemberState (who_of who.now) member_state.new) }
+    ensures does { OnOk result (OnMerge R.meaning (who_of who.now) source other.now (in_step member_state.old out.old) (in_step member_state.new out.new)) }
+    ensures ignored { is_merge_ignored who.now.address source member_state.old ≡ true → (result ≡ Ok tt) × StaysAs (in_step member_state.old out.old) (in_step member_state.new out.new) }
 {
     if member_state.view_state.is_none() || has_member(member_state, &source) {
         return Ok(());

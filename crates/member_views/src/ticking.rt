@@ -8,6 +8,7 @@ ghost use Rattle.view.specs.View.{view_refusal};
 ghost use Rattle.step_output.specs.Outputs.{Grows};
 ghost use Rattle.membership.specs.MemberStates.{IsMemberState};
 ghost use Rattle.member_views.specs.Views.{reports_again, asks_again, proposes_again, flushes_again};
+ghost use Rattle.step_output.specs.Steps.{who_of};
 
 use address::Address;
 use flush::Flush;
@@ -87,7 +88,7 @@ pub fn flush_again<R: Receiver>(
     who: &Identity,
     out: &mut Output,
 ) -> Result<(), AllocError>
-    requires member_state { IsMemberState who.now.group who.now.address member_state.now }
+    requires member_state { IsMemberState (who_of who.now) member_state.now }
     ensures { OnOk result (Grows who.now.group out.old out.new (flushes_again who.now.address member_state.now) []) }
 {
     match &member_state.flush {

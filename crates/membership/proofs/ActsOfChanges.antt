@@ -44,6 +44,8 @@ use Rattle.membership.proofs.KeepMemberState.{installed_as, own-installed, other
 use Rattle.membership.proofs.KeepNotes.{heard-member_state, suspected-member_state}
 use Rattle.membership.proofs.FactOfProposed.{IsProposal, due-is-proposal, anew-is-proposal}
 use Rattle.address.proofs.Plain.{match-bool}
+use Rattle.step_output.specs.Steps.{who}
+use Rattle.membership.specs.InSteps.{InStep, in_step}
 
 -- ---- what a flush says, in the words of agreement
 
@@ -72,37 +74,37 @@ match-option None A B m none some = none m
 match-option (Some x) A B m none some = some x refl m
 
 module _ {S : Type 0} (meaning : Meaning S) (group : List ℕ) (me : Address) where
-  abbrev pub DidThis : Option Posted → MemberState S → MemberState S → Output → Output → Type 0
-  DidThis came old new out later = Did meaning came group me old new out later
+  abbrev pub DidThis : Option Posted → InStep S → InStep S → Type 0
+  DidThis came old new = Did meaning came (who me group) old new
 
   -- ---- a FLUSH
 
-  ours : (l : MemberState S) → IsMemberState group me l → l.promise ≡ promise_of (core_of me l)
+  ours : (l : MemberState S) → IsMemberState (who me group) l → l.promise ≡ promise_of (core_of me l)
   ours l kept = ap (λ (p : Address). record { member = p; proposal = l.promise.proposal; is_installed = l.promise.is_installed }) kept.own
 
-  pub promised-acted : (came : Option Posted) (l new : MemberState S) (w : View) → IsMemberState group me l → is_connected l ≡ true → came ≡ Some (packet w.id.creator (bodies.Flush w) me)
+  pub promised-acted : (came : Option Posted) (l new : MemberState S) (w : View) → IsMemberState (who me group) l → is_connected l ≡ true → came ≡ Some (packet w.id.creator (bodies.Flush w) me)
       → is_accept (offered w l.promise) ≡ true → new ≡ record l { promise = promising w l.promise; flush = None }
       → Acted meaning came (Some (core_of me l)) (packet me (bodies.Report w.id (report_in l)) w.id.creator ∷ []) (blocked_by me l) (Some (core_of me new))
   promised-acted came l new w kept on asked accepts is =
       subst (λ (z : MemberState S). Acted meaning came (Some (core_of me l)) (packet me (bodies.Report w.id (report_in l)) w.id.creator ∷ []) (blocked_by me l) (Some (core_of me z))) (sym is)
       (promises-acted meaning came (core_of me l) w asked on (subst (λ (p : PromiseModel). is_accept (offered w p) ≡ true) (ours l kept) accepts))
 
-  takes-by-did : (a : OfferAnswer) (came : Option Posted) (old new : MemberState S) (w : View) (out later : Output) → IsMemberState group me old → is_connected old ≡ true
-      → came ≡ Some (packet w.id.creator (bodies.Flush w) me) → offered w old.promise ≡ a → TakesBy a group me w old new out later → DidThis came old new out later
+  takes-by-did : (a : OfferAnswer) (came : Option Posted) (old new : MemberState S) (w : View) (out later : Output) → IsMemberState (who me group) old → is_connected old ≡ true
+      → came ≡ Some (packet w.id.creator (bodies.Flush w) me) → offered w old.promise ≡ a → TakesBy (who me group) a w (in_step old out) (in_step new later) → DidThis came (in_step old out) (in_step new later)
   takes-by-did Accept came old new w out later kept on asked e x =
       record { posted = _; happened = _; grows = x.grows; acted = promised-acted came old new w kept on asked (ap is_accept e) x.member_state }
   takes-by-did (Behind n) came old new w out later kept on asked e x =
-      subst (λ (z : MemberState S). DidThis came old z out later) (sym x.0)
+      subst (λ (z : MemberState S). DidThis came (in_step old out) (in_step z later)) (sym x.0)
       (record { posted = _; happened = _; grows = x.1; acted = one-acted meaning came (core_of me old) (Puts w.id.creator (bodies.Behind w.id n)) tt })
   takes-by-did Ignore came old new w out later kept on asked e x = stays-did meaning came group me old new out later x.0 x.1
 
-  pub takes-flush-did : (came : Option Posted) (old new : MemberState S) (w : View) (out later : Output) → IsMemberState group me old → TakesFlush group me w old new out later
-      → came ≡ Some (packet w.id.creator (bodies.Flush w) me) → is_connected old ≡ true → DidThis came old new out later
+  pub takes-flush-did : (came : Option Posted) (old new : MemberState S) (w : View) (out later : Output) → IsMemberState (who me group) old → TakesFlush (who me group) w (in_step old out) (in_step new later)
+      → came ≡ Some (packet w.id.creator (bodies.Flush w) me) → is_connected old ≡ true → DidThis came (in_step old out) (in_step new later)
   takes-flush-did came old new w out later kept x asked on = takes-by-did (offered w old.promise) came old new w out later kept on asked refl x
 
   -- ---- a flush of its own
 
-  pub begins-did : (came : Option Posted) (old new : MemberState S) (w : View) (out later : Output) → IsMemberState group me old → IsProposal me old w → Begins group me w old new out later → DidThis came old new out later
+  pub begins-did : (came : Option Posted) (old new : MemberState S) (w : View) (out later : Output) → IsMemberState (who me group) old → IsProposal me old w → Begins (who me group) w (in_step old out) (in_step new later) → DidThis came (in_step old out) (in_step new later)
   begins-did came old new w out later kept p b = record {
     posted = _;
     happened = _;
@@ -111,17 +113,17 @@ module _ {S : Type 0} (meaning : Meaning S) (group : List ℕ) (me : Address) wh
         (sym b.member_state) (proposes-acted meaning came (core_of me old) old.notes p.before w p.inside p.leads kept.unsuspected p.next).1;
   }
 
-  pub proposes-did : (came : Option Posted) (old new : MemberState S) (out later : Output) → IsMemberState group me old → ProposesIf group me old new out later → DidThis came old new out later
+  pub proposes-did : (came : Option Posted) (old new : MemberState S) (out later : Output) → IsMemberState (who me group) old → ProposesIf (who me group) (in_step old out) (in_step new later) → DidThis came (in_step old out) (in_step new later)
   proposes-did came old new out later kept x =
-      match-option (due_proposal (core_of me old) old.notes) (StaysAs old new out later) (λ w. Begins group me w old new out later) x
+      match-option (due_proposal (core_of me old) old.notes) (StaysAs (in_step old out) (in_step new later)) (λ w. Begins (who me group) w (in_step old out) (in_step new later)) x
       (λ s. stays-did meaning came group me old new out later s.0 s.1)
       (λ w e b. begins-did came old new w out later kept (due-is-proposal group me old w kept e) b)
 
   -- ---- a flush is finished
 
   -- a member whose flush and view are these
-  finished-at : (came : Option Posted) (f : FlushModel) (t : ViewState) (old new : MemberState S) (out later : Output) → IsMemberState group me old → old.flush ≡ Some f → is_complete f ≡ true
-      → Finishes meaning group me f t old new out later → DidThis came (record old { flush = Some f; view_state = Some t }) new out later
+  finished-at : (came : Option Posted) (f : FlushModel) (t : ViewState) (old new : MemberState S) (out later : Output) → IsMemberState (who me group) old → old.flush ≡ Some f → is_complete f ≡ true
+      → Finishes meaning (who me group) f t (in_step old out) (in_step new later) → DidThis came (in_step (record old { flush = Some f; view_state = Some t }) out) (in_step new later)
   finished-at came f t old new out later kept flush complete z =
       let x = kept.flushing f flush in
       let c = core_of me (record old { flush = Some f; view_state = Some t }) in
@@ -146,53 +148,53 @@ module _ {S : Type 0} (meaning : Meaning S) (group : List ℕ) (me : Address) wh
             (subst (λ (k : Core S). Acted meaning came (Some c) (map (install_packet me) given) (finish_events me f t) (Some k)) (sym core) a);
       }
 
-  finished-did : (came : Option Posted) (f : FlushModel) (t : ViewState) (old new : MemberState S) (out later : Output) → IsMemberState group me old → old.flush ≡ Some f → old.view_state ≡ Some t → is_complete f ≡ true
-      → Finishes meaning group me f t old new out later → DidThis came old new out later
+  finished-did : (came : Option Posted) (f : FlushModel) (t : ViewState) (old new : MemberState S) (out later : Output) → IsMemberState (who me group) old → old.flush ≡ Some f → old.view_state ≡ Some t → is_complete f ≡ true
+      → Finishes meaning (who me group) f t (in_step old out) (in_step new later) → DidThis came (in_step old out) (in_step new later)
   finished-did came f t old new out later kept flush inside complete z =
       let same : old ≡ record old { flush = Some f; view_state = Some t } = λ j. record old { flush = flush j; view_state = inside j } in
-      subst (λ (l : MemberState S). DidThis came l new out later) (sym same) (finished-at came f t old new out later kept flush complete z)
+      subst (λ (l : MemberState S). DidThis came (in_step l out) (in_step new later)) (sym same) (finished-at came f t old new out later kept flush complete z)
 
   -- whether it finishes or not
-  pub finishes-either : {P : Type 0} (old new : MemberState S) (out later : Output) → GoesOn meaning group me old new out later → (StaysAs old new out later → P)
-      → ((f : FlushModel) (t : ViewState) → old.flush ≡ Some f → old.view_state ≡ Some t → is_complete f ≡ true → FinishesAndProposes meaning group me f t old new out later → P) → P
+  pub finishes-either : {P : Type 0} (old new : MemberState S) (out later : Output) → GoesOn meaning (who me group) (in_step old out) (in_step new later) → (StaysAs (in_step old out) (in_step new later) → P)
+      → ((f : FlushModel) (t : ViewState) → old.flush ≡ Some f → old.view_state ≡ Some t → is_complete f ≡ true → FinishesAndProposes meaning (who me group) f t (in_step old out) (in_step new later) → P) → P
   finishes-either old new out later x stays finishes =
-      match-option old.flush (StaysAs old new out later)
-      (λ f. MatchBool (is_complete f) (MatchOption old.view_state ⊥ (λ t. FinishesAndProposes meaning group me f t old new out later)) (StaysAs old new out later)) x stays
-      (λ f flush y. match-bool (is_complete f) (MatchOption old.view_state ⊥ (λ t. FinishesAndProposes meaning group me f t old new out later)) (StaysAs old new out later) y
-      (λ complete z. match-option old.view_state ⊥ (λ t. FinishesAndProposes meaning group me f t old new out later) z (λ none. absurd none) (λ t inside done. finishes f t flush inside complete done))
+      match-option old.flush (StaysAs (in_step old out) (in_step new later))
+      (λ f. MatchBool (is_complete f) (MatchOption old.view_state ⊥ (λ t. FinishesAndProposes meaning (who me group) f t (in_step old out) (in_step new later))) (StaysAs (in_step old out) (in_step new later))) x stays
+      (λ f flush y. match-bool (is_complete f) (MatchOption old.view_state ⊥ (λ t. FinishesAndProposes meaning (who me group) f t (in_step old out) (in_step new later))) (StaysAs (in_step old out) (in_step new later)) y
+      (λ complete z. match-option old.view_state ⊥ (λ t. FinishesAndProposes meaning (who me group) f t (in_step old out) (in_step new later)) z (λ none. absurd none) (λ t inside done. finishes f t flush inside complete done))
       (λ waits s. stays s))
 
-  pub goes-on-did : (came : Option Posted) (old new : MemberState S) (out later : Output) → IsMemberState group me old → GoesOn meaning group me old new out later → DidThis came old new out later
+  pub goes-on-did : (came : Option Posted) (old new : MemberState S) (out later : Output) → IsMemberState (who me group) old → GoesOn meaning (who me group) (in_step old out) (in_step new later) → DidThis came (in_step old out) (in_step new later)
   goes-on-did came old new out later kept x =
       finishes-either old new out later x (λ s. stays-did meaning came group me old new out later s.0 s.1)
       (λ f t flush inside complete z.
-      did-then meaning came group me old z.mid new out z.between later (finished-did came f t old z.mid out z.between kept flush inside complete z.finishes)
-      (proposes-did came z.mid new z.between later (finished-member_state group me meaning f t old old z.mid out z.between kept flush refl z.finishes) z.proposes))
+      did-then meaning came group me old z.mid.member new out z.mid.out later (finished-did came f t old z.mid.member out z.mid.out kept flush inside complete z.finishes)
+      (proposes-did came z.mid.member new z.mid.out later (finished-member_state group me meaning f t old old z.mid.member out z.mid.out kept flush refl z.finishes) z.proposes))
 
   -- ---- it begins, and goes on
 
-  begins-on-did : (came : Option Posted) (old new : MemberState S) (w : View) (out later : Output) → IsMemberState group me old → IsProposal me old w → BeginsAndGoesOn meaning group me w old new out later
-      → DidThis came old new out later
+  begins-on-did : (came : Option Posted) (old new : MemberState S) (w : View) (out later : Output) → IsMemberState (who me group) old → IsProposal me old w → BeginsAndGoesOn meaning (who me group) w (in_step old out) (in_step new later)
+      → DidThis came (in_step old out) (in_step new later)
   begins-on-did came old new w out later kept p x =
-      did-then meaning came group me old x.mid new out x.between later (begins-did came old x.mid w out x.between kept p x.begins)
-      (goes-on-did came x.mid new x.between later (begun-member_state group me old x.mid w out x.between kept p x.begins) x.goes_on)
+      did-then meaning came group me old x.mid.member new out x.mid.out later (begins-did came old x.mid.member w out x.mid.out kept p x.begins)
+      (goes-on-did came x.mid.member new x.mid.out later (begun-member_state group me old x.mid.member w out x.mid.out kept p x.begins) x.goes_on)
 
-  pub regroups-did : (came : Option Posted) (old new : MemberState S) (out later : Output) → IsMemberState group me old → Regroups meaning group me old new out later → DidThis came old new out later
+  pub regroups-did : (came : Option Posted) (old new : MemberState S) (out later : Output) → IsMemberState (who me group) old → Regroups meaning (who me group) (in_step old out) (in_step new later) → DidThis came (in_step old out) (in_step new later)
   regroups-did came old new out later kept x =
-      match-option (due_proposal (core_of me old) old.notes) (StaysAs old new out later) (λ w. BeginsAndGoesOn meaning group me w old new out later) x
+      match-option (due_proposal (core_of me old) old.notes) (StaysAs (in_step old out) (in_step new later)) (λ w. BeginsAndGoesOn meaning (who me group) w (in_step old out) (in_step new later)) x
       (λ s. stays-did meaning came group me old new out later s.0 s.1)
       (λ w e b. begins-on-did came old new w out later kept (due-is-proposal group me old w kept e) b)
 
-  pub begins-anew-did : (came : Option Posted) (old new : MemberState S) (out later : Output) → IsMemberState group me old → BeginsAnew meaning group me old new out later → DidThis came old new out later
+  pub begins-anew-did : (came : Option Posted) (old new : MemberState S) (out later : Output) → IsMemberState (who me group) old → BeginsAnew meaning (who me group) (in_step old out) (in_step new later) → DidThis came (in_step old out) (in_step new later)
   begins-anew-did came old new out later kept x =
-      match-option (anew_proposal me old) (StaysAs old new out later) (λ w. BeginsAndGoesOn meaning group me w old new out later) x
+      match-option (anew_proposal me old) (StaysAs (in_step old out) (in_step new later)) (λ w. BeginsAndGoesOn meaning (who me group) w (in_step old out) (in_step new later)) x
       (λ s. stays-did meaning came group me old new out later s.0 s.1)
       (λ w e b. begins-on-did came old new w out later kept (anew-is-proposal group me old w kept e) b)
 
   -- ---- a REPORT
 
   awaited-by : (b : Bool) (l : MemberState S) (f : FlushModel) (q : Address) (r : Report) (out : Output) → is_awaited q f ≡ b → l.flush ≡ Some f
-      → DidThis (Some (packet q (bodies.Report f.proposal r) me)) l (record l { flush = Some (reported q r f) }) out out
+      → DidThis (Some (packet q (bodies.Report f.proposal r) me)) (in_step l out) (in_step (record l { flush = Some (reported q r f) }) out)
   awaited-by true l f q r out e same = record {
     posted = [];
     happened = [];
@@ -201,35 +203,35 @@ module _ {S : Type 0} (meaning : Meaning S) (group : List ℕ) (me : Address) wh
   }
   awaited-by false l f q r out e same =
       let is : Some (reported q r f) ≡ l.flush = ap Some (cond-false (is_awaited q f) (record f { reports = f.reports ++ (q, r) ∷ [] }) f e) ∙ sym same in
-      subst (λ (o : Option FlushModel). DidThis (Some (packet q (bodies.Report f.proposal r) me)) l (record l { flush = o }) out out) (sym is) (nothing-did meaning _ group me l out)
+      subst (λ (o : Option FlushModel). DidThis (Some (packet q (bodies.Report f.proposal r) me)) (in_step l out) (in_step (record l { flush = o }) out)) (sym is) (nothing-did meaning _ group me l out)
 
   own-by : (b : Bool) (l : MemberState S) (f : FlushModel) (q : Address) (w : ViewId) (r : Report) (out : Output) → same_view_id f.proposal w ≡ b → l.flush ≡ Some f
-      → DidThis (Some (packet q (bodies.Report w r) me)) l (record l { flush = Some (if b then reported q r f else f) }) out out
+      → DidThis (Some (packet q (bodies.Report w r) me)) (in_step l out) (in_step (record l { flush = Some (if b then reported q r f else f) }) out)
   own-by true l f q w r out e same =
-      subst (λ (u : ViewId). DidThis (Some (packet q (bodies.Report u r) me)) l (record l { flush = Some (reported q r f) }) out out) (same_view_id-true f.proposal w e)
+      subst (λ (u : ViewId). DidThis (Some (packet q (bodies.Report u r) me)) (in_step l out) (in_step (record l { flush = Some (reported q r f) }) out)) (same_view_id-true f.proposal w e)
       (awaited-by (is_awaited q f) l f q r out refl same)
   own-by false l f q w r out e same =
-      subst (λ (o : Option FlushModel). DidThis (Some (packet q (bodies.Report w r) me)) l (record l { flush = o }) out out) same (nothing-did meaning _ group me l out)
+      subst (λ (o : Option FlushModel). DidThis (Some (packet q (bodies.Report w r) me)) (in_step l out) (in_step (record l { flush = o }) out)) same (nothing-did meaning _ group me l out)
 
   flush-by : (flush : Option FlushModel) (l : MemberState S) (q : Address) (w : ViewId) (r : Report) (out : Output) → l.flush ≡ flush
-      → DidThis (Some (packet q (bodies.Report w r) me)) l (record l { flush = option_map (recording q w r) flush }) out out
+      → DidThis (Some (packet q (bodies.Report w r) me)) (in_step l out) (in_step (record l { flush = option_map (recording q w r) flush }) out)
   flush-by None l q w r out e =
-      subst (λ (o : Option FlushModel). DidThis (Some (packet q (bodies.Report w r) me)) l (record l { flush = o }) out out) e (nothing-did meaning _ group me l out)
+      subst (λ (o : Option FlushModel). DidThis (Some (packet q (bodies.Report w r) me)) (in_step l out) (in_step (record l { flush = o }) out)) e (nothing-did meaning _ group me l out)
   flush-by (Some f) l q w r out e = own-by (same_view_id f.proposal w) l f q w r out refl e
 
-  pub takes-report-did : (came : Option Posted) (old new : MemberState S) (q : Address) (w : ViewId) (r : Report) (out later : Output) → IsMemberState group me old → TakesReport meaning group me q w r old new out later
-      → came ≡ Some (packet q (bodies.Report w r) me) → DidThis came old new out later
+  pub takes-report-did : (came : Option Posted) (old new : MemberState S) (q : Address) (w : ViewId) (r : Report) (out later : Output) → IsMemberState (who me group) old → TakesReport meaning (who me group) q w r (in_step old out) (in_step new later)
+      → came ≡ Some (packet q (bodies.Report w r) me) → DidThis came (in_step old out) (in_step new later)
   takes-report-did came old new q w r out later kept x came_so =
       let mid = record old { flush = option_map (recording q w r) old.flush } in
       did-then meaning came group me old mid new out out later
-      (subst (λ (m : Option Posted). DidThis m old mid out out) (sym came_so) (flush-by old.flush old q w r out refl))
+      (subst (λ (m : Option Posted). DidThis m (in_step old out) (in_step mid out)) (sym came_so) (flush-by old.flush old q w r out refl))
       (goes-on-did came mid new out later (recorded-member_state group me old mid q w r kept refl) x)
 
   -- ---- an INSTALL again
 
   again-by : (came : Option Posted) (q : Address) (l : MemberState S) (given : List (Address × wire.Install)) (o : Option Outgoing) (out later : Output) → sent_installs_in l.sent_installs.items ≡ given
       → later.packets.items ≡ out.packets.items ++ option_to_list o → later.events.items ≡ out.events.items
-      → (o ≡ None) ⊎ IsAgain group me q (view_in l.view_state) given o → DidThis came l l out later
+      → (o ≡ None) ⊎ IsAgain group me q (view_in l.view_state) given o → DidThis came (in_step l out) (in_step l later)
   again-by came q l given o out later kept packets events (inl none) = record {
     posted = [];
     happened = [];
@@ -248,7 +250,7 @@ module _ {S : Type 0} (meaning : Meaning S) (group : List ℕ) (me : Address) wh
     acted = one-acted meaning came (core_of me l) (Puts a.to (bodies.Install a.install)) (a.current, ap (λ (p : Address). install_sent_to p (sent_installs_in l.sent_installs.items)) a.same ∙ ap (install_sent_to q) kept ∙ a.first);
   }
 
-  pub installs-again-did : (came : Option Posted) (q : Address) (l : MemberState S) (out later : Output) → IsMemberState group me l → InstallsAgain q l out later → DidThis came l l out later
+  pub installs-again-did : (came : Option Posted) (q : Address) (l : MemberState S) (out later : Output) → IsMemberState (who me group) l → InstallsAgain q (in_step l out) later → DidThis came (in_step l out) (in_step l later)
   installs-again-did came q l out later kept x =
       let k = kept.sent_installs in
       again-by came q l k.given (find (is_sent_to q) (map (spelled group) (map (install_packet me) k.given))) out later (ap sent_installs_in k.spelled ∙ kept-are group me k.given k.sound)
@@ -256,16 +258,16 @@ module _ {S : Type 0} (meaning : Meaning S) (group : List ℕ) (me : Address) wh
 
   -- ---- a BEHIND, and a suspicion
 
-  pub takes-behind-did : (came : Option Posted) (old new : MemberState S) (counter : ℕ) (out later : Output) → IsMemberState group me old → TakesBehind meaning group me counter old new out later
-      → DidThis came old new out later
+  pub takes-behind-did : (came : Option Posted) (old new : MemberState S) (counter : ℕ) (out later : Output) → IsMemberState (who me group) old → TakesBehind meaning (who me group) counter (in_step old out) (in_step new later)
+      → DidThis came (in_step old out) (in_step new later)
   takes-behind-did came old new counter out later kept x =
       let heard = record old { notes = having_heard counter old.notes } in
       let member_state = heard-member_state group me old heard counter kept refl in
       did-then meaning came group me old heard new out out later (noted-did meaning came group me old heard (having_heard counter old.notes) out refl)
       (begins-anew-did came heard new out later member_state x)
 
-  pub takes-suspicion-did : (came : Option Posted) (old new : MemberState S) (p : Address) (out later : Output) → IsMemberState group me old → TakesSuspicion meaning group me p old new out later
-      → same_address p me ≡ false → DidThis came old new out later
+  pub takes-suspicion-did : (came : Option Posted) (old new : MemberState S) (p : Address) (out later : Output) → IsMemberState (who me group) old → TakesSuspicion meaning (who me group) p (in_step old out) (in_step new later)
+      → same_address p me ≡ false → DidThis came (in_step old out) (in_step new later)
   takes-suspicion-did came old new p out later kept x other =
       let noted = record old { notes = suspecting p old.notes } in
       did-then meaning came group me old noted new out out later (noted-did meaning came group me old noted (suspecting p old.notes) out refl)
@@ -279,8 +281,8 @@ module _ {S : Type 0} (meaning : Meaning S) (group : List ℕ) (me : Address) wh
   entered-by None came old i a = a
   entered-by (Some t) came old i a = a
 
-  entered-did : (came : Option Posted) (old new : MemberState S) (q : Address) (i : wire.Install) (out later : Output) → IsMemberState group me old → is_entry (core_of me old) q i ≡ true → is_readable meaning i.state ≡ true
-      → came ≡ Some (packet q (bodies.Install i) me) → Enters meaning group me old.view_state i old new out later → DidThis came old new out later
+  entered-did : (came : Option Posted) (old new : MemberState S) (q : Address) (i : wire.Install) (out later : Output) → IsMemberState (who me group) old → is_entry (core_of me old) q i ≡ true → is_readable meaning i.state ≡ true
+      → came ≡ Some (packet q (bodies.Install i) me) → Enters meaning (who me group) old.view_state i (in_step old out) (in_step new later) → DidThis came (in_step old out) (in_step new later)
   entered-did came old new q i out later kept enters reads came_so z =
       let c = core_of me old in
       let s = state_by meaning old.view_state i old.receiver in
@@ -301,9 +303,9 @@ module _ {S : Type 0} (meaning : Meaning S) (group : List ℕ) (me : Address) wh
             (entered-by old.view_state came old i (enters-acted meaning came c q i came_so enters reads));
       }
 
-  pub takes-install-did : (came : Option Posted) (old new : MemberState S) (q : Address) (i : wire.Install) (out later : Output) → IsMemberState group me old → TakesInstall meaning group me q i old new out later
-      → came ≡ Some (packet q (bodies.Install i) me) → DidThis came old new out later
+  pub takes-install-did : (came : Option Posted) (old new : MemberState S) (q : Address) (i : wire.Install) (out later : Output) → IsMemberState (who me group) old → TakesInstall meaning (who me group) q i (in_step old out) (in_step new later)
+      → came ≡ Some (packet q (bodies.Install i) me) → DidThis came (in_step old out) (in_step new later)
   takes-install-did came old new q i out later kept x came_so =
-      match-bool (is_entry (core_of me old) q i) ((is_readable meaning i.state ≡ true) × Enters meaning group me old.view_state i old new out later) (StaysAs old new out later) x
+      match-bool (is_entry (core_of me old) q i) ((is_readable meaning i.state ≡ true) × Enters meaning (who me group) old.view_state i (in_step old out) (in_step new later)) (StaysAs (in_step old out) (in_step new later)) x
       (λ enters z. entered-did came old new q i out later kept enters z.0 came_so z.1)
       (λ ignored s. stays-did meaning came group me old new out later s.0 s.1)

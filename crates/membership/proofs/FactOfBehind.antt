@@ -14,6 +14,8 @@ use Rattle.step_output.specs.declared.output.Output.{Output}
 use Rattle.step_output.specs.Outputs.{Grows}
 use Rattle.membership.specs.declared.member_state.MemberState.{MemberState}
 use Rattle.membership.specs.Changes.{is_behind, TakesBy, TakesFlush}
+use Rattle.step_output.specs.Steps.{who}
+use Rattle.membership.specs.InSteps.{in_step}
 
 past-by : (o : Ordering) (u : View) (installed : Bool) → is_behind (answer_past o u installed) ≡ true → answer_past o u installed ≡ Behind u.id.counter
 past-by Greater u installed e = absurd (let n : false ≡ true = e in cc)
@@ -33,6 +35,6 @@ behind-is w u p promised e =
     (λ b. past ∙ past-by (view_id_cmp w.id u.id) u p.is_installed (ap is_behind (sym past) ∙ b)) e
 
 pub answered-behind : {S : Type 0} (group : List ℕ) (me : Address) (w u : View) (l : MemberState S) (out later : Output) → l.promise.proposal ≡ Some u → is_behind (offered w l.promise) ≡ true
-    → Grows group out later (packet me (bodies.Behind w.id u.id.counter) w.id.creator ∷ []) [] → TakesFlush group me w l l out later
+    → Grows group out later (packet me (bodies.Behind w.id u.id.counter) w.id.creator ∷ []) [] → TakesFlush (who me group) w (in_step l out) (in_step l later)
 answered-behind group me w u l out later promised e grows =
-    subst (λ (a : OfferAnswer). TakesBy a group me w l l out later) (sym (behind-is w u l.promise promised e)) (refl, grows)
+    subst (λ (a : OfferAnswer). TakesBy (who me group) a w (in_step l out) (in_step l later)) (sym (behind-is w u l.promise promised e)) (refl, grows)

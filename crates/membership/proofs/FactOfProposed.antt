@@ -1,5 +1,5 @@
 -- What a member proposes: it may, and it leads the view in which it does.
-use Rattle.std.proofs.Common.{◌≡◌, ℕ, Bool, true, false, cond, ◌||◌, Option, Some, None, List, refl, sym, ap, ◌∙◌, subst, arith, is_some}
+use Rattle.std.proofs.Common.{◌≡◌, ℕ, Bool, true, false, cond, Option, Some, None, List, refl, sym, ap, ◌∙◌, subst, arith, is_some}
 use Rattle.std.specs.Prelude.{if◌then◌else◌}
 use Rattle.std.specs.Option.{option_map_or, option_and_then}
 use Rattle.std.specs.declared.cmp.Ordering.TheVariants.{Greater}
@@ -8,7 +8,6 @@ use Rattle.std.proofs.lemmas.Option.{none-some}
 use Rattle.address.specs.Ids.{Address, ViewId, view_id_cmp}
 use Rattle.view.specs.Members.{View, stands_in}
 use Rattle.view.specs.View.{view_refusal}
-use Rattle.limits.specs.declared.TheConstants.{MEMBERS}
 use Rattle.flush.specs.Flushes.{FlushModel}
 use Rattle.view_install.specs.Promises.{PromiseModel, offered, is_accept, answer_past}
 use Rattle.view_install.specs.declared.promise.OfferAnswer.TheVariants.{Accept, Ignore}
@@ -19,6 +18,7 @@ use Rattle.decisions.proofs.FactOfProposal.{next-means, proposal-is-view, due-me
 use Rattle.membership.specs.declared.member_state.MemberState.{MemberState}
 use Rattle.membership.specs.MemberStates.{core_of, view_in, leads_in, anew_proposal, IsMemberState}
 use Rattle.view.proofs.FactOfMembers.{coordinator-in}
+use Rattle.step_output.specs.Steps.{who}
 
 -- ---- the creator of a view stands in it
 
@@ -48,7 +48,7 @@ pub record IsProposal {S : Type 0} (me : Address) (l : MemberState S) (w : View)
   pub accepted : is_accept (offered w l.promise) ≡ true
 
 module _ {S : Type 0} (group : List ℕ) (me : Address) where
-  pub is-proposal : (l : MemberState S) (v w : View) → IsMemberState group me l → view_in l.view_state ≡ Some v → leads_in me v l.notes ≡ true → proposal_after (core_of me l) l.notes v ≡ Some w → IsProposal me l w
+  pub is-proposal : (l : MemberState S) (v w : View) → IsMemberState (who me group) l → view_in l.view_state ≡ Some v → leads_in me v l.notes ≡ true → proposal_after (core_of me l) l.notes v ≡ Some w → IsProposal me l w
   is-proposal l v w kept inside leads next =
       let sound : view_refusal w.id w.members ≡ None = proposal-is-view (core_of me l) l.notes v w leads kept.unsuspected next in
       let x = next-means (core_of me l) l.notes _ w next in
@@ -65,29 +65,29 @@ module _ {S : Type 0} (group : List ℕ) (me : Address) where
       }
 
   -- what is due is one
-  pub due-is-proposal : (l : MemberState S) (w : View) → IsMemberState group me l → due_proposal (core_of me l) l.notes ≡ Some w → IsProposal me l w
+  pub due-is-proposal : (l : MemberState S) (w : View) → IsMemberState (who me group) l → due_proposal (core_of me l) l.notes ≡ Some w → IsProposal me l w
   due-is-proposal l w kept e = let d = due-means (core_of me l) l.notes w e in is-proposal l d.before w kept d.inside d.it_leads d.next
 
-  flush-by : (flush : Option FlushModel) (l : MemberState S) (v w : View) → IsMemberState group me l → l.flush ≡ flush → view_in l.view_state ≡ Some v
+  flush-by : (flush : Option FlushModel) (l : MemberState S) (v w : View) → IsMemberState (who me group) l → l.flush ≡ flush → view_in l.view_state ≡ Some v
       → (if is_some flush then proposal_after (core_of me l) l.notes v else None) ≡ Some w → IsProposal me l w
   flush-by None l v w kept q inside e = absurd (none-some w e)
   flush-by (Some f) l v w kept q inside e = is-proposal l v w kept inside ((kept.flushing f q).leads v inside) e
 
-  view-by : (view : Option View) (l : MemberState S) (w : View) → IsMemberState group me l → view_in l.view_state ≡ view
+  view-by : (view : Option View) (l : MemberState S) (w : View) → IsMemberState (who me group) l → view_in l.view_state ≡ view
       → option_and_then (λ v. if is_some l.flush then proposal_after (core_of me l) l.notes v else None) view ≡ Some w → IsProposal me l w
   view-by None l w kept q e = absurd (none-some w e)
   view-by (Some v) l w kept q e = flush-by l.flush l v w kept refl q e
 
   -- what it proposes anew is one
-  pub anew-is-proposal : (l : MemberState S) (w : View) → IsMemberState group me l → anew_proposal me l ≡ Some w → IsProposal me l w
+  pub anew-is-proposal : (l : MemberState S) (w : View) → IsMemberState (who me group) l → anew_proposal me l ≡ Some w → IsProposal me l w
   anew-is-proposal l w kept e = view-by (view_in l.view_state) l w kept refl e
 
-  flush-by-leads : (flush : Option FlushModel) (l : MemberState S) (v : View) → IsMemberState group me l → l.flush ≡ flush → is_some flush ≡ true → view_in l.view_state ≡ Some v → leads_in me v l.notes ≡ true
+  flush-by-leads : (flush : Option FlushModel) (l : MemberState S) (v : View) → IsMemberState (who me group) l → l.flush ≡ flush → is_some flush ≡ true → view_in l.view_state ≡ Some v → leads_in me v l.notes ≡ true
   flush-by-leads None l v kept q there inside = absurd (let n : false ≡ true = there in cc)
   flush-by-leads (Some f) l v kept q there inside = (kept.flushing f q).leads v inside
 
   -- whoever has a flush of its own leads its view
-  pub flush-leads : (l : MemberState S) (v : View) → IsMemberState group me l → is_some l.flush ≡ true → view_in l.view_state ≡ Some v → leads_in me v l.notes ≡ true
+  pub flush-leads : (l : MemberState S) (v : View) → IsMemberState (who me group) l → is_some l.flush ≡ true → view_in l.view_state ≡ Some v → leads_in me v l.notes ≡ true
   flush-leads l v kept there inside = flush-by-leads l.flush l v kept refl there inside
 
 pub anew-is : {S : Type 0} (me : Address) (l : MemberState S) (v : View) (o : Option View) → is_some l.flush ≡ true → view_in l.view_state ≡ Some v → o ≡ proposal_after (core_of me l) l.notes v

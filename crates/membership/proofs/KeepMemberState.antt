@@ -31,6 +31,8 @@ use Rattle.membership.specs.Installs.{instruction_to, instructing, finished_stat
 use Rattle.membership.specs.Changes.{StaysAs, Promises, Begins, ProposesIf, Finishes, FinishesAndProposes, GoesOn, Enters}
 use Rattle.membership.proofs.FactOfProposed.{IsProposal}
 use Rattle.view.proofs.FactOfMembers.{coordinator-in}
+use Rattle.step_output.specs.Steps.{who}
+use Rattle.membership.specs.InSteps.{in_step}
 
 -- ---- small things
 
@@ -89,7 +91,7 @@ other-installed me w p own may =
 -- ---- what was kept
 
 -- what was kept before it is kept with the same view
-kept-on : {S : Type 0} (group : List ℕ) (me : Address) (l new : MemberState S) → new.sent_installs ≡ l.sent_installs → new.view_state ≡ l.view_state → IsKept group me l → IsKept group me new
+kept-on : {S : Type 0} (group : List ℕ) (me : Address) (l new : MemberState S) → new.sent_installs ≡ l.sent_installs → new.view_state ≡ l.view_state → IsKept (who me group) l → IsKept (who me group) new
 kept-on group me l new kept view_state k = record {
   given = k.given;
   spelled = ap (λ v. v.items) kept ∙ k.spelled;
@@ -97,7 +99,7 @@ kept-on group me l new kept view_state k = record {
   current = subst (λ (t : Option ViewState). AllByRecursion (λ p. view_in t ≡ Some p.1.view) k.given) (sym view_state) k.current;
 }
 
-nothing-kept : {S : Type 0} (group : List ℕ) (me : Address) (l : MemberState S) → l.sent_installs.items ≡ [] → IsKept group me l
+nothing-kept : {S : Type 0} (group : List ℕ) (me : Address) (l : MemberState S) → l.sent_installs.items ≡ [] → IsKept (who me group) l
 nothing-kept group me l e = record { given = []; spelled = e; sound = tt; current = tt }
 
 -- each INSTALL of a flush, with whom it is for
@@ -135,7 +137,7 @@ created-promise me p own none =
 module _ {S : Type 0} (group : List ℕ) (me : Address) where
   -- ---- at its start
 
-  pub idle-is-member_state : (s : S) (l : MemberState S) → idle_member me s l → IsMemberState group me l
+  pub idle-is-member_state : (s : S) (l : MemberState S) → idle_member me s l → IsMemberState (who me group) l
   idle-is-member_state s l i =
       let none : l.promise.proposal ≡ None = ap (λ (p : PromiseModel). p.proposal) i.promise in
       record {
@@ -152,11 +154,11 @@ module _ {S : Type 0} (group : List ℕ) (me : Address) where
 
   -- ---- a FLUSH is promised
 
-  pub promised-member_state : (l new : MemberState S) (w : View) (out later : Output) → IsMemberState group me l → is_connected l ≡ true → same_address w.id.creator me ≡ false
-      → is_accept (offered w l.promise) ≡ true → Promises group me w l new out later → IsMemberState group me new
+  pub promised-member_state : (l new : MemberState S) (w : View) (out later : Output) → IsMemberState (who me group) l → is_connected l ≡ true → same_address w.id.creator me ≡ false
+      → is_accept (offered w l.promise) ≡ true → Promises (who me group) w (in_step l out) (in_step new later) → IsMemberState (who me group) new
   promised-member_state l new w out later kept on other accepted p =
       let listed : stands_in l.promise.member w.members ≡ true = (accepted-parts (stands_in l.promise.member w.members) _ accepted).0 in
-      subst (λ (z : MemberState S). IsMemberState group me z) (sym p.member_state) (record {
+      subst (λ (z : MemberState S). IsMemberState (who me group) z) (sym p.member_state) (record {
         own = kept.own;
         unsuspected = kept.unsuspected;
         inside = kept.inside;
@@ -183,9 +185,9 @@ module _ {S : Type 0} (group : List ℕ) (me : Address) where
         ap (leads_in me v) notes ∙ subst (λ (u : View). leads_in me u l.notes ≡ true) same p.leads;
   }
 
-  pub begun-member_state : (l new : MemberState S) (w : View) (out later : Output) → IsMemberState group me l → IsProposal me l w → Begins group me w l new out later → IsMemberState group me new
+  pub begun-member_state : (l new : MemberState S) (w : View) (out later : Output) → IsMemberState (who me group) l → IsProposal me l w → Begins (who me group) w (in_step l out) (in_step new later) → IsMemberState (who me group) new
   begun-member_state l new w out later kept p b =
-      subst (λ (z : MemberState S). IsMemberState group me z) (sym b.member_state) (record {
+      subst (λ (z : MemberState S). IsMemberState (who me group) z) (sym b.member_state) (record {
         own = kept.own;
         unsuspected = kept.unsuspected;
         inside = kept.inside;
@@ -202,7 +204,7 @@ module _ {S : Type 0} (group : List ℕ) (me : Address) where
 
   -- in a view that is the promised one, with no notes of suspects
   pub gone-member_state : (new : MemberState S) (w : View) → new.view_state ≡ Some (fresh_in me w) → new.promise ≡ installed_as me w → new.flush ≡ None → new.notes.suspects ≡ [] → stands_in me w.members ≡ true
-      → IsKept group me new → IsMemberState group me new
+      → IsKept (who me group) new → IsMemberState (who me group) new
   gone-member_state new w view_state promise flush suspects stands kept =
       let view : view_in new.view_state ≡ Some w = ap view_in view_state ∙ ap Some (fresh-view me w) in
       let proposal : new.promise.proposal ≡ Some w = ap (λ (p : PromiseModel). p.proposal) promise in
@@ -219,8 +221,8 @@ module _ {S : Type 0} (group : List ℕ) (me : Address) where
       }
 
   -- it goes into its own proposal
-  pub finished-member_state : (meaning : Meaning S) (f : FlushModel) (t : ViewState) (l old new : MemberState S) (out later : Output) → IsMemberState group me l → l.flush ≡ Some f
-      → old.promise ≡ l.promise → Finishes meaning group me f t old new out later → IsMemberState group me new
+  pub finished-member_state : (meaning : Meaning S) (f : FlushModel) (t : ViewState) (l old new : MemberState S) (out later : Output) → IsMemberState (who me group) l → l.flush ≡ Some f
+      → old.promise ≡ l.promise → Finishes meaning (who me group) f t (in_step old out) (in_step new later) → IsMemberState (who me group) new
   finished-member_state meaning f t l old new out later kept flush same z =
       let x = kept.flushing f flush in
       let state = meaning.encode (finished_state meaning f t old.receiver) in
@@ -239,20 +241,20 @@ module _ {S : Type 0} (group : List ℕ) (me : Address) where
 
   -- all have reported: it goes into its own proposal, and proposes what is due then
   pub goes-on : (meaning : Meaning S) (old mid new : MemberState S) (f : FlushModel) (t : ViewState) (out between later : Output) → old.flush ≡ Some f → old.view_state ≡ Some t
-      → option_map_or is_complete old.flush false ≡ true → Finishes meaning group me f t old mid out between → ProposesIf group me mid new between later → GoesOn meaning group me old new out later
+      → option_map_or is_complete old.flush false ≡ true → Finishes meaning (who me group) f t (in_step old out) (in_step mid between) → ProposesIf (who me group) (in_step mid between) (in_step new later) → GoesOn meaning (who me group) (in_step old out) (in_step new later)
   goes-on meaning old mid new f t out between later flush view_state complete finishes proposes =
       let all : is_complete f ≡ true = subst (λ (o : Option FlushModel). option_map_or is_complete o false ≡ true) flush complete in
-      let then : FinishesAndProposes meaning group me f t old new out later = record { mid = mid; between = between; finishes = finishes; proposes = proposes } in
-      let inside : MatchOption old.view_state ⊥ (λ u. FinishesAndProposes meaning group me f u old new out later) =
-      subst (λ (o : Option ViewState). MatchOption o ⊥ (λ u. FinishesAndProposes meaning group me f u old new out later)) (sym view_state) then in
-      let done : MatchBool (is_complete f) (MatchOption old.view_state ⊥ (λ u. FinishesAndProposes meaning group me f u old new out later)) (StaysAs old new out later) =
-      subst (λ (b : Bool). MatchBool b (MatchOption old.view_state ⊥ (λ u. FinishesAndProposes meaning group me f u old new out later)) (StaysAs old new out later)) (sym all) inside in
-      subst (λ (o : Option FlushModel). MatchOption o (StaysAs old new out later)
-      (λ g. MatchBool (is_complete g) (MatchOption old.view_state ⊥ (λ u. FinishesAndProposes meaning group me g u old new out later)) (StaysAs old new out later))) (sym flush) done
+      let then : FinishesAndProposes meaning (who me group) f t (in_step old out) (in_step new later) = record { mid = in_step mid between; finishes = finishes; proposes = proposes } in
+      let inside : MatchOption old.view_state ⊥ (λ u. FinishesAndProposes meaning (who me group) f u (in_step old out) (in_step new later)) =
+      subst (λ (o : Option ViewState). MatchOption o ⊥ (λ u. FinishesAndProposes meaning (who me group) f u (in_step old out) (in_step new later))) (sym view_state) then in
+      let done : MatchBool (is_complete f) (MatchOption old.view_state ⊥ (λ u. FinishesAndProposes meaning (who me group) f u (in_step old out) (in_step new later))) (StaysAs (in_step old out) (in_step new later)) =
+      subst (λ (b : Bool). MatchBool b (MatchOption old.view_state ⊥ (λ u. FinishesAndProposes meaning (who me group) f u (in_step old out) (in_step new later))) (StaysAs (in_step old out) (in_step new later))) (sym all) inside in
+      subst (λ (o : Option FlushModel). MatchOption o (StaysAs (in_step old out) (in_step new later))
+      (λ g. MatchBool (is_complete g) (MatchOption old.view_state ⊥ (λ u. FinishesAndProposes meaning (who me group) g u (in_step old out) (in_step new later))) (StaysAs (in_step old out) (in_step new later)))) (sym flush) done
 
   -- it enters the view of another
   pub entered-member_state : (meaning : Meaning S) (q : Address) (i : wire.Install) (view_state : Option ViewState) (l old new : MemberState S) (out later : Output)
-      → IsMemberState group me l → is_entry (core_of me l) q i ≡ true → old.promise ≡ l.promise → Enters meaning group me view_state i old new out later → IsMemberState group me new
+      → IsMemberState (who me group) l → is_entry (core_of me l) q i ≡ true → old.promise ≡ l.promise → Enters meaning (who me group) view_state i (in_step old out) (in_step new later) → IsMemberState (who me group) new
   entered-member_state meaning q i view_state l old new out later kept enters same z =
       let parts = and_parts (same_address q i.view.id.creator && may_install i.view l.promise) (is_fitting (view_in l.view_state) (view_core_in l.view_state).delivered i) enters in
       let may : may_install i.view l.promise ≡ true = (and_parts (same_address q i.view.id.creator) (may_install i.view l.promise) parts.0).1 in
@@ -261,10 +263,10 @@ module _ {S : Type 0} (group : List ℕ) (me : Address) where
       (kept.listed i.view (only-the-promised i.view l.promise may).0) (nothing-kept group me new z.sent_installs)
 
   -- a member whose flush and view are these
-  pub whole-member_state : (l : MemberState S) (f : FlushModel) (t : ViewState) → l.flush ≡ Some f → l.view_state ≡ Some t → IsMemberState group me l → IsMemberState group me (record l { flush = Some f; view_state = Some t })
+  pub whole-member_state : (l : MemberState S) (f : FlushModel) (t : ViewState) → l.flush ≡ Some f → l.view_state ≡ Some t → IsMemberState (who me group) l → IsMemberState (who me group) (record l { flush = Some f; view_state = Some t })
   whole-member_state l f t flush view_state kept =
       let same : l ≡ record l { flush = Some f; view_state = Some t } = λ j. record l { flush = flush j; view_state = view_state j } in
-      subst (λ (z : MemberState S). IsMemberState group me z) same kept
+      subst (λ (z : MemberState S). IsMemberState (who me group) z) same kept
 
   -- ---- a report is recorded
 
@@ -274,7 +276,7 @@ module _ {S : Type 0} (group : List ℕ) (me : Address) where
   recorded-flushing l q w r f true false o x = record { inside = x.inside; promise = x.promise; own = x.own; waiting = x.waiting; list = x.list; reported = x.reported; leads = x.leads }
   recorded-flushing l q w r f false d o x = record { inside = x.inside; promise = x.promise; own = x.own; waiting = x.waiting; list = x.list; reported = x.reported; leads = x.leads }
 
-  recorded-by : (l : MemberState S) (q : Address) (w : ViewId) (r : wire.Report) (flush : Option FlushModel) → l.flush ≡ flush → IsMemberState group me l → IsMemberState group me (record l { flush = option_map (recording q w r) flush })
+  recorded-by : (l : MemberState S) (q : Address) (w : ViewId) (r : wire.Report) (flush : Option FlushModel) → l.flush ≡ flush → IsMemberState (who me group) l → IsMemberState (who me group) (record l { flush = option_map (recording q w r) flush })
   recorded-by l q w r None e kept = record {
     own = kept.own;
     unsuspected = kept.unsuspected;
@@ -299,15 +301,15 @@ module _ {S : Type 0} (group : List ℕ) (me : Address) where
     sent_installs = kept-on group me l _ refl refl kept.sent_installs;
   }
 
-  pub recorded-member_state : (l new : MemberState S) (q : Address) (w : ViewId) (r : wire.Report) → IsMemberState group me l → new ≡ record l { flush = option_map (recording q w r) l.flush } → IsMemberState group me new
-  recorded-member_state l new q w r kept is = subst (λ (z : MemberState S). IsMemberState group me z) (sym is) (recorded-by l q w r l.flush refl kept)
+  pub recorded-member_state : (l new : MemberState S) (q : Address) (w : ViewId) (r : wire.Report) → IsMemberState (who me group) l → new ≡ record l { flush = option_map (recording q w r) l.flush } → IsMemberState (who me group) new
+  recorded-member_state l new q w r kept is = subst (λ (z : MemberState S). IsMemberState (who me group) z) (sym is) (recorded-by l q w r l.flush refl kept)
 
   -- ---- notes
 
   -- notes by which it does not suspect itself, and goes on to lead where it led
-  pub noted-member_state : (l new : MemberState S) (b : NotesModel) → IsMemberState group me l → new ≡ record l { notes = b } → stands_in me b.suspects ≡ false
-      → ((v : View) → leads_in me v l.notes ≡ true → leads_in me v b ≡ true) → IsMemberState group me new
-  noted-member_state l new b kept is free leads = subst (λ (z : MemberState S). IsMemberState group me z) (sym is) (record {
+  pub noted-member_state : (l new : MemberState S) (b : NotesModel) → IsMemberState (who me group) l → new ≡ record l { notes = b } → stands_in me b.suspects ≡ false
+      → ((v : View) → leads_in me v l.notes ≡ true → leads_in me v b ≡ true) → IsMemberState (who me group) new
+  noted-member_state l new b kept is free leads = subst (λ (z : MemberState S). IsMemberState (who me group) z) (sym is) (record {
     own = kept.own;
     unsuspected = free;
     inside = kept.inside;
@@ -322,8 +324,8 @@ module _ {S : Type 0} (group : List ℕ) (me : Address) where
 
   -- ---- a new contact
 
-  pub contact-member_state : (l new : MemberState S) (q : Address) → IsMemberState group me l → new ≡ record l { contact = Some q } → IsMemberState group me new
-  contact-member_state l new q kept is = subst (λ (z : MemberState S). IsMemberState group me z) (sym is) (record {
+  pub contact-member_state : (l new : MemberState S) (q : Address) → IsMemberState (who me group) l → new ≡ record l { contact = Some q } → IsMemberState (who me group) new
+  contact-member_state l new q kept is = subst (λ (z : MemberState S). IsMemberState (who me group) z) (sym is) (record {
     own = kept.own;
     unsuspected = kept.unsuspected;
     inside = kept.inside;
@@ -338,11 +340,11 @@ module _ {S : Type 0} (group : List ℕ) (me : Address) where
 
   -- ---- a first view of itself alone
 
-  unflushed : (flush : Option FlushModel) (l : MemberState S) → l.flush ≡ flush → l.view_state ≡ None → IsMemberState group me l → flush ≡ None
+  unflushed : (flush : Option FlushModel) (l : MemberState S) → l.flush ≡ flush → l.view_state ≡ None → IsMemberState (who me group) l → flush ≡ None
   unflushed None l e none kept = refl
   unflushed (Some f) l e none kept = not-both (is_some l.view_state) (kept.flushing f e).inside (ap is_some none)
 
-  pub created-member_state : (l new : MemberState S) → IsMemberState group me l → is_connected l ≡ false → new ≡ record l { view_state = Some (fresh_in me (lone_view me)); promise = installed_as me (lone_view me) } → IsMemberState group me new
+  pub created-member_state : (l new : MemberState S) → IsMemberState (who me group) l → is_connected l ≡ false → new ≡ record l { view_state = Some (fresh_in me (lone_view me)); promise = installed_as me (lone_view me) } → IsMemberState (who me group) new
   created-member_state l new kept off is =
       let none : l.view_state ≡ None = outside l.view_state (is_some l.contact) off in
       let no-items : l.sent_installs.items ≡ [] = kept.sent_installs.spelled ∙ ap (λ g. map (spelled group) (map (install_packet me) g)) (none-given (view_in l.view_state) kept.sent_installs.given (ap view_in none) kept.sent_installs.current) in

@@ -1,5 +1,5 @@
 -- What a member does in a change of view: exactly what it puts out, what happens to it, and what is left of it.
-use Rattle.std.specs.Prelude.{◌≡◌, ℕ, Bool, true, false, ◌++◌, List, [], ◌∷◌, map, find, Option, None, Some, MatchBool, MatchOption}
+use Rattle.std.specs.Prelude.{◌≡◌, ℕ, Bool, true, false, ◌++◌, [], ◌∷◌, map, find, Option, None, Some, MatchBool, MatchOption}
 use Rattle.std.specs.Option.{option_map, option_to_list}
 use Rattle.address.specs.Ids.{Address, ViewId}
 use Rattle.view.specs.Members.{View}
@@ -20,23 +20,25 @@ use Rattle.traffic.specs.ViewStates.{fresh_in}
 use Rattle.membership.specs.declared.member_state.MemberState.{MemberState}
 use Rattle.membership.specs.MemberStates.{core_of, report_in, blocked_by, begun_with, is_sent_to, is_complete, recording, anew_proposal}
 use Rattle.membership.specs.Installs.{finished_state, finish_packets, finish_events, state_by, arriving, enter_events}
+use Rattle.step_output.specs.Steps.{Who}
+use Rattle.membership.specs.InSteps.{InStep, in_step}
 
 -- nothing is done
-abbrev pub StaysAs : {S : Type 0} → MemberState S → MemberState S → Output → Output → Type 0
-StaysAs old new out later = (new ≡ old) × (later ≡ out)
+abbrev pub StaysAs : {S : Type 0} → InStep S → InStep S → Type 0
+StaysAs old new = (new.member ≡ old.member) × (new.out ≡ old.out)
 
 -- ---- a FLUSH
 
 -- it promises the proposal, is blocked, and reports to who proposed it
-pub record Promises {S : Type 0} (group : List ℕ) (me : Address) (w : View) (old new : MemberState S) (out later : Output) : Type 0 where
-  pub member_state : new ≡ record old { promise = promising w old.promise; flush = None }
-  pub grows : Grows group out later (packet me (bodies.Report w.id (report_in old)) w.id.creator ∷ []) (blocked_by me old)
+pub record Promises {S : Type 0} (who : Who) (w : View) (old new : InStep S) : Type 0 where
+  pub member_state : new.member ≡ record (old.member) { promise = promising w old.member.promise; flush = None }
+  pub grows : Grows who.group old.out new.out (packet who.address (bodies.Report w.id (report_in old.member)) w.id.creator ∷ []) (blocked_by who.address old.member)
 
 -- by the answer to its offer: it promises, or says how far it is, or ignores it
-abbrev pub TakesBy : {S : Type 0} → OfferAnswer → List ℕ → Address → View → MemberState S → MemberState S → Output → Output → Type 0
-TakesBy Accept group me w old new out later = Promises group me w old new out later
-TakesBy (Behind counter) group me w old new out later = (new ≡ old) × Grows group out later (packet me (bodies.Behind w.id counter) w.id.creator ∷ []) []
-TakesBy Ignore group me w old new out later = StaysAs old new out later
+abbrev pub TakesBy : {S : Type 0} → Who → OfferAnswer → View → InStep S → InStep S → Type 0
+TakesBy who Accept w old new = Promises who w old new
+TakesBy who (Behind counter) w old new = (new.member ≡ old.member) × Grows who.group old.out new.out (packet who.address (bodies.Behind w.id counter) w.id.creator ∷ []) []
+TakesBy who Ignore w old new = StaysAs old new
 
 abbrev pub is_behind : OfferAnswer → Bool
 is_behind Accept = false
@@ -48,121 +50,113 @@ is_ignored_offer Accept = false
 is_ignored_offer (Behind counter) = false
 is_ignored_offer Ignore = true
 
-abbrev pub TakesFlush : {S : Type 0} → List ℕ → Address → View → MemberState S → MemberState S → Output → Output → Type 0
-TakesFlush group me w old new out later = TakesBy (offered w old.promise) group me w old new out later
+abbrev pub TakesFlush : {S : Type 0} → Who → View → InStep S → InStep S → Type 0
+TakesFlush who w old new = TakesBy who (offered w old.member.promise) w old new
 
 -- ---- a flush of its own
 
 -- it proposes: it is blocked, its own report is in the flush, and the proposal goes to the others of the list
-pub record Begins {S : Type 0} (group : List ℕ) (me : Address) (w : View) (old new : MemberState S) (out later : Output) : Type 0 where
-  pub member_state : new ≡ record old { promise = promising w old.promise; flush = Some (begun_with me w (report_in old)) }
-  pub grows : Grows group out later (map (packet me (bodies.Flush w)) (others_of me w.members)) (blocked_by me old)
+pub record Begins {S : Type 0} (who : Who) (w : View) (old new : InStep S) : Type 0 where
+  pub member_state : new.member ≡ record (old.member) { promise = promising w old.member.promise; flush = Some (begun_with who.address w (report_in old.member)) }
+  pub grows : Grows who.group old.out new.out (map (packet who.address (bodies.Flush w)) (others_of who.address w.members)) (blocked_by who.address old.member)
 
 -- it proposes what is due, and nothing where nothing is
-abbrev pub ProposesIf : {S : Type 0} → List ℕ → Address → MemberState S → MemberState S → Output → Output → Type 0
-ProposesIf group me old new out later =
-    MatchOption (due_proposal (core_of me old) old.notes) (StaysAs old new out later) (λ w. Begins group me w old new out later)
+abbrev pub ProposesIf : {S : Type 0} → Who → InStep S → InStep S → Type 0
+ProposesIf who old new = MatchOption (due_proposal (core_of who.address old.member) old.member.notes) (StaysAs old new) (λ w. Begins who w old new)
 
 -- it goes into its own proposal: it is delivered what it lacks of its view's cut, and says to each other of the list how to go into the view, with its
 -- state for those who come from another view; what it said is kept
-pub record Finishes {S : Type 0} (meaning : Meaning S) (group : List ℕ) (me : Address) (f : FlushModel) (t : ViewState) (old new : MemberState S)
-    (out later : Output) : Type 0 where
+pub record Finishes {S : Type 0} (meaning : Meaning S) (who : Who) (f : FlushModel) (t : ViewState) (old new : InStep S) : Type 0 where
   pub flush : IsFlush f
-  pub member_state : new ≡ record old {
-    view_state = Some (fresh_in me (proposed f));
-    promise = after_install (proposed f) old.promise;
+  pub member_state : new.member ≡ record (old.member) {
+    view_state = Some (fresh_in who.address (proposed f));
+    promise = after_install (proposed f) old.member.promise;
     flush = None;
-    sent_installs = new.sent_installs;
-    receiver = finished_state meaning f t old.receiver;
-    notes = settled f.members old.notes;
+    sent_installs = new.member.sent_installs;
+    receiver = finished_state meaning f t old.member.receiver;
+    notes = settled f.members old.member.notes;
   }
-  pub sent_installs : new.sent_installs.items ≡ map (spelled group) (finish_packets me f t (meaning.encode (finished_state meaning f t old.receiver)))
-  pub grows : Grows group out later (finish_packets me f t (meaning.encode (finished_state meaning f t old.receiver))) (finish_events me f t)
+  pub sent_installs : new.member.sent_installs.items ≡ map (spelled who.group) (finish_packets who.address f t (meaning.encode (finished_state meaning f t old.member.receiver)))
+  pub grows : Grows who.group old.out new.out (finish_packets who.address f t (meaning.encode (finished_state meaning f t old.member.receiver))) (finish_events who.address f t)
 
 -- it goes into its own proposal, and proposes what is due then
-pub record FinishesAndProposes {S : Type 0} (meaning : Meaning S) (group : List ℕ) (me : Address) (f : FlushModel) (t : ViewState) (old new : MemberState S)
-    (out later : Output) : Type 0 where
-  pub mid : MemberState S
-  pub between : Output
-  pub finishes : Finishes meaning group me f t old mid out between
-  pub proposes : ProposesIf group me mid new between later
+pub record FinishesAndProposes {S : Type 0} (meaning : Meaning S) (who : Who) (f : FlushModel) (t : ViewState) (old new : InStep S) : Type 0 where
+  pub mid : InStep S
+  pub finishes : Finishes meaning who f t old mid
+  pub proposes : ProposesIf who mid new
 
 -- where all have reported it goes into its own proposal, and proposes what is due then; else it waits on
-abbrev pub GoesOn : {S : Type 0} → Meaning S → List ℕ → Address → MemberState S → MemberState S → Output → Output → Type 0
-GoesOn meaning group me old new out later =
-    MatchOption old.flush (StaysAs old new out later)
-    (λ f. MatchBool (is_complete f) (MatchOption old.view_state ⊥ (λ t. FinishesAndProposes meaning group me f t old new out later)) (StaysAs old new out later))
+abbrev pub GoesOn : {S : Type 0} → Meaning S → Who → InStep S → InStep S → Type 0
+GoesOn meaning who old new =
+    MatchOption old.member.flush (StaysAs old new)
+    (λ f. MatchBool (is_complete f) (MatchOption old.member.view_state ⊥ (λ t. FinishesAndProposes meaning who f t old new)) (StaysAs old new))
 
 -- it proposes, and alone in the list it goes on at once
-pub record BeginsAndGoesOn {S : Type 0} (meaning : Meaning S) (group : List ℕ) (me : Address) (w : View) (old new : MemberState S) (out later : Output) : Type 0 where
-  pub mid : MemberState S
-  pub between : Output
-  pub begins : Begins group me w old mid out between
-  pub goes_on : GoesOn meaning group me mid new between later
+pub record BeginsAndGoesOn {S : Type 0} (meaning : Meaning S) (who : Who) (w : View) (old new : InStep S) : Type 0 where
+  pub mid : InStep S
+  pub begins : Begins who w old mid
+  pub goes_on : GoesOn meaning who mid new
 
 -- it begins what is due, and nothing where nothing is
-abbrev pub Regroups : {S : Type 0} → Meaning S → List ℕ → Address → MemberState S → MemberState S → Output → Output → Type 0
-Regroups meaning group me old new out later =
-    MatchOption (due_proposal (core_of me old) old.notes) (StaysAs old new out later) (λ w. BeginsAndGoesOn meaning group me w old new out later)
+abbrev pub Regroups : {S : Type 0} → Meaning S → Who → InStep S → InStep S → Type 0
+Regroups meaning who old new =
+    MatchOption (due_proposal (core_of who.address old.member) old.member.notes) (StaysAs old new) (λ w. BeginsAndGoesOn meaning who w old new)
 
 -- ---- a REPORT
 
 -- its flush has the report, and it goes on
-abbrev pub TakesReport : {S : Type 0} → Meaning S → List ℕ → Address → Address → ViewId → wire.Report → MemberState S → MemberState S → Output → Output → Type 0
-TakesReport meaning group me q w r old new out later =
-    GoesOn meaning group me (record old { flush = option_map (recording q w r) old.flush }) new out later
+abbrev pub TakesReport : {S : Type 0} → Meaning S → Who → Address → ViewId → wire.Report → InStep S → InStep S → Type 0
+TakesReport meaning who q w r old new = GoesOn meaning who (in_step (record (old.member) { flush = option_map (recording q w r) old.member.flush }) old.out) new
 
 -- it puts out again the INSTALL that it kept for a member of its view, if it kept one
-pub record InstallsAgain {S : Type 0} (q : Address) (l : MemberState S) (out later : Output) : Type 0 where
-  pub packets : later.packets.items ≡ out.packets.items ++ option_to_list (find (is_sent_to q) l.sent_installs.items)
-  pub events : later.events.items ≡ out.events.items
+pub record InstallsAgain {S : Type 0} (q : Address) (old : InStep S) (later : Output) : Type 0 where
+  pub packets : later.packets.items ≡ old.out.packets.items ++ option_to_list (find (is_sent_to q) old.member.sent_installs.items)
+  pub events : later.events.items ≡ old.out.events.items
 
 -- ---- a BEHIND
 
 -- it begins with its candidates anew, where the counters are not used up
-abbrev pub BeginsAnew : {S : Type 0} → Meaning S → List ℕ → Address → MemberState S → MemberState S → Output → Output → Type 0
-BeginsAnew meaning group me old new out later =
-    MatchOption (anew_proposal me old) (StaysAs old new out later) (λ w. BeginsAndGoesOn meaning group me w old new out later)
+abbrev pub BeginsAnew : {S : Type 0} → Meaning S → Who → InStep S → InStep S → Type 0
+BeginsAnew meaning who old new = MatchOption (anew_proposal who.address old.member) (StaysAs old new) (λ w. BeginsAndGoesOn meaning who w old new)
 
 -- it has heard of the counter, and begins anew
-abbrev pub TakesBehind : {S : Type 0} → Meaning S → List ℕ → Address → ℕ → MemberState S → MemberState S → Output → Output → Type 0
-TakesBehind meaning group me counter old new out later = BeginsAnew meaning group me (record old { notes = having_heard counter old.notes }) new out later
+abbrev pub TakesBehind : {S : Type 0} → Meaning S → Who → ℕ → InStep S → InStep S → Type 0
+TakesBehind meaning who counter old new = BeginsAnew meaning who (in_step (record (old.member) { notes = having_heard counter old.member.notes }) old.out) new
 
 -- ---- a suspicion
 
 -- the address is suspected, and what is due then is begun
-abbrev pub TakesSuspicion : {S : Type 0} → Meaning S → List ℕ → Address → Address → MemberState S → MemberState S → Output → Output → Type 0
-TakesSuspicion meaning group me p old new out later = Regroups meaning group me (record old { notes = suspecting p old.notes }) new out later
+abbrev pub TakesSuspicion : {S : Type 0} → Meaning S → Who → Address → InStep S → InStep S → Type 0
+TakesSuspicion meaning who p old new = Regroups meaning who (in_step (record (old.member) { notes = suspecting p old.member.notes }) old.out) new
 
 -- ---- an INSTALL
 
 -- it installs the view, and begins there anew
-pub record Arrives {S : Type 0} (group : List ℕ) (me : Address) (view_state : Option ViewState) (i : wire.Install) (own : ℕ) (old new : MemberState S) (out later : Output) : Type 0 where
-  pub member_state : new ≡ record old {
-    view_state = Some (fresh_in me i.view);
-    promise = after_install i.view old.promise;
+pub record Arrives {S : Type 0} (who : Who) (view_state : Option ViewState) (i : wire.Install) (own : ℕ) (old new : InStep S) : Type 0 where
+  pub member_state : new.member ≡ record (old.member) {
+    view_state = Some (fresh_in who.address i.view);
+    promise = after_install i.view old.member.promise;
     flush = None;
-    sent_installs = new.sent_installs;
+    sent_installs = new.member.sent_installs;
     notes = no_notes;
   }
-  pub sent_installs : new.sent_installs.items ≡ []
-  pub grows : Grows group out later [] (arriving me view_state i own ∷ [])
+  pub sent_installs : new.member.sent_installs.items ≡ []
+  pub grows : Grows who.group old.out new.out [] (arriving who.address view_state i own ∷ [])
 
 -- it delivers what it lacks of its view, takes the state that is given, installs the view, and begins there anew
-pub record Enters {S : Type 0} (meaning : Meaning S) (group : List ℕ) (me : Address) (view_state : Option ViewState) (i : wire.Install)
-    (old new : MemberState S) (out later : Output) : Type 0 where
-  pub member_state : new ≡ record old {
-    view_state = Some (fresh_in me i.view);
-    promise = after_install i.view old.promise;
+pub record Enters {S : Type 0} (meaning : Meaning S) (who : Who) (view_state : Option ViewState) (i : wire.Install) (old new : InStep S) : Type 0 where
+  pub member_state : new.member ≡ record (old.member) {
+    view_state = Some (fresh_in who.address i.view);
+    promise = after_install i.view old.member.promise;
     flush = None;
-    sent_installs = new.sent_installs;
-    receiver = state_by meaning view_state i old.receiver;
+    sent_installs = new.member.sent_installs;
+    receiver = state_by meaning view_state i old.member.receiver;
     notes = no_notes;
   }
-  pub sent_installs : new.sent_installs.items ≡ []
-  pub grows : Grows group out later [] (enter_events me view_state i)
+  pub sent_installs : new.member.sent_installs.items ≡ []
+  pub grows : Grows who.group old.out new.out [] (enter_events who.address view_state i)
 
 -- it enters exactly where it would, by a state that can be read
-abbrev pub TakesInstall : {S : Type 0} → Meaning S → List ℕ → Address → Address → wire.Install → MemberState S → MemberState S → Output → Output → Type 0
-TakesInstall meaning group me q i old new out later =
-    MatchBool (is_entry (core_of me old) q i) ((is_readable meaning i.state ≡ true) × Enters meaning group me old.view_state i old new out later) (StaysAs old new out later)
+abbrev pub TakesInstall : {S : Type 0} → Meaning S → Who → Address → wire.Install → InStep S → InStep S → Type 0
+TakesInstall meaning who q i old new =
+    MatchBool (is_entry (core_of who.address old.member) q i) ((is_readable meaning i.state ≡ true) × Enters meaning who old.member.view_state i old new) (StaysAs old new)

@@ -1,18 +1,17 @@
 -- What a member does in one call: acts, and what comes of them is put out.
-use Rattle.std.specs.Prelude.{ℕ, List, Option, Some}
-use Rattle.address.specs.Ids.{Address}
+use Rattle.std.specs.Prelude.{List, Option, Some}
 use Rattle.state_transfer.specs.Meanings.{Meaning}
 use Rattle.trace_props.specs.declared.event.Event.{Event}
 use Rattle.acts.specs.Histories.{Posted}
 use Rattle.acts.specs.Chains.{Acted}
-use Rattle.step_output.specs.declared.output.Output.{Output}
 use Rattle.step_output.specs.Outputs.{Grows}
-use Rattle.membership.specs.declared.member_state.MemberState.{MemberState}
 use Rattle.membership.specs.MemberStates.{core_of}
+use Rattle.step_output.specs.Steps.{Who}
+use Rattle.membership.specs.InSteps.{InStep}
 
 -- on a packet that came, or on none, it went on by acts alone, and what they put out and let happen is what grew
-pub record Did {S : Type 0} (meaning : Meaning S) (came : Option Posted) (group : List ℕ) (me : Address) (old new : MemberState S) (out later : Output) : Type 0 where
+pub record Did {S : Type 0} (meaning : Meaning S) (came : Option Posted) (who : Who) (old new : InStep S) : Type 0 where
   pub posted : List Posted
   pub happened : List Event
-  pub grows : Grows group out later posted happened
-  pub acted : Acted meaning came (Some (core_of me old)) posted happened (Some (core_of me new))
+  pub grows : Grows who.group old.out new.out posted happened
+  pub acted : Acted meaning came (Some (core_of who.address old.member)) posted happened (Some (core_of who.address new.member))

@@ -1,4 +1,5 @@
 pub mod MemberStates
+pub mod InSteps
 pub mod Installs
 pub mod Changes
 pub mod Doing

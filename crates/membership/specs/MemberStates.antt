@@ -1,5 +1,5 @@
 -- A member while it runs: what it decides by, and what always holds of it.
-use Rattle.std.specs.Prelude.{◌≡◌, ℕ, Bool, true, false, ◌&&◌, ◌||◌, is_some, List, [], ◌∷◌, map, Option, None, Some, Result, Ok, Err, IsSome, if◌then◌else◌}
+use Rattle.std.specs.Prelude.{◌≡◌, Bool, true, false, ◌&&◌, ◌||◌, is_some, List, [], ◌∷◌, map, Option, None, Some, Result, Ok, Err, IsSome, if◌then◌else◌}
 use Rattle.std.specs.Option.{ForSome, option_map, option_map_or, option_and_then}
 use Rattle.std.specs.List.{list_all, filter_map, AllByRecursion}
 use Rattle.address.specs.Ids.{Address, ViewId, same_address, same_view_id}
@@ -26,6 +26,7 @@ use Rattle.traffic.specs.declared.view_state.ViewState.{ViewState}
 use Rattle.traffic.specs.ViewStates.{view_of, view_core_of}
 use Rattle.membership.specs.declared.member_state.MemberState.{MemberState}
 use Rattle.wire_values.specs.Kinds.{install_said}
+use Rattle.step_output.specs.Steps.{Who}
 
 -- ---- its core, in the words of agreement
 
@@ -129,27 +130,27 @@ abbrev pub install_packet : Address → Address × wire.Install → Posted
 install_packet me p = packet me (bodies.Install p.1) p.0
 
 -- what it kept are INSTALLs of its view, to others, as it spelled them
-pub record IsKept {S : Type 0} (group : List ℕ) (me : Address) (l : MemberState S) : Type 0 where
+pub record IsKept {S : Type 0} (who : Who) (l : MemberState S) : Type 0 where
   pub given : List (Address × wire.Install)
-  pub spelled : l.sent_installs.items ≡ map (spelled group) (map (install_packet me) given)
-  pub sound : AllByRecursion (λ m. IsPacket (packet_in group m)) (map (install_packet me) given)
+  pub spelled : l.sent_installs.items ≡ map (spelled who.group) (map (install_packet who.address) given)
+  pub sound : AllByRecursion (λ m. IsPacket (packet_in who.group m)) (map (install_packet who.address) given)
   pub current : AllByRecursion (λ p. view_in l.view_state ≡ Some p.1.view) given
 
 -- what always holds of a member that runs, as its acts need it
-pub record IsMemberState {S : Type 0} (group : List ℕ) (me : Address) (l : MemberState S) : Type 0 where
+pub record IsMemberState {S : Type 0} (who : Who) (l : MemberState S) : Type 0 where
   -- its promise is its own
-  pub own : l.promise.member ≡ me
+  pub own : l.promise.member ≡ who.address
   -- it never suspects itself
-  pub unsuspected : stands_in me l.notes.suspects ≡ false
+  pub unsuspected : stands_in who.address l.notes.suspects ≡ false
   -- it stands in its view
-  pub inside : ForSome (view_in l.view_state) (λ v. stands_in me v.members ≡ true)
+  pub inside : ForSome (view_in l.view_state) (λ v. stands_in who.address v.members ≡ true)
   -- before it is connected it has promised nothing, and has no flush
   pub unconnected : is_connected l ≡ false → l.promise.proposal ≡ None
   -- it stands in what it promised
-  pub listed : ForSome l.promise.proposal (λ w. stands_in me w.members ≡ true)
+  pub listed : ForSome l.promise.proposal (λ w. stands_in who.address w.members ≡ true)
   -- what it promised and did not install, without a flush of its own, another proposed
-  pub waiting : l.promise.is_installed ≡ false → l.flush ≡ None → ForSome l.promise.proposal (λ w. same_address w.id.creator me ≡ false)
+  pub waiting : l.promise.is_installed ≡ false → l.flush ≡ None → ForSome l.promise.proposal (λ w. same_address w.id.creator who.address ≡ false)
   -- where what it promised is installed, it is in that view
   pub installed : l.promise.is_installed ≡ true → view_in l.view_state ≡ l.promise.proposal
-  pub flushing : ForSome l.flush (IsFlushing me l)
-  pub sent_installs : IsKept group me l
+  pub flushing : ForSome l.flush (IsFlushing who.address l)
+  pub sent_installs : IsKept who l

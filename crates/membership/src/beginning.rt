@@ -9,6 +9,8 @@ ghost use Rattle.acts.specs.Cores.{report_with};
 ghost use Rattle.step_output.specs.Outputs.{Grows};
 ghost use Rattle.membership.specs.MemberStates.{view_in, view_core_in, begun_with};
 ghost use Rattle.membership.specs.Changes.{Begins};
+ghost use Rattle.step_output.specs.Steps.{who_of};
+ghost use Rattle.membership.specs.InSteps.{in_step};
 
 use crate::MemberState;
 use crate::promising::{held_text, report_of};
@@ -92,7 +94,7 @@ impl<R: Receiver> MemberState<R> {
     ) -> Result<(), AllocError>
         requires greater { is_accept (offered proposal.now self.old.promise) ≡ true }
         requires listed { stands_in who.now.address proposal.now.members ≡ true }
-        ensures { OnOk result (Begins who.now.group who.now.address proposal.now self.old self.new out.old out.new) }
+        ensures { OnOk result (Begins (who_of who.now) proposal.now (in_step self.old out.old) (in_step self.new out.new)) }
     {
         self.block(who, out)?;
         let flush = begun(who, &self.view_state, proposal)?;

@@ -12,6 +12,8 @@ ghost use Rattle.membership.specs.declared.stop.Stop.TheVariants as stop;
 ghost use Rattle.membership.specs.MemberStates.{view_in, view_core_in};
 ghost use Rattle.membership.specs.Installs.{own_of, lacking, left_in, arriving};
 ghost use Rattle.membership.specs.Changes.{Arrives, Enters};
+ghost use Rattle.step_output.specs.Steps.{who_of};
+ghost use Rattle.membership.specs.InSteps.{in_step};
 
 use crate::finishing::{behind, deliver_all, own_of};
 use crate::{MemberState, Stop};
@@ -194,7 +196,7 @@ impl<R: Receiver> MemberState<R> {
         install: &Install<'_>,
         out: &mut Output,
     ) -> Result<(), Stop>
-        ensures enters { OnOk result (Enters R.meaning who.now.group who.now.address view_state install.now self.old self.new out.old out.new) }
+        ensures enters { OnOk result (Enters R.meaning (who_of who.now) view_state install.now (in_step self.old out.old) (in_step self.new out.new)) }
         ensures readable { OnOk result (is_readable R.meaning install.now.state ≡ true) }
         ensures unreadable { result ≡ Err stop.Unreadable → is_readable R.meaning install.now.state ≡ false }
     {
@@ -213,7 +215,7 @@ impl<R: Receiver> MemberState<R> {
         own: usize,
         out: &mut Output,
     ) -> Result<(), AllocError>
-        ensures { OnOk result (Arrives who.now.group who.now.address view_state install.now own self.old self.new out.old out.new) }
+        ensures { OnOk result (Arrives (who_of who.now) view_state install.now own (in_step self.old out.old) (in_step self.new out.new)) }
     {
         install_view(who, view_state, install, own, out)?;
         let view = view_from(who.alloc, install.view())?;

@@ -9,6 +9,8 @@ ghost use Rattle.traffic.specs.ViewStates.{view_of};
 ghost use Rattle.membership.specs.Installs.{IsSayable, finished_state};
 ghost use Rattle.membership.specs.MemberStates.{IsMemberState, is_sent_to};
 ghost use Rattle.membership.specs.Changes.{Finishes, InstallsAgain};
+ghost use Rattle.step_output.specs.Steps.{who_of};
+ghost use Rattle.membership.specs.InSteps.{in_step};
 
 use crate::MemberState;
 use crate::finishing::finish;
@@ -88,7 +90,7 @@ impl<R: Receiver> MemberState<R> {
     ) -> Result<(), AllocError>
         requires list { view_refusal flush.now.proposal flush.now.members ≡ None }
         requires sound { AllByRecursion (IsSayable flush.now (view_of view_state).id (R.meaning.encode (finished_state R.meaning flush.now view_state self.old.receiver))) (others_of who.now.address flush.now.members) }
-        ensures { OnOk result (Finishes R.meaning who.now.group who.now.address flush.now view_state self.old self.new out.old out.new) }
+        ensures { OnOk result (Finishes R.meaning (who_of who.now) flush.now view_state (in_step self.old out.old) (in_step self.new out.new)) }
     {
         flush.kept();
         let view = view_of(who.alloc, flush)?;
@@ -111,8 +113,8 @@ impl<R: Receiver> MemberState<R> {
         member: &Address,
         out: &mut Output,
     ) -> Result<(), AllocError>
-        requires member_state { IsMemberState who.now.group who.now.address self.now }
-        ensures again { OnOk result (InstallsAgain member.now self.now out.old out.new) }
+        requires member_state { IsMemberState (who_of who.now) self.now }
+        ensures again { OnOk result (InstallsAgain member.now (in_step self.now out.old) out.new) }
         ensures ignored { find (is_sent_to member.now) self.now.sent_installs.items ≡ None → (result ≡ Ok tt) × (out.new ≡ out.old) }
     {
         let Some(packet) = install_sent_to(self.sent_installs.as_slice(), member) else {

@@ -11,6 +11,8 @@ ghost use Rattle.traffic.specs.ViewStates.{view_of, view_core_of};
 ghost use Rattle.step_output.specs.Outputs.{Grows};
 ghost use Rattle.membership.specs.MemberStates.{view_in, view_core_in, report_in, blocked_by};
 ghost use Rattle.membership.specs.Changes.{Promises};
+ghost use Rattle.step_output.specs.Steps.{who_of};
+ghost use Rattle.membership.specs.InSteps.{in_step};
 
 use crate::MemberState;
 use address::ViewId;
@@ -95,7 +97,7 @@ impl<R: Receiver> MemberState<R> {
         out: &mut Output,
     ) -> Result<(), AllocError>
         requires { is_accept (offered proposal.now self.old.promise) ≡ true }
-        ensures { OnOk result (Promises who.now.group who.now.address proposal.now self.old self.new out.old out.new) }
+        ensures { OnOk result (Promises (who_of who.now) proposal.now (in_step self.old out.old) (in_step self.new out.new)) }
     {
         self.block(who, out)?;
         self.report(who, proposal.id(), out)?;

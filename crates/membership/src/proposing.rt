@@ -4,6 +4,8 @@ ghost use Rattle.std.specs.Prelude.{◌≡◌, OnOk, IfOk, None, true};
 ghost use Rattle.decisions.specs.Decisions.{promised_counter, is_due, proposal_after, due_at, due_proposal};
 ghost use Rattle.membership.specs.MemberStates.{core_of, IsMemberState, leads_in, anew_proposal};
 ghost use Rattle.membership.specs.Changes.{ProposesIf, Regroups, BeginsAnew};
+ghost use Rattle.step_output.specs.Steps.{who_of};
+ghost use Rattle.membership.specs.InSteps.{in_step};
 
 use crate::MemberState;
 use address::ViewId;
@@ -44,7 +46,7 @@ impl<R: Receiver> MemberState<R> {
 
     // Its next proposal, to its candidates; none where the counters are used up.
     fn proposal_after(&self, who: &Identity, view: &View) -> Result<Option<Roster>, AllocError>
-        requires member_state { IsMemberState who.now.group who.now.address self.now }
+        requires member_state { IsMemberState (who_of who.now) self.now }
         requires leads { leads_in who.now.address view.now self.now.notes ≡ true }
         ensures { IfOk result (λ w. w ≡ proposal_after (core_of who.now.address self.now) self.now.notes view.now) }
     {
@@ -60,7 +62,7 @@ impl<R: Receiver> MemberState<R> {
 
     // What it has to propose in its view.
     fn due_at(&self, who: &Identity, view: &View) -> Result<Option<Roster>, AllocError>
-        requires member_state { IsMemberState who.now.group who.now.address self.now }
+        requires member_state { IsMemberState (who_of who.now) self.now }
         ensures { IfOk result (λ w. w ≡ due_at (core_of who.now.address self.now) self.now.notes view.now) }
     {
         if !self.notes.leads(view, &who.address) {
@@ -75,7 +77,7 @@ impl<R: Receiver> MemberState<R> {
 
     // What it has to propose.
     fn due(&self, who: &Identity) -> Result<Option<Roster>, AllocError>
-        requires member_state { IsMemberState who.now.group who.now.address self.now }
+        requires member_state { IsMemberState (who_of who.now) self.now }
         ensures { IfOk result (λ w. w ≡ due_proposal (core_of who.now.address self.now) self.now.notes) }
     {
         match &self.view_state {
@@ -89,9 +91,9 @@ impl<R: Receiver> MemberState<R> {
 
     // Begins what is due after an install, if anything is. Its list has another member then, so it is not alone in it.
     pub(crate) fn propose(&mut self, who: &Identity, out: &mut Output) -> Result<(), AllocError>
-        requires member_state { IsMemberState who.now.group who.now.address self.old }
-        ensures member_state { OnOk result (IsMemberState who.now.group who.now.address self.new) }
-        ensures proposes { OnOk result (ProposesIf who.now.group who.now.address self.old self.new out.old out.new) }
+        requires member_state { IsMemberState (who_of who.now) self.old }
+        ensures member_state { OnOk result (IsMemberState (who_of who.now) self.new) }
+        ensures proposes { OnOk result (ProposesIf (who_of who.now) (in_step self.old out.old) (in_step self.new out.new)) }
     {
         match self.due(who)? {
             None => Ok(()),
@@ -105,9 +107,9 @@ impl<R: Receiver> MemberState<R> {
     /// Begins what is due, if anything is; alone in the list it finishes at once, and begins again what is due then. After an error for want of memory nothing
     /// is said of the member.
     pub fn regroup(&mut self, who: &Identity, out: &mut Output) -> Result<(), AllocError>
-        requires member_state { IsMemberState who.now.group who.now.address self.old }
-        ensures member_state { OnOk result (IsMemberState who.now.group who.now.address self.new) }
-        ensures regroups { OnOk result (Regroups R.meaning who.now.group who.now.address self.old self.new out.old out.new) }
+        requires member_state { IsMemberState (who_of who.now) self.old }
+        ensures member_state { OnOk result (IsMemberState (who_of who.now) self.new) }
+        ensures regroups { OnOk result (Regroups R.meaning (who_of who.now) (in_step self.old out.old) (in_step self.new out.new)) }
     {
         match self.due(who)? {
             None => Ok(()),
@@ -121,7 +123,7 @@ impl<R: Receiver> MemberState<R> {
 
     // What it proposes anew while its own flush goes on.
     fn anew(&self, who: &Identity) -> Result<Option<Roster>, AllocError>
-        requires member_state { IsMemberState who.now.group who.now.address self.now }
+        requires member_state { IsMemberState (who_of who.now) self.now }
         ensures { IfOk result (λ w. w ≡ anew_proposal who.now.address self.now) }
     {
         match &self.view_state {
@@ -138,9 +140,9 @@ impl<R: Receiver> MemberState<R> {
 
     // Begins its own flush anew, with its candidates, where the counters are not used up; alone in the list it goes on at once.
     pub(crate) fn begin_anew(&mut self, who: &Identity, out: &mut Output) -> Result<(), AllocError>
-        requires member_state { IsMemberState who.now.group who.now.address self.old }
-        ensures member_state { OnOk result (IsMemberState who.now.group who.now.address self.new) }
-        ensures begins { OnOk result (BeginsAnew R.meaning who.now.group who.now.address self.old self.new out.old out.new) }
+        requires member_state { IsMemberState (who_of who.now) self.old }
+        ensures member_state { OnOk result (IsMemberState (who_of who.now) self.new) }
+        ensures begins { OnOk result (BeginsAnew R.meaning (who_of who.now) (in_step self.old out.old) (in_step self.new out.new)) }
     {
         match self.anew(who)? {
             None => Ok(()),

@@ -4,6 +4,8 @@ ghost use Rattle.std.specs.Prelude.{◌≡◌, OnOk, true, false, Some};
 ghost use Rattle.std.specs.Option.{option_map, option_map_or};
 ghost use Rattle.membership.specs.MemberStates.{IsMemberState, is_complete, is_expected, recording};
 ghost use Rattle.membership.specs.Changes.{Finishes, GoesOn, TakesReport};
+ghost use Rattle.step_output.specs.Steps.{who_of};
+ghost use Rattle.membership.specs.InSteps.{in_step};
 
 use crate::MemberState;
 use address::{Address, ViewId};
@@ -88,10 +90,10 @@ impl<R: Receiver> MemberState<R> {
         view_state: ViewState,
         out: &mut Output,
     ) -> Result<(), AllocError>
-        requires member_state { IsMemberState who.now.group who.now.address (record self.old { flush = Some flush; view_state = Some view_state }) }
+        requires member_state { IsMemberState (who_of who.now) (record self.old { flush = Some flush; view_state = Some view_state }) }
         requires complete { is_complete flush ≡ true }
-        ensures member_state { OnOk result (IsMemberState who.now.group who.now.address self.new) }
-        ensures finishes { OnOk result (Finishes R.meaning who.now.group who.now.address flush view_state self.old self.new out.old out.new) }
+        ensures member_state { OnOk result (IsMemberState (who_of who.now) self.new) }
+        ensures finishes { OnOk result (Finishes R.meaning (who_of who.now) flush view_state (in_step self.old out.old) (in_step self.new out.new)) }
     {
         flush.kept();
         self.settle(who, &flush, view_state, out)?;
@@ -100,9 +102,9 @@ impl<R: Receiver> MemberState<R> {
 
     // Goes into its own proposal, if all have reported, and begins what is due then.
     pub(crate) fn go_on(&mut self, who: &Identity, out: &mut Output) -> Result<(), AllocError>
-        requires member_state { IsMemberState who.now.group who.now.address self.old }
-        ensures member_state { OnOk result (IsMemberState who.now.group who.now.address self.new) }
-        ensures goes_on { OnOk result (GoesOn R.meaning who.now.group who.now.address self.old self.new out.old out.new) }
+        requires member_state { IsMemberState (who_of who.now) self.old }
+        ensures member_state { OnOk result (IsMemberState (who_of who.now) self.new) }
+        ensures goes_on { OnOk result (GoesOn R.meaning (who_of who.now) (in_step self.old out.old) (in_step self.new out.new)) }
     {
         if !self.is_complete() {
             return Ok(());
@@ -124,9 +126,9 @@ impl<R: Receiver> MemberState<R> {
         report: &Report<'_>,
         out: &mut Output,
     ) -> Result<(), AllocError>
-        requires member_state { IsMemberState who.now.group who.now.address self.old }
-        ensures member_state { OnOk result (IsMemberState who.now.group who.now.address self.new) }
-        ensures takes { OnOk result (TakesReport R.meaning who.now.group who.now.address source proposal report.now self.old self.new out.old out.new) }
+        requires member_state { IsMemberState (who_of who.now) self.old }
+        ensures member_state { OnOk result (IsMemberState (who_of who.now) self.new) }
+        ensures takes { OnOk result (TakesReport R.meaning (who_of who.now) source proposal report.now (in_step self.old out.old) (in_step self.new out.new)) }
     {
         self.record(source, proposal, report)?;
         self.go_on(who, out)?;

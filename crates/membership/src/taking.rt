@@ -7,6 +7,8 @@ ghost use Rattle.decisions.specs.Decisions.{is_readable, is_entry};
 ghost use Rattle.membership.specs.declared.stop.Stop.TheVariants as stop;
 ghost use Rattle.membership.specs.MemberStates.{core_of, is_connected, IsMemberState};
 ghost use Rattle.membership.specs.Changes.{StaysAs, is_behind, is_ignored_offer, TakesFlush, TakesInstall, TakesBehind, TakesSuspicion};
+ghost use Rattle.step_output.specs.Steps.{who_of};
+ghost use Rattle.membership.specs.InSteps.{in_step};
 
 use crate::entering::is_fitting;
 use crate::{MemberState, Stop};
@@ -26,7 +28,7 @@ impl<R: Receiver> MemberState<R> {
         out: &mut Output,
     ) -> Result<(), AllocError>
         requires { is_behind (offered proposal.now self.now.promise) ≡ true }
-        ensures { OnOk result (TakesFlush who.now.group who.now.address proposal.now self.now self.now out.old out.new) }
+        ensures { OnOk result (TakesFlush (who_of who.now) proposal.now (in_step self.now out.old) (in_step self.now out.new)) }
     {
         let promised = self.promise.proposal().unwrap();
         let counter = Number::new(promised.id().counter()).unwrap();
@@ -44,12 +46,12 @@ impl<R: Receiver> MemberState<R> {
         proposal: &Roster,
         out: &mut Output,
     ) -> Result<(), AllocError>
-        requires member_state { IsMemberState who.now.group who.now.address self.old }
+        requires member_state { IsMemberState (who_of who.now) self.old }
         requires connected { is_connected self.old ≡ true }
         requires other { same_address proposal.now.id.creator who.now.address ≡ false }
-        ensures member_state { OnOk result (IsMemberState who.now.group who.now.address self.new) }
-        ensures takes { OnOk result (TakesFlush who.now.group who.now.address proposal.now self.old self.new out.old out.new) }
-        ensures ignored { is_ignored_offer (offered proposal.now self.old.promise) ≡ true → (result ≡ Ok tt) × StaysAs self.old self.new out.old out.new }
+        ensures member_state { OnOk result (IsMemberState (who_of who.now) self.new) }
+        ensures takes { OnOk result (TakesFlush (who_of who.now) proposal.now (in_step self.old out.old) (in_step self.new out.new)) }
+        ensures ignored { is_ignored_offer (offered proposal.now self.old.promise) ≡ true → (result ≡ Ok tt) × StaysAs (in_step self.old out.old) (in_step self.new out.new) }
     {
         match self.promise.answer_to(proposal) {
             OfferAnswer::Accept => {
@@ -71,9 +73,9 @@ impl<R: Receiver> MemberState<R> {
         counter: Number,
         out: &mut Output,
     ) -> Result<(), AllocError>
-        requires member_state { IsMemberState who.now.group who.now.address self.old }
-        ensures member_state { OnOk result (IsMemberState who.now.group who.now.address self.new) }
-        ensures takes { OnOk result (TakesBehind R.meaning who.now.group who.now.address counter self.old self.new out.old out.new) }
+        requires member_state { IsMemberState (who_of who.now) self.old }
+        ensures member_state { OnOk result (IsMemberState (who_of who.now) self.new) }
+        ensures takes { OnOk result (TakesBehind R.meaning (who_of who.now) counter (in_step self.old out.old) (in_step self.new out.new)) }
     {
         self.notes.hear(counter.get());
         self.begin_anew(who, out)?;
@@ -87,10 +89,10 @@ impl<R: Receiver> MemberState<R> {
         address: Address,
         out: &mut Output,
     ) -> Result<(), AllocError>
-        requires member_state { IsMemberState who.now.group who.now.address self.old }
+        requires member_state { IsMemberState (who_of who.now) self.old }
         requires other { same_address address who.now.address ≡ false }
-        ensures member_state { OnOk result (IsMemberState who.now.group who.now.address self.new) }
-        ensures takes { OnOk result (TakesSuspicion R.meaning who.now.group who.now.address address self.old self.new out.old out.new) }
+        ensures member_state { OnOk result (IsMemberState (who_of who.now) self.new) }
+        ensures takes { OnOk result (TakesSuspicion R.meaning (who_of who.now) address (in_step self.old out.old) (in_step self.new out.new)) }
     {
         self.notes.suspect(address)?;
         self.regroup(who, out)?;
@@ -114,11 +116,11 @@ impl<R: Receiver> MemberState<R> {
         install: &Install<'_>,
         out: &mut Output,
     ) -> Result<(), Stop>
-        requires member_state { IsMemberState who.now.group who.now.address self.old }
-        ensures member_state { OnOk result (IsMemberState who.now.group who.now.address self.new) }
-        ensures takes { OnOk result (TakesInstall R.meaning who.now.group who.now.address source install.now self.old self.new out.old out.new) }
+        requires member_state { IsMemberState (who_of who.now) self.old }
+        ensures member_state { OnOk result (IsMemberState (who_of who.now) self.new) }
+        ensures takes { OnOk result (TakesInstall R.meaning (who_of who.now) source install.now (in_step self.old out.old) (in_step self.new out.new)) }
         ensures unreadable { result ≡ Err stop.Unreadable → (is_entry (core_of who.now.address self.old) source install.now ≡ true) × (is_readable R.meaning install.now.state ≡ false) }
-        ensures ignored { is_entry (core_of who.now.address self.old) source install.now ≡ false → (result ≡ Ok tt) × StaysAs self.old self.new out.old out.new }
+        ensures ignored { is_entry (core_of who.now.address self.old) source install.now ≡ false → (result ≡ Ok tt) × StaysAs (in_step self.old out.old) (in_step self.new out.new) }
     {
         if !self.would_enter(&who.address, &source, install) {
             return Ok(());

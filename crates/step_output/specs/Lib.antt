@@ -1,3 +1,4 @@
 pub mod Names
 pub mod Outputs
+pub mod Steps
 pub mod Calm

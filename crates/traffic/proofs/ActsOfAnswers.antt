@@ -33,6 +33,8 @@ use Rattle.traffic.proofs.FactOfQueues.{In, in-itself}
 use Rattle.step_output.proofs.FactOfGrows.{grows-nothing}
 use Rattle.traffic.proofs.ActsInTurn.{other-then}
 use Rattle.traffic.proofs.FactOfDeliveries.{asks-goes}
+use Rattle.step_output.specs.Steps.{who}
+use Rattle.traffic.specs.InViews.{in_view}
 
 module _ {S : Type 0} (meaning : Meaning S) where
   -- ---- another member
@@ -69,20 +71,20 @@ module _ {S : Type 0} (meaning : Meaning S) where
         happens = refl;
       }
 
-  pub status-goes : (p : Address) (group : List ℕ) (a : Progress) (m : Follower) (s : S) (out : Output) (new : Follower) (more : Output) → TakesStatus p group a m out new more
-      → FollowerGoes meaning (status_packet p m.view a) p group m s out new s more
+  pub status-goes : (p : Address) (group : List ℕ) (a : Progress) (m : Follower) (s : S) (out : Output) (new : Follower) (more : Output) → TakesStatus (who p group) a m out new more
+      → FollowerGoes meaning (status_packet p m.view a) (who p group) (in_view m s out) (in_view new s more)
   status-goes p group a m s out new more x =
       let next = collected_to a.stable m in
-      subst (λ (n : Follower). FollowerGoes meaning (status_packet p m.view a) p group m s out n s more) (sym x.0)
+      subst (λ (n : Follower). FollowerGoes meaning (status_packet p m.view a) (who p group) (in_view m s out) (in_view n s more)) (sym x.0)
       (other-then meaning (status_packet p m.view a) p group m next next s s s out out more
       (record { posted = []; happened = []; acted = λ kept. announced-by _ p kept m s a refl; grows = grows-nothing group out }, refl)
-      (asks-goes meaning (status_packet p m.view a) p group a.highest next s out more (subst (λ (n : Follower). AsksUpTo p group a.highest n out more) x.0 x.1)))
+      (asks-goes meaning (status_packet p m.view a) p group a.highest next s out more (subst (λ (n : Follower). AsksUpTo (who p group) a.highest n out more) x.0 x.1)))
 
   pub send-goes : (came : Option Posted) (p : Address) (group : List ℕ) (x : List ℕ) (m : Follower) (s : S) (out : Output) (new : Follower) (more : Output) → length x ≤ PAYLOAD → new ≡ follower_pushing x m
-      → SendsForward p group x m out more → FollowerGoes meaning came p group m s out new s more
+      → SendsForward (who p group) x m out more → FollowerGoes meaning came (who p group) (in_view m s out) (in_view new s more)
   send-goes came p group x m s out new more short now sends =
       let f : Numbered = record { number = m.forwards.sent + 1; payload = x } in
-      subst (λ (n : Follower). FollowerGoes meaning came p group m s out n s more) (sym now) (
+      subst (λ (n : Follower). FollowerGoes meaning came (who p group) (in_view m s out) (in_view n s more)) (sym now) (
         record {
           posted = forward_of p m.view f ∷ [];
           happened = _;
@@ -110,14 +112,14 @@ module _ {S : Type 0} (meaning : Meaning S) where
       }
 
   pub tick-goes : (came : Option Posted) (p : Address) (group : List ℕ) (m : Follower) (s : S) (out more : Output) → Grows group out more (map (forward_of p m.view) m.forwards.rest ++ ack_of p m ∷ []) []
-      → FollowerGoes meaning came p group m s out m s more
+      → FollowerGoes meaning came (who p group) (in_view m s out) (in_view m s more)
   tick-goes came p group m s out more grows =
       (record { posted = _; happened = []; acted = λ kept. puts-forwards came p kept m s m.forwards.rest (in-itself m.forwards.rest); grows = grows }, refl)
 
   -- ---- the coordinator
 
   pub status-tick-goes : (came : Option Posted) (p : Address) (group : List ℕ) (m : Coordinator) (s : S) (out more : Output) → IsCoordinator p m
-      → Grows group out more (map (packet p (bodies.Status m.view.id (progress_of m.window))) (others_of p m.view.members)) [] → CoordinatorGoes meaning came p group m s out m s more
+      → Grows group out more (map (packet p (bodies.Status m.view.id (progress_of m.window))) (others_of p m.view.members)) [] → CoordinatorGoes meaning came (who p group) (in_view m s out) (in_view m s more)
   status-tick-goes came p group m s out more i grows = record {
     goes = record {
       posted = map (packet p (bodies.Status m.view.id (progress_of m.window))) (others_of p m.view.members);
@@ -148,7 +150,7 @@ module _ {S : Type 0} (meaning : Meaning S) where
       }
 
   pub nak-goes : (came : Option Posted) (p q : Address) (group : List ℕ) (k n : ℕ) (m : Coordinator) (s : S) (out more : Output) → IsCoordinator p m → Grows group out more (orders_held p m.view q m.window.held k n) []
-      → CoordinatorGoes meaning came p group m s out m s more
+      → CoordinatorGoes meaning came (who p group) (in_view m s out) (in_view m s more)
   nak-goes came p q group k n m s out more i grows = record {
     goes = record {
       posted = orders_held p m.view q m.window.held k n;

@@ -29,6 +29,8 @@ use Rattle.traffic.proofs.ActsOfCoordinator.{view_core_at, delivered-by}
 use Rattle.traffic.proofs.Windows.{holds-more, holds-above}
 use Rattle.step_output.proofs.FactOfGrows.{grows-nothing}
 use Rattle.traffic.proofs.ActsInTurn.{other-nothing, other-then}
+use Rattle.step_output.specs.Steps.{who}
+use Rattle.traffic.specs.InViews.{in_view}
 
 record Taken (g : ℕ) (w : WindowModel) : Type 0 where
   pub past : w.delivered < g
@@ -48,7 +50,7 @@ taken-fact g w h =
 
 module _ {S : Type 0} (meaning : Meaning S) where
   abbrev Does : Option Posted → Address → List ℕ → Follower → S → Output → Follower → S → Output → Type 0
-  Does came p group old s out new t more = FollowerGoes meaning came p group old s out new t more
+  Does came p group old s out new t more = FollowerGoes meaning came (who p group) (in_view old s out) (in_view new t more)
 
   -- ---- Delivers
 
@@ -72,7 +74,7 @@ module _ {S : Type 0} (meaning : Meaning S) where
       }
 
   pub delivers-goes : (came : Option Posted) (p : Address) (group : List ℕ) (m : Follower) (s : S) (out : Output) (e : Entry) (new : Follower) (t : S) (more : Output) → same_address p m.view.id.creator ≡ false
-      → held_at (m.window.delivered + 1) m.window.held ≡ Some e → DeliversOne meaning p group e m s out new t more → Does came p group m s out new t more
+      → held_at (m.window.delivered + 1) m.window.held ≡ Some e → DeliversOne meaning (who p group) e (in_view m s out) (in_view new t more) → Does came p group m s out new t more
   delivers-goes came p group m s out e new t more other there x =
       subst (λ (n : Follower). Does came p group m s out n t more) (sym x.now)
       (subst (λ (z : S). Does came p group m s out (record m { window = record (m.window) { delivered = m.window.delivered + 1 }; forwards = after_delivery p e m.forwards }) z more) (sym x.state) (
@@ -172,7 +174,7 @@ module _ {S : Type 0} (meaning : Meaning S) where
 
   abbrev pub DeliversIf : Address → List ℕ → Bool → Option Entry → Follower → S → Output → Follower → S → Output → Type 0
   DeliversIf p group did_deliver held m s out new t more =
-      MatchOption held ((did_deliver ≡ false) × (new ≡ m) × (t ≡ s) × (more ≡ out)) (λ e. (did_deliver ≡ true) × DeliversOne meaning p group e m s out new t more)
+      MatchOption held ((did_deliver ≡ false) × (new ≡ m) × (t ≡ s) × (more ≡ out)) (λ e. (did_deliver ≡ true) × DeliversOne meaning (who p group) e (in_view m s out) (in_view new t more))
 
   delivery-turn : (held : Option Entry) (came : Option Posted) (p : Address) (group : List ℕ) (did_deliver : Bool) (m : Follower) (s : S) (out : Output) (new : Follower) (t : S) (more : Output)
       → same_address p m.view.id.creator ≡ false → held_at (m.window.delivered + 1) m.window.held ≡ held → DeliversIf p group did_deliver held m s out new t more → Does came p group m s out new t more

@@ -31,6 +31,8 @@ use Rattle.traffic.proofs.ActsOfCoordinator.{Due, due-fact, distinct-in, orders-
 use Rattle.step_output.proofs.FactOfGrows.{grows-nothing}
 use Rattle.traffic.proofs.ActsInTurn.{goes-nothing, goes-then}
 use Rattle.traffic.proofs.FactOfTurns.{next-is, next-none}
+use Rattle.step_output.specs.Steps.{who}
+use Rattle.traffic.specs.InViews.{in_view}
 
 -- this member stands in its view
 pub itself-in : (p : Address) (v : View) → view_refusal v.id v.members ≡ None → same_address p v.id.creator ≡ true → stands_in p v.members ≡ true
@@ -63,7 +65,7 @@ module _ {S : Type 0} (meaning : Meaning S) where
 
   pub queue-goes : (came : Option Posted) (p : Address) (group : List ℕ) (m : Coordinator) (s : S) (out : Output) (q : Address) (n : ℕ) (x : List ℕ) → IsCoordinator p m
       → MatchBool (same_address q p) (Contains m.forwards.rest (record { number = n; payload = x })) (came ≡ Some (packet q (bodies.Forward m.view.id n x) p))
-      → CoordinatorGoes meaning came p group m s out (queued q n x m) s out
+      → CoordinatorGoes meaning came (who p group) (in_view m s out) (in_view (queued q n x m) s out)
   queue-goes came p group m s out q n x i from = record {
     goes = record {
       posted = [];
@@ -77,7 +79,7 @@ module _ {S : Type 0} (meaning : Meaning S) where
 
   pub hear-goes : (came : Option Posted) (p : Address) (group : List ℕ) (m : Coordinator) (s : S) (out : Output) (q : Address) (n : ℕ) → IsCoordinator p m → stands_in q m.view.members ≡ true
       → MatchBool (same_address q p) (n ≤ m.window.delivered) (came ≡ Some (packet q (bodies.Ack m.view.id n) p))
-      → CoordinatorGoes meaning came p group m s out (acknowledged q n m) s out
+      → CoordinatorGoes meaning came (who p group) (in_view m s out) (in_view (acknowledged q n m) s out)
   hear-goes came p group m s out q n i there acked_so = record {
     goes = record {
       posted = [];
@@ -91,9 +93,9 @@ module _ {S : Type 0} (meaning : Meaning S) where
 
   pub one-goes : (came : Option Posted) (p : Address) (group : List ℕ) (m : Coordinator) (s : S) (out : Output) (e : Entry) (new : Coordinator) (t : S) (more most : Output) → IsCoordinator p m → IsWindow m.window
       → view_refusal m.view.id m.view.members ≡ None → next_ordered m.window.stable m.orderer ≡ Some e
-      → OrdersOne meaning p group (m.orderer.ordered + 1, e) m s out new t more
+      → OrdersOne meaning (who p group) (m.orderer.ordered + 1, e) (in_view m s out) (in_view new t more)
       → Grows group more most (map (packet p (bodies.Order new.view.id (m.orderer.ordered + 1) e)) (others_of p new.view.members)) []
-      → CoordinatorGoes meaning came p group m s out (acknowledged p new.window.delivered new) t most
+      → CoordinatorGoes meaning came (who p group) (in_view m s out) (in_view (acknowledged p new.window.delivered new) t most)
   one-goes came p group m s out e new t more most i w sound due x puts =
       let d = due-fact m e i.ordered w.counts due in
       let distinct = distinct-in m.view sound in
@@ -102,7 +104,7 @@ module _ {S : Type 0} (meaning : Meaning S) where
       let body = bodies.Order m.view.id g e in
       let list = others_of p m.view.members in
       let coordinator = one-coordinator meaning p m e i distinct d in
-      let one : CoordinatorGoes meaning came p group m s out next (meaning.apply s e.sender e.payload) more = record {
+      let one : CoordinatorGoes meaning came (who p group) (in_view m s out) (in_view next (meaning.apply s e.sender e.payload) more) = record {
         goes = record {
           posted = [];
           happened = delivery p m.view.id e ∷ [];
@@ -114,7 +116,7 @@ module _ {S : Type 0} (meaning : Meaning S) where
       } in
       let announced : Grows group more most (map (packet p body) list) [] =
       subst (λ (n : Coordinator). Grows group more most (map (packet p (bodies.Order n.view.id g e)) (others_of p n.view.members)) []) x.now puts in
-      let two : CoordinatorGoes meaning came p group next (meaning.apply s e.sender e.payload) more next (meaning.apply s e.sender e.payload) most = record {
+      let two : CoordinatorGoes meaning came (who p group) (in_view next (meaning.apply s e.sender e.payload) more) (in_view next (meaning.apply s e.sender e.payload) most) = record {
         goes = record {
           posted = map (packet p body) list;
           happened = [];
@@ -129,24 +131,24 @@ module _ {S : Type 0} (meaning : Meaning S) where
       (rw (same_address-refl p) (omega arith)) in
       let all = goes-then meaning came p group m next (acknowledged p next.window.delivered next) s (meaning.apply s e.sender e.payload) (meaning.apply s e.sender e.payload) out most most
       (goes-then meaning came p group m next next s (meaning.apply s e.sender e.payload) (meaning.apply s e.sender e.payload) out more most one two) three in
-      subst (λ (n : Coordinator). CoordinatorGoes meaning came p group m s out (acknowledged p n.window.delivered n) t most) (sym x.now)
-      (subst (λ (z : S). CoordinatorGoes meaning came p group m s out (acknowledged p next.window.delivered next) z most) (sym x.state) all)
+      subst (λ (n : Coordinator). CoordinatorGoes meaning came (who p group) (in_view m s out) (in_view (acknowledged p n.window.delivered n) t most)) (sym x.now)
+      (subst (λ (z : S). CoordinatorGoes meaning came (who p group) (in_view m s out) (in_view (acknowledged p next.window.delivered next) z most)) (sym x.state) all)
 
   -- ---- one turn, as the code has it
 
   abbrev pub Does : Address → List ℕ → Option (ℕ × Entry) → Coordinator → S → Output → Coordinator → S → Output → Type 0
-  Does p group next m s out new t more = MatchOption next ((new ≡ m) × (t ≡ s) × (more ≡ out)) (λ n. OrdersOne meaning p group n m s out new t more)
+  Does p group next m s out new t more = MatchOption next ((new ≡ m) × (t ≡ s) × (more ≡ out)) (λ n. OrdersOne meaning (who p group) n (in_view m s out) (in_view new t more))
 
   abbrev pub IsNext : Coordinator → Option (ℕ × Entry) → Type 0
   IsNext m next = next ≡ option_map (λ e. (m.orderer.ordered + 1, e)) (next_ordered m.window.stable m.orderer)
 
   pub rest-goes : (came : Option Posted) (p : Address) (group : List ℕ) (next : Option (ℕ × Entry)) (m : Coordinator) (s : S) (out : Output) (new : Coordinator) (t : S) (more : Output) → IsCoordinator p m
-      → next ≡ None → Does p group next m s out new t more → CoordinatorGoes meaning came p group m s out new t more
+      → next ≡ None → Does p group next m s out new t more → CoordinatorGoes meaning came (who p group) (in_view m s out) (in_view new t more)
   rest-goes came p group next m s out new t more i none does =
       let x = subst (λ (o : Option (ℕ × Entry)). Does p group o m s out new t more) none does in
-      subst (λ (n : Coordinator). CoordinatorGoes meaning came p group m s out n t more) (sym x.0)
-      (subst (λ (z : S). CoordinatorGoes meaning came p group m s out m z more) (sym x.1)
-      (subst (λ (o : Output). CoordinatorGoes meaning came p group m s out m s o) (sym x.2) (goes-nothing meaning came p group m s out i)))
+      subst (λ (n : Coordinator). CoordinatorGoes meaning came (who p group) (in_view m s out) (in_view n t more)) (sym x.0)
+      (subst (λ (z : S). CoordinatorGoes meaning came (who p group) (in_view m s out) (in_view m z more)) (sym x.1)
+      (subst (λ (o : Output). CoordinatorGoes meaning came (who p group) (in_view m s out) (in_view m s o)) (sym x.2) (goes-nothing meaning came p group m s out i)))
 
   pub rest-done : (p : Address) (group : List ℕ) (next : Option (ℕ × Entry)) (m : Coordinator) (s : S) (out : Output) (new : Coordinator) (t : S) (more : Output) → IsNext m next → next ≡ None
       → Does p group next m s out new t more → next_ordered new.window.stable new.orderer ≡ None
@@ -157,21 +159,21 @@ module _ {S : Type 0} (meaning : Meaning S) where
   pub turn-goes : (came : Option Posted) (p : Address) (group : List ℕ) (next : Option (ℕ × Entry)) (n : ℕ × Entry) (m : Coordinator) (s : S) (out : Output) (new : Coordinator) (t : S) (more most : Output)
       (reached : ℕ) (last : Coordinator) → IsCoordinator p m → IsWindow m.window → view_refusal m.view.id m.view.members ≡ None → IsNext m next → next ≡ Some n → Does p group next m s out new t more
       → Grows group more most (map (packet p (bodies.Order new.view.id n.0 n.1)) (others_of p new.view.members)) [] → reached ≡ new.window.delivered → last ≡ acknowledged p reached new
-      → CoordinatorGoes meaning came p group m s out last t most
+      → CoordinatorGoes meaning came (who p group) (in_view m s out) (in_view last t most)
   turn-goes came p group next n m s out new t more most reached last i w sound is some does puts same end =
       let k = m.orderer.ordered + 1 in
-      let x : OrdersOne meaning p group n m s out new t more = subst (λ (o : Option (ℕ × Entry)). Does p group o m s out new t more) some does in
+      let x : OrdersOne meaning (who p group) n (in_view m s out) (in_view new t more) = subst (λ (o : Option (ℕ × Entry)). Does p group o m s out new t more) some does in
       let y = next-is k (next_ordered m.window.stable m.orderer) n (sym some ∙ is) in
-      let goes = one-goes came p group m s out n.1 new t more most i w sound y.1 (subst (λ (z : ℕ × Entry). OrdersOne meaning p group z m s out new t more) y.0 x)
+      let goes = one-goes came p group m s out n.1 new t more most i w sound y.1 (subst (λ (z : ℕ × Entry). OrdersOne meaning (who p group) z (in_view m s out) (in_view new t more)) y.0 x)
       (subst (λ (z : ℕ × Entry). Grows group more most (map (packet p (bodies.Order new.view.id z.0 z.1)) (others_of p new.view.members)) []) y.0 puts) in
-      subst (λ (z : Coordinator). CoordinatorGoes meaning came p group m s out z t most) (sym (end ∙ ap (λ (z : ℕ). acknowledged p z new) same)) goes
+      subst (λ (z : Coordinator). CoordinatorGoes meaning came (who p group) (in_view m s out) (in_view z t most)) (sym (end ∙ ap (λ (z : ℕ). acknowledged p z new) same)) goes
 
   pub turn-fewer : (p : Address) (group : List ℕ) (next : Option (ℕ × Entry)) (n : ℕ × Entry) (m : Coordinator) (s : S) (out : Output) (new : Coordinator) (t : S) (more : Output) (reached : ℕ) (last : Coordinator)
       → IsCoordinator p m → IsWindow m.window → view_refusal m.view.id m.view.members ≡ None → IsNext m next → next ≡ Some n → Does p group next m s out new t more → last ≡ acknowledged p reached new
       → length (waiting_of last.orderer.queues) < length (waiting_of m.orderer.queues)
   turn-fewer p group next n m s out new t more reached last i w sound is some does end =
       let k = m.orderer.ordered + 1 in
-      let x : OrdersOne meaning p group n m s out new t more = subst (λ (o : Option (ℕ × Entry)). Does p group o m s out new t more) some does in
+      let x : OrdersOne meaning (who p group) n (in_view m s out) (in_view new t more) = subst (λ (o : Option (ℕ × Entry)). Does p group o m s out new t more) some does in
       let y = next-is k (next_ordered m.window.stable m.orderer) n (sym some ∙ is) in
       let less = one-shorter p m n.1 i (distinct-in m.view sound) (due-fact m n.1 i.ordered w.counts y.1) in
       subst (λ (z : Coordinator). length (waiting_of z.orderer.queues) < length (waiting_of m.orderer.queues)) (sym (end ∙ ap (acknowledged p reached) x.now)) less
@@ -179,13 +181,13 @@ module _ {S : Type 0} (meaning : Meaning S) where
   -- ---- what came from another
 
   pub forward-goes : (p : Address) (group : List ℕ) (m : Coordinator) (s : S) (out : Output) (q : Address) (n : ℕ) (x : List ℕ) (new : Coordinator) → IsCoordinator p m → same_address q p ≡ false → new ≡ queued q n x m
-      → CoordinatorGoes meaning (Some (packet q (bodies.Forward m.view.id n x) p)) p group m s out new s out
+      → CoordinatorGoes meaning (Some (packet q (bodies.Forward m.view.id n x) p)) (who p group) (in_view m s out) (in_view new s out)
   forward-goes p group m s out q n x new i other now =
-      subst (λ (z : Coordinator). CoordinatorGoes meaning (Some (packet q (bodies.Forward m.view.id n x) p)) p group m s out z s out) (sym now)
+      subst (λ (z : Coordinator). CoordinatorGoes meaning (Some (packet q (bodies.Forward m.view.id n x) p)) (who p group) (in_view m s out) (in_view z s out)) (sym now)
       (queue-goes (Some (packet q (bodies.Forward m.view.id n x) p)) p group m s out q n x i (rw other refl))
 
   pub ack-goes : (p : Address) (group : List ℕ) (m : Coordinator) (s : S) (out : Output) (q : Address) (n : ℕ) (new : Coordinator) → IsCoordinator p m → same_address q p ≡ false
-      → stands_in q m.view.members ≡ true → new ≡ acknowledged q n m → CoordinatorGoes meaning (Some (packet q (bodies.Ack m.view.id n) p)) p group m s out new s out
+      → stands_in q m.view.members ≡ true → new ≡ acknowledged q n m → CoordinatorGoes meaning (Some (packet q (bodies.Ack m.view.id n) p)) (who p group) (in_view m s out) (in_view new s out)
   ack-goes p group m s out q n new i other there now =
-      subst (λ (z : Coordinator). CoordinatorGoes meaning (Some (packet q (bodies.Ack m.view.id n) p)) p group m s out z s out) (sym now)
+      subst (λ (z : Coordinator). CoordinatorGoes meaning (Some (packet q (bodies.Ack m.view.id n) p)) (who p group) (in_view m s out) (in_view z s out)) (sym now)
       (hear-goes (Some (packet q (bodies.Ack m.view.id n) p)) p group m s out q n i there (rw other refl))

@@ -22,6 +22,8 @@ use Rattle.traffic.specs.Takes.{DeliversTo, Starts, DeliversMore, DeliversHeld, 
 use Rattle.step_output.proofs.FactOfGrows.{grows-nothing, grows-then}
 use Rattle.traffic.proofs.ActsOfFollowers.{puts-goes}
 use Rattle.traffic.proofs.ActsInTurn.{other-nothing, other-then}
+use Rattle.step_output.specs.Steps.{who}
+use Rattle.traffic.specs.InViews.{in_view}
 
 pub record DeliveredFact (p : Address) (old : Follower) (entries : List Entry) (n : Follower) : Type 0 where
   pub view : n.view ≡ old.view
@@ -45,15 +47,15 @@ delivered-fact p old n entries (DeliversMore m k es e x there) w =
     }
 
 module _ {S : Type 0} (meaning : Meaning S) where
-  pub delivers-nothing : (p : Address) (group : List ℕ) (m : Follower) (s : S) (out : Output) → DeliversHeld meaning p group m s out m s out
+  pub delivers-nothing : (p : Address) (group : List ℕ) (m : Follower) (s : S) (out : Output) → DeliversHeld meaning (who p group) (in_view m s out) (in_view m s out)
   delivers-nothing p group m s out = record { entries = []; delivers = Starts m; state = refl; grows = grows-nothing group out; view = refl }
 
-  next-by : (o : Option Entry) (p : Address) (group : List ℕ) (did_deliver : Bool) (a b c : Follower) (s t u : S) (out more most : Output) → DeliversHeld meaning p group a s out b t more
-      → held_at (b.window.delivered + 1) b.window.held ≡ o → MatchOption o ((did_deliver ≡ false) × (c ≡ b) × (u ≡ t) × (most ≡ more)) (λ e. (did_deliver ≡ true) × DeliversOne meaning p group e b t more c u most)
-      → DeliversHeld meaning p group a s out c u most
+  next-by : (o : Option Entry) (p : Address) (group : List ℕ) (did_deliver : Bool) (a b c : Follower) (s t u : S) (out more most : Output) → DeliversHeld meaning (who p group) (in_view a s out) (in_view b t more)
+      → held_at (b.window.delivered + 1) b.window.held ≡ o → MatchOption o ((did_deliver ≡ false) × (c ≡ b) × (u ≡ t) × (most ≡ more)) (λ e. (did_deliver ≡ true) × DeliversOne meaning (who p group) e (in_view b t more) (in_view c u most))
+      → DeliversHeld meaning (who p group) (in_view a s out) (in_view c u most)
   next-by None p group did_deliver a b c s t u out more most x there y =
-      subst (λ (n : Follower). DeliversHeld meaning p group a s out n u most) (sym y.1) (subst (λ (z : S). DeliversHeld meaning p group a s out b z most) (sym y.2)
-      (subst (λ (o : Output). DeliversHeld meaning p group a s out b t o) (sym y.3) x))
+      subst (λ (n : Follower). DeliversHeld meaning (who p group) (in_view a s out) (in_view n u most)) (sym y.1) (subst (λ (z : S). DeliversHeld meaning (who p group) (in_view a s out) (in_view b z most)) (sym y.2)
+      (subst (λ (o : Output). DeliversHeld meaning (who p group) (in_view a s out) (in_view b t o)) (sym y.3) x))
   next-by (Some e) p group did_deliver a b c s t u out more most x there y =
       let z = y.1 in
       record {
@@ -65,12 +67,12 @@ module _ {S : Type 0} (meaning : Meaning S) where
         view = ap (λ (n : Follower). n.view) z.now ∙ x.view;
       }
 
-  pub delivers-then : (p : Address) (group : List ℕ) (did_deliver : Bool) (a b c : Follower) (s t u : S) (out more most : Output) → DeliversHeld meaning p group a s out b t more
-      → MatchOption (held_at (b.window.delivered + 1) b.window.held) ((did_deliver ≡ false) × (c ≡ b) × (u ≡ t) × (most ≡ more)) (λ e. (did_deliver ≡ true) × DeliversOne meaning p group e b t more c u most)
-      → DeliversHeld meaning p group a s out c u most
+  pub delivers-then : (p : Address) (group : List ℕ) (did_deliver : Bool) (a b c : Follower) (s t u : S) (out more most : Output) → DeliversHeld meaning (who p group) (in_view a s out) (in_view b t more)
+      → MatchOption (held_at (b.window.delivered + 1) b.window.held) ((did_deliver ≡ false) × (c ≡ b) × (u ≡ t) × (most ≡ more)) (λ e. (did_deliver ≡ true) × DeliversOne meaning (who p group) e (in_view b t more) (in_view c u most))
+      → DeliversHeld meaning (who p group) (in_view a s out) (in_view c u most)
   delivers-then p group did_deliver a b c s t u out more most x y = next-by (held_at (b.window.delivered + 1) b.window.held) p group did_deliver a b c s t u out more most x refl y
 
-  pub delivers-few : (p : Address) (group : List ℕ) (m : Follower) (s : S) (out : Output) (n : Follower) (t : S) (more : Output) → IsWindow m.window → DeliversHeld meaning p group m s out n t more → IsFew out more
+  pub delivers-few : (p : Address) (group : List ℕ) (m : Follower) (s : S) (out : Output) (n : Follower) (t : S) (more : Output) → IsWindow m.window → DeliversHeld meaning (who p group) (in_view m s out) (in_view n t more) → IsFew out more
   delivers-few p group m s out n t more w x =
       let k = (delivered-fact p m n x.entries x.delivers w).few in
       let grown : length more.events.items ≡ length out.events.items + length x.entries =
@@ -81,42 +83,42 @@ module _ {S : Type 0} (meaning : Meaning S) where
   -- ---- an ORDER
 
   pub order-taken : (p : Address) (group : List ℕ) (g : ℕ) (e : Entry) (m a b : Follower) (s : S) (out : Output) (n : Follower) (t : S) (between more : Output) (before : ℕ) (new : Bool) → before ≡ m.window.delivered
-      → a ≡ collected_to (g - WINDOW) m → new ≡ offers g a.window → b ≡ held_too g e a → DeliversHeld meaning p group b s out n t between → held_at (n.window.delivered + 1) n.window.held ≡ None
-      → AnswersOrder p group before new g n between more → TakesOrder meaning p group g e m s out n t more
+      → a ≡ collected_to (g - WINDOW) m → new ≡ offers g a.window → b ≡ held_too g e a → DeliversHeld meaning (who p group) (in_view b s out) (in_view n t between) → held_at (n.window.delivered + 1) n.window.held ≡ None
+      → AnswersOrder (who p group) before new g n between more → TakesOrder meaning (who p group) g e (in_view m s out) (in_view n t more)
   order-taken p group g e m a b s out n t between more before new is now fresh after delivers ready answers = record {
     between = between;
-    delivers = subst (λ (z : Follower). DeliversHeld meaning p group z s out n t between) (after ∙ ap (held_too g e) now) delivers;
+    delivers = subst (λ (z : Follower). DeliversHeld meaning (who p group) (in_view z s out) (in_view n t between)) (after ∙ ap (held_too g e) now) delivers;
     ready = ready;
-    answers = subst (λ (z : Bool). AnswersOrder p group m.window.delivered z g n between more) (fresh ∙ ap (λ (z : Follower). offers g z.window) now)
-        (subst (λ (z : ℕ). AnswersOrder p group z new g n between more) is answers);
+    answers = subst (λ (z : Bool). AnswersOrder (who p group) m.window.delivered z g n between more) (fresh ∙ ap (λ (z : Follower). offers g z.window) now)
+        (subst (λ (z : ℕ). AnswersOrder (who p group) z new g n between more) is answers);
   }
 
 module _ {S : Type 0} (meaning : Meaning S) where
-  pub asks-goes : (came : Option Posted) (p : Address) (group : List ℕ) (g : ℕ) (m : Follower) (s : S) (out more : Output) → AsksUpTo p group g m out more
-      → FollowerGoes meaning came p group m s out m s more
+  pub asks-goes : (came : Option Posted) (p : Address) (group : List ℕ) (g : ℕ) (m : Follower) (s : S) (out more : Output) → AsksUpTo (who p group) g m out more
+      → FollowerGoes meaning came (who p group) (in_view m s out) (in_view m s more)
   asks-goes came p group g m s out more (inl x) = puts-goes meaning came p group m s out more m.view.id.creator (bodies.Nak m.view.id x.missing) (λ kept. tt) x.grows
-  asks-goes came p group g m s out more (inr x) = subst (λ (o : Output). FollowerGoes meaning came p group m s out m s o) (sym x.1) (other-nothing meaning came p group m s out)
+  asks-goes came p group g m s out more (inr x) = subst (λ (o : Output). FollowerGoes meaning came (who p group) (in_view m s out) (in_view m s o)) (sym x.1) (other-nothing meaning came p group m s out)
 
   answers-by : (b c : Bool) (came : Option Posted) (p : Address) (group : List ℕ) (g : ℕ) (m : Follower) (s : S) (out more : Output)
-      → MatchBool b (Grows group out more (ack_of p m ∷ []) []) (MatchBool c (AsksUpTo p group g m out more) (more ≡ out)) → FollowerGoes meaning came p group m s out m s more
+      → MatchBool b (Grows group out more (ack_of p m ∷ []) []) (MatchBool c (AsksUpTo (who p group) g m out more) (more ≡ out)) → FollowerGoes meaning came (who p group) (in_view m s out) (in_view m s more)
   answers-by true c came p group g m s out more x = puts-goes meaning came p group m s out more m.view.id.creator (bodies.Ack m.view.id m.window.delivered) (λ kept. (refl, omega arith)) x
   answers-by false true came p group g m s out more x = asks-goes came p group g m s out more x
-  answers-by false false came p group g m s out more x = subst (λ (o : Output). FollowerGoes meaning came p group m s out m s o) (sym x) (other-nothing meaning came p group m s out)
+  answers-by false false came p group g m s out more x = subst (λ (o : Output). FollowerGoes meaning came (who p group) (in_view m s out) (in_view m s o)) (sym x) (other-nothing meaning came p group m s out)
 
   pub answers-goes : (came : Option Posted) (p : Address) (group : List ℕ) (before : ℕ) (new : Bool) (g : ℕ) (a m : Follower) (s t : S) (out more most : Output)
-      → FollowerGoes meaning came p group a s out m t more → AnswersOrder p group before new g m more most → FollowerGoes meaning came p group a s out m t most
+      → FollowerGoes meaning came (who p group) (in_view a s out) (in_view m t more) → AnswersOrder (who p group) before new g m more most → FollowerGoes meaning came (who p group) (in_view a s out) (in_view m t most)
   answers-goes came p group before new g a m s t out more most x y =
       other-then meaning came p group a m m s t t out more most x (answers-by (nat_lt before m.window.delivered) new came p group g m t more most y)
 
-asks-few : (p : Address) (group : List ℕ) (g : ℕ) (m : Follower) (out more : Output) → AsksUpTo p group g m out more → length more.events.items ≡ length out.events.items
+asks-few : (p : Address) (group : List ℕ) (g : ℕ) (m : Follower) (out more : Output) → AsksUpTo (who p group) g m out more → length more.events.items ≡ length out.events.items
 asks-few p group g m out more (inl x) = ap length (x.grows.events ∙ append-nil out.events.items)
 asks-few p group g m out more (inr x) = ap (λ (o : Output). length o.events.items) x.1
 
 pub answers-few : (b c : Bool) (p : Address) (group : List ℕ) (g : ℕ) (m : Follower) (out more : Output)
-    → MatchBool b (Grows group out more (ack_of p m ∷ []) []) (MatchBool c (AsksUpTo p group g m out more) (more ≡ out)) → length more.events.items ≡ length out.events.items
+    → MatchBool b (Grows group out more (ack_of p m ∷ []) []) (MatchBool c (AsksUpTo (who p group) g m out more) (more ≡ out)) → length more.events.items ≡ length out.events.items
 answers-few true c p group g m out more x = ap length (x.events ∙ append-nil out.events.items)
 answers-few false true p group g m out more x = asks-few p group g m out more x
 answers-few false false p group g m out more x = ap (λ (o : Output). length o.events.items) x
 
-pub order-few : (p : Address) (group : List ℕ) (before : ℕ) (new : Bool) (g : ℕ) (m : Follower) (out more most : Output) → IsFew out more → AnswersOrder p group before new g m more most → IsFew out most
+pub order-few : (p : Address) (group : List ℕ) (before : ℕ) (new : Bool) (g : ℕ) (m : Follower) (out more most : Output) → IsFew out more → AnswersOrder (who p group) before new g m more most → IsFew out most
 order-few p group before new g m out more most x y = let k = answers-few (nat_lt before m.window.delivered) new p group g m more most y in omega (arith, x, k)

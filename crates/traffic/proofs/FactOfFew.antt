@@ -29,6 +29,8 @@ use Rattle.traffic.proofs.Windows.{next-taken}
 use Rattle.traffic.proofs.FactOfAcks.{noted-other}
 use Rattle.traffic.proofs.ActsOfCoordinator.{due-fact, distinct-in, one-coordinator, heard-coordinator}
 use Rattle.traffic.proofs.ActsOfTurns.{one-shorter}
+use Rattle.step_output.specs.Steps.{who}
+use Rattle.traffic.specs.InViews.{in_view}
 
 -- ---- one turn
 
@@ -190,7 +192,7 @@ module _ {S : Type 0} (meaning : Meaning S) where
       by false true d h = refl
       by false false d h = cc
 
-  pub few : (p : Address) (group : List ℕ) (old : Coordinator) (s : S) (out : Output) (n : Coordinator) (t : S) (more : Output) → Ordering meaning p group old s out n t more → IsCoordinator p old → IsSettled p old
+  pub few : (p : Address) (group : List ℕ) (old : Coordinator) (s : S) (out : Output) (n : Coordinator) (t : S) (more : Output) → Ordering meaning (who p group) (in_view old s out) (in_view n t more) → IsCoordinator p old → IsSettled p old
       → IsWindow old.window → IsForwards old.forwards → view_refusal old.view.id old.view.members ≡ None → IsFew out more
   few p group old s out n t more x i z w f sound =
       let k = few-by p old.view.members old n x.entries refl x.turns i z w f sound

@@ -22,6 +22,8 @@ use Rattle.traffic.specs.Turns.{order_of, orders_of, TurnsTo, Starts, Turns, Tur
 use Rattle.stability.specs.Counts.{count_of}
 use Rattle.traffic.proofs.FactOfAcks.{noted-other}
 use Rattle.step_output.proofs.FactOfGrows.{grows-nothing, grows-then}
+use Rattle.step_output.specs.Steps.{who}
+use Rattle.traffic.specs.InViews.{in_view}
 
 orders-one : (p : Address) (v : View) (k : ℕ) (es : List Entry) (e : Entry) → orders_of p v k (es ++ e ∷ []) ≡ orders_of p v k es ++ order_of p v (k + length es + 1) e
 orders-one p v k [] e = append-nil (order_of p v (k + 1) e) ∙ ap (λ (n : ℕ). order_of p v n e) (let n : k + 1 ≡ k + length {A = Entry} [] + 1 = omega arith in n)
@@ -52,41 +54,41 @@ next-none k (Some x) e = absurd (none-some (k, x) e)
 module _ {S : Type 0} (meaning : Meaning S) where
   -- where there is none, and where it is held after it was delivered
   pub serves-none : (p : Address) (group : List ℕ) (next : Option (ℕ × Entry)) (m : Coordinator) (s : S) (out : Output) (new : Coordinator) (t : S) (more : Output) → next ≡ None
-      → MatchOption next ((new ≡ m) × (t ≡ s) × (more ≡ out)) (λ n. ServesOne meaning p group n m s out new t more)
-      → MatchOption next ((new ≡ m) × (t ≡ s) × (more ≡ out)) (λ n. OrdersOne meaning p group n m s out new t more)
+      → MatchOption next ((new ≡ m) × (t ≡ s) × (more ≡ out)) (λ n. ServesOne meaning (who p group) n (in_view m s out) (in_view new t more))
+      → MatchOption next ((new ≡ m) × (t ≡ s) × (more ≡ out)) (λ n. OrdersOne meaning (who p group) n (in_view m s out) (in_view new t more))
   serves-none p group next m s out new t more none does =
-      subst (λ (o : Option (ℕ × Entry)). MatchOption o ((new ≡ m) × (t ≡ s) × (more ≡ out)) (λ n. OrdersOne meaning p group n m s out new t more)) (sym none)
-      (subst (λ (o : Option (ℕ × Entry)). MatchOption o ((new ≡ m) × (t ≡ s) × (more ≡ out)) (λ n. ServesOne meaning p group n m s out new t more)) none does)
+      subst (λ (o : Option (ℕ × Entry)). MatchOption o ((new ≡ m) × (t ≡ s) × (more ≡ out)) (λ n. OrdersOne meaning (who p group) n (in_view m s out) (in_view new t more))) (sym none)
+      (subst (λ (o : Option (ℕ × Entry)). MatchOption o ((new ≡ m) × (t ≡ s) × (more ≡ out)) (λ n. ServesOne meaning (who p group) n (in_view m s out) (in_view new t more))) none does)
 
-  held-one : (p : Address) (group : List ℕ) (n : ℕ × Entry) (m : Coordinator) (s : S) (out : Output) (served new : Coordinator) (t : S) (more : Output) → ServesOne meaning p group n m s out served t more
-      → new ≡ holding n served → OrdersOne meaning p group n m s out new t more
+  held-one : (p : Address) (group : List ℕ) (n : ℕ × Entry) (m : Coordinator) (s : S) (out : Output) (served new : Coordinator) (t : S) (more : Output) → ServesOne meaning (who p group) n (in_view m s out) (in_view served t more)
+      → new ≡ holding n served → OrdersOne meaning (who p group) n (in_view m s out) (in_view new t more)
   held-one p group n m s out served new t more x now = record { now = now ∙ ap (holding n) x.now; state = x.state; grows = x.grows }
 
   pub serves-some : (p : Address) (group : List ℕ) (next : Option (ℕ × Entry)) (n : ℕ × Entry) (m : Coordinator) (s : S) (out : Output) (served new : Coordinator) (t : S) (more : Output) → next ≡ Some n
-      → new ≡ holding n served → MatchOption next ((served ≡ m) × (t ≡ s) × (more ≡ out)) (λ n. ServesOne meaning p group n m s out served t more)
-      → MatchOption next ((new ≡ m) × (t ≡ s) × (more ≡ out)) (λ n. OrdersOne meaning p group n m s out new t more)
+      → new ≡ holding n served → MatchOption next ((served ≡ m) × (t ≡ s) × (more ≡ out)) (λ n. ServesOne meaning (who p group) n (in_view m s out) (in_view served t more))
+      → MatchOption next ((new ≡ m) × (t ≡ s) × (more ≡ out)) (λ n. OrdersOne meaning (who p group) n (in_view m s out) (in_view new t more))
   serves-some p group next n m s out served new t more some now does =
-      subst (λ (o : Option (ℕ × Entry)). MatchOption o ((new ≡ m) × (t ≡ s) × (more ≡ out)) (λ n. OrdersOne meaning p group n m s out new t more)) (sym some)
+      subst (λ (o : Option (ℕ × Entry)). MatchOption o ((new ≡ m) × (t ≡ s) × (more ≡ out)) (λ n. OrdersOne meaning (who p group) n (in_view m s out) (in_view new t more))) (sym some)
       (held-one p group n m s out served new t more
-      (subst (λ (o : Option (ℕ × Entry)). MatchOption o ((served ≡ m) × (t ≡ s) × (more ≡ out)) (λ n. ServesOne meaning p group n m s out served t more)) some does) now)
+      (subst (λ (o : Option (ℕ × Entry)). MatchOption o ((served ≡ m) × (t ≡ s) × (more ≡ out)) (λ n. ServesOne meaning (who p group) n (in_view m s out) (in_view served t more))) some does) now)
 
   pub turn-does : (p : Address) (group : List ℕ) (next : Option (ℕ × Entry)) (n : ℕ × Entry) (m : Coordinator) (s : S) (out : Output) (new : Coordinator) (t : S) (more most : Output)
-      (reached : ℕ) (last : Coordinator) → MatchOption next ((new ≡ m) × (t ≡ s) × (more ≡ out)) (λ n. OrdersOne meaning p group n m s out new t more)
+      (reached : ℕ) (last : Coordinator) → MatchOption next ((new ≡ m) × (t ≡ s) × (more ≡ out)) (λ n. OrdersOne meaning (who p group) n (in_view m s out) (in_view new t more))
       → next ≡ option_map (λ e. (m.orderer.ordered + 1, e)) (next_ordered m.window.stable m.orderer) → next ≡ Some n
       → Grows group more most (map (packet p (bodies.Order new.view.id n.0 n.1)) (others_of p new.view.members)) [] → reached ≡ new.window.delivered → last ≡ acknowledged p reached new
-      → TurnsNext meaning p group true m s out last t most
+      → TurnsNext meaning (who p group) true (in_view m s out) (in_view last t most)
   turn-does p group next n m s out new t more most reached last does is some puts same end =
       let k = m.orderer.ordered + 1 in
-      let x : OrdersOne meaning p group n m s out new t more =
-      subst (λ (o : Option (ℕ × Entry)). MatchOption o ((new ≡ m) × (t ≡ s) × (more ≡ out)) (λ z. OrdersOne meaning p group z m s out new t more)) some does in
+      let x : OrdersOne meaning (who p group) n (in_view m s out) (in_view new t more) =
+      subst (λ (o : Option (ℕ × Entry)). MatchOption o ((new ≡ m) × (t ≡ s) × (more ≡ out)) (λ z. OrdersOne meaning (who p group) z (in_view m s out) (in_view new t more))) some does in
       let y = next-is k (next_ordered m.window.stable m.orderer) n (sym some ∙ is) in
-      let z : OrdersOne meaning p group (k, n.1) m s out new t more = subst (λ (z : ℕ × Entry). OrdersOne meaning p group z m s out new t more) y.0 x in
+      let z : OrdersOne meaning (who p group) (k, n.1) (in_view m s out) (in_view new t more) = subst (λ (z : ℕ × Entry). OrdersOne meaning (who p group) z (in_view m s out) (in_view new t more)) y.0 x in
       let e = n.1 in
       let next = after_one p (k, e) m in
       let announced : Grows group more most (order_of p m.view k e) [] =
       subst (λ (z : Coordinator). Grows group more most (order_of p z.view k e) []) z.now
       (subst (λ (z : ℕ × Entry). Grows group more most (map (packet p (bodies.Order new.view.id z.0 z.1)) (others_of p new.view.members)) []) y.0 puts) in
-      subst (λ (o : Option Entry). MatchOption o ((true ≡ false) × (last ≡ m) × (t ≡ s) × (most ≡ out)) (λ e. (true ≡ true) × TurnsOne meaning p group e m s out last t most)) (sym y.1) (
+      subst (λ (o : Option Entry). MatchOption o ((true ≡ false) × (last ≡ m) × (t ≡ s) × (most ≡ out)) (λ e. (true ≡ true) × TurnsOne meaning (who p group) e (in_view m s out) (in_view last t most))) (sym y.1) (
         refl,
         record {
           now = end ∙ ap (λ (j : ℕ). acknowledged p j new) same ∙ ap (λ (z : Coordinator). acknowledged p z.window.delivered z) z.now;
@@ -96,15 +98,15 @@ module _ {S : Type 0} (meaning : Meaning S) where
       )
 
   pub rest-does : (p : Address) (group : List ℕ) (next : Option (ℕ × Entry)) (m : Coordinator) (s : S) (out : Output) (new : Coordinator) (t : S) (more : Output)
-      → MatchOption next ((new ≡ m) × (t ≡ s) × (more ≡ out)) (λ n. OrdersOne meaning p group n m s out new t more)
+      → MatchOption next ((new ≡ m) × (t ≡ s) × (more ≡ out)) (λ n. OrdersOne meaning (who p group) n (in_view m s out) (in_view new t more))
       → next ≡ option_map (λ e. (m.orderer.ordered + 1, e)) (next_ordered m.window.stable m.orderer) → next ≡ None
-      → TurnsNext meaning p group false m s out new t more
+      → TurnsNext meaning (who p group) false (in_view m s out) (in_view new t more)
   rest-does p group next m s out new t more does is none =
-      let x = subst (λ (o : Option (ℕ × Entry)). MatchOption o ((new ≡ m) × (t ≡ s) × (more ≡ out)) (λ z. OrdersOne meaning p group z m s out new t more)) none does in
-      subst (λ (o : Option Entry). MatchOption o ((false ≡ false) × (new ≡ m) × (t ≡ s) × (more ≡ out)) (λ e. (false ≡ true) × TurnsOne meaning p group e m s out new t more))
+      let x = subst (λ (o : Option (ℕ × Entry)). MatchOption o ((new ≡ m) × (t ≡ s) × (more ≡ out)) (λ z. OrdersOne meaning (who p group) z (in_view m s out) (in_view new t more))) none does in
+      subst (λ (o : Option Entry). MatchOption o ((false ≡ false) × (new ≡ m) × (t ≡ s) × (more ≡ out)) (λ e. (false ≡ true) × TurnsOne meaning (who p group) e (in_view m s out) (in_view new t more)))
       (sym (next-none (m.orderer.ordered + 1) (next_ordered m.window.stable m.orderer) (sym none ∙ is))) (refl, x.0, x.1, x.2)
 
-  pub ordering-nothing : (p : Address) (group : List ℕ) (m : Coordinator) (s : S) (out : Output) → Ordering meaning p group m s out m s out
+  pub ordering-nothing : (p : Address) (group : List ℕ) (m : Coordinator) (s : S) (out : Output) → Ordering meaning (who p group) (in_view m s out) (in_view m s out)
   ordering-nothing p group m s out = record {
     entries = [];
     turns = Starts m;
@@ -115,8 +117,8 @@ module _ {S : Type 0} (meaning : Meaning S) where
     heard = λ q other. refl;
   }
 
-  one-more : (p : Address) (group : List ℕ) (a b c : Coordinator) (s t u : S) (out more most : Output) (e : Entry) → Ordering meaning p group a s out b t more
-      → next_ordered b.window.stable b.orderer ≡ Some e → TurnsOne meaning p group e b t more c u most → Ordering meaning p group a s out c u most
+  one-more : (p : Address) (group : List ℕ) (a b c : Coordinator) (s t u : S) (out more most : Output) (e : Entry) → Ordering meaning (who p group) (in_view a s out) (in_view b t more)
+      → next_ordered b.window.stable b.orderer ≡ Some e → TurnsOne meaning (who p group) e (in_view b t more) (in_view c u most) → Ordering meaning (who p group) (in_view a s out) (in_view c u most)
   one-more p group a b c s t u out more most e x due y =
       let moved : c.orderer ≡ record { ordered = b.orderer.ordered + 1; queues = change_first has_next served b.orderer.queues } = ap (λ (n : Coordinator). n.orderer) y.now ∙ one-ordered p b e due in
       let place : b.orderer.ordered + 1 ≡ a.orderer.ordered + length x.entries + 1 = omega (arith, x.ordered) in
@@ -134,14 +136,14 @@ module _ {S : Type 0} (meaning : Meaning S) where
         heard = λ q other. ap (λ (n : Coordinator). count_of q n.acks) y.now ∙ noted-other q p _ b.acks other ∙ x.heard q other;
       }
 
-  next-by : (o : Option Entry) (p : Address) (group : List ℕ) (more_so : Bool) (a b c : Coordinator) (s t u : S) (out more most : Output) → Ordering meaning p group a s out b t more
-      → next_ordered b.window.stable b.orderer ≡ o → MatchOption o ((more_so ≡ false) × (c ≡ b) × (u ≡ t) × (most ≡ more)) (λ e. (more_so ≡ true) × TurnsOne meaning p group e b t more c u most)
-      → Ordering meaning p group a s out c u most
+  next-by : (o : Option Entry) (p : Address) (group : List ℕ) (more_so : Bool) (a b c : Coordinator) (s t u : S) (out more most : Output) → Ordering meaning (who p group) (in_view a s out) (in_view b t more)
+      → next_ordered b.window.stable b.orderer ≡ o → MatchOption o ((more_so ≡ false) × (c ≡ b) × (u ≡ t) × (most ≡ more)) (λ e. (more_so ≡ true) × TurnsOne meaning (who p group) e (in_view b t more) (in_view c u most))
+      → Ordering meaning (who p group) (in_view a s out) (in_view c u most)
   next-by None p group more_so a b c s t u out more most x due y =
-      subst (λ (n : Coordinator). Ordering meaning p group a s out n u most) (sym y.1) (subst (λ (z : S). Ordering meaning p group a s out b z most) (sym y.2)
-      (subst (λ (o : Output). Ordering meaning p group a s out b t o) (sym y.3) x))
+      subst (λ (n : Coordinator). Ordering meaning (who p group) (in_view a s out) (in_view n u most)) (sym y.1) (subst (λ (z : S). Ordering meaning (who p group) (in_view a s out) (in_view b z most)) (sym y.2)
+      (subst (λ (o : Output). Ordering meaning (who p group) (in_view a s out) (in_view b t o)) (sym y.3) x))
   next-by (Some e) p group more_so a b c s t u out more most x due y = one-more p group a b c s t u out more most e x due y.1
 
-  pub ordering-then : (p : Address) (group : List ℕ) (more_so : Bool) (a b c : Coordinator) (s t u : S) (out more most : Output) → Ordering meaning p group a s out b t more
-      → TurnsNext meaning p group more_so b t more c u most → Ordering meaning p group a s out c u most
+  pub ordering-then : (p : Address) (group : List ℕ) (more_so : Bool) (a b c : Coordinator) (s t u : S) (out more most : Output) → Ordering meaning (who p group) (in_view a s out) (in_view b t more)
+      → TurnsNext meaning (who p group) more_so (in_view b t more) (in_view c u most) → Ordering meaning (who p group) (in_view a s out) (in_view c u most)
   ordering-then p group more_so a b c s t u out more most x y = next-by (next_ordered b.window.stable b.orderer) p group more_so a b c s t u out more most x refl y

@@ -30,6 +30,8 @@ use Rattle.trace_props.specs.declared.event.Event.TheVariants.{Sent}
 use Rattle.traffic.proofs.FactOfAcks.{noted-other}
 use Rattle.traffic.proofs.FactOfOffered.{queue_with}
 use Rattle.traffic.proofs.FactOfFew.{collected-by, collected-least, stable-le-noted}
+use Rattle.step_output.specs.Steps.{who}
+use Rattle.traffic.specs.InViews.{in_view}
 
 -- ---- a FORWARD leaves the own queue
 
@@ -230,17 +232,17 @@ delivers-own-by (e ∷ es) p x m a n out more front start done happens = record 
 
 module _ {S : Type 0} (meaning : Meaning S) where
   pub sends-orders : (p : Address) (group : List ℕ) (x : List ℕ) (n : ℕ) (m a b : Coordinator) (s : S) (out between : Output) (new : Coordinator) (t : S) (more : Output) → n ≡ m.forwards.sent + 1 → a ≡ pushing x m → b ≡ queued p n x a
-      → Grows group out between [] (Sent (sending p m.view.id (m.forwards.sent + 1) x) ∷ []) → Ordering meaning p group b s between new t more → next_ordered new.window.stable new.orderer ≡ None
-      → SendsOrdering meaning p group x m s out new t more
+      → Grows group out between [] (Sent (sending p m.view.id (m.forwards.sent + 1) x) ∷ []) → Ordering meaning (who p group) (in_view b s between) (in_view new t more) → next_ordered new.window.stable new.orderer ≡ None
+      → SendsOrdering meaning (who p group) x (in_view m s out) (in_view new t more)
   sends-orders p group x n m a b s out between new t more number now end sent orders done = record {
     between = between;
     sent = sent;
     done = done;
-    orders = subst (λ (z : Coordinator). Ordering meaning p group z s between new t more) (end ∙ ap (λ (z : Coordinator). queued p n x z) now ∙ ap (λ (z : ℕ). queued p z x (pushing x m)) number) orders;
+    orders = subst (λ (z : Coordinator). Ordering meaning (who p group) (in_view z s between) (in_view new t more)) (end ∙ ap (λ (z : Coordinator). queued p n x z) now ∙ ap (λ (z : ℕ). queued p z x (pushing x m)) number) orders;
   }
 
   pub delivers-own-at-once : (p : Address) (group : List ℕ) (x : List ℕ) (m : Coordinator) (s : S) (out : Output) (new : Coordinator) (t : S) (more : Output) → IsForwards m.forwards → push_refusal m.forwards ≡ None → IsSettled p m
-      → next_ordered m.window.stable m.orderer ≡ None → SendsOrdering meaning p group x m s out new t more → may_order m.window.stable m.orderer ≡ true → DeliversOwnAtOnce p x m out more
+      → next_ordered m.window.stable m.orderer ≡ None → SendsOrdering meaning (who p group) x (in_view m s out) (in_view new t more) → may_order m.window.stable m.orderer ≡ true → DeliversOwnAtOnce p x m out more
   delivers-own-at-once p group x m s out new t more f free z rested sends may =
       let start = own-next p x m f free z rested may in
       let o = sends.orders in
@@ -253,5 +255,5 @@ pub few-more : (v : Event) (out between more : List Event) → between ≡ out +
 few-more v out between more sent few = let k : length between ≡ length out + 1 = ap length sent ∙ length-append out (v ∷ []) in omega (arith, k, few)
 
 pub ack-heard : {S : Type 0} (meaning : Meaning S) (p : Address) (group : List ℕ) (q : Address) (n : ℕ) (m a : Coordinator) (s : S) (out : Output) (new : Coordinator) (t : S) (more : Output) → a ≡ acknowledged q n m
-    → Ordering meaning p group a s out new t more → next_ordered new.window.stable new.orderer ≡ None → OrdersAll meaning p group (acknowledged q n m) s out new t more
-ack-heard meaning p group q n m a s out new t more heard orders done = (subst (λ (z : Coordinator). Ordering meaning p group z s out new t more) heard orders, done)
+    → Ordering meaning (who p group) (in_view a s out) (in_view new t more) → next_ordered new.window.stable new.orderer ≡ None → OrdersAll meaning (who p group) (in_view (acknowledged q n m) s out) (in_view new t more)
+ack-heard meaning p group q n m a s out new t more heard orders done = (subst (λ (z : Coordinator). Ordering meaning (who p group) (in_view z s out) (in_view new t more)) heard orders, done)

@@ -28,6 +28,8 @@ use Rattle.traffic.proofs.FactOfQueues.{served-fact, rest-distinct}
 use Rattle.traffic.proofs.FactOfTurns.{one-ordered}
 use Rattle.traffic.proofs.FactOfFew.{turned-fact, stable-le-noted}
 use Rattle.traffic.proofs.ActsOfTurns.{itself-in}
+use Rattle.step_output.specs.Steps.{who}
+use Rattle.traffic.specs.InViews.{in_view}
 
 -- its own next message is the first of those that are outstanding
 own-served-by : (rest : List Numbered) (p : Address) (f : ForwardsModel) → IsForwards f → f.rest ≡ rest → list_any (follows (own_queue p f)) rest ≡ true
@@ -109,10 +111,10 @@ module _ {S : Type 0} (meaning : Meaning S) where
 
   settled-by : (o : Option Entry) (p : Address) (group : List ℕ) (b : Bool) (m : Coordinator) (s : S) (out : Output) (new : Coordinator) (t : S) (more : Output) → IsCoordinator p m → IsSettled p m → IsForwards m.forwards
       → m.window.stable ≤ m.window.delivered → view_refusal m.view.id m.view.members ≡ None → next_ordered m.window.stable m.orderer ≡ o
-      → MatchOption o ((b ≡ false) × (new ≡ m) × (t ≡ s) × (more ≡ out)) (λ e. (b ≡ true) × TurnsOne meaning p group e m s out new t more) → IsSettled p new
+      → MatchOption o ((b ≡ false) × (new ≡ m) × (t ≡ s) × (more ≡ out)) (λ e. (b ≡ true) × TurnsOne meaning (who p group) e (in_view m s out) (in_view new t more)) → IsSettled p new
   settled-by None p group b m s out new t more i z f low sound due x = subst (λ (n : Coordinator). IsSettled p n) (sym x.1) z
   settled-by (Some e) p group b m s out new t more i z f low sound due x = subst (λ (n : Coordinator). IsSettled p n) (sym x.1.now) (settled-turned p m e i z f low sound due)
 
   pub settled-next : (p : Address) (group : List ℕ) (b : Bool) (m : Coordinator) (s : S) (out : Output) (new : Coordinator) (t : S) (more : Output) → IsCoordinator p m → IsSettled p m → IsForwards m.forwards
-      → m.window.stable ≤ m.window.delivered → view_refusal m.view.id m.view.members ≡ None → TurnsNext meaning p group b m s out new t more → IsSettled p new
+      → m.window.stable ≤ m.window.delivered → view_refusal m.view.id m.view.members ≡ None → TurnsNext meaning (who p group) b (in_view m s out) (in_view new t more) → IsSettled p new
   settled-next p group b m s out new t more i z f low sound x = settled-by (next_ordered m.window.stable m.orderer) p group b m s out new t more i z f low sound refl x

@@ -10,8 +10,9 @@ use Rattle.stability.specs.Counts.{members_of, noted, stable_count}
 use Rattle.acts.specs.Acts.{delivery}
 use Rattle.traffic.specs.declared.coordinator.Coordinator.{Coordinator}
 use Rattle.traffic.specs.ViewStates.{senders_of, after_delivery}
-use Rattle.step_output.specs.declared.output.Output.{Output}
 use Rattle.step_output.specs.Outputs.{Grows}
+use Rattle.step_output.specs.Steps.{Who}
+use Rattle.traffic.specs.InViews.{InView}
 
 -- ---- what holds of it
 
@@ -45,16 +46,16 @@ abbrev pub holding : ℕ × Entry → Coordinator → Coordinator
 holding n m = record m { window = delivering (taken n.0 n.1 m.window) }
 
 -- the next message leaves its queue, and is delivered
-pub record ServesOne {S : Type 0} (meaning : Meaning S) (p : Address) (group : List ℕ) (n : ℕ × Entry) (old : Coordinator) (s : S) (out : Output) (new : Coordinator) (t : S) (more : Output) : Type 0 where
-  pub now : new ≡ served_one p n.1 old
-  pub state : t ≡ meaning.apply s n.1.sender n.1.payload
-  pub grows : Grows group out more [] (delivery p old.view.id n.1 ∷ [])
+pub record ServesOne {S : Type 0} (meaning : Meaning S) (who : Who) (n : ℕ × Entry) (old new : InView Coordinator S) : Type 0 where
+  pub now : new.part ≡ served_one who.address n.1 old.part
+  pub state : new.state ≡ meaning.apply old.state n.1.sender n.1.payload
+  pub grows : Grows who.group old.out new.out [] (delivery who.address old.part.view.id n.1 ∷ [])
 
 -- the next message is ordered and delivered
-pub record OrdersOne {S : Type 0} (meaning : Meaning S) (p : Address) (group : List ℕ) (n : ℕ × Entry) (old : Coordinator) (s : S) (out : Output) (new : Coordinator) (t : S) (more : Output) : Type 0 where
-  pub now : new ≡ after_one p n old
-  pub state : t ≡ meaning.apply s n.1.sender n.1.payload
-  pub grows : Grows group out more [] (delivery p old.view.id n.1 ∷ [])
+pub record OrdersOne {S : Type 0} (meaning : Meaning S) (who : Who) (n : ℕ × Entry) (old new : InView Coordinator S) : Type 0 where
+  pub now : new.part ≡ after_one who.address n old.part
+  pub state : new.state ≡ meaning.apply old.state n.1.sender n.1.payload
+  pub grows : Grows who.group old.out new.out [] (delivery who.address old.part.view.id n.1 ∷ [])
 
 -- an acknowledgement was taken, and what is stable let go of
 abbrev pub acknowledged : Address → ℕ → Coordinator → Coordinator

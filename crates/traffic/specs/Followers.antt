@@ -1,5 +1,5 @@
 -- What a member of a view other than its coordinator does.
-use Rattle.std.specs.Prelude.{◌≡◌, ℕ, ◌+◌, List, [], ◌∷◌, Option, Some}
+use Rattle.std.specs.Prelude.{◌≡◌, ℕ, ◌+◌, [], ◌∷◌, Option, Some}
 use Rattle.address.specs.Ids.{Address}
 use Rattle.view.specs.Members.{View}
 use Rattle.wire_values.specs.Values.{Entry}
@@ -9,15 +9,16 @@ use Rattle.acts.specs.Histories.{Posted}
 use Rattle.acts.specs.Acts.{delivery, packet}
 use Rattle.wire_values.specs.declared.packet.Body.TheVariants as bodies
 use Rattle.traffic.specs.declared.follower.Follower.{Follower}
-use Rattle.step_output.specs.declared.output.Output.{Output}
 use Rattle.step_output.specs.Outputs.{Grows}
 use Rattle.traffic.specs.ViewStates.{after_delivery}
+use Rattle.step_output.specs.Steps.{Who}
+use Rattle.traffic.specs.InViews.{InView}
 
 -- it delivers the next message that it holds
-pub record DeliversOne {S : Type 0} (meaning : Meaning S) (p : Address) (group : List ℕ) (e : Entry) (old : Follower) (s : S) (out : Output) (new : Follower) (t : S) (more : Output) : Type 0 where
-  pub now : new ≡ record old { window = record (old.window) { delivered = old.window.delivered + 1 }; forwards = after_delivery p e old.forwards }
-  pub state : t ≡ meaning.apply s e.sender e.payload
-  pub grows : Grows group out more [] (delivery p old.view.id e ∷ [])
+pub record DeliversOne {S : Type 0} (meaning : Meaning S) (who : Who) (e : Entry) (old new : InView Follower S) : Type 0 where
+  pub now : new.part ≡ record (old.part) { window = record (old.part.window) { delivered = old.part.window.delivered + 1 }; forwards = after_delivery who.address e old.part.forwards }
+  pub state : new.state ≡ meaning.apply old.state e.sender e.payload
+  pub grows : Grows who.group old.out new.out [] (delivery who.address old.part.view.id e ∷ [])
 
 abbrev pub collected_to : ℕ → Follower → Follower
 collected_to t m = record m { window = collected t m.window }

@@ -9,12 +9,13 @@ use Rattle.trace_props.specs.declared.event.Sending.{Sending}
 use Rattle.acts.specs.Histories.{Posted}
 use Rattle.acts.specs.Chains.{Acted}
 use Rattle.acts.specs.Cores.{ViewCore, Core}
-use Rattle.step_output.specs.declared.output.Output.{Output}
 use Rattle.step_output.specs.Outputs.{Grows}
 use Rattle.traffic.specs.declared.coordinator.Coordinator.{Coordinator}
 use Rattle.traffic.specs.declared.follower.Follower.{Follower}
 use Rattle.traffic.specs.ViewStates.{coordinator_core, follower_core}
 use Rattle.traffic.specs.Coordinators.{IsCoordinator}
+use Rattle.step_output.specs.Steps.{Who}
+use Rattle.traffic.specs.InViews.{InView, in_view}
 
 -- open in a view, with nothing else promised
 abbrev pub open_core : {S : Type 0} → Address → View → List (Address × wire.Install) → ViewCore → S → Core S
@@ -31,24 +32,22 @@ open_core p v kept t s = record {
 }
 
 -- on a packet that came, a member that is open in a view went on so, by acts alone; what it keeps of its installs does not matter
-pub record Goes {S : Type 0} (meaning : Meaning S) (came : Option Posted) (p : Address) (group : List ℕ) (v : View)
-    (old : ViewCore) (s : S) (out : Output) (new : ViewCore) (t : S) (more : Output) : Type 0 where
+pub record Goes {S : Type 0} (meaning : Meaning S) (came : Option Posted) (who : Who) (v : View) (old new : InView ViewCore S) : Type 0 where
   pub posted : List Posted
   pub happened : List Event
-  pub acted : (kept : List (Address × wire.Install)) → Acted meaning came (Some (open_core p v kept old s)) posted happened (Some (open_core p v kept new t))
-  pub grows : Grows group out more posted happened
+  pub acted : (kept : List (Address × wire.Install)) → Acted meaning came (Some (open_core who.address v kept old.part old.state)) posted happened (Some (open_core who.address v kept new.part new.state))
+  pub grows : Grows who.group old.out new.out posted happened
 
 -- the coordinator went on so, in its view, and is still what a coordinator is
-pub record CoordinatorGoes {S : Type 0} (meaning : Meaning S) (came : Option Posted) (p : Address) (group : List ℕ)
-    (old : Coordinator) (s : S) (out : Output) (new : Coordinator) (t : S) (more : Output) : Type 0 where
-  pub goes : Goes meaning came p group old.view (coordinator_core old) s out (coordinator_core new) t more
-  pub view : new.view ≡ old.view
-  pub coordinator : IsCoordinator p new
+pub record CoordinatorGoes {S : Type 0} (meaning : Meaning S) (came : Option Posted) (who : Who) (old new : InView Coordinator S) : Type 0 where
+  pub goes : Goes meaning came who old.part.view (in_view (coordinator_core old.part) old.state old.out) (in_view (coordinator_core new.part) new.state new.out)
+  pub view : new.part.view ≡ old.part.view
+  pub coordinator : IsCoordinator who.address new.part
 
 -- another member went on so, in its view
-abbrev pub FollowerGoes : {S : Type 0} → Meaning S → Option Posted → Address → List ℕ → Follower → S → Output → Follower → S → Output → Type 0
-FollowerGoes meaning came p group old s out new t more =
-    Goes meaning came p group old.view (follower_core old) s out (follower_core new) t more × (new.view ≡ old.view)
+abbrev pub FollowerGoes : {S : Type 0} → Meaning S → Option Posted → Who → InView Follower S → InView Follower S → Type 0
+FollowerGoes meaning came who old new =
+    Goes meaning came who old.part.view (in_view (follower_core old.part) old.state old.out) (in_view (follower_core new.part) new.state new.out) × (new.part.view ≡ old.part.view)
 
 -- a message that is sent, as it happens
 abbrev pub sending : Address → ViewId → ℕ → List ℕ → Sending

@@ -1,3 +1,4 @@
+pub mod InViews
 pub mod ViewStates
 pub mod Coordinators
 pub mod Goings

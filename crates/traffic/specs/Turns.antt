@@ -19,6 +19,8 @@ use Rattle.trace_props.specs.declared.event.Event.TheVariants.{Sent}
 use Rattle.traffic.specs.Coordinators.{pushing, after_one, acknowledged, queued}
 use Rattle.traffic.specs.Goings.{sending}
 use Rattle.step_output.specs.Outputs.{Grows}
+use Rattle.step_output.specs.Steps.{Who}
+use Rattle.traffic.specs.InViews.{InView, in_view}
 
 -- a message was ordered, delivered, and acknowledged by the coordinator itself
 abbrev pub turned : Address → Entry → Coordinator → Coordinator
@@ -39,28 +41,28 @@ pub data TurnsTo (p : Address) : Coordinator → List Entry → Coordinator → 
   Turns : (m n : Coordinator) (entries : List Entry) (e : Entry) → TurnsTo p m entries n → next_ordered n.window.stable n.orderer ≡ Some e → TurnsTo p m (entries ++ e ∷ []) (turned p e n)
 
 -- one turn
-pub record TurnsOne {S : Type 0} (meaning : Meaning S) (p : Address) (group : List ℕ) (e : Entry) (old : Coordinator) (s : S) (out : Output) (new : Coordinator) (t : S) (more : Output) : Type 0 where
-  pub now : new ≡ turned p e old
-  pub state : t ≡ meaning.apply s e.sender e.payload
-  pub grows : Grows group out more (order_of p old.view (old.orderer.ordered + 1) e) (delivery p old.view.id e ∷ [])
+pub record TurnsOne {S : Type 0} (meaning : Meaning S) (who : Who) (e : Entry) (old new : InView Coordinator S) : Type 0 where
+  pub now : new.part ≡ turned who.address e old.part
+  pub state : new.state ≡ meaning.apply old.state e.sender e.payload
+  pub grows : Grows who.group old.out new.out (order_of who.address old.part.view (old.part.orderer.ordered + 1) e) (delivery who.address old.part.view.id e ∷ [])
 
-abbrev pub TurnsNext : {S : Type 0} → Meaning S → Address → List ℕ → Bool → Coordinator → S → Output → Coordinator → S → Output → Type 0
-TurnsNext meaning p group more old s out new t end =
-    MatchOption (next_ordered old.window.stable old.orderer) ((more ≡ false) × (new ≡ old) × (t ≡ s) × (end ≡ out)) (λ e. (more ≡ true) × TurnsOne meaning p group e old s out new t end)
+abbrev pub TurnsNext : {S : Type 0} → Meaning S → Who → Bool → InView Coordinator S → InView Coordinator S → Type 0
+TurnsNext meaning who more old new =
+    MatchOption (next_ordered old.part.window.stable old.part.orderer) ((more ≡ false) × (new.part ≡ old.part) × (new.state ≡ old.state) × (new.out ≡ old.out)) (λ e. (more ≡ true) × TurnsOne meaning who e old new)
 
 -- several turns: exactly what is delivered, and put out
-pub record Ordering {S : Type 0} (meaning : Meaning S) (p : Address) (group : List ℕ) (old : Coordinator) (s : S) (out : Output) (new : Coordinator) (t : S) (more : Output) : Type 0 where
+pub record Ordering {S : Type 0} (meaning : Meaning S) (who : Who) (old new : InView Coordinator S) : Type 0 where
   pub entries : List Entry
-  pub turns : TurnsTo p old entries new
-  pub state : t ≡ applied meaning s entries
-  pub grows : Grows group out more (orders_of p old.view old.orderer.ordered entries) (map (delivery p old.view.id) entries)
-  pub view : new.view ≡ old.view
-  pub ordered : new.orderer.ordered ≡ old.orderer.ordered + length entries
-  pub heard : (q : Address) → same_address q p ≡ false → count_of q new.acks ≡ count_of q old.acks
+  pub turns : TurnsTo who.address old.part entries new.part
+  pub state : new.state ≡ applied meaning old.state entries
+  pub grows : Grows who.group old.out new.out (orders_of who.address old.part.view old.part.orderer.ordered entries) (map (delivery who.address old.part.view.id) entries)
+  pub view : new.part.view ≡ old.part.view
+  pub ordered : new.part.orderer.ordered ≡ old.part.orderer.ordered + length entries
+  pub heard : (q : Address) → same_address q who.address ≡ false → count_of q new.part.acks ≡ count_of q old.part.acks
 
 -- all is ordered that may be: no message is left that may be ordered
-abbrev pub OrdersAll : {S : Type 0} → Meaning S → Address → List ℕ → Coordinator → S → Output → Coordinator → S → Output → Type 0
-OrdersAll meaning p group old s out new t more = Ordering meaning p group old s out new t more × (next_ordered new.window.stable new.orderer ≡ None)
+abbrev pub OrdersAll : {S : Type 0} → Meaning S → Who → InView Coordinator S → InView Coordinator S → Type 0
+OrdersAll meaning who old new = Ordering meaning who old new × (next_ordered new.part.window.stable new.part.orderer ≡ None)
 
 -- ---- what holds between its steps, beside what its acts need
 
@@ -86,11 +88,11 @@ abbrev pub own_entry : Address → Coordinator → List ℕ → Entry
 own_entry p m x = record { sender = p; number = m.forwards.sent + 1; payload = x }
 
 -- it is sent, it waits, and all is ordered that may be
-pub record SendsOrdering {S : Type 0} (meaning : Meaning S) (p : Address) (group : List ℕ) (x : List ℕ) (old : Coordinator) (s : S) (out : Output) (new : Coordinator) (t : S) (more : Output) : Type 0 where
+pub record SendsOrdering {S : Type 0} (meaning : Meaning S) (who : Who) (x : List ℕ) (old new : InView Coordinator S) : Type 0 where
   pub between : Output
-  pub sent : Grows group out between [] (Sent (sending p old.view.id (old.forwards.sent + 1) x) ∷ [])
-  pub orders : Ordering meaning p group (queued p (old.forwards.sent + 1) x (pushing x old)) s between new t more
-  pub done : next_ordered new.window.stable new.orderer ≡ None
+  pub sent : Grows who.group old.out between [] (Sent (sending who.address old.part.view.id (old.part.forwards.sent + 1) x) ∷ [])
+  pub orders : Ordering meaning who (in_view (queued who.address (old.part.forwards.sent + 1) x (pushing x old.part)) old.state between) new
+  pub done : next_ordered new.part.window.stable new.part.orderer ≡ None
 
 -- it is delivered at once
 pub record DeliversOwnAtOnce (p : Address) (x : List ℕ) (old : Coordinator) (out more : Output) : Type 0 where

@@ -13,6 +13,8 @@ ghost use Rattle.traffic.specs.ViewStates.{waiting_of};
 ghost use Rattle.traffic.specs.Coordinators.{IsCoordinator, ServesOne, acknowledged, holding, queued};
 ghost use Rattle.traffic.specs.Goings.{CoordinatorGoes};
 ghost use Rattle.traffic.specs.Turns.{TurnsNext, Ordering, IsSettled, IsFew, OrdersAll};
+ghost use Rattle.step_output.specs.Steps.{who_of};
+ghost use Rattle.traffic.specs.InViews.{in_view};
 
 use crate::Coordinator;
 use crate::delivering::deliver;
@@ -47,7 +49,7 @@ impl Coordinator {
         ensures next { IfOk result (λ next. next ≡ option_map (λ e. (self.old.orderer.ordered + 1, e)) (next_ordered self.old.window.stable self.old.orderer)) }
         ensures does { IfOk result (λ next. MatchOption next
             ((self.new ≡ self.old) × (receiver.new ≡ receiver.old) × (out.new ≡ out.old))
-            (λ n. ServesOne R.meaning who.now.address who.now.group n self.old receiver.old out.old self.new receiver.new out.new)) }
+            (λ n. ServesOne R.meaning (who_of who.now) n (in_view self.old receiver.old out.old) (in_view self.new receiver.new out.new))) }
     {
         let Some((place, entry)) = self.orderer.ready(self.window.stable()) else {
             return Ok(None);
@@ -110,8 +112,8 @@ impl Coordinator {
     ) -> Result<bool, AllocError>
         requires coordinator { IsCoordinator who.now.address self.old }
         requires settled { IsSettled who.now.address self.old }
-        ensures goes { OnOk result ((came : Option Posted) → CoordinatorGoes R.meaning came who.now.address who.now.group self.old receiver.old out.old self.new receiver.new out.new) }
-        ensures does { IfOk result (λ more. TurnsNext R.meaning who.now.address who.now.group more self.old receiver.old out.old self.new receiver.new out.new) }
+        ensures goes { OnOk result ((came : Option Posted) → CoordinatorGoes R.meaning came (who_of who.now) (in_view self.old receiver.old out.old) (in_view self.new receiver.new out.new)) }
+        ensures does { IfOk result (λ more. TurnsNext R.meaning (who_of who.now) more (in_view self.old receiver.old out.old) (in_view self.new receiver.new out.new)) }
         ensures settled { OnOk result (IsSettled who.now.address self.new) }
         ensures fewer { IfOk result (λ more. MatchBool more
             (length (waiting_of self.new.orderer.queues) < length (waiting_of self.old.orderer.queues))
@@ -143,9 +145,9 @@ impl Coordinator {
     ) -> Result<(), AllocError>
         requires coordinator { IsCoordinator who.now.address self.old }
         requires settled { IsSettled who.now.address self.old }
-        ensures goes { OnOk result ((came : Option Posted) → CoordinatorGoes R.meaning came who.now.address who.now.group self.old receiver.old out.old self.new receiver.new out.new) }
+        ensures goes { OnOk result ((came : Option Posted) → CoordinatorGoes R.meaning came (who_of who.now) (in_view self.old receiver.old out.old) (in_view self.new receiver.new out.new)) }
         ensures done { OnOk result (next_ordered self.new.window.stable self.new.orderer ≡ None) }
-        ensures orders { OnOk result (Ordering R.meaning who.now.address who.now.group self.old receiver.old out.old self.new receiver.new out.new) }
+        ensures orders { OnOk result (Ordering R.meaning (who_of who.now) (in_view self.old receiver.old out.old) (in_view self.new receiver.new out.new)) }
         ensures settled { OnOk result (IsSettled who.now.address self.new) }
         ensures few { OnOk result (IsFew out.old out.new) }
     {
@@ -173,9 +175,9 @@ impl Coordinator {
         requires coordinator { IsCoordinator who.now.address self.old }
         requires settled { IsSettled who.now.address self.old }
         requires other { same_address source.now who.now.address ≡ false }
-        ensures goes { OnOk result (CoordinatorGoes R.meaning (Some (packet source.now (bodies.Forward self.old.view.id number payload.now) who.now.address)) who.now.address who.now.group self.old receiver.old out.old self.new receiver.new out.new) }
+        ensures goes { OnOk result (CoordinatorGoes R.meaning (Some (packet source.now (bodies.Forward self.old.view.id number payload.now) who.now.address)) (who_of who.now) (in_view self.old receiver.old out.old) (in_view self.new receiver.new out.new)) }
         ensures done { OnOk result (next_ordered self.new.window.stable self.new.orderer ≡ None) }
-        ensures orders { OnOk result (Ordering R.meaning who.now.address who.now.group (queued source.now number payload.now self.old) receiver.old out.old self.new receiver.new out.new) }
+        ensures orders { OnOk result (Ordering R.meaning (who_of who.now) (in_view (queued source.now number payload.now self.old) receiver.old out.old) (in_view self.new receiver.new out.new)) }
         ensures settled { OnOk result (IsSettled who.now.address self.new) }
         ensures few { OnOk result (IsFew out.old out.new) }
     {
@@ -199,8 +201,8 @@ impl Coordinator {
         requires other { same_address source.now who.now.address ≡ false }
         requires member { stands_in source.now self.old.view.members ≡ true }
         requires delivered { count ≤ self.old.window.delivered }
-        ensures goes { OnOk result (CoordinatorGoes R.meaning (Some (packet source.now (bodies.Ack self.old.view.id count) who.now.address)) who.now.address who.now.group self.old receiver.old out.old self.new receiver.new out.new) }
-        ensures orders { OnOk result (OrdersAll R.meaning who.now.address who.now.group (acknowledged source.now count self.old) receiver.old out.old self.new receiver.new out.new) }
+        ensures goes { OnOk result (CoordinatorGoes R.meaning (Some (packet source.now (bodies.Ack self.old.view.id count) who.now.address)) (who_of who.now) (in_view self.old receiver.old out.old) (in_view self.new receiver.new out.new)) }
+        ensures orders { OnOk result (OrdersAll R.meaning (who_of who.now) (in_view (acknowledged source.now count self.old) receiver.old out.old) (in_view self.new receiver.new out.new)) }
         ensures settled { OnOk result (IsSettled who.now.address self.new) }
         ensures few { OnOk result (IsFew out.old out.new) }
     {

@@ -10,6 +10,8 @@ ghost use Rattle.step_output.specs.Outputs.{Grows};
 ghost use Rattle.traffic.specs.Coordinators.{IsCoordinator, pushing};
 ghost use Rattle.traffic.specs.Goings.{CoordinatorGoes, sending};
 ghost use Rattle.traffic.specs.Turns.{IsSettled, SendsOrdering, DeliversOwnAtOnce, IsFewMore};
+ghost use Rattle.step_output.specs.Steps.{who_of};
+ghost use Rattle.traffic.specs.InViews.{in_view};
 
 use crate::Coordinator;
 use address::ViewId;
@@ -95,9 +97,9 @@ impl Coordinator {
         requires free { push_refusal self.old.forwards ≡ None }
         requires settled { IsSettled who.now.address self.old }
         requires rested { next_ordered self.old.window.stable self.old.orderer ≡ None }
-        ensures goes { OnOk result ((came : Option Posted) → CoordinatorGoes R.meaning came who.now.address who.now.group self.old receiver.old out.old self.new receiver.new out.new) }
+        ensures goes { OnOk result ((came : Option Posted) → CoordinatorGoes R.meaning came (who_of who.now) (in_view self.old receiver.old out.old) (in_view self.new receiver.new out.new)) }
         ensures done { OnOk result (next_ordered self.new.window.stable self.new.orderer ≡ None) }
-        ensures orders { OnOk result (SendsOrdering R.meaning who.now.address who.now.group payload.now self.old receiver.old out.old self.new receiver.new out.new) }
+        ensures orders { OnOk result (SendsOrdering R.meaning (who_of who.now) payload.now (in_view self.old receiver.old out.old) (in_view self.new receiver.new out.new)) }
         ensures prompt { OnOk result (may_order self.old.window.stable self.old.orderer ≡ true → DeliversOwnAtOnce who.now.address payload.now self.old out.old out.new) }
         ensures settled { OnOk result (IsSettled who.now.address self.new) }
         ensures few { OnOk result (IsFewMore out.old out.new) }

@@ -15,6 +15,8 @@ ghost use Rattle.traffic.specs.Followers.{order_packet, DeliversOne, collected_t
 ghost use Rattle.traffic.specs.Takes.{DeliversHeld, TakesStatus, forward_of, ack_of, follower_pushing, SendsForward, IsComplete, AsksUpTo, AnswersOrder, TakesOrder};
 ghost use Rattle.trace_props.specs.declared.event.Event.TheVariants.{Sent};
 ghost use Rattle.sequencer.specs.Forwards.{push_refusal};
+ghost use Rattle.step_output.specs.Steps.{who_of};
+ghost use Rattle.traffic.specs.InViews.{in_view};
 
 use crate::Follower;
 use crate::delivering::deliver;
@@ -36,7 +38,7 @@ impl Follower {
     ) -> Result<bool, AllocError>
         ensures does { IfOk result (λ did_deliver. MatchOption (held_at (self.old.window.delivered + 1) self.old.window.held)
             ((did_deliver ≡ false) × (self.new ≡ self.old) × (receiver.new ≡ receiver.old) × (out.new ≡ out.old))
-            (λ e. (did_deliver ≡ true) × DeliversOne R.meaning who.now.address who.now.group e self.old receiver.old out.old self.new receiver.new out.new)) }
+            (λ e. (did_deliver ≡ true) × DeliversOne R.meaning (who_of who.now) e (in_view self.old receiver.old out.old) (in_view self.new receiver.new out.new))) }
     {
         if !self.window.deliver_next() {
             return Ok(false);
@@ -79,9 +81,9 @@ impl Follower {
         out: &mut Output,
     ) -> Result<(), AllocError>
         requires other { same_address who.now.address self.old.view.id.creator ≡ false }
-        ensures goes { OnOk result ((came : Option Posted) → FollowerGoes R.meaning came who.now.address who.now.group self.old receiver.old out.old self.new receiver.new out.new) }
+        ensures goes { OnOk result ((came : Option Posted) → FollowerGoes R.meaning came (who_of who.now) (in_view self.old receiver.old out.old) (in_view self.new receiver.new out.new)) }
         ensures done { OnOk result (held_at (self.new.window.delivered + 1) self.new.window.held ≡ None) }
-        ensures delivers { OnOk result (DeliversHeld R.meaning who.now.address who.now.group self.old receiver.old out.old self.new receiver.new out.new) }
+        ensures delivers { OnOk result (DeliversHeld R.meaning (who_of who.now) (in_view self.old receiver.old out.old) (in_view self.new receiver.new out.new)) }
         ensures few { OnOk result (IsFew out.old out.new) }
     {
         self.window.kept();
@@ -135,7 +137,7 @@ impl Follower {
     // Puts out a NAK of what is missing up to the highest, where something is.
     fn ask_up_to(&self, who: &Identity, highest: u64, out: &mut Output) -> Result<(), AllocError>
         requires { highest ≤ GREATEST_NUMBER }
-        ensures { OnOk result (AsksUpTo who.now.address who.now.group highest self.now out.old out.new) }
+        ensures { OnOk result (AsksUpTo (who_of who.now) highest self.now out.old out.new) }
     {
         match self.missing(highest) {
             None => Ok(()),
@@ -155,7 +157,7 @@ impl Follower {
         place: Number,
         out: &mut Output,
     ) -> Result<(), AllocError>
-        ensures { OnOk result (AnswersOrder who.now.address who.now.group before new place self.now out.old out.new) }
+        ensures { OnOk result (AnswersOrder (who_of who.now) before new place self.now out.old out.new) }
     {
         if before < self.window.delivered() {
             self.acknowledge(who, out)?;
@@ -178,8 +180,8 @@ impl Follower {
         out: &mut Output,
     ) -> Result<(), AllocError>
         requires other { same_address who.now.address self.old.view.id.creator ≡ false }
-        ensures goes { OnOk result (FollowerGoes R.meaning (order_packet who.now.address self.old.view place entry.now) who.now.address who.now.group self.old receiver.old out.old self.new receiver.new out.new) }
-        ensures takes { OnOk result (TakesOrder R.meaning who.now.address who.now.group place entry.now self.old receiver.old out.old self.new receiver.new out.new) }
+        ensures goes { OnOk result (FollowerGoes R.meaning (order_packet who.now.address self.old.view place entry.now) (who_of who.now) (in_view self.old receiver.old out.old) (in_view self.new receiver.new out.new)) }
+        ensures takes { OnOk result (TakesOrder R.meaning (who_of who.now) place entry.now (in_view self.old receiver.old out.old) (in_view self.new receiver.new out.new)) }
         ensures few { OnOk result (IsFew out.old out.new) }
     {
         let before = self.window.delivered();
@@ -198,7 +200,7 @@ impl Follower {
         progress: Progress,
         out: &mut Output,
     ) -> Result<(), AllocError>
-        ensures { OnOk result (TakesStatus who.now.address who.now.group progress self.old out.old self.new out.new) }
+        ensures { OnOk result (TakesStatus (who_of who.now) progress self.old out.old self.new out.new) }
     {
         self.window.collect(progress.stable().get());
         self.ask_up_to(who, progress.highest().get(), out)?;
@@ -282,7 +284,7 @@ impl Follower {
         requires free { push_refusal self.old.forwards ≡ None }
         ensures now { OnOk result (self.new ≡ follower_pushing payload.now self.old) }
         ensures short { length payload.now ≤ PAYLOAD }
-        ensures sends { OnOk result (SendsForward who.now.address who.now.group payload.now self.old out.old out.new) }
+        ensures sends { OnOk result (SendsForward (who_of who.now) payload.now self.old out.old out.new) }
     {
         let body = payload.as_slice();
         let number = self.say(who, payload, out)?;

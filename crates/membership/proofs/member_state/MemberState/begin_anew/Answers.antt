@@ -2,6 +2,7 @@ use Rattle.std.proofs.Common.{sym, ◌∙◌}
 use Rattle.membership.proofs.FactOfProposed.{anew-is-proposal}
 use Rattle.membership.proofs.KeepMemberState.{begun-member_state}
 use Rattle.membership.proofs.member_state.MemberState.begin_anew.Goals as goal
+use Rattle.membership.specs.InSteps.{in_step}
 
 pub begin-requires-clause-greater : goal.begin-requires-clause-greater
 begin-requires-clause-greater g c = (anew-is-proposal c.args.who.now.group c.args.who.now.address c.args.self.now c.in-Some.proposal c.requires.member_state (sym c.in_ok-anew.ensures ∙ c.in-Some.is)).accepted
@@ -18,4 +19,4 @@ go_on-requires g c = record {
 pub returns-in_ok-go_on-in-Some-clause-begins : goal.returns-in_ok-go_on-in-Some-clause-begins
 returns-in_ok-go_on-in-Some-clause-begins g c =
     rw (sym c.in_ok-anew.ensures ∙ c.in-Some.is)
-    (record { mid = c.begin.new.self; between = c.begin.new.out; begins = c.in_ok-begin-in-Some.ensures; goes_on = c.in_ok-go_on-in-Some.ensures.goes_on })
+    (record { mid = in_step c.begin.new.self c.begin.new.out; begins = c.in_ok-begin-in-Some.ensures; goes_on = c.in_ok-go_on-in-Some.ensures.goes_on })

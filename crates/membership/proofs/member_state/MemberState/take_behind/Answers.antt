@@ -3,6 +3,8 @@ use Rattle.next_view.specs.Notes.{NotesModel}
 use Rattle.membership.specs.Changes.{BeginsAnew}
 use Rattle.membership.proofs.KeepNotes.{heard-member_state}
 use Rattle.membership.proofs.member_state.MemberState.take_behind.Goals as goal
+use Rattle.step_output.specs.Steps.{who_of}
+use Rattle.membership.specs.InSteps.{in_step}
 
 pub begin_anew-requires : goal.begin_anew-requires
 begin_anew-requires g c = record {
@@ -11,5 +13,5 @@ begin_anew-requires g c = record {
 
 pub returns-clause-takes : goal.returns-clause-takes
 returns-clause-takes g c =
-    subst (λ (b : NotesModel). BeginsAnew g.R.Receiver.meaning c.args.who.now.group c.args.who.now.address (record c.args.self.now { notes = b }) c.begin_anew.new.self c.args.out.now c.begin_anew.new.out)
+    subst (λ (b : NotesModel). BeginsAnew g.R.Receiver.meaning (who_of c.args.who.now) (in_step (record c.args.self.now { notes = b }) c.args.out.now) (in_step c.begin_anew.new.self c.begin_anew.new.out))
     (search rules) c.in_ok-begin_anew.ensures.begins

@@ -4,10 +4,12 @@ use Rattle.acts.specs.Histories.{Posted}
 use Rattle.traffic.specs.Goings.{FollowerGoes}
 use Rattle.traffic.specs.Takes.{DeliversHeld}
 use Rattle.traffic.proofs.follower.Follower.deliver_all.Given as goal
+use Rattle.step_output.specs.Steps.{who_of}
+use Rattle.traffic.specs.InViews.{in_view}
 
 abbrev pub invariant-loop : goal.invariant-loop
-invariant-loop g l = ((came : Option Posted) → FollowerGoes g.R.Receiver.meaning came l.who.address l.who.group l.fn.self l.fn.receiver l.fn.out l.self l.receiver l.out)
-    × DeliversHeld g.R.Receiver.meaning l.who.address l.who.group l.fn.self l.fn.receiver l.fn.out l.self l.receiver l.out
+invariant-loop g l = ((came : Option Posted) → FollowerGoes g.R.Receiver.meaning came (who_of l.who) (in_view l.fn.self l.fn.receiver l.fn.out) (in_view l.self l.receiver l.out))
+    × DeliversHeld g.R.Receiver.meaning (who_of l.who) (in_view l.fn.self l.fn.receiver l.fn.out) (in_view l.self l.receiver l.out)
 
 abbrev pub decreases-loop : goal.decreases-loop
 decreases-loop g l = l.self.window.stable + WINDOW - l.self.window.delivered
