@@ -69,6 +69,9 @@ pub fn put_address(address: Address, out: &mut Vec<u8>)
     ensures room { vec_capacity out.old ≤ vec_capacity out.new }
     ensures fits { IsAddress address }
 {
-    put_u16(address.node().number(), out);
-    put_u32(address.incarnation(), out);
+    let mut text = [0; 6];
+    let (node, incarnation) = text.split_at_mut(2);
+    BigEndian::write_u16(node, address.node().number());
+    BigEndian::write_u32(incarnation, address.incarnation());
+    put(&text, out);
 }

@@ -11,6 +11,7 @@ ghost use Rattle.wire.specs.Packets.{IsBody, Spells, front_bytes, header_bytes, 
 
 use address::{Address, ViewId};
 use big_endian::{put, put_address, put_u8, put_u16, put_u32, put_u64};
+use byteorder::{BigEndian, ByteOrder};
 use limits::{MAGIC, VERSION};
 use std::alloc::AllocError;
 use wire_values::{
@@ -323,9 +324,12 @@ fn put_front(kind: u8, out: &mut Vec<u8>)
     ensures items { out.new.items ≡ out.old.items ++ front_bytes kind }
     ensures room { vec_capacity out.old ≤ vec_capacity out.new }
 {
-    put_u16(MAGIC, out);
-    put_u8(VERSION, out);
-    put_u8(kind, out);
+    let mut text = [0; 4];
+    let (magic, rest) = text.split_at_mut(2);
+    BigEndian::write_u16(magic, MAGIC);
+    rest[0] = VERSION;
+    rest[1] = kind;
+    put(&text, out);
 }
 
 fn put_header(packet: &Packet<'_>, out: &mut Vec<u8>)
