@@ -20,6 +20,7 @@ use Rattle.member.specs.Watching.{watched}
 use Rattle.channel.specs.declared.stage.Stage.{Stage}
 use Rattle.channel.specs.declared.stage.Stage.TheVariants.{Apart, Connected, Ended}
 use Rattle.channel.specs.Channels.{ChannelModel, stage_of, is_in}
+use Rattle.step_output.specs.Steps.{who}
 
 -- ---- a step of the member
 
@@ -82,7 +83,7 @@ pub record IsStarted {S : Type 0} (address : Address) (group : List ℕ) (receiv
   pub group_is : m.group ≡ group
   pub member_state : IsSomeAnd m.member_state (idle_member address receiver)
   pub core_is : core_of m ≡ Some (cores.idle receiver address)
-  pub alive : IsAlive m.group m.address m.member_state
+  pub alive : IsAlive (who m.address m.group) m.member_state
 
 -- a member starts, with this input as its first step
 pub record StartsWith {S : Type 0} (meaning : Meaning S) (input : Input) (name : List ℕ) (receiver : S) (old : ChannelModel S)

@@ -35,6 +35,8 @@ use Rattle.member.specs.Errors.{stopped}
 use Rattle.member.specs.Members.{MemberModel, came_in}
 use Rattle.member.specs.Doing.{ignores_packet, is_ignored}
 use Rattle.member.proofs.FactOfStep
+use Rattle.step_output.specs.Steps.{who}
+use Rattle.membership.specs.InSteps.{in_step}
 
 handed-by : (b1 b2 b3 b4 : Bool) (x : Posted) → is_some (cond b1 (cond ((b2 && b3) && not b4) (Some x) None) None) ≡ true
     → (cond b1 (cond ((b2 && b3) && not b4) (Some x) None) None ≡ Some x) × (b2 ≡ true) × (b3 ≡ true) × (b4 ≡ false)
@@ -57,11 +59,11 @@ module _ {S : Type 0} (meaning : Meaning S) (p : Address) (group : List ℕ) whe
       (h.0 ∙ ap (λ (q : Address). Some (packet k.source k.body q)) (same_address-true k.destination p h.2), h.1, h.3)
 
   module _ (q : Address) (body : Body) (o : Option Posted) (came : o ≡ Some (packet q body p)) (old new : MemberState S) (out later : Output) where
-    pub take-does : FollowsRule meaning group p q body old new out later → MatchOption o (StaysAs old new out later) (λ m. FollowsRule meaning group p m.source m.body old new out later)
-    take-does x = subst (λ (k : Option Posted). MatchOption k (StaysAs old new out later) (λ m. FollowsRule meaning group p m.source m.body old new out later)) (sym came) x
+    pub take-does : FollowsRule meaning (who p group) q body (in_step old out) (in_step new later) → MatchOption o (StaysAs (in_step old out) (in_step new later)) (λ m. FollowsRule meaning (who p group) m.source m.body (in_step old out) (in_step new later))
+    take-does x = subst (λ (k : Option Posted). MatchOption k (StaysAs (in_step old out) (in_step new later)) (λ m. FollowsRule meaning (who p group) m.source m.body (in_step old out) (in_step new later))) (sym came) x
 
-    pub take-did : Did meaning (Some (packet q body p)) group p old new out later → Did meaning o group p old new out later
-    take-did x = subst (λ (k : Option Posted). Did meaning k group p old new out later) (sym came) x
+    pub take-did : Did meaning (Some (packet q body p)) (who p group) (in_step old out) (in_step new later) → Did meaning o (who p group) (in_step old out) (in_step new later)
+    take-did x = subst (λ (k : Option Posted). Did meaning k (who p group) (in_step old out) (in_step new later)) (sym came) x
 
     pub take-unreadable : is_unreadable_by meaning (core_at p old) (packet q body p) ≡ true → option_map_or (is_unreadable_by meaning (core_at p old)) o false ≡ true
     take-unreadable x = ap (λ (k : Option Posted). option_map_or (is_unreadable_by meaning (core_at p old)) k false) came ∙ x
@@ -70,8 +72,8 @@ module _ {S : Type 0} (meaning : Meaning S) (p : Address) (group : List ℕ) whe
     take-ignored x = sym (ap (λ (k : Option Posted). ignores_packet p k old) came) ∙ x
 
   module _ (o : Option Posted) (none : o ≡ None) (old : MemberState S) (out : Output) where
-    pub pass-does : MatchOption o (StaysAs old old out out) (λ m. FollowsRule meaning group p m.source m.body old old out out)
-    pass-does = subst (λ (k : Option Posted). MatchOption k (StaysAs old old out out) (λ m. FollowsRule meaning group p m.source m.body old old out out)) (sym none) (refl, refl)
+    pub pass-does : MatchOption o (StaysAs (in_step old out) (in_step old out)) (λ m. FollowsRule meaning (who p group) m.source m.body (in_step old out) (in_step old out))
+    pass-does = subst (λ (k : Option Posted). MatchOption k (StaysAs (in_step old out) (in_step old out)) (λ m. FollowsRule meaning (who p group) m.source m.body (in_step old out) (in_step old out))) (sym none) (refl, refl)
 
   -- ---- an INSTALL by which it entered could be read
 
@@ -79,7 +81,7 @@ module _ {S : Type 0} (meaning : Meaning S) (p : Address) (group : List ℕ) whe
   entry-by true i A B x = ap not x.0
   entry-by false i A B x = refl
 
-  hears-readable : (m : Posted) (body : Body) (old new : MemberState S) (out later : Output) → m.body ≡ body → FollowsRule meaning group p m.source body old new out later
+  hears-readable : (m : Posted) (body : Body) (old new : MemberState S) (out later : Output) → m.body ≡ body → FollowsRule meaning (who p group) m.source body (in_step old out) (in_step new later)
       → option_map_or (λ i. not (is_readable meaning i.state)) (entry_of (core_at p old) (record { source = m.source; destination = m.destination; body = body })) false ≡ false
   hears-readable m bodies.Join old new out later is x = refl
   hears-readable m (bodies.Redirect c) old new out later is x = refl
@@ -92,10 +94,10 @@ module _ {S : Type 0} (meaning : Meaning S) (p : Address) (group : List ℕ) whe
   hears-readable m (bodies.Flush w) old new out later is x = refl
   hears-readable m (bodies.Behind w n) old new out later is x = refl
   hears-readable m (bodies.Report w r) old new out later is x = refl
-  hears-readable m (bodies.Install i) old new out later is x = entry-by (is_entry (core_at p old) m.source i) i (Enters meaning group p old.view_state i old new out later) (StaysAs old new out later) x
+  hears-readable m (bodies.Install i) old new out later is x = entry-by (is_entry (core_at p old) m.source i) i (Enters meaning (who p group) old.view_state i (in_step old out) (in_step new later)) (StaysAs (in_step old out) (in_step new later)) x
   hears-readable m (bodies.Merge v) old new out later is x = refl
 
-  readable-by : (o : Option Posted) (old new : MemberState S) (out later : Output) → MatchOption o (StaysAs old new out later) (λ m. FollowsRule meaning group p m.source m.body old new out later)
+  readable-by : (o : Option Posted) (old new : MemberState S) (out later : Output) → MatchOption o (StaysAs (in_step old out) (in_step new later)) (λ m. FollowsRule meaning (who p group) m.source m.body (in_step old out) (in_step new later))
       → option_map_or (λ i. not (is_readable meaning i.state)) (option_and_then (entry_of (core_at p old)) o) false ≡ false
   readable-by None old new out later x = refl
   readable-by (Some m) old new out later x = hears-readable m m.body old new out later refl x
@@ -111,7 +113,7 @@ module _ {S : Type 0} (meaning : Meaning S) (p : Address) (group : List ℕ) whe
   Holds old bytes result new = FactOfStep.Holds meaning p group old (Datagram bytes) result new
 
   -- bytes that spell no packet
-  pub wire-handled : (bytes : Bor (List ℕ)) (w : WireError) (old : MemberState S) → packet_of bytes.now ≡ Err w → IsRunning group p old → Holds (Some old) bytes (Err (Wire w)) (Some old)
+  pub wire-handled : (bytes : Bor (List ℕ)) (w : WireError) (old : MemberState S) → packet_of bytes.now ≡ Err w → IsRunning (who p group) old → Holds (Some old) bytes (Err (Wire w)) (Some old)
   wire-handled bytes w old e runs =
       FactOfStep.refused-handled meaning p group old (Datagram bytes) (Wire w) (ap (λ (r : Result Packet WireError). option_map Wire (error_in r)) e) refl
       (ap (λ (r : Result Packet WireError). option_map_or (λ (i : wire.Install). not (is_readable meaning i.state)) (option_and_then (entry_of (core_at p old)) (came_in (here old) r)) false) e)
@@ -123,13 +125,13 @@ module _ {S : Type 0} (meaning : Meaning S) (p : Address) (group : List ℕ) whe
 
   -- a packet that it took, or that is not for it
   pub packet-handled : (bytes : Bor (List ℕ)) (k : Packet) (old new : MemberState S) (start out : Output) → packet_of bytes.now ≡ Ok k → Puts [] [] start
-      → MatchOption (came_in (here old) (Ok k)) (StaysAs old new start out) (λ m. FollowsRule meaning group p m.source m.body old new start out)
-      → Did meaning (came_in (here old) (Ok k)) group p old new start out → is_connected new ≡ is_connected old → IsCalm (WINDOW + 3) start out
-      → (ignores_packet p (came_in (here old) (Ok k)) old ≡ true → StaysAs old new start out) → IsRunning group p new → Holds (Some old) bytes (Ok out) (Some new)
+      → MatchOption (came_in (here old) (Ok k)) (StaysAs (in_step old start) (in_step new out)) (λ m. FollowsRule meaning (who p group) m.source m.body (in_step old start) (in_step new out))
+      → Did meaning (came_in (here old) (Ok k)) (who p group) (in_step old start) (in_step new out) → is_connected new ≡ is_connected old → IsCalm (WINDOW + 3) start out
+      → (ignores_packet p (came_in (here old) (Ok k)) old ≡ true → StaysAs (in_step old start) (in_step new out)) → IsRunning (who p group) new → Holds (Some old) bytes (Ok out) (Some new)
   packet-handled bytes k old new start out e nothing does did on calm stays runs =
-      let does-at = subst (λ (r : Result Packet WireError). MatchOption (came_in (here old) r) (StaysAs old new start out) (λ m. FollowsRule meaning group p m.source m.body old new start out)) (sym e) does in
+      let does-at = subst (λ (r : Result Packet WireError). MatchOption (came_in (here old) r) (StaysAs (in_step old start) (in_step new out)) (λ m. FollowsRule meaning (who p group) m.source m.body (in_step old start) (in_step new out))) (sym e) does in
       FactOfStep.ok-handled meaning p group old new (Datagram bytes) start out nothing
-      (subst (λ (r : Result Packet WireError). Did meaning (came_in (here old) r) group p old new start out) (sym e) did)
+      (subst (λ (r : Result Packet WireError). Did meaning (came_in (here old) r) (who p group) (in_step old start) (in_step new out)) (sym e) did)
       (ap (λ (r : Result Packet WireError). option_map Wire (error_in r)) e)
       (readable-by (came_in (here old) (packet_of bytes.now)) old new start out does-at)
       (FactOfStep.calm-quiet (WINDOW + 3) start out nothing calm, on) tt does-at

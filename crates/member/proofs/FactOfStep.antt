@@ -46,6 +46,8 @@ use Rattle.member.specs.Doing.{DoesBy, Ticks, is_ignored}
 use Rattle.member.specs.Handling.{Handled, Replies, IsPrompt, Ignores}
 use Rattle.member.proofs.KeepConnected.{acted-connected}
 use Rattle.member.proofs.FactOfRefusals.{never-closed, unsent-own}
+use Rattle.step_output.specs.Steps.{who}
+use Rattle.membership.specs.InSteps.{in_step}
 
 -- ---- small things
 
@@ -65,11 +67,11 @@ recordable [] all k h at = absurd (none-some h at)
 recordable (x ∷ l) all zero h at = subst IsShort (same_Some x h at) all.0
 recordable (x ∷ l) all (suc k) h at = recordable l all.1 k h at
 
-pub still : {S : Type 0} (group : List ℕ) (p : Address) (l : MemberState S) → IsRunning group p l → IsAlive group p (Some l)
-still group p l runs = λ x e. subst (IsRunning group p) (same_Some l x e) runs
+pub still : {S : Type 0} (group : List ℕ) (p : Address) (l : MemberState S) → IsRunning (who p group) l → IsAlive (who p group) (Some l)
+still group p l runs = λ x e. subst (IsRunning (who p group)) (same_Some l x e) runs
 
 -- it runs on where it keeps what it keeps of its view, or begins a view anew
-pub steady-runs : {S : Type 0} (group : List ℕ) (p : Address) (old new : MemberState S) → Steady p old new → IsMemberState group p new → IsRunning group p old → IsRunning group p new
+pub steady-runs : {S : Type 0} (group : List ℕ) (p : Address) (old new : MemberState S) → Steady p old new → IsMemberState (who p group) new → IsRunning (who p group) old → IsRunning (who p group) new
 steady-runs group p old new steady member_state runs = record { member_state = member_state; ordered = steady-ordered group p old new steady member_state runs.ordered }
 
 -- ---- it does not hold the number that comes next
@@ -126,7 +128,7 @@ module _ {S : Type 0} (meaning : Meaning S) (p : Address) (group : List ℕ) whe
   refuses false false e old input own readable refused = (refused, refl)
 
   pub refused-handled : (old : MemberState S) (input : Input) (e : Error) → refusal_in (core_at p old) input ≡ Some e → is_memory e ≡ false → is_unreadable meaning (at (Some old)) input ≡ false
-      → is_ignored (at (Some old)) input ≡ false → IsRunning group p old → Holds (Some old) input (Err e) (Some old)
+      → is_ignored (at (Some old)) input ≡ false → IsRunning (who p group) old → Holds (Some old) input (Err e) (Some old)
   refused-handled old input e refused own readable taken runs = record {
     acted = tt;
     refused = refuses (is_unreadable meaning (at (Some old)) input) (is_memory e) e old input own readable refused;
@@ -147,7 +149,7 @@ module _ {S : Type 0} (meaning : Meaning S) (p : Address) (group : List ℕ) whe
   }
 
   -- a message that it does not send
-  pub unsent-handled : (payload : Bor (List ℕ)) (old : MemberState S) (r : Refusal) → send_refusal (core_at p old) payload.now ≡ Some r → IsRunning group p old
+  pub unsent-handled : (payload : Bor (List ℕ)) (old : MemberState S) (r : Refusal) → send_refusal (core_at p old) payload.now ≡ Some r → IsRunning (who p group) old
       → Holds (Some old) (Send payload) (Err (Refused r)) (Some old)
   unsent-handled payload old r refused runs =
       refused-handled old (Send payload) (Refused r) (ap (option_map Refused) refused) (unsent-own (core_at p old) payload.now r refused) refl refl runs
@@ -201,11 +203,11 @@ module _ {S : Type 0} (meaning : Meaning S) (p : Address) (group : List ℕ) whe
   ok-closed : (A : Type 0) (out : Output) → ◌≡◌ {A = Result Output Error} (Ok out) (Err (Refused Closed)) → A
   ok-closed A out e = absurd (cc)
 
-  pub ok-handled : (old new : MemberState S) (input : Input) (start out : Output) → Puts [] [] start → Did meaning (came_at (at (Some old)) input) group p old new start out
+  pub ok-handled : (old new : MemberState S) (input : Input) (start out : Output) → Puts [] [] start → Did meaning (came_at (at (Some old)) input) (who p group) (in_step old start) (in_step new out)
       → refusal_in (core_at p old) input ≡ None → is_unreadable meaning (at (Some old)) input ≡ false
       → Replies (core_at p old) input out.events.items (Some (core_at p new)) → IsPrompt (core_at p old) input out.events.items
-      → DoesBy meaning group p (came_at (at (Some old)) input) input old new start out
-      → Ignores (at (Some old)) input (Ok out) (at (Some new)) → length out.events.items ≤ STEP_EVENTS → IsRunning group p new → Holds (Some old) input (Ok out) (Some new)
+      → DoesBy meaning (came_at (at (Some old)) input) (who p group) input (in_step old start) (in_step new out)
+      → Ignores (at (Some old)) input (Ok out) (at (Some new)) → length out.events.items ≤ STEP_EVENTS → IsRunning (who p group) new → Holds (Some old) input (Ok out) (Some new)
   ok-handled old new input start out nothing did free readable reply prompt does ignored few runs =
       let happens : out.events.items ≡ did.happened = only start out did.happened nothing did.grows.events in
       record {
@@ -231,17 +233,17 @@ module _ {S : Type 0} (meaning : Meaning S) (p : Address) (group : List ℕ) whe
 
   -- it stays connected, or not
   stays-so : (b : Bool) (came : Option Posted) (old new : MemberState S) (start out : Output) → is_connected old ≡ b → (b ≡ false → is_connected new ≡ is_connected old)
-      → Did meaning came group p old new start out → is_connected new ≡ is_connected old
+      → Did meaning came (who p group) (in_step old start) (in_step new out) → is_connected new ≡ is_connected old
   stays-so true came old new start out e off did = acted-connected meaning came (core_at p old) (core_at p new) did.posted did.happened did.acted e ∙ sym e
   stays-so false came old new start out e off did = off refl
 
-  pub stays-connected : (came : Option Posted) (old new : MemberState S) (start out : Output) → is_connected old ≡ true → Did meaning came group p old new start out
+  pub stays-connected : (came : Option Posted) (old new : MemberState S) (start out : Output) → is_connected old ≡ true → Did meaning came (who p group) (in_step old start) (in_step new out)
       → is_connected new ≡ is_connected old
   stays-connected came old new start out on did = stays-so true came old new start out on (λ no. absurd (let n : true ≡ false = no in cc)) did
 
   -- ---- it makes a group, or asks to be let into one
 
-  pub create-handled : (old new : MemberState S) (start out : Output) → IsMemberState group p old → is_connected old ≡ false → Puts [] [] start → Creates group p old new start out → IsRunning group p new
+  pub create-handled : (old new : MemberState S) (start out : Output) → IsMemberState (who p group) old → is_connected old ≡ false → Puts [] [] start → Creates (who p group) (in_step old start) (in_step new out) → IsRunning (who p group) new
       → Holds (Some old) Create (Ok out) (Some new)
   create-handled old new start out kept off nothing x runs =
       let happens : out.events.items ≡ Installed (lone_install p) ∷ [] = only start out _ nothing x.grows.events in
@@ -253,8 +255,8 @@ module _ {S : Type 0} (meaning : Meaning S) (p : Address) (group : List ℕ) whe
   view-none None e = refl
   view-none (Some t) e = absurd (none-some t (sym e))
 
-  pub join-handled : (contact : Address) (old new : MemberState S) (start out : Output) → IsMemberState group p old → old.view_state ≡ None → Puts [] [] start → Asks group p contact old new start out
-      → IsRunning group p new → Holds (Some old) (Join contact) (Ok out) (Some new)
+  pub join-handled : (contact : Address) (old new : MemberState S) (start out : Output) → IsMemberState (who p group) old → old.view_state ≡ None → Puts [] [] start → Asks (who p group) contact (in_step old start) (in_step new out)
+      → IsRunning (who p group) new → Holds (Some old) (Join contact) (Ok out) (Some new)
   join-handled contact old new start out kept none nothing x runs =
       let happens : out.events.items ≡ [] = only start out _ nothing x.grows.events in
       ok-handled old new (Join contact) start out nothing (ask-did meaning group p None contact old new start out kept none x) (view-none old.view_state none) refl
@@ -263,14 +265,14 @@ module _ {S : Type 0} (meaning : Meaning S) (p : Address) (group : List ℕ) whe
 
   -- ---- it does not, where it is connected, or in a view
 
-  pub connected-handled : (old : MemberState S) → is_connected old ≡ true → IsRunning group p old → Holds (Some old) Create (Err (Refused AlreadyConnected)) (Some old)
+  pub connected-handled : (old : MemberState S) → is_connected old ≡ true → IsRunning (who p group) old → Holds (Some old) Create (Err (Refused AlreadyConnected)) (Some old)
   connected-handled old on runs = refused-handled old Create (Refused AlreadyConnected) (ap (λ b. if b then Some (Refused AlreadyConnected) else None) on) refl refl refl runs
 
   view-some : (view_state : Option ViewState) → is_some view_state ≡ true → (if is_some (view_in view_state) then Some (Refused AlreadyConnected) else None) ≡ Some (Refused AlreadyConnected)
   view-some None e = absurd (let n : false ≡ true = e in cc)
   view-some (Some t) e = refl
 
-  pub viewed-handled : (contact : Address) (old : MemberState S) → is_some old.view_state ≡ true → IsRunning group p old → Holds (Some old) (Join contact) (Err (Refused AlreadyConnected)) (Some old)
+  pub viewed-handled : (contact : Address) (old : MemberState S) → is_some old.view_state ≡ true → IsRunning (who p group) old → Holds (Some old) (Join contact) (Err (Refused AlreadyConnected)) (Some old)
   viewed-handled contact old there runs = refused-handled old (Join contact) (Refused AlreadyConnected) (view-some old.view_state there) refl refl refl runs
 
   -- ---- it sends
@@ -325,8 +327,8 @@ module _ {S : Type 0} (meaning : Meaning S) (p : Address) (group : List ℕ) whe
   connected-in view_state b e = ap (λ x. x || b) e
 
   pub send-handled : (payload : Bor (List ℕ)) (old new : MemberState S) (start out : Output) → IsOrdered p old → send_refusal (core_at p old) payload.now ≡ None → Puts [] [] start
-      → Sends meaning group p payload.now old new start out → ((came : Option Posted) → Did meaning came group p old new start out)
-      → SendsFirst p payload.now old start out → (has_room old.view_state ≡ true → DeliversAtOnce p payload.now old start out) → IsRunning group p new → Holds (Some old) (Send payload) (Ok out) (Some new)
+      → Sends meaning (who p group) payload.now (in_step old start) (in_step new out) → ((came : Option Posted) → Did meaning came (who p group) (in_step old start) (in_step new out))
+      → SendsFirst p payload.now (in_step old start) out → (has_room old.view_state ≡ true → DeliversAtOnce p payload.now (in_step old start) out) → IsRunning (who p group) new → Holds (Some old) (Send payload) (Ok out) (Some new)
   send-handled payload old new start out ordered free nothing sends did first prompt runs =
       let s = said old.view_state payload.now start out nothing first in
       let on : is_connected old ≡ true = connected-in old.view_state (is_some old.contact) s.inside in
@@ -340,23 +342,23 @@ module _ {S : Type 0} (meaning : Meaning S) (p : Address) (group : List ℕ) whe
 
   -- ---- time passes
 
-  pub tick-handled : (old : MemberState S) (start out : Output) → Puts [] [] start → Ticks group p old start out → ((came : Option Posted) → Did meaning came group p old old start out) → IsCalm 0 start out
-      → (is_connected old ≡ false → out ≡ start) → IsRunning group p old → Holds (Some old) Tick (Ok out) (Some old)
+  pub tick-handled : (old : MemberState S) (start out : Output) → Puts [] [] start → Ticks (who p group) (in_step old start) out → ((came : Option Posted) → Did meaning came (who p group) (in_step old start) (in_step old out)) → IsCalm 0 start out
+      → (is_connected old ≡ false → out ≡ start) → IsRunning (who p group) old → Holds (Some old) Tick (Ok out) (Some old)
   tick-handled old start out nothing ticks did calm idle runs =
       ok-handled old old Tick start out nothing (did None) refl refl (calm-quiet 0 start out nothing calm, refl) tt (refl, ticks)
       (λ i. (same-nothing start out nothing (idle (not-true (is_connected old) i)), refl)) (calm-few 0 start out nothing calm (omega arith)) runs
 
   -- ---- it hears of others
 
-  suspect-off : (q : Address) (old new : MemberState S) (start out : Output) → is_connected old ≡ false → OnSuspect meaning group p q old new start out → is_connected new ≡ is_connected old
+  suspect-off : (q : Address) (old new : MemberState S) (start out : Output) → is_connected old ≡ false → OnSuspect meaning (who p group) q (in_step old start) (in_step new out) → is_connected new ≡ is_connected old
   suspect-off q old new start out off x =
       let none = outside group p old off in
       let e : is_suspectable p q old ≡ false = ap (λ (t : Option ViewState). (is_some t && not (same_address q p)) && (has_member q old || has_promised q old)) none in
-      let y : StaysAs old new start out = subst (λ (b : Bool). MatchBool b (TakesSuspicion meaning group p q old new start out) (StaysAs old new start out)) e x in
+      let y : StaysAs (in_step old start) (in_step new out) = subst (λ (b : Bool). MatchBool b (TakesSuspicion meaning (who p group) q (in_step old start) (in_step new out)) (StaysAs (in_step old start) (in_step new out))) e x in
       ap is_connected y.0
 
-  pub suspect-handled : (q : Address) (old new : MemberState S) (start out : Output) → IsMemberState group p old → Puts [] [] start → OnSuspect meaning group p q old new start out → IsCalm (WINDOW + 3) start out
-      → (is_suspectable p q old ≡ false → StaysAs old new start out) → IsRunning group p new → Holds (Some old) (Suspect q) (Ok out) (Some new)
+  pub suspect-handled : (q : Address) (old new : MemberState S) (start out : Output) → IsMemberState (who p group) old → Puts [] [] start → OnSuspect meaning (who p group) q (in_step old start) (in_step new out) → IsCalm (WINDOW + 3) start out
+      → (is_suspectable p q old ≡ false → StaysAs (in_step old start) (in_step new out)) → IsRunning (who p group) new → Holds (Some old) (Suspect q) (Ok out) (Some new)
   suspect-handled q old new start out kept nothing x calm stays runs =
       let did = suspect-did meaning group p None q old new start out kept x in
       ok-handled old new (Suspect q) start out nothing did refl refl
@@ -364,8 +366,8 @@ module _ {S : Type 0} (meaning : Meaning S) (p : Address) (group : List ℕ) whe
       (λ i. let y = stays (not-true (is_suspectable p q old) i) in (same-nothing start out nothing y.1, ap {B = MemberModel S} (λ (l : MemberState S). at (Some l)) y.0))
       (calm-few (WINDOW + 3) start out nothing calm (omega arith)) runs
 
-  pub hint-handled : (q : Address) (old : MemberState S) (start out : Output) → IsMemberState group p old → Puts [] [] start → AnnouncesView group p q old old start out
-      → (is_hint_ignored p q old ≡ true → out ≡ start) → IsRunning group p old → Holds (Some old) (MergeHint q) (Ok out) (Some old)
+  pub hint-handled : (q : Address) (old : MemberState S) (start out : Output) → IsMemberState (who p group) old → Puts [] [] start → AnnouncesView (who p group) q (in_step old start) (in_step old out)
+      → (is_hint_ignored p q old ≡ true → out ≡ start) → IsRunning (who p group) old → Holds (Some old) (MergeHint q) (Ok out) (Some old)
   hint-handled q old start out kept nothing x stays runs =
       let happens : out.events.items ≡ [] = only start out _ nothing x.grows.events in
       ok-handled old old (MergeHint q) start out nothing (hint-did meaning group p None q old old start out kept x) refl refl (happens, refl) tt x
@@ -373,7 +375,7 @@ module _ {S : Type 0} (meaning : Meaning S) (p : Address) (group : List ℕ) whe
 
   -- ---- it leaves
 
-  pub leave-handled : (old : MemberState S) (start out : Output) → Puts [] [] start → Leaves group p old start out → Holds (Some old) Leave (Ok out) None
+  pub leave-handled : (old : MemberState S) (start out : Output) → Puts [] [] start → Leaves (who p group) (in_step old start) out → Holds (Some old) Leave (Ok out) None
   leave-handled old start out nothing x =
       let left = leave-acted meaning group p None old start out x in
       let happens : out.events.items ≡ Left p ∷ [] = only start out _ nothing x.grows.events in

@@ -16,6 +16,7 @@ use Rattle.membership.specs.declared.member_state.MemberState.{MemberState}
 use Rattle.membership.specs.MemberStates.{IsMemberState, view_in}
 use Rattle.member_messages.specs.Ordered.{IsOrderly, IsOrdered}
 use Rattle.member_views.proofs.KeepSteady.{Steady, Same, Fresh}
+use Rattle.step_output.specs.Steps.{who}
 
 fresh-by : (b : Bool) (me : Address) (v : View) → same_address me v.id.creator ≡ b → stands_in me v.members ≡ true
     → IsOrderly me (if b then kinds.Coordinator (fresh_coordinator v) else kinds.Follower (fresh_follower v))
@@ -23,7 +24,7 @@ fresh-by true me v own there = (fresh-is-coordinator me v own, fresh-settled-in 
 fresh-by false me v own there = (own, refl)
 
 -- it keeps what it keeps of its view, or begins a view anew
-pub steady-ordered : {S : Type 0} (group : List ℕ) (me : Address) (old new : MemberState S) → Steady me old new → IsMemberState group me new → IsOrdered me old → IsOrdered me new
+pub steady-ordered : {S : Type 0} (group : List ℕ) (me : Address) (old new : MemberState S) → Steady me old new → IsMemberState (who me group) new → IsOrdered me old → IsOrdered me new
 steady-ordered group me old new (Same e) member_state ordered = λ t is. ordered t (sym e ∙ is)
 steady-ordered group me old new (Fresh w e) member_state ordered = λ t is.
     subst (IsOrderly me) (same_Some (fresh_in me w) t (sym e ∙ is))

@@ -1,5 +1,5 @@
 -- What a member does by each input that it does not refuse, and which inputs its rules ignore.
-use Rattle.std.specs.Prelude.{◌≡◌, ℕ, Bool, true, false, not, ◌&&◌, is_some, List, [], Option, None, Some, MatchBool, MatchOption}
+use Rattle.std.specs.Prelude.{◌≡◌, Bool, true, false, not, ◌&&◌, is_some, [], Option, None, Some, MatchBool, MatchOption}
 use Rattle.std.specs.Option.{option_map_or}
 use Rattle.address.specs.Ids.{Address}
 use Rattle.wire.specs.Packets.{wire_refusal}
@@ -17,38 +17,39 @@ use Rattle.member.specs.Hearing.{FollowsRule, ignores}
 use Rattle.member.specs.declared.input.Input.{Input}
 use Rattle.member.specs.declared.input.Input.TheVariants.{Create, Join, Send, Datagram, Tick, Suspect, MergeHint, Leave}
 use Rattle.member.specs.Members.{MemberModel, came_at}
+use Rattle.step_output.specs.Steps.{Who, who}
+use Rattle.membership.specs.InSteps.{InStep, in_step}
 
 -- what may be lost is put out again: while it asks to be let in, while it is blocked, and in a view
-abbrev pub Ticks : {S : Type 0} → List ℕ → Address → MemberState S → Output → Output → Type 0
-Ticks group me l out later =
-    MatchBool (is_some l.view_state)
-    (MatchBool l.promise.is_installed (TicksInView group me l out later) (Grows group out later (flushes_again me l) []))
-    (Grows group out later (asks_again me l) [])
+abbrev pub Ticks : {S : Type 0} → Who → InStep S → Output → Type 0
+Ticks who old later =
+    MatchBool (is_some old.member.view_state)
+    (MatchBool old.member.promise.is_installed (TicksInView who old later) (Grows who.group old.out later (flushes_again who.address old.member) []))
+    (Grows who.group old.out later (asks_again who.address old.member) [])
 
 -- each input by its rule; came: the packet that was handed to it
-abbrev pub DoesBy : {S : Type 0} → Meaning S → List ℕ → Address → Option Posted → Input → MemberState S → MemberState S → Output → Output → Type 0
-DoesBy meaning group me came Create old new out later = Creates group me old new out later
-DoesBy meaning group me came (Join contact) old new out later = Asks group me contact old new out later
-DoesBy meaning group me came (Send payload) old new out later = Sends meaning group me payload.now old new out later
-DoesBy meaning group me came (Datagram bytes) old new out later =
-    MatchOption came (StaysAs old new out later) (λ m. FollowsRule meaning group me m.source m.body old new out later)
-DoesBy meaning group me came Tick old new out later = (new ≡ old) × Ticks group me old out later
-DoesBy meaning group me came (Suspect q) old new out later = OnSuspect meaning group me q old new out later
-DoesBy meaning group me came (MergeHint q) old new out later = AnnouncesView group me q old new out later
-DoesBy meaning group me came Leave old new out later = ⊥
+abbrev pub DoesBy : {S : Type 0} → Meaning S → Option Posted → Who → Input → InStep S → InStep S → Type 0
+DoesBy meaning came who Create old new = Creates who old new
+DoesBy meaning came who (Join contact) old new = Asks who contact old new
+DoesBy meaning came who (Send payload) old new = Sends meaning who payload.now old new
+DoesBy meaning came who (Datagram bytes) old new = MatchOption came (StaysAs old new) (λ m. FollowsRule meaning who m.source m.body old new)
+DoesBy meaning came who Tick old new = (new.member ≡ old.member) × Ticks who old new.out
+DoesBy meaning came who (Suspect q) old new = OnSuspect meaning who q old new
+DoesBy meaning came who (MergeHint q) old new = AnnouncesView who q old new
+DoesBy meaning came who Leave old new = ⊥
 
 -- from one that runs to one that runs; where it leaves, it ends
-abbrev pub DoesAt : {S : Type 0} → Meaning S → List ℕ → Address → Option Posted → Input → Option (MemberState S) → Option (MemberState S) → Output → Output → Type 0
-DoesAt meaning group me came input (Some old) (Some new) out later = DoesBy meaning group me came input old new out later
-DoesAt meaning group me came input (Some old) None out later = Leaves group me old out later
-DoesAt meaning group me came input None new out later = ⊥
+abbrev pub DoesAt : {S : Type 0} → Meaning S → Option Posted → Who → Input → Option (MemberState S) → Output → Option (MemberState S) → Output → Type 0
+DoesAt meaning came who input (Some old) out (Some new) later = DoesBy meaning came who input (in_step old out) (in_step new later)
+DoesAt meaning came who input (Some old) out None later = Leaves who (in_step old out) later
+DoesAt meaning came who input None out new later = ⊥
 
 -- it did so, and nothing else was put out or happened
 pub record Does {S : Type 0} (meaning : Meaning S) (old : MemberModel S) (input : Input) (out : Output) (new : MemberModel S) :
     Type 0 where
   pub start : Output
   pub nothing : Puts [] [] start
-  pub does : DoesAt meaning old.group old.address (came_at old input) input old.member_state new.member_state start out
+  pub does : DoesAt meaning (came_at old input) (who old.address old.group) input old.member_state start new.member_state out
 
 -- ---- ignored
 

@@ -24,6 +24,7 @@ use Rattle.member.specs.declared.input.Input.TheVariants.{Create, Join, Send, Da
 use Rattle.member.specs.Errors.{is_memory}
 use Rattle.member.specs.Members.{MemberModel, core_of, came_at, refusal_of, is_unreadable, lone_install}
 use Rattle.member.specs.Doing.{Does, is_ignored}
+use Rattle.step_output.specs.Steps.{who}
 
 -- ---- acted
 
@@ -43,8 +44,8 @@ RefusesAs refusal unreadable old (Err e) new =
     MatchBool (is_memory e) (refusal ≡ None) (MatchBool unreadable ((e ≡ Refused Closed) × (core_of new ≡ None)) ((refusal ≡ Some e) × (new ≡ old)))
 
 -- want of memory ends it; on an input that is ignored there is none
-abbrev pub EndsWithout : {S : Type 0} → MemberModel S → Input → MemberModel S → Result Output Error → Type 0
-EndsWithout old input new result = result ≡ Err (Refused Memory) → (core_of new ≡ None) × (is_ignored old input ≡ false)
+abbrev pub EndsWithout : {S : Type 0} → MemberModel S → Input → Result Output Error → MemberModel S → Type 0
+EndsWithout old input result new = result ≡ Err (Refused Memory) → (core_of new ≡ None) × (is_ignored old input ≡ false)
 
 -- 6 after its end, and before it where it cannot read a state that it would take
 pub record IsClosed {S : Type 0} (meaning : Meaning S) (old : MemberModel S) (input : Input) (result : Result Output Error) : Type 0 where
@@ -108,7 +109,7 @@ Ignores old input result new = is_ignored old input ≡ true → IsNothing resul
 pub record Handled {S : Type 0} (meaning : Meaning S) (old : MemberModel S) (input : Input) (result : Result Output Error) (new : MemberModel S) : Type 0 where
   pub acted : IfOk result (λ out. HasActed meaning old input out new)
   pub refused : RefusesAs (refusal_of old input) (is_unreadable meaning old input) old result new
-  pub memory : EndsWithout old input new result
+  pub memory : EndsWithout old input result new
   pub closed : IsClosed meaning old input result
   pub reply : IfOk result (λ out. IsSomeAnd (core_of old) (λ c. Replies c input out.events.items (core_of new)))
   pub prompt : IfOk result (λ out. IsSomeAnd (core_of old) (λ c. IsPrompt c input out.events.items))
@@ -117,6 +118,6 @@ pub record Handled {S : Type 0} (meaning : Meaning S) (old : MemberModel S) (inp
   pub short : IfOk result (λ out. IsRecordable out.events.items)
   pub ignored : Ignores old input result new
   -- what holds of a member between its calls
-  pub alive : IsAlive new.group new.address new.member_state
+  pub alive : IsAlive (who new.address new.group) new.member_state
   pub address : new.address ≡ old.address
   pub group : new.group ≡ old.group

@@ -1,5 +1,5 @@
 -- What a member does by a packet that it hears, and which packets it ignores.
-use Rattle.std.specs.Prelude.{ℕ, Bool, false, not, is_some, List, Option, None, Some, if◌then◌else◌}
+use Rattle.std.specs.Prelude.{Bool, false, not, is_some, Option, None, Some, if◌then◌else◌}
 use Rattle.std.specs.Option.{option_map_or, option_and_then}
 use Rattle.address.specs.Ids.{Address}
 use Rattle.wire_values.specs.Values as wire
@@ -9,7 +9,6 @@ use Rattle.state_transfer.specs.Meanings.{Meaning}
 use Rattle.acts.specs.Histories.{Posted}
 use Rattle.acts.specs.Cores.{Core}
 use Rattle.decisions.specs.Decisions.{is_entry, is_readable}
-use Rattle.step_output.specs.declared.output.Output.{Output}
 use Rattle.membership.specs.declared.member_state.MemberState.{MemberState}
 use Rattle.wire_values.specs.Kinds.{install_said}
 use Rattle.membership.specs.MemberStates.{core_of}
@@ -18,22 +17,24 @@ use Rattle.member_messages.specs.Heard.{takes_forward, takes_nak, takes_ack, tak
 use Rattle.member_messages.specs.Messages.{OnForward, OnAck, OnNak, OnOrder, OnStatus}
 use Rattle.member_views.specs.Views.{OnJoin, OnRedirect, OnSuspect, OnFlush, OnBehind, OnReport, OnMerge, is_suspectable, is_proposing}
 use Rattle.member_views.specs.Ignoring.{is_misdirected, is_flush_ignored, is_report_ignored, is_merge_ignored}
+use Rattle.step_output.specs.Steps.{Who}
+use Rattle.membership.specs.InSteps.{InStep}
 
--- each kind of packet by its rule; q is who put it out
-abbrev pub FollowsRule : {S : Type 0} → Meaning S → List ℕ → Address → Address → Body → MemberState S → MemberState S → Output → Output → Type 0
-FollowsRule meaning group me q bodies.Join old new out later = OnJoin meaning group me q old new out later
-FollowsRule meaning group me q (bodies.Redirect coordinator) old new out later = OnRedirect group me coordinator old new out later
-FollowsRule meaning group me q bodies.Leave old new out later = OnSuspect meaning group me q old new out later
-FollowsRule meaning group me q (bodies.Forward view number payload) old new out later = OnForward meaning group me q view number payload old new out later
-FollowsRule meaning group me q (bodies.Order view place entry) old new out later = OnOrder meaning group me q view place entry old new out later
-FollowsRule meaning group me q (bodies.Nak view missing) old new out later = OnNak group me q view missing old new out later
-FollowsRule meaning group me q (bodies.Ack view delivered) old new out later = OnAck meaning group me q view delivered old new out later
-FollowsRule meaning group me q (bodies.Status view progress) old new out later = OnStatus group me q view progress old new out later
-FollowsRule meaning group me q (bodies.Flush proposal) old new out later = OnFlush group me q proposal old new out later
-FollowsRule meaning group me q (bodies.Behind proposal counter) old new out later = OnBehind meaning group me proposal counter old new out later
-FollowsRule meaning group me q (bodies.Report proposal report) old new out later = OnReport meaning group me q proposal report old new out later
-FollowsRule meaning group me q (bodies.Install install) old new out later = TakesInstall meaning group me q install old new out later
-FollowsRule meaning group me q (bodies.Merge view) old new out later = OnMerge meaning group me q view old new out later
+-- each kind of packet by its rule; source is who put it out
+abbrev pub FollowsRule : {S : Type 0} → Meaning S → Who → Address → Body → InStep S → InStep S → Type 0
+FollowsRule meaning who source bodies.Join old new = OnJoin meaning who source old new
+FollowsRule meaning who source (bodies.Redirect coordinator) old new = OnRedirect who coordinator old new
+FollowsRule meaning who source bodies.Leave old new = OnSuspect meaning who source old new
+FollowsRule meaning who source (bodies.Forward view number payload) old new = OnForward meaning who source view number payload old new
+FollowsRule meaning who source (bodies.Order view place entry) old new = OnOrder meaning who source view place entry old new
+FollowsRule meaning who source (bodies.Nak view missing) old new = OnNak who source view missing old new
+FollowsRule meaning who source (bodies.Ack view delivered) old new = OnAck meaning who source view delivered old new
+FollowsRule meaning who source (bodies.Status view progress) old new = OnStatus who source view progress old new
+FollowsRule meaning who source (bodies.Flush proposal) old new = OnFlush who source proposal old new
+FollowsRule meaning who source (bodies.Behind proposal counter) old new = OnBehind meaning who proposal counter old new
+FollowsRule meaning who source (bodies.Report proposal report) old new = OnReport meaning who source proposal report old new
+FollowsRule meaning who source (bodies.Install install) old new = TakesInstall meaning who source install old new
+FollowsRule meaning who source (bodies.Merge view) old new = OnMerge meaning who source view old new
 
 -- whether the rule of its kind ignores a packet
 abbrev pub ignores : {S : Type 0} → Address → Address → Body → MemberState S → Bool

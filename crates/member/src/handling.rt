@@ -7,6 +7,7 @@ ghost use Rattle.member.specs.Running.{IsAlive};
 ghost use Rattle.member.specs.declared.input.Input.TheVariants as input;
 ghost use Rattle.member.specs.Handling.{Handled};
 ghost use Rattle.member.specs.Sources.{source_in, source_of, output_of};
+ghost use Rattle.step_output.specs.Steps.{who_of};
 
 use crate::hearing::{pass_time, take_packet};
 use crate::{Error, Taken};
@@ -34,8 +35,8 @@ pub(crate) fn create_group<R: Receiver>(
     member_state: &mut Option<MemberState<R>>,
     who: &Identity,
 ) -> Result<Output, Error>
-    requires alive { IsAlive who.now.group who.now.address member_state.old }
-    ensures alive { IsAlive who.now.group who.now.address member_state.new }
+    requires alive { IsAlive (who_of who.now) member_state.old }
+    ensures alive { IsAlive (who_of who.now) member_state.new }
     ensures handled { Handled R.meaning (record { address = who.now.address; group = who.now.group; member_state = member_state.old }) input.Create result (record { address = who.now.address; group = who.now.group; member_state = member_state.new }) }
 {
     let Some(running) = member_state else {
@@ -57,8 +58,8 @@ pub(crate) fn join_group<R: Receiver>(
     who: &Identity,
     contact: Address,
 ) -> Result<Output, Error>
-    requires alive { IsAlive who.now.group who.now.address member_state.old }
-    ensures alive { IsAlive who.now.group who.now.address member_state.new }
+    requires alive { IsAlive (who_of who.now) member_state.old }
+    ensures alive { IsAlive (who_of who.now) member_state.new }
     ensures handled { Handled R.meaning (record { address = who.now.address; group = who.now.group; member_state = member_state.old }) (input.Join contact) result (record { address = who.now.address; group = who.now.group; member_state = member_state.new }) }
 {
     let Some(running) = member_state else {
@@ -80,8 +81,8 @@ pub(crate) fn send_message<R: Receiver>(
     who: &Identity,
     payload: &[u8],
 ) -> Result<Output, Error>
-    requires alive { IsAlive who.now.group who.now.address member_state.old }
-    ensures alive { IsAlive who.now.group who.now.address member_state.new }
+    requires alive { IsAlive (who_of who.now) member_state.old }
+    ensures alive { IsAlive (who_of who.now) member_state.new }
     ensures handled { Handled R.meaning (record { address = who.now.address; group = who.now.group; member_state = member_state.old }) (input.Send payload.entry) result (record { address = who.now.address; group = who.now.group; member_state = member_state.new }) }
 {
     let Some(running) = member_state else {
@@ -114,8 +115,8 @@ pub(crate) fn take_datagram<R: Receiver>(
     who: &Identity,
     bytes: &[u8],
 ) -> Result<Taken, Error>
-    requires alive { IsAlive who.now.group who.now.address member_state.old }
-    ensures alive { IsAlive who.now.group who.now.address member_state.new }
+    requires alive { IsAlive (who_of who.now) member_state.old }
+    ensures alive { IsAlive (who_of who.now) member_state.new }
     ensures handled { Handled R.meaning (record { address = who.now.address; group = who.now.group; member_state = member_state.old }) (input.Datagram bytes.entry) (output_of result) (record { address = who.now.address; group = who.now.group; member_state = member_state.new }) }
     ensures source { IfOk result (λ taken. taken.source ≡ source_of who.now.address who.now.group bytes.now) }
 {
@@ -145,8 +146,8 @@ pub(crate) fn tick<R: Receiver>(
     member_state: &mut Option<MemberState<R>>,
     who: &Identity,
 ) -> Result<Output, Error>
-    requires alive { IsAlive who.now.group who.now.address member_state.old }
-    ensures alive { IsAlive who.now.group who.now.address member_state.new }
+    requires alive { IsAlive (who_of who.now) member_state.old }
+    ensures alive { IsAlive (who_of who.now) member_state.new }
     ensures handled { Handled R.meaning (record { address = who.now.address; group = who.now.group; member_state = member_state.old }) input.Tick result (record { address = who.now.address; group = who.now.group; member_state = member_state.new }) }
 {
     let Some(running) = member_state else {
@@ -165,8 +166,8 @@ pub(crate) fn suspect<R: Receiver>(
     who: &Identity,
     address: Address,
 ) -> Result<Output, Error>
-    requires alive { IsAlive who.now.group who.now.address member_state.old }
-    ensures alive { IsAlive who.now.group who.now.address member_state.new }
+    requires alive { IsAlive (who_of who.now) member_state.old }
+    ensures alive { IsAlive (who_of who.now) member_state.new }
     ensures handled { Handled R.meaning (record { address = who.now.address; group = who.now.group; member_state = member_state.old }) (input.Suspect address) result (record { address = who.now.address; group = who.now.group; member_state = member_state.new }) }
 {
     let Some(running) = member_state else {
@@ -185,8 +186,8 @@ pub(crate) fn merge_hint<R: Receiver>(
     who: &Identity,
     address: Address,
 ) -> Result<Output, Error>
-    requires alive { IsAlive who.now.group who.now.address member_state.old }
-    ensures alive { IsAlive who.now.group who.now.address member_state.new }
+    requires alive { IsAlive (who_of who.now) member_state.old }
+    ensures alive { IsAlive (who_of who.now) member_state.new }
     ensures handled { Handled R.meaning (record { address = who.now.address; group = who.now.group; member_state = member_state.old }) (input.MergeHint address) result (record { address = who.now.address; group = who.now.group; member_state = member_state.new }) }
 {
     let Some(running) = member_state else {
@@ -204,8 +205,8 @@ pub(crate) fn leave_group<R: Receiver>(
     member_state: &mut Option<MemberState<R>>,
     who: &Identity,
 ) -> Result<Output, Error>
-    requires alive { IsAlive who.now.group who.now.address member_state.old }
-    ensures alive { IsAlive who.now.group who.now.address member_state.new }
+    requires alive { IsAlive (who_of who.now) member_state.old }
+    ensures alive { IsAlive (who_of who.now) member_state.new }
     ensures handled { Handled R.meaning (record { address = who.now.address; group = who.now.group; member_state = member_state.old }) input.Leave result (record { address = who.now.address; group = who.now.group; member_state = member_state.new }) }
 {
     let Some(running) = member_state.take() else {

@@ -13,6 +13,8 @@ ghost use Rattle.member.specs.Running.{IsRunning};
 ghost use Rattle.member.specs.Hearing.{FollowsRule, is_unreadable_by};
 ghost use Rattle.member.specs.Members.{came_in};
 ghost use Rattle.member.specs.Doing.{Ticks, ignores_packet};
+ghost use Rattle.step_output.specs.Steps.{who_of};
+ghost use Rattle.membership.specs.InSteps.{in_step};
 
 use crate::rules::hear;
 use member_messages::tick_in_view;
@@ -41,14 +43,14 @@ pub(crate) fn take_packet<R: Receiver>(
     packet: &Packet<'_>,
     out: &mut Output,
 ) -> Result<(), Stop>
-    requires running { IsRunning who.now.group who.now.address member_state.old }
-    ensures running { OnOk result (IsRunning who.now.group who.now.address member_state.new) }
-    ensures does { OnOk result (MatchOption (came_in (record { address = who.now.address; group = who.now.group; member_state = Some member_state.old }) (Ok packet.now)) (StaysAs member_state.old member_state.new out.old out.new) (λ m. FollowsRule R.meaning who.now.group who.now.address m.source m.body member_state.old member_state.new out.old out.new)) }
-    ensures did { OnOk result (Did R.meaning (came_in (record { address = who.now.address; group = who.now.group; member_state = Some member_state.old }) (Ok packet.now)) who.now.group who.now.address member_state.old member_state.new out.old out.new) }
+    requires running { IsRunning (who_of who.now) member_state.old }
+    ensures running { OnOk result (IsRunning (who_of who.now) member_state.new) }
+    ensures does { OnOk result (MatchOption (came_in (record { address = who.now.address; group = who.now.group; member_state = Some member_state.old }) (Ok packet.now)) (StaysAs (in_step member_state.old out.old) (in_step member_state.new out.new)) (λ m. FollowsRule R.meaning (who_of who.now) m.source m.body (in_step member_state.old out.old) (in_step member_state.new out.new))) }
+    ensures did { OnOk result (Did R.meaning (came_in (record { address = who.now.address; group = who.now.group; member_state = Some member_state.old }) (Ok packet.now)) (who_of who.now) (in_step member_state.old out.old) (in_step member_state.new out.new)) }
     ensures connected { OnOk result (is_connected member_state.new ≡ is_connected member_state.old) }
     ensures calm { OnOk result (IsCalm (WINDOW + 3) out.old out.new) }
     ensures unreadable { result ≡ Err stop.Unreadable → option_map_or (is_unreadable_by R.meaning (core_of who.now.address member_state.old)) (came_in (record { address = who.now.address; group = who.now.group; member_state = Some member_state.old }) (Ok packet.now)) false ≡ true }
-    ensures ignored { ignores_packet who.now.address (came_in (record { address = who.now.address; group = who.now.group; member_state = Some member_state.old }) (Ok packet.now)) member_state.old ≡ true → (result ≡ Ok tt) × StaysAs member_state.old member_state.new out.old out.new }
+    ensures ignored { ignores_packet who.now.address (came_in (record { address = who.now.address; group = who.now.group; member_state = Some member_state.old }) (Ok packet.now)) member_state.old ≡ true → (result ≡ Ok tt) × StaysAs (in_step member_state.old out.old) (in_step member_state.new out.new) }
 {
     if is_handed(member_state, who, packet) {
         hear(member_state, who, packet.source, &packet.body, out)?;
@@ -62,9 +64,9 @@ pub(crate) fn pass_time<R: Receiver>(
     who: &Identity,
     out: &mut Output,
 ) -> Result<(), AllocError>
-    requires running { IsRunning who.now.group who.now.address member_state.now }
-    ensures does { OnOk result (Ticks who.now.group who.now.address member_state.now out.old out.new) }
-    ensures did { OnOk result ((came : Option Posted) → Did R.meaning came who.now.group who.now.address member_state.now member_state.now out.old out.new) }
+    requires running { IsRunning (who_of who.now) member_state.now }
+    ensures does { OnOk result (Ticks (who_of who.now) (in_step member_state.now out.old) out.new) }
+    ensures did { OnOk result ((came : Option Posted) → Did R.meaning came (who_of who.now) (in_step member_state.now out.old) (in_step member_state.now out.new)) }
     ensures calm { OnOk result (IsCalm 0 out.old out.new) }
     ensures ignored { is_connected member_state.now ≡ false → (result ≡ Ok tt) × (out.new ≡ out.old) }
 {

@@ -10,6 +10,7 @@ ghost use Rattle.member.specs.declared.input.Input.TheVariants as input;
 ghost use Rattle.member.specs.Sources.{source_of, output_of};
 ghost use Rattle.member.specs.Handling.{Handled, HasActed, RefusesAs, EndsWithout, IsClosed, Replies, IsPrompt, Ignores};
 ghost use Rattle.member.specs.Watching.{watched};
+ghost use Rattle.step_output.specs.Steps.{who};
 
 use crate::handling::{
     create_group, join_group, leave_group, merge_hint, send_message, suspect, take_datagram, tick,
@@ -35,6 +36,7 @@ pub struct Member<R: Receiver> {
 }
 
 impl<R: Receiver> Model for Member<R> {
+    ghost use Rattle.step_output.specs.Steps.{who_of};
     ghost use Rattle.member.specs.Running.{IsAlive};
     ghost use Rattle.member.specs.Members.{MemberModel};
 
@@ -42,7 +44,7 @@ impl<R: Receiver> Model for Member<R> {
 
     ghost view = { λ m. record { address = m.identity.address; group = m.identity.group; member_state = m.member_state } };
 
-    ghost invariant = { λ m. IsAlive m.identity.group m.identity.address m.member_state };
+    ghost invariant = { λ m. IsAlive (who_of m.identity) m.member_state };
 }
 
 impl<R: Receiver> Member<R> {
@@ -52,7 +54,7 @@ impl<R: Receiver> Member<R> {
         ensures group { result.group ≡ group.entry }
         ensures member_state { IsSomeAnd result.member_state (idle_member address receiver) }
         ensures core { core_of result ≡ Some (idle receiver address) }
-        ensures alive { IsAlive result.group result.address result.member_state }
+        ensures alive { IsAlive (who result.address result.group) result.member_state }
     {
         Member {
             identity: Identity {
@@ -142,7 +144,7 @@ impl<R: Receiver> Member<R> {
         // and refuses exactly where it must, unchanged;
         ensures refused { RefusesAs (refusal_of self.old input.entry) (is_unreadable R.meaning self.old input.entry) self.old result self.new }
         // want of memory ends it,
-        ensures memory { EndsWithout self.old input.entry self.new result }
+        ensures memory { EndsWithout self.old input.entry result self.new }
         // and after its end it is closed, or where it cannot read a state that it would take.
         ensures closed { IsClosed R.meaning self.old input.entry result }
         // What happens by each input, and whether the member is connected then;
@@ -157,7 +159,7 @@ impl<R: Receiver> Member<R> {
         // what it ignores leaves it as it was;
         ensures ignored { Ignores self.old input.entry result self.new }
         // and what holds of it between its calls holds: it is the coordinator of its view or another member of it, and its messages are in order.
-        ensures alive { IsAlive self.new.group self.new.address self.new.member_state }
+        ensures alive { IsAlive (who self.new.address self.new.group) self.new.member_state }
         ensures address { self.new.address ≡ self.old.address }
         ensures group { self.new.group ≡ self.old.group }
     {

@@ -11,6 +11,8 @@ ghost use Rattle.membership.specs.Changes.{StaysAs};
 ghost use Rattle.membership.specs.Doing.{Did};
 ghost use Rattle.member_messages.specs.Ordered.{IsOrdered};
 ghost use Rattle.member.specs.Hearing.{FollowsRule, ignores, is_unreadable_by};
+ghost use Rattle.step_output.specs.Steps.{who_of};
+ghost use Rattle.membership.specs.InSteps.{in_step};
 
 use address::Address;
 use member_messages::{on_ack, on_forward, on_nak, on_order, on_status};
@@ -29,17 +31,17 @@ pub(crate) fn hear<R: Receiver>(
     body: &Body<'_>,
     out: &mut Output,
 ) -> Result<(), Stop>
-    requires member_state { IsMemberState who.now.group who.now.address member_state.old }
+    requires member_state { IsMemberState (who_of who.now) member_state.old }
     requires ordered { IsOrdered who.now.address member_state.old }
     requires connected { is_connected member_state.old ≡ true }
     requires other { same_address source who.now.address ≡ false }
-    ensures member_state { OnOk result (IsMemberState who.now.group who.now.address member_state.new) }
+    ensures member_state { OnOk result (IsMemberState (who_of who.now) member_state.new) }
     ensures ordered { OnOk result (IsOrdered who.now.address member_state.new) }
-    ensures does { OnOk result (FollowsRule R.meaning who.now.group who.now.address source body.now member_state.old member_state.new out.old out.new) }
-    ensures did { OnOk result (Did R.meaning (Some (packet source body.now who.now.address)) who.now.group who.now.address member_state.old member_state.new out.old out.new) }
+    ensures does { OnOk result (FollowsRule R.meaning (who_of who.now) source body.now (in_step member_state.old out.old) (in_step member_state.new out.new)) }
+    ensures did { OnOk result (Did R.meaning (Some (packet source body.now who.now.address)) (who_of who.now) (in_step member_state.old out.old) (in_step member_state.new out.new)) }
     ensures calm { OnOk result (IsCalm (WINDOW + 3) out.old out.new) }
     ensures unreadable { result ≡ Err stop.Unreadable → is_unreadable_by R.meaning (core_of who.now.address member_state.old) (packet source body.now who.now.address) ≡ true }
-    ensures ignored { ignores who.now.address source body.now member_state.old ≡ true → (result ≡ Ok tt) × StaysAs member_state.old member_state.new out.old out.new }
+    ensures ignored { ignores who.now.address source body.now member_state.old ≡ true → (result ≡ Ok tt) × StaysAs (in_step member_state.old out.old) (in_step member_state.new out.new) }
 {
     match body {
         Body::Join => on_join(member_state, who, source, out)?,

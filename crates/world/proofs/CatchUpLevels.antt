@@ -59,6 +59,7 @@ use Rattle.world.proofs.FactOfPlayed
 use Rattle.world.proofs.FactOfReplies
 use Rattle.world.proofs.FactOfReplies.{bytes_as, IsSound, goes-to}
 use Rattle.world_step.proofs.FactOfFirst.{numbered-at}
+use Rattle.step_output.specs.Steps.{who}
 
 -- ---- packets by their numbers
 
@@ -325,7 +326,7 @@ module _ {S : Type 0} (meaning : Meaning S) (laws : KeepBySteps.Laws meaning) wh
     pub start : Output
     pub out : Output
     pub nothing : Puts [] [] start
-    pub asks : AsksUpTo q world_group kc.window.delivered now start out
+    pub asks : AsksUpTo (who q world_group) kc.window.delivered now start out
     pub puts : asked.history.pool ≡ announced.history.pool ++ map bytes_of out.packets.items
 
   pub asked-by : (announced asked : WorldModel S) (c q : Address) (lc lq : MemberState S) (kc : Coordinator) (kq : Follower) → Couple announced c q lc lq kc kq → Keeps asked
@@ -468,7 +469,7 @@ module _ {S : Type 0} (meaning : Meaning S) (laws : KeepBySteps.Laws meaning) wh
     silent-pool silent =
         s.puts ∙ ap (λ (l : List _). announced.history.pool ++ map bytes_of l) (ap (λ (o : Output). o.packets.items) silent ∙ s.nothing.packets) ∙ append-nil announced.history.pool
 
-    pub nak-of : (k : Asks q world_group kc.window.delivered s.now s.start s.out) → Nak announced asked c q lc kc k.missing
+    pub nak-of : (k : Asks (who q world_group) kc.window.delivered s.now s.start s.out) → Nak announced asked c q lc kc k.missing
     nak-of k =
         let nak = packet q (bodies.Nak kc.view.id k.missing) c in
         let is : packet q (bodies.Nak s.now.view.id k.missing) s.now.view.id.creator ≡ nak =
@@ -503,7 +504,7 @@ module _ {S : Type 0} (meaning : Meaning S) (laws : KeepBySteps.Laws meaning) wh
       pub next : AreNext (length asked.history.pool) (orders c q kc first (last + 1 - first)) replied.history.pool
       pub many : length replied.history.pool - length asked.history.pool ≡ length (orders c q kc first (last + 1 - first))
 
-    pub replied-so : (k : Asks q world_group kc.window.delivered s.now s.start s.out) → Replied
+    pub replied-so : (k : Asks (who q world_group) kc.window.delivered s.now s.start s.out) → Replied
     replied-so k =
         let n = numbers asked c q lc s.after kc s.now s.couple in
         let nak = nak-of announced asked c q lc kc s k in
@@ -536,7 +537,7 @@ module _ {S : Type 0} (meaning : Meaning S) (laws : KeepBySteps.Laws meaning) wh
     pub levelled : (new : WorldModel S) → DeliversPast meaning (length asked.history.pool) replied new → Level new c q kc.view.id
     levelled new answers = by s.asks
       where
-        by : AsksUpTo q world_group kc.window.delivered s.now s.start s.out → Level new c q kc.view.id
+        by : AsksUpTo (who q world_group) kc.window.delivered s.now s.start s.out → Level new c q kc.view.id
         by (inl k) =
             let r = replied-so k in
             ended-level new c q lc kc r.last

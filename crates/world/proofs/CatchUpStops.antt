@@ -35,6 +35,7 @@ use Rattle.world.proofs.FactOfReplies
 use Rattle.world.proofs.CatchUpLevels
 use Rattle.world.proofs.CatchUpLevels.{AreNext, next-first, next-rest}
 use Rattle.world.proofs.CatchUpEnds
+use Rattle.step_output.specs.Steps.{who}
 
 module _ {S : Type 0} (meaning : Meaning S) where
   pub breaks-none : (past n : ℕ) (old new : WorldModel S) → n ≡ 0 → Breaks meaning past n old new → ⊥
@@ -150,7 +151,7 @@ module _ {S : Type 0} (meaning : Meaning S) (laws : KeepBySteps.Laws meaning) wh
     where
       by : (f : CatchUpEnds.Found meaning laws old pair)
           (s : CatchUpLevels.AskedSo meaning laws announced asked pair.view.creator pair.member f.first f.leads)
-          → AsksUpTo pair.member world_group f.leads.window.delivered s.now s.start s.out → EndsSo pair new
+          → AsksUpTo (who pair.member world_group) f.leads.window.delivered s.now s.start s.out → EndsSo pair new
       by f s (inl k) =
           let nak = CatchUpLevels.nak-of meaning laws announced asked pair.view.creator pair.member f.first f.leads s k in
           ⊎_elim (λ fails. ends-first asked new pair f.first s.after f.leads s.now (length announced.history.pool + 1) (packet pair.member (bodies.Nak f.leads.view.id k.missing) pair.view.creator) s.couple f.id nak.packet fails)
@@ -168,7 +169,7 @@ module _ {S : Type 0} (meaning : Meaning S) (laws : KeepBySteps.Laws meaning) wh
     where
       by : (f : CatchUpEnds.Found meaning laws old pair)
           (s : CatchUpLevels.AskedSo meaning laws announced asked pair.view.creator pair.member f.first f.leads)
-          → AsksUpTo pair.member world_group f.leads.window.delivered s.now s.start s.out → EndsSo pair new
+          → AsksUpTo (who pair.member world_group) f.leads.window.delivered s.now s.start s.out → EndsSo pair new
       by f s (inl k) =
           let r = CatchUpLevels.replied-so meaning laws announced asked replied pair.view.creator pair.member f.first f.leads s asks k in
           rounds-break (r.last + 1 - r.first) r.first (length asked.history.pool) replied new pair f.first s.after f.leads s.now r.last r.couple f.id r.within r.count r.low r.high r.sound r.next

@@ -47,6 +47,9 @@ use Rattle.world.specs.Gaps.{lacks_memory}
 use Rattle.world_step.proofs.FactOfPosts.{EachSound, bytes_for}
 use Rattle.world_step.proofs.FactOfTaken.{when-true, when-false}
 use Rattle.world.proofs.FactOfPlayed
+use Rattle.step_output.specs.Steps.{who}
+use Rattle.traffic.specs.InViews.{in_view}
+use Rattle.membership.specs.InSteps.{in_step}
 
 -- ---- a packet of the world
 
@@ -97,7 +100,7 @@ module _ {S : Type 0} (meaning : Meaning S) where
     pub member_state : left.member_state ≡ Some after
     pub start : Output
     pub nothing : Puts [] [] start
-    pub does : DoesBy meaning world_group p came i l after start out
+    pub does : DoesBy meaning came (who p world_group) i (in_step l start) (in_step after out)
 
   member_state-there : (o : Option (MemberState S)) (f : MemberState S → Core S) (P : Core S → Type 0) → IsSomeAnd (option_map f o) P → (l : MemberState S) × (o ≡ Some l)
   member_state-there None f P x = absurd x
@@ -107,19 +110,19 @@ module _ {S : Type 0} (meaning : Meaning S) where
       → StaysSo (core_at p l) (core_of left) → Did (came_at r.member i) p i l out left
   did w p l t r i out left handled stays =
       let a = member_state-there left.member_state (core_at left.address) _ stays in
-      let x : DoesAt meaning r.member.group r.member.address (came_at r.member i) i r.member.member_state left.member_state handled.does.start out = handled.does.does in
-      let y : DoesAt meaning world_group r.member.address (came_at r.member i) i r.member.member_state left.member_state handled.does.start out =
-      subst (λ (g : List ℕ). DoesAt meaning g r.member.address (came_at r.member i) i r.member.member_state left.member_state handled.does.start out) r.group x in
-      let z : DoesAt meaning world_group p (came_at r.member i) i r.member.member_state left.member_state handled.does.start out =
-      subst (λ (q : Address). DoesAt meaning world_group q (came_at r.member i) i r.member.member_state left.member_state handled.does.start out) r.address y in
-      let u : DoesAt meaning world_group p (came_at r.member i) i (Some l) left.member_state handled.does.start out =
-      subst (λ (o : Option (MemberState S)). DoesAt meaning world_group p (came_at r.member i) i o left.member_state handled.does.start out) r.member_state z in
+      let x : DoesAt meaning (came_at r.member i) (who r.member.address r.member.group) i r.member.member_state handled.does.start left.member_state out = handled.does.does in
+      let y : DoesAt meaning (came_at r.member i) (who r.member.address world_group) i r.member.member_state handled.does.start left.member_state out =
+      subst (λ (g : List ℕ). DoesAt meaning (came_at r.member i) (who r.member.address g) i r.member.member_state handled.does.start left.member_state out) r.group x in
+      let z : DoesAt meaning (came_at r.member i) (who p world_group) i r.member.member_state handled.does.start left.member_state out =
+      subst (λ (q : Address). DoesAt meaning (came_at r.member i) (who q world_group) i r.member.member_state handled.does.start left.member_state out) r.address y in
+      let u : DoesAt meaning (came_at r.member i) (who p world_group) i (Some l) handled.does.start left.member_state out =
+      subst (λ (o : Option (MemberState S)). DoesAt meaning (came_at r.member i) (who p world_group) i o handled.does.start left.member_state out) r.member_state z in
       record {
         after = a.0;
         member_state = a.1;
         start = handled.does.start;
         nothing = handled.does.nothing;
-        does = subst (λ (o : Option (MemberState S)). DoesAt meaning world_group p (came_at r.member i) i (Some l) o handled.does.start out) a.1 u;
+        does = subst (λ (o : Option (MemberState S)). DoesAt meaning (came_at r.member i) (who p world_group) i (Some l) handled.does.start o out) a.1 u;
       }
 
   replies-in : (w : WorldModel S) (p : Address) (l : MemberState S) (t : ViewState) (r : RunsAs w p l t) (i : Input) (out : Output) (left : MemberModel S) → Handled meaning r.member i (Ok out) left
@@ -149,11 +152,11 @@ module _ {S : Type 0} (meaning : Meaning S) where
 
   -- what a tick puts out there
   tick-grows : (c : Address) (l : MemberState S) (k : Coordinator) (start out : Output) → l.view_state ≡ Some (kinds.Coordinator k) → l.promise.is_installed ≡ true
-      → Ticks world_group c l start out → Grows world_group start out (statuses c k) []
+      → Ticks (who c world_group) (in_step l start) out → Grows world_group start out (statuses c k) []
   tick-grows c l k start out view_state inst x =
       let a = when-true (is_some l.view_state) _ _ (ap is_some view_state) x in
-      let b : TicksInView world_group c l start out = when-true l.promise.is_installed _ _ inst a in
-      subst (λ (o : Option ViewState). TicksInView world_group c (record l { view_state = o }) start out) view_state b
+      let b : TicksInView (who c world_group) (in_step l start) out = when-true l.promise.is_installed _ _ inst a in
+      subst (λ (o : Option ViewState). TicksInView (who c world_group) (in_step (record l { view_state = o }) start) out) view_state b
 
   tick-free : (w : WorldModel S) (c : Address) (l : MemberState S) (t : ViewState) (r : RunsAs w c l t) → refusal_of r.member input.Tick ≡ None
   tick-free w c l t r = rw (core-is w c l t r) refl
@@ -208,7 +211,7 @@ module _ {S : Type 0} (meaning : Meaning S) where
     pub start : Output
     pub out : Output
     pub nothing : Puts [] [] start
-    pub hears : hearing.FollowsRule meaning world_group q m.source m.body l after start out
+    pub hears : hearing.FollowsRule meaning (who q world_group) m.source m.body (in_step l start) (in_step after out)
     pub others : OthersStand q.node old.node_states new.node_states
     pub trace : new.history.trace ≡ old.history.trace ++ out.events.items
     pub puts : new.history.pool ≡ old.history.pool ++ map bytes_of out.packets.items
@@ -253,7 +256,7 @@ module _ {S : Type 0} (meaning : Meaning S) where
         start = d.start;
         out = x.out;
         nothing = d.nothing;
-        hears = subst (λ (o : Option Posted). DoesBy meaning world_group q o i l d.after d.start x.out) (came old q l t r b m k f is) d.does;
+        hears = subst (λ (o : Option Posted). DoesBy meaning o (who q world_group) i (in_step l d.start) (in_step d.after x.out)) (came old q l t r b m k f is) d.does;
         others = others;
         trace = x.trace;
         puts = x.puts;
@@ -312,16 +315,16 @@ module _ {S : Type 0} (meaning : Meaning S) where
     pub start : Output
     pub out : Output
     pub nothing : Puts [] [] start
-    pub asks : AsksUpTo q world_group a.highest now start out
+    pub asks : AsksUpTo (who q world_group) a.highest now start out
     pub others : OthersStand q.node old.node_states new.node_states
     pub puts : new.history.pool ≡ old.history.pool ++ map bytes_of out.packets.items
 
   pub asked : (old new : WorldModel S) (c q : Address) (l : MemberState S) (k : Follower) (a : Progress) (r : RunsAs old q l (kinds.Follower k)) → k.view.id.creator ≡ c → stands_in c k.view.members ≡ true
       → is_near a k ≡ true → Heard old new q l (packet c (bodies.Status k.view.id a) q) → Asked old new q l k a
   asked old new c q l k a r own listed near h =
-      let x : OnStatus world_group q c k.view.id a l h.after h.start h.out = h.hears in
+      let x : OnStatus (who q world_group) c k.view.id a (in_step l h.start) (in_step h.after h.out) = h.hears in
       let y = when-true (takes_status c k.view.id a l) _ _ (takes-status c l k r.view_state r.installed own listed a near) x in
-      let z = still-other (λ m n. TakesStatus q world_group a m h.start n h.out × (h.after.receiver ≡ l.receiver)) l h.after k r.view_state y in
+      let z = still-other (λ m n. TakesStatus (who q world_group) a m h.start n h.out × (h.after.receiver ≡ l.receiver)) l h.after k r.view_state y in
       let u = z.does.0 in
       record {
         after = h.after;
@@ -345,16 +348,16 @@ module _ {S : Type 0} (meaning : Meaning S) where
     pub new_state : S
     pub start : Output
     pub out : Output
-    pub takes : TakesOrder meaning q world_group g e k old_state start now new_state out
+    pub takes : TakesOrder meaning (who q world_group) g e (in_view k old_state start) (in_view now new_state out)
     pub others : OthersStand q.node old.node_states new.node_states
     pub puts : new.history.pool ≡ old.history.pool ++ map bytes_of out.packets.items
 
   pub ordered : (old new : WorldModel S) (c q : Address) (l : MemberState S) (k : Follower) (g : ℕ) (e : Entry) (r : RunsAs old q l (kinds.Follower k)) → k.view.id.creator ≡ c → stands_in c k.view.members ≡ true
       → nat_lt k.window.delivered (g - WINDOW) ≡ false → Heard old new q l (packet c (bodies.Order k.view.id g e) q) → Ordered old new q k g e
   ordered old new c q l k g e r own listed near h =
-      let x : OnOrder meaning world_group q c k.view.id g e l h.after h.start h.out = h.hears in
+      let x : OnOrder meaning (who q world_group) c k.view.id g e (in_step l h.start) (in_step h.after h.out) = h.hears in
       let y = when-true (takes_order c k.view.id g l) _ _ (takes-order c l k r.view_state r.installed own listed g near) x in
-      let z = still-other (λ m n. TakesOrder meaning q world_group g e m l.receiver h.start n h.after.receiver h.out) l h.after k r.view_state y in
+      let z = still-other (λ m n. TakesOrder meaning (who q world_group) g e (in_view m l.receiver h.start) (in_view n h.after.receiver h.out)) l h.after k r.view_state y in
       record {
         after = h.after;
         now = z.now;
@@ -383,7 +386,7 @@ module _ {S : Type 0} (meaning : Meaning S) where
   pub answered : (old new : WorldModel S) (c q : Address) (l : MemberState S) (k : Coordinator) (missing : Missing) (r : RunsAs old c l (kinds.Coordinator k)) → stands_in q k.view.members ≡ true
       → Heard old new c l (packet q (bodies.Nak k.view.id missing) c) → Answered old new c q l k missing
   answered old new c q l k missing r listed h =
-      let x : OnNak world_group c q k.view.id missing l h.after h.start h.out = h.hears in
+      let x : OnNak (who c world_group) q k.view.id missing (in_step l h.start) (in_step h.after h.out) = h.hears in
       let y = when-true (takes_nak q k.view.id l) _ _ (takes-nak q l k r.view_state r.installed listed) x in
       let orders = orders_held c k.view q k.window.held missing.first (missing.last + 1 - missing.first) in
       let g : Grows world_group h.start h.out orders [] =

@@ -49,6 +49,7 @@ use Rattle.world_step.proofs.FactOfMembers
 use Rattle.world_step.proofs.KeepAgreement
 use Rattle.world_step.proofs.FactOfReadable
 use Rattle.world_step.proofs.FactOfReadable.{Comes}
+use Rattle.step_output.specs.Steps.{who}
 
 -- ---- what a call that answered an error says
 
@@ -154,7 +155,7 @@ module _ {S : Type 0} (meaning : Meaning S) where
     left-core false left e same ends = core-running m.address left same
 
     left-node_state : (b connected : Bool) (s : List Event) (left : MemberModel S) → leaves input ≡ b → left.address ≡ m.address → last_of n (h.trace ++ s) ≡ Some m.address
-        → (leaves input ≡ true → has_ended m.address (h.trace ++ s) ≡ true) → (leaves input ≡ false → IsMember connected left) → IsAlive left.group left.address left.member_state
+        → (leaves input ≡ true → has_ended m.address (h.trace ++ s) ≡ true) → (leaves input ≡ false → IsMember connected left) → IsAlive (who left.address left.group) left.member_state
         → IsNodeStateOf n (last_of n (h.trace ++ s)) connected (h.trace ++ s) (cond b (Ended m.address) (Running left))
     left-node_state true connected s left e same last ended stays alive = (last, x.node, ended e)
     left-node_state false connected s left e same last ended stays alive = (last ∙ ap Some (sym same), ap (λ (p : Address). p.node) same ∙ x.node, stays e, alive)

@@ -16,6 +16,7 @@ use Rattle.world_model.specs.Packets.{world_group}
 use Rattle.world_step.specs.declared.node_state.NodeState.{NodeState}
 use Rattle.world_step.specs.declared.node_state.NodeState.TheVariants.{Vacant, Ended, Running}
 use Rattle.world_step.specs.NodeStates.{read_as, system_of}
+use Rattle.step_output.specs.Steps.{who}
 
 -- a member runs in the group of the world, and is connected as the answers to its node's events say
 pub record IsMember {S : Type 0} (connected : Bool) (m : MemberModel S) : Type 0 where
@@ -26,7 +27,7 @@ pub record IsMember {S : Type 0} (connected : Bool) (m : MemberModel S) : Type 0
 abbrev pub IsNodeStateOf : {S : Type 0} → ℕ → Option Address → Bool → List Event → NodeState S → Type 0
 IsNodeStateOf n last connected t Vacant = last ≡ None
 IsNodeStateOf n last connected t (Ended p) = (last ≡ Some p) × (p.node ≡ n) × (has_ended p t ≡ true)
-IsNodeStateOf n last connected t (Running m) = (last ≡ Some m.address) × (m.address.node ≡ n) × IsMember connected m × IsAlive m.group m.address m.member_state
+IsNodeStateOf n last connected t (Running m) = (last ≡ Some m.address) × (m.address.node ≡ n) × IsMember connected m × IsAlive (who m.address m.group) m.member_state
 
 -- the greatest incarnation of a node so far, 0 for none
 abbrev pub top_of : ℕ → List Event → ℕ

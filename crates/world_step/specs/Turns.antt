@@ -31,6 +31,7 @@ use Rattle.world_model.specs.Packets.{world_group, destination_of, packet_number
 use Rattle.world_step.specs.declared.node_state.NodeState.{NodeState}
 use Rattle.world_step.specs.declared.node_state.NodeState.TheVariants.{Vacant, Ended, Running}
 use Rattle.world_step.specs.NodeStates.{answer_for, is_closed, answer_to, node_state_at, bytes_of}
+use Rattle.step_output.specs.Steps.{who}
 
 -- ---- what an event is about
 
@@ -106,7 +107,7 @@ pub record Begun {S : Type 0} (meaning : Meaning S) (p : Address) (t : List Even
   pub group : member.group ≡ world_group
   pub member_state : IsSomeAnd member.member_state (idle_member p meaning.opening)
   pub core : core_of member ≡ Some (idle meaning.opening p)
-  pub alive : IsAlive member.group member.address member.member_state
+  pub alive : IsAlive (who member.address member.group) member.member_state
   pub trace : t' ≡ t ++ Started p ∷ []
 
 -- the member of an address begins, or begins and crashes

@@ -1,5 +1,6 @@
 use Rattle.std.proofs.Common.{sym, ap, not, ◌∙◌}
 use Rattle.member_views.proofs.ActsOfRules.{ask-again-did, flush-again-did}
+use Rattle.member_messages.proofs.FactOfOpen.{nothing-did}
 use Rattle.member.proofs.hearing.pass_time.Goals as goal
 use Rattle.address.proofs.Plain.{is-none}
 
@@ -12,3 +13,6 @@ pub returns-in_ok-flush_again-clause-did : goal.returns-in_ok-flush_again-clause
 returns-in_ok-flush_again-clause-did g c = λ came.
     flush-again-did g.R.Receiver.meaning c.args.who.now.group c.args.who.now.address came c.args.member_state.now c.args.out.now c.flush_again.new.out c.requires.running.member_state (c.is_none.ensures ∙ ap not c.if-is_none.false)
     (sym c.is_installed.ensures ∙ c.if-is_installed.false) c.in_ok-flush_again.ensures
+
+pub returns-then-not-is_connected-clause-did : goal.returns-then-not-is_connected-clause-did
+returns-then-not-is_connected-clause-did g c = λ came. nothing-did g.R.Receiver.meaning came _ _ _ _

@@ -1,6 +1,7 @@
 use Rattle.std.proofs.Common.{sym, ◌∙◌}
 use Rattle.member.proofs.FactOfStep.{stays-connected}
 use Rattle.member.proofs.FactOfDatagram.{handed, take-did, take-ignored}
+use Rattle.member_messages.proofs.FactOfOpen.{nothing-did}
 use Rattle.member.proofs.hearing.take_packet.Goals as goal
 
 pub returns-in_ok-hear-clause-did : goal.returns-in_ok-hear-clause-did
@@ -14,3 +15,6 @@ returns-in_ok-hear-clause-connected g c =
 pub returns-in_ok-hear-clause-ignored : goal.returns-in_ok-hear-clause-ignored
 returns-in_ok-hear-clause-ignored g c =
     λ i. c.in_ok-hear.ensures.ignored (take-ignored g.R.Receiver.meaning c.args.who.now.address c.args.who.now.group c.args.packet.now.source c.args.packet.now.body _ (handed g.R.Receiver.meaning c.args.who.now.address c.args.who.now.group c.args.member_state.now c.args.packet.now (sym c.is_handed.ensures ∙ c.if-is_handed.true)).0 c.args.member_state.now c.hear.new.member_state c.args.out.now c.hear.new.out i)
+
+pub returns-else-is_handed-clause-did : goal.returns-else-is_handed-clause-did
+returns-else-is_handed-clause-did g c = nothing-did g.R.Receiver.meaning _ _ _ _ _
