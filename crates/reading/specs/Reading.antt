@@ -2,6 +2,8 @@
 use Rattle.std.specs.Prelude.{◌≡◌, ℕ, zero, suc, List, [], ◌∷◌, length, take, drop, Option, Some, None, nat_lt, nat_le, Bool, ◌&&◌, if◌then◌else◌}
 use Rattle.std.specs.List.{list_all}
 use Rattle.byteorder.specs.Endian.{big_number}
+use Rattle.address.specs.Ids.{Address}
+use Rattle.limits.specs.declared.TheConstants.{GREATEST_INCARNATION, GREATEST_NODE}
 
 abbrev pub Read : Type 0 → Type 0
 Read A = Option (A × List ℕ)
@@ -31,6 +33,13 @@ number_at n low high bytes = do
   if are_bytes front.0 && (nat_le low (big_number n front.0) && nat_le (big_number n front.0) high)
       then Some (big_number n front.0, front.1)
       else None
+
+-- an address: the node in two bytes, the incarnation in four; neither is 0
+unfoldable pub address_at : List ℕ → Read Address
+address_at bytes = do
+  node ← number_at 2 1 GREATEST_NODE bytes
+  incarnation ← number_at 4 1 GREATEST_INCARNATION node.1
+  Some (record { node = node.0; incarnation = incarnation.0 }, incarnation.1)
 
 -- n values one behind the other, each read as read says
 unfoldable pub list_at : {A : Type 0} → (List ℕ → Read A) → ℕ → List ℕ → Read (List A)

@@ -5,13 +5,11 @@ use Rattle.std.proofs.lemmas.Bool.{leb-true, le-leb, and_parts}
 use Rattle.std.proofs.lemmas.List.{take_at, drop_at, take-append-drop, length-append, length-take}
 use Rattle.byteorder.specs.Endian.{big_bytes, big_number}
 use Rattle.address.specs.Ids.{Address, IsAddress}
-use Rattle.limits.specs.declared.TheConstants.{PAYLOAD, GREATEST_INCARNATION, GREATEST_NODE}
-use Rattle.chat_log.specs.declared.lines.Line.{Line}
-use Rattle.chat_log.specs.Chat.{IsLine}
-use Rattle.chat_log.specs.Reading.{Read, ◌>>=◌, are_bytes, bytes_at, number_at, list_at}
-use Rattle.chat_log.specs.Encoding.{address_bytes, payload_bytes, line_bytes, address_at, payload_at, line_at}
+use Rattle.limits.specs.declared.TheConstants.{GREATEST_INCARNATION, GREATEST_NODE}
+use Rattle.big_endian.specs.Spelled.{address_bytes}
+use Rattle.reading.specs.Reading.{Read, ◌>>=◌, are_bytes, bytes_at, number_at, address_at, list_at}
 use Rattle.big_endian.proofs.Bytes.{IsWide, wide2, wide4, number_back, length-big_bytes}
-use Rattle.chat_log.specs.NumberLaws.{tested_bytes, big_bytes-are_bytes}
+use Rattle.reading.specs.NumberLaws.{tested_bytes, big_bytes-are_bytes}
 use Rattle.std.proofs.lemmas.Option.{cond_some}
 
 -- the value of a step that found one
@@ -59,7 +57,7 @@ IsWithin low high x = (low ≤ x) × (x ≤ high)
 abbrev may_be : ℕ → ℕ → ℕ → List ℕ → Bool
 may_be n low high front = are_bytes front && (leb low (big_number n front) && leb (big_number n front) high)
 
-number_takes : (n : ℕ) → IsWide n → (low high : ℕ) (bytes : List ℕ) (x : ℕ) (rest : List ℕ) → number_at n low high bytes ≡ Some (x, rest)
+pub number_takes : (n : ℕ) → IsWide n → (low high : ℕ) (bytes : List ℕ) (x : ℕ) (rest : List ℕ) → number_at n low high bytes ≡ Some (x, rest)
     → (bytes ≡ big_bytes n x ++ rest) × IsWithin low high x
 unfolding number_at
 number_takes n wide low high bytes x rest e =
@@ -73,7 +71,7 @@ number_takes n wide low high bytes x rest e =
     let whole : (bytes ≡ big_bytes n (value b.0.0) ++ b.0.1) × IsWithin low high (value b.0.0) = (rw back t.0, (leb-true _ _ range.0, leb-true _ _ range.1)) in
     subst (λ (p : ℕ × List ℕ). (bytes ≡ big_bytes n p.0 ++ p.1) × IsWithin low high p.0) g.1 whole
 
-number_again : (n low high : ℕ) (x : ℕ) (rest : List ℕ) → x < 256 ^ n → IsWithin low high x → number_at n low high (big_bytes n x ++ rest) ≡ Some (x, rest)
+pub number_again : (n low high : ℕ) (x : ℕ) (rest : List ℕ) → x < 256 ^ n → IsWithin low high x → number_at n low high (big_bytes n x ++ rest) ≡ Some (x, rest)
 unfolding number_at
 number_again n low high x rest lt in_range =
     rw (bytes_again n (big_bytes n x) rest (length-big_bytes n x), big_bytes-are_bytes n x, number_back n x lt, le-leb low x in_range.0, le-leb x high in_range.1) refl
@@ -86,7 +84,7 @@ number_part n low high wide small = record {
 
 -- ---- addresses
 
-address_takes : (bytes : List ℕ) (a : Address) (rest : List ℕ) → address_at bytes ≡ Some (a, rest) → (bytes ≡ address_bytes a ++ rest) × IsAddress a
+pub address_takes : (bytes : List ℕ) (a : Address) (rest : List ℕ) → address_at bytes ≡ Some (a, rest) → (bytes ≡ address_bytes a ++ rest) × IsAddress a
 unfolding address_at
 address_takes bytes a rest e =
     let b = bind_some (number_at 2 1 GREATEST_NODE bytes) (λ node. number_at 4 1 GREATEST_INCARNATION node.1 >>= λ incarnation. Some (record { node = node.0; incarnation = incarnation.0 }, incarnation.1)) (a, rest) e in
@@ -98,7 +96,7 @@ address_takes bytes a rest e =
     subst (λ (p : Address × List ℕ). (bytes ≡ address_bytes p.0 ++ p.1) × IsAddress p.0) (some_is (made, c.0.1) (a, rest) c.2)
     (joined bytes (big_bytes 2 b.0.0) b.0.1 (big_bytes 4 c.0.0) c.0.1 t.0 u.0, is)
 
-address_again : (a : Address) (rest : List ℕ) → IsAddress a → address_at (address_bytes a ++ rest) ≡ Some (a, rest)
+pub address_again : (a : Address) (rest : List ℕ) → IsAddress a → address_at (address_bytes a ++ rest) ≡ Some (a, rest)
 unfolding address_at
 address_again a rest is =
     ap address_at (append_assoc (big_bytes 2 a.node) (big_bytes 4 a.incarnation) rest)
@@ -106,51 +104,6 @@ address_again a rest is =
 
 pub address_part : IsPart address_at address_bytes IsAddress
 address_part = record { takes = address_takes; again = address_again }
-
--- ---- payloads
-
-abbrev pub IsPayload : List ℕ → Type 0
-IsPayload payload = length payload ≤ PAYLOAD
-
-payload_takes : (bytes x rest : List ℕ) → payload_at bytes ≡ Some (x, rest) → (bytes ≡ payload_bytes x ++ rest) × IsPayload x
-unfolding payload_at
-payload_takes bytes x rest e =
-    let a = bind_some (number_at 2 0 PAYLOAD bytes) (λ len. bytes_at len.0 len.1) (x, rest) e in
-    let t = number_takes 2 wide2 0 PAYLOAD bytes a.0.0 a.0.1 a.1 in
-    let u = bytes_takes a.0.0 a.0.1 x rest a.2 in
-    let both : bytes ≡ (big_bytes 2 a.0.0 ++ x) ++ rest = joined bytes (big_bytes 2 a.0.0) a.0.1 x rest t.0 u.0 in
-    (subst (λ (n : ℕ). bytes ≡ (big_bytes 2 n ++ x) ++ rest) (sym u.1) both, omega (arith, u.1, t.1.1))
-
-payload_again : (x rest : List ℕ) → IsPayload x → payload_at (payload_bytes x ++ rest) ≡ Some (x, rest)
-unfolding payload_at
-payload_again x rest few =
-    ap payload_at (append_assoc (big_bytes 2 (length x)) x rest)
-    ∙ rw (number_again 2 0 PAYLOAD (length x) (x ++ rest) (omega arith) (omega arith, few), bytes_again (length x) x rest refl) refl
-
-pub payload_part : IsPart payload_at payload_bytes IsPayload
-payload_part = record { takes = payload_takes; again = payload_again }
-
--- ---- lines
-
-line_takes : (bytes : List ℕ) (l : Line) (rest : List ℕ) → line_at bytes ≡ Some (l, rest) → (bytes ≡ line_bytes l ++ rest) × IsLine l
-unfolding line_at
-line_takes bytes l rest e =
-    let a = bind_some (address_at bytes) (λ sender. payload_at sender.1 >>= λ payload. Some (record { sender = sender.0; payload = payload.0 }, payload.1)) (l, rest) e in
-    let b = bind_some (payload_at a.0.1) (λ payload. Some (record { sender = a.0.0; payload = payload.0 }, payload.1)) (l, rest) a.2 in
-    let t = address_takes bytes a.0.0 a.0.1 a.1 in
-    let u = payload_takes a.0.1 b.0.0 b.0.1 b.1 in
-    let made : Line = record { sender = a.0.0; payload = b.0.0 } in
-    subst (λ (p : Line × List ℕ). (bytes ≡ line_bytes p.0 ++ p.1) × IsLine p.0) (some_is (made, b.0.1) (l, rest) b.2)
-    (joined bytes (address_bytes a.0.0) a.0.1 (payload_bytes b.0.0) b.0.1 t.0 u.0, record { sender = t.1; payload = u.1 })
-
-line_again : (l : Line) (rest : List ℕ) → IsLine l → line_at (line_bytes l ++ rest) ≡ Some (l, rest)
-unfolding line_at
-line_again l rest is =
-    ap line_at (append_assoc (address_bytes l.sender) (payload_bytes l.payload) rest)
-    ∙ rw (address_again l.sender (payload_bytes l.payload ++ rest) is.sender, payload_again l.payload rest is.payload) refl
-
-pub line_part : IsPart line_at line_bytes IsLine
-line_part = record { takes = line_takes; again = line_again }
 
 -- ---- so many values, one behind the other
 

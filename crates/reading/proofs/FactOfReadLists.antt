@@ -1,21 +1,7 @@
--- What the reader of a number finds, and what the loop over lines keeps.
+-- What a loop keeps that reads so many values, one behind the other.
 use Rattle.std.proofs.Common.{◌≡◌, ℕ, suc, ◌+◌, ◌-◌, ◌<◌, ◌≤◌, List, [], ◌∷◌, ◌++◌, Some, None, refl, sym, ap, ◌∙◌, append_assoc, arith}
-use Rattle.std.proofs.lemmas.Bool.{le-leb}
 use Rattle.std.proofs.lemmas.List.{append-nil}
-use Rattle.byteorder.specs.Endian.{big_number}
-use Rattle.chat_log.specs.Reading.{Read, ◌>>=◌, bytes_at, number_at, list_at}
-use Rattle.big_endian.specs.Spelled.{IsBytes}
-use Rattle.chat_log.specs.NumberLaws.{known_bytes}
-
--- bytes in front that spell a number of the range
-pub number_found : (n low high : ℕ) (bytes front rest : List ℕ) (x : ℕ) → bytes_at n bytes ≡ Some (front, rest) → IsBytes front → x ≡ big_number n front → low ≤ x → x ≤ high → number_at n low high bytes ≡ Some (x, rest)
-unfolding number_at
-number_found n low high bytes front rest x read fits value least most =
-    let one = le-leb low (big_number n front) (omega (arith, value)) in
-    let two = le-leb (big_number n front) high (omega (arith, value)) in
-    rw (read, known_bytes front fits, one, two) (ap (λ (y : ℕ). Some (y, rest)) (sym value))
-
--- ---- so many values, behind those that were read already
+use Rattle.reading.specs.Reading.{Read, ◌>>=◌, list_at}
 
 abbrev pub with_front : {A : Type 0} → List A → Read (List A) → Read (List A)
 with_front front (Some x) = Some (front ++ x.0, x.1)

@@ -1,5 +1,5 @@
 use Rattle.std.proofs.Common.{rules}
-use Rattle.chat_log.proofs.reading.chat_of.Goals as goal
+use Rattle.chat_log.proofs.decoding.chat_of.Goals as goal
 
 pub returns : goal.returns
 unfolding Rattle.chat_log.specs.Encoding.chat_decode Rattle.chat_log.specs.Encoding.lines_at

@@ -4,7 +4,7 @@ use Rattle.std.proofs.Math.Nat.{mod-lt}
 use Rattle.std.proofs.lemmas.Bool.{ltb-true, lt-ltb, and_parts}
 use Rattle.std.specs.Int.{byte_at}
 use Rattle.byteorder.specs.Endian.{big_bytes}
-use Rattle.chat_log.specs.Reading.{are_bytes}
+use Rattle.reading.specs.Reading.{are_bytes}
 use Rattle.big_endian.specs.Spelled.{IsBytes}
 
 pub tested_bytes : (bytes : List ℕ) → are_bytes bytes ≡ true → IsBytes bytes
