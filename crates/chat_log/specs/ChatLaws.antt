@@ -9,10 +9,11 @@ use Rattle.limits.specs.declared.TheConstants.{PAYLOAD, STATE}
 use Rattle.chat_log.specs.declared.TheConstants.{LINES, LONGEST}
 use Rattle.chat_log.specs.declared.lines.Line.{Line}
 use Rattle.chat_log.specs.Chat.{IsLine, IsChat, chat_apply}
-use Rattle.chat_log.specs.Reading.{number_at, list_at}
+use Rattle.reading.specs.Reading.{number_at, list_at}
 use Rattle.chat_log.specs.Encoding.{payload_bytes, address_bytes, line_bytes, line_at, chat_encode, lines_at, chat_decode}
 use Rattle.big_endian.proofs.Bytes.{wide1}
-use Rattle.chat_log.specs.PartLaws.{bind_some, joined, IsPart, IsWithin, number_part, line_part, list_takes, list_again}
+use Rattle.reading.specs.PartLaws.{bind_some, joined, IsPart, IsWithin, number_part, list_takes, list_again}
+use Rattle.chat_log.specs.LineLaws.{line_part}
 use Rattle.std.proofs.lemmas.Option.{cond_some}
 
 -- ---- a message leaves a chat a chat

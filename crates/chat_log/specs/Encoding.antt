@@ -2,20 +2,11 @@
 use Rattle.std.specs.Prelude.{ℕ, List, ◌++◌, length, Option, Some, None, ◌==◌, if◌then◌else◌}
 use Rattle.std.specs.List.{flat_map}
 use Rattle.byteorder.specs.Endian.{big_bytes}
-use Rattle.address.specs.Ids.{Address}
 pub use Rattle.big_endian.specs.Spelled.{address_bytes}
-use Rattle.limits.specs.declared.TheConstants.{PAYLOAD, GREATEST_INCARNATION, GREATEST_NODE}
+use Rattle.limits.specs.declared.TheConstants.{PAYLOAD}
 use Rattle.chat_log.specs.declared.TheConstants.{LINES}
 use Rattle.chat_log.specs.declared.lines.Line.{Line}
-use Rattle.chat_log.specs.Reading.{Read, ◌>>=◌, bytes_at, number_at, list_at}
-
--- ---- an address: the node in two bytes, the incarnation in four; neither is 0
-
-unfoldable pub address_at : List ℕ → Read Address
-address_at bytes = do
-  node ← number_at 2 1 GREATEST_NODE bytes
-  incarnation ← number_at 4 1 GREATEST_INCARNATION node.1
-  Some (record { node = node.0; incarnation = incarnation.0 }, incarnation.1)
+use Rattle.reading.specs.Reading.{Read, ◌>>=◌, bytes_at, number_at, address_at, list_at}
 
 -- ---- a payload: its length in two bytes, and the bytes
 

@@ -3,10 +3,10 @@
 #![tactic(auto)]
 
 mod chat;
+mod decoding;
 mod law;
 mod lines;
 mod log;
-mod reading;
 mod writing;
 
 pub use chat::Chat;

@@ -3,8 +3,8 @@ ghost use Rattle.chat_log.specs.Chat.{IsChat, chat_apply};
 ghost use Rattle.chat_log.specs.Encoding.{chat_encode, chat_decode};
 ghost use Rattle.limits.specs.declared.TheConstants.{STATE};
 
+use crate::decoding::chat_of;
 use crate::lines::push_line;
-use crate::reading::chat_of;
 use crate::writing::put_chat;
 use crate::{Chat, LINES, Line};
 use address::Address;

@@ -1,9 +1,0 @@
-use Rattle.std.proofs.Common.{◌≡◌, ◌-◌}
-use Rattle.chat_log.specs.Reading.{list_at}
-use Rattle.chat_log.specs.Encoding.{line_at}
-use Rattle.chat_log.proofs.FactOfReadNumbers.{with_front}
-use Rattle.chat_log.proofs.reading.lines_at.Given as goal
-
--- the lines so far, and those that are read from what is left, are all
-abbrev pub invariant-loop : goal.invariant-loop
-invariant-loop l = with_front l.lines.items (list_at line_at (l.count - l.counter) l.from) ≡ list_at line_at l.count l.fn.from

@@ -1,0 +1,4 @@
+pub mod FactOfStates
+pub mod FactOfCounts
+pub mod FactOfCoordinators
+pub mod FactOfReplicas

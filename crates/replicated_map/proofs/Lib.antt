@@ -1,0 +1,2 @@
+pub mod FactOfEntries
+pub mod FactOfLookUps

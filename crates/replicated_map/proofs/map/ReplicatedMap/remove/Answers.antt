@@ -1,0 +1,20 @@
+use Rattle.std.proofs.Common.{◌≡◌, length, Some, refl, ap, arith}
+use Rattle.std.specs.List.{slice_get, remove}
+use Rattle.std.proofs.lemmas.Option.{slice_get_read}
+use Rattle.replicated_map.specs.Entries.{IsHeldAt}
+use Rattle.replicated_map.proofs.FactOfEntries.{removes-held}
+use Rattle.replicated_map.proofs.map.ReplicatedMap.remove.Goals as goal
+
+pub invariant_of-self : goal.invariant_of-self
+invariant_of-self c =
+    let s = c.self.inside.entries.items in
+    let k = c.args.key.now in
+    let i = c.in-Held.i in
+    let x = c.remove-entry.result in
+    let held : IsHeldAt k s i = rw (c.as_slice.ensures.value) at c.in-Held.ensures in
+    let stands : slice_get s i ≡ Some x = slice_get_read s (length s) i x refl held.within c.remove-entry.ensures.value in
+    let less : c.remove-entry.new.self.items ≡ remove s i = c.remove-entry.ensures.items in
+    let key : length c.as_slice-in-Held.result.now ≡ length x.key = ap length c.as_slice-in-Held.ensures in
+    let value : length c.as_slice-in-Held-2.result.now ≡ length x.value = ap length c.as_slice-in-Held-2.ensures in
+    let r = removes-held s c.remove-entry.new.self.items k i x c.self.inside.size held stands less c.self.invariant in
+    (r.0, omega (arith, key, value, r.1))

@@ -1,0 +1,191 @@
+-- The commands of the map leave it a map, and each is read from its spelling and from no other bytes.
+use Rattle.std.proofs.Common.{◌≡◌, ℕ, ◌≤◌, Bool, true, false, cond, eqb, List, [], ◌++◌, length, Option, Some, None, refl, sym, ap, subst, ◌∙◌, append_assoc, arith}
+use Rattle.std.proofs.lemmas.Bool.{eqb-true, eqb-false}
+use Rattle.std.proofs.lemmas.List.{append-nil, nil_from_length}
+use Rattle.std.proofs.lemmas.Option.{cond_some}
+use Rattle.byteorder.specs.Endian.{big_bytes}
+use Rattle.big_endian.proofs.Bytes.{wide1}
+use Rattle.address.specs.Ids.{Address, IsAddress}
+use Rattle.limits.specs.declared.TheConstants.{PAYLOAD}
+use Rattle.reading.specs.Reading.{number_at, ◌>>=◌}
+use Rattle.reading.specs.PartLaws.{bind_some, some_is, joined, IsPart, IsWithin, number_part}
+use Rattle.replicated_map.specs.declared.entries.Entry.{Entry}
+use Rattle.replicated_map.specs.declared.command.Command.{Command}
+use Rattle.replicated_map.specs.declared.command.Command.TheVariants.{Put, Remove, Replace, Clear}
+use Rattle.replicated_map.specs.Entries.{value_of, IsMap, put_within}
+use Rattle.replicated_map.specs.Encoding.{key_bytes, key_at, value_bytes, value_at}
+use Rattle.replicated_map.specs.Commands.{is_expected, carried_out, expected_bytes, command_bytes, expected_at, put_at, remove_at, replace_at, command_at, command_of, IsExpected, IsCommand, after_command, map_apply}
+use Rattle.replicated_map.specs.EncodingLaws.{key_takes, key_again, value_takes, value_again}
+use Rattle.replicated_map.specs.MapLaws.{nothing_is_map, put_is_map, without_is_map}
+
+-- ---- an expected value
+
+abbrev flag_part : IsPart (number_at 1 0 1) (big_bytes 1) (IsWithin 0 1)
+flag_part = number_part 1 0 1 wide1 (omega arith)
+
+-- what bytes behind a number of one byte are read as
+abbrev Follows : {A : Type 0} → (A → List ℕ) → (A → Type 0) → ℕ → List ℕ → A × List ℕ → Type 0
+Follows spell Fits n bytes p = (big_bytes 1 n ++ bytes ≡ spell p.0 ++ p.1) × Fits p.0
+
+-- the value behind the byte that says that there is one
+abbrev some_at : List ℕ → Option (Option (List ℕ) × List ℕ)
+some_at at = ◌>>=◌ {B = Option (List ℕ) × List ℕ} (value_at at) (λ v. Some (Some v.0, v.1))
+
+abbrev by_flag : ℕ → List ℕ → Option (Option (List ℕ) × List ℕ)
+by_flag n at = cond (eqb n 0) (Some (None, at)) (some_at at)
+
+expected_takes : (bytes : List ℕ) (w : Option (List ℕ)) (rest : List ℕ) → expected_at bytes ≡ Some (w, rest) → (bytes ≡ expected_bytes w ++ rest) × IsExpected w
+unfolding expected_at
+expected_takes bytes w rest e =
+    let a = bind_some (number_at 1 0 1 bytes) (λ flag. by_flag flag.0 flag.1) (w, rest) e in
+    let t = flag_part.takes bytes a.0.0 a.0.1 a.1 in
+    let f = by a.0.0 a.0.1 (eqb a.0.0 0) refl t.1 a.2 in
+    (t.0 ∙ f.0, f.1)
+  where
+    some_value : (at : List ℕ) → some_at at ≡ Some (w, rest) → Follows expected_bytes IsExpected 1 at (w, rest)
+    some_value at f =
+        let b = bind_some {B = Option (List ℕ) × List ℕ} (value_at at) (λ v. Some (Some v.0, v.1)) (w, rest) f in
+        let u = value_takes at b.0.0 b.0.1 b.1 in
+        let whole : big_bytes 1 1 ++ at ≡ (big_bytes 1 1 ++ value_bytes b.0.0) ++ b.0.1 = joined (big_bytes 1 1 ++ at) (big_bytes 1 1) at (value_bytes b.0.0) b.0.1 refl u.0 in
+        subst (λ (p : Option (List ℕ) × List ℕ). Follows expected_bytes IsExpected 1 at p) (some_is (Some b.0.0, b.0.1) (w, rest) b.2) (whole, u.1)
+
+    by : (n : ℕ) (at : List ℕ) (b : Bool) → eqb n 0 ≡ b → IsWithin 0 1 n → cond b (Some (None, at)) (some_at at) ≡ Some (w, rest) → Follows expected_bytes IsExpected n at (w, rest)
+    by n at true test in_range f =
+        subst (λ (m : ℕ). Follows expected_bytes IsExpected m at (w, rest)) (sym (eqb-true n 0 test))
+        (subst (λ (p : Option (List ℕ) × List ℕ). Follows expected_bytes IsExpected 0 at p) (some_is (None, at) (w, rest) f) (refl, tt))
+    by n at false test in_range f =
+        let one : 1 ≡ n = let other = eqb-false n 0 test in omega (arith, other, in_range.0, in_range.1) in
+        subst (λ (m : ℕ). Follows expected_bytes IsExpected m at (w, rest)) one (some_value at f)
+
+expected_again : (w : Option (List ℕ)) (rest : List ℕ) → IsExpected w → expected_at (expected_bytes w ++ rest) ≡ Some (w, rest)
+unfolding expected_at
+expected_again None rest fits = rw (flag_part.again 0 rest (omega arith, omega arith)) refl
+expected_again (Some w) rest fits =
+    ap expected_at (append_assoc (big_bytes 1 1) (value_bytes w) rest)
+    ∙ rw (flag_part.again 1 (value_bytes w ++ rest) (omega arith, omega arith), value_again w rest fits) refl
+
+-- ---- the commands, behind their kind
+
+put_takes : (bytes : List ℕ) (c : Command) (rest : List ℕ) → put_at bytes ≡ Some (c, rest) → Follows command_bytes IsCommand 1 bytes (c, rest)
+unfolding put_at
+put_takes bytes c rest e =
+    let a = bind_some (key_at bytes) (λ key. value_at key.1 >>= λ value. Some (Put key.0 value.0, value.1)) (c, rest) e in
+    let b = bind_some (value_at a.0.1) (λ value. Some (Put a.0.0 value.0, value.1)) (c, rest) a.2 in
+    let t = key_takes bytes a.0.0 a.0.1 a.1 in
+    let u = value_takes a.0.1 b.0.0 b.0.1 b.1 in
+    let parts = joined bytes (key_bytes a.0.0) a.0.1 (value_bytes b.0.0) b.0.1 t.0 u.0 in
+    let whole = joined (big_bytes 1 1 ++ bytes) (big_bytes 1 1) bytes (key_bytes a.0.0 ++ value_bytes b.0.0) b.0.1 refl parts in
+    subst (λ (p : Command × List ℕ). Follows command_bytes IsCommand 1 bytes p) (some_is (Put a.0.0 b.0.0, b.0.1) (c, rest) b.2) (whole, (t.1, u.1))
+
+remove_takes : (bytes : List ℕ) (c : Command) (rest : List ℕ) → remove_at bytes ≡ Some (c, rest) → Follows command_bytes IsCommand 2 bytes (c, rest)
+unfolding remove_at
+remove_takes bytes c rest e =
+    let a = bind_some (key_at bytes) (λ key. Some (Remove key.0, key.1)) (c, rest) e in
+    let t = key_takes bytes a.0.0 a.0.1 a.1 in
+    let whole = joined (big_bytes 1 2 ++ bytes) (big_bytes 1 2) bytes (key_bytes a.0.0) a.0.1 refl t.0 in
+    subst (λ (p : Command × List ℕ). Follows command_bytes IsCommand 2 bytes p) (some_is (Remove a.0.0, a.0.1) (c, rest) a.2) (whole, t.1)
+
+replace_takes : (bytes : List ℕ) (c : Command) (rest : List ℕ) → replace_at bytes ≡ Some (c, rest) → Follows command_bytes IsCommand 3 bytes (c, rest)
+unfolding replace_at
+replace_takes bytes c rest e =
+    let w = bind_some (expected_at bytes) (λ expected. key_at expected.1 >>= λ key. value_at key.1 >>= λ value. Some (Replace expected.0 key.0 value.0, value.1)) (c, rest) e in
+    let a = bind_some (key_at w.0.1) (λ key. value_at key.1 >>= λ value. Some (Replace w.0.0 key.0 value.0, value.1)) (c, rest) w.2 in
+    let b = bind_some (value_at a.0.1) (λ value. Some (Replace w.0.0 a.0.0 value.0, value.1)) (c, rest) a.2 in
+    let s = expected_takes bytes w.0.0 w.0.1 w.1 in
+    let t = key_takes w.0.1 a.0.0 a.0.1 a.1 in
+    let u = value_takes a.0.1 b.0.0 b.0.1 b.1 in
+    let parts = joined w.0.1 (key_bytes a.0.0) a.0.1 (value_bytes b.0.0) b.0.1 t.0 u.0 in
+    let more = joined bytes (expected_bytes w.0.0) w.0.1 (key_bytes a.0.0 ++ value_bytes b.0.0) b.0.1 s.0 parts in
+    let whole = joined (big_bytes 1 3 ++ bytes) (big_bytes 1 3) bytes (expected_bytes w.0.0 ++ (key_bytes a.0.0 ++ value_bytes b.0.0)) b.0.1 refl more in
+    subst (λ (p : Command × List ℕ). Follows command_bytes IsCommand 3 bytes p) (some_is (Replace w.0.0 a.0.0 b.0.0, b.0.1) (c, rest) b.2) (whole, (s.1, t.1, u.1))
+
+put_again : (k v rest : List ℕ) → IsCommand (Put k v) → put_at ((key_bytes k ++ value_bytes v) ++ rest) ≡ Some (Put k v, rest)
+unfolding put_at
+put_again k v rest fits =
+    ap put_at (append_assoc (key_bytes k) (value_bytes v) rest)
+    ∙ rw (key_again k (value_bytes v ++ rest) fits.0, value_again v rest fits.1) refl
+
+remove_again : (k rest : List ℕ) → IsCommand (Remove k) → remove_at (key_bytes k ++ rest) ≡ Some (Remove k, rest)
+unfolding remove_at
+remove_again k rest fits = rw (key_again k rest fits) refl
+
+replace_again : (w : Option (List ℕ)) (k v rest : List ℕ) → IsCommand (Replace w k v) → replace_at ((expected_bytes w ++ (key_bytes k ++ value_bytes v)) ++ rest) ≡ Some (Replace w k v, rest)
+unfolding replace_at
+replace_again w k v rest fits =
+    ap replace_at (append_assoc (expected_bytes w) (key_bytes k ++ value_bytes v) rest ∙ ap (λ (t : List ℕ). expected_bytes w ++ t) (append_assoc (key_bytes k) (value_bytes v) rest))
+    ∙ rw (expected_again w (key_bytes k ++ (value_bytes v ++ rest)) fits.0, key_again k (value_bytes v ++ rest) fits.1, value_again v rest fits.2) refl
+
+-- ---- the commands
+
+abbrev kind_part : IsPart (number_at 1 1 4) (big_bytes 1) (IsWithin 1 4)
+kind_part = number_part 1 1 4 wide1 (omega arith)
+
+abbrev by_kind : ℕ → List ℕ → Option (Command × List ℕ)
+by_kind n at = cond (eqb n 1) (put_at at) (cond (eqb n 2) (remove_at at) (cond (eqb n 3) (replace_at at) (Some (Clear, at))))
+
+command_takes : (bytes : List ℕ) (c : Command) (rest : List ℕ) → command_at bytes ≡ Some (c, rest) → (bytes ≡ command_bytes c ++ rest) × IsCommand c
+unfolding command_at
+command_takes bytes c rest e =
+    let a = bind_some (number_at 1 1 4 bytes) (λ kind. by_kind kind.0 kind.1) (c, rest) e in
+    let t = kind_part.takes bytes a.0.0 a.0.1 a.1 in
+    let f = by a.0.0 a.0.1 (eqb a.0.0 1) (eqb a.0.0 2) (eqb a.0.0 3) refl refl refl t.1 a.2 in
+    (t.0 ∙ f.0, f.1)
+  where
+    as_kind : (n m : ℕ) (at : List ℕ) → n ≡ m → Follows command_bytes IsCommand m at (c, rest) → Follows command_bytes IsCommand n at (c, rest)
+    as_kind n m at same f = subst (λ (i : ℕ). Follows command_bytes IsCommand i at (c, rest)) (sym same) f
+
+    by : (n : ℕ) (at : List ℕ) (x y z : Bool) → eqb n 1 ≡ x → eqb n 2 ≡ y → eqb n 3 ≡ z → IsWithin 1 4 n
+        → cond x (put_at at) (cond y (remove_at at) (cond z (replace_at at) (Some (Clear, at)))) ≡ Some (c, rest) → Follows command_bytes IsCommand n at (c, rest)
+    by n at true y z p q r within f = as_kind n 1 at (eqb-true n 1 p) (put_takes at c rest f)
+    by n at false true z p q r within f = as_kind n 2 at (eqb-true n 2 q) (remove_takes at c rest f)
+    by n at false false true p q r within f = as_kind n 3 at (eqb-true n 3 r) (replace_takes at c rest f)
+    by n at false false false p q r within f =
+        let four : n ≡ 4 = let one = eqb-false n 1 p in let two = eqb-false n 2 q in let three = eqb-false n 3 r in omega (arith, one, two, three, within.0, within.1) in
+        as_kind n 4 at four (subst (λ (b : Command × List ℕ). Follows command_bytes IsCommand 4 at b) (some_is (Clear, at) (c, rest) f) (refl, tt))
+
+command_again : (c : Command) (rest : List ℕ) → IsCommand c → command_at (command_bytes c ++ rest) ≡ Some (c, rest)
+unfolding command_at
+command_again (Put k v) rest fits =
+    ap command_at (append_assoc (big_bytes 1 1) (key_bytes k ++ value_bytes v) rest)
+    ∙ rw (kind_part.again 1 ((key_bytes k ++ value_bytes v) ++ rest) (omega arith, omega arith)) (put_again k v rest fits)
+command_again (Remove k) rest fits =
+    ap command_at (append_assoc (big_bytes 1 2) (key_bytes k) rest)
+    ∙ rw (kind_part.again 2 (key_bytes k ++ rest) (omega arith, omega arith)) (remove_again k rest fits)
+command_again (Replace w k v) rest fits =
+    ap command_at (append_assoc (big_bytes 1 3) (expected_bytes w ++ (key_bytes k ++ value_bytes v)) rest)
+    ∙ rw (kind_part.again 3 ((expected_bytes w ++ (key_bytes k ++ value_bytes v)) ++ rest) (omega arith, omega arith)) (replace_again w k v rest fits)
+command_again Clear rest fits = rw (kind_part.again 4 rest (omega arith, omega arith)) refl
+
+-- what a payload says is spelled by it
+pub command_is_spelled : (payload : List ℕ) (c : Command) → command_of payload ≡ Some c → IsCommand c × (command_bytes c ≡ payload)
+unfolding command_of
+command_is_spelled payload c e =
+    let a = bind_some (command_at payload) (λ p. cond (eqb (length p.1) 0) (Some p.0) None) c e in
+    let t = cond_some (eqb (length a.0.1) 0) a.0.0 c a.2 in
+    let nothing : a.0.1 ≡ [] = nil_from_length a.0.1 (eqb-true _ _ t.0) in
+    let u = command_takes payload a.0.0 a.0.1 a.1 in
+    let whole : payload ≡ command_bytes a.0.0 = u.0 ∙ ap (λ (r : List ℕ). command_bytes a.0.0 ++ r) nothing ∙ append-nil (command_bytes a.0.0) in
+    subst (λ (x : Command). IsCommand x × (command_bytes x ≡ payload)) t.1 (u.1, sym whole)
+
+pub spelled_is_read : (c : Command) → IsCommand c → command_of (command_bytes c) ≡ Some c
+unfolding command_of
+spelled_is_read c fits =
+    let again : command_at (command_bytes c) ≡ Some (c, []) = ap command_at (sym (append-nil (command_bytes c))) ∙ command_again c [] fits in
+    rw again refl
+
+-- ---- a message leaves a map a map
+
+pub carried_out_is_map : (s : List Entry) (c : Command) → IsMap s → IsCommand c → IsMap (carried_out s c)
+carried_out_is_map s (Put k v) is fits = put_is_map k v s is fits.0 fits.1
+carried_out_is_map s (Remove k) is fits = without_is_map k s is
+carried_out_is_map s (Replace w k v) is fits = by (is_expected (value_of k s) w) where
+  by : (b : Bool) → IsMap (cond b (put_within k v s) s)
+  by true = put_is_map k v s is fits.1 fits.2
+  by false = is
+carried_out_is_map s Clear is fits = nothing_is_map
+
+pub applied_is_map : (s : List Entry) (from : Address) (payload : List ℕ) → IsMap s → IsAddress from → length payload ≤ PAYLOAD → IsMap (map_apply s from payload)
+applied_is_map s from payload is address short = by (command_of payload) refl where
+  by : (o : Option Command) → command_of payload ≡ o → IsMap (after_command s o)
+  by None e = is
+  by (Some c) e = carried_out_is_map s c is (command_is_spelled payload c e).0

@@ -1,0 +1,57 @@
+//! What a payload asks of the map.
+
+ghost use Rattle.std.specs.Prelude.{◌≡◌, ◌++◌, OnOk, OnErr, Some};
+ghost use Rattle.replicated_map.specs.Commands.{IsCommand, command_bytes, command_of};
+
+use crate::decoding::command_from;
+use crate::encoding::put_command;
+use crate::{KeyBytes, LONGEST_COMMAND, ValueBytes};
+use reading::Reader;
+use std::alloc::AllocError;
+
+/// What a message asks of the map (docs/FORMATS.md, "The map's commands").
+#[derive(Debug, Drop)]
+pub enum Command<'a> {
+    /// The key has this value from now on.
+    Put {
+        key: KeyBytes<'a>,
+        value: ValueBytes<'a>,
+    },
+    /// The key has no value from now on.
+    Remove(KeyBytes<'a>),
+    /// The key has this value from now on, if it has the expected one before: that one, or none.
+    Replace {
+        expected: Option<ValueBytes<'a>>,
+        key: KeyBytes<'a>,
+        value: ValueBytes<'a>,
+    },
+    /// No key has a value from now on.
+    Clear,
+}
+
+impl<'a> Command<'a> {
+    /// The command that a payload spells; `None` where it spells none.
+    #[tactic(auto, unfolding(crate::specs::Commands::command_of))]
+    pub fn decode(payload: &'a [u8]) -> Option<Command<'a>>
+        ensures { result ≡ command_of payload.now }
+    {
+        let mut from = Reader::new(payload);
+        let command = command_from(&mut from)?;
+        if !from.is_empty() {
+            return None;
+        }
+        Some(command)
+    }
+
+    /// Appends its spelling, from which `decode` makes it again: at most `LONGEST_COMMAND` bytes. Where memory is refused, the bytes are as they were.
+    #[tactic(auto, using(crate::specs::CommandLaws::spelled_is_read))]
+    pub fn encode(&self, out: &mut Vec<u8>) -> Result<(), AllocError>
+        ensures ok { OnOk result (out.new.items ≡ out.old.items ++ command_bytes self.now) }
+        ensures reads_back { OnOk result (command_of (command_bytes self.now) ≡ Some self.now) }
+        ensures err { OnErr result (out.new.items ≡ out.old.items) }
+    {
+        out.reserve(LONGEST_COMMAND)?;
+        put_command(self, out);
+        Ok(())
+    }
+}
