@@ -29,8 +29,8 @@ use Rattle.traffic.proofs.ActsOfCoordinator.{view_core_at, delivered-by}
 use Rattle.traffic.proofs.Windows.{holds-more, holds-above}
 use Rattle.step_output.proofs.FactOfGrows.{grows-nothing}
 use Rattle.traffic.proofs.ActsInTurn.{other-nothing, other-then}
-use Rattle.step_output.specs.Steps.{who}
-use Rattle.traffic.specs.InViews.{in_view}
+use Rattle.step_output.specs.Steps.{Who, who}
+use Rattle.traffic.specs.InViews.{InView, in_view}
 
 record Taken (g : ℕ) (w : WindowModel) : Type 0 where
   pub past : w.delivered < g
@@ -154,7 +154,7 @@ module _ {S : Type 0} (meaning : Meaning S) where
       let two : Does (order_packet p m.view g e) p group next s out (held_too g e next) s out =
       (record { posted = []; happened = []; acted = λ kept. holds-by _ p kept next s g e other refl; grows = grows-nothing group out }, refl) in
       subst (λ (n : Follower). Does (order_packet p m.view g e) p group m s out n s out) (sym (after ∙ ap (held_too g e) now))
-      (other-then meaning (order_packet p m.view g e) p group m next (held_too g e next) s s s out out out one two)
+      (other-then meaning (order_packet p m.view g e) (who p group) (in_view m s out) (in_view next s out) (in_view (held_too g e next) s out) one two)
 
   -- ---- a packet that says what is known
 
@@ -180,7 +180,7 @@ module _ {S : Type 0} (meaning : Meaning S) where
       → same_address p m.view.id.creator ≡ false → held_at (m.window.delivered + 1) m.window.held ≡ held → DeliversIf p group did_deliver held m s out new t more → Does came p group m s out new t more
   delivery-turn None came p group did_deliver m s out new t more other there x =
       subst (λ (n : Follower). Does came p group m s out n t more) (sym x.1)
-      (subst (λ (z : S). Does came p group m s out m z more) (sym x.2) (subst (λ (o : Output). Does came p group m s out m s o) (sym x.3) (other-nothing meaning came p group m s out)))
+      (subst (λ (z : S). Does came p group m s out m z more) (sym x.2) (subst (λ (o : Output). Does came p group m s out m s o) (sym x.3) (other-nothing meaning came (who p group) (in_view m s out))))
   delivery-turn (Some e) came p group did_deliver m s out new t more other there x = delivers-goes came p group m s out e new t more other there x.1
 
   pub turn-goes : (came : Option Posted) (p : Address) (group : List ℕ) (did_deliver : Bool) (m : Follower) (s : S) (out : Output) (new : Follower) (t : S) (more : Output)
@@ -210,19 +210,20 @@ module _ {S : Type 0} (meaning : Meaning S) where
       → DeliversIf p group true (held_at (m.window.delivered + 1) m.window.held) m s out new t more → new.window.stable + WINDOW - new.window.delivered < m.window.stable + WINDOW - m.window.delivered
   turn-nears p group m s out new t more w x = near-by (held_at (m.window.delivered + 1) m.window.held) p group m s out new t more w refl x
 
-  pub turn-then : (came : Option Posted) (p : Address) (group : List ℕ) (did_deliver : Bool) (a b c : Follower) (s t u : S) (out more most : Output) → same_address p a.view.id.creator ≡ false
-      → Does came p group a s out b t more → DeliversIf p group did_deliver (held_at (b.window.delivered + 1) b.window.held) b t more c u most → Does came p group a s out c u most
-  turn-then came p group did_deliver a b c s t u out more most other x y =
-      other-then meaning came p group a b c s t u out more most x
-      (turn-goes came p group did_deliver b t more c u most (ap (λ (v : View). same_address p v.id.creator) x.1 ∙ other) y)
+  pub turn-then : (came : Option Posted) (w : Who) (did_deliver : Bool) (a b c : InView Follower S) → same_address w.address a.part.view.id.creator ≡ false
+      → FollowerGoes meaning came w a b → DeliversIf w.address w.group did_deliver (held_at (b.part.window.delivered + 1) b.part.window.held) b.part b.state b.out c.part c.state c.out
+      → FollowerGoes meaning came w a c
+  turn-then came w did_deliver a b c other x y =
+      other-then meaning came w a b c x
+      (turn-goes came w.address w.group did_deliver b.part b.state b.out c.part c.state c.out (ap (λ (v : View). same_address w.address v.id.creator) x.1 ∙ other) y)
 
   pub order-goes : (p : Address) (group : List ℕ) (m : Follower) (s : S) (out : Output) (g : ℕ) (e : Entry) (more most last : Follower) (t : S) (end : Output) → same_address p m.view.id.creator ≡ false
       → more ≡ collected_to (g - WINDOW) m → most ≡ held_too g e more → ((came : Option Posted) → Does came p group most s out last t end) → Does (order_packet p m.view g e) p group m s out last t end
   order-goes p group m s out g e more most last t end other now after rest_goes =
-      other-then meaning (order_packet p m.view g e) p group m most last s s t out out end (takes-goes p group m s out g e more most other now after) (rest_goes (order_packet p m.view g e))
+      other-then meaning (order_packet p m.view g e) (who p group) (in_view m s out) (in_view most s out) (in_view last t end) (takes-goes p group m s out g e more most other now after) (rest_goes (order_packet p m.view g e))
 
   -- and then a packet that needs no more than what is known in the view
   pub then-puts : (came : Option Posted) (p : Address) (group : List ℕ) (a b : Follower) (s t : S) (out more most : Output) (q : Address) (body : Body) → Does came p group a s out b t more
       → ((kept : List (Address × wire.Install)) → Describes (open_core p b.view kept (follower_core b) t) q body) → Grows group more most (packet p body q ∷ []) [] → Does came p group a s out b t most
   then-puts came p group a b s t out more most q body x says puts =
-      other-then meaning came p group a b b s t t out more most x (puts-goes came p group b t more most q body says puts)
+      other-then meaning came (who p group) (in_view a s out) (in_view b t more) (in_view b t most) x (puts-goes came p group b t more most q body says puts)
