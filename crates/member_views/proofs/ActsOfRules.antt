@@ -95,7 +95,7 @@ module _ {S : Type 0} (meaning : Meaning S) (group : List ℕ) (me : Address) wh
       subst (λ (z : MemberState S). DidThis came (in_step old out) (in_step z later)) (sym is) (record { posted = ps; happened = []; grows = grows; acted = acted })
 
   stays : (came : Option Posted) (old new : MemberState S) (out later : Output) → StaysAs (in_step old out) (in_step new later) → DidThis came (in_step old out) (in_step new later)
-  stays came old new out later x = stays-did meaning came group me old new out later x.0 x.1
+  stays came old new out later x = stays-did meaning came (who me group) (in_step old out) (in_step new later) x.0 x.1
 
   -- ---- it makes a group
 
@@ -182,8 +182,8 @@ module _ {S : Type 0} (meaning : Meaning S) (group : List ℕ) (me : Address) wh
   noted-regroups : (came : Option Posted) (old noted new : MemberState S) (out later : Output) → noted ≡ record old { notes = noted.notes } → IsMemberState (who me group) noted
       → Regroups meaning (who me group) (in_step noted out) (in_step new later) → DidThis came (in_step old out) (in_step new later)
   noted-regroups came old noted new out later is kept x =
-      did-then meaning came group me old noted new out out later (noted-did meaning came group me old noted noted.notes out is)
-      (changes.regroups-did meaning group me came noted new out later kept x)
+      did-then meaning came (who me group) (in_step old out) (in_step noted out) (in_step new later) (noted-did meaning came (who me group) old noted noted.notes out is)
+      (changes.regroups-did meaning (who me group) came (in_step noted out) (in_step new later) kept x)
 
   admits : (came : Option Posted) (q : Address) (l new : MemberState S) (out later : Output) → IsMemberState (who me group) l → Admits meaning (who me group) q (in_step l out) (in_step new later) → DidThis came (in_step l out) (in_step new later)
   admits came q l new out later kept x =
@@ -194,7 +194,7 @@ module _ {S : Type 0} (meaning : Meaning S) (group : List ℕ) (me : Address) wh
   pub join-did : (came : Option Posted) (q : Address) (old new : MemberState S) (out later : Output) → IsMemberState (who me group) old → OnJoin meaning (who me group) q (in_step old out) (in_step new later) → DidThis came (in_step old out) (in_step new later)
   join-did came q old new out later kept x =
       match-bool (is_some old.view_state) (Admits meaning (who me group) q (in_step (outdated me q old) out) (in_step new later)) (StaysAs (in_step old out) (in_step new later)) x
-      (λ in-view a. did-then meaning came group me old (outdated me q old) new out out later (noted-did meaning came group me old (outdated me q old) (outdated me q old).notes out refl)
+      (λ in-view a. did-then meaning came (who me group) (in_step old out) (in_step (outdated me q old) out) (in_step new later) (noted-did meaning came (who me group) old (outdated me q old) (outdated me q old).notes out refl)
       (admits came q (outdated me q old) new out later (outdated-member_state group me q old (outdated me q old) kept refl) a))
       (λ none s. stays came old new out later s)
 
@@ -233,7 +233,7 @@ module _ {S : Type 0} (meaning : Meaning S) (group : List ℕ) (me : Address) wh
   suspect-did came p old new out later kept x =
       match-bool (is_suspectable me p old) (TakesSuspicion meaning (who me group) p (in_step old out) (in_step new later)) (StaysAs (in_step old out) (in_step new later)) x
       (λ may t. let other = (and_parts (is_some old.view_state) (not (same_address p me)) (and_parts (is_some old.view_state && not (same_address p me)) (has_member p old || has_promised p old) may).0).1 in
-      changes.takes-suspicion-did meaning group me came old new p out later kept t (not-true (same_address p me) other))
+      changes.takes-suspicion-did meaning (who me group) came p (in_step old out) (in_step new later) kept t (not-true (same_address p me) other))
       (λ none s. stays came old new out later s)
 
   -- ---- FLUSH, BEHIND, REPORT
@@ -242,7 +242,7 @@ module _ {S : Type 0} (meaning : Meaning S) (group : List ℕ) (me : Address) wh
       → OnFlush (who me group) q w (in_step old out) (in_step new later) → DidThis came (in_step old out) (in_step new later)
   flush-did came q w old new out later kept on asked x =
       match-bool (same_address w.id.creator q) (TakesFlush (who me group) w (in_step old out) (in_step new later)) (StaysAs (in_step old out) (in_step new later)) x
-      (λ own t. changes.takes-flush-did meaning group me came old new w out later kept t
+      (λ own t. changes.takes-flush-did meaning (who me group) came w (in_step old out) (in_step new later) kept t
       (asked ∙ ap (λ (p : Address). Some (packet p (bodies.Flush w) me)) (sym (same_address-true w.id.creator q own))) on)
       (λ other s. stays came old new out later s)
 
@@ -250,12 +250,12 @@ module _ {S : Type 0} (meaning : Meaning S) (group : List ℕ) (me : Address) wh
       → DidThis came (in_step old out) (in_step new later)
   behind-did came w counter old new out later kept x =
       match-bool (is_proposing w old) (TakesBehind meaning (who me group) counter (in_step old out) (in_step new later)) (StaysAs (in_step old out) (in_step new later)) x
-      (λ own t. changes.takes-behind-did meaning group me came old new counter out later kept t)
+      (λ own t. changes.takes-behind-did meaning (who me group) came counter (in_step old out) (in_step new later) kept t)
       (λ other s. stays came old new out later s)
 
   says-again : (came : Option Posted) (q : Address) (old new : MemberState S) (out later : Output) → IsMemberState (who me group) old → SaysAgain q (in_step old out) (in_step new later) → DidThis came (in_step old out) (in_step new later)
   says-again came q old new out later kept x =
-      subst (λ (z : MemberState S). DidThis came (in_step old out) (in_step z later)) (sym x.member_state) (changes.installs-again-did meaning group me came q old out later kept x.again)
+      subst (λ (z : MemberState S). DidThis came (in_step old out) (in_step z later)) (sym x.member_state) (changes.installs-again-did meaning (who me group) came q old out later kept x.again)
 
   unexpected : (came : Option Posted) (q : Address) (w : ViewId) (old new : MemberState S) (out later : Output) → IsMemberState (who me group) old
       → MatchBool (is_in w old) (SaysAgain q (in_step old out) (in_step new later)) (StaysAs (in_step old out) (in_step new later)) → DidThis came (in_step old out) (in_step new later)
@@ -267,7 +267,7 @@ module _ {S : Type 0} (meaning : Meaning S) (group : List ℕ) (me : Address) wh
       → OnReport meaning (who me group) q w r (in_step old out) (in_step new later) → DidThis came (in_step old out) (in_step new later)
   report-did came q w r old new out later kept came_so x =
       match-bool (expects q w old) (TakesReport meaning (who me group) q w r (in_step old out) (in_step new later)) (MatchBool (is_in w old) (SaysAgain q (in_step old out) (in_step new later)) (StaysAs (in_step old out) (in_step new later))) x
-      (λ awaited t. changes.takes-report-did meaning group me came old new q w r out later kept t came_so)
+      (λ awaited t. changes.takes-report-did meaning (who me group) came q w r (in_step old out) (in_step new later) kept t came_so)
       (λ other y. unexpected came q w old new out later kept y)
 
   -- ---- time passes

@@ -10,6 +10,8 @@ use Rattle.member_views.proofs.ActsOfRules as acts
 use Rattle.member_views.proofs.FactOfCalm as calm
 use Rattle.member.proofs.rules.hear.Goals as goal
 use Rattle.std.proofs.lemmas.Bool.{not-true}
+use Rattle.step_output.specs.Steps.{who_of}
+use Rattle.membership.specs.InSteps.{in_step}
 
 pub returns-in_ok-on_join-in-Join-clause-ordered : goal.returns-in_ok-on_join-in-Join-clause-ordered
 returns-in_ok-on_join-in-Join-clause-ordered g c =
@@ -84,7 +86,7 @@ returns-in_ok-take_install-in-Install-clause-ordered g c =
 
 pub returns-in_ok-take_install-in-Install-clause-did : goal.returns-in_ok-take_install-in-Install-clause-did
 returns-in_ok-take_install-in-Install-clause-did g c =
-    takes-install-did g.R.Receiver.meaning c.args.who.now.group c.args.who.now.address _ c.args.member_state.now c.take_install.new.self c.args.source c.in-Install.install c.args.out.now c.take_install.new.out c.requires.member_state
+    takes-install-did g.R.Receiver.meaning (who_of c.args.who.now) _ c.args.source c.in-Install.install (in_step c.args.member_state.now c.args.out.now) (in_step c.take_install.new.self c.take_install.new.out) c.requires.member_state
     c.in_ok-take_install-in-Install.ensures.takes (ap (λ (b : Body). Some (packet c.args.source b c.args.who.now.address)) c.in-Install.is)
 
 pub returns-in_ok-take_install-in-Install-clause-calm : goal.returns-in_ok-take_install-in-Install-clause-calm
