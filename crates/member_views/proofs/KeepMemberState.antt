@@ -23,17 +23,17 @@ module _ {S : Type 0} (group : List ℕ) (me : Address) where
   -- ---- it notes, where it has a view
 
   outdated-in : (view : Option View) (q : Address) (l new : MemberState S) → IsMemberState (who me group) l → new ≡ record l { notes = option_map_or (λ v. outdating me v.members q l.notes) view l.notes } → IsMemberState (who me group) new
-  outdated-in None q l new x is = notes.same-suspects-member_state group me l new l.notes x is refl
-  outdated-in (Some v) q l new x is = notes.outdated-member_state group me l new v.members q x is
+  outdated-in None q l new x is = notes.same-suspects-member_state (who me group) l new l.notes x is refl
+  outdated-in (Some v) q l new x is = notes.outdated-member_state (who me group) l new v.members q x is
 
   joined-in : (view : Option View) (listed : List Address) (q : Address) (l new : MemberState S) → IsMemberState (who me group) l
       → new ≡ record l { notes = option_map_or (λ v. noting me v.members listed q l.notes) view l.notes } → IsMemberState (who me group) new
-  joined-in None listed q l new x is = notes.same-suspects-member_state group me l new l.notes x is refl
-  joined-in (Some v) listed q l new x is = notes.joiner-member_state group me l new v.members listed q x is
+  joined-in None listed q l new x is = notes.same-suspects-member_state (who me group) l new l.notes x is refl
+  joined-in (Some v) listed q l new x is = notes.joiner-member_state (who me group) l new v.members listed q x is
 
   merged-in : (view : Option View) (u : View) (l new : MemberState S) → IsMemberState (who me group) l → new ≡ record l { notes = option_map_or (λ v. noting_view me v.members u l.notes) view l.notes } → IsMemberState (who me group) new
-  merged-in None u l new x is = notes.same-suspects-member_state group me l new l.notes x is refl
-  merged-in (Some v) u l new x is = notes.merging-member_state group me l new v.members u x is
+  merged-in None u l new x is = notes.same-suspects-member_state (who me group) l new l.notes x is refl
+  merged-in (Some v) u l new x is = notes.merging-member_state (who me group) l new v.members u x is
 
   pub outdated-member_state : (q : Address) (l new : MemberState S) → IsMemberState (who me group) l → new ≡ outdated me q l → IsMemberState (who me group) new
   outdated-member_state q l new x is = outdated-in (view_in l.view_state) q l new x is
@@ -47,7 +47,7 @@ module _ {S : Type 0} (group : List ℕ) (me : Address) where
   -- ---- it asks
 
   pub asked-member_state : (contact : Address) (l : MemberState S) → IsMemberState (who me group) l → IsMemberState (who me group) (record l { contact = Some contact })
-  asked-member_state contact l x = lives.contact-member_state group me l _ contact x refl
+  asked-member_state contact l x = lives.contact-member_state (who me group) l _ contact x refl
 
   -- ---- it makes a first view of itself alone
 
@@ -58,5 +58,5 @@ module _ {S : Type 0} (group : List ℕ) (me : Address) where
       → new ≡ record l { view_state = Some (fresh_in me (lone_view me)); promise = record { member = l.promise.member; proposal = Some (lone_view me); is_installed = true } }
       → IsMemberState (who me group) new
   created-member_state l new x idle is =
-      lives.created-member_state group me l new x idle
+      lives.created-member_state (who me group) l new x idle
       (is ∙ ap (λ (p : Address). record l { view_state = Some (fresh_in me (lone_view me)); promise = record { member = p; proposal = Some (lone_view me); is_installed = true } }) x.own)

@@ -44,7 +44,7 @@ use Rattle.membership.proofs.KeepMemberState.{installed_as, own-installed, other
 use Rattle.membership.proofs.KeepNotes.{heard-member_state, suspected-member_state}
 use Rattle.membership.proofs.FactOfProposed.{IsProposal, due-is-proposal, anew-is-proposal}
 use Rattle.address.proofs.Plain.{match-bool}
-use Rattle.step_output.specs.Steps.{Who}
+use Rattle.step_output.specs.Steps.{Who, who}
 use Rattle.membership.specs.InSteps.{InStep, in_step}
 
 -- ---- what a flush says, in the words of agreement
@@ -117,7 +117,7 @@ module _ {S : Type 0} (meaning : Meaning S) (who : Who) where
   proposes-did came old new kept x =
       match-option (due_proposal (core_of who.address old.member) old.member.notes) (StaysAs old new) (λ w. Begins who w old new) x
       (λ s. stays-did meaning came who old new s.0 s.1)
-      (λ w e b. begins-did came w old new kept (due-is-proposal who.group who.address old.member w kept e) b)
+      (λ w e b. begins-did came w old new kept (due-is-proposal who old.member w kept e) b)
 
   -- ---- a flush is finished
 
@@ -169,7 +169,7 @@ module _ {S : Type 0} (meaning : Meaning S) (who : Who) where
       finishes-either old new x (λ s. stays-did meaning came who old new s.0 s.1)
       (λ f t flush inside complete z.
       did-then meaning came who old z.mid new (finished-did came f t old z.mid kept flush inside complete z.finishes)
-      (proposes-did came z.mid new (finished-member_state who.group who.address meaning f t old.member old.member z.mid.member old.out z.mid.out kept flush refl z.finishes) z.proposes))
+      (proposes-did came z.mid new (finished-member_state who meaning f t old.member old.member z.mid.member old.out z.mid.out kept flush refl z.finishes) z.proposes))
 
   -- ---- it begins, and goes on
 
@@ -177,19 +177,19 @@ module _ {S : Type 0} (meaning : Meaning S) (who : Who) where
       → DidThis came old new
   begins-on-did came w old new kept p x =
       did-then meaning came who old x.mid new (begins-did came w old x.mid kept p x.begins)
-      (goes-on-did came x.mid new (begun-member_state who.group who.address old.member x.mid.member w old.out x.mid.out kept p x.begins) x.goes_on)
+      (goes-on-did came x.mid new (begun-member_state who w (in_step old.member old.out) (in_step x.mid.member x.mid.out) kept p x.begins) x.goes_on)
 
   pub regroups-did : (came : Option Posted) (old new : InStep S) → IsMemberState who old.member → Regroups meaning who old new → DidThis came old new
   regroups-did came old new kept x =
       match-option (due_proposal (core_of who.address old.member) old.member.notes) (StaysAs old new) (λ w. BeginsAndGoesOn meaning who w old new) x
       (λ s. stays-did meaning came who old new s.0 s.1)
-      (λ w e b. begins-on-did came w old new kept (due-is-proposal who.group who.address old.member w kept e) b)
+      (λ w e b. begins-on-did came w old new kept (due-is-proposal who old.member w kept e) b)
 
   pub begins-anew-did : (came : Option Posted) (old new : InStep S) → IsMemberState who old.member → BeginsAnew meaning who old new → DidThis came old new
   begins-anew-did came old new kept x =
       match-option (anew_proposal who.address old.member) (StaysAs old new) (λ w. BeginsAndGoesOn meaning who w old new) x
       (λ s. stays-did meaning came who old new s.0 s.1)
-      (λ w e b. begins-on-did came w old new kept (anew-is-proposal who.group who.address old.member w kept e) b)
+      (λ w e b. begins-on-did came w old new kept (anew-is-proposal who old.member w kept e) b)
 
   -- ---- a REPORT
 
@@ -225,7 +225,7 @@ module _ {S : Type 0} (meaning : Meaning S) (who : Who) where
       let mid = record (old.member) { flush = option_map (recording q w r) old.member.flush } in
       did-then meaning came who old (in_step mid old.out) new
       (subst (λ (m : Option Posted). DidThis m old (in_step mid old.out)) (sym came_so) (flush-by old.member.flush old.member q w r old.out refl))
-      (goes-on-did came (in_step mid old.out) new (recorded-member_state who.group who.address old.member mid q w r kept refl) x)
+      (goes-on-did came (in_step mid old.out) new (recorded-member_state who old.member mid q w r kept refl) x)
 
   -- ---- an INSTALL again
 
@@ -262,7 +262,7 @@ module _ {S : Type 0} (meaning : Meaning S) (who : Who) where
       → DidThis came old new
   takes-behind-did came counter old new kept x =
       let heard = record (old.member) { notes = having_heard counter old.member.notes } in
-      let member_state = heard-member_state who.group who.address old.member heard counter kept refl in
+      let member_state = heard-member_state who old.member heard counter kept refl in
       did-then meaning came who old (in_step heard old.out) new (noted-did meaning came who old.member heard (having_heard counter old.member.notes) old.out refl)
       (begins-anew-did came (in_step heard old.out) new member_state x)
 
@@ -271,7 +271,7 @@ module _ {S : Type 0} (meaning : Meaning S) (who : Who) where
   takes-suspicion-did came p old new kept x other =
       let noted = record (old.member) { notes = suspecting p old.member.notes } in
       did-then meaning came who old (in_step noted old.out) new (noted-did meaning came who old.member noted (suspecting p old.member.notes) old.out refl)
-      (regroups-did came (in_step noted old.out) new (suspected-member_state who.group who.address old.member noted p kept other refl) x)
+      (regroups-did came (in_step noted old.out) new (suspected-member_state who old.member noted p kept other refl) x)
 
   -- ---- an INSTALL
 
