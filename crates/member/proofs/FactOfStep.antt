@@ -247,7 +247,7 @@ module _ {S : Type 0} (meaning : Meaning S) (p : Address) (group : List ℕ) whe
       → Holds (Some old) Create (Ok out) (Some new)
   create-handled old new start out kept off nothing x runs =
       let happens : out.events.items ≡ Installed (lone_install p) ∷ [] = only start out _ nothing x.grows.events in
-      ok-handled old new Create start out nothing (create-did meaning group p None old new start out kept off x)
+      ok-handled old new Create start out nothing (create-did meaning (who p group) None (in_step old start) (in_step new out) kept off x)
       (ap (λ b. if b then Some (Refused AlreadyConnected) else None) off) refl (happens, ap is_connected x.member_state) tt x (λ i. absurd (let n : false ≡ true = i in cc))
       (subst (λ l. length l ≤ STEP_EVENTS) (sym happens) (omega arith)) runs
 
@@ -259,7 +259,7 @@ module _ {S : Type 0} (meaning : Meaning S) (p : Address) (group : List ℕ) whe
       → IsRunning (who p group) new → Holds (Some old) (Join contact) (Ok out) (Some new)
   join-handled contact old new start out kept none nothing x runs =
       let happens : out.events.items ≡ [] = only start out _ nothing x.grows.events in
-      ok-handled old new (Join contact) start out nothing (ask-did meaning group p None contact old new start out kept none x) (view-none old.view_state none) refl
+      ok-handled old new (Join contact) start out nothing (ask-did meaning (who p group) None contact (in_step old start) (in_step new out) kept none x) (view-none old.view_state none) refl
       (happens, ap is_connected x.member_state ∙ ap (λ (t : Option ViewState). is_some t || true) none) tt x (λ i. absurd (let n : false ≡ true = i in cc))
       (subst (λ l. length l ≤ STEP_EVENTS) (sym happens) (omega arith)) runs
 
@@ -352,7 +352,7 @@ module _ {S : Type 0} (meaning : Meaning S) (p : Address) (group : List ℕ) whe
 
   suspect-off : (q : Address) (old new : MemberState S) (start out : Output) → is_connected old ≡ false → OnSuspect meaning (who p group) q (in_step old start) (in_step new out) → is_connected new ≡ is_connected old
   suspect-off q old new start out off x =
-      let none = outside group p old off in
+      let none = outside (who p group) old off in
       let e : is_suspectable p q old ≡ false = ap (λ (t : Option ViewState). (is_some t && not (same_address q p)) && (has_member q old || has_promised q old)) none in
       let y : StaysAs (in_step old start) (in_step new out) = subst (λ (b : Bool). MatchBool b (TakesSuspicion meaning (who p group) q (in_step old start) (in_step new out)) (StaysAs (in_step old start) (in_step new out))) e x in
       ap is_connected y.0
@@ -360,7 +360,7 @@ module _ {S : Type 0} (meaning : Meaning S) (p : Address) (group : List ℕ) whe
   pub suspect-handled : (q : Address) (old new : MemberState S) (start out : Output) → IsMemberState (who p group) old → Puts [] [] start → OnSuspect meaning (who p group) q (in_step old start) (in_step new out) → IsCalm (WINDOW + 3) start out
       → (is_suspectable p q old ≡ false → StaysAs (in_step old start) (in_step new out)) → IsRunning (who p group) new → Holds (Some old) (Suspect q) (Ok out) (Some new)
   suspect-handled q old new start out kept nothing x calm stays runs =
-      let did = suspect-did meaning group p None q old new start out kept x in
+      let did = suspect-did meaning (who p group) None q (in_step old start) (in_step new out) kept x in
       ok-handled old new (Suspect q) start out nothing did refl refl
       (calm-quiet (WINDOW + 3) start out nothing calm, stays-so (is_connected old) None old new start out refl (λ off. suspect-off q old new start out off x) did) tt x
       (λ i. let y = stays (not-true (is_suspectable p q old) i) in (same-nothing start out nothing y.1, ap {B = MemberModel S} (λ (l : MemberState S). at (Some l)) y.0))
@@ -370,14 +370,14 @@ module _ {S : Type 0} (meaning : Meaning S) (p : Address) (group : List ℕ) whe
       → (is_hint_ignored p q old ≡ true → out ≡ start) → IsRunning (who p group) old → Holds (Some old) (MergeHint q) (Ok out) (Some old)
   hint-handled q old start out kept nothing x stays runs =
       let happens : out.events.items ≡ [] = only start out _ nothing x.grows.events in
-      ok-handled old old (MergeHint q) start out nothing (hint-did meaning group p None q old old start out kept x) refl refl (happens, refl) tt x
+      ok-handled old old (MergeHint q) start out nothing (hint-did meaning (who p group) None q (in_step old start) (in_step old out) kept x) refl refl (happens, refl) tt x
       (λ i. (same-nothing start out nothing (stays i), refl)) (subst (λ l. length l ≤ STEP_EVENTS) (sym happens) (omega arith)) runs
 
   -- ---- it leaves
 
   pub leave-handled : (old : MemberState S) (start out : Output) → Puts [] [] start → Leaves (who p group) (in_step old start) out → Holds (Some old) Leave (Ok out) None
   leave-handled old start out nothing x =
-      let left = leave-acted meaning group p None old start out x in
+      let left = leave-acted meaning (who p group) None old start out x in
       let happens : out.events.items ≡ Left p ∷ [] = only start out _ nothing x.grows.events in
       record {
         acted = record {

@@ -34,8 +34,8 @@ use Rattle.membership.specs.Installs.{delivered_by, lacking, finish_events, ente
 use Rattle.membership.specs.Changes.{StaysAs, TakesBy, TakesFlush, BeginsAndGoesOn, Begins, FinishesAndProposes, GoesOn, Regroups, TakesReport, TakesBehind, TakesSuspicion, TakesInstall, Enters}
 use Rattle.member_views.specs.Views.{OnJoin, OnRedirect, OnSuspect, OnFlush, OnBehind, OnReport, OnMerge, Asks, Redirects, SaysAgain, Admits, Meets, AnnouncesView, outdated, joined, merged, leads_now, has_member, is_less, is_suspectable, is_proposing, expects, is_in}
 use Rattle.flush.proofs.FewItems.{cut-few}
-use Rattle.step_output.specs.Steps.{who}
-use Rattle.membership.specs.InSteps.{in_step}
+use Rattle.step_output.specs.Steps.{Who}
+use Rattle.membership.specs.InSteps.{InStep, in_step}
 
 -- ---- how much is delivered at most
 
@@ -81,158 +81,158 @@ blocked-quiet false p = refl
 silent : (group : List ℕ) (n : ℕ) (ps : List Posted) (out later : Output) → Grows group out later ps [] → IsCalm n out later
 silent group n ps out later g = calm-grown group n out later ps [] g (omega (arith)) refl
 
-module _ {S : Type 0} (me : Address) (group : List ℕ) where
-  stays : (n : ℕ) (old new : MemberState S) (out later : Output) → StaysAs (in_step old out) (in_step new later) → IsCalm n out later
-  stays n old new out later x = subst (λ (z : Output). IsCalm n out z) (sym x.1) (calm-nothing n out)
+module _ {S : Type 0} (who : Who) where
+  stays : (n : ℕ) (old new : InStep S) → StaysAs old new → IsCalm n old.out new.out
+  stays n old new x = subst (λ (z : Output). IsCalm n old.out z) (sym x.1) (calm-nothing n old.out)
 
-  blocked : (ps : List Posted) (old : MemberState S) (out later : Output) → Grows group out later ps (blocked_by me old) → IsCalm 1 out later
-  blocked ps old out later g = let b = is_open (view_in old.view_state) old.promise.is_installed in calm-grown group 1 out later ps (blocked_by me old) g (blocked-few b me) (blocked-quiet b me)
+  blocked : (ps : List Posted) (old : MemberState S) (out later : Output) → Grows who.group out later ps (blocked_by who.address old) → IsCalm 1 out later
+  blocked ps old out later g = let b = is_open (view_in old.view_state) old.promise.is_installed in calm-grown who.group 1 out later ps (blocked_by who.address old) g (blocked-few b who.address) (blocked-quiet b who.address)
 
   module _ (meaning : Meaning S) where
-    begins-by : (o : Option View) (old new : MemberState S) (out later : Output) → MatchOption o (StaysAs (in_step old out) (in_step new later)) (λ w. Begins (who me group) w (in_step old out) (in_step new later)) → IsCalm 1 out later
-    begins-by None old new out later x = stays 1 old new out later x
-    begins-by (Some w) old new out later x = blocked _ old out later x.grows
+    begins-by : (o : Option View) (old new : InStep S) → MatchOption o (StaysAs old new) (λ w. Begins who w old new) → IsCalm 1 old.out new.out
+    begins-by None old new x = stays 1 old new x
+    begins-by (Some w) old new x = blocked _ old.member old.out new.out x.grows
 
-    finishes-events : (f : FlushModel) (t : ViewState) → length (finish_events me f t) ≤ WINDOW + 1
+    finishes-events : (f : FlushModel) (t : ViewState) → length (finish_events who.address f t) ≤ WINDOW + 1
     finishes-events f t =
-        let e = delivered-few me (view_of t).id (delivered_by f t) in
+        let e = delivered-few who.address (view_of t).id (delivered_by f t) in
         let k = delivered_by-few f t in
-        one-more (map (delivery me (view_of t).id) (delivered_by f t)) _ WINDOW (omega (arith, e, k))
+        one-more (map (delivery who.address (view_of t).id) (delivered_by f t)) _ WINDOW (omega (arith, e, k))
 
-    finishes-at : (view_state : Option ViewState) (f : FlushModel) (old new : MemberState S) (out later : Output) → MatchOption view_state ⊥ (λ t. FinishesAndProposes meaning (who me group) f t (in_step old out) (in_step new later)) → IsCalm (WINDOW + 2) out later
-    finishes-at None f old new out later x = absurd x
-    finishes-at (Some t) f old new out later x =
-        let quiet = quiet-then (map (delivery me (view_of t).id) (delivered_by f t)) _ (deliveries-quiet me (view_of t).id (delivered_by f t)) refl in
-        calm-then (WINDOW + 1) 1 out x.mid.out later (calm-grown group (WINDOW + 1) out x.mid.out _ (finish_events me f t) x.finishes.grows (finishes-events f t) quiet)
-        (begins-by (due_proposal (core_of me x.mid.member) x.mid.member.notes) x.mid.member new x.mid.out later x.proposes)
+    finishes-at : (view_state : Option ViewState) (f : FlushModel) (old new : InStep S) → MatchOption view_state ⊥ (λ t. FinishesAndProposes meaning who f t old new) → IsCalm (WINDOW + 2) old.out new.out
+    finishes-at None f old new x = absurd x
+    finishes-at (Some t) f old new x =
+        let quiet = quiet-then (map (delivery who.address (view_of t).id) (delivered_by f t)) _ (deliveries-quiet who.address (view_of t).id (delivered_by f t)) refl in
+        calm-then (WINDOW + 1) 1 old.out x.mid.out new.out (calm-grown who.group (WINDOW + 1) old.out x.mid.out _ (finish_events who.address f t) x.finishes.grows (finishes-events f t) quiet)
+        (begins-by (due_proposal (core_of who.address x.mid.member) x.mid.member.notes) x.mid new x.proposes)
 
-    finishes-when : (b : Bool) (f : FlushModel) (old new : MemberState S) (out later : Output)
-        → MatchBool b (MatchOption old.view_state ⊥ (λ t. FinishesAndProposes meaning (who me group) f t (in_step old out) (in_step new later))) (StaysAs (in_step old out) (in_step new later)) → IsCalm (WINDOW + 2) out later
-    finishes-when true f old new out later x = finishes-at old.view_state f old new out later x
-    finishes-when false f old new out later x = stays (WINDOW + 2) old new out later x
+    finishes-when : (b : Bool) (f : FlushModel) (old new : InStep S)
+        → MatchBool b (MatchOption old.member.view_state ⊥ (λ t. FinishesAndProposes meaning who f t old new)) (StaysAs old new) → IsCalm (WINDOW + 2) old.out new.out
+    finishes-when true f old new x = finishes-at old.member.view_state f old new x
+    finishes-when false f old new x = stays (WINDOW + 2) old new x
 
-    finishes-by : (o : Option FlushModel) (old new : MemberState S) (out later : Output)
-        → MatchOption o (StaysAs (in_step old out) (in_step new later))
-        (λ f. MatchBool (is_complete f) (MatchOption old.view_state ⊥ (λ t. FinishesAndProposes meaning (who me group) f t (in_step old out) (in_step new later))) (StaysAs (in_step old out) (in_step new later))) → IsCalm (WINDOW + 2) out later
-    finishes-by None old new out later x = stays (WINDOW + 2) old new out later x
-    finishes-by (Some f) old new out later x = finishes-when (is_complete f) f old new out later x
+    finishes-by : (o : Option FlushModel) (old new : InStep S)
+        → MatchOption o (StaysAs old new)
+        (λ f. MatchBool (is_complete f) (MatchOption old.member.view_state ⊥ (λ t. FinishesAndProposes meaning who f t old new)) (StaysAs old new)) → IsCalm (WINDOW + 2) old.out new.out
+    finishes-by None old new x = stays (WINDOW + 2) old new x
+    finishes-by (Some f) old new x = finishes-when (is_complete f) f old new x
 
-    goes-on : (old new : MemberState S) (out later : Output) → GoesOn meaning (who me group) (in_step old out) (in_step new later) → IsCalm (WINDOW + 2) out later
-    goes-on old new out later x = finishes-by old.flush old new out later x
+    goes-on : (old new : InStep S) → GoesOn meaning who old new → IsCalm (WINDOW + 2) old.out new.out
+    goes-on old new x = finishes-by old.member.flush old new x
 
-    goes-on-by : (o : Option View) (old new : MemberState S) (out later : Output) → MatchOption o (StaysAs (in_step old out) (in_step new later)) (λ w. BeginsAndGoesOn meaning (who me group) w (in_step old out) (in_step new later)) → IsCalm (WINDOW + 3) out later
-    goes-on-by None old new out later x = stays (WINDOW + 3) old new out later x
-    goes-on-by (Some w) old new out later x = calm-then 1 (WINDOW + 2) out x.mid.out later (blocked _ old out x.mid.out x.begins.grows) (goes-on x.mid.member new x.mid.out later x.goes_on)
+    goes-on-by : (o : Option View) (old new : InStep S) → MatchOption o (StaysAs old new) (λ w. BeginsAndGoesOn meaning who w old new) → IsCalm (WINDOW + 3) old.out new.out
+    goes-on-by None old new x = stays (WINDOW + 3) old new x
+    goes-on-by (Some w) old new x = calm-then 1 (WINDOW + 2) old.out x.mid.out new.out (blocked _ old.member old.out x.mid.out x.begins.grows) (goes-on x.mid new x.goes_on)
 
-    pub regroups : (old new : MemberState S) (out later : Output) → Regroups meaning (who me group) (in_step old out) (in_step new later) → IsCalm (WINDOW + 3) out later
-    regroups old new out later x = goes-on-by (due_proposal (core_of me old) old.notes) old new out later x
+    pub regroups : (old new : InStep S) → Regroups meaning who old new → IsCalm (WINDOW + 3) old.out new.out
+    regroups old new x = goes-on-by (due_proposal (core_of who.address old.member) old.member.notes) old new x
 
-    takes-by : (a : OfferAnswer) (w : View) (old new : MemberState S) (out later : Output) → TakesBy (who me group) a w (in_step old out) (in_step new later) → IsCalm (WINDOW + 3) out later
-    takes-by Accept w old new out later x = calm-wider 1 (WINDOW + 3) out later (omega (arith)) (blocked _ old out later x.grows)
-    takes-by (Behind counter) w old new out later x = silent group (WINDOW + 3) _ out later x.1
-    takes-by Ignore w old new out later x = stays (WINDOW + 3) old new out later x
+    takes-by : (a : OfferAnswer) (w : View) (old new : InStep S) → TakesBy who a w old new → IsCalm (WINDOW + 3) old.out new.out
+    takes-by Accept w old new x = calm-wider 1 (WINDOW + 3) old.out new.out (omega (arith)) (blocked _ old.member old.out new.out x.grows)
+    takes-by (Behind counter) w old new x = silent who.group (WINDOW + 3) _ old.out new.out x.1
+    takes-by Ignore w old new x = stays (WINDOW + 3) old new x
 
-    behind : (counter : ℕ) (old new : MemberState S) (out later : Output) → TakesBehind meaning (who me group) counter (in_step old out) (in_step new later) → IsCalm (WINDOW + 3) out later
-    behind counter old new out later x =
-        let heard = record old { notes = having_heard counter old.notes } in goes-on-by (anew_proposal me heard) heard new out later x
+    behind : (counter : ℕ) (old new : InStep S) → TakesBehind meaning who counter old new → IsCalm (WINDOW + 3) old.out new.out
+    behind counter old new x =
+        let heard = record (old.member) { notes = having_heard counter old.member.notes } in goes-on-by (anew_proposal who.address heard) (in_step heard old.out) new x
 
-    enters-in : (view_state : Option ViewState) (i : wire.Install) → length i.items ≤ WINDOW → (length (enter_events me view_state i) ≤ WINDOW + 1) × (list_all is_quiet (enter_events me view_state i) ≡ true)
+    enters-in : (view_state : Option ViewState) (i : wire.Install) → length i.items ≤ WINDOW → (length (enter_events who.address view_state i) ≤ WINDOW + 1) × (list_all is_quiet (enter_events who.address view_state i) ≡ true)
     enters-in None i few = (omega (arith), refl)
     enters-in (Some t) i few =
         let l = lacking (Some t) i in
         let a = shorter ((view_core_of t).delivered - i.base) i.items in
-        let e = delivered-few me (view_of t).id l in
-        (one-more (map (delivery me (view_of t).id) l) _ WINDOW (omega (arith, e, a, few)), quiet-then (map (delivery me (view_of t).id) l) _ (deliveries-quiet me (view_of t).id l) refl)
+        let e = delivered-few who.address (view_of t).id l in
+        (one-more (map (delivery who.address (view_of t).id) l) _ WINDOW (omega (arith, e, a, few)), quiet-then (map (delivery who.address (view_of t).id) l) _ (deliveries-quiet who.address (view_of t).id l) refl)
 
-    entry-by : (b : Bool) (A : Type 0) (i : wire.Install) (old new : MemberState S) (out later : Output) → length i.items ≤ WINDOW
-        → MatchBool b (A × Enters meaning (who me group) old.view_state i (in_step old out) (in_step new later)) (StaysAs (in_step old out) (in_step new later)) → IsCalm (WINDOW + 3) out later
-    entry-by true A i old new out later few x =
-        let k = enters-in old.view_state i few in
-        calm-wider (WINDOW + 1) (WINDOW + 3) out later (omega (arith)) (calm-grown group (WINDOW + 1) out later [] (enter_events me old.view_state i) x.1.grows k.0 k.1)
-    entry-by false A i old new out later few x = stays (WINDOW + 3) old new out later x
+    entry-by : (b : Bool) (A : Type 0) (i : wire.Install) (old new : InStep S) → length i.items ≤ WINDOW
+        → MatchBool b (A × Enters meaning who old.member.view_state i old new) (StaysAs old new) → IsCalm (WINDOW + 3) old.out new.out
+    entry-by true A i old new few x =
+        let k = enters-in old.member.view_state i few in
+        calm-wider (WINDOW + 1) (WINDOW + 3) old.out new.out (omega (arith)) (calm-grown who.group (WINDOW + 1) old.out new.out [] (enter_events who.address old.member.view_state i) x.1.grows k.0 k.1)
+    entry-by false A i old new few x = stays (WINDOW + 3) old new x
 
     -- ---- by the packet that came, or the input
 
-    pub install-calm : (q : Address) (i : wire.Install) (old new : MemberState S) (out later : Output) → length i.items ≤ WINDOW → TakesInstall meaning (who me group) q i (in_step old out) (in_step new later) → IsCalm (WINDOW + 3) out later
-    install-calm q i old new out later few x = entry-by (is_entry (core_of me old) q i) _ i old new out later few x
+    pub install-calm : (q : Address) (i : wire.Install) (old new : InStep S) → length i.items ≤ WINDOW → TakesInstall meaning who q i old new → IsCalm (WINDOW + 3) old.out new.out
+    install-calm q i old new few x = entry-by (is_entry (core_of who.address old.member) q i) _ i old new few x
 
-    announces : (p : Address) (old new : MemberState S) (out later : Output) → AnnouncesView (who me group) p (in_step old out) (in_step new later) → IsCalm (WINDOW + 3) out later
-    announces p old new out later x = silent group (WINDOW + 3) _ out later x.grows
+    announces : (p : Address) (old new : InStep S) → AnnouncesView who p old new → IsCalm (WINDOW + 3) old.out new.out
+    announces p old new x = silent who.group (WINDOW + 3) _ old.out new.out x.grows
 
-    admits-by : (b : Bool) (q : Address) (l new : MemberState S) (out later : Output)
-        → MatchBool b (Regroups meaning (who me group) (in_step (joined me q l) out) (in_step new later)) (Redirects (who me group) q (in_step l out) (in_step new later)) → IsCalm (WINDOW + 3) out later
-    admits-by true q l new out later x = regroups (joined me q l) new out later x
-    admits-by false q l new out later x = silent group (WINDOW + 3) _ out later x.grows
+    admits-by : (b : Bool) (q : Address) (l new : InStep S)
+        → MatchBool b (Regroups meaning who (in_step (joined who.address q l.member) l.out) new) (Redirects who q l new) → IsCalm (WINDOW + 3) l.out new.out
+    admits-by true q l new x = regroups (in_step (joined who.address q l.member) l.out) new x
+    admits-by false q l new x = silent who.group (WINDOW + 3) _ l.out new.out x.grows
 
-    join-by : (b : Bool) (q : Address) (old new : MemberState S) (out later : Output)
-        → MatchBool b (Admits meaning (who me group) q (in_step (outdated me q old) out) (in_step new later)) (StaysAs (in_step old out) (in_step new later)) → IsCalm (WINDOW + 3) out later
-    join-by true q old new out later x = admits-by (leads_now me (outdated me q old)) q (outdated me q old) new out later x
-    join-by false q old new out later x = stays (WINDOW + 3) old new out later x
+    join-by : (b : Bool) (q : Address) (old new : InStep S)
+        → MatchBool b (Admits meaning who q (in_step (outdated who.address q old.member) old.out) new) (StaysAs old new) → IsCalm (WINDOW + 3) old.out new.out
+    join-by true q old new x = admits-by (leads_now who.address (outdated who.address q old.member)) q (in_step (outdated who.address q old.member) old.out) new x
+    join-by false q old new x = stays (WINDOW + 3) old new x
 
-    pub join-calm : (q : Address) (old new : MemberState S) (out later : Output) → OnJoin meaning (who me group) q (in_step old out) (in_step new later) → IsCalm (WINDOW + 3) out later
-    join-calm q old new out later x = join-by (is_some old.view_state) q old new out later x
+    pub join-calm : (q : Address) (old new : InStep S) → OnJoin meaning who q old new → IsCalm (WINDOW + 3) old.out new.out
+    join-calm q old new x = join-by (is_some old.member.view_state) q old new x
 
-    redirect-in : (b : Bool) (c : Address) (old new : MemberState S) (out later : Output) → MatchBool b (AnnouncesView (who me group) c (in_step old out) (in_step new later)) (Asks (who me group) c (in_step old out) (in_step new later)) → IsCalm (WINDOW + 3) out later
-    redirect-in true c old new out later x = announces c old new out later x
-    redirect-in false c old new out later x = silent group (WINDOW + 3) _ out later x.grows
+    redirect-in : (b : Bool) (c : Address) (old new : InStep S) → MatchBool b (AnnouncesView who c old new) (Asks who c old new) → IsCalm (WINDOW + 3) old.out new.out
+    redirect-in true c old new x = announces c old new x
+    redirect-in false c old new x = silent who.group (WINDOW + 3) _ old.out new.out x.grows
 
-    redirect-by : (b : Bool) (c : Address) (old new : MemberState S) (out later : Output)
-        → MatchBool b (StaysAs (in_step old out) (in_step new later)) (MatchBool (is_some old.view_state) (AnnouncesView (who me group) c (in_step old out) (in_step new later)) (Asks (who me group) c (in_step old out) (in_step new later))) → IsCalm (WINDOW + 3) out later
-    redirect-by true c old new out later x = stays (WINDOW + 3) old new out later x
-    redirect-by false c old new out later x = redirect-in (is_some old.view_state) c old new out later x
+    redirect-by : (b : Bool) (c : Address) (old new : InStep S)
+        → MatchBool b (StaysAs old new) (MatchBool (is_some old.member.view_state) (AnnouncesView who c old new) (Asks who c old new)) → IsCalm (WINDOW + 3) old.out new.out
+    redirect-by true c old new x = stays (WINDOW + 3) old new x
+    redirect-by false c old new x = redirect-in (is_some old.member.view_state) c old new x
 
-    pub redirect-calm : (c : Address) (old new : MemberState S) (out later : Output) → OnRedirect (who me group) c (in_step old out) (in_step new later) → IsCalm (WINDOW + 3) out later
-    redirect-calm c old new out later x = redirect-by (same_address c me) c old new out later x
+    pub redirect-calm : (c : Address) (old new : InStep S) → OnRedirect who c old new → IsCalm (WINDOW + 3) old.out new.out
+    redirect-calm c old new x = redirect-by (same_address c who.address) c old new x
 
-    suspect-by : (b : Bool) (p : Address) (old new : MemberState S) (out later : Output) → MatchBool b (TakesSuspicion meaning (who me group) p (in_step old out) (in_step new later)) (StaysAs (in_step old out) (in_step new later)) → IsCalm (WINDOW + 3) out later
-    suspect-by true p old new out later x = regroups (record old { notes = suspecting p old.notes }) new out later x
-    suspect-by false p old new out later x = stays (WINDOW + 3) old new out later x
+    suspect-by : (b : Bool) (p : Address) (old new : InStep S) → MatchBool b (TakesSuspicion meaning who p old new) (StaysAs old new) → IsCalm (WINDOW + 3) old.out new.out
+    suspect-by true p old new x = regroups (in_step (record (old.member) { notes = suspecting p old.member.notes }) old.out) new x
+    suspect-by false p old new x = stays (WINDOW + 3) old new x
 
-    pub suspect-calm : (p : Address) (old new : MemberState S) (out later : Output) → OnSuspect meaning (who me group) p (in_step old out) (in_step new later) → IsCalm (WINDOW + 3) out later
-    suspect-calm p old new out later x = suspect-by (is_suspectable me p old) p old new out later x
+    pub suspect-calm : (p : Address) (old new : InStep S) → OnSuspect meaning who p old new → IsCalm (WINDOW + 3) old.out new.out
+    suspect-calm p old new x = suspect-by (is_suspectable who.address p old.member) p old new x
 
-    flush-by : (b : Bool) (w : View) (old new : MemberState S) (out later : Output) → MatchBool b (TakesFlush (who me group) w (in_step old out) (in_step new later)) (StaysAs (in_step old out) (in_step new later)) → IsCalm (WINDOW + 3) out later
-    flush-by true w old new out later x = takes-by (offered w old.promise) w old new out later x
-    flush-by false w old new out later x = stays (WINDOW + 3) old new out later x
+    flush-by : (b : Bool) (w : View) (old new : InStep S) → MatchBool b (TakesFlush who w old new) (StaysAs old new) → IsCalm (WINDOW + 3) old.out new.out
+    flush-by true w old new x = takes-by (offered w old.member.promise) w old new x
+    flush-by false w old new x = stays (WINDOW + 3) old new x
 
-    pub flush-calm : (q : Address) (w : View) (old new : MemberState S) (out later : Output) → OnFlush (who me group) q w (in_step old out) (in_step new later) → IsCalm (WINDOW + 3) out later
-    flush-calm q w old new out later x = flush-by (same_address w.id.creator q) w old new out later x
+    pub flush-calm : (q : Address) (w : View) (old new : InStep S) → OnFlush who q w old new → IsCalm (WINDOW + 3) old.out new.out
+    flush-calm q w old new x = flush-by (same_address w.id.creator q) w old new x
 
-    behind-by : (b : Bool) (counter : ℕ) (old new : MemberState S) (out later : Output) → MatchBool b (TakesBehind meaning (who me group) counter (in_step old out) (in_step new later)) (StaysAs (in_step old out) (in_step new later)) → IsCalm (WINDOW + 3) out later
-    behind-by true counter old new out later x = behind counter old new out later x
-    behind-by false counter old new out later x = stays (WINDOW + 3) old new out later x
+    behind-by : (b : Bool) (counter : ℕ) (old new : InStep S) → MatchBool b (TakesBehind meaning who counter old new) (StaysAs old new) → IsCalm (WINDOW + 3) old.out new.out
+    behind-by true counter old new x = behind counter old new x
+    behind-by false counter old new x = stays (WINDOW + 3) old new x
 
-    pub behind-calm : (w : ViewId) (counter : ℕ) (old new : MemberState S) (out later : Output) → OnBehind meaning (who me group) w counter (in_step old out) (in_step new later) → IsCalm (WINDOW + 3) out later
-    behind-calm w counter old new out later x = behind-by (is_proposing w old) counter old new out later x
+    pub behind-calm : (w : ViewId) (counter : ℕ) (old new : InStep S) → OnBehind meaning who w counter old new → IsCalm (WINDOW + 3) old.out new.out
+    behind-calm w counter old new x = behind-by (is_proposing w old.member) counter old new x
 
-    again-by : (b : Bool) (q : Address) (old new : MemberState S) (out later : Output)
-        → MatchBool b (SaysAgain q (in_step old out) (in_step new later)) (StaysAs (in_step old out) (in_step new later)) → IsCalm (WINDOW + 3) out later
-    again-by true q old new out later x = record { more = []; grows = x.again.events ∙ sym (append-nil out.events.items); few = omega (arith); quiet = refl }
-    again-by false q old new out later x = stays (WINDOW + 3) old new out later x
+    again-by : (b : Bool) (q : Address) (old new : InStep S)
+        → MatchBool b (SaysAgain q old new) (StaysAs old new) → IsCalm (WINDOW + 3) old.out new.out
+    again-by true q old new x = record { more = []; grows = x.again.events ∙ sym (append-nil old.out.events.items); few = omega (arith); quiet = refl }
+    again-by false q old new x = stays (WINDOW + 3) old new x
 
-    report-by : (b d : Bool) (q : Address) (w : ViewId) (r : wire.Report) (old new : MemberState S) (out later : Output)
-        → MatchBool b (TakesReport meaning (who me group) q w r (in_step old out) (in_step new later)) (MatchBool d (SaysAgain q (in_step old out) (in_step new later)) (StaysAs (in_step old out) (in_step new later))) → IsCalm (WINDOW + 3) out later
-    report-by true d q w r old new out later x = calm-wider (WINDOW + 2) (WINDOW + 3) out later (omega (arith)) (goes-on (record old { flush = option_map (recording q w r) old.flush }) new out later x)
-    report-by false d q w r old new out later x = again-by d q old new out later x
+    report-by : (b d : Bool) (q : Address) (w : ViewId) (r : wire.Report) (old new : InStep S)
+        → MatchBool b (TakesReport meaning who q w r old new) (MatchBool d (SaysAgain q old new) (StaysAs old new)) → IsCalm (WINDOW + 3) old.out new.out
+    report-by true d q w r old new x = calm-wider (WINDOW + 2) (WINDOW + 3) old.out new.out (omega (arith)) (goes-on (in_step (record (old.member) { flush = option_map (recording q w r) old.member.flush }) old.out) new x)
+    report-by false d q w r old new x = again-by d q old new x
 
-    pub report-calm : (q : Address) (w : ViewId) (r : wire.Report) (old new : MemberState S) (out later : Output) → OnReport meaning (who me group) q w r (in_step old out) (in_step new later) → IsCalm (WINDOW + 3) out later
-    report-calm q w r old new out later x = report-by (expects q w old) (is_in w old) q w r old new out later x
+    pub report-calm : (q : Address) (w : ViewId) (r : wire.Report) (old new : InStep S) → OnReport meaning who q w r old new → IsCalm (WINDOW + 3) old.out new.out
+    report-calm q w r old new x = report-by (expects q w old.member) (is_in w old.member) q w r old new x
 
-    meets-by : (b : Bool) (q : Address) (u : View) (old new : MemberState S) (out later : Output)
-        → MatchBool b (AnnouncesView (who me group) q (in_step old out) (in_step new later)) (Regroups meaning (who me group) (in_step (merged me u old) out) (in_step new later)) → IsCalm (WINDOW + 3) out later
-    meets-by true q u old new out later x = announces q old new out later x
-    meets-by false q u old new out later x = regroups (merged me u old) new out later x
+    meets-by : (b : Bool) (q : Address) (u : View) (old new : InStep S)
+        → MatchBool b (AnnouncesView who q old new) (Regroups meaning who (in_step (merged who.address u old.member) old.out) new) → IsCalm (WINDOW + 3) old.out new.out
+    meets-by true q u old new x = announces q old new x
+    meets-by false q u old new x = regroups (in_step (merged who.address u old.member) old.out) new x
 
-    merge-in : (b : Bool) (q : Address) (u : View) (old new : MemberState S) (out later : Output)
-        → MatchBool b (Meets meaning (who me group) q u (in_step old out) (in_step new later)) (Redirects (who me group) q (in_step old out) (in_step new later)) → IsCalm (WINDOW + 3) out later
-    merge-in true q u old new out later x = meets-by (is_less q me) q u old new out later x
-    merge-in false q u old new out later x = silent group (WINDOW + 3) _ out later x.grows
+    merge-in : (b : Bool) (q : Address) (u : View) (old new : InStep S)
+        → MatchBool b (Meets meaning who q u old new) (Redirects who q old new) → IsCalm (WINDOW + 3) old.out new.out
+    merge-in true q u old new x = meets-by (is_less q who.address) q u old new x
+    merge-in false q u old new x = silent who.group (WINDOW + 3) _ old.out new.out x.grows
 
-    merge-by : (b : Bool) (q : Address) (u : View) (old new : MemberState S) (out later : Output)
-        → MatchBool b (MatchBool (leads_now me old) (Meets meaning (who me group) q u (in_step old out) (in_step new later)) (Redirects (who me group) q (in_step old out) (in_step new later))) (StaysAs (in_step old out) (in_step new later))
-        → IsCalm (WINDOW + 3) out later
-    merge-by true q u old new out later x = merge-in (leads_now me old) q u old new out later x
-    merge-by false q u old new out later x = stays (WINDOW + 3) old new out later x
+    merge-by : (b : Bool) (q : Address) (u : View) (old new : InStep S)
+        → MatchBool b (MatchBool (leads_now who.address old.member) (Meets meaning who q u old new) (Redirects who q old new)) (StaysAs old new)
+        → IsCalm (WINDOW + 3) old.out new.out
+    merge-by true q u old new x = merge-in (leads_now who.address old.member) q u old new x
+    merge-by false q u old new x = stays (WINDOW + 3) old new x
 
-    pub merge-calm : (q : Address) (u : View) (old new : MemberState S) (out later : Output) → OnMerge meaning (who me group) q u (in_step old out) (in_step new later) → IsCalm (WINDOW + 3) out later
-    merge-calm q u old new out later x = merge-by (is_some old.view_state && not (has_member q old)) q u old new out later x
+    pub merge-calm : (q : Address) (u : View) (old new : InStep S) → OnMerge meaning who q u old new → IsCalm (WINDOW + 3) old.out new.out
+    merge-calm q u old new x = merge-by (is_some old.member.view_state && not (has_member q old.member)) q u old new x

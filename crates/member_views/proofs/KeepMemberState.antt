@@ -13,50 +13,50 @@ use Rattle.membership.specs.MemberStates.{IsMemberState, view_in, is_connected}
 use Rattle.membership.proofs.KeepNotes as notes
 use Rattle.membership.proofs.KeepMemberState as lives
 use Rattle.member_views.specs.Views.{outdated, joined, merged, listed_in}
-use Rattle.step_output.specs.Steps.{who}
+use Rattle.step_output.specs.Steps.{Who}
 
 outside-of : (view_state : Option ViewState) (contact : Option Address) → (is_some view_state || is_some contact) ≡ false → view_state ≡ None
 outside-of None contact e = refl
 outside-of (Some t) contact e = absurd (let n : true ≡ false = e in cc)
 
-module _ {S : Type 0} (group : List ℕ) (me : Address) where
+module _ {S : Type 0} (who : Who) where
   -- ---- it notes, where it has a view
 
-  outdated-in : (view : Option View) (q : Address) (l new : MemberState S) → IsMemberState (who me group) l → new ≡ record l { notes = option_map_or (λ v. outdating me v.members q l.notes) view l.notes } → IsMemberState (who me group) new
-  outdated-in None q l new x is = notes.same-suspects-member_state group me l new l.notes x is refl
-  outdated-in (Some v) q l new x is = notes.outdated-member_state group me l new v.members q x is
+  outdated-in : (view : Option View) (q : Address) (l new : MemberState S) → IsMemberState who l → new ≡ record l { notes = option_map_or (λ v. outdating who.address v.members q l.notes) view l.notes } → IsMemberState who new
+  outdated-in None q l new x is = notes.same-suspects-member_state who l new l.notes x is refl
+  outdated-in (Some v) q l new x is = notes.outdated-member_state who l new v.members q x is
 
-  joined-in : (view : Option View) (listed : List Address) (q : Address) (l new : MemberState S) → IsMemberState (who me group) l
-      → new ≡ record l { notes = option_map_or (λ v. noting me v.members listed q l.notes) view l.notes } → IsMemberState (who me group) new
-  joined-in None listed q l new x is = notes.same-suspects-member_state group me l new l.notes x is refl
-  joined-in (Some v) listed q l new x is = notes.joiner-member_state group me l new v.members listed q x is
+  joined-in : (view : Option View) (listed : List Address) (q : Address) (l new : MemberState S) → IsMemberState who l
+      → new ≡ record l { notes = option_map_or (λ v. noting who.address v.members listed q l.notes) view l.notes } → IsMemberState who new
+  joined-in None listed q l new x is = notes.same-suspects-member_state who l new l.notes x is refl
+  joined-in (Some v) listed q l new x is = notes.joiner-member_state who l new v.members listed q x is
 
-  merged-in : (view : Option View) (u : View) (l new : MemberState S) → IsMemberState (who me group) l → new ≡ record l { notes = option_map_or (λ v. noting_view me v.members u l.notes) view l.notes } → IsMemberState (who me group) new
-  merged-in None u l new x is = notes.same-suspects-member_state group me l new l.notes x is refl
-  merged-in (Some v) u l new x is = notes.merging-member_state group me l new v.members u x is
+  merged-in : (view : Option View) (u : View) (l new : MemberState S) → IsMemberState who l → new ≡ record l { notes = option_map_or (λ v. noting_view who.address v.members u l.notes) view l.notes } → IsMemberState who new
+  merged-in None u l new x is = notes.same-suspects-member_state who l new l.notes x is refl
+  merged-in (Some v) u l new x is = notes.merging-member_state who l new v.members u x is
 
-  pub outdated-member_state : (q : Address) (l new : MemberState S) → IsMemberState (who me group) l → new ≡ outdated me q l → IsMemberState (who me group) new
+  pub outdated-member_state : (q : Address) (l new : MemberState S) → IsMemberState who l → new ≡ outdated who.address q l → IsMemberState who new
   outdated-member_state q l new x is = outdated-in (view_in l.view_state) q l new x is
 
-  pub joined-member_state : (q : Address) (l new : MemberState S) → IsMemberState (who me group) l → new ≡ joined me q l → IsMemberState (who me group) new
+  pub joined-member_state : (q : Address) (l new : MemberState S) → IsMemberState who l → new ≡ joined who.address q l → IsMemberState who new
   joined-member_state q l new x is = joined-in (view_in l.view_state) (listed_in l.flush) q l new x is
 
-  pub merged-member_state : (u : View) (l new : MemberState S) → IsMemberState (who me group) l → new ≡ merged me u l → IsMemberState (who me group) new
+  pub merged-member_state : (u : View) (l new : MemberState S) → IsMemberState who l → new ≡ merged who.address u l → IsMemberState who new
   merged-member_state u l new x is = merged-in (view_in l.view_state) u l new x is
 
   -- ---- it asks
 
-  pub asked-member_state : (contact : Address) (l : MemberState S) → IsMemberState (who me group) l → IsMemberState (who me group) (record l { contact = Some contact })
-  asked-member_state contact l x = lives.contact-member_state group me l _ contact x refl
+  pub asked-member_state : (contact : Address) (l : MemberState S) → IsMemberState who l → IsMemberState who (record l { contact = Some contact })
+  asked-member_state contact l x = lives.contact-member_state who l _ contact x refl
 
   -- ---- it makes a first view of itself alone
 
   pub outside : (l : MemberState S) → is_connected l ≡ false → l.view_state ≡ None
   outside l e = outside-of l.view_state l.contact e
 
-  pub created-member_state : (l new : MemberState S) → IsMemberState (who me group) l → is_connected l ≡ false
-      → new ≡ record l { view_state = Some (fresh_in me (lone_view me)); promise = record { member = l.promise.member; proposal = Some (lone_view me); is_installed = true } }
-      → IsMemberState (who me group) new
+  pub created-member_state : (l new : MemberState S) → IsMemberState who l → is_connected l ≡ false
+      → new ≡ record l { view_state = Some (fresh_in who.address (lone_view who.address)); promise = record { member = l.promise.member; proposal = Some (lone_view who.address); is_installed = true } }
+      → IsMemberState who new
   created-member_state l new x idle is =
-      lives.created-member_state group me l new x idle
-      (is ∙ ap (λ (p : Address). record l { view_state = Some (fresh_in me (lone_view me)); promise = record { member = p; proposal = Some (lone_view me); is_installed = true } }) x.own)
+      lives.created-member_state who l new x idle
+      (is ∙ ap (λ (p : Address). record l { view_state = Some (fresh_in who.address (lone_view who.address)); promise = record { member = p; proposal = Some (lone_view who.address); is_installed = true } }) x.own)

@@ -44,7 +44,7 @@ use Rattle.membership.proofs.KeepMemberState.{installed_as, own-installed, other
 use Rattle.membership.proofs.KeepNotes.{heard-member_state, suspected-member_state}
 use Rattle.membership.proofs.FactOfProposed.{IsProposal, due-is-proposal, anew-is-proposal}
 use Rattle.address.proofs.Plain.{match-bool}
-use Rattle.step_output.specs.Steps.{who}
+use Rattle.step_output.specs.Steps.{Who, who}
 use Rattle.membership.specs.InSteps.{InStep, in_step}
 
 -- ---- what a flush says, in the words of agreement
@@ -73,173 +73,173 @@ match-option : {X P : Type 0} (o : Option X) (A : Type 0) (B : X → Type 0) →
 match-option None A B m none some = none m
 match-option (Some x) A B m none some = some x refl m
 
-module _ {S : Type 0} (meaning : Meaning S) (group : List ℕ) (me : Address) where
+module _ {S : Type 0} (meaning : Meaning S) (who : Who) where
   abbrev pub DidThis : Option Posted → InStep S → InStep S → Type 0
-  DidThis came old new = Did meaning came (who me group) old new
+  DidThis came old new = Did meaning came who old new
 
   -- ---- a FLUSH
 
-  ours : (l : MemberState S) → IsMemberState (who me group) l → l.promise ≡ promise_of (core_of me l)
+  ours : (l : MemberState S) → IsMemberState who l → l.promise ≡ promise_of (core_of who.address l)
   ours l kept = ap (λ (p : Address). record { member = p; proposal = l.promise.proposal; is_installed = l.promise.is_installed }) kept.own
 
-  pub promised-acted : (came : Option Posted) (l new : MemberState S) (w : View) → IsMemberState (who me group) l → is_connected l ≡ true → came ≡ Some (packet w.id.creator (bodies.Flush w) me)
+  pub promised-acted : (came : Option Posted) (l new : MemberState S) (w : View) → IsMemberState who l → is_connected l ≡ true → came ≡ Some (packet w.id.creator (bodies.Flush w) who.address)
       → is_accept (offered w l.promise) ≡ true → new ≡ record l { promise = promising w l.promise; flush = None }
-      → Acted meaning came (Some (core_of me l)) (packet me (bodies.Report w.id (report_in l)) w.id.creator ∷ []) (blocked_by me l) (Some (core_of me new))
+      → Acted meaning came (Some (core_of who.address l)) (packet who.address (bodies.Report w.id (report_in l)) w.id.creator ∷ []) (blocked_by who.address l) (Some (core_of who.address new))
   promised-acted came l new w kept on asked accepts is =
-      subst (λ (z : MemberState S). Acted meaning came (Some (core_of me l)) (packet me (bodies.Report w.id (report_in l)) w.id.creator ∷ []) (blocked_by me l) (Some (core_of me z))) (sym is)
-      (promises-acted meaning came (core_of me l) w asked on (subst (λ (p : PromiseModel). is_accept (offered w p) ≡ true) (ours l kept) accepts))
+      subst (λ (z : MemberState S). Acted meaning came (Some (core_of who.address l)) (packet who.address (bodies.Report w.id (report_in l)) w.id.creator ∷ []) (blocked_by who.address l) (Some (core_of who.address z))) (sym is)
+      (promises-acted meaning came (core_of who.address l) w asked on (subst (λ (p : PromiseModel). is_accept (offered w p) ≡ true) (ours l kept) accepts))
 
-  takes-by-did : (a : OfferAnswer) (came : Option Posted) (old new : MemberState S) (w : View) (out later : Output) → IsMemberState (who me group) old → is_connected old ≡ true
-      → came ≡ Some (packet w.id.creator (bodies.Flush w) me) → offered w old.promise ≡ a → TakesBy (who me group) a w (in_step old out) (in_step new later) → DidThis came (in_step old out) (in_step new later)
-  takes-by-did Accept came old new w out later kept on asked e x =
-      record { posted = _; happened = _; grows = x.grows; acted = promised-acted came old new w kept on asked (ap is_accept e) x.member_state }
-  takes-by-did (Behind n) came old new w out later kept on asked e x =
-      subst (λ (z : MemberState S). DidThis came (in_step old out) (in_step z later)) (sym x.0)
-      (record { posted = _; happened = _; grows = x.1; acted = one-acted meaning came (core_of me old) (Puts w.id.creator (bodies.Behind w.id n)) tt })
-  takes-by-did Ignore came old new w out later kept on asked e x = stays-did meaning came group me old new out later x.0 x.1
+  takes-by-did : (a : OfferAnswer) (came : Option Posted) (w : View) (old new : InStep S) → IsMemberState who old.member → is_connected old.member ≡ true
+      → came ≡ Some (packet w.id.creator (bodies.Flush w) who.address) → offered w old.member.promise ≡ a → TakesBy who a w old new → DidThis came old new
+  takes-by-did Accept came w old new kept on asked e x =
+      record { posted = _; happened = _; grows = x.grows; acted = promised-acted came old.member new.member w kept on asked (ap is_accept e) x.member_state }
+  takes-by-did (Behind n) came w old new kept on asked e x =
+      subst (λ (z : MemberState S). DidThis came old (in_step z new.out)) (sym x.0)
+      (record { posted = _; happened = _; grows = x.1; acted = one-acted meaning came (core_of who.address old.member) (Puts w.id.creator (bodies.Behind w.id n)) tt })
+  takes-by-did Ignore came w old new kept on asked e x = stays-did meaning came who old new x.0 x.1
 
-  pub takes-flush-did : (came : Option Posted) (old new : MemberState S) (w : View) (out later : Output) → IsMemberState (who me group) old → TakesFlush (who me group) w (in_step old out) (in_step new later)
-      → came ≡ Some (packet w.id.creator (bodies.Flush w) me) → is_connected old ≡ true → DidThis came (in_step old out) (in_step new later)
-  takes-flush-did came old new w out later kept x asked on = takes-by-did (offered w old.promise) came old new w out later kept on asked refl x
+  pub takes-flush-did : (came : Option Posted) (w : View) (old new : InStep S) → IsMemberState who old.member → TakesFlush who w old new
+      → came ≡ Some (packet w.id.creator (bodies.Flush w) who.address) → is_connected old.member ≡ true → DidThis came old new
+  takes-flush-did came w old new kept x asked on = takes-by-did (offered w old.member.promise) came w old new kept on asked refl x
 
   -- ---- a flush of its own
 
-  pub begins-did : (came : Option Posted) (old new : MemberState S) (w : View) (out later : Output) → IsMemberState (who me group) old → IsProposal me old w → Begins (who me group) w (in_step old out) (in_step new later) → DidThis came (in_step old out) (in_step new later)
-  begins-did came old new w out later kept p b = record {
+  pub begins-did : (came : Option Posted) (w : View) (old new : InStep S) → IsMemberState who old.member → IsProposal who.address old.member w → Begins who w old new → DidThis came old new
+  begins-did came w old new kept p b = record {
     posted = _;
     happened = _;
     grows = b.grows;
-    acted = subst (λ (z : MemberState S). Acted meaning came (Some (core_of me old)) (map (packet me (bodies.Flush w)) (others_of me w.members)) (blocked_by me old) (Some (core_of me z)))
-        (sym b.member_state) (proposes-acted meaning came (core_of me old) old.notes p.before w p.inside p.leads kept.unsuspected p.next).1;
+    acted = subst (λ (z : MemberState S). Acted meaning came (Some (core_of who.address old.member)) (map (packet who.address (bodies.Flush w)) (others_of who.address w.members)) (blocked_by who.address old.member) (Some (core_of who.address z)))
+        (sym b.member_state) (proposes-acted meaning came (core_of who.address old.member) old.member.notes p.before w p.inside p.leads kept.unsuspected p.next).1;
   }
 
-  pub proposes-did : (came : Option Posted) (old new : MemberState S) (out later : Output) → IsMemberState (who me group) old → ProposesIf (who me group) (in_step old out) (in_step new later) → DidThis came (in_step old out) (in_step new later)
-  proposes-did came old new out later kept x =
-      match-option (due_proposal (core_of me old) old.notes) (StaysAs (in_step old out) (in_step new later)) (λ w. Begins (who me group) w (in_step old out) (in_step new later)) x
-      (λ s. stays-did meaning came group me old new out later s.0 s.1)
-      (λ w e b. begins-did came old new w out later kept (due-is-proposal group me old w kept e) b)
+  pub proposes-did : (came : Option Posted) (old new : InStep S) → IsMemberState who old.member → ProposesIf who old new → DidThis came old new
+  proposes-did came old new kept x =
+      match-option (due_proposal (core_of who.address old.member) old.member.notes) (StaysAs old new) (λ w. Begins who w old new) x
+      (λ s. stays-did meaning came who old new s.0 s.1)
+      (λ w e b. begins-did came w old new kept (due-is-proposal who old.member w kept e) b)
 
   -- ---- a flush is finished
 
   -- a member whose flush and view are these
-  finished-at : (came : Option Posted) (f : FlushModel) (t : ViewState) (old new : MemberState S) (out later : Output) → IsMemberState (who me group) old → old.flush ≡ Some f → is_complete f ≡ true
-      → Finishes meaning (who me group) f t (in_step old out) (in_step new later) → DidThis came (in_step (record old { flush = Some f; view_state = Some t }) out) (in_step new later)
-  finished-at came f t old new out later kept flush complete z =
+  finished-at : (came : Option Posted) (f : FlushModel) (t : ViewState) (old new : InStep S) → IsMemberState who old.member → old.member.flush ≡ Some f → is_complete f ≡ true
+      → Finishes meaning who f t old new → DidThis came (in_step (record (old.member) { flush = Some f; view_state = Some t }) old.out) new
+  finished-at came f t old new kept flush complete z =
       let x = kept.flushing f flush in
-      let c = core_of me (record old { flush = Some f; view_state = Some t }) in
+      let c = core_of who.address (record (old.member) { flush = Some f; view_state = Some t }) in
       let w = proposed f in
-      let s = finished_state meaning f t old.receiver in
+      let s = finished_state meaning f t old.member.receiver in
       let given = instructions meaning c (view_of t) f (cuts_of f) in
-      let same_packets : map (install_packet me) given ≡ finish_packets me f t (meaning.encode s) = packets-are me f (view_of t).id (meaning.encode s) (others_of me f.members) in
+      let same_packets : map (install_packet who.address) given ≡ finish_packets who.address f t (meaning.encode s) = packets-are who.address f (view_of t).id (meaning.encode s) (others_of who.address f.members) in
       let a = finishes-acted meaning came c (view_of t) f refl refl z.flush (complete-is f complete) in
-      let sound = subst (λ l. AllByRecursion (λ m. IsPacket (packet_in group m)) l) (sym same_packets) z.grows.sound in
-      let same : sent_installs_in new.sent_installs.items ≡ given = ap sent_installs_in (z.sent_installs ∙ ap (map (spelled group)) (sym same_packets)) ∙ kept-are group me given sound in
-      let promise : after_install w old.promise ≡ installed_as me w = own-installed me w old.promise kept.own x.promise x.waiting in
-      let view : view_of (fresh_in me w) ≡ w = fresh-view me w in
-      let view_state = fresh-is me w in
-      let core : core_of me new ≡ gone_into w s given c =
-      ap (core_of me) z.member_state
-      ∙ (λ j. record { me = me; connected = true; promise = (promise j).proposal; installed = (promise j).is_installed; view = Some (view j); view_state = view_state j; flush = None; sent_installs = same j; state = s }) in
+      let sound = subst (λ l. AllByRecursion (λ m. IsPacket (packet_in who.group m)) l) (sym same_packets) z.grows.sound in
+      let same : sent_installs_in new.member.sent_installs.items ≡ given = ap sent_installs_in (z.sent_installs ∙ ap (map (spelled who.group)) (sym same_packets)) ∙ kept-are who.group who.address given sound in
+      let promise : after_install w old.member.promise ≡ installed_as who.address w = own-installed who.address w old.member.promise kept.own x.promise x.waiting in
+      let view : view_of (fresh_in who.address w) ≡ w = fresh-view who.address w in
+      let view_state = fresh-is who.address w in
+      let core : core_of who.address new.member ≡ gone_into w s given c =
+      ap (core_of who.address) z.member_state
+      ∙ (λ j. record { me = who.address; connected = true; promise = (promise j).proposal; installed = (promise j).is_installed; view = Some (view j); view_state = view_state j; flush = None; sent_installs = same j; state = s }) in
       record {
         posted = _;
         happened = _;
         grows = z.grows;
-        acted = subst (λ ps. Acted meaning came (Some c) ps (finish_events me f t) (Some (core_of me new))) same_packets
-            (subst (λ (k : Core S). Acted meaning came (Some c) (map (install_packet me) given) (finish_events me f t) (Some k)) (sym core) a);
+        acted = subst (λ ps. Acted meaning came (Some c) ps (finish_events who.address f t) (Some (core_of who.address new.member))) same_packets
+            (subst (λ (k : Core S). Acted meaning came (Some c) (map (install_packet who.address) given) (finish_events who.address f t) (Some k)) (sym core) a);
       }
 
-  finished-did : (came : Option Posted) (f : FlushModel) (t : ViewState) (old new : MemberState S) (out later : Output) → IsMemberState (who me group) old → old.flush ≡ Some f → old.view_state ≡ Some t → is_complete f ≡ true
-      → Finishes meaning (who me group) f t (in_step old out) (in_step new later) → DidThis came (in_step old out) (in_step new later)
-  finished-did came f t old new out later kept flush inside complete z =
-      let same : old ≡ record old { flush = Some f; view_state = Some t } = λ j. record old { flush = flush j; view_state = inside j } in
-      subst (λ (l : MemberState S). DidThis came (in_step l out) (in_step new later)) (sym same) (finished-at came f t old new out later kept flush complete z)
+  finished-did : (came : Option Posted) (f : FlushModel) (t : ViewState) (old new : InStep S) → IsMemberState who old.member → old.member.flush ≡ Some f → old.member.view_state ≡ Some t → is_complete f ≡ true
+      → Finishes meaning who f t old new → DidThis came old new
+  finished-did came f t old new kept flush inside complete z =
+      let same : old.member ≡ record (old.member) { flush = Some f; view_state = Some t } = λ j. record (old.member) { flush = flush j; view_state = inside j } in
+      subst (λ (l : MemberState S). DidThis came (in_step l old.out) new) (sym same) (finished-at came f t old new kept flush complete z)
 
   -- whether it finishes or not
-  pub finishes-either : {P : Type 0} (old new : MemberState S) (out later : Output) → GoesOn meaning (who me group) (in_step old out) (in_step new later) → (StaysAs (in_step old out) (in_step new later) → P)
-      → ((f : FlushModel) (t : ViewState) → old.flush ≡ Some f → old.view_state ≡ Some t → is_complete f ≡ true → FinishesAndProposes meaning (who me group) f t (in_step old out) (in_step new later) → P) → P
-  finishes-either old new out later x stays finishes =
-      match-option old.flush (StaysAs (in_step old out) (in_step new later))
-      (λ f. MatchBool (is_complete f) (MatchOption old.view_state ⊥ (λ t. FinishesAndProposes meaning (who me group) f t (in_step old out) (in_step new later))) (StaysAs (in_step old out) (in_step new later))) x stays
-      (λ f flush y. match-bool (is_complete f) (MatchOption old.view_state ⊥ (λ t. FinishesAndProposes meaning (who me group) f t (in_step old out) (in_step new later))) (StaysAs (in_step old out) (in_step new later)) y
-      (λ complete z. match-option old.view_state ⊥ (λ t. FinishesAndProposes meaning (who me group) f t (in_step old out) (in_step new later)) z (λ none. absurd none) (λ t inside done. finishes f t flush inside complete done))
+  pub finishes-either : {P : Type 0} (old new : InStep S) → GoesOn meaning who old new → (StaysAs old new → P)
+      → ((f : FlushModel) (t : ViewState) → old.member.flush ≡ Some f → old.member.view_state ≡ Some t → is_complete f ≡ true → FinishesAndProposes meaning who f t old new → P) → P
+  finishes-either old new x stays finishes =
+      match-option old.member.flush (StaysAs old new)
+      (λ f. MatchBool (is_complete f) (MatchOption old.member.view_state ⊥ (λ t. FinishesAndProposes meaning who f t old new)) (StaysAs old new)) x stays
+      (λ f flush y. match-bool (is_complete f) (MatchOption old.member.view_state ⊥ (λ t. FinishesAndProposes meaning who f t old new)) (StaysAs old new) y
+      (λ complete z. match-option old.member.view_state ⊥ (λ t. FinishesAndProposes meaning who f t old new) z (λ none. absurd none) (λ t inside done. finishes f t flush inside complete done))
       (λ waits s. stays s))
 
-  pub goes-on-did : (came : Option Posted) (old new : MemberState S) (out later : Output) → IsMemberState (who me group) old → GoesOn meaning (who me group) (in_step old out) (in_step new later) → DidThis came (in_step old out) (in_step new later)
-  goes-on-did came old new out later kept x =
-      finishes-either old new out later x (λ s. stays-did meaning came group me old new out later s.0 s.1)
+  pub goes-on-did : (came : Option Posted) (old new : InStep S) → IsMemberState who old.member → GoesOn meaning who old new → DidThis came old new
+  goes-on-did came old new kept x =
+      finishes-either old new x (λ s. stays-did meaning came who old new s.0 s.1)
       (λ f t flush inside complete z.
-      did-then meaning came group me old z.mid.member new out z.mid.out later (finished-did came f t old z.mid.member out z.mid.out kept flush inside complete z.finishes)
-      (proposes-did came z.mid.member new z.mid.out later (finished-member_state group me meaning f t old old z.mid.member out z.mid.out kept flush refl z.finishes) z.proposes))
+      did-then meaning came who old z.mid new (finished-did came f t old z.mid kept flush inside complete z.finishes)
+      (proposes-did came z.mid new (finished-member_state who meaning f t old.member old.member z.mid.member old.out z.mid.out kept flush refl z.finishes) z.proposes))
 
   -- ---- it begins, and goes on
 
-  begins-on-did : (came : Option Posted) (old new : MemberState S) (w : View) (out later : Output) → IsMemberState (who me group) old → IsProposal me old w → BeginsAndGoesOn meaning (who me group) w (in_step old out) (in_step new later)
-      → DidThis came (in_step old out) (in_step new later)
-  begins-on-did came old new w out later kept p x =
-      did-then meaning came group me old x.mid.member new out x.mid.out later (begins-did came old x.mid.member w out x.mid.out kept p x.begins)
-      (goes-on-did came x.mid.member new x.mid.out later (begun-member_state group me old x.mid.member w out x.mid.out kept p x.begins) x.goes_on)
+  begins-on-did : (came : Option Posted) (w : View) (old new : InStep S) → IsMemberState who old.member → IsProposal who.address old.member w → BeginsAndGoesOn meaning who w old new
+      → DidThis came old new
+  begins-on-did came w old new kept p x =
+      did-then meaning came who old x.mid new (begins-did came w old x.mid kept p x.begins)
+      (goes-on-did came x.mid new (begun-member_state who w (in_step old.member old.out) (in_step x.mid.member x.mid.out) kept p x.begins) x.goes_on)
 
-  pub regroups-did : (came : Option Posted) (old new : MemberState S) (out later : Output) → IsMemberState (who me group) old → Regroups meaning (who me group) (in_step old out) (in_step new later) → DidThis came (in_step old out) (in_step new later)
-  regroups-did came old new out later kept x =
-      match-option (due_proposal (core_of me old) old.notes) (StaysAs (in_step old out) (in_step new later)) (λ w. BeginsAndGoesOn meaning (who me group) w (in_step old out) (in_step new later)) x
-      (λ s. stays-did meaning came group me old new out later s.0 s.1)
-      (λ w e b. begins-on-did came old new w out later kept (due-is-proposal group me old w kept e) b)
+  pub regroups-did : (came : Option Posted) (old new : InStep S) → IsMemberState who old.member → Regroups meaning who old new → DidThis came old new
+  regroups-did came old new kept x =
+      match-option (due_proposal (core_of who.address old.member) old.member.notes) (StaysAs old new) (λ w. BeginsAndGoesOn meaning who w old new) x
+      (λ s. stays-did meaning came who old new s.0 s.1)
+      (λ w e b. begins-on-did came w old new kept (due-is-proposal who old.member w kept e) b)
 
-  pub begins-anew-did : (came : Option Posted) (old new : MemberState S) (out later : Output) → IsMemberState (who me group) old → BeginsAnew meaning (who me group) (in_step old out) (in_step new later) → DidThis came (in_step old out) (in_step new later)
-  begins-anew-did came old new out later kept x =
-      match-option (anew_proposal me old) (StaysAs (in_step old out) (in_step new later)) (λ w. BeginsAndGoesOn meaning (who me group) w (in_step old out) (in_step new later)) x
-      (λ s. stays-did meaning came group me old new out later s.0 s.1)
-      (λ w e b. begins-on-did came old new w out later kept (anew-is-proposal group me old w kept e) b)
+  pub begins-anew-did : (came : Option Posted) (old new : InStep S) → IsMemberState who old.member → BeginsAnew meaning who old new → DidThis came old new
+  begins-anew-did came old new kept x =
+      match-option (anew_proposal who.address old.member) (StaysAs old new) (λ w. BeginsAndGoesOn meaning who w old new) x
+      (λ s. stays-did meaning came who old new s.0 s.1)
+      (λ w e b. begins-on-did came w old new kept (anew-is-proposal who old.member w kept e) b)
 
   -- ---- a REPORT
 
   awaited-by : (b : Bool) (l : MemberState S) (f : FlushModel) (q : Address) (r : Report) (out : Output) → is_awaited q f ≡ b → l.flush ≡ Some f
-      → DidThis (Some (packet q (bodies.Report f.proposal r) me)) (in_step l out) (in_step (record l { flush = Some (reported q r f) }) out)
+      → DidThis (Some (packet q (bodies.Report f.proposal r) who.address)) (in_step l out) (in_step (record l { flush = Some (reported q r f) }) out)
   awaited-by true l f q r out e same = record {
     posted = [];
     happened = [];
-    grows = grows-nothing group out;
-    acted = records-acted meaning (Some (packet q (bodies.Report f.proposal r) me)) (core_of me l) f q r refl same e;
+    grows = grows-nothing who.group out;
+    acted = records-acted meaning (Some (packet q (bodies.Report f.proposal r) who.address)) (core_of who.address l) f q r refl same e;
   }
   awaited-by false l f q r out e same =
       let is : Some (reported q r f) ≡ l.flush = ap Some (cond-false (is_awaited q f) (record f { reports = f.reports ++ (q, r) ∷ [] }) f e) ∙ sym same in
-      subst (λ (o : Option FlushModel). DidThis (Some (packet q (bodies.Report f.proposal r) me)) (in_step l out) (in_step (record l { flush = o }) out)) (sym is) (nothing-did meaning _ group me l out)
+      subst (λ (o : Option FlushModel). DidThis (Some (packet q (bodies.Report f.proposal r) who.address)) (in_step l out) (in_step (record l { flush = o }) out)) (sym is) (nothing-did meaning _ who l out)
 
   own-by : (b : Bool) (l : MemberState S) (f : FlushModel) (q : Address) (w : ViewId) (r : Report) (out : Output) → same_view_id f.proposal w ≡ b → l.flush ≡ Some f
-      → DidThis (Some (packet q (bodies.Report w r) me)) (in_step l out) (in_step (record l { flush = Some (if b then reported q r f else f) }) out)
+      → DidThis (Some (packet q (bodies.Report w r) who.address)) (in_step l out) (in_step (record l { flush = Some (if b then reported q r f else f) }) out)
   own-by true l f q w r out e same =
-      subst (λ (u : ViewId). DidThis (Some (packet q (bodies.Report u r) me)) (in_step l out) (in_step (record l { flush = Some (reported q r f) }) out)) (same_view_id-true f.proposal w e)
+      subst (λ (u : ViewId). DidThis (Some (packet q (bodies.Report u r) who.address)) (in_step l out) (in_step (record l { flush = Some (reported q r f) }) out)) (same_view_id-true f.proposal w e)
       (awaited-by (is_awaited q f) l f q r out refl same)
   own-by false l f q w r out e same =
-      subst (λ (o : Option FlushModel). DidThis (Some (packet q (bodies.Report w r) me)) (in_step l out) (in_step (record l { flush = o }) out)) same (nothing-did meaning _ group me l out)
+      subst (λ (o : Option FlushModel). DidThis (Some (packet q (bodies.Report w r) who.address)) (in_step l out) (in_step (record l { flush = o }) out)) same (nothing-did meaning _ who l out)
 
   flush-by : (flush : Option FlushModel) (l : MemberState S) (q : Address) (w : ViewId) (r : Report) (out : Output) → l.flush ≡ flush
-      → DidThis (Some (packet q (bodies.Report w r) me)) (in_step l out) (in_step (record l { flush = option_map (recording q w r) flush }) out)
+      → DidThis (Some (packet q (bodies.Report w r) who.address)) (in_step l out) (in_step (record l { flush = option_map (recording q w r) flush }) out)
   flush-by None l q w r out e =
-      subst (λ (o : Option FlushModel). DidThis (Some (packet q (bodies.Report w r) me)) (in_step l out) (in_step (record l { flush = o }) out)) e (nothing-did meaning _ group me l out)
+      subst (λ (o : Option FlushModel). DidThis (Some (packet q (bodies.Report w r) who.address)) (in_step l out) (in_step (record l { flush = o }) out)) e (nothing-did meaning _ who l out)
   flush-by (Some f) l q w r out e = own-by (same_view_id f.proposal w) l f q w r out refl e
 
-  pub takes-report-did : (came : Option Posted) (old new : MemberState S) (q : Address) (w : ViewId) (r : Report) (out later : Output) → IsMemberState (who me group) old → TakesReport meaning (who me group) q w r (in_step old out) (in_step new later)
-      → came ≡ Some (packet q (bodies.Report w r) me) → DidThis came (in_step old out) (in_step new later)
-  takes-report-did came old new q w r out later kept x came_so =
-      let mid = record old { flush = option_map (recording q w r) old.flush } in
-      did-then meaning came group me old mid new out out later
-      (subst (λ (m : Option Posted). DidThis m (in_step old out) (in_step mid out)) (sym came_so) (flush-by old.flush old q w r out refl))
-      (goes-on-did came mid new out later (recorded-member_state group me old mid q w r kept refl) x)
+  pub takes-report-did : (came : Option Posted) (q : Address) (w : ViewId) (r : Report) (old new : InStep S) → IsMemberState who old.member → TakesReport meaning who q w r old new
+      → came ≡ Some (packet q (bodies.Report w r) who.address) → DidThis came old new
+  takes-report-did came q w r old new kept x came_so =
+      let mid = record (old.member) { flush = option_map (recording q w r) old.member.flush } in
+      did-then meaning came who old (in_step mid old.out) new
+      (subst (λ (m : Option Posted). DidThis m old (in_step mid old.out)) (sym came_so) (flush-by old.member.flush old.member q w r old.out refl))
+      (goes-on-did came (in_step mid old.out) new (recorded-member_state who old.member mid q w r kept refl) x)
 
   -- ---- an INSTALL again
 
   again-by : (came : Option Posted) (q : Address) (l : MemberState S) (given : List (Address × wire.Install)) (o : Option Outgoing) (out later : Output) → sent_installs_in l.sent_installs.items ≡ given
       → later.packets.items ≡ out.packets.items ++ option_to_list o → later.events.items ≡ out.events.items
-      → (o ≡ None) ⊎ IsAgain group me q (view_in l.view_state) given o → DidThis came (in_step l out) (in_step l later)
+      → (o ≡ None) ⊎ IsAgain who.group who.address q (view_in l.view_state) given o → DidThis came (in_step l out) (in_step l later)
   again-by came q l given o out later kept packets events (inl none) = record {
     posted = [];
     happened = [];
     grows = record { packets = packets ∙ ap (λ x. out.packets.items ++ option_to_list x) none; sound = tt; events = events ∙ sym (append-nil out.events.items); short = tt };
-    acted = nothing-acted meaning came (Some (core_of me l));
+    acted = nothing-acted meaning came (Some (core_of who.address l));
   }
   again-by came q l given o out later kept packets events (inr a) = record {
-    posted = install_packet me (a.to, a.install) ∷ [];
+    posted = install_packet who.address (a.to, a.install) ∷ [];
     happened = [];
     grows = record {
       packets = packets ∙ ap (λ x. out.packets.items ++ option_to_list x) a.is;
@@ -247,65 +247,65 @@ module _ {S : Type 0} (meaning : Meaning S) (group : List ℕ) (me : Address) wh
       events = events ∙ sym (append-nil out.events.items);
       short = tt;
     };
-    acted = one-acted meaning came (core_of me l) (Puts a.to (bodies.Install a.install)) (a.current, ap (λ (p : Address). install_sent_to p (sent_installs_in l.sent_installs.items)) a.same ∙ ap (install_sent_to q) kept ∙ a.first);
+    acted = one-acted meaning came (core_of who.address l) (Puts a.to (bodies.Install a.install)) (a.current, ap (λ (p : Address). install_sent_to p (sent_installs_in l.sent_installs.items)) a.same ∙ ap (install_sent_to q) kept ∙ a.first);
   }
 
-  pub installs-again-did : (came : Option Posted) (q : Address) (l : MemberState S) (out later : Output) → IsMemberState (who me group) l → InstallsAgain q (in_step l out) later → DidThis came (in_step l out) (in_step l later)
+  pub installs-again-did : (came : Option Posted) (q : Address) (l : MemberState S) (out later : Output) → IsMemberState who l → InstallsAgain q (in_step l out) later → DidThis came (in_step l out) (in_step l later)
   installs-again-did came q l out later kept x =
       let k = kept.sent_installs in
-      again-by came q l k.given (find (is_sent_to q) (map (spelled group) (map (install_packet me) k.given))) out later (ap sent_installs_in k.spelled ∙ kept-are group me k.given k.sound)
-      (x.packets ∙ ap (λ items. out.packets.items ++ option_to_list (find (is_sent_to q) items)) k.spelled) x.events (again-in group me q (view_in l.view_state) k.given k.sound k.current)
+      again-by came q l k.given (find (is_sent_to q) (map (spelled who.group) (map (install_packet who.address) k.given))) out later (ap sent_installs_in k.spelled ∙ kept-are who.group who.address k.given k.sound)
+      (x.packets ∙ ap (λ items. out.packets.items ++ option_to_list (find (is_sent_to q) items)) k.spelled) x.events (again-in who.group who.address q (view_in l.view_state) k.given k.sound k.current)
 
   -- ---- a BEHIND, and a suspicion
 
-  pub takes-behind-did : (came : Option Posted) (old new : MemberState S) (counter : ℕ) (out later : Output) → IsMemberState (who me group) old → TakesBehind meaning (who me group) counter (in_step old out) (in_step new later)
-      → DidThis came (in_step old out) (in_step new later)
-  takes-behind-did came old new counter out later kept x =
-      let heard = record old { notes = having_heard counter old.notes } in
-      let member_state = heard-member_state group me old heard counter kept refl in
-      did-then meaning came group me old heard new out out later (noted-did meaning came group me old heard (having_heard counter old.notes) out refl)
-      (begins-anew-did came heard new out later member_state x)
+  pub takes-behind-did : (came : Option Posted) (counter : ℕ) (old new : InStep S) → IsMemberState who old.member → TakesBehind meaning who counter old new
+      → DidThis came old new
+  takes-behind-did came counter old new kept x =
+      let heard = record (old.member) { notes = having_heard counter old.member.notes } in
+      let member_state = heard-member_state who old.member heard counter kept refl in
+      did-then meaning came who old (in_step heard old.out) new (noted-did meaning came who old.member heard (having_heard counter old.member.notes) old.out refl)
+      (begins-anew-did came (in_step heard old.out) new member_state x)
 
-  pub takes-suspicion-did : (came : Option Posted) (old new : MemberState S) (p : Address) (out later : Output) → IsMemberState (who me group) old → TakesSuspicion meaning (who me group) p (in_step old out) (in_step new later)
-      → same_address p me ≡ false → DidThis came (in_step old out) (in_step new later)
-  takes-suspicion-did came old new p out later kept x other =
-      let noted = record old { notes = suspecting p old.notes } in
-      did-then meaning came group me old noted new out out later (noted-did meaning came group me old noted (suspecting p old.notes) out refl)
-      (regroups-did came noted new out later (suspected-member_state group me old noted p kept other refl) x)
+  pub takes-suspicion-did : (came : Option Posted) (p : Address) (old new : InStep S) → IsMemberState who old.member → TakesSuspicion meaning who p old new
+      → same_address p who.address ≡ false → DidThis came old new
+  takes-suspicion-did came p old new kept x other =
+      let noted = record (old.member) { notes = suspecting p old.member.notes } in
+      did-then meaning came who old (in_step noted old.out) new (noted-did meaning came who old.member noted (suspecting p old.member.notes) old.out refl)
+      (regroups-did came (in_step noted old.out) new (suspected-member_state who old.member noted p kept other refl) x)
 
   -- ---- an INSTALL
 
-  entered-by : (view_state : Option ViewState) (came : Option Posted) (old : MemberState S) (i : wire.Install) → let c = core_of me (record old { view_state = view_state }) in let last = delivered_at c i.base i.items in
+  entered-by : (view_state : Option ViewState) (came : Option Posted) (old : MemberState S) (i : wire.Install) → let c = core_of who.address (record old { view_state = view_state }) in let last = delivered_at c i.base i.items in
       Acted meaning came (Some c) [] (entering c last i.view i.together i.state) (Some (gone_into i.view (state_into meaning c last i.state) [] c))
-      → Acted meaning came (Some c) [] (enter_events me view_state i) (Some (gone_into i.view (state_by meaning view_state i old.receiver) [] c))
+      → Acted meaning came (Some c) [] (enter_events who.address view_state i) (Some (gone_into i.view (state_by meaning view_state i old.receiver) [] c))
   entered-by None came old i a = a
   entered-by (Some t) came old i a = a
 
-  entered-did : (came : Option Posted) (old new : MemberState S) (q : Address) (i : wire.Install) (out later : Output) → IsMemberState (who me group) old → is_entry (core_of me old) q i ≡ true → is_readable meaning i.state ≡ true
-      → came ≡ Some (packet q (bodies.Install i) me) → Enters meaning (who me group) old.view_state i (in_step old out) (in_step new later) → DidThis came (in_step old out) (in_step new later)
-  entered-did came old new q i out later kept enters reads came_so z =
-      let c = core_of me old in
-      let s = state_by meaning old.view_state i old.receiver in
-      let parts = and_parts (same_address q i.view.id.creator && may_install i.view old.promise) (is_fitting (view_in old.view_state) (view_core_in old.view_state).delivered i) enters in
-      let promise : after_install i.view old.promise ≡ installed_as me i.view =
-      other-installed me i.view old.promise kept.own (and_parts (same_address q i.view.id.creator) (may_install i.view old.promise) parts.0).1 in
-      let view : view_of (fresh_in me i.view) ≡ i.view = fresh-view me i.view in
-      let view_state = fresh-is me i.view in
-      let bytes : sent_installs_in new.sent_installs.items ≡ [] = ap sent_installs_in z.sent_installs in
-      let core : core_of me new ≡ gone_into i.view s [] c =
-      ap (core_of me) z.member_state
-      ∙ (λ j. record { me = me; connected = true; promise = (promise j).proposal; installed = (promise j).is_installed; view = Some (view j); view_state = view_state j; flush = None; sent_installs = bytes j; state = s }) in
+  entered-did : (came : Option Posted) (q : Address) (i : wire.Install) (old new : InStep S) → IsMemberState who old.member → is_entry (core_of who.address old.member) q i ≡ true → is_readable meaning i.state ≡ true
+      → came ≡ Some (packet q (bodies.Install i) who.address) → Enters meaning who old.member.view_state i old new → DidThis came old new
+  entered-did came q i old new kept enters reads came_so z =
+      let c = core_of who.address old.member in
+      let s = state_by meaning old.member.view_state i old.member.receiver in
+      let parts = and_parts (same_address q i.view.id.creator && may_install i.view old.member.promise) (is_fitting (view_in old.member.view_state) (view_core_in old.member.view_state).delivered i) enters in
+      let promise : after_install i.view old.member.promise ≡ installed_as who.address i.view =
+      other-installed who.address i.view old.member.promise kept.own (and_parts (same_address q i.view.id.creator) (may_install i.view old.member.promise) parts.0).1 in
+      let view : view_of (fresh_in who.address i.view) ≡ i.view = fresh-view who.address i.view in
+      let view_state = fresh-is who.address i.view in
+      let bytes : sent_installs_in new.member.sent_installs.items ≡ [] = ap sent_installs_in z.sent_installs in
+      let core : core_of who.address new.member ≡ gone_into i.view s [] c =
+      ap (core_of who.address) z.member_state
+      ∙ (λ j. record { me = who.address; connected = true; promise = (promise j).proposal; installed = (promise j).is_installed; view = Some (view j); view_state = view_state j; flush = None; sent_installs = bytes j; state = s }) in
       record {
         posted = [];
         happened = _;
         grows = z.grows;
-        acted = subst (λ (k : Core S). Acted meaning came (Some c) [] (enter_events me old.view_state i) (Some k)) (sym core)
-            (entered-by old.view_state came old i (enters-acted meaning came c q i came_so enters reads));
+        acted = subst (λ (k : Core S). Acted meaning came (Some c) [] (enter_events who.address old.member.view_state i) (Some k)) (sym core)
+            (entered-by old.member.view_state came old.member i (enters-acted meaning came c q i came_so enters reads));
       }
 
-  pub takes-install-did : (came : Option Posted) (old new : MemberState S) (q : Address) (i : wire.Install) (out later : Output) → IsMemberState (who me group) old → TakesInstall meaning (who me group) q i (in_step old out) (in_step new later)
-      → came ≡ Some (packet q (bodies.Install i) me) → DidThis came (in_step old out) (in_step new later)
-  takes-install-did came old new q i out later kept x came_so =
-      match-bool (is_entry (core_of me old) q i) ((is_readable meaning i.state ≡ true) × Enters meaning (who me group) old.view_state i (in_step old out) (in_step new later)) (StaysAs (in_step old out) (in_step new later)) x
-      (λ enters z. entered-did came old new q i out later kept enters z.0 came_so z.1)
-      (λ ignored s. stays-did meaning came group me old new out later s.0 s.1)
+  pub takes-install-did : (came : Option Posted) (q : Address) (i : wire.Install) (old new : InStep S) → IsMemberState who old.member → TakesInstall meaning who q i old new
+      → came ≡ Some (packet q (bodies.Install i) who.address) → DidThis came old new
+  takes-install-did came q i old new kept x came_so =
+      match-bool (is_entry (core_of who.address old.member) q i) ((is_readable meaning i.state ≡ true) × Enters meaning who old.member.view_state i old new) (StaysAs old new) x
+      (λ enters z. entered-did came q i old new kept enters z.0 came_so z.1)
+      (λ ignored s. stays-did meaning came who old new s.0 s.1)

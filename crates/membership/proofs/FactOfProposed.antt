@@ -18,7 +18,7 @@ use Rattle.decisions.proofs.FactOfProposal.{next-means, proposal-is-view, due-me
 use Rattle.membership.specs.declared.member_state.MemberState.{MemberState}
 use Rattle.membership.specs.MemberStates.{core_of, view_in, leads_in, anew_proposal, IsMemberState}
 use Rattle.view.proofs.FactOfMembers.{coordinator-in}
-use Rattle.step_output.specs.Steps.{who}
+use Rattle.step_output.specs.Steps.{Who}
 
 -- ---- the creator of a view stands in it
 
@@ -47,12 +47,12 @@ pub record IsProposal {S : Type 0} (me : Address) (l : MemberState S) (w : View)
   pub listed : stands_in me w.members ≡ true
   pub accepted : is_accept (offered w l.promise) ≡ true
 
-module _ {S : Type 0} (group : List ℕ) (me : Address) where
-  pub is-proposal : (l : MemberState S) (v w : View) → IsMemberState (who me group) l → view_in l.view_state ≡ Some v → leads_in me v l.notes ≡ true → proposal_after (core_of me l) l.notes v ≡ Some w → IsProposal me l w
+module _ {S : Type 0} (who : Who) where
+  pub is-proposal : (l : MemberState S) (v w : View) → IsMemberState who l → view_in l.view_state ≡ Some v → leads_in who.address v l.notes ≡ true → proposal_after (core_of who.address l) l.notes v ≡ Some w → IsProposal who.address l w
   is-proposal l v w kept inside leads next =
-      let sound : view_refusal w.id w.members ≡ None = proposal-is-view (core_of me l) l.notes v w leads kept.unsuspected next in
-      let x = next-means (core_of me l) l.notes _ w next in
-      let listed : stands_in me w.members ≡ true = subst (λ (p : Address). stands_in p w.members ≡ true) x.own (coordinator-in w.id w.members sound) in
+      let sound : view_refusal w.id w.members ≡ None = proposal-is-view (core_of who.address l) l.notes v w leads kept.unsuspected next in
+      let x = next-means (core_of who.address l) l.notes _ w next in
+      let listed : stands_in who.address w.members ≡ true = subst (λ (p : Address). stands_in p w.members ≡ true) x.own (coordinator-in w.id w.members sound) in
       record {
         before = v;
         inside = inside;
@@ -65,29 +65,29 @@ module _ {S : Type 0} (group : List ℕ) (me : Address) where
       }
 
   -- what is due is one
-  pub due-is-proposal : (l : MemberState S) (w : View) → IsMemberState (who me group) l → due_proposal (core_of me l) l.notes ≡ Some w → IsProposal me l w
-  due-is-proposal l w kept e = let d = due-means (core_of me l) l.notes w e in is-proposal l d.before w kept d.inside d.it_leads d.next
+  pub due-is-proposal : (l : MemberState S) (w : View) → IsMemberState who l → due_proposal (core_of who.address l) l.notes ≡ Some w → IsProposal who.address l w
+  due-is-proposal l w kept e = let d = due-means (core_of who.address l) l.notes w e in is-proposal l d.before w kept d.inside d.it_leads d.next
 
-  flush-by : (flush : Option FlushModel) (l : MemberState S) (v w : View) → IsMemberState (who me group) l → l.flush ≡ flush → view_in l.view_state ≡ Some v
-      → (if is_some flush then proposal_after (core_of me l) l.notes v else None) ≡ Some w → IsProposal me l w
+  flush-by : (flush : Option FlushModel) (l : MemberState S) (v w : View) → IsMemberState who l → l.flush ≡ flush → view_in l.view_state ≡ Some v
+      → (if is_some flush then proposal_after (core_of who.address l) l.notes v else None) ≡ Some w → IsProposal who.address l w
   flush-by None l v w kept q inside e = absurd (none-some w e)
   flush-by (Some f) l v w kept q inside e = is-proposal l v w kept inside ((kept.flushing f q).leads v inside) e
 
-  view-by : (view : Option View) (l : MemberState S) (w : View) → IsMemberState (who me group) l → view_in l.view_state ≡ view
-      → option_and_then (λ v. if is_some l.flush then proposal_after (core_of me l) l.notes v else None) view ≡ Some w → IsProposal me l w
+  view-by : (view : Option View) (l : MemberState S) (w : View) → IsMemberState who l → view_in l.view_state ≡ view
+      → option_and_then (λ v. if is_some l.flush then proposal_after (core_of who.address l) l.notes v else None) view ≡ Some w → IsProposal who.address l w
   view-by None l w kept q e = absurd (none-some w e)
   view-by (Some v) l w kept q e = flush-by l.flush l v w kept refl q e
 
   -- what it proposes anew is one
-  pub anew-is-proposal : (l : MemberState S) (w : View) → IsMemberState (who me group) l → anew_proposal me l ≡ Some w → IsProposal me l w
+  pub anew-is-proposal : (l : MemberState S) (w : View) → IsMemberState who l → anew_proposal who.address l ≡ Some w → IsProposal who.address l w
   anew-is-proposal l w kept e = view-by (view_in l.view_state) l w kept refl e
 
-  flush-by-leads : (flush : Option FlushModel) (l : MemberState S) (v : View) → IsMemberState (who me group) l → l.flush ≡ flush → is_some flush ≡ true → view_in l.view_state ≡ Some v → leads_in me v l.notes ≡ true
+  flush-by-leads : (flush : Option FlushModel) (l : MemberState S) (v : View) → IsMemberState who l → l.flush ≡ flush → is_some flush ≡ true → view_in l.view_state ≡ Some v → leads_in who.address v l.notes ≡ true
   flush-by-leads None l v kept q there inside = absurd (let n : false ≡ true = there in cc)
   flush-by-leads (Some f) l v kept q there inside = (kept.flushing f q).leads v inside
 
   -- whoever has a flush of its own leads its view
-  pub flush-leads : (l : MemberState S) (v : View) → IsMemberState (who me group) l → is_some l.flush ≡ true → view_in l.view_state ≡ Some v → leads_in me v l.notes ≡ true
+  pub flush-leads : (l : MemberState S) (v : View) → IsMemberState who l → is_some l.flush ≡ true → view_in l.view_state ≡ Some v → leads_in who.address v l.notes ≡ true
   flush-leads l v kept there inside = flush-by-leads l.flush l v kept refl there inside
 
 pub anew-is : {S : Type 0} (me : Address) (l : MemberState S) (v : View) (o : Option View) → is_some l.flush ≡ true → view_in l.view_state ≡ Some v → o ≡ proposal_after (core_of me l) l.notes v

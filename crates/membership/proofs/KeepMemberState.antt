@@ -31,8 +31,8 @@ use Rattle.membership.specs.Installs.{instruction_to, instructing, finished_stat
 use Rattle.membership.specs.Changes.{StaysAs, Promises, Begins, ProposesIf, Finishes, FinishesAndProposes, GoesOn, Enters}
 use Rattle.membership.proofs.FactOfProposed.{IsProposal}
 use Rattle.view.proofs.FactOfMembers.{coordinator-in}
-use Rattle.step_output.specs.Steps.{who}
-use Rattle.membership.specs.InSteps.{in_step}
+use Rattle.step_output.specs.Steps.{Who, who}
+use Rattle.membership.specs.InSteps.{InStep, in_step}
 
 -- ---- small things
 
@@ -134,86 +134,86 @@ created-promise me p own none =
     ∙ ap (λ (o : Option View). is_accept (option_map_or (λ v. answer_past (view_id_cmp w.id v.id) v p.is_installed) o Accept)) none in
     ap (after_install w) (cond-true (is_accept (offered w p)) (promising w p) p accepted) ∙ own-installed me w (promising w p) own refl refl
 
-module _ {S : Type 0} (group : List ℕ) (me : Address) where
+module _ {S : Type 0} (who : Who) where
   -- ---- at its start
 
-  pub idle-is-member_state : (s : S) (l : MemberState S) → idle_member me s l → IsMemberState (who me group) l
+  pub idle-is-member_state : (s : S) (l : MemberState S) → idle_member who.address s l → IsMemberState who l
   idle-is-member_state s l i =
       let none : l.promise.proposal ≡ None = ap (λ (p : PromiseModel). p.proposal) i.promise in
       record {
         own = ap (λ (p : PromiseModel). p.member) i.promise;
-        unsuspected = ap (λ (b : NotesModel). stands_in me b.suspects) i.notes;
+        unsuspected = ap (λ (b : NotesModel). stands_in who.address b.suspects) i.notes;
         inside = λ v e. absurd (none-some v (sym (ap view_in i.view_state) ∙ e));
         unconnected = λ e. none;
         listed = λ w e. absurd (none-some w (sym none ∙ e));
         waiting = λ e f w q. absurd (none-some w (sym none ∙ q));
         installed = λ e. not-both l.promise.is_installed e (ap (λ (p : PromiseModel). p.is_installed) i.promise);
         flushing = λ f e. absurd (none-some f (sym i.flush ∙ e));
-        sent_installs = nothing-kept group me l i.sent_installs;
+        sent_installs = nothing-kept who.group who.address l i.sent_installs;
       }
 
   -- ---- a FLUSH is promised
 
-  pub promised-member_state : (l new : MemberState S) (w : View) (out later : Output) → IsMemberState (who me group) l → is_connected l ≡ true → same_address w.id.creator me ≡ false
-      → is_accept (offered w l.promise) ≡ true → Promises (who me group) w (in_step l out) (in_step new later) → IsMemberState (who me group) new
-  promised-member_state l new w out later kept on other accepted p =
-      let listed : stands_in l.promise.member w.members ≡ true = (accepted-parts (stands_in l.promise.member w.members) _ accepted).0 in
-      subst (λ (z : MemberState S). IsMemberState (who me group) z) (sym p.member_state) (record {
+  pub promised-member_state : (w : View) (l new : InStep S) → IsMemberState who l.member → is_connected l.member ≡ true → same_address w.id.creator who.address ≡ false
+      → is_accept (offered w l.member.promise) ≡ true → Promises who w l new → IsMemberState who new.member
+  promised-member_state w l new kept on other accepted p =
+      let listed : stands_in l.member.promise.member w.members ≡ true = (accepted-parts (stands_in l.member.promise.member w.members) _ accepted).0 in
+      subst (λ (z : MemberState S). IsMemberState who z) (sym p.member_state) (record {
         own = kept.own;
         unsuspected = kept.unsuspected;
         inside = kept.inside;
-        unconnected = λ e. not-both (is_connected l) on e;
-        listed = λ v e. subst (λ (z : View). stands_in me z.members ≡ true) (same_Some w v e) (subst (λ (q : Address). stands_in q w.members ≡ true) kept.own listed);
-        waiting = λ e f v q. subst (λ (z : View). same_address z.id.creator me ≡ false) (same_Some w v q) other;
+        unconnected = λ e. not-both (is_connected l.member) on e;
+        listed = λ v e. subst (λ (z : View). stands_in who.address z.members ≡ true) (same_Some w v e) (subst (λ (q : Address). stands_in q w.members ≡ true) kept.own listed);
+        waiting = λ e f v q. subst (λ (z : View). same_address z.id.creator who.address ≡ false) (same_Some w v q) other;
         installed = λ e. absurd (let n : false ≡ true = e in cc);
         flushing = λ f e. absurd (none-some f e);
-        sent_installs = kept-on group me l _ refl refl kept.sent_installs;
+        sent_installs = kept-on who.group who.address l.member _ refl refl kept.sent_installs;
       })
 
   -- ---- a flush of its own begins
 
-  begun-flushing : (l : MemberState S) (w : View) → IsProposal me l w → (z : MemberState S) → z.view_state ≡ l.view_state → z.promise ≡ promising w l.promise → z.notes ≡ l.notes → IsFlushing me z (begun_with me w (report_in l))
+  begun-flushing : (l : MemberState S) (w : View) → IsProposal who.address l w → (z : MemberState S) → z.view_state ≡ l.view_state → z.promise ≡ promising w l.promise → z.notes ≡ l.notes → IsFlushing who.address z (begun_with who.address w (report_in l))
   begun-flushing l w p z view_state promise notes = record {
     inside = ap is_some view_state ∙ inside-some l.view_state p.before p.inside;
     promise = ap (λ (x : PromiseModel). x.proposal) promise;
     own = p.own;
     waiting = ap (λ (x : PromiseModel). x.is_installed) promise;
     list = p.sound;
-    reported = ap (λ b. is_some (cond b (Some (report_in l)) None)) (same_address-refl me);
+    reported = ap (λ b. is_some (cond b (Some (report_in l)) None)) (same_address-refl who.address);
     leads = λ v e.
         let same : p.before ≡ v = same_Some p.before v (sym p.inside ∙ sym (ap view_in view_state) ∙ e) in
-        ap (leads_in me v) notes ∙ subst (λ (u : View). leads_in me u l.notes ≡ true) same p.leads;
+        ap (leads_in who.address v) notes ∙ subst (λ (u : View). leads_in who.address u l.notes ≡ true) same p.leads;
   }
 
-  pub begun-member_state : (l new : MemberState S) (w : View) (out later : Output) → IsMemberState (who me group) l → IsProposal me l w → Begins (who me group) w (in_step l out) (in_step new later) → IsMemberState (who me group) new
-  begun-member_state l new w out later kept p b =
-      subst (λ (z : MemberState S). IsMemberState (who me group) z) (sym b.member_state) (record {
+  pub begun-member_state : (w : View) (l new : InStep S) → IsMemberState who l.member → IsProposal who.address l.member w → Begins who w l new → IsMemberState who new.member
+  begun-member_state w l new kept p b =
+      subst (λ (z : MemberState S). IsMemberState who z) (sym b.member_state) (record {
         own = kept.own;
         unsuspected = kept.unsuspected;
         inside = kept.inside;
-        unconnected = λ e. not-both (is_connected l) (connected-by l.view_state (is_some l.contact) (inside-some l.view_state p.before p.inside)) e;
-        listed = λ v e. subst (λ (z : View). stands_in me z.members ≡ true) (same_Some w v e) p.listed;
-        waiting = λ e f. absurd (none-some (begun_with me w (report_in l)) (sym f));
+        unconnected = λ e. not-both (is_connected l.member) (connected-by l.member.view_state (is_some l.member.contact) (inside-some l.member.view_state p.before p.inside)) e;
+        listed = λ v e. subst (λ (z : View). stands_in who.address z.members ≡ true) (same_Some w v e) p.listed;
+        waiting = λ e f. absurd (none-some (begun_with who.address w (report_in l.member)) (sym f));
         installed = λ e. absurd (let n : false ≡ true = e in cc);
-        flushing = λ f e. subst (λ (g : FlushModel). IsFlushing me (record l { promise = promising w l.promise; flush = Some (begun_with me w (report_in l)) }) g)
-            (same_Some (begun_with me w (report_in l)) f e) (begun-flushing l w p _ refl refl refl);
-        sent_installs = kept-on group me l _ refl refl kept.sent_installs;
+        flushing = λ f e. subst (λ (g : FlushModel). IsFlushing who.address (record (l.member) { promise = promising w l.member.promise; flush = Some (begun_with who.address w (report_in l.member)) }) g)
+            (same_Some (begun_with who.address w (report_in l.member)) f e) (begun-flushing l.member w p _ refl refl refl);
+        sent_installs = kept-on who.group who.address l.member _ refl refl kept.sent_installs;
       })
 
   -- ---- a view is entered
 
   -- in a view that is the promised one, with no notes of suspects
-  pub gone-member_state : (new : MemberState S) (w : View) → new.view_state ≡ Some (fresh_in me w) → new.promise ≡ installed_as me w → new.flush ≡ None → new.notes.suspects ≡ [] → stands_in me w.members ≡ true
-      → IsKept (who me group) new → IsMemberState (who me group) new
+  pub gone-member_state : (new : MemberState S) (w : View) → new.view_state ≡ Some (fresh_in who.address w) → new.promise ≡ installed_as who.address w → new.flush ≡ None → new.notes.suspects ≡ [] → stands_in who.address w.members ≡ true
+      → IsKept who new → IsMemberState who new
   gone-member_state new w view_state promise flush suspects stands kept =
-      let view : view_in new.view_state ≡ Some w = ap view_in view_state ∙ ap Some (fresh-view me w) in
+      let view : view_in new.view_state ≡ Some w = ap view_in view_state ∙ ap Some (fresh-view who.address w) in
       let proposal : new.promise.proposal ≡ Some w = ap (λ (p : PromiseModel). p.proposal) promise in
       record {
         own = ap (λ (p : PromiseModel). p.member) promise;
-        unsuspected = ap (stands_in me) suspects;
-        inside = λ v e. subst (λ (z : View). stands_in me z.members ≡ true) (same_Some w v (sym view ∙ e)) stands;
+        unsuspected = ap (stands_in who.address) suspects;
+        inside = λ v e. subst (λ (z : View). stands_in who.address z.members ≡ true) (same_Some w v (sym view ∙ e)) stands;
         unconnected = λ e. not-both (is_connected new) (connected-by new.view_state (is_some new.contact) (ap is_some view_state)) e;
-        listed = λ v e. subst (λ (z : View). stands_in me z.members ≡ true) (same_Some w v (sym proposal ∙ e)) stands;
+        listed = λ v e. subst (λ (z : View). stands_in who.address z.members ≡ true) (same_Some w v (sym proposal ∙ e)) stands;
         waiting = λ e f. not-both new.promise.is_installed (ap (λ (p : PromiseModel). p.is_installed) promise) e;
         installed = λ e. view ∙ sym proposal;
         flushing = λ f e. absurd (none-some f (sym flush ∙ e));
@@ -221,62 +221,62 @@ module _ {S : Type 0} (group : List ℕ) (me : Address) where
       }
 
   -- it goes into its own proposal
-  pub finished-member_state : (meaning : Meaning S) (f : FlushModel) (t : ViewState) (l old new : MemberState S) (out later : Output) → IsMemberState (who me group) l → l.flush ≡ Some f
-      → old.promise ≡ l.promise → Finishes meaning (who me group) f t (in_step old out) (in_step new later) → IsMemberState (who me group) new
+  pub finished-member_state : (meaning : Meaning S) (f : FlushModel) (t : ViewState) (l old new : MemberState S) (out later : Output) → IsMemberState who l → l.flush ≡ Some f
+      → old.promise ≡ l.promise → Finishes meaning who f t (in_step old out) (in_step new later) → IsMemberState who new
   finished-member_state meaning f t l old new out later kept flush same z =
       let x = kept.flushing f flush in
       let state = meaning.encode (finished_state meaning f t old.receiver) in
-      let same_packets = given-packets me f (view_of t).id state (others_of me f.members) in
-      let view_state : new.view_state ≡ Some (fresh_in me (proposed f)) = ap (λ (n : MemberState S). n.view_state) z.member_state in
-      let promise : after_install (proposed f) old.promise ≡ installed_as me (proposed f) =
-      own-installed me (proposed f) old.promise (ap (λ (p : PromiseModel). p.member) same ∙ kept.own) (ap (λ (p : PromiseModel). p.proposal) same ∙ x.promise) (ap (λ (p : PromiseModel). p.is_installed) same ∙ x.waiting) in
+      let same_packets = given-packets who.address f (view_of t).id state (others_of who.address f.members) in
+      let view_state : new.view_state ≡ Some (fresh_in who.address (proposed f)) = ap (λ (n : MemberState S). n.view_state) z.member_state in
+      let promise : after_install (proposed f) old.promise ≡ installed_as who.address (proposed f) =
+      own-installed who.address (proposed f) old.promise (ap (λ (p : PromiseModel). p.member) same ∙ kept.own) (ap (λ (p : PromiseModel). p.proposal) same ∙ x.promise) (ap (λ (p : PromiseModel). p.is_installed) same ∙ x.waiting) in
       gone-member_state new (proposed f) view_state (ap (λ (n : MemberState S). n.promise) z.member_state ∙ promise) (ap (λ (n : MemberState S). n.flush) z.member_state) (ap (λ (n : MemberState S). n.notes.suspects) z.member_state)
       (subst (λ (p : Address). stands_in p f.members ≡ true) x.own (coordinator-in f.proposal f.members x.list))
       (record {
-        given = given_by f (view_of t).id state (others_of me f.members);
-        spelled = z.sent_installs ∙ ap (map (spelled group)) (sym same_packets);
-        sound = subst (λ ps. AllByRecursion (λ m. IsPacket (packet_in group m)) ps) (sym same_packets) z.grows.sound;
-        current = all-current f (view_of t).id state (others_of me f.members) (view_in new.view_state) (ap view_in view_state ∙ ap Some (fresh-view me (proposed f)));
+        given = given_by f (view_of t).id state (others_of who.address f.members);
+        spelled = z.sent_installs ∙ ap (map (spelled who.group)) (sym same_packets);
+        sound = subst (λ ps. AllByRecursion (λ m. IsPacket (packet_in who.group m)) ps) (sym same_packets) z.grows.sound;
+        current = all-current f (view_of t).id state (others_of who.address f.members) (view_in new.view_state) (ap view_in view_state ∙ ap Some (fresh-view who.address (proposed f)));
       })
 
   -- all have reported: it goes into its own proposal, and proposes what is due then
-  pub goes-on : (meaning : Meaning S) (old mid new : MemberState S) (f : FlushModel) (t : ViewState) (out between later : Output) → old.flush ≡ Some f → old.view_state ≡ Some t
-      → option_map_or is_complete old.flush false ≡ true → Finishes meaning (who me group) f t (in_step old out) (in_step mid between) → ProposesIf (who me group) (in_step mid between) (in_step new later) → GoesOn meaning (who me group) (in_step old out) (in_step new later)
-  goes-on meaning old mid new f t out between later flush view_state complete finishes proposes =
+  pub goes-on : (meaning : Meaning S) (f : FlushModel) (t : ViewState) (old mid new : InStep S) → old.member.flush ≡ Some f → old.member.view_state ≡ Some t
+      → option_map_or is_complete old.member.flush false ≡ true → Finishes meaning who f t old mid → ProposesIf who mid new → GoesOn meaning who old new
+  goes-on meaning f t old mid new flush view_state complete finishes proposes =
       let all : is_complete f ≡ true = subst (λ (o : Option FlushModel). option_map_or is_complete o false ≡ true) flush complete in
-      let then : FinishesAndProposes meaning (who me group) f t (in_step old out) (in_step new later) = record { mid = in_step mid between; finishes = finishes; proposes = proposes } in
-      let inside : MatchOption old.view_state ⊥ (λ u. FinishesAndProposes meaning (who me group) f u (in_step old out) (in_step new later)) =
-      subst (λ (o : Option ViewState). MatchOption o ⊥ (λ u. FinishesAndProposes meaning (who me group) f u (in_step old out) (in_step new later))) (sym view_state) then in
-      let done : MatchBool (is_complete f) (MatchOption old.view_state ⊥ (λ u. FinishesAndProposes meaning (who me group) f u (in_step old out) (in_step new later))) (StaysAs (in_step old out) (in_step new later)) =
-      subst (λ (b : Bool). MatchBool b (MatchOption old.view_state ⊥ (λ u. FinishesAndProposes meaning (who me group) f u (in_step old out) (in_step new later))) (StaysAs (in_step old out) (in_step new later))) (sym all) inside in
-      subst (λ (o : Option FlushModel). MatchOption o (StaysAs (in_step old out) (in_step new later))
-      (λ g. MatchBool (is_complete g) (MatchOption old.view_state ⊥ (λ u. FinishesAndProposes meaning (who me group) g u (in_step old out) (in_step new later))) (StaysAs (in_step old out) (in_step new later)))) (sym flush) done
+      let then : FinishesAndProposes meaning who f t old new = record { mid = in_step mid.member mid.out; finishes = finishes; proposes = proposes } in
+      let inside : MatchOption old.member.view_state ⊥ (λ u. FinishesAndProposes meaning who f u old new) =
+      subst (λ (o : Option ViewState). MatchOption o ⊥ (λ u. FinishesAndProposes meaning who f u old new)) (sym view_state) then in
+      let done : MatchBool (is_complete f) (MatchOption old.member.view_state ⊥ (λ u. FinishesAndProposes meaning who f u old new)) (StaysAs old new) =
+      subst (λ (b : Bool). MatchBool b (MatchOption old.member.view_state ⊥ (λ u. FinishesAndProposes meaning who f u old new)) (StaysAs old new)) (sym all) inside in
+      subst (λ (o : Option FlushModel). MatchOption o (StaysAs old new)
+      (λ g. MatchBool (is_complete g) (MatchOption old.member.view_state ⊥ (λ u. FinishesAndProposes meaning who g u old new)) (StaysAs old new))) (sym flush) done
 
   -- it enters the view of another
   pub entered-member_state : (meaning : Meaning S) (q : Address) (i : wire.Install) (view_state : Option ViewState) (l old new : MemberState S) (out later : Output)
-      → IsMemberState (who me group) l → is_entry (core_of me l) q i ≡ true → old.promise ≡ l.promise → Enters meaning (who me group) view_state i (in_step old out) (in_step new later) → IsMemberState (who me group) new
+      → IsMemberState who l → is_entry (core_of who.address l) q i ≡ true → old.promise ≡ l.promise → Enters meaning who view_state i (in_step old out) (in_step new later) → IsMemberState who new
   entered-member_state meaning q i view_state l old new out later kept enters same z =
       let parts = and_parts (same_address q i.view.id.creator && may_install i.view l.promise) (is_fitting (view_in l.view_state) (view_core_in l.view_state).delivered i) enters in
       let may : may_install i.view l.promise ≡ true = (and_parts (same_address q i.view.id.creator) (may_install i.view l.promise) parts.0).1 in
-      let promise : after_install i.view old.promise ≡ installed_as me i.view = ap (after_install i.view) same ∙ other-installed me i.view l.promise kept.own may in
+      let promise : after_install i.view old.promise ≡ installed_as who.address i.view = ap (after_install i.view) same ∙ other-installed who.address i.view l.promise kept.own may in
       gone-member_state new i.view (ap (λ (n : MemberState S). n.view_state) z.member_state) (ap (λ (n : MemberState S). n.promise) z.member_state ∙ promise) (ap (λ (n : MemberState S). n.flush) z.member_state) (ap (λ (n : MemberState S). n.notes.suspects) z.member_state)
-      (kept.listed i.view (only-the-promised i.view l.promise may).0) (nothing-kept group me new z.sent_installs)
+      (kept.listed i.view (only-the-promised i.view l.promise may).0) (nothing-kept who.group who.address new z.sent_installs)
 
   -- a member whose flush and view are these
-  pub whole-member_state : (l : MemberState S) (f : FlushModel) (t : ViewState) → l.flush ≡ Some f → l.view_state ≡ Some t → IsMemberState (who me group) l → IsMemberState (who me group) (record l { flush = Some f; view_state = Some t })
+  pub whole-member_state : (l : MemberState S) (f : FlushModel) (t : ViewState) → l.flush ≡ Some f → l.view_state ≡ Some t → IsMemberState who l → IsMemberState who (record l { flush = Some f; view_state = Some t })
   whole-member_state l f t flush view_state kept =
       let same : l ≡ record l { flush = Some f; view_state = Some t } = λ j. record l { flush = flush j; view_state = view_state j } in
-      subst (λ (z : MemberState S). IsMemberState (who me group) z) same kept
+      subst (λ (z : MemberState S). IsMemberState who z) same kept
 
   -- ---- a report is recorded
 
-  recorded-flushing : (l : MemberState S) (q : Address) (w : ViewId) (r : wire.Report) (f : FlushModel) (b d : Bool) (o : Option FlushModel) → IsFlushing me l f
-      → IsFlushing me (record l { flush = o }) (cond b (cond d (record f { reports = f.reports ++ (q, r) ∷ [] }) f) f)
-  recorded-flushing l q w r f true true o x = record { inside = x.inside; promise = x.promise; own = x.own; waiting = x.waiting; list = x.list; reported = reported-more me f.reports ((q, r) ∷ []) x.reported; leads = x.leads }
+  recorded-flushing : (l : MemberState S) (q : Address) (w : ViewId) (r : wire.Report) (f : FlushModel) (b d : Bool) (o : Option FlushModel) → IsFlushing who.address l f
+      → IsFlushing who.address (record l { flush = o }) (cond b (cond d (record f { reports = f.reports ++ (q, r) ∷ [] }) f) f)
+  recorded-flushing l q w r f true true o x = record { inside = x.inside; promise = x.promise; own = x.own; waiting = x.waiting; list = x.list; reported = reported-more who.address f.reports ((q, r) ∷ []) x.reported; leads = x.leads }
   recorded-flushing l q w r f true false o x = record { inside = x.inside; promise = x.promise; own = x.own; waiting = x.waiting; list = x.list; reported = x.reported; leads = x.leads }
   recorded-flushing l q w r f false d o x = record { inside = x.inside; promise = x.promise; own = x.own; waiting = x.waiting; list = x.list; reported = x.reported; leads = x.leads }
 
-  recorded-by : (l : MemberState S) (q : Address) (w : ViewId) (r : wire.Report) (flush : Option FlushModel) → l.flush ≡ flush → IsMemberState (who me group) l → IsMemberState (who me group) (record l { flush = option_map (recording q w r) flush })
+  recorded-by : (l : MemberState S) (q : Address) (w : ViewId) (r : wire.Report) (flush : Option FlushModel) → l.flush ≡ flush → IsMemberState who l → IsMemberState who (record l { flush = option_map (recording q w r) flush })
   recorded-by l q w r None e kept = record {
     own = kept.own;
     unsuspected = kept.unsuspected;
@@ -286,7 +286,7 @@ module _ {S : Type 0} (group : List ℕ) (me : Address) where
     waiting = λ i f. kept.waiting i e;
     installed = kept.installed;
     flushing = λ f same. absurd (none-some f same);
-    sent_installs = kept-on group me l _ refl refl kept.sent_installs;
+    sent_installs = kept-on who.group who.address l _ refl refl kept.sent_installs;
   }
   recorded-by l q w r (Some f) e kept = record {
     own = kept.own;
@@ -296,20 +296,20 @@ module _ {S : Type 0} (group : List ℕ) (me : Address) where
     listed = kept.listed;
     waiting = λ i none. absurd (none-some (recording q w r f) (sym none));
     installed = kept.installed;
-    flushing = λ g same. subst (λ (z : FlushModel). IsFlushing me (record l { flush = Some (recording q w r f) }) z) (same_Some (recording q w r f) g same)
+    flushing = λ g same. subst (λ (z : FlushModel). IsFlushing who.address (record l { flush = Some (recording q w r f) }) z) (same_Some (recording q w r f) g same)
         (recorded-flushing l q w r f (same_view_id f.proposal w) (is_awaited q f) (Some (recording q w r f)) (kept.flushing f e));
-    sent_installs = kept-on group me l _ refl refl kept.sent_installs;
+    sent_installs = kept-on who.group who.address l _ refl refl kept.sent_installs;
   }
 
-  pub recorded-member_state : (l new : MemberState S) (q : Address) (w : ViewId) (r : wire.Report) → IsMemberState (who me group) l → new ≡ record l { flush = option_map (recording q w r) l.flush } → IsMemberState (who me group) new
-  recorded-member_state l new q w r kept is = subst (λ (z : MemberState S). IsMemberState (who me group) z) (sym is) (recorded-by l q w r l.flush refl kept)
+  pub recorded-member_state : (l new : MemberState S) (q : Address) (w : ViewId) (r : wire.Report) → IsMemberState who l → new ≡ record l { flush = option_map (recording q w r) l.flush } → IsMemberState who new
+  recorded-member_state l new q w r kept is = subst (λ (z : MemberState S). IsMemberState who z) (sym is) (recorded-by l q w r l.flush refl kept)
 
   -- ---- notes
 
   -- notes by which it does not suspect itself, and goes on to lead where it led
-  pub noted-member_state : (l new : MemberState S) (b : NotesModel) → IsMemberState (who me group) l → new ≡ record l { notes = b } → stands_in me b.suspects ≡ false
-      → ((v : View) → leads_in me v l.notes ≡ true → leads_in me v b ≡ true) → IsMemberState (who me group) new
-  noted-member_state l new b kept is free leads = subst (λ (z : MemberState S). IsMemberState (who me group) z) (sym is) (record {
+  pub noted-member_state : (l new : MemberState S) (b : NotesModel) → IsMemberState who l → new ≡ record l { notes = b } → stands_in who.address b.suspects ≡ false
+      → ((v : View) → leads_in who.address v l.notes ≡ true → leads_in who.address v b ≡ true) → IsMemberState who new
+  noted-member_state l new b kept is free leads = subst (λ (z : MemberState S). IsMemberState who z) (sym is) (record {
     own = kept.own;
     unsuspected = free;
     inside = kept.inside;
@@ -319,13 +319,13 @@ module _ {S : Type 0} (group : List ℕ) (me : Address) where
     installed = kept.installed;
     flushing = λ f e. let x = kept.flushing f e in
         record { inside = x.inside; promise = x.promise; own = x.own; waiting = x.waiting; list = x.list; reported = x.reported; leads = λ v i. leads v (x.leads v i) };
-    sent_installs = kept-on group me l _ refl refl kept.sent_installs;
+    sent_installs = kept-on who.group who.address l _ refl refl kept.sent_installs;
   })
 
   -- ---- a new contact
 
-  pub contact-member_state : (l new : MemberState S) (q : Address) → IsMemberState (who me group) l → new ≡ record l { contact = Some q } → IsMemberState (who me group) new
-  contact-member_state l new q kept is = subst (λ (z : MemberState S). IsMemberState (who me group) z) (sym is) (record {
+  pub contact-member_state : (l new : MemberState S) (q : Address) → IsMemberState who l → new ≡ record l { contact = Some q } → IsMemberState who new
+  contact-member_state l new q kept is = subst (λ (z : MemberState S). IsMemberState who z) (sym is) (record {
     own = kept.own;
     unsuspected = kept.unsuspected;
     inside = kept.inside;
@@ -335,33 +335,33 @@ module _ {S : Type 0} (group : List ℕ) (me : Address) where
     installed = kept.installed;
     flushing = λ f e. let x = kept.flushing f e in
         record { inside = x.inside; promise = x.promise; own = x.own; waiting = x.waiting; list = x.list; reported = x.reported; leads = x.leads };
-    sent_installs = kept-on group me l _ refl refl kept.sent_installs;
+    sent_installs = kept-on who.group who.address l _ refl refl kept.sent_installs;
   })
 
   -- ---- a first view of itself alone
 
-  unflushed : (flush : Option FlushModel) (l : MemberState S) → l.flush ≡ flush → l.view_state ≡ None → IsMemberState (who me group) l → flush ≡ None
+  unflushed : (flush : Option FlushModel) (l : MemberState S) → l.flush ≡ flush → l.view_state ≡ None → IsMemberState who l → flush ≡ None
   unflushed None l e none kept = refl
   unflushed (Some f) l e none kept = not-both (is_some l.view_state) (kept.flushing f e).inside (ap is_some none)
 
-  pub created-member_state : (l new : MemberState S) → IsMemberState (who me group) l → is_connected l ≡ false → new ≡ record l { view_state = Some (fresh_in me (lone_view me)); promise = installed_as me (lone_view me) } → IsMemberState (who me group) new
+  pub created-member_state : (l new : MemberState S) → IsMemberState who l → is_connected l ≡ false → new ≡ record l { view_state = Some (fresh_in who.address (lone_view who.address)); promise = installed_as who.address (lone_view who.address) } → IsMemberState who new
   created-member_state l new kept off is =
       let none : l.view_state ≡ None = outside l.view_state (is_some l.contact) off in
-      let no-items : l.sent_installs.items ≡ [] = kept.sent_installs.spelled ∙ ap (λ g. map (spelled group) (map (install_packet me) g)) (none-given (view_in l.view_state) kept.sent_installs.given (ap view_in none) kept.sent_installs.current) in
-      let view_state : new.view_state ≡ Some (fresh_in me (lone_view me)) = ap (λ (n : MemberState S). n.view_state) is in
-      let promise : new.promise ≡ installed_as me (lone_view me) = ap (λ (n : MemberState S). n.promise) is in
-      let view : view_in new.view_state ≡ Some (lone_view me) = ap view_in view_state ∙ ap Some (fresh-view me (lone_view me)) in
-      let proposal : new.promise.proposal ≡ Some (lone_view me) = ap (λ (p : PromiseModel). p.proposal) promise in
-      let stands : stands_in me (lone_view me).members ≡ true = ap (λ b. b || false) (same_address-refl me) in
+      let no-items : l.sent_installs.items ≡ [] = kept.sent_installs.spelled ∙ ap (λ g. map (spelled who.group) (map (install_packet who.address) g)) (none-given (view_in l.view_state) kept.sent_installs.given (ap view_in none) kept.sent_installs.current) in
+      let view_state : new.view_state ≡ Some (fresh_in who.address (lone_view who.address)) = ap (λ (n : MemberState S). n.view_state) is in
+      let promise : new.promise ≡ installed_as who.address (lone_view who.address) = ap (λ (n : MemberState S). n.promise) is in
+      let view : view_in new.view_state ≡ Some (lone_view who.address) = ap view_in view_state ∙ ap Some (fresh-view who.address (lone_view who.address)) in
+      let proposal : new.promise.proposal ≡ Some (lone_view who.address) = ap (λ (p : PromiseModel). p.proposal) promise in
+      let stands : stands_in who.address (lone_view who.address).members ≡ true = ap (λ b. b || false) (same_address-refl who.address) in
       let flush : new.flush ≡ None = ap (λ (n : MemberState S). n.flush) is ∙ unflushed l.flush l refl none kept in
       record {
         own = ap (λ (p : PromiseModel). p.member) promise;
-        unsuspected = ap (λ (n : MemberState S). stands_in me n.notes.suspects) is ∙ kept.unsuspected;
-        inside = λ v e. subst (λ (z : View). stands_in me z.members ≡ true) (same_Some (lone_view me) v (sym view ∙ e)) stands;
+        unsuspected = ap (λ (n : MemberState S). stands_in who.address n.notes.suspects) is ∙ kept.unsuspected;
+        inside = λ v e. subst (λ (z : View). stands_in who.address z.members ≡ true) (same_Some (lone_view who.address) v (sym view ∙ e)) stands;
         unconnected = λ e. not-both (is_connected new) (connected-by new.view_state (is_some new.contact) (ap is_some view_state)) e;
-        listed = λ v e. subst (λ (z : View). stands_in me z.members ≡ true) (same_Some (lone_view me) v (sym proposal ∙ e)) stands;
+        listed = λ v e. subst (λ (z : View). stands_in who.address z.members ≡ true) (same_Some (lone_view who.address) v (sym proposal ∙ e)) stands;
         waiting = λ e f. not-both new.promise.is_installed (ap (λ (p : PromiseModel). p.is_installed) promise) e;
         installed = λ e. view ∙ sym proposal;
         flushing = λ f e. absurd (none-some f (sym flush ∙ e));
-        sent_installs = nothing-kept group me new (ap (λ (n : MemberState S). n.sent_installs.items) is ∙ no-items);
+        sent_installs = nothing-kept who.group who.address new (ap (λ (n : MemberState S). n.sent_installs.items) is ∙ no-items);
       }

@@ -15,7 +15,7 @@ use Rattle.membership.specs.declared.member_state.MemberState.{MemberState}
 use Rattle.membership.specs.MemberStates.{IsMemberState}
 use Rattle.membership.proofs.KeepMemberState.{noted-member_state}
 use Rattle.address.proofs.SameIds.{same_address-sym}
-use Rattle.step_output.specs.Steps.{who}
+use Rattle.step_output.specs.Steps.{Who}
 
 -- ---- more suspects
 
@@ -95,32 +95,32 @@ noting_view-suspects me members u notes =
     let new = new_of members u.members notes in
     viewed-by (nat_eq (length new) 0) (has_room me members (with_merging new notes)) new (max notes.heard u.id.counter) notes
 
-module _ {S : Type 0} (group : List ℕ) (me : Address) where
+module _ {S : Type 0} (who : Who) where
   -- the same suspects
-  pub same-suspects-member_state : (l new : MemberState S) (b : NotesModel) → IsMemberState (who me group) l → new ≡ record l { notes = b } → b.suspects ≡ l.notes.suspects → IsMemberState (who me group) new
+  pub same-suspects-member_state : (l new : MemberState S) (b : NotesModel) → IsMemberState who l → new ≡ record l { notes = b } → b.suspects ≡ l.notes.suspects → IsMemberState who new
   same-suspects-member_state l new b kept is same =
-      noted-member_state group me l new b kept is (ap (stands_in me) same ∙ kept.unsuspected) (λ v e. ap (λ s. leads s v.members me) same ∙ e)
+      noted-member_state who l new b kept is (ap (stands_in who.address) same ∙ kept.unsuspected) (λ v e. ap (λ s. leads s v.members who.address) same ∙ e)
 
   -- an address more is suspected
-  pub suspected-member_state : (l new : MemberState S) (p : Address) → IsMemberState (who me group) l → same_address p me ≡ false → new ≡ record l { notes = suspecting p l.notes } → IsMemberState (who me group) new
+  pub suspected-member_state : (l new : MemberState S) (p : Address) → IsMemberState who l → same_address p who.address ≡ false → new ≡ record l { notes = suspecting p l.notes } → IsMemberState who new
   suspected-member_state l new p kept other is =
-      noted-member_state group me l new (suspecting p l.notes) kept is (free-too p me l.notes.suspects other kept.unsuspected)
-      (λ v e. leads-more l.notes.suspects (suspected_too p l.notes.suspects) v.members me (has-too p l.notes.suspects) e)
+      noted-member_state who l new (suspecting p l.notes) kept is (free-too p who.address l.notes.suspects other kept.unsuspected)
+      (λ v e. leads-more l.notes.suspects (suspected_too p l.notes.suspects) v.members who.address (has-too p l.notes.suspects) e)
 
   -- those of whose nodes p is a later incarnation are suspected
-  pub outdated-member_state : (l new : MemberState S) (members : List Address) (p : Address) → IsMemberState (who me group) l → new ≡ record l { notes = outdating me members p l.notes } → IsMemberState (who me group) new
+  pub outdated-member_state : (l new : MemberState S) (members : List Address) (p : Address) → IsMemberState who l → new ≡ record l { notes = outdating who.address members p l.notes } → IsMemberState who new
   outdated-member_state l new members p kept is =
-      let x = outdating-more me p members l.notes in
-      noted-member_state group me l new (outdating me members p l.notes) kept is (x.free kept.unsuspected) (λ v e. leads-more l.notes.suspects (outdating me members p l.notes).suspects v.members me x.has e)
+      let x = outdating-more who.address p members l.notes in
+      noted-member_state who l new (outdating who.address members p l.notes) kept is (x.free kept.unsuspected) (λ v e. leads-more l.notes.suspects (outdating who.address members p l.notes).suspects v.members who.address x.has e)
 
   -- a counter is heard of
-  pub heard-member_state : (l new : MemberState S) (n : ℕ) → IsMemberState (who me group) l → new ≡ record l { notes = having_heard n l.notes } → IsMemberState (who me group) new
+  pub heard-member_state : (l new : MemberState S) (n : ℕ) → IsMemberState who l → new ≡ record l { notes = having_heard n l.notes } → IsMemberState who new
   heard-member_state l new n kept is = same-suspects-member_state l new (having_heard n l.notes) kept is refl
 
   -- one who asks to be let in is noted
-  pub joiner-member_state : (l new : MemberState S) (members listed : List Address) (p : Address) → IsMemberState (who me group) l → new ≡ record l { notes = noting me members listed p l.notes } → IsMemberState (who me group) new
-  joiner-member_state l new members listed p kept is = same-suspects-member_state l new (noting me members listed p l.notes) kept is (noting-suspects me members listed p l.notes)
+  pub joiner-member_state : (l new : MemberState S) (members listed : List Address) (p : Address) → IsMemberState who l → new ≡ record l { notes = noting who.address members listed p l.notes } → IsMemberState who new
+  joiner-member_state l new members listed p kept is = same-suspects-member_state l new (noting who.address members listed p l.notes) kept is (noting-suspects who.address members listed p l.notes)
 
   -- a view that merges is noted
-  pub merging-member_state : (l new : MemberState S) (members : List Address) (u : View) → IsMemberState (who me group) l → new ≡ record l { notes = noting_view me members u l.notes } → IsMemberState (who me group) new
-  merging-member_state l new members u kept is = same-suspects-member_state l new (noting_view me members u l.notes) kept is (noting_view-suspects me members u l.notes)
+  pub merging-member_state : (l new : MemberState S) (members : List Address) (u : View) → IsMemberState who l → new ≡ record l { notes = noting_view who.address members u l.notes } → IsMemberState who new
+  merging-member_state l new members u kept is = same-suspects-member_state l new (noting_view who.address members u l.notes) kept is (noting_view-suspects who.address members u l.notes)

@@ -76,7 +76,7 @@ module _ {S : Type 0} (meaning : Meaning S) where
   status-goes p group a m s out new more x =
       let next = collected_to a.stable m in
       subst (λ (n : Follower). FollowerGoes meaning (status_packet p m.view a) (who p group) (in_view m s out) (in_view n s more)) (sym x.0)
-      (other-then meaning (status_packet p m.view a) p group m next next s s s out out more
+      (other-then meaning (status_packet p m.view a) (who p group) (in_view m s out) (in_view next s out) (in_view next s more)
       (record { posted = []; happened = []; acted = λ kept. announced-by _ p kept m s a refl; grows = grows-nothing group out }, refl)
       (asks-goes meaning (status_packet p m.view a) p group a.highest next s out more (subst (λ (n : Follower). AsksUpTo (who p group) a.highest n out more) x.0 x.1)))
 

@@ -29,8 +29,8 @@ use Rattle.traffic.proofs.ActsOfCoordinator.{view_core_at, delivered-by}
 use Rattle.traffic.proofs.Windows.{holds-more, holds-above}
 use Rattle.step_output.proofs.FactOfGrows.{grows-nothing}
 use Rattle.traffic.proofs.ActsInTurn.{other-nothing, other-then}
-use Rattle.step_output.specs.Steps.{who}
-use Rattle.traffic.specs.InViews.{in_view}
+use Rattle.step_output.specs.Steps.{Who, who}
+use Rattle.traffic.specs.InViews.{InView, in_view}
 
 record Taken (g : ℕ) (w : WindowModel) : Type 0 where
   pub past : w.delivered < g
@@ -49,8 +49,8 @@ taken-fact g w h =
     record { past = o.past; near = o.reach; free = none-is (held_at g w.held) z.1 }
 
 module _ {S : Type 0} (meaning : Meaning S) where
-  abbrev Does : Option Posted → Address → List ℕ → Follower → S → Output → Follower → S → Output → Type 0
-  Does came p group old s out new t more = FollowerGoes meaning came (who p group) (in_view old s out) (in_view new t more)
+  abbrev Does : Option Posted → Who → InView Follower S → InView Follower S → Type 0
+  Does came w old new = FollowerGoes meaning came w old new
 
   -- ---- Delivers
 
@@ -74,10 +74,10 @@ module _ {S : Type 0} (meaning : Meaning S) where
       }
 
   pub delivers-goes : (came : Option Posted) (p : Address) (group : List ℕ) (m : Follower) (s : S) (out : Output) (e : Entry) (new : Follower) (t : S) (more : Output) → same_address p m.view.id.creator ≡ false
-      → held_at (m.window.delivered + 1) m.window.held ≡ Some e → DeliversOne meaning (who p group) e (in_view m s out) (in_view new t more) → Does came p group m s out new t more
+      → held_at (m.window.delivered + 1) m.window.held ≡ Some e → DeliversOne meaning (who p group) e (in_view m s out) (in_view new t more) → Does came (who p group) (in_view m s out) (in_view new t more)
   delivers-goes came p group m s out e new t more other there x =
-      subst (λ (n : Follower). Does came p group m s out n t more) (sym x.now)
-      (subst (λ (z : S). Does came p group m s out (record m { window = record (m.window) { delivered = m.window.delivered + 1 }; forwards = after_delivery p e m.forwards }) z more) (sym x.state) (
+      subst (λ (n : Follower). Does came (who p group) (in_view m s out) (in_view n t more)) (sym x.now)
+      (subst (λ (z : S). Does came (who p group) (in_view m s out) (in_view (record m { window = record (m.window) { delivered = m.window.delivered + 1 }; forwards = after_delivery p e m.forwards }) z more)) (sym x.state) (
         record {
           posted = [];
           happened = delivery p m.view.id e ∷ [];
@@ -146,20 +146,20 @@ module _ {S : Type 0} (meaning : Meaning S) where
 
   -- an ORDER: what is stable by it is let go of, and it is held
   pub takes-goes : (p : Address) (group : List ℕ) (m : Follower) (s : S) (out : Output) (g : ℕ) (e : Entry) (more most : Follower) → same_address p m.view.id.creator ≡ false
-      → more ≡ collected_to (g - WINDOW) m → most ≡ held_too g e more → Does (order_packet p m.view g e) p group m s out most s out
+      → more ≡ collected_to (g - WINDOW) m → most ≡ held_too g e more → Does (order_packet p m.view g e) (who p group) (in_view m s out) (in_view most s out)
   takes-goes p group m s out g e more most other now after =
       let next = collected_to (g - WINDOW) m in
-      let one : Does (order_packet p m.view g e) p group m s out next s out =
+      let one : Does (order_packet p m.view g e) (who p group) (in_view m s out) (in_view next s out) =
       (record { posted = []; happened = []; acted = λ kept. collects-by _ p kept m s g e refl; grows = grows-nothing group out }, refl) in
-      let two : Does (order_packet p m.view g e) p group next s out (held_too g e next) s out =
+      let two : Does (order_packet p m.view g e) (who p group) (in_view next s out) (in_view (held_too g e next) s out) =
       (record { posted = []; happened = []; acted = λ kept. holds-by _ p kept next s g e other refl; grows = grows-nothing group out }, refl) in
-      subst (λ (n : Follower). Does (order_packet p m.view g e) p group m s out n s out) (sym (after ∙ ap (held_too g e) now))
-      (other-then meaning (order_packet p m.view g e) p group m next (held_too g e next) s s s out out out one two)
+      subst (λ (n : Follower). Does (order_packet p m.view g e) (who p group) (in_view m s out) (in_view n s out)) (sym (after ∙ ap (held_too g e) now))
+      (other-then meaning (order_packet p m.view g e) (who p group) (in_view m s out) (in_view next s out) (in_view (held_too g e next) s out) one two)
 
   -- ---- a packet that says what is known
 
   pub puts-goes : (came : Option Posted) (p : Address) (group : List ℕ) (m : Follower) (s : S) (out more : Output) (q : Address) (b : Body)
-      → ((kept : List (Address × wire.Install)) → Describes (open_core p m.view kept (follower_core m) s) q b) → Grows group out more (packet p b q ∷ []) [] → Does came p group m s out m s more
+      → ((kept : List (Address × wire.Install)) → Describes (open_core p m.view kept (follower_core m) s) q b) → Grows group out more (packet p b q ∷ []) [] → Does came (who p group) (in_view m s out) (in_view m s more)
   puts-goes came p group m s out more q b says puts = (
     record {
       posted = packet p b q ∷ [];
@@ -172,57 +172,60 @@ module _ {S : Type 0} (meaning : Meaning S) where
 
   -- ---- one turn of delivering, as the code has it
 
-  abbrev pub DeliversIf : Address → List ℕ → Bool → Option Entry → Follower → S → Output → Follower → S → Output → Type 0
-  DeliversIf p group did_deliver held m s out new t more =
-      MatchOption held ((did_deliver ≡ false) × (new ≡ m) × (t ≡ s) × (more ≡ out)) (λ e. (did_deliver ≡ true) × DeliversOne meaning (who p group) e (in_view m s out) (in_view new t more))
+  abbrev pub DeliversIf : Who → Bool → Option Entry → InView Follower S → InView Follower S → Type 0
+  DeliversIf w did_deliver held old new =
+      MatchOption held ((did_deliver ≡ false) × (new.part ≡ old.part) × (new.state ≡ old.state) × (new.out ≡ old.out)) (λ e. (did_deliver ≡ true) × DeliversOne meaning w e old new)
 
-  delivery-turn : (held : Option Entry) (came : Option Posted) (p : Address) (group : List ℕ) (did_deliver : Bool) (m : Follower) (s : S) (out : Output) (new : Follower) (t : S) (more : Output)
-      → same_address p m.view.id.creator ≡ false → held_at (m.window.delivered + 1) m.window.held ≡ held → DeliversIf p group did_deliver held m s out new t more → Does came p group m s out new t more
-  delivery-turn None came p group did_deliver m s out new t more other there x =
-      subst (λ (n : Follower). Does came p group m s out n t more) (sym x.1)
-      (subst (λ (z : S). Does came p group m s out m z more) (sym x.2) (subst (λ (o : Output). Does came p group m s out m s o) (sym x.3) (other-nothing meaning came p group m s out)))
-  delivery-turn (Some e) came p group did_deliver m s out new t more other there x = delivers-goes came p group m s out e new t more other there x.1
+  abbrev pub next_held : Follower → Option Entry
+  next_held m = held_at (m.window.delivered + 1) m.window.held
 
-  pub turn-goes : (came : Option Posted) (p : Address) (group : List ℕ) (did_deliver : Bool) (m : Follower) (s : S) (out : Output) (new : Follower) (t : S) (more : Output)
-      → same_address p m.view.id.creator ≡ false → DeliversIf p group did_deliver (held_at (m.window.delivered + 1) m.window.held) m s out new t more → Does came p group m s out new t more
-  turn-goes came p group did_deliver m s out new t more other x = delivery-turn (held_at (m.window.delivered + 1) m.window.held) came p group did_deliver m s out new t more other refl x
+  delivery-turn : (held : Option Entry) (came : Option Posted) (w : Who) (did_deliver : Bool) (old new : InView Follower S) → same_address w.address old.part.view.id.creator ≡ false → next_held old.part ≡ held
+      → DeliversIf w did_deliver held old new → Does came w old new
+  delivery-turn None came w did_deliver old new other there x =
+      subst (λ (n : Follower). Does came w old (in_view n new.state new.out)) (sym x.1)
+      (subst (λ (z : S). Does came w old (in_view old.part z new.out)) (sym x.2) (subst (λ (o : Output). Does came w old (in_view old.part old.state o)) (sym x.3) (other-nothing meaning came w old)))
+  delivery-turn (Some e) came w did_deliver old new other there x =
+      delivers-goes came w.address w.group old.part old.state old.out e new.part new.state new.out other there x.1
+
+  pub turn-goes : (came : Option Posted) (w : Who) (did_deliver : Bool) (old new : InView Follower S) → same_address w.address old.part.view.id.creator ≡ false
+      → DeliversIf w did_deliver (next_held old.part) old new → Does came w old new
+  turn-goes came w did_deliver old new other x = delivery-turn (next_held old.part) came w did_deliver old new other refl x
 
   -- it is at an end, or comes nearer to it
-  end-by : (held : Option Entry) (p : Address) (group : List ℕ) (m : Follower) (s : S) (out : Output) (new : Follower) (t : S) (more : Output)
-      → held_at (m.window.delivered + 1) m.window.held ≡ held → DeliversIf p group false held m s out new t more → held_at (new.window.delivered + 1) new.window.held ≡ None
-  end-by None p group m s out new t more there x = ap (λ (n : Follower). held_at (n.window.delivered + 1) n.window.held) x.1 ∙ there
-  end-by (Some e) p group m s out new t more there x = let f = x.0 in cc
+  end-by : (held : Option Entry) (w : Who) (old new : InView Follower S) → next_held old.part ≡ held → DeliversIf w false held old new → next_held new.part ≡ None
+  end-by None w old new there x = ap next_held x.1 ∙ there
+  end-by (Some e) w old new there x = let f = x.0 in cc
 
-  pub turn-ends : (p : Address) (group : List ℕ) (m : Follower) (s : S) (out : Output) (new : Follower) (t : S) (more : Output)
-      → DeliversIf p group false (held_at (m.window.delivered + 1) m.window.held) m s out new t more → held_at (new.window.delivered + 1) new.window.held ≡ None
-  turn-ends p group m s out new t more x = end-by (held_at (m.window.delivered + 1) m.window.held) p group m s out new t more refl x
+  pub turn-ends : (w : Who) (old new : InView Follower S) → DeliversIf w false (next_held old.part) old new → next_held new.part ≡ None
+  turn-ends w old new x = end-by (next_held old.part) w old new refl x
 
-  near-by : (held : Option Entry) (p : Address) (group : List ℕ) (m : Follower) (s : S) (out : Output) (new : Follower) (t : S) (more : Output) → IsWindow m.window
-      → held_at (m.window.delivered + 1) m.window.held ≡ held → DeliversIf p group true held m s out new t more
-      → new.window.stable + WINDOW - new.window.delivered < m.window.stable + WINDOW - m.window.delivered
-  near-by None p group m s out new t more w there x = let f = x.0 in cc
-  near-by (Some e) p group m s out new t more w there x =
+  -- how much may still be delivered
+  abbrev left_in : Follower → ℕ
+  left_in m = m.window.stable + WINDOW - m.window.delivered
+
+  near-by : (held : Option Entry) (w : Who) (old new : InView Follower S) → IsWindow old.part.window → next_held old.part ≡ held → DeliversIf w true held old new → left_in new.part < left_in old.part
+  near-by None w old new window there x = let f = x.0 in cc
+  near-by (Some e) w old new window there x =
       let y = x.1 in
-      let near : m.window.delivered + 1 ≤ m.window.stable + WINDOW = w.within (m.window.delivered + 1) (ap is_some there) in
+      let m = old.part in
+      let near : m.window.delivered + 1 ≤ m.window.stable + WINDOW = window.within (m.window.delivered + 1) (ap is_some there) in
       subst (λ (n : Follower). n.window.stable + WINDOW - n.window.delivered < m.window.stable + WINDOW - m.window.delivered) (sym y.now) (omega arith)
 
-  pub turn-nears : (p : Address) (group : List ℕ) (m : Follower) (s : S) (out : Output) (new : Follower) (t : S) (more : Output) → IsWindow m.window
-      → DeliversIf p group true (held_at (m.window.delivered + 1) m.window.held) m s out new t more → new.window.stable + WINDOW - new.window.delivered < m.window.stable + WINDOW - m.window.delivered
-  turn-nears p group m s out new t more w x = near-by (held_at (m.window.delivered + 1) m.window.held) p group m s out new t more w refl x
+  pub turn-nears : (w : Who) (old new : InView Follower S) → IsWindow old.part.window → DeliversIf w true (next_held old.part) old new
+      → new.part.window.stable + WINDOW - new.part.window.delivered < old.part.window.stable + WINDOW - old.part.window.delivered
+  turn-nears w old new window x = near-by (next_held old.part) w old new window refl x
 
-  pub turn-then : (came : Option Posted) (p : Address) (group : List ℕ) (did_deliver : Bool) (a b c : Follower) (s t u : S) (out more most : Output) → same_address p a.view.id.creator ≡ false
-      → Does came p group a s out b t more → DeliversIf p group did_deliver (held_at (b.window.delivered + 1) b.window.held) b t more c u most → Does came p group a s out c u most
-  turn-then came p group did_deliver a b c s t u out more most other x y =
-      other-then meaning came p group a b c s t u out more most x
-      (turn-goes came p group did_deliver b t more c u most (ap (λ (v : View). same_address p v.id.creator) x.1 ∙ other) y)
+  pub turn-then : (came : Option Posted) (w : Who) (did_deliver : Bool) (a b c : InView Follower S) → same_address w.address a.part.view.id.creator ≡ false → Does came w a b
+      → DeliversIf w did_deliver (next_held b.part) b c → Does came w a c
+  turn-then came w did_deliver a b c other x y = other-then meaning came w a b c x (turn-goes came w did_deliver b c (ap (λ (v : View). same_address w.address v.id.creator) x.1 ∙ other) y)
 
   pub order-goes : (p : Address) (group : List ℕ) (m : Follower) (s : S) (out : Output) (g : ℕ) (e : Entry) (more most last : Follower) (t : S) (end : Output) → same_address p m.view.id.creator ≡ false
-      → more ≡ collected_to (g - WINDOW) m → most ≡ held_too g e more → ((came : Option Posted) → Does came p group most s out last t end) → Does (order_packet p m.view g e) p group m s out last t end
+      → more ≡ collected_to (g - WINDOW) m → most ≡ held_too g e more → ((came : Option Posted) → Does came (who p group) (in_view most s out) (in_view last t end)) → Does (order_packet p m.view g e) (who p group) (in_view m s out) (in_view last t end)
   order-goes p group m s out g e more most last t end other now after rest_goes =
-      other-then meaning (order_packet p m.view g e) p group m most last s s t out out end (takes-goes p group m s out g e more most other now after) (rest_goes (order_packet p m.view g e))
+      other-then meaning (order_packet p m.view g e) (who p group) (in_view m s out) (in_view most s out) (in_view last t end) (takes-goes p group m s out g e more most other now after) (rest_goes (order_packet p m.view g e))
 
   -- and then a packet that needs no more than what is known in the view
-  pub then-puts : (came : Option Posted) (p : Address) (group : List ℕ) (a b : Follower) (s t : S) (out more most : Output) (q : Address) (body : Body) → Does came p group a s out b t more
-      → ((kept : List (Address × wire.Install)) → Describes (open_core p b.view kept (follower_core b) t) q body) → Grows group more most (packet p body q ∷ []) [] → Does came p group a s out b t most
+  pub then-puts : (came : Option Posted) (p : Address) (group : List ℕ) (a b : Follower) (s t : S) (out more most : Output) (q : Address) (body : Body) → Does came (who p group) (in_view a s out) (in_view b t more)
+      → ((kept : List (Address × wire.Install)) → Describes (open_core p b.view kept (follower_core b) t) q body) → Grows group more most (packet p body q ∷ []) [] → Does came (who p group) (in_view a s out) (in_view b t most)
   then-puts came p group a b s t out more most q body x says puts =
-      other-then meaning came p group a b b s t t out more most x (puts-goes came p group b t more most q body says puts)
+      other-then meaning came (who p group) (in_view a s out) (in_view b t more) (in_view b t most) x (puts-goes came p group b t more most q body says puts)

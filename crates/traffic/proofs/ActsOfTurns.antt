@@ -129,8 +129,8 @@ module _ {S : Type 0} (meaning : Meaning S) where
       } in
       let three = hear-goes came p group next (meaning.apply s e.sender e.payload) most p next.window.delivered coordinator (itself-in p m.view sound i.coordinator)
       (rw (same_address-refl p) (omega arith)) in
-      let all = goes-then meaning came p group m next (acknowledged p next.window.delivered next) s (meaning.apply s e.sender e.payload) (meaning.apply s e.sender e.payload) out most most
-      (goes-then meaning came p group m next next s (meaning.apply s e.sender e.payload) (meaning.apply s e.sender e.payload) out more most one two) three in
+      let all = goes-then meaning came (who p group) (in_view m s out) (in_view next (meaning.apply s e.sender e.payload) most) (in_view (acknowledged p next.window.delivered next) (meaning.apply s e.sender e.payload) most)
+      (goes-then meaning came (who p group) (in_view m s out) (in_view next (meaning.apply s e.sender e.payload) more) (in_view next (meaning.apply s e.sender e.payload) most) one two) three in
       subst (λ (n : Coordinator). CoordinatorGoes meaning came (who p group) (in_view m s out) (in_view (acknowledged p n.window.delivered n) t most)) (sym x.now)
       (subst (λ (z : S). CoordinatorGoes meaning came (who p group) (in_view m s out) (in_view (acknowledged p next.window.delivered next) z most)) (sym x.state) all)
 
@@ -148,7 +148,7 @@ module _ {S : Type 0} (meaning : Meaning S) where
       let x = subst (λ (o : Option (ℕ × Entry)). Does p group o m s out new t more) none does in
       subst (λ (n : Coordinator). CoordinatorGoes meaning came (who p group) (in_view m s out) (in_view n t more)) (sym x.0)
       (subst (λ (z : S). CoordinatorGoes meaning came (who p group) (in_view m s out) (in_view m z more)) (sym x.1)
-      (subst (λ (o : Output). CoordinatorGoes meaning came (who p group) (in_view m s out) (in_view m s o)) (sym x.2) (goes-nothing meaning came p group m s out i)))
+      (subst (λ (o : Output). CoordinatorGoes meaning came (who p group) (in_view m s out) (in_view m s o)) (sym x.2) (goes-nothing meaning came (who p group) (in_view m s out) i)))
 
   pub rest-done : (p : Address) (group : List ℕ) (next : Option (ℕ × Entry)) (m : Coordinator) (s : S) (out : Output) (new : Coordinator) (t : S) (more : Output) → IsNext m next → next ≡ None
       → Does p group next m s out new t more → next_ordered new.window.stable new.orderer ≡ None

@@ -22,8 +22,8 @@ use Rattle.traffic.specs.Takes.{DeliversTo, Starts, DeliversMore, DeliversHeld, 
 use Rattle.step_output.proofs.FactOfGrows.{grows-nothing, grows-then}
 use Rattle.traffic.proofs.ActsOfFollowers.{puts-goes}
 use Rattle.traffic.proofs.ActsInTurn.{other-nothing, other-then}
-use Rattle.step_output.specs.Steps.{who}
-use Rattle.traffic.specs.InViews.{in_view}
+use Rattle.step_output.specs.Steps.{Who, who}
+use Rattle.traffic.specs.InViews.{InView, in_view}
 
 pub record DeliveredFact (p : Address) (old : Follower) (entries : List Entry) (n : Follower) : Type 0 where
   pub view : n.view ≡ old.view
@@ -47,37 +47,40 @@ delivered-fact p old n entries (DeliversMore m k es e x there) w =
     }
 
 module _ {S : Type 0} (meaning : Meaning S) where
-  pub delivers-nothing : (p : Address) (group : List ℕ) (m : Follower) (s : S) (out : Output) → DeliversHeld meaning (who p group) (in_view m s out) (in_view m s out)
-  delivers-nothing p group m s out = record { entries = []; delivers = Starts m; state = refl; grows = grows-nothing group out; view = refl }
+  pub delivers-nothing : (who : Who) (a : InView Follower S) → DeliversHeld meaning who a a
+  delivers-nothing who a = record { entries = []; delivers = Starts a.part; state = refl; grows = grows-nothing who.group a.out; view = refl }
 
-  next-by : (o : Option Entry) (p : Address) (group : List ℕ) (did_deliver : Bool) (a b c : Follower) (s t u : S) (out more most : Output) → DeliversHeld meaning (who p group) (in_view a s out) (in_view b t more)
-      → held_at (b.window.delivered + 1) b.window.held ≡ o → MatchOption o ((did_deliver ≡ false) × (c ≡ b) × (u ≡ t) × (most ≡ more)) (λ e. (did_deliver ≡ true) × DeliversOne meaning (who p group) e (in_view b t more) (in_view c u most))
-      → DeliversHeld meaning (who p group) (in_view a s out) (in_view c u most)
-  next-by None p group did_deliver a b c s t u out more most x there y =
-      subst (λ (n : Follower). DeliversHeld meaning (who p group) (in_view a s out) (in_view n u most)) (sym y.1) (subst (λ (z : S). DeliversHeld meaning (who p group) (in_view a s out) (in_view b z most)) (sym y.2)
-      (subst (λ (o : Output). DeliversHeld meaning (who p group) (in_view a s out) (in_view b t o)) (sym y.3) x))
-  next-by (Some e) p group did_deliver a b c s t u out more most x there y =
+  abbrev DeliversNext : Who → Bool → Option Entry → InView Follower S → InView Follower S → Type 0
+  DeliversNext w did_deliver o b c = MatchOption o ((did_deliver ≡ false) × (c.part ≡ b.part) × (c.state ≡ b.state) × (c.out ≡ b.out)) (λ e. (did_deliver ≡ true) × DeliversOne meaning w e b c)
+
+  next-by : (o : Option Entry) (w : Who) (did_deliver : Bool) (a b c : InView Follower S) → DeliversHeld meaning w a b → held_at (b.part.window.delivered + 1) b.part.window.held ≡ o
+      → DeliversNext w did_deliver o b c → DeliversHeld meaning w a c
+  next-by None w did_deliver a b c x there y =
+      subst (λ (n : Follower). DeliversHeld meaning w a (in_view n c.state c.out)) (sym y.1) (subst (λ (z : S). DeliversHeld meaning w a (in_view b.part z c.out)) (sym y.2)
+      (subst (λ (o : Output). DeliversHeld meaning w a (in_view b.part b.state o)) (sym y.3) x))
+  next-by (Some e) w did_deliver a b c x there y =
       let z = y.1 in
+      let p = w.address in
       record {
         entries = x.entries ++ e ∷ [];
-        delivers = subst (λ (n : Follower). DeliversTo p a (x.entries ++ e ∷ []) n) (sym z.now) (DeliversMore a b x.entries e x.delivers there);
-        state = z.state ∙ ap (λ (r : S). meaning.apply r e.sender e.payload) x.state ∙ sym (fold-append (λ r f. meaning.apply r f.sender f.payload) s x.entries (e ∷ []));
-        grows = subst (λ l. Grows group out most [] l) (sym (map-append (delivery p a.view.id) x.entries (e ∷ [])))
-            (grows-then group out more most [] [] _ _ x.grows (subst (λ (v : View). Grows group more most [] (delivery p v.id e ∷ [])) x.view z.grows));
+        delivers = subst (λ (n : Follower). DeliversTo p a.part (x.entries ++ e ∷ []) n) (sym z.now) (DeliversMore a.part b.part x.entries e x.delivers there);
+        state = z.state ∙ ap (λ (r : S). meaning.apply r e.sender e.payload) x.state ∙ sym (fold-append (λ r f. meaning.apply r f.sender f.payload) a.state x.entries (e ∷ []));
+        grows = subst (λ l. Grows w.group a.out c.out [] l) (sym (map-append (delivery p a.part.view.id) x.entries (e ∷ [])))
+            (grows-then w.group a.out b.out c.out [] [] _ _ x.grows (subst (λ (v : View). Grows w.group b.out c.out [] (delivery p v.id e ∷ [])) x.view z.grows));
         view = ap (λ (n : Follower). n.view) z.now ∙ x.view;
       }
 
-  pub delivers-then : (p : Address) (group : List ℕ) (did_deliver : Bool) (a b c : Follower) (s t u : S) (out more most : Output) → DeliversHeld meaning (who p group) (in_view a s out) (in_view b t more)
-      → MatchOption (held_at (b.window.delivered + 1) b.window.held) ((did_deliver ≡ false) × (c ≡ b) × (u ≡ t) × (most ≡ more)) (λ e. (did_deliver ≡ true) × DeliversOne meaning (who p group) e (in_view b t more) (in_view c u most))
-      → DeliversHeld meaning (who p group) (in_view a s out) (in_view c u most)
-  delivers-then p group did_deliver a b c s t u out more most x y = next-by (held_at (b.window.delivered + 1) b.window.held) p group did_deliver a b c s t u out more most x refl y
+  pub delivers-then : (w : Who) (did_deliver : Bool) (a b c : InView Follower S) → DeliversHeld meaning w a b
+      → MatchOption (held_at (b.part.window.delivered + 1) b.part.window.held) ((did_deliver ≡ false) × (c.part ≡ b.part) × (c.state ≡ b.state) × (c.out ≡ b.out)) (λ e. (did_deliver ≡ true) × DeliversOne meaning w e b c)
+      → DeliversHeld meaning w a c
+  delivers-then w did_deliver a b c x y = next-by (held_at (b.part.window.delivered + 1) b.part.window.held) w did_deliver a b c x refl y
 
-  pub delivers-few : (p : Address) (group : List ℕ) (m : Follower) (s : S) (out : Output) (n : Follower) (t : S) (more : Output) → IsWindow m.window → DeliversHeld meaning (who p group) (in_view m s out) (in_view n t more) → IsFew out more
-  delivers-few p group m s out n t more w x =
-      let k = (delivered-fact p m n x.entries x.delivers w).few in
-      let grown : length more.events.items ≡ length out.events.items + length x.entries =
-      ap length x.grows.events ∙ length-append out.events.items (map (delivery p m.view.id) x.entries)
-      ∙ ap (λ j. length out.events.items + j) (length-map x.entries (delivery p m.view.id)) in
+  pub delivers-few : (w : Who) (a b : InView Follower S) → IsWindow a.part.window → DeliversHeld meaning w a b → IsFew a.out b.out
+  delivers-few w a b window x =
+      let k = (delivered-fact w.address a.part b.part x.entries x.delivers window).few in
+      let grown : length b.out.events.items ≡ length a.out.events.items + length x.entries =
+      ap length x.grows.events ∙ length-append a.out.events.items (map (delivery w.address a.part.view.id) x.entries)
+      ∙ ap (λ j. length a.out.events.items + j) (length-map x.entries (delivery w.address a.part.view.id)) in
       omega (arith, k, grown)
 
   -- ---- an ORDER
@@ -97,18 +100,18 @@ module _ {S : Type 0} (meaning : Meaning S) where
   pub asks-goes : (came : Option Posted) (p : Address) (group : List ℕ) (g : ℕ) (m : Follower) (s : S) (out more : Output) → AsksUpTo (who p group) g m out more
       → FollowerGoes meaning came (who p group) (in_view m s out) (in_view m s more)
   asks-goes came p group g m s out more (inl x) = puts-goes meaning came p group m s out more m.view.id.creator (bodies.Nak m.view.id x.missing) (λ kept. tt) x.grows
-  asks-goes came p group g m s out more (inr x) = subst (λ (o : Output). FollowerGoes meaning came (who p group) (in_view m s out) (in_view m s o)) (sym x.1) (other-nothing meaning came p group m s out)
+  asks-goes came p group g m s out more (inr x) = subst (λ (o : Output). FollowerGoes meaning came (who p group) (in_view m s out) (in_view m s o)) (sym x.1) (other-nothing meaning came (who p group) (in_view m s out))
 
   answers-by : (b c : Bool) (came : Option Posted) (p : Address) (group : List ℕ) (g : ℕ) (m : Follower) (s : S) (out more : Output)
       → MatchBool b (Grows group out more (ack_of p m ∷ []) []) (MatchBool c (AsksUpTo (who p group) g m out more) (more ≡ out)) → FollowerGoes meaning came (who p group) (in_view m s out) (in_view m s more)
   answers-by true c came p group g m s out more x = puts-goes meaning came p group m s out more m.view.id.creator (bodies.Ack m.view.id m.window.delivered) (λ kept. (refl, omega arith)) x
   answers-by false true came p group g m s out more x = asks-goes came p group g m s out more x
-  answers-by false false came p group g m s out more x = subst (λ (o : Output). FollowerGoes meaning came (who p group) (in_view m s out) (in_view m s o)) (sym x) (other-nothing meaning came p group m s out)
+  answers-by false false came p group g m s out more x = subst (λ (o : Output). FollowerGoes meaning came (who p group) (in_view m s out) (in_view m s o)) (sym x) (other-nothing meaning came (who p group) (in_view m s out))
 
   pub answers-goes : (came : Option Posted) (p : Address) (group : List ℕ) (before : ℕ) (new : Bool) (g : ℕ) (a m : Follower) (s t : S) (out more most : Output)
       → FollowerGoes meaning came (who p group) (in_view a s out) (in_view m t more) → AnswersOrder (who p group) before new g m more most → FollowerGoes meaning came (who p group) (in_view a s out) (in_view m t most)
   answers-goes came p group before new g a m s t out more most x y =
-      other-then meaning came p group a m m s t t out more most x (answers-by (nat_lt before m.window.delivered) new came p group g m t more most y)
+      other-then meaning came (who p group) (in_view a s out) (in_view m t more) (in_view m t most) x (answers-by (nat_lt before m.window.delivered) new came p group g m t more most y)
 
 asks-few : (p : Address) (group : List ℕ) (g : ℕ) (m : Follower) (out more : Output) → AsksUpTo (who p group) g m out more → length more.events.items ≡ length out.events.items
 asks-few p group g m out more (inl x) = ap length (x.grows.events ∙ append-nil out.events.items)

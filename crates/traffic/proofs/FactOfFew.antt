@@ -29,8 +29,8 @@ use Rattle.traffic.proofs.Windows.{next-taken}
 use Rattle.traffic.proofs.FactOfAcks.{noted-other}
 use Rattle.traffic.proofs.ActsOfCoordinator.{due-fact, distinct-in, one-coordinator, heard-coordinator}
 use Rattle.traffic.proofs.ActsOfTurns.{one-shorter}
-use Rattle.step_output.specs.Steps.{who}
-use Rattle.traffic.specs.InViews.{in_view}
+use Rattle.step_output.specs.Steps.{Who}
+use Rattle.traffic.specs.InViews.{InView}
 
 -- ---- one turn
 
@@ -192,13 +192,15 @@ module _ {S : Type 0} (meaning : Meaning S) where
       by false true d h = refl
       by false false d h = cc
 
-  pub few : (p : Address) (group : List ℕ) (old : Coordinator) (s : S) (out : Output) (n : Coordinator) (t : S) (more : Output) → Ordering meaning (who p group) (in_view old s out) (in_view n t more) → IsCoordinator p old → IsSettled p old
-      → IsWindow old.window → IsForwards old.forwards → view_refusal old.view.id old.view.members ≡ None → IsFew out more
-  few p group old s out n t more x i z w f sound =
-      let k = few-by p old.view.members old n x.entries refl x.turns i z w f sound
+  pub few : (w : Who) (a b : InView Coordinator S) → Ordering meaning w a b → IsCoordinator w.address a.part → IsSettled w.address a.part → IsWindow a.part.window → IsForwards a.part.forwards
+      → view_refusal a.part.view.id a.part.view.members ≡ None → IsFew a.out b.out
+  few w a b x i z window f sound =
+      let p = w.address in
+      let old = a.part in
+      let k = few-by p old.view.members old b.part x.entries refl x.turns i z window f sound
       (first-by (nat_eq (length old.view.members) 0) (nat_lt MEMBERS (length old.view.members)) (is_distinct old.view.members) (begins_with old.view.id.creator old.view.members) sound)
       (distinct-in old.view sound) in
-      let grown : length more.events.items ≡ length out.events.items + length x.entries =
-      ap length x.grows.events ∙ length-append out.events.items (map (delivery p old.view.id) x.entries)
-      ∙ ap (λ j. length out.events.items + j) (length-map x.entries (delivery p old.view.id)) in
+      let grown : length b.out.events.items ≡ length a.out.events.items + length x.entries =
+      ap length x.grows.events ∙ length-append a.out.events.items (map (delivery p old.view.id) x.entries)
+      ∙ ap (λ j. length a.out.events.items + j) (length-map x.entries (delivery p old.view.id)) in
       omega (arith, k, grown)

@@ -38,4 +38,4 @@ module _ {S : Type 0} (meaning : Meaning S) where
       } in
       let two = queue-goes meaning came p group next s more p k x coordinator (rw (same_address-refl p) (Contains-push m.forwards.rest (record { number = k; payload = x }))) in
       subst (λ (z : Coordinator). CoordinatorGoes meaning came (who p group) (in_view m s out) (in_view z s more)) (sym (end ∙ ap (λ (z : Coordinator). queued p n x z) now ∙ ap (λ (z : ℕ). queued p z x next) number))
-      (goes-then meaning came p group m next (queued p k x next) s s s out more more one two)
+      (goes-then meaning came (who p group) (in_view m s out) (in_view next s more) (in_view (queued p k x next) s more) one two)

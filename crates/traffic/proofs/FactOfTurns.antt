@@ -22,8 +22,8 @@ use Rattle.traffic.specs.Turns.{order_of, orders_of, TurnsTo, Starts, Turns, Tur
 use Rattle.stability.specs.Counts.{count_of}
 use Rattle.traffic.proofs.FactOfAcks.{noted-other}
 use Rattle.step_output.proofs.FactOfGrows.{grows-nothing, grows-then}
-use Rattle.step_output.specs.Steps.{who}
-use Rattle.traffic.specs.InViews.{in_view}
+use Rattle.step_output.specs.Steps.{Who, who}
+use Rattle.traffic.specs.InViews.{InView, in_view}
 
 orders-one : (p : Address) (v : View) (k : ℕ) (es : List Entry) (e : Entry) → orders_of p v k (es ++ e ∷ []) ≡ orders_of p v k es ++ order_of p v (k + length es + 1) e
 orders-one p v k [] e = append-nil (order_of p v (k + 1) e) ∙ ap (λ (n : ℕ). order_of p v n e) (let n : k + 1 ≡ k + length {A = Entry} [] + 1 = omega arith in n)
@@ -106,44 +106,45 @@ module _ {S : Type 0} (meaning : Meaning S) where
       subst (λ (o : Option Entry). MatchOption o ((false ≡ false) × (new ≡ m) × (t ≡ s) × (more ≡ out)) (λ e. (false ≡ true) × TurnsOne meaning (who p group) e (in_view m s out) (in_view new t more)))
       (sym (next-none (m.orderer.ordered + 1) (next_ordered m.window.stable m.orderer) (sym none ∙ is))) (refl, x.0, x.1, x.2)
 
-  pub ordering-nothing : (p : Address) (group : List ℕ) (m : Coordinator) (s : S) (out : Output) → Ordering meaning (who p group) (in_view m s out) (in_view m s out)
-  ordering-nothing p group m s out = record {
+  pub ordering-nothing : (who : Who) (a : InView Coordinator S) → Ordering meaning who a a
+  ordering-nothing who a = record {
     entries = [];
-    turns = Starts m;
+    turns = Starts a.part;
     state = refl;
-    grows = grows-nothing group out;
+    grows = grows-nothing who.group a.out;
     view = refl;
     ordered = omega arith;
     heard = λ q other. refl;
   }
 
-  one-more : (p : Address) (group : List ℕ) (a b c : Coordinator) (s t u : S) (out more most : Output) (e : Entry) → Ordering meaning (who p group) (in_view a s out) (in_view b t more)
-      → next_ordered b.window.stable b.orderer ≡ Some e → TurnsOne meaning (who p group) e (in_view b t more) (in_view c u most) → Ordering meaning (who p group) (in_view a s out) (in_view c u most)
-  one-more p group a b c s t u out more most e x due y =
-      let moved : c.orderer ≡ record { ordered = b.orderer.ordered + 1; queues = change_first has_next served b.orderer.queues } = ap (λ (n : Coordinator). n.orderer) y.now ∙ one-ordered p b e due in
-      let place : b.orderer.ordered + 1 ≡ a.orderer.ordered + length x.entries + 1 = omega (arith, x.ordered) in
+  one-more : (w : Who) (a b c : InView Coordinator S) (e : Entry) → Ordering meaning w a b → next_ordered b.part.window.stable b.part.orderer ≡ Some e → TurnsOne meaning w e b c → Ordering meaning w a c
+  one-more w a b c e x due y =
+      let first = a.part in
+      let now = b.part in
+      let p = w.address in
+      let moved : c.part.orderer ≡ record { ordered = now.orderer.ordered + 1; queues = change_first has_next served now.orderer.queues } = ap (λ (n : Coordinator). n.orderer) y.now ∙ one-ordered p now e due in
+      let place : now.orderer.ordered + 1 ≡ first.orderer.ordered + length x.entries + 1 = omega (arith, x.ordered) in
       record {
         entries = x.entries ++ e ∷ [];
-        turns = subst (λ (n : Coordinator). TurnsTo p a (x.entries ++ e ∷ []) n) (sym y.now) (Turns a b x.entries e x.turns due);
-        state = y.state ∙ ap (λ (z : S). meaning.apply z e.sender e.payload) x.state ∙ sym (fold-append (λ z f. meaning.apply z f.sender f.payload) s x.entries (e ∷ []));
-        grows = subst (λ (l : List Posted). Grows group out most l (map (delivery p a.view.id) (x.entries ++ e ∷ []))) (sym (orders-one p a.view a.orderer.ordered x.entries e))
-            (subst (λ l. Grows group out most (orders_of p a.view a.orderer.ordered x.entries ++ order_of p a.view (a.orderer.ordered + length x.entries + 1) e) l) (sym (map-append (delivery p a.view.id) x.entries (e ∷ [])))
-            (grows-then group out more most _ _ _ _ x.grows
-            (subst (λ (v : View). Grows group more most (order_of p v (a.orderer.ordered + length x.entries + 1) e) (delivery p v.id e ∷ [])) x.view
-            (subst (λ (k : ℕ). Grows group more most (order_of p b.view k e) (delivery p b.view.id e ∷ [])) place y.grows))));
+        turns = subst (λ (n : Coordinator). TurnsTo p first (x.entries ++ e ∷ []) n) (sym y.now) (Turns first now x.entries e x.turns due);
+        state = y.state ∙ ap (λ (z : S). meaning.apply z e.sender e.payload) x.state ∙ sym (fold-append (λ z f. meaning.apply z f.sender f.payload) a.state x.entries (e ∷ []));
+        grows = subst (λ (l : List Posted). Grows w.group a.out c.out l (map (delivery p first.view.id) (x.entries ++ e ∷ []))) (sym (orders-one p first.view first.orderer.ordered x.entries e))
+            (subst (λ l. Grows w.group a.out c.out (orders_of p first.view first.orderer.ordered x.entries ++ order_of p first.view (first.orderer.ordered + length x.entries + 1) e) l)
+            (sym (map-append (delivery p first.view.id) x.entries (e ∷ [])))
+            (grows-then w.group a.out b.out c.out _ _ _ _ x.grows
+            (subst (λ (v : View). Grows w.group b.out c.out (order_of p v (first.orderer.ordered + length x.entries + 1) e) (delivery p v.id e ∷ [])) x.view
+            (subst (λ (k : ℕ). Grows w.group b.out c.out (order_of p now.view k e) (delivery p now.view.id e ∷ [])) place y.grows))));
         view = ap (λ (n : Coordinator). n.view) y.now ∙ x.view;
-        ordered = ap (λ (o : OrdererModel). o.ordered) moved ∙ place ∙ (let z : a.orderer.ordered + length x.entries + 1 ≡ a.orderer.ordered + length (x.entries ++ e ∷ []) = simp length-append (omega arith) in z);
-        heard = λ q other. ap (λ (n : Coordinator). count_of q n.acks) y.now ∙ noted-other q p _ b.acks other ∙ x.heard q other;
+        ordered = ap (λ (o : OrdererModel). o.ordered) moved ∙ place ∙ (let z : first.orderer.ordered + length x.entries + 1 ≡ first.orderer.ordered + length (x.entries ++ e ∷ []) = simp length-append (omega arith) in z);
+        heard = λ q other. ap (λ (n : Coordinator). count_of q n.acks) y.now ∙ noted-other q p _ now.acks other ∙ x.heard q other;
       }
 
-  next-by : (o : Option Entry) (p : Address) (group : List ℕ) (more_so : Bool) (a b c : Coordinator) (s t u : S) (out more most : Output) → Ordering meaning (who p group) (in_view a s out) (in_view b t more)
-      → next_ordered b.window.stable b.orderer ≡ o → MatchOption o ((more_so ≡ false) × (c ≡ b) × (u ≡ t) × (most ≡ more)) (λ e. (more_so ≡ true) × TurnsOne meaning (who p group) e (in_view b t more) (in_view c u most))
-      → Ordering meaning (who p group) (in_view a s out) (in_view c u most)
-  next-by None p group more_so a b c s t u out more most x due y =
-      subst (λ (n : Coordinator). Ordering meaning (who p group) (in_view a s out) (in_view n u most)) (sym y.1) (subst (λ (z : S). Ordering meaning (who p group) (in_view a s out) (in_view b z most)) (sym y.2)
-      (subst (λ (o : Output). Ordering meaning (who p group) (in_view a s out) (in_view b t o)) (sym y.3) x))
-  next-by (Some e) p group more_so a b c s t u out more most x due y = one-more p group a b c s t u out more most e x due y.1
+  next-by : (o : Option Entry) (w : Who) (more : Bool) (a b c : InView Coordinator S) → Ordering meaning w a b → next_ordered b.part.window.stable b.part.orderer ≡ o
+      → MatchOption o ((more ≡ false) × (c.part ≡ b.part) × (c.state ≡ b.state) × (c.out ≡ b.out)) (λ e. (more ≡ true) × TurnsOne meaning w e b c) → Ordering meaning w a c
+  next-by None w more a b c x due y =
+      subst (λ (n : Coordinator). Ordering meaning w a (in_view n c.state c.out)) (sym y.1) (subst (λ (z : S). Ordering meaning w a (in_view b.part z c.out)) (sym y.2)
+      (subst (λ (o : Output). Ordering meaning w a (in_view b.part b.state o)) (sym y.3) x))
+  next-by (Some e) w more a b c x due y = one-more w a b c e x due y.1
 
-  pub ordering-then : (p : Address) (group : List ℕ) (more_so : Bool) (a b c : Coordinator) (s t u : S) (out more most : Output) → Ordering meaning (who p group) (in_view a s out) (in_view b t more)
-      → TurnsNext meaning (who p group) more_so (in_view b t more) (in_view c u most) → Ordering meaning (who p group) (in_view a s out) (in_view c u most)
-  ordering-then p group more_so a b c s t u out more most x y = next-by (next_ordered b.window.stable b.orderer) p group more_so a b c s t u out more most x refl y
+  pub ordering-then : (w : Who) (more : Bool) (a b c : InView Coordinator S) → Ordering meaning w a b → TurnsNext meaning w more b c → Ordering meaning w a c
+  ordering-then w more a b c x y = next-by (next_ordered b.part.window.stable b.part.orderer) w more a b c x refl y

@@ -60,7 +60,7 @@ module _ {S : Type 0} (meaning : Meaning S) where
 
   module _ (input : Input) (m : MemberModel S) (t : List Event) (pool : List (List ℕ)) (a : Answer) (new : NodeState S) (t' : List Event) (pool' : List (List ℕ))
       (free : refusal_of m input ≡ None) (readable : is_unreadable meaning m input ≡ false) where
-    by-error : (b : Bool) (e : Error) (left : MemberModel S) → is_memory e ≡ b → Handled meaning m input (Err e) left → CallGives m.address input (Err e) left (about (Running m) t pool) a (about new t' pool')
+    by-error : (b : Bool) (e : Error) (left : MemberModel S) → is_memory e ≡ b → Handled meaning m input (Err e) left → CallGives m.address input (Err e) left a (about (Running m) t pool) (about new t' pool')
         → Outcome input m t pool a new t' pool'
     by-error true e left is handled g =
         let x = when-true (is_memory e) _ _ is g in
@@ -69,22 +69,22 @@ module _ {S : Type 0} (meaning : Meaning S) where
         let x = when-false (is_unreadable meaning m input) _ _ readable (when-false (is_memory e) _ _ is handled.refused) in
         absurd (none-some e (sym free ∙ x.0))
 
-    by-result : (result : Result Output Error) (left : MemberModel S) → Handled meaning m input result left → CallGives m.address input result left (about (Running m) t pool) a (about new t' pool')
+    by-result : (result : Result Output Error) (left : MemberModel S) → Handled meaning m input result left → CallGives m.address input result left a (about (Running m) t pool) (about new t' pool')
         → Outcome input m t pool a new t' pool'
     by-result (Ok out) left handled (inl g) =
         inl (ap lacks_memory g.answer ∙ lacks-nothing out.events.items, record { out = out; left = left; handled = handled; node_state = g.node_state; trace = g.trace; puts = g.puts })
     by-result (Ok out) left handled (inr g) = inr (ap lacks_memory g.1.answer, record { trace = g.1.trace; puts = g.1.puts })
     by-result (Err e) left handled g = by-error (is_memory e) e left refl handled g
 
-    pub outcome : HandsHere meaning input m (about (Running m) t pool) a (about new t' pool') → Outcome input m t pool a new t' pool'
+    pub outcome : HandsHere meaning input m a (about (Running m) t pool) (about new t' pool') → Outcome input m t pool a new t' pool'
     outcome g = by-result g.result g.left g.handled g.gives
 
   -- ---- a tick
 
   pub tick-here : (old new : WorldModel S) (n : ℕ) (m : MemberModel S) (step : WorldStep meaning old (Tick n) new) → old.node_states n ≡ Running m
-      → HandsHere meaning input.Tick m (about (Running m) old.history.trace old.history.pool) step.answer (about (new.node_states n) new.history.trace new.history.pool)
+      → HandsHere meaning input.Tick m step.answer (about (Running m) old.history.trace old.history.pool) (about (new.node_states n) new.history.trace new.history.pool)
   tick-here old new n m step there =
-      subst (λ (s : NodeState S). Hands meaning input.Tick (about s old.history.trace old.history.pool) step.answer (about (new.node_states n) new.history.trace new.history.pool)) there step.does.0
+      subst (λ (s : NodeState S). Hands meaning input.Tick step.answer (about s old.history.trace old.history.pool) (about (new.node_states n) new.history.trace new.history.pool)) there step.does.0
 
   pub tick-others : (old new : WorldModel S) (n : ℕ) → WorldStep meaning old (Tick n) new → OthersStand n old.node_states new.node_states
   tick-others old new n step = step.does.1
@@ -94,18 +94,18 @@ module _ {S : Type 0} (meaning : Meaning S) where
   pub record Handed (m : MemberModel S) (bytes : List ℕ) (old new : WorldModel S) (a : Answer) (n : ℕ) : Type 0 where
     pub lent : Bor (List ℕ)
     pub is : lent.now ≡ bytes
-    pub here : HandsHere meaning (input.Datagram lent) m (about (Running m) old.history.trace old.history.pool) a (about (new.node_states n) new.history.trace new.history.pool)
+    pub here : HandsHere meaning (input.Datagram lent) m a (about (Running m) old.history.trace old.history.pool) (about (new.node_states n) new.history.trace new.history.pool)
     pub others : OthersStand n old.node_states new.node_states
 
   pub delivered-here : (old new : WorldModel S) (k : ℕ) (bytes : List ℕ) (q : Address) (m : MemberModel S) (step : WorldStep meaning old (Deliver k) new)
       → packet_numbered k old.history.pool ≡ Some bytes → destination_of bytes ≡ Some q → old.node_states q.node ≡ Running m → Handed m bytes old new step.answer q.node
   delivered-here old new k bytes q m step there goes node_state =
-      let x : Delivers meaning (Some bytes) (about old.node_states old.history.trace old.history.pool) step.answer (about new.node_states new.history.trace new.history.pool) =
-      subst (λ (o : Option (List ℕ)). Delivers meaning o (about old.node_states old.history.trace old.history.pool) step.answer (about new.node_states new.history.trace new.history.pool)) there step.does in
-      let y : HandsOver meaning bytes (Some q) (about old.node_states old.history.trace old.history.pool) step.answer (about new.node_states new.history.trace new.history.pool) =
-      subst (λ (o : Option Address). HandsOver meaning bytes o (about old.node_states old.history.trace old.history.pool) step.answer (about new.node_states new.history.trace new.history.pool)) goes x in
-      let z : HandsPacket meaning bytes (about (Running m) old.history.trace old.history.pool) step.answer (about (new.node_states q.node) new.history.trace new.history.pool) =
-      subst (λ (s : NodeState S). HandsPacket meaning bytes (about s old.history.trace old.history.pool) step.answer (about (new.node_states q.node) new.history.trace new.history.pool)) node_state y.0 in
+      let x : Delivers meaning (Some bytes) step.answer (about old.node_states old.history.trace old.history.pool) (about new.node_states new.history.trace new.history.pool) =
+      subst (λ (o : Option (List ℕ)). Delivers meaning o step.answer (about old.node_states old.history.trace old.history.pool) (about new.node_states new.history.trace new.history.pool)) there step.does in
+      let y : HandsOver meaning bytes (Some q) step.answer (about old.node_states old.history.trace old.history.pool) (about new.node_states new.history.trace new.history.pool) =
+      subst (λ (o : Option Address). HandsOver meaning bytes o step.answer (about old.node_states old.history.trace old.history.pool) (about new.node_states new.history.trace new.history.pool)) goes x in
+      let z : HandsPacket meaning bytes step.answer (about (Running m) old.history.trace old.history.pool) (about (new.node_states q.node) new.history.trace new.history.pool) =
+      subst (λ (s : NodeState S). HandsPacket meaning bytes step.answer (about s old.history.trace old.history.pool) (about (new.node_states q.node) new.history.trace new.history.pool)) node_state y.0 in
       record { lent = z.0; is = z.1; here = z.2; others = y.1 }
 
   -- ---- what it did

@@ -130,12 +130,12 @@ module _ {S : Type 0} (meaning : Meaning S) (at : ℕ → NodeState S) (h : Hist
       turn = KeepByTurn.turn-still meaning at new n h (Deliver k) Done w same (answers-deliver k h (recipient k h) refl) tt (λ m. refl);
     })
 
-    idle : (n : ℕ) (s : NodeState S) (a : Answer) (t : List Event) (pool : List (List ℕ)) → at n ≡ s → OthersStand n at new → Idles (about s h.trace h.pool) a (about (new n) t pool) → Turned n a t pool
+    idle : (n : ℕ) (s : NodeState S) (a : Answer) (t : List Event) (pool : List (List ℕ)) → at n ≡ s → OthersStand n at new → Idles a (about s h.trace h.pool) (about (new n) t pool) → Turned n a t pool
     idle n s a t pool was others g = still n a t pool g.answer (same-at at new n others (g.node_state ∙ sym was)) g.trace g.puts
 
     -- at the node of whom it is for
     heard : (bytes : List ℕ) (p : Address) (s : NodeState S) (a : Answer) (t : List Event) (pool : List (List ℕ)) → IsPacketFor bytes p → at p.node ≡ s → OthersStand p.node at new
-        → HandsPacket meaning bytes (about s h.trace h.pool) a (about (new p.node) t pool) → Turned p.node a t pool
+        → HandsPacket meaning bytes a (about s h.trace h.pool) (about (new p.node) t pool) → Turned p.node a t pool
     heard bytes p Vacant a t pool f was others g = idle p.node Vacant a t pool was others g
     heard bytes p (Ended q) a t pool f was others g = idle p.node (Ended q) a t pool was others g
     heard bytes p (Running m) a t pool f was others g =
@@ -144,12 +144,12 @@ module _ {S : Type 0} (meaning : Meaning S) (at : ℕ → NodeState S) (h : Hist
         FactOfTaken.hands-turn meaning laws at new p.node h (Deliver k) (Datagram g.0) m x.0 w was x.1 table others a (new p.node) t pool refl g.2
 
     over : (bytes : List ℕ) (d : Option Address) (a : Answer) (t : List Event) (pool : List (List ℕ)) → packet_numbered k h.pool ≡ Some bytes → destination_of bytes ≡ d
-        → HandsOver meaning bytes d (about at h.trace h.pool) a (about new t pool) → (n : ℕ) × OthersStand n at new × Turned n a t pool
+        → HandsOver meaning bytes d a (about at h.trace h.pool) (about new t pool) → (n : ℕ) × OthersStand n at new × Turned n a t pool
     over bytes None a t pool there goes g = (0, λ m o. g.node_states m, still 0 a t pool g.answer g.node_states g.trace g.puts)
     over bytes (Some p) a t pool there goes g = (p.node, g.1, heard bytes p (at p.node) a t pool (record { there = there; goes = goes }) refl g.1 g.0)
 
     -- a delivery is a turn at some node
-    pub delivered : (o : Option (List ℕ)) (a : Answer) (t : List Event) (pool : List (List ℕ)) → packet_numbered k h.pool ≡ o → Delivers meaning o (about at h.trace h.pool) a (about new t pool)
+    pub delivered : (o : Option (List ℕ)) (a : Answer) (t : List Event) (pool : List (List ℕ)) → packet_numbered k h.pool ≡ o → Delivers meaning o a (about at h.trace h.pool) (about new t pool)
         → (n : ℕ) × OthersStand n at new × Turned n a t pool
     delivered None a t pool there g = (0, λ m o. g.node_states m, still 0 a t pool g.answer g.node_states g.trace g.puts)
     delivered (Some bytes) a t pool there g = over bytes (destination_of bytes) a t pool there refl g

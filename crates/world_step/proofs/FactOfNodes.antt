@@ -40,22 +40,22 @@ module _ {S : Type 0} (meaning : Meaning S) where
 
   -- what comes of a call at the node
   pub handed-here : (input : Input) (m left : MemberModel S) (r : Result Output Error) (p : Address) (t now : List Event) (pool more : List (List ℕ)) (a : Answer) (new : NodeState S)
-      → Handled meaning m input r left → p ≡ m.address → CallGives p input r left (about (Running m) t pool) a (about new now more) → HandsHere meaning input m (about (Running m) t pool) a (about new now more)
+      → Handled meaning m input r left → p ≡ m.address → CallGives p input r left a (about (Running m) t pool) (about new now more) → HandsHere meaning input m a (about (Running m) t pool) (about new now more)
   handed-here input m left r p t now pool more a new h is g = record {
     result = r;
     left = left;
     handled = h;
-    gives = subst (λ (q : Address). CallGives q input r left (about (Running m) t pool) a (about new now more)) is g;
+    gives = subst (λ (q : Address). CallGives q input r left a (about (Running m) t pool) (about new now more)) is g;
   }
 
   -- bytes that are handed to a member that runs
   pub heard : (b : Bor (List ℕ)) (bytes : List ℕ) (s : NodeState S) (m : MemberModel S) (t : List Event) (pool more : List (List ℕ)) (a : Answer) (new : NodeState S) (now : List Event)
-      → s ≡ Running m → b.now ≡ bytes → HandsHere meaning (Datagram b) m (about (Running m) t pool) a (about new now more) → HandsPacket meaning bytes (about s t pool) a (about new now more)
+      → s ≡ Running m → b.now ≡ bytes → HandsHere meaning (Datagram b) m a (about (Running m) t pool) (about new now more) → HandsPacket meaning bytes a (about s t pool) (about new now more)
   heard b bytes s m t pool more a new now is same g = rw is (b, same, g)
 
   -- what is handed with a payload that is lent
   pub lent : (input : Bor (List ℕ) → Input) (b : Bor (List ℕ)) (bytes : List ℕ) (s : NodeState S) (t : List Event) (pool more : List (List ℕ)) (a : Answer) (new : NodeState S) (now : List Event)
-      → b.now ≡ bytes → Hands meaning (input b) (about s t pool) a (about new now more) → HandsLent meaning input bytes (about s t pool) a (about new now more)
+      → b.now ≡ bytes → Hands meaning (input b) a (about s t pool) (about new now more) → HandsLent meaning input bytes a (about s t pool) (about new now more)
   lent input b bytes Vacant t pool more a new now is g = g
   lent input b bytes (Ended p) t pool more a new now is g = g
   lent input b bytes (Running m) t pool more a new now is g = (b, is, g)

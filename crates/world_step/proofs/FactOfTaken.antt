@@ -206,7 +206,7 @@ module _ {S : Type 0} (meaning : Meaning S) where
     readable = FactOfReadable.never-unreadable meaning laws (system_of at h.pool h.trace) m c input w.agreed x.core table.comes
 
     taken : (out : Output) (left : MemberModel S) (a : Answer) (now : NodeState S) (t : List Event) (pool : List (List ℕ)) → new n ≡ now → Handled meaning m input (Ok out) left
-        → Takes m.address input out left (about (Running m) h.trace h.pool) a (about now t pool) → Turned new n h e a t pool
+        → Takes m.address input out left a (about (Running m) h.trace h.pool) (about now t pool) → Turned new n h e a t pool
     taken out left a now t pool is handled g = record {
       ps = map bytes_of out.packets.items;
       s = out.events.items;
@@ -216,7 +216,7 @@ module _ {S : Type 0} (meaning : Meaning S) where
           (taken-turn out left now is g.node_state handled (is-free handled.refused.0));
     }
 
-    lost : (a : Answer) (now : NodeState S) (t : List Event) (pool : List (List ℕ)) → new n ≡ now → refusal_of m input ≡ None → Crashes m.address (about (Running m) h.trace h.pool) a (about now t pool)
+    lost : (a : Answer) (now : NodeState S) (t : List Event) (pool : List (List ℕ)) → new n ≡ now → refusal_of m input ≡ None → Crashes m.address a (about (Running m) h.trace h.pool) (about now t pool)
         → Turned new n h e a t pool
     lost a now t pool is free g = record {
       ps = [];
@@ -228,7 +228,7 @@ module _ {S : Type 0} (meaning : Meaning S) where
     }
 
     refused : (err : Error) (left : MemberModel S) (a : Answer) (now : NodeState S) (t : List Event) (pool : List (List ℕ)) → new n ≡ now → is_closed err ≡ false
-        → (refusal_of m input ≡ Some err) × (left ≡ m) → Refuses m.address err left (about (Running m) h.trace h.pool) a (about now t pool) → Turned new n h e a t pool
+        → (refusal_of m input ≡ Some err) × (left ≡ m) → Refuses m.address err left a (about (Running m) h.trace h.pool) (about now t pool) → Turned new n h e a t pool
     refused err left a now t pool is runs says g =
         let so : RefusesSo h e (answer_for err) = table.not err (FactOfMembers.free-is meaning h n m c x input (Some err) says.0) in
         let stays : now ≡ Running m = g.node_state ∙ ap {B = NodeState S} (λ (b : Bool). cond b (Ended m.address) (Running left)) runs ∙ ap {B = NodeState S} Running says.1 in
@@ -250,7 +250,7 @@ module _ {S : Type 0} (meaning : Meaning S) where
         by (inr bad) = let n : true ≡ false = sym bad ∙ readable in absurd (cc)
 
     not-taken : (err : Error) (left : MemberModel S) (a : Answer) (now : NodeState S) (t : List Event) (pool : List (List ℕ)) (b k : Bool) → new n ≡ now → is_memory err ≡ b → is_closed err ≡ k
-        → Handled meaning m input (Err err) left → CallGives m.address input (Err err) left (about (Running m) h.trace h.pool) a (about now t pool) → Turned new n h e a t pool
+        → Handled meaning m input (Err err) left → CallGives m.address input (Err err) left a (about (Running m) h.trace h.pool) (about now t pool) → Turned new n h e a t pool
     not-taken err left a now t pool true k is memory closed handled g =
         lost a now t pool is (when-true (is_memory err) (refusal_of m input ≡ None) _ memory handled.refused) (when-true (is_memory err) _ _ memory g)
     not-taken err left a now t pool false true is memory closed handled g = absurd (never-closed err left handled closed)
@@ -258,12 +258,12 @@ module _ {S : Type 0} (meaning : Meaning S) where
         refused err left a now t pool is closed (when-false (is_unreadable meaning m input) _ _ readable (when-false (is_memory err) _ _ memory handled.refused)) (when-false (is_memory err) _ _ memory g)
 
     called : (result : Result Output Error) (left : MemberModel S) (a : Answer) (now : NodeState S) (t : List Event) (pool : List (List ℕ)) → new n ≡ now
-        → Handled meaning m input result left → CallGives m.address input result left (about (Running m) h.trace h.pool) a (about now t pool) → Turned new n h e a t pool
+        → Handled meaning m input result left → CallGives m.address input result left a (about (Running m) h.trace h.pool) (about now t pool) → Turned new n h e a t pool
     called (Ok out) left a now t pool is handled (inl g) = taken out left a now t pool is handled g
     called (Ok out) left a now t pool is handled (inr g) = lost a now t pool is handled.refused.0 g.1
     called (Err err) left a now t pool is handled g = not-taken err left a now t pool (is_memory err) (is_closed err) is refl refl handled g
 
     -- one call of `handle` is a turn
-    pub hands-turn : (a : Answer) (now : NodeState S) (t : List Event) (pool : List (List ℕ)) → new n ≡ now → HandsHere meaning input m (about (Running m) h.trace h.pool) a (about now t pool)
+    pub hands-turn : (a : Answer) (now : NodeState S) (t : List Event) (pool : List (List ℕ)) → new n ≡ now → HandsHere meaning input m a (about (Running m) h.trace h.pool) (about now t pool)
         → Turned new n h e a t pool
     hands-turn a now t pool is g = called g.result g.left a now t pool is g.handled g.gives

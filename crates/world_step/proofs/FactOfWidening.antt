@@ -50,7 +50,7 @@ either false P Q R x f g = g x
 module _ {S : Type 0} (meaning : Meaning S) (t u : List Event) (pool more : List (List ℕ)) where
   -- ---- a start and a crash
 
-  begins-widen : (p : Address) (a : Answer) (new : NodeState S) → BeginsSo meaning p t a new u → more ≡ pool → Wider t u pool more
+  begins-widen : (p : Address) (a : Answer) (new : NodeState S) → BeginsSo meaning p a t new u → more ≡ pool → Wider t u pool more
   begins-widen p Done new g same = joined (Started p ∷ []) t u pool more g.trace same
   begins-widen p (Sent n) new g same = absurd g
   begins-widen p (Refused NotConnected) new g same = absurd g
@@ -63,43 +63,43 @@ module _ {S : Type 0} (meaning : Meaning S) (t u : List Event) (pool more : List
   begins-widen p (Refused Exhausted) new g same = absurd g
   begins-widen p (Refused BadName) new g same = absurd g
 
-  start-widens : (n : ℕ) (old new : NodeState S) (a : Answer) → StartGives meaning n old t a new u → more ≡ pool → Wider t u pool more
+  start-widens : (n : ℕ) (old new : NodeState S) (a : Answer) → StartGives meaning n a old t new u → more ≡ pool → Wider t u pool more
   start-widens n Vacant new a g same = begins-widen _ a new g.1 same
   start-widens n (Ended p) new a g same =
-      either (nat_lt (p.incarnation + 1) (2 ^ 32)) (Begins meaning (record { node = p.node; incarnation = p.incarnation + 1 }) t a new u) (Stays Exhausted (Ended p) t a new u) (Wider t u pool more) g
+      either (nat_lt (p.incarnation + 1) (2 ^ 32)) (Begins meaning (record { node = p.node; incarnation = p.incarnation + 1 }) a t new u) (Stays Exhausted a (Ended p) t new u) (Wider t u pool more) g
       (λ x. begins-widen _ a new x.1 same) (λ x. still t u pool more x.trace same)
   start-widens n (Running m) new a g same = still t u pool more g.trace same
 
-  crash-widens : (old new : NodeState S) (a : Answer) → CrashGives old t a new u → more ≡ pool → Wider t u pool more
+  crash-widens : (old new : NodeState S) (a : Answer) → CrashGives a old t new u → more ≡ pool → Wider t u pool more
   crash-widens Vacant new a g same = still t u pool more g.trace same
   crash-widens (Ended p) new a g same = still t u pool more g.trace same
   crash-widens (Running m) new a g same = joined (Crashed m.address ∷ []) t u pool more g.2 same
 
   -- ---- one call of `handle`, whatever it answers
 
-  gives-widens : (p : Address) (i : Input) (result : Result Output Error) (left : MemberModel S) (old new : NodeState S) (a : Answer) → CallGives p i result left (about old t pool) a (about new u more) → Wider t u pool more
+  gives-widens : (p : Address) (i : Input) (result : Result Output Error) (left : MemberModel S) (old new : NodeState S) (a : Answer) → CallGives p i result left a (about old t pool) (about new u more) → Wider t u pool more
   gives-widens p i (Ok out) left old new a (inl g) = record { packets = map bytes_of out.packets.items; stretch = out.events.items; trace = g.trace; puts = g.puts }
   gives-widens p i (Ok out) left old new a (inr g) = joined (Crashed p ∷ []) t u pool more g.1.trace g.1.puts
   gives-widens p i (Err e) left old new a g =
-      either (is_memory e) (Crashes p (about old t pool) a (about new u more)) (Refuses p e left (about old t pool) a (about new u more)) (Wider t u pool more) g
+      either (is_memory e) (Crashes p a (about old t pool) (about new u more)) (Refuses p e left a (about old t pool) (about new u more)) (Wider t u pool more) g
       (λ x. joined (Crashed p ∷ []) t u pool more x.trace x.puts) (λ x. still t u pool more x.trace x.puts)
 
-  here-widens : (i : Input) (m : MemberModel S) (new : NodeState S) (a : Answer) → HandsHere meaning i m (about (Running m) t pool) a (about new u more) → Wider t u pool more
+  here-widens : (i : Input) (m : MemberModel S) (new : NodeState S) (a : Answer) → HandsHere meaning i m a (about (Running m) t pool) (about new u more) → Wider t u pool more
   here-widens i m new a g = gives-widens m.address i g.result g.left (Running m) new a g.gives
 
-  hands-widens : (i : Input) (old new : NodeState S) (a : Answer) → Hands meaning i (about old t pool) a (about new u more) → Wider t u pool more
+  hands-widens : (i : Input) (old new : NodeState S) (a : Answer) → Hands meaning i a (about old t pool) (about new u more) → Wider t u pool more
   hands-widens i Vacant new a g = still t u pool more g.0.trace g.1
   hands-widens i (Ended p) new a g = still t u pool more g.0.trace g.1
   hands-widens i (Running m) new a g = here-widens i m new a g
 
-  lent-widens : (i : Bor (List ℕ) → Input) (bytes : List ℕ) (old new : NodeState S) (a : Answer) → HandsLent meaning i bytes (about old t pool) a (about new u more) → Wider t u pool more
+  lent-widens : (i : Bor (List ℕ) → Input) (bytes : List ℕ) (old new : NodeState S) (a : Answer) → HandsLent meaning i bytes a (about old t pool) (about new u more) → Wider t u pool more
   lent-widens i bytes Vacant new a g = still t u pool more g.0.trace g.1
   lent-widens i bytes (Ended p) new a g = still t u pool more g.0.trace g.1
   lent-widens i bytes (Running m) new a g = here-widens (i g.0) m new a g.2
 
   -- ---- any event at a node, and some bytes
 
-  pub acts-widen : (e : WorldEvent) (old new : NodeState S) (a : Answer) → Acts meaning e (about old t pool) a (about new u more) → Wider t u pool more
+  pub acts-widen : (e : WorldEvent) (old new : NodeState S) (a : Answer) → Acts meaning e a (about old t pool) (about new u more) → Wider t u pool more
   acts-widen (Start n) old new a g = start-widens n old new a g.0 g.1
   acts-widen (Create n) old new a g = hands-widens input.Create old new a g
   acts-widen (Join n contact) old new a g = hands-widens (input.Join contact) old new a g
@@ -111,7 +111,7 @@ module _ {S : Type 0} (meaning : Meaning S) (t u : List Event) (pool more : List
   acts-widen (Leave n) old new a g = hands-widens input.Leave old new a g
   acts-widen (Crash n) old new a g = crash-widens old new a g.0 g.1
 
-  pub hears-widens : (bytes : List ℕ) (old new : NodeState S) (a : Answer) → HandsPacket meaning bytes (about old t pool) a (about new u more) → Wider t u pool more
+  pub hears-widens : (bytes : List ℕ) (old new : NodeState S) (a : Answer) → HandsPacket meaning bytes a (about old t pool) (about new u more) → Wider t u pool more
   hears-widens bytes Vacant new a g = still t u pool more g.trace g.puts
   hears-widens bytes (Ended p) new a g = still t u pool more g.trace g.puts
   hears-widens bytes (Running m) new a g = lent-widens input.Datagram bytes (Running m) new a g

@@ -83,7 +83,7 @@ module _ {S : Type 0} (meaning : Meaning S) where
   packet-is (Crash m) k e = absurd (let bad : target.Member m ≡ target.Packet k = e in cc)
 
   turned-by : KeepBySteps.Laws meaning → (at new : ℕ → NodeState S) (h : History) (e : WorldEvent) (a : Answer) (t : List Event) (pool : List (List ℕ)) (b : Target)
-      → target_of e ≡ b → World at h → Carries meaning b e (about at h.trace h.pool) a (about new t pool) → Carried at new h e a t pool
+      → target_of e ≡ b → World at h → Carries meaning b e a (about at h.trace h.pool) (about new t pool) → Carried at new h e a t pool
   turned-by laws at new h e a t pool (target.Member n) here w g =
       to-world at new n h e a t pool w g.1 (KeepByEvent.acts-turn meaning laws at new n h w g.1 e a t pool here g.0)
   turned-by laws at new h e a t pool (target.Packet k) here w g =
@@ -91,7 +91,7 @@ module _ {S : Type 0} (meaning : Meaning S) where
       subst (λ (d : WorldEvent). Carried at new h d a t pool) (sym (packet-is e k here)) (to-world at new x.0 h (Deliver k) a t pool w x.1 x.2)
 
   pub world-carries : KeepBySteps.Laws meaning → (at new : ℕ → NodeState S) (h : History) (e : WorldEvent) (a : Answer) (t : List Event) (pool : List (List ℕ))
-      → World at h → Carries meaning (target_of e) e (about at h.trace h.pool) a (about new t pool) → World new (then h e a pool t)
+      → World at h → Carries meaning (target_of e) e a (about at h.trace h.pool) (about new t pool) → World new (then h e a pool t)
   world-carries laws at new h e a t pool w g = (turned-by laws at new h e a t pool (target_of e) refl w g).world
 
   -- ---- the member that runs at a node

@@ -41,7 +41,7 @@ module _ {S : Type 0} (meaning : Meaning S)
   -- ---- where no member runs
 
   refused : (e : WorldEvent) (r : Refusal) (old now : NodeState S) (a : Answer) (t : List Event) (pool : List (List ℕ)) → at n ≡ old → new n ≡ now → Answers h e (Refused r) []
-      → Stays r old h.trace a now t → pool ≡ h.pool → Turned e a t pool
+      → Stays r a old h.trace now t → pool ≡ h.pool → Turned e a t pool
   refused e r old now a t pool was is answers g same = subst (λ (b : Answer). Turned e b t pool) (sym g.answer) (record {
     ps = [];
     s = [];
@@ -60,14 +60,14 @@ module _ {S : Type 0} (meaning : Meaning S)
     table : (m : MemberModel S) (c : Core S) → FactOfMembers.Runs meaning h n m c → FactOfTaken.Tabled meaning h n m c e i
 
   handed-at : (e : WorldEvent) (i : Input) (old now : NodeState S) (a : Answer) (t : List Event) (pool : List (List ℕ)) → Handed e i → at n ≡ old → new n ≡ now
-      → IsNodeStateOf n (last_of n h.trace) (is_connected n h) h.trace old → Hands meaning i (about old h.trace h.pool) a (about now t pool) → Turned e a t pool
+      → IsNodeStateOf n (last_of n h.trace) (is_connected n h) h.trace old → Hands meaning i a (about old h.trace h.pool) (about now t pool) → Turned e a t pool
   handed-at e i Vacant now a t pool x was is k g = refused e NotConnected Vacant now a t pool was is (x.never k) g.0 g.1
   handed-at e i (Ended p) now a t pool x was is k g = refused e Closed (Ended p) now a t pool was is (x.over p k.0 k) g.0 g.1
   handed-at e i (Running m) now a t pool x was is k g =
       let y = FactOfMembers.running-here meaning at h n m w was in
       FactOfTaken.hands-turn meaning laws at new n h e i m y.0 w was y.1 (x.table m y.0 y.1) others a now t pool is g
 
-  handed : (e : WorldEvent) (i : Input) (a : Answer) (t : List Event) (pool : List (List ℕ)) → Handed e i → Hands meaning i (about (at n) h.trace h.pool) a (about (new n) t pool)
+  handed : (e : WorldEvent) (i : Input) (a : Answer) (t : List Event) (pool : List (List ℕ)) → Handed e i → Hands meaning i a (about (at n) h.trace h.pool) (about (new n) t pool)
       → Turned e a t pool
   handed e i a t pool x g = handed-at e i (at n) (new n) a t pool x refl refl (w.node_states n) g
 
@@ -129,7 +129,7 @@ module _ {S : Type 0} (meaning : Meaning S)
   -- ---- a crash
 
   crash-at : (old now : NodeState S) (a : Answer) (t : List Event) (pool : List (List ℕ)) → at n ≡ old → new n ≡ now
-      → IsNodeStateOf n (last_of n h.trace) (is_connected n h) h.trace old → CrashGives old h.trace a now t → pool ≡ h.pool → Turned (Crash n) a t pool
+      → IsNodeStateOf n (last_of n h.trace) (is_connected n h) h.trace old → CrashGives a old h.trace now t → pool ≡ h.pool → Turned (Crash n) a t pool
   crash-at Vacant now a t pool was is k g same = refused (Crash n) NotConnected Vacant now a t pool was is (at-none _ k) g same
   crash-at (Ended p) now a t pool was is k g same = refused (Crash n) Closed (Ended p) now a t pool was is (at-ended _ p k) g same
   crash-at (Running m) now a t pool was is k g same =
@@ -153,16 +153,16 @@ module _ {S : Type 0} (meaning : Meaning S)
 
   -- a payload is lent only to one that runs
   sent-at : (payload : List ℕ) (a : Answer) (t : List Event) (pool : List (List ℕ)) (old : NodeState S) → at n ≡ old → IsNodeStateOf n (last_of n h.trace) (is_connected n h) h.trace old
-      → HandsLent meaning input.Send payload (about old h.trace h.pool) a (about (new n) t pool) → Turned (Send n payload) a t pool
+      → HandsLent meaning input.Send payload a (about old h.trace h.pool) (about (new n) t pool) → Turned (Send n payload) a t pool
   sent-at payload a t pool Vacant was k g = refused (Send n payload) NotConnected Vacant (new n) a t pool was refl (at-none _ k) g.0 g.1
   sent-at payload a t pool (Ended p) was k g = refused (Send n payload) Closed (Ended p) (new n) a t pool was refl (at-ended _ p k) g.0 g.1
   sent-at payload a t pool (Running m) was k g =
       subst (λ (y : List ℕ). Turned (Send n y) a t pool) g.1 (handed-at (Send n g.0.now) (input.Send g.0) (Running m) (new n) a t pool (send-handed g.0) was refl k g.2)
 
   pub acts-turn : (e : WorldEvent) (a : Answer) (t : List Event) (pool : List (List ℕ)) → target_of e ≡ target.Member n
-      → Acts meaning e (about (at n) h.trace h.pool) a (about (new n) t pool) → Turned e a t pool
+      → Acts meaning e a (about (at n) h.trace h.pool) (about (new n) t pool) → Turned e a t pool
   acts-turn (Start k) a t pool here g =
-      to-node k (λ j. Acts meaning (Start j) (about (at n) h.trace h.pool) a (about (new n) t pool) → Turned (Start j) a t pool) here
+      to-node k (λ j. Acts meaning (Start j) a (about (at n) h.trace h.pool) (about (new n) t pool) → Turned (Start j) a t pool) here
       (λ y. subst (λ (l : List (List ℕ)). Turned (Start n) a t l) (sym y.1) (KeepByStart.start-turns meaning laws at new n h w others a t y.0)) g
   acts-turn (Create k) a t pool here g = to-node k (λ j. Turned (Create j) a t pool) here (handed (Create n) input.Create a t pool create-handed g)
   acts-turn (Join k contact) a t pool here g = to-node k (λ j. Turned (Join j contact) a t pool) here (handed (Join n contact) (input.Join contact) a t pool (join-handed contact) g)

@@ -128,7 +128,7 @@ module _ {S : Type 0} (meaning : Meaning S)
           };
         }
 
-    begins : (a : Answer) (t : List Event) (now : NodeState S) → new n ≡ now → BeginsSo meaning q h.trace a now t → Turned a t h.pool
+    begins : (a : Answer) (t : List Event) (now : NodeState S) → new n ≡ now → BeginsSo meaning q a h.trace now t → Turned a t h.pool
     begins Done t now is g = begun t now is g
     begins (Sent k) t now is g = absurd g
     begins (Refused Memory) t now is g = failed t (is ∙ g.0) g.1
@@ -147,7 +147,7 @@ module _ {S : Type 0} (meaning : Meaning S)
   top-at o e = ap (λ l. option_map_or (λ (p : Address). p.incarnation) l 0) e
 
   -- it is refused
-  refused : (r : Refusal) (old now : NodeState S) (a : Answer) (t : List Event) → at n ≡ old → new n ≡ now → Answers h (Start n) (Refused r) [] → Stays r old h.trace a now t
+  refused : (r : Refusal) (old now : NodeState S) (a : Answer) (t : List Event) → at n ≡ old → new n ≡ now → Answers h (Start n) (Refused r) [] → Stays r a old h.trace now t
       → Turned a t h.pool
   refused r old now a t was is answers g = subst (λ (b : Answer). Turned b t h.pool) (sym g.answer) (record {
     ps = [];
@@ -159,7 +159,7 @@ module _ {S : Type 0} (meaning : Meaning S)
   })
 
   first-at : (a : Answer) (now : NodeState S) (t : List Event) → at n ≡ Vacant → new n ≡ now → last_of n h.trace ≡ None
-      → Begins meaning (record { node = n; incarnation = 1 }) h.trace a now t → Turned a t h.pool
+      → Begins meaning (record { node = n; incarnation = 1 }) a h.trace now t → Turned a t h.pool
   first-at a now t was is k g =
       let top : top_of n h.trace ≡ 0 = top-at None k in
       begins (record { node = n; incarnation = 1 }) Vacant (record {
@@ -174,10 +174,10 @@ module _ {S : Type 0} (meaning : Meaning S)
 
   -- after an ended member, by whether there is a next incarnation
   after-ended : (p : Address) (a : Answer) (now : NodeState S) (t : List Event) → at n ≡ Ended p → new n ≡ now → IsNodeStateOf {S = S} n (last_of n h.trace) (is_connected n h) h.trace (Ended p)
-      → (b : Bool) → nat_lt (p.incarnation + 1) (2 ^ 32) ≡ b → StartGives meaning n (Ended p) h.trace a now t → Turned a t h.pool
+      → (b : Bool) → nat_lt (p.incarnation + 1) (2 ^ 32) ≡ b → StartGives meaning n a (Ended p) h.trace now t → Turned a t h.pool
   after-ended p a now t was is k true e g =
       let top : top_of n h.trace ≡ p.incarnation = top-at (Some p) k.0 in
-      let begun : Begins meaning (record { node = p.node; incarnation = p.incarnation + 1 }) h.trace a now t = rw e at g in
+      let begun : Begins meaning (record { node = p.node; incarnation = p.incarnation + 1 }) a h.trace now t = rw e at g in
       begins (record { node = p.node; incarnation = p.incarnation + 1 }) (Ended p) (record {
         node = k.1;
         real = begun.0;
@@ -188,16 +188,16 @@ module _ {S : Type 0} (meaning : Meaning S)
         memory = rw (k.0, k.2, e) (inr (refl, ap (λ (m : ℕ). Started (record { node = m; incarnation = p.incarnation + 1 }) ∷ Crashed (record { node = m; incarnation = p.incarnation + 1 }) ∷ []) k.1));
       }) a t now is begun.1
   after-ended p a now t was is k false e g =
-      let stays : Stays Exhausted (Ended p) h.trace a now t = rw e at g in
+      let stays : Stays Exhausted a (Ended p) h.trace now t = rw e at g in
       refused Exhausted (Ended p) now a t was is (rw (k.0, k.2, e) (refl, refl)) stays
 
   start-here : (old : NodeState S) (a : Answer) (now : NodeState S) (t : List Event) → at n ≡ old → new n ≡ now → IsNodeStateOf n (last_of n h.trace) (is_connected n h) h.trace old
-      → StartGives meaning n old h.trace a now t → Turned a t h.pool
+      → StartGives meaning n a old h.trace now t → Turned a t h.pool
   start-here Vacant a now t was is k g = first-at a now t was is k g
   start-here (Ended p) a now t was is k g = after-ended p a now t was is k (nat_lt (p.incarnation + 1) (2 ^ 32)) refl g
   start-here (Running m) a now t was is k g =
       let x = FactOfMembers.running-here meaning at h n m w was in
       refused AlreadyConnected (Running m) now a t was is (rw (k.0, FactOfMembers.going meaning h n m x.0 x.1) (refl, refl)) g
 
-  pub start-turns : (a : Answer) (t : List Event) → StartGives meaning n (at n) h.trace a (new n) t → Turned a t h.pool
+  pub start-turns : (a : Answer) (t : List Event) → StartGives meaning n a (at n) h.trace (new n) t → Turned a t h.pool
   start-turns a t g = start-here (at n) a (new n) t refl refl (w.node_states n) g

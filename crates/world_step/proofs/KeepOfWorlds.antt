@@ -21,7 +21,7 @@ module _ {S : Type 0} (meaning : Meaning S) (laws : KeepBySteps.Laws meaning) wh
       let h = after old.history e g.answer g.packets g.stretch in
       subst (IsWorld meaning new.node_states) (sym g.goes_on)
       (FactOfWorlds.world-carries meaning laws old.node_states new.node_states old.history e g.answer h.trace h.pool w
-      (subst (λ (k : History). Carries meaning (target_of e) e (about old.node_states old.history.trace old.history.pool) g.answer (about new.node_states k.trace k.pool)) g.goes_on g.does))
+      (subst (λ (k : History). Carries meaning (target_of e) e g.answer (about old.node_states old.history.trace old.history.pool) (about new.node_states k.trace k.pool)) g.goes_on g.does))
 
   -- and so do steps one after another
   pub runs-keep : (from new : WorldModel S) (events : List WorldEvent) → Runs meaning from events new → Keeps from → Keeps new

@@ -45,7 +45,7 @@ module _ {S : Type 0} (meaning : Meaning S) where
     pub packets : List (List ℕ)
     pub stretch : List Event
     pub goes_on : new.history ≡ after old.history e answer packets stretch
-    pub does : Carries meaning (target_of e) e (about old.node_states old.history.trace old.history.pool) answer (about new.node_states new.history.trace new.history.pool)
+    pub does : Carries meaning (target_of e) e answer (about old.node_states old.history.trace old.history.pool) (about new.node_states new.history.trace new.history.pool)
 
   -- one world comes from another by a world step for each of these events, in order
   pub data Runs (from : WorldModel S) : List WorldEvent → WorldModel S → Type 0 where

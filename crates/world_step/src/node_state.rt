@@ -120,7 +120,7 @@ fn settle<R: Receiver>(
 ) -> Answer
     requires room { STEP_EVENTS ≤ trace.old.room }
     requires fits { IfOk called Fits }
-    ensures { (input : Input) (m left : MemberModel R) → leaves input ≡ leaving → node_state.old ≡ Running left → CallGives address input called left (about (Running m) trace.old.events pool.old) result (about node_state.new trace.new.events pool.new) }
+    ensures { (input : Input) (m left : MemberModel R) → leaves input ≡ leaving → node_state.old ≡ Running left → CallGives address input called left result (about (Running m) trace.old.events pool.old) (about node_state.new trace.new.events pool.new) }
 {
     match called {
         Ok(Output { packets, events }) => {
@@ -153,7 +153,7 @@ fn hand<R: Receiver>(
     input: &Input<'_>,
 ) -> Answer
     requires room { STEP_EVENTS ≤ trace.old.room }
-    ensures { Hands R.meaning input.now (about node_state.old trace.old.events pool.old) result (about node_state.new trace.new.events pool.new) }
+    ensures { Hands R.meaning input.now result (about node_state.old trace.old.events pool.old) (about node_state.new trace.new.events pool.new) }
 {
     match node_state {
         NodeState::Vacant => Answer::Refused(Refusal::NotConnected),
@@ -175,7 +175,7 @@ fn start<R: Receiver>(
     node: Node,
 ) -> Answer
     requires room { 2 ≤ trace.old.room }
-    ensures { StartGives R.meaning node node_state.old trace.old.events result node_state.new trace.new.events }
+    ensures { StartGives R.meaning node result node_state.old trace.old.events node_state.new trace.new.events }
 {
     let next = match node_state {
         NodeState::Running(_) => return Answer::Refused(Refusal::AlreadyConnected),
@@ -197,7 +197,7 @@ fn started<R: Receiver>(
     address: Address,
 ) -> Answer
     requires room { 2 ≤ trace.old.room }
-    ensures { Begins R.meaning address trace.old.events result node_state.new trace.new.events }
+    ensures { Begins R.meaning address result trace.old.events node_state.new trace.new.events }
 {
     trace.record(Event::Started(address));
     match R::opening(alloc) {
@@ -213,7 +213,7 @@ fn started<R: Receiver>(
 /// The member of the node crashes: refused with 1 and 6.
 fn crash<R: Receiver>(node_state: &mut NodeState<R>, trace: &mut Trace) -> Answer
     requires room { 1 ≤ trace.old.room }
-    ensures { CrashGives node_state.old trace.old.events result node_state.new trace.new.events }
+    ensures { CrashGives result node_state.old trace.old.events node_state.new trace.new.events }
 {
     match node_state {
         NodeState::Vacant => Answer::Refused(Refusal::NotConnected),
@@ -236,7 +236,7 @@ pub fn hear<R: Receiver>(
     number: u64,
 ) -> Answer
     requires room { STEP_EVENTS ≤ trace.old.room }
-    ensures { (bytes : List ℕ) → packet_numbered number pool.old ≡ Some bytes → HandsPacket R.meaning bytes (about node_state.old trace.old.events pool.old) result (about node_state.new trace.new.events pool.new) }
+    ensures { (bytes : List ℕ) → packet_numbered number pool.old ≡ Some bytes → HandsPacket R.meaning bytes result (about node_state.old trace.old.events pool.old) (about node_state.new trace.new.events pool.new) }
 {
     match node_state {
         NodeState::Vacant | NodeState::Ended(_) => Answer::Done,
@@ -260,7 +260,7 @@ pub fn act<R: Receiver>(
     event: &WorldEvent,
 ) -> Answer
     requires room { STEP_EVENTS ≤ trace.old.room }
-    ensures { Acts R.meaning event.now (about node_state.old trace.old.events pool.old) result (about node_state.new trace.new.events pool.new) }
+    ensures { Acts R.meaning event.now result (about node_state.old trace.old.events pool.old) (about node_state.new trace.new.events pool.new) }
 {
     match event {
         WorldEvent::Start(node) => start(alloc, node_state, trace, *node),

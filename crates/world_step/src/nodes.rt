@@ -45,7 +45,7 @@ fn act_at<R: Receiver>(
     event: &WorldEvent,
 ) -> Answer
     requires room { STEP_EVENTS ≤ trace.old.room }
-    ensures acts { ActsAt R.meaning event.now (about (get nat_cmp node_states.old node) trace.old.events pool.old) result (about (get nat_cmp node_states.new node) trace.new.events pool.new) }
+    ensures acts { ActsAt R.meaning event.now result (about (get nat_cmp node_states.old node) trace.old.events pool.old) (about (get nat_cmp node_states.new node) trace.new.events pool.new) }
     ensures others { (m : ℕ) → nat_eq node m ≡ false → get nat_cmp node_states.new m ≡ get nat_cmp node_states.old m }
 {
     match node_states.get_mut(&node) {
@@ -64,7 +64,7 @@ fn carry_out<R: Receiver>(
     event: &WorldEvent,
 ) -> Result<Answer, AllocError>
     requires room { STEP_EVENTS ≤ trace.old.room }
-    ensures ok { IfOk result (λ a. CarriesOut R.meaning event.now (about (get nat_cmp node_states.old node) trace.old.events pool.old) a (about (get nat_cmp node_states.new node) trace.new.events pool.new)) }
+    ensures ok { IfOk result (λ a. CarriesOut R.meaning event.now a (about (get nat_cmp node_states.old node) trace.old.events pool.old) (about (get nat_cmp node_states.new node) trace.new.events pool.new)) }
     ensures others { (m : ℕ) → nat_eq node m ≡ false → get nat_cmp node_states.new m ≡ get nat_cmp node_states.old m }
     ensures err { OnErr result (get nat_cmp node_states.new node ≡ get nat_cmp node_states.old node) }
     ensures err_trace { OnErr result (trace.new.events ≡ trace.old.events) }
@@ -87,7 +87,7 @@ fn hear_at<R: Receiver>(
     number: u64,
 ) -> Answer
     requires room { STEP_EVENTS ≤ trace.old.room }
-    ensures hears { (bytes : List ℕ) → packet_numbered number pool.old ≡ Some bytes → HandsPacket R.meaning bytes (about (node_state_at (get nat_cmp node_states.old node)) trace.old.events pool.old) result (about (node_state_at (get nat_cmp node_states.new node)) trace.new.events pool.new) }
+    ensures hears { (bytes : List ℕ) → packet_numbered number pool.old ≡ Some bytes → HandsPacket R.meaning bytes result (about (node_state_at (get nat_cmp node_states.old node)) trace.old.events pool.old) (about (node_state_at (get nat_cmp node_states.new node)) trace.new.events pool.new) }
     ensures others { (m : ℕ) → nat_eq node m ≡ false → get nat_cmp node_states.new m ≡ get nat_cmp node_states.old m }
 {
     match node_states.get_mut(&node) {
@@ -104,7 +104,7 @@ fn deliver<R: Receiver>(
     number: u64,
 ) -> Answer
     requires room { STEP_EVENTS ≤ trace.old.room }
-    ensures { Delivers R.meaning (packet_numbered number pool.old) (about (node_states_in (get nat_cmp node_states.old)) trace.old.events pool.old) result (about (node_states_in (get nat_cmp node_states.new)) trace.new.events pool.new) }
+    ensures { Delivers R.meaning (packet_numbered number pool.old) result (about (node_states_in (get nat_cmp node_states.old)) trace.old.events pool.old) (about (node_states_in (get nat_cmp node_states.new)) trace.new.events pool.new) }
 {
     match pool.destination(number) {
         Some(destination) => hear_at(node_states, trace, pool, destination.node(), number),
@@ -123,7 +123,7 @@ pub fn carry<R: Receiver>(
     event: &WorldEvent,
 ) -> Result<Answer, AllocError>
     requires room { STEP_EVENTS ≤ trace.old.room }
-    ensures ok { IfOk result (λ a. Carries R.meaning (target_of event.now) event.now (about (node_states_in (get nat_cmp node_states.old)) trace.old.events pool.old) a (about (node_states_in (get nat_cmp node_states.new)) trace.new.events pool.new)) }
+    ensures ok { IfOk result (λ a. Carries R.meaning (target_of event.now) event.now a (about (node_states_in (get nat_cmp node_states.old)) trace.old.events pool.old) (about (node_states_in (get nat_cmp node_states.new)) trace.new.events pool.new)) }
     ensures err { OnErr result (SameNodeStates (node_states_in (get nat_cmp node_states.old)) (node_states_in (get nat_cmp node_states.new))) }
     ensures err_trace { OnErr result (trace.new.events ≡ trace.old.events) }
     ensures err_pool { OnErr result (pool.new ≡ pool.old) }

@@ -6,6 +6,8 @@ use Rattle.member_views.proofs.FactOfCalm.{suspect-calm}
 use Rattle.member.proofs.FactOfStep.{from-some, still, steady-runs, suspect-handled, memory-handled, unless}
 use Rattle.member.proofs.handling.suspect.Goals as goal
 use Rattle.std.proofs.lemmas.Bool.{not-true}
+use Rattle.step_output.specs.Steps.{who_of}
+use Rattle.membership.specs.InSteps.{in_step}
 
 pub on_suspect-requires : goal.on_suspect-requires
 on_suspect-requires g c =
@@ -15,18 +17,16 @@ pub returns-in-Ok-clause-alive : goal.returns-in-Ok-clause-alive
 returns-in-Ok-clause-alive g c =
     still c.args.who.now.group c.args.who.now.address c.on_suspect.new.member_state
     (steady-runs c.args.who.now.group c.args.who.now.address c.in-Some.running c.on_suspect.new.member_state
-    (suspect-steady c.args.who.now.address g.R.Receiver.meaning c.args.who.now.group
-    c.args.address c.in-Some.running c.on_suspect.new.member_state c.nothing-out.result c.on_suspect.new.out c.in-Ok.ensures.does)
+    (suspect-steady (who_of c.args.who.now) g.R.Receiver.meaning c.args.address (in_step c.in-Some.running c.nothing-out.result) (in_step c.on_suspect.new.member_state c.on_suspect.new.out) c.in-Ok.ensures.does)
     c.in-Ok.ensures.member_state (c.requires.alive c.in-Some.running c.in-Some.is))
 
 pub returns-in-Ok-clause-handled : goal.returns-in-Ok-clause-handled
 returns-in-Ok-clause-handled g c =
     from-some g.R.Receiver.meaning c.args.who.now.address c.args.who.now.group c.args.member_state.now c.in-Some.running _ _ _ c.in-Some.is
     (suspect-handled g.R.Receiver.meaning c.args.who.now.address c.args.who.now.group c.args.address c.in-Some.running c.on_suspect.new.member_state c.nothing-out.result c.on_suspect.new.out (c.requires.alive c.in-Some.running c.in-Some.is).member_state c.nothing-out.ensures c.in-Ok.ensures.does
-    (suspect-calm c.args.who.now.address c.args.who.now.group g.R.Receiver.meaning c.args.address c.in-Some.running c.on_suspect.new.member_state c.nothing-out.result c.on_suspect.new.out c.in-Ok.ensures.does) (λ no. (c.in-Ok.ensures.ignored no).1)
+    (suspect-calm (who_of c.args.who.now) g.R.Receiver.meaning c.args.address (in_step c.in-Some.running c.nothing-out.result) (in_step c.on_suspect.new.member_state c.on_suspect.new.out) c.in-Ok.ensures.does) (λ no. (c.in-Ok.ensures.ignored no).1)
     (steady-runs c.args.who.now.group c.args.who.now.address c.in-Some.running c.on_suspect.new.member_state
-    (suspect-steady c.args.who.now.address g.R.Receiver.meaning c.args.who.now.group
-    c.args.address c.in-Some.running c.on_suspect.new.member_state c.nothing-out.result c.on_suspect.new.out c.in-Ok.ensures.does)
+    (suspect-steady (who_of c.args.who.now) g.R.Receiver.meaning c.args.address (in_step c.in-Some.running c.nothing-out.result) (in_step c.on_suspect.new.member_state c.on_suspect.new.out) c.in-Ok.ensures.does)
     c.in-Ok.ensures.member_state (c.requires.alive c.in-Some.running c.in-Some.is)))
 
 pub returns-in-Err-clause-handled : goal.returns-in-Err-clause-handled

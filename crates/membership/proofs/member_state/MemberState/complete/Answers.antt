@@ -12,4 +12,4 @@ settle-requires-clause-sound g c =
 
 pub returns-clause-member_state : goal.returns-clause-member_state
 returns-clause-member_state g c =
-    finished-member_state _ _ g.R.Receiver.meaning c.args.flush c.args.view_state _ c.args.self.now c.settle.new.self _ _ c.requires.member_state refl refl c.in_ok-settle.ensures
+    finished-member_state _ g.R.Receiver.meaning c.args.flush c.args.view_state _ c.args.self.now c.settle.new.self _ _ c.requires.member_state refl refl c.in_ok-settle.ensures

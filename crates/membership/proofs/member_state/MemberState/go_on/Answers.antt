@@ -1,11 +1,13 @@
 use Rattle.std.proofs.Common.{rules}
 use Rattle.membership.proofs.KeepMemberState.{whole-member_state, goes-on}
 use Rattle.membership.proofs.member_state.MemberState.go_on.Goals as goal
+use Rattle.step_output.specs.Steps.{who_of}
+use Rattle.membership.specs.InSteps.{in_step}
 
 pub complete-requires-clause-member_state : goal.complete-requires-clause-member_state
-complete-requires-clause-member_state g c = whole-member_state c.args.who.now.group c.args.who.now.address c.args.self.now _ _ (search rules) (search rules) c.requires.member_state
+complete-requires-clause-member_state g c = whole-member_state (who_of c.args.who.now) c.args.self.now _ _ (search rules) (search rules) c.requires.member_state
 
 pub returns-clause-goes_on : goal.returns-clause-goes_on
 returns-clause-goes_on g c =
-    goes-on c.args.who.now.group c.args.who.now.address g.R.Receiver.meaning c.args.self.now c.complete.new.self c.propose.new.self c.unwrap-flush.result c.unwrap-view_state.result c.args.out.now c.complete.new.out c.propose.new.out
+    goes-on (who_of c.args.who.now) g.R.Receiver.meaning c.unwrap-flush.result c.unwrap-view_state.result (in_step c.args.self.now c.args.out.now) (in_step c.complete.new.self c.complete.new.out) (in_step c.propose.new.self c.propose.new.out)
     (search rules) (search rules) (search rules) (search rules) c.in_ok-propose.ensures.proposes

@@ -3,17 +3,18 @@ use Rattle.membership.proofs.FactOfProposed.{due-is-proposal}
 use Rattle.membership.proofs.KeepMemberState.{begun-member_state}
 use Rattle.membership.proofs.member_state.MemberState.regroup.Goals as goal
 use Rattle.membership.specs.InSteps.{in_step}
+use Rattle.step_output.specs.Steps.{who_of}
 
 pub begin-requires-clause-greater : goal.begin-requires-clause-greater
-begin-requires-clause-greater g c = (due-is-proposal c.args.who.now.group c.args.who.now.address c.args.self.now c.in-Some.proposal c.requires.member_state (sym c.in_ok-due.ensures ∙ c.in-Some.is)).accepted
+begin-requires-clause-greater g c = (due-is-proposal (who_of c.args.who.now) c.args.self.now c.in-Some.proposal c.requires.member_state (sym c.in_ok-due.ensures ∙ c.in-Some.is)).accepted
 
 pub begin-requires-clause-listed : goal.begin-requires-clause-listed
-begin-requires-clause-listed g c = (due-is-proposal c.args.who.now.group c.args.who.now.address c.args.self.now c.in-Some.proposal c.requires.member_state (sym c.in_ok-due.ensures ∙ c.in-Some.is)).listed
+begin-requires-clause-listed g c = (due-is-proposal (who_of c.args.who.now) c.args.self.now c.in-Some.proposal c.requires.member_state (sym c.in_ok-due.ensures ∙ c.in-Some.is)).listed
 
 pub go_on-requires : goal.go_on-requires
 go_on-requires g c = record {
-  member_state = begun-member_state c.args.who.now.group c.args.who.now.address c.args.self.now c.begin.new.self c.in-Some.proposal c.args.out.now c.begin.new.out c.requires.member_state
-      (due-is-proposal c.args.who.now.group c.args.who.now.address c.args.self.now c.in-Some.proposal c.requires.member_state (sym c.in_ok-due.ensures ∙ c.in-Some.is)) c.in_ok-begin-in-Some.ensures;
+  member_state = begun-member_state (who_of c.args.who.now) c.in-Some.proposal (in_step c.args.self.now c.args.out.now) (in_step c.begin.new.self c.begin.new.out) c.requires.member_state
+      (due-is-proposal (who_of c.args.who.now) c.args.self.now c.in-Some.proposal c.requires.member_state (sym c.in_ok-due.ensures ∙ c.in-Some.is)) c.in_ok-begin-in-Some.ensures;
 }
 
 pub returns-in_ok-go_on-in-Some-clause-regroups : goal.returns-in_ok-go_on-in-Some-clause-regroups

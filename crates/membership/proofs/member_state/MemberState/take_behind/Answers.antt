@@ -8,7 +8,7 @@ use Rattle.membership.specs.InSteps.{in_step}
 
 pub begin_anew-requires : goal.begin_anew-requires
 begin_anew-requires g c = record {
-  member_state = heard-member_state c.args.who.now.group c.args.who.now.address c.args.self.now _ c.args.counter c.requires.member_state (ap (λ (b : NotesModel). record c.args.self.now { notes = b }) (search rules));
+  member_state = heard-member_state (who_of c.args.who.now) c.args.self.now _ c.args.counter c.requires.member_state (ap (λ (b : NotesModel). record c.args.self.now { notes = b }) (search rules));
 }
 
 pub returns-clause-takes : goal.returns-clause-takes

@@ -11,7 +11,7 @@ order-requires g c = record {
 
 pub returns : goal.returns
 returns g c = record {
-  goes = goes-then g.R.Receiver.meaning _ _ _ _ _ _ _ _ _ _ _ _ (ack-goes g.R.Receiver.meaning _ _ _ _ _ _ _ _ c.requires.coordinator c.requires.other c.requires.member c.acknowledge.ensures) (c.in_ok-order.ensures.goes _);
+  goes = goes-then g.R.Receiver.meaning _ _ _ _ _ (ack-goes g.R.Receiver.meaning _ _ _ _ _ _ _ _ c.requires.coordinator c.requires.other c.requires.member c.acknowledge.ensures) (c.in_ok-order.ensures.goes _);
   orders = ack-heard g.R.Receiver.meaning _ _ _ _ _ _ _ _ _ _ _ c.acknowledge.ensures c.in_ok-order.ensures.orders c.in_ok-order.ensures.done;
   settled = c.in_ok-order.ensures.settled;
   few = c.in_ok-order.ensures.few;

@@ -11,4 +11,4 @@ order-requires g c = record {
 
 pub returns-clause-goes : goal.returns-clause-goes
 returns-clause-goes g c =
-    goes-then g.R.Receiver.meaning _ _ _ _ _ _ _ _ _ _ _ _ (forward-goes g.R.Receiver.meaning _ _ _ _ _ _ _ _ _ c.requires.coordinator c.requires.other c.in_ok-queue.ensures) (c.in_ok-order.ensures.goes _)
+    goes-then g.R.Receiver.meaning _ _ _ _ _ (forward-goes g.R.Receiver.meaning _ _ _ _ _ _ _ _ _ c.requires.coordinator c.requires.other c.in_ok-queue.ensures) (c.in_ok-order.ensures.goes _)

@@ -12,7 +12,7 @@ order-requires g c = record {
 }
 
 pub returns-clause-goes : goal.returns-clause-goes
-returns-clause-goes g c = λ came. goes-then g.R.Receiver.meaning came _ _ _ _ _ _ _ _ _ _ _
+returns-clause-goes g c = λ came. goes-then g.R.Receiver.meaning came _ _ _ _
     (send-goes g.R.Receiver.meaning came _ _ _ _ _ _ _ _ _ _ c.requires.coordinator c.in_ok-number.ensures.short c.in_ok-number.ensures.number c.in_ok-number.ensures.now c.in_ok-number.ensures.happens c.in_ok-queue.ensures)
     (c.in_ok-order.ensures.goes came)
 
