@@ -59,7 +59,8 @@ module _ {S : Type 0} (meaning : Meaning S) (p : Address) (group : List ℕ) whe
       (h.0 ∙ ap (λ (q : Address). Some (packet k.source k.body q)) (same_address-true k.destination p h.2), h.1, h.3)
 
   module _ (q : Address) (body : Body) (o : Option Posted) (came : o ≡ Some (packet q body p)) (old new : MemberState S) (out later : Output) where
-    pub take-does : FollowsRule meaning (who p group) q body (in_step old out) (in_step new later) → MatchOption o (StaysAs (in_step old out) (in_step new later)) (λ m. FollowsRule meaning (who p group) m.source m.body (in_step old out) (in_step new later))
+    pub take-does : FollowsRule meaning (who p group) q body (in_step old out) (in_step new later)
+        → MatchOption o (StaysAs (in_step old out) (in_step new later)) (λ m. FollowsRule meaning (who p group) m.source m.body (in_step old out) (in_step new later))
     take-does x = subst (λ (k : Option Posted). MatchOption k (StaysAs (in_step old out) (in_step new later)) (λ m. FollowsRule meaning (who p group) m.source m.body (in_step old out) (in_step new later))) (sym came) x
 
     pub take-did : Did meaning (Some (packet q body p)) (who p group) (in_step old out) (in_step new later) → Did meaning o (who p group) (in_step old out) (in_step new later)
@@ -94,10 +95,12 @@ module _ {S : Type 0} (meaning : Meaning S) (p : Address) (group : List ℕ) whe
   hears-readable m (bodies.Flush w) old new out later is x = refl
   hears-readable m (bodies.Behind w n) old new out later is x = refl
   hears-readable m (bodies.Report w r) old new out later is x = refl
-  hears-readable m (bodies.Install i) old new out later is x = entry-by (is_entry (core_at p old) m.source i) i (Enters meaning (who p group) old.view_state i (in_step old out) (in_step new later)) (StaysAs (in_step old out) (in_step new later)) x
+  hears-readable m (bodies.Install i) old new out later is x =
+      entry-by (is_entry (core_at p old) m.source i) i (Enters meaning (who p group) old.view_state i (in_step old out) (in_step new later)) (StaysAs (in_step old out) (in_step new later)) x
   hears-readable m (bodies.Merge v) old new out later is x = refl
 
-  readable-by : (o : Option Posted) (old new : MemberState S) (out later : Output) → MatchOption o (StaysAs (in_step old out) (in_step new later)) (λ m. FollowsRule meaning (who p group) m.source m.body (in_step old out) (in_step new later))
+  readable-by : (o : Option Posted) (old new : MemberState S) (out later : Output)
+      → MatchOption o (StaysAs (in_step old out) (in_step new later)) (λ m. FollowsRule meaning (who p group) m.source m.body (in_step old out) (in_step new later))
       → option_map_or (λ i. not (is_readable meaning i.state)) (option_and_then (entry_of (core_at p old)) o) false ≡ false
   readable-by None old new out later x = refl
   readable-by (Some m) old new out later x = hears-readable m m.body old new out later refl x

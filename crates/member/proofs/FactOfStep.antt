@@ -243,7 +243,8 @@ module _ {S : Type 0} (meaning : Meaning S) (p : Address) (group : List ℕ) whe
 
   -- ---- it makes a group, or asks to be let into one
 
-  pub create-handled : (old new : MemberState S) (start out : Output) → IsMemberState (who p group) old → is_connected old ≡ false → Puts [] [] start → Creates (who p group) (in_step old start) (in_step new out) → IsRunning (who p group) new
+  pub create-handled : (old new : MemberState S) (start out : Output) → IsMemberState (who p group) old → is_connected old ≡ false → Puts [] [] start
+      → Creates (who p group) (in_step old start) (in_step new out) → IsRunning (who p group) new
       → Holds (Some old) Create (Ok out) (Some new)
   create-handled old new start out kept off nothing x runs =
       let happens : out.events.items ≡ Installed (lone_install p) ∷ [] = only start out _ nothing x.grows.events in
@@ -255,7 +256,8 @@ module _ {S : Type 0} (meaning : Meaning S) (p : Address) (group : List ℕ) whe
   view-none None e = refl
   view-none (Some t) e = absurd (none-some t (sym e))
 
-  pub join-handled : (contact : Address) (old new : MemberState S) (start out : Output) → IsMemberState (who p group) old → old.view_state ≡ None → Puts [] [] start → Asks (who p group) contact (in_step old start) (in_step new out)
+  pub join-handled : (contact : Address) (old new : MemberState S) (start out : Output) → IsMemberState (who p group) old → old.view_state ≡ None → Puts [] [] start
+      → Asks (who p group) contact (in_step old start) (in_step new out)
       → IsRunning (who p group) new → Holds (Some old) (Join contact) (Ok out) (Some new)
   join-handled contact old new start out kept none nothing x runs =
       let happens : out.events.items ≡ [] = only start out _ nothing x.grows.events in
@@ -342,7 +344,8 @@ module _ {S : Type 0} (meaning : Meaning S) (p : Address) (group : List ℕ) whe
 
   -- ---- time passes
 
-  pub tick-handled : (old : MemberState S) (start out : Output) → Puts [] [] start → Ticks (who p group) (in_step old start) out → ((came : Option Posted) → Did meaning came (who p group) (in_step old start) (in_step old out)) → IsCalm 0 start out
+  pub tick-handled : (old : MemberState S) (start out : Output) → Puts [] [] start → Ticks (who p group) (in_step old start) out
+      → ((came : Option Posted) → Did meaning came (who p group) (in_step old start) (in_step old out)) → IsCalm 0 start out
       → (is_connected old ≡ false → out ≡ start) → IsRunning (who p group) old → Holds (Some old) Tick (Ok out) (Some old)
   tick-handled old start out nothing ticks did calm idle runs =
       ok-handled old old Tick start out nothing (did None) refl refl (calm-quiet 0 start out nothing calm, refl) tt (refl, ticks)
@@ -357,7 +360,8 @@ module _ {S : Type 0} (meaning : Meaning S) (p : Address) (group : List ℕ) whe
       let y : StaysAs (in_step old start) (in_step new out) = subst (λ (b : Bool). MatchBool b (TakesSuspicion meaning (who p group) q (in_step old start) (in_step new out)) (StaysAs (in_step old start) (in_step new out))) e x in
       ap is_connected y.0
 
-  pub suspect-handled : (q : Address) (old new : MemberState S) (start out : Output) → IsMemberState (who p group) old → Puts [] [] start → OnSuspect meaning (who p group) q (in_step old start) (in_step new out) → IsCalm (WINDOW + 3) start out
+  pub suspect-handled : (q : Address) (old new : MemberState S) (start out : Output) → IsMemberState (who p group) old → Puts [] [] start
+      → OnSuspect meaning (who p group) q (in_step old start) (in_step new out) → IsCalm (WINDOW + 3) start out
       → (is_suspectable p q old ≡ false → StaysAs (in_step old start) (in_step new out)) → IsRunning (who p group) new → Holds (Some old) (Suspect q) (Ok out) (Some new)
   suspect-handled q old new start out kept nothing x calm stays runs =
       let did = suspect-did meaning (who p group) None q (in_step old start) (in_step new out) kept x in

@@ -49,7 +49,8 @@ silent-answer : (p : Address) (group : List ℕ) (before : ℕ) (new : Bool) (g 
 silent-answer p group before new g m out later x = silent-by (nat_lt before m.window.delivered) new p group g m out later x
 
 module _ {S : Type 0} (meaning : Meaning S) where
-  pub takes-calm : (p : Address) (group : List ℕ) (g : ℕ) (e : Entry) (m : Follower) (s : S) (out : Output) (n : Follower) (t : S) (later : Output) → TakesOrder meaning (who p group) g e (in_view m s out) (in_view n t later) → IsFew out later
+  pub takes-calm : (p : Address) (group : List ℕ) (g : ℕ) (e : Entry) (m : Follower) (s : S) (out : Output) (n : Follower) (t : S) (later : Output)
+      → TakesOrder meaning (who p group) g e (in_view m s out) (in_view n t later) → IsFew out later
       → IsCalm WINDOW out later
   takes-calm p group g e m s out n t later x few =
       few-calm out later (map (delivery p m.view.id) x.delivers.entries) (silent-answer p group m.window.delivered _ g n x.between later x.answers ∙ x.delivers.grows.events)

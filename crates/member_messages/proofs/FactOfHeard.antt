@@ -46,7 +46,8 @@ from-in source id l m more there x =
     let here : (same_address m.view.id.creator source && more m) ≡ true = subst (λ (o : Option ViewState). is_follower_that (λ o. same_address o.view.id.creator source && more o) o ≡ true) there both.1 in
     same_address-true _ _ (and_parts (same_address m.view.id.creator source) (more m) here).0
 
-pub heard-member_state : {S : Type 0} (source : Address) (id : ViewId) (group : List ℕ) (me : Address) (l : MemberState S) (t u : ViewState) (s : S) → IsMemberState (who me group) l → Heard source id l t → l.view_state ≡ Some t → view_of u ≡ view_of t
+pub heard-member_state : {S : Type 0} (source : Address) (id : ViewId) (group : List ℕ) (me : Address) (l : MemberState S) (t u : ViewState) (s : S) → IsMemberState (who me group) l
+    → Heard source id l t → l.view_state ≡ Some t → view_of u ≡ view_of t
     → IsMemberState (who me group) (going_on l u s)
 heard-member_state source id group me l t u s i h there same = member_state-kept group me l t u s i h.promised there same
 
@@ -68,7 +69,8 @@ module _ {S : Type 0} (meaning : Meaning S) where
 
   -- another member, on a packet of the coordinator that names the view
   pub other-did : (came : Address → ViewId → Option Posted) (source : Address) (id : ViewId) (group : List ℕ) (me : Address) (l : MemberState S) (m n : Follower) (s : S) (out later : Output) → IsMemberState (who me group) l
-      → Heard source id l (kinds.Follower m) → l.view_state ≡ Some (kinds.Follower m) → m.view.id.creator ≡ source → FollowerGoes meaning (came m.view.id.creator m.view.id) (who me group) (in_view m l.receiver out) (in_view n s later)
+      → Heard source id l (kinds.Follower m) → l.view_state ≡ Some (kinds.Follower m) → m.view.id.creator ≡ source
+      → FollowerGoes meaning (came m.view.id.creator m.view.id) (who me group) (in_view m l.receiver out) (in_view n s later)
       → Did meaning (came source id) (who me group) (in_step l out) (in_step (going_on l (kinds.Follower n) s) later)
   other-did came source id group me l m n s out later i h there from x =
       heard-did (λ v. came source v) source id group me l (kinds.Follower m) (kinds.Follower n) s out later i h there x.1

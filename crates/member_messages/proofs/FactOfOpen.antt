@@ -79,7 +79,8 @@ module _ {S : Type 0} (meaning : Meaning S) where
   nothing-did came group me l out = record { posted = _; happened = _; grows = grows-nothing group out; acted = nothing-acted meaning came (Some (core_of me l)) }
 
   pub goes-did : (came : Option Posted) (group : List ℕ) (me : Address) (l : MemberState S) (t u : ViewState) (s : S) (out later : Output) → IsMemberState (who me group) l → l.promise.is_installed ≡ true → l.view_state ≡ Some t
-      → view_of u ≡ view_of t → Goes meaning came (who me group) (view_of t) (in_view (view_core_of t) l.receiver out) (in_view (view_core_of u) s later) → Did meaning came (who me group) (in_step l out) (in_step (going_on l u s) later)
+      → view_of u ≡ view_of t → Goes meaning came (who me group) (view_of t) (in_view (view_core_of t) l.receiver out) (in_view (view_core_of u) s later)
+      → Did meaning came (who me group) (in_step l out) (in_step (going_on l u s) later)
   goes-did came group me l t u s out later i promised there same x = record {
     posted = x.posted;
     happened = x.happened;

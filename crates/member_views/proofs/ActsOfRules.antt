@@ -289,7 +289,8 @@ module _ {S : Type 0} (meaning : Meaning S) (who : Who) where
   asks-acted came (Some c) l ps acted =
       then-acted meaning came (Some (core_of who.address l)) (Some (core_of who.address l)) (Some (core_of who.address l)) (packet who.address bodies.Join c ∷ []) ps [] [] (put-acted came l c bodies.Join tt) acted
 
-  pub ask-again-did : (came : Option Posted) (old : MemberState S) (out later : Output) → IsMemberState who old → old.view_state ≡ None → Grows who.group out later (asks_again who.address old) [] → DidThis came (in_step old out) (in_step old later)
+  pub ask-again-did : (came : Option Posted) (old : MemberState S) (out later : Output) → IsMemberState who old → old.view_state ≡ None → Grows who.group out later (asks_again who.address old) []
+      → DidThis came (in_step old out) (in_step old later)
   ask-again-did came old out later kept none grows =
       puts-did came (asks_again who.address old) (in_step old out) (in_step old later) refl grows (asks-acted came old.contact old (reports_again who.address old)
       (reports-acted came old.promise.proposal old kept refl (unflushed old.flush old refl none kept) (λ some. waiting-by old.promise.is_installed old kept none some refl)))

@@ -1,5 +1,5 @@
 -- In a change of view a member keeps what it keeps of its view, or begins a view anew.
-use Rattle.std.proofs.Common.{◌≡◌, ℕ, Bool, true, false, Option, Some, None, List, ap, ◌∙◌, is_some, ◌&&◌, not}
+use Rattle.std.proofs.Common.{◌≡◌, ℕ, Bool, true, false, Option, Some, None, ap, ◌∙◌, is_some, ◌&&◌, not}
 use Rattle.std.specs.Prelude.{MatchBool, MatchOption}
 use Rattle.std.specs.Option.{option_map}
 use Rattle.address.specs.Ids.{Address, ViewId, same_address}
@@ -47,7 +47,8 @@ module _ {S : Type 0} (who : Who) where
     finishes-at : (view_state : Option ViewState) (f : FlushModel) (old new : InStep S) → MatchOption view_state ⊥ (λ t. FinishesAndProposes meaning who f t old new) → Steady who.address old.member new.member
     finishes-at None f old new x = absurd x
     finishes-at (Some t) f old new x =
-        steady-then old.member x.mid.member new.member (Fresh (proposed f) (ap (λ (l : MemberState S). l.view_state) x.finishes.member_state)) (begins-by (due_proposal (core_of who.address x.mid.member) x.mid.member.notes) x.mid new x.proposes)
+        steady-then old.member x.mid.member new.member (Fresh (proposed f) (ap (λ (l : MemberState S). l.view_state) x.finishes.member_state))
+        (begins-by (due_proposal (core_of who.address x.mid.member) x.mid.member.notes) x.mid new x.proposes)
 
     finishes-when : (b : Bool) (f : FlushModel) (old new : InStep S)
         → MatchBool b (MatchOption old.member.view_state ⊥ (λ t. FinishesAndProposes meaning who f t old new)) (StaysAs old new) → Steady who.address old.member new.member
@@ -81,7 +82,8 @@ module _ {S : Type 0} (who : Who) where
 
     behind : (counter : ℕ) (old new : InStep S) → TakesBehind meaning who counter old new → Steady who.address old.member new.member
     behind counter old new x =
-        let heard = record (old.member) { notes = having_heard counter old.member.notes } in from old.member heard new.member (λ i. old.member.view_state) (goes-on-by (anew_proposal who.address heard) (in_step heard old.out) new x)
+        let heard = record (old.member) { notes = having_heard counter old.member.notes } in from old.member heard new.member (λ i. old.member.view_state)
+        (goes-on-by (anew_proposal who.address heard) (in_step heard old.out) new x)
 
     entry-by : (b : Bool) (A : Type 0) (i : wire.Install) (old new : InStep S)
         → MatchBool b (A × Enters meaning who old.member.view_state i old new) (StaysAs old new) → Steady who.address old.member new.member

@@ -1,6 +1,5 @@
 -- What a member did one after the other; and one who did nothing, or only noted.
-use Rattle.std.proofs.Common.{◌≡◌, ℕ, Option, Some, List, [], ◌++◌, sym, subst}
-use Rattle.address.specs.Ids.{Address}
+use Rattle.std.proofs.Common.{◌≡◌, Option, Some, [], ◌++◌, sym, subst}
 use Rattle.state_transfer.specs.Meanings.{Meaning}
 use Rattle.next_view.specs.Notes.{NotesModel}
 use Rattle.acts.specs.Histories.{Posted}

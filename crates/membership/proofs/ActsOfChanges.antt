@@ -44,7 +44,7 @@ use Rattle.membership.proofs.KeepMemberState.{installed_as, own-installed, other
 use Rattle.membership.proofs.KeepNotes.{heard-member_state, suspected-member_state}
 use Rattle.membership.proofs.FactOfProposed.{IsProposal, due-is-proposal, anew-is-proposal}
 use Rattle.address.proofs.Plain.{match-bool}
-use Rattle.step_output.specs.Steps.{Who, who}
+use Rattle.step_output.specs.Steps.{Who}
 use Rattle.membership.specs.InSteps.{InStep, in_step}
 
 -- ---- what a flush says, in the words of agreement
@@ -247,7 +247,8 @@ module _ {S : Type 0} (meaning : Meaning S) (who : Who) where
       events = events ∙ sym (append-nil out.events.items);
       short = tt;
     };
-    acted = one-acted meaning came (core_of who.address l) (Puts a.to (bodies.Install a.install)) (a.current, ap (λ (p : Address). install_sent_to p (sent_installs_in l.sent_installs.items)) a.same ∙ ap (install_sent_to q) kept ∙ a.first);
+    acted = one-acted meaning came (core_of who.address l) (Puts a.to (bodies.Install a.install))
+        (a.current, ap (λ (p : Address). install_sent_to p (sent_installs_in l.sent_installs.items)) a.same ∙ ap (install_sent_to q) kept ∙ a.first);
   }
 
   pub installs-again-did : (came : Option Posted) (q : Address) (l : MemberState S) (out later : Output) → IsMemberState who l → InstallsAgain q (in_step l out) later → DidThis came (in_step l out) (in_step l later)

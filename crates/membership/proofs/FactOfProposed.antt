@@ -1,5 +1,5 @@
 -- What a member proposes: it may, and it leads the view in which it does.
-use Rattle.std.proofs.Common.{◌≡◌, ℕ, Bool, true, false, cond, Option, Some, None, List, refl, sym, ap, ◌∙◌, subst, arith, is_some}
+use Rattle.std.proofs.Common.{◌≡◌, Bool, true, false, cond, Option, Some, None, refl, sym, ap, ◌∙◌, subst, arith, is_some}
 use Rattle.std.specs.Prelude.{if◌then◌else◌}
 use Rattle.std.specs.Option.{option_map_or, option_and_then}
 use Rattle.std.specs.declared.cmp.Ordering.TheVariants.{Greater}
@@ -48,7 +48,8 @@ pub record IsProposal {S : Type 0} (me : Address) (l : MemberState S) (w : View)
   pub accepted : is_accept (offered w l.promise) ≡ true
 
 module _ {S : Type 0} (who : Who) where
-  pub is-proposal : (l : MemberState S) (v w : View) → IsMemberState who l → view_in l.view_state ≡ Some v → leads_in who.address v l.notes ≡ true → proposal_after (core_of who.address l) l.notes v ≡ Some w → IsProposal who.address l w
+  pub is-proposal : (l : MemberState S) (v w : View) → IsMemberState who l → view_in l.view_state ≡ Some v → leads_in who.address v l.notes ≡ true
+      → proposal_after (core_of who.address l) l.notes v ≡ Some w → IsProposal who.address l w
   is-proposal l v w kept inside leads next =
       let sound : view_refusal w.id w.members ≡ None = proposal-is-view (core_of who.address l) l.notes v w leads kept.unsuspected next in
       let x = next-means (core_of who.address l) l.notes _ w next in

@@ -172,7 +172,8 @@ module _ {S : Type 0} (who : Who) where
 
   -- ---- a flush of its own begins
 
-  begun-flushing : (l : MemberState S) (w : View) → IsProposal who.address l w → (z : MemberState S) → z.view_state ≡ l.view_state → z.promise ≡ promising w l.promise → z.notes ≡ l.notes → IsFlushing who.address z (begun_with who.address w (report_in l))
+  begun-flushing : (l : MemberState S) (w : View) → IsProposal who.address l w → (z : MemberState S) → z.view_state ≡ l.view_state → z.promise ≡ promising w l.promise → z.notes ≡ l.notes
+      → IsFlushing who.address z (begun_with who.address w (report_in l))
   begun-flushing l w p z view_state promise notes = record {
     inside = ap is_some view_state ∙ inside-some l.view_state p.before p.inside;
     promise = ap (λ (x : PromiseModel). x.proposal) promise;
@@ -203,7 +204,8 @@ module _ {S : Type 0} (who : Who) where
   -- ---- a view is entered
 
   -- in a view that is the promised one, with no notes of suspects
-  pub gone-member_state : (new : MemberState S) (w : View) → new.view_state ≡ Some (fresh_in who.address w) → new.promise ≡ installed_as who.address w → new.flush ≡ None → new.notes.suspects ≡ [] → stands_in who.address w.members ≡ true
+  pub gone-member_state : (new : MemberState S) (w : View) → new.view_state ≡ Some (fresh_in who.address w) → new.promise ≡ installed_as who.address w → new.flush ≡ None → new.notes.suspects ≡ []
+      → stands_in who.address w.members ≡ true
       → IsKept who new → IsMemberState who new
   gone-member_state new w view_state promise flush suspects stands kept =
       let view : view_in new.view_state ≡ Some w = ap view_in view_state ∙ ap Some (fresh-view who.address w) in
@@ -229,7 +231,8 @@ module _ {S : Type 0} (who : Who) where
       let same_packets = given-packets who.address f (view_of t).id state (others_of who.address f.members) in
       let view_state : new.view_state ≡ Some (fresh_in who.address (proposed f)) = ap (λ (n : MemberState S). n.view_state) z.member_state in
       let promise : after_install (proposed f) old.promise ≡ installed_as who.address (proposed f) =
-      own-installed who.address (proposed f) old.promise (ap (λ (p : PromiseModel). p.member) same ∙ kept.own) (ap (λ (p : PromiseModel). p.proposal) same ∙ x.promise) (ap (λ (p : PromiseModel). p.is_installed) same ∙ x.waiting) in
+      own-installed who.address (proposed f) old.promise (ap (λ (p : PromiseModel). p.member) same ∙ kept.own) (ap (λ (p : PromiseModel). p.proposal) same ∙ x.promise)
+      (ap (λ (p : PromiseModel). p.is_installed) same ∙ x.waiting) in
       gone-member_state new (proposed f) view_state (ap (λ (n : MemberState S). n.promise) z.member_state ∙ promise) (ap (λ (n : MemberState S). n.flush) z.member_state) (ap (λ (n : MemberState S). n.notes.suspects) z.member_state)
       (subst (λ (p : Address). stands_in p f.members ≡ true) x.own (coordinator-in f.proposal f.members x.list))
       (record {
@@ -272,7 +275,8 @@ module _ {S : Type 0} (who : Who) where
 
   recorded-flushing : (l : MemberState S) (q : Address) (w : ViewId) (r : wire.Report) (f : FlushModel) (b d : Bool) (o : Option FlushModel) → IsFlushing who.address l f
       → IsFlushing who.address (record l { flush = o }) (cond b (cond d (record f { reports = f.reports ++ (q, r) ∷ [] }) f) f)
-  recorded-flushing l q w r f true true o x = record { inside = x.inside; promise = x.promise; own = x.own; waiting = x.waiting; list = x.list; reported = reported-more who.address f.reports ((q, r) ∷ []) x.reported; leads = x.leads }
+  recorded-flushing l q w r f true true o x =
+      record { inside = x.inside; promise = x.promise; own = x.own; waiting = x.waiting; list = x.list; reported = reported-more who.address f.reports ((q, r) ∷ []) x.reported; leads = x.leads }
   recorded-flushing l q w r f true false o x = record { inside = x.inside; promise = x.promise; own = x.own; waiting = x.waiting; list = x.list; reported = x.reported; leads = x.leads }
   recorded-flushing l q w r f false d o x = record { inside = x.inside; promise = x.promise; own = x.own; waiting = x.waiting; list = x.list; reported = x.reported; leads = x.leads }
 
@@ -344,10 +348,12 @@ module _ {S : Type 0} (who : Who) where
   unflushed None l e none kept = refl
   unflushed (Some f) l e none kept = not-both (is_some l.view_state) (kept.flushing f e).inside (ap is_some none)
 
-  pub created-member_state : (l new : MemberState S) → IsMemberState who l → is_connected l ≡ false → new ≡ record l { view_state = Some (fresh_in who.address (lone_view who.address)); promise = installed_as who.address (lone_view who.address) } → IsMemberState who new
+  pub created-member_state : (l new : MemberState S) → IsMemberState who l → is_connected l ≡ false
+      → new ≡ record l { view_state = Some (fresh_in who.address (lone_view who.address)); promise = installed_as who.address (lone_view who.address) } → IsMemberState who new
   created-member_state l new kept off is =
       let none : l.view_state ≡ None = outside l.view_state (is_some l.contact) off in
-      let no-items : l.sent_installs.items ≡ [] = kept.sent_installs.spelled ∙ ap (λ g. map (spelled who.group) (map (install_packet who.address) g)) (none-given (view_in l.view_state) kept.sent_installs.given (ap view_in none) kept.sent_installs.current) in
+      let no-items : l.sent_installs.items ≡ [] = kept.sent_installs.spelled ∙ ap (λ g. map (spelled who.group) (map (install_packet who.address) g))
+      (none-given (view_in l.view_state) kept.sent_installs.given (ap view_in none) kept.sent_installs.current) in
       let view_state : new.view_state ≡ Some (fresh_in who.address (lone_view who.address)) = ap (λ (n : MemberState S). n.view_state) is in
       let promise : new.promise ≡ installed_as who.address (lone_view who.address) = ap (λ (n : MemberState S). n.promise) is in
       let view : view_in new.view_state ≡ Some (lone_view who.address) = ap view_in view_state ∙ ap Some (fresh-view who.address (lone_view who.address)) in

@@ -17,7 +17,6 @@ use Rattle.step_output.specs.declared.output.Output.{Output}
 use Rattle.step_output.specs.Outputs.{Grows, spelled}
 use Rattle.traffic.specs.declared.view_state.ViewState.{ViewState}
 use Rattle.traffic.specs.ViewStates.{fresh_in}
-use Rattle.membership.specs.declared.member_state.MemberState.{MemberState}
 use Rattle.membership.specs.MemberStates.{core_of, report_in, blocked_by, begun_with, is_sent_to, is_complete, recording, anew_proposal}
 use Rattle.membership.specs.Installs.{finished_state, finish_packets, finish_events, state_by, arriving, enter_events}
 use Rattle.step_output.specs.Steps.{Who}

@@ -1,5 +1,5 @@
 -- One stretch of acts after another.
-use Rattle.std.proofs.Common.{◌≡◌, ℕ, Option, Some, List, [], ◌++◌, refl, ◌∙◌, subst}
+use Rattle.std.proofs.Common.{◌≡◌, Option, Some, List, [], ◌++◌, refl, ◌∙◌, subst}
 use Rattle.address.specs.Ids.{Address}
 use Rattle.view.specs.Members.{View}
 use Rattle.state_transfer.specs.Meanings.{Meaning}
@@ -7,7 +7,6 @@ use Rattle.wire_values.specs.Values as wire
 use Rattle.acts.specs.Histories.{Posted}
 use Rattle.acts.specs.Cores.{ViewCore}
 use Rattle.acts.proofs.LawsOfActs.{nothing-acted, then-acted}
-use Rattle.step_output.specs.declared.output.Output.{Output}
 use Rattle.step_output.proofs.FactOfGrows.{grows-nothing, grows-then}
 use Rattle.traffic.specs.declared.coordinator.Coordinator.{Coordinator}
 use Rattle.traffic.specs.declared.follower.Follower.{Follower}

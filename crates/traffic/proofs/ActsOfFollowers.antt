@@ -220,7 +220,8 @@ module _ {S : Type 0} (meaning : Meaning S) where
   turn-then came w did_deliver a b c other x y = other-then meaning came w a b c x (turn-goes came w did_deliver b c (ap (λ (v : View). same_address w.address v.id.creator) x.1 ∙ other) y)
 
   pub order-goes : (p : Address) (group : List ℕ) (m : Follower) (s : S) (out : Output) (g : ℕ) (e : Entry) (more most last : Follower) (t : S) (end : Output) → same_address p m.view.id.creator ≡ false
-      → more ≡ collected_to (g - WINDOW) m → most ≡ held_too g e more → ((came : Option Posted) → Does came (who p group) (in_view most s out) (in_view last t end)) → Does (order_packet p m.view g e) (who p group) (in_view m s out) (in_view last t end)
+      → more ≡ collected_to (g - WINDOW) m → most ≡ held_too g e more → ((came : Option Posted) → Does came (who p group) (in_view most s out) (in_view last t end))
+      → Does (order_packet p m.view g e) (who p group) (in_view m s out) (in_view last t end)
   order-goes p group m s out g e more most last t end other now after rest_goes =
       other-then meaning (order_packet p m.view g e) (who p group) (in_view m s out) (in_view most s out) (in_view last t end) (takes-goes p group m s out g e more most other now after) (rest_goes (order_packet p m.view g e))
 

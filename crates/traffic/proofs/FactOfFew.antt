@@ -21,7 +21,6 @@ use Rattle.stability.specs.declared.Ack.{Ack}
 use Rattle.stability.proofs.Counts.{stable-le-count}
 use Rattle.acts.specs.Acts.{delivery}
 use Rattle.traffic.specs.declared.coordinator.Coordinator.{Coordinator}
-use Rattle.step_output.specs.declared.output.Output.{Output}
 use Rattle.traffic.specs.ViewStates.{waiting_of, waiting_in, senders_of}
 use Rattle.traffic.specs.Coordinators.{IsCoordinator, after_one}
 use Rattle.traffic.specs.Turns.{turned, TurnsTo, Starts, Turns, Ordering, IsSettled, IsFew, own_queue}

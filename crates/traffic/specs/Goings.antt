@@ -35,7 +35,8 @@ open_core p v kept t s = record {
 pub record Goes {S : Type 0} (meaning : Meaning S) (came : Option Posted) (who : Who) (v : View) (old new : InView ViewCore S) : Type 0 where
   pub posted : List Posted
   pub happened : List Event
-  pub acted : (kept : List (Address × wire.Install)) → Acted meaning came (Some (open_core who.address v kept old.part old.state)) posted happened (Some (open_core who.address v kept new.part new.state))
+  pub acted : (kept : List (Address × wire.Install))
+      → Acted meaning came (Some (open_core who.address v kept old.part old.state)) posted happened (Some (open_core who.address v kept new.part new.state))
   pub grows : Grows who.group old.out new.out posted happened
 
 -- the coordinator went on so, in its view, and is still what a coordinator is

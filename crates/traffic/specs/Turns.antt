@@ -48,7 +48,9 @@ pub record TurnsOne {S : Type 0} (meaning : Meaning S) (who : Who) (e : Entry) (
 
 abbrev pub TurnsNext : {S : Type 0} → Meaning S → Who → Bool → InView Coordinator S → InView Coordinator S → Type 0
 TurnsNext meaning who more old new =
-    MatchOption (next_ordered old.part.window.stable old.part.orderer) ((more ≡ false) × (new.part ≡ old.part) × (new.state ≡ old.state) × (new.out ≡ old.out)) (λ e. (more ≡ true) × TurnsOne meaning who e old new)
+    MatchOption (next_ordered old.part.window.stable old.part.orderer)
+    ((more ≡ false) × (new.part ≡ old.part) × (new.state ≡ old.state) × (new.out ≡ old.out))
+    (λ e. (more ≡ true) × TurnsOne meaning who e old new)
 
 -- several turns: exactly what is delivered, and put out
 pub record Ordering {S : Type 0} (meaning : Meaning S) (who : Who) (old new : InView Coordinator S) : Type 0 where

@@ -1,5 +1,5 @@
 -- A catch-up brings a member level with the coordinator of its view.
-use Rattle.std.proofs.Common.{◌≡◌, ℕ, zero, suc, ◌+◌, ◌-◌, ◌<◌, ◌≤◌, Bool, true, false, Option, Some, None, Ok, List, [], ◌∷◌, ◌++◌, map, drop, length, is_some, nat_eq, nat_lt, inl, inr, ◌⊎◌, refl, sym, ap, ◌∙◌, subst, arith}
+use Rattle.std.proofs.Common.{◌≡◌, ℕ, zero, suc, ◌+◌, ◌-◌, ◌<◌, ◌≤◌, Bool, true, false, Option, Some, None, List, [], ◌∷◌, ◌++◌, map, drop, length, is_some, nat_eq, nat_lt, inl, inr, ◌⊎◌, refl, sym, ap, ◌∙◌, subst, arith}
 use Rattle.std.specs.Prelude.{◌||◌}
 use Rattle.std.specs.List.{slice_get, position_from, AllByRecursion}
 use Rattle.std.specs.Option.{option_map, option_map_or}
@@ -55,7 +55,6 @@ use Rattle.world.proofs.FactOfPairs
 use Rattle.world_step.proofs.FactOfSystem.{runs, core-running}
 use Rattle.world_step.proofs.FactOfPosts.{EachSound, bytes_for}
 use Rattle.world_step.proofs.KeepOfWorlds
-use Rattle.world.proofs.FactOfPlayed
 use Rattle.world.proofs.FactOfReplies
 use Rattle.world.proofs.FactOfReplies.{bytes_as, IsSound, goes-to}
 use Rattle.world_step.proofs.FactOfFirst.{numbered-at}

@@ -1,5 +1,5 @@
 -- Deliveries one after another, and the first packet that is for an address, one number further.
-use Rattle.std.proofs.Common.{Result, Ok, Err, ◌≡◌, ℕ, zero, suc, ◌+◌, ◌-◌, ◌<◌, ◌≤◌, true, Some, None, subst, arith}
+use Rattle.std.proofs.Common.{Result, Ok, Err, ◌≡◌, ℕ, zero, suc, ◌+◌, ◌-◌, ◌<◌, ◌≤◌, subst, arith}
 use Rattle.std.specs.Prelude.{OnErr}
 use Rattle.state_transfer.specs.Meanings.{Meaning}
 use Rattle.world_model.specs.declared.WorldEvent.TheVariants.{Deliver}

@@ -1,6 +1,6 @@
 -- What the coordinator of a view and another member of it do in a world: by a tick, a STATUS, a NAK and an ORDER, each played to its end.
-use Rattle.std.proofs.Common.{◌≡◌, ℕ, ◌+◌, ◌-◌, ◌<◌, Bool, true, false, not, ◌&&◌, Option, Some, None, Ok, List, [], ◌++◌, map, is_some, nat_eq, nat_lt, inl, inr, refl, ap, ◌∙◌, subst}
-use Rattle.std.specs.Prelude.{◌||◌, ◌⊎◌}
+use Rattle.std.proofs.Common.{◌≡◌, ℕ, ◌+◌, ◌-◌, true, false, Option, Some, None, Ok, List, [], ◌++◌, map, is_some, nat_eq, nat_lt, inl, inr, refl, ap, ◌∙◌, subst}
+use Rattle.std.specs.Prelude.{◌⊎◌}
 use Rattle.std.specs.Borrow.{Bor}
 use Rattle.std.specs.Option.{IsSomeAnd, option_map}
 use Rattle.std.proofs.lemmas.List.{append-nil}
@@ -34,7 +34,7 @@ use Rattle.member_messages.specs.Messages.{ByKind, AtFollower, OnNak, OnOrder, O
 use Rattle.member.specs.Hearing as hearing
 use Rattle.member.specs.declared.input.Input.{Input}
 use Rattle.member.specs.declared.input.Input.TheVariants as input
-use Rattle.member.specs.Members.{MemberModel, core_of, leaves, came_at, refusal_of, is_unreadable}
+use Rattle.member.specs.Members.{MemberModel, core_of, came_at, refusal_of, is_unreadable}
 use Rattle.member.specs.Doing.{DoesAt, DoesBy, Ticks}
 use Rattle.member.specs.Handling.{Handled, StaysSo, Replies}
 use Rattle.world_model.specs.declared.WorldEvent.TheVariants.{Deliver, Tick}
@@ -45,7 +45,7 @@ use Rattle.world_step.specs.Turns.{OthersStand}
 use Rattle.world_step.specs.Worlds.{WorldModel, WorldStep}
 use Rattle.world.specs.Gaps.{lacks_memory}
 use Rattle.world_step.proofs.FactOfPosts.{EachSound, bytes_for}
-use Rattle.world_step.proofs.FactOfTaken.{when-true, when-false}
+use Rattle.world_step.proofs.FactOfTaken.{when-true}
 use Rattle.world.proofs.FactOfPlayed
 use Rattle.step_output.specs.Steps.{who}
 use Rattle.traffic.specs.InViews.{in_view}

@@ -11,7 +11,6 @@ use Rattle.acts.specs.Cores.{idle}
 use Rattle.membership.specs.MemberStates.{idle_member}
 use Rattle.member.specs.Running.{IsAlive}
 use Rattle.member.specs.declared.error.Error.{Error}
-use Rattle.member.specs.declared.error.Error.TheVariants as error
 use Rattle.member.specs.declared.input.Input.{Input}
 use Rattle.member.specs.declared.input.Input.TheVariants as input
 use Rattle.step_output.specs.declared.output.Output.{Output}

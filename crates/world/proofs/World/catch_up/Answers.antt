@@ -1,4 +1,4 @@
-use Rattle.std.proofs.Common.{Option, Some, sym, ap, ◌∙◌, subst}
+use Rattle.std.proofs.Common.{Option, sym, ap, ◌∙◌, subst}
 use Rattle.std.specs.Prelude.{is_some}
 use Rattle.std.specs.Option.{IsSomeAnd}
 use Rattle.std.proofs.lemmas.Option.{none-some, same_Some}

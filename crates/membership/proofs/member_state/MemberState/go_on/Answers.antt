@@ -9,5 +9,6 @@ complete-requires-clause-member_state g c = whole-member_state (who_of c.args.wh
 
 pub returns-clause-goes_on : goal.returns-clause-goes_on
 returns-clause-goes_on g c =
-    goes-on (who_of c.args.who.now) g.R.Receiver.meaning c.unwrap-flush.result c.unwrap-view_state.result (in_step c.args.self.now c.args.out.now) (in_step c.complete.new.self c.complete.new.out) (in_step c.propose.new.self c.propose.new.out)
+    goes-on (who_of c.args.who.now) g.R.Receiver.meaning c.unwrap-flush.result c.unwrap-view_state.result (in_step c.args.self.now c.args.out.now) (in_step c.complete.new.self c.complete.new.out)
+    (in_step c.propose.new.self c.propose.new.out)
     (search rules) (search rules) (search rules) (search rules) c.in_ok-propose.ensures.proposes
