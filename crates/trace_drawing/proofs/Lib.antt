@@ -1,0 +1,3 @@
+pub mod FactOfPlaces
+pub mod KeepKnown
+pub mod FactOfRows

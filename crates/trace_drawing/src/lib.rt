@@ -1,0 +1,9 @@
+//! The picture of a trace: which row and column each event has, which marks are drawn there, and how they are spelled as an SVG (docs/FORMATS.md, "Pictures").
+#![tactic(auto)]
+
+mod known;
+mod layout;
+mod row;
+
+pub use layout::{Layout, lay_out};
+pub use row::{Line, MessageKey, Row};
