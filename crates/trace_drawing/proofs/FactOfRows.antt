@@ -11,7 +11,7 @@ use Rattle.trace_drawing.specs.declared.row.Row.{Row}
 use Rattle.trace_drawing.specs.declared.row.Line.{Line}
 use Rattle.trace_drawing.specs.declared.row.MessageKey.{MessageKey}
 use Rattle.trace_drawing.specs.declared.known.Lifeline.{Lifeline}
-use Rattle.trace_drawing.specs.Layout.{last_place, members_in, column_of, happens_to, reached_by, origin_of, row_of, rows_from, rows_of, line_of}
+use Rattle.trace_drawing.specs.Layout.{last_place, members_in, column_of, happens_to, reached_by, origin_of, row_of, rows_from, rows_of, member_line}
 use Rattle.trace_drawing.specs.Known.{KnowsSends, KnowsInstalls, Knows}
 
 -- ROWS
@@ -71,11 +71,11 @@ known-next events i e K at inside then = subst K (sym (next-take events i e at i
 
 -- one member more
 pub lines-next : (t : List Event) (members items : List Address) (i : ℕ) (p : Address) (lines : List Line) → items ≡ members → p ≡ get_or items i p → i < length items
-    → lines ≡ filter_map (line_of t) (take i members) → (o : Option Line) → o ≡ line_of t p → lines ++ cons_option o [] ≡ filter_map (line_of t) (take (i + 1) members)
+    → lines ≡ filter_map (member_line t) (take i members) → (o : Option Line) → o ≡ member_line t p → lines ++ cons_option o [] ≡ filter_map (member_line t) (take (i + 1) members)
 lines-next t members items i p lines same at inside so_far o is =
-    ap (λ ls. ls ++ cons_option o []) so_far ∙ ap (λ xs. filter_map (line_of t) (take i xs) ++ cons_option o []) (sym same) ∙ ap (λ x. filter_map (line_of t) (take i items) ++ cons_option x []) is
-    ∙ sym (ap (filter_map (line_of t)) (next-take items i p at inside) ∙ filter_map-append (line_of t) (take i items) (p ∷ []))
-    ∙ ap (λ xs. filter_map (line_of t) (take (i + 1) xs)) same
+    ap (λ ls. ls ++ cons_option o []) so_far ∙ ap (λ xs. filter_map (member_line t) (take i xs) ++ cons_option o []) (sym same) ∙ ap (λ x. filter_map (member_line t) (take i items) ++ cons_option x []) is
+    ∙ sym (ap (filter_map (member_line t)) (next-take items i p at inside) ∙ filter_map-append (member_line t) (take i items) (p ∷ []))
+    ∙ ap (λ xs. filter_map (member_line t) (take (i + 1) xs)) same
 
 pub row-column : (r : Row) (t : List Event) (e : Event) → r ≡ row_of t e → r.column ≡ column_of (member_of e) t
 row-column r t e is = ap (λ x. x.column) is

@@ -107,8 +107,8 @@ rows_of t = rows_from [] t
 -- MEMBERS' LINES
 
 -- a member's line: in its column, from its first event to its last
-abbrev pub line_of : List Event → Address → Option Line
-line_of t p = option_map (λ column. record {
+abbrev pub member_line : List Event → Address → Option Line
+member_line t p = option_map (λ column. record {
   member = p;
   column = column;
   first = unwrap_or (first_place (happens_to p) t) 0;
@@ -118,5 +118,5 @@ line_of t p = option_map (λ column. record {
 }) (rank_in p (members_in t))
 
 -- the lines of a trace's members, by column
-abbrev pub lines_of : List Event → List Line
-lines_of t = filter_map (line_of t) (members_in t)
+abbrev pub member_lines : List Event → List Line
+member_lines t = filter_map (member_line t) (members_in t)

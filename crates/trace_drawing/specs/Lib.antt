@@ -1,2 +1,5 @@
 pub mod Layout
 pub mod Known
+pub mod Marks
+pub mod Labels
+pub mod Spelling

@@ -6,7 +6,7 @@ ghost use Rattle.std.specs.HashMap.{get};
 ghost use Rattle.address.specs.Ids.{Address, same_address, same_view_id};
 ghost use Rattle.trace_props.specs.declared.event.Event.{Event};
 ghost use Rattle.trace_props.specs.Observed.{member_of, is_end};
-ghost use Rattle.trace_drawing.specs.Layout.{same_message, message_sent, view_installed, reached_by, column_of, row_of, line_of};
+ghost use Rattle.trace_drawing.specs.Layout.{same_message, message_sent, view_installed, reached_by, column_of, row_of, member_line};
 ghost use Rattle.trace_drawing.specs.Known.{blocked_after, lifeline_after, KnowsSends, KnowsInstalls, Knows};
 
 use crate::row::{Line, MessageKey, Row};
@@ -297,7 +297,7 @@ impl Known {
 
     /// The line of a member.
     pub fn line(&self, member: &Address) -> Option<Line>
-        ensures { (t : List Event) → Knows self.now.members.items (get same_address self.now.lifelines) (get same_message self.now.sends) (get same_view_id self.now.installs) t → result ≡ line_of t member.now }
+        ensures { (t : List Event) → Knows self.now.members.items (get same_address self.now.lifelines) (get same_message self.now.sends) (get same_view_id self.now.installs) t → result ≡ member_line t member.now }
     {
         match self.lifelines.get(member) {
             None => None,

@@ -3,7 +3,7 @@ ghost use Rattle.std.specs.List.{cons_option};
 ghost use Rattle.std.specs.HashMap.{get};
 ghost use Rattle.address.specs.Ids.{same_address, same_view_id};
 ghost use Rattle.trace_props.specs.declared.event.Event.{Event};
-ghost use Rattle.trace_drawing.specs.Layout.{same_message, rows_of, lines_of};
+ghost use Rattle.trace_drawing.specs.Layout.{same_message, rows_of, member_lines};
 ghost use Rattle.trace_drawing.specs.Known.{Knows};
 
 use crate::known::Known;
@@ -33,7 +33,7 @@ fn add(lines: &mut Vec<Line>, line: Option<Line>) -> Result<(), AllocError>
 
 // The lines of the members that are known.
 fn lines(alloc: Global, known: &Known) -> Result<Vec<Line>, AllocError>
-    ensures { IfOk result (λ lines. (t : List Event) → Knows known.now.members.items (get same_address known.now.lifelines) (get same_message known.now.sends) (get same_view_id known.now.installs) t → lines.items ≡ lines_of t) }
+    ensures { IfOk result (λ lines. (t : List Event) → Knows known.now.members.items (get same_address known.now.lifelines) (get same_message known.now.sends) (get same_view_id known.now.installs) t → lines.items ≡ member_lines t) }
 {
     let mut lines = Vec::new(alloc);
     for member in known.members.iter() {
@@ -45,7 +45,7 @@ fn lines(alloc: Global, known: &Known) -> Result<Vec<Line>, AllocError>
 /// The layout of a trace. Refused where memory is, or where there are more than `ROWS` events.
 pub fn lay_out(alloc: Global, events: &[Event]) -> Result<Layout, AllocError>
     ensures rows { IfOk result (λ layout. layout.rows.items ≡ rows_of events.now) }
-    ensures lines { IfOk result (λ layout. layout.lines.items ≡ lines_of events.now) }
+    ensures lines { IfOk result (λ layout. layout.lines.items ≡ member_lines events.now) }
 {
     if events.len() > ROWS {
         return Err(AllocError);

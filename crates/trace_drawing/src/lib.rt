@@ -2,8 +2,12 @@
 #![tactic(auto)]
 
 mod known;
+mod labels;
 mod layout;
+mod marks;
 mod row;
+mod spelling;
 
 pub use layout::{Layout, lay_out};
+pub use marks::{Mark, Place};
 pub use row::{Line, MessageKey, Row};
