@@ -1,3 +1,4 @@
 pub mod FactOfPlaces
 pub mod KeepKnown
 pub mod FactOfRows
+pub mod FactOfTexts

@@ -3,3 +3,4 @@ pub mod Known
 pub mod Marks
 pub mod Labels
 pub mod Spelling
+pub mod Picture

@@ -5,9 +5,12 @@ mod known;
 mod labels;
 mod layout;
 mod marks;
+mod picture;
 mod row;
 mod spelling;
+mod texts;
 
 pub use layout::{Layout, lay_out};
 pub use marks::{Mark, Place};
+pub use picture::draw;
 pub use row::{Line, MessageKey, Row};
