@@ -49,7 +49,7 @@ noted : {X : Type 0} (f : Option Lifeline → X) (g h : Address → X) (m n : Ad
     → (q : Address) → f (n q) ≡ h q
 noted f g h m n p new updates was now other q = noted-at f g h m n p q new (same_address p q) refl (updates q) (was q) now (other q)
 
-members-push : (t : List Event) (e : Event) → members_in (t ++ e ∷ []) ≡ come_up (members_in t) e
+pub members-push : (t : List Event) (e : Event) → members_in (t ++ e ∷ []) ≡ come_up (members_in t) e
 members-push t e = fold-append come_up [] t (e ∷ [])
 
 ranked-at : (p : Address) (ms : List Address) (o : Option ℕ) → rank_in p ms ≡ o → rank_in p (cond (is_some o) ms (ms ++ p ∷ [])) ≡ Some (unwrap_or o (length ms))
@@ -57,7 +57,7 @@ ranked-at p ms (Some c) e = e
 ranked-at p ms None e = first-hit (same_address p) ms p (same_address-refl p) ∙ ap (λ o. Some (unwrap_or o (length ms))) e
 
 -- the member of the next event has its column
-rank-now : (t : List Event) (e : Event) → rank_in (member_of e) (members_in (t ++ e ∷ [])) ≡ Some (column_of (member_of e) t)
+pub rank-now : (t : List Event) (e : Event) → rank_in (member_of e) (members_in (t ++ e ∷ [])) ≡ Some (column_of (member_of e) t)
 rank-now t e = ap (rank_in (member_of e)) (members-push t e) ∙ ranked-at (member_of e) (members_in t) (rank_in (member_of e) (members_in t)) refl
 
 other-at : (p q : Address) (ms : List Address) (b : Bool) → same_address q p ≡ false → rank_in q (cond b ms (ms ++ p ∷ [])) ≡ rank_in q ms

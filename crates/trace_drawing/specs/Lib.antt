@@ -4,3 +4,4 @@ pub mod Marks
 pub mod Labels
 pub mod Spelling
 pub mod Picture
+pub mod Promises

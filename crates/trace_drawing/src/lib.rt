@@ -3,6 +3,7 @@
 
 mod known;
 mod labels;
+mod law;
 mod layout;
 mod marks;
 mod picture;
@@ -10,6 +11,7 @@ mod row;
 mod spelling;
 mod texts;
 
+pub use law::{columns_by_member, lines_between_events, rows_in_order, texts_add_no_mark};
 pub use layout::{Layout, lay_out};
 pub use marks::{Mark, Place};
 pub use picture::draw;
