@@ -1,0 +1,131 @@
+//! The pictures of worked traces, spelled out by hand.
+
+use std::alloc::Global;
+use trace_drawing::draw;
+use trace_reader::read_trace;
+
+/// Whether the picture of a trace begins and ends so.
+fn draws(alloc: Global, text: &[u8], front: &[u8], back: &[u8]) -> bool {
+    let Ok(trace) = read_trace(alloc, text) else {
+        return false;
+    };
+    match draw(alloc, trace.events()) {
+        Ok(picture) => picture.as_slice().starts_with(front) && picture.as_slice().ends_with(back),
+        Err(_) => false,
+    }
+}
+
+#[test]
+fn an_empty_trace_is_an_empty_sheet(rt: HostRuntime) {
+    let front = b"<svg xmlns='http://www.w3.org/2000/svg' width='110' height='80'><style>";
+    let back = b"</style><rect class='w' width='100%' height='100%'/>\n</svg>\n";
+    assert!(rt; draws(rt.alloc(), b"", front, back));
+}
+
+#[test]
+fn a_member_that_started_has_a_line_to_the_bottom(rt: HostRuntime) {
+    let front = b"<svg xmlns='http://www.w3.org/2000/svg' width='230' height='102'><style>";
+    let back = b"<rect class='w' width='100%' height='100%'/>\n\
+        <g><title>3.1</title><path class='s' d='M110 60L110 82'/></g>\n\
+        <g class='c0'><title>started 3.1\n</title><text class='n' x='110' y='34'>3.1</text><text class='r' x='40' y='64'>1</text>\
+        <path class='k' d='M110 60m-8 0h16'/><text class='t' x='121' y='64'>started</text></g>\n</svg>\n";
+    assert!(rt; draws(rt.alloc(), b"started 3.1\n", front, back));
+}
+
+#[test]
+fn a_payload_adds_no_mark(rt: HostRuntime) {
+    let text = b"sent 1.1 1@1.1 1 3c2f673e26\n";
+    let back =
+        b"<path class='d' d='M110 60m-7 0a7 7 0 1 0 14 0a7 7 0 1 0-14 0'/><text class='b' x='121' y='64'>&lt;/g&gt;&amp;</text></g>\n</svg>\n";
+    assert!(rt; draws(rt.alloc(), text, b"<svg ", back));
+}
+
+#[test]
+fn a_long_payload_is_cut(rt: HostRuntime) {
+    let twelve = b"sent 1.1 1@1.1 1 616263646566616263646566\n";
+    let thirteen = b"sent 1.1 1@1.1 1 61626364656661626364656661\n";
+    assert!(rt;
+        draws(
+            rt.alloc(),
+            twelve,
+            b"<svg ",
+            b">abcdefabcdef</text></g>\n</svg>\n"
+        ),
+        "twelve letters"
+    );
+    assert!(rt;
+        draws(
+            rt.alloc(),
+            thirteen,
+            b"<svg ",
+            b">abcdefabcdef&#8230;</text></g>\n</svg>\n"
+        ),
+        "thirteen letters"
+    );
+}
+
+#[test]
+fn a_payload_that_is_no_text_is_shown_in_hexadecimal(rt: HostRuntime) {
+    let five = b"sent 1.1 1@1.1 1 6100fe3c7f\n";
+    let six = b"sent 1.1 1@1.1 1 6100fe3c7f61\n";
+    assert!(rt;
+        draws(
+            rt.alloc(),
+            five,
+            b"<svg ",
+            b">0x6100fe3c7f</text></g>\n</svg>\n"
+        ),
+        "five bytes"
+    );
+    assert!(rt;
+        draws(
+            rt.alloc(),
+            six,
+            b"<svg ",
+            b">0x6100fe3c7f&#8230;</text></g>\n</svg>\n"
+        ),
+        "six bytes"
+    );
+}
+
+#[test]
+fn a_message_has_a_line_from_its_send(rt: HostRuntime) {
+    let text = b"sent 2.1 1@2.1 1 -\ndelivered 1.1 1@2.1 2.1 1 -\n";
+    let back =
+        b"<g class='c0'><title>delivered 1.1 1@2.1 2.1 1 -\n</title><text class='n' x='230' y='34'>1.1</text><text class='r' x='40' y='86'>2</text>\
+        <path class='m' d='M110 60L230 82'/><path class='d' d='M230 82m-4 0a4 4 0 1 0 8 0a4 4 0 1 0-8 0'/><text class='t' x='241' y='86'></text></g>\n</svg>\n";
+    assert!(rt; draws(rt.alloc(), text, b"<svg ", back));
+}
+
+#[test]
+fn a_message_to_its_sender_is_bowed(rt: HostRuntime) {
+    let text = b"sent 2.1 1@2.1 1 -\ndelivered 2.1 1@2.1 2.1 1 -\n";
+    let back =
+        b"<g class='c0'><title>delivered 2.1 1@2.1 2.1 1 -\n</title><text class='r' x='40' y='86'>2</text>\
+        <path class='m' d='M110 60C80 60 80 82 110 82'/><path class='d' d='M110 82m-4 0a4 4 0 1 0 8 0a4 4 0 1 0-8 0'/><text class='t' x='121' y='86'></text></g>\n</svg>\n";
+    assert!(rt; draws(rt.alloc(), text, b"<svg ", back));
+}
+
+#[test]
+fn a_view_is_a_band_with_what_it_gives_and_hands_back(rt: HostRuntime) {
+    let text =
+        b"installed 1.1 - 2@1.1 1.1,3.1 1.1 - -\nblocked 3.1\ninstalled 3.1 1@3.1 2@1.1 1.1,3.1 3.1 4:61,5: =00\n";
+    let back =
+        b"<g class='c1'><title>installed 3.1 1@3.1 2@1.1 1.1,3.1 3.1 4:61,5: =00\n</title><text class='r' x='40' y='108'>3</text>\
+        <path class='h' d='M230 82L230 104'/><path class='v' d='M149 60L230 104'/><path class='p' d='M230 104m-30-9h60a9 9 0 0 1 0 18h-60a9 9 0 0 1 0-18z'/>\
+        <text class='i' x='230' y='108'>2@1.1</text><path class='g' d='M230 104m-54-5h10l-5 9z'/><text class='t' x='274' y='108'>2 back</text></g>\n</svg>\n";
+    assert!(rt; draws(rt.alloc(), text, b"<svg ", back));
+}
+
+#[test]
+fn an_end_is_marked(rt: HostRuntime) {
+    let left =
+        b"<path class='o' d='M110 60m-6 0a6 6 0 1 0 12 0a6 6 0 1 0-12 0'/><text class='t' x='121' y='64'>left</text></g>\n</svg>\n";
+    let crashed =
+        b"<path class='x' d='M110 60m-7-7l14 14m0-14l-14 14'/><text class='t' x='121' y='64'>crashed</text></g>\n</svg>\n";
+    assert!(rt; draws(rt.alloc(), b"left 1.1\n", b"<svg ", left), "left");
+    assert!(rt;
+        draws(rt.alloc(), b"crashed 1.1\n", b"<svg ", crashed),
+        "crashed"
+    );
+}

@@ -1,0 +1,115 @@
+-- What is kept of the events, one event further.
+use Rattle.std.proofs.Common.{◌≡◌, ℕ, Bool, true, false, cond, List, [], ◌∷◌, ◌++◌, length, Option, Some, None, is_some, unwrap_or, option_map, sym, refl, ap, ◌∙◌}
+use Rattle.std.specs.Option.{option_map_or}
+use Rattle.std.proofs.lemmas.List.Sums.{fold-append}
+use Rattle.address.specs.Ids.{Address, ViewId, same_address, same_view_id}
+use Rattle.address.proofs.SameIds.{same_address-true, same_address-refl, same_address-sym}
+use Rattle.trace_props.specs.declared.event.Event.{Event}
+use Rattle.trace_props.specs.declared.event.Event.TheVariants.{Started, Sent, Delivered, Blocked, Installed, Left, Crashed}
+use Rattle.trace_props.specs.Observed.{member_of, is_blocked, has_ended, is_end}
+use Rattle.trace_props.proofs.FactOfObserved.{is_blocked-push, is_blocked-other, is_blocked-now, is_blocked-open, has_ended-still, has_ended-other, has_ended-now}
+use Rattle.trace_drawing.specs.declared.row.MessageKey.{MessageKey}
+use Rattle.trace_drawing.specs.declared.known.Lifeline.{Lifeline}
+use Rattle.trace_drawing.specs.Layout.{first_place, last_place, rank_in, come_up, members_in, column_of, happens_to, same_message, message_sent, view_installed, sends, installs}
+use Rattle.trace_drawing.specs.Known.{blocked_after, lifeline_after, KnowsMembers, KnowsSends, KnowsInstalls}
+use Rattle.trace_drawing.proofs.FactOfPlaces.{last_place-push, last-hit, last-miss, first-hit, first-miss}
+
+-- TABLES OF LAST PLACES
+
+-- what is noted of one event serves all keys
+pub lasts-noted : {K : Type 0} (tests : K → Event → Bool) (m n : K → Option ℕ) (t : List Event) (e : Event) (row : ℕ) → row ≡ length t → ((q : K) → n q ≡ cond (tests q e) (Some row) (m q))
+    → ((q : K) → m q ≡ last_place (tests q) t) → (q : K) → n q ≡ last_place (tests q) (t ++ e ∷ [])
+lasts-noted tests m n t e row at updates was q =
+    updates q ∙ ap (λ r. cond (tests q e) (Some r) (m q)) at ∙ ap (λ o. cond (tests q e) (Some (length t)) o) (was q) ∙ sym (last_place-push (tests q) t e)
+
+pub sends-noted : (m n : MessageKey → Option ℕ) (t : List Event) (e : Event) (row : ℕ) (k : MessageKey) → Some k ≡ message_sent e → row ≡ length t
+    → ((q : MessageKey) → n q ≡ cond (same_message k q) (Some row) (m q)) → KnowsSends m t → KnowsSends n (t ++ e ∷ [])
+sends-noted m n t e row k is at updates was = lasts-noted sends m n t e row at (λ q. updates q ∙ ap (λ o. cond (option_map_or (λ j. same_message j q) o false) (Some row) (m q)) is) was
+
+pub sends-left : (m : MessageKey → Option ℕ) (t : List Event) (e : Event) → None ≡ message_sent e → KnowsSends m t → KnowsSends m (t ++ e ∷ [])
+sends-left m t e is was q = was q ∙ sym (last-miss (sends q) t e (ap (λ o. option_map_or (λ j. same_message j q) o false) (sym is)))
+
+pub installs-noted : (m n : ViewId → Option ℕ) (t : List Event) (e : Event) (row : ℕ) (v : ViewId) → Some v ≡ view_installed e → row ≡ length t
+    → ((q : ViewId) → n q ≡ cond (same_view_id v q) (Some row) (m q)) → KnowsInstalls m t → KnowsInstalls n (t ++ e ∷ [])
+installs-noted m n t e row v is at updates was = lasts-noted installs m n t e row at (λ q. updates q ∙ ap (λ o. cond (option_map_or (λ w. same_view_id w q) o false) (Some row) (m q)) is) was
+
+pub installs-left : (m : ViewId → Option ℕ) (t : List Event) (e : Event) → None ≡ view_installed e → KnowsInstalls m t → KnowsInstalls m (t ++ e ∷ [])
+installs-left m t e is was q = was q ∙ sym (last-miss (installs q) t e (ap (λ o. option_map_or (λ w. same_view_id w q) o false) (sym is)))
+
+-- MEMBERS
+
+-- what is read of a member, one event further: of the member of the event, and of the others
+noted-at : {X : Type 0} (f : Option Lifeline → X) (g h : Address → X) (m n : Address → Option Lifeline) (p q : Address) (new : Lifeline) (b : Bool) → same_address p q ≡ b
+    → n q ≡ cond b (Some new) (m q) → f (m q) ≡ g q → f (Some new) ≡ h p → (same_address p q ≡ false → h q ≡ g q) → f (n q) ≡ h q
+noted-at f g h m n p q new true e update was now other = ap f update ∙ now ∙ ap h (same_address-true p q e)
+noted-at f g h m n p q new false e update was now other = ap f update ∙ was ∙ sym (other e)
+
+noted : {X : Type 0} (f : Option Lifeline → X) (g h : Address → X) (m n : Address → Option Lifeline) (p : Address) (new : Lifeline)
+    → ((q : Address) → n q ≡ cond (same_address p q) (Some new) (m q)) → ((q : Address) → f (m q) ≡ g q) → f (Some new) ≡ h p → ((q : Address) → same_address p q ≡ false → h q ≡ g q)
+    → (q : Address) → f (n q) ≡ h q
+noted f g h m n p new updates was now other q = noted-at f g h m n p q new (same_address p q) refl (updates q) (was q) now (other q)
+
+pub members-push : (t : List Event) (e : Event) → members_in (t ++ e ∷ []) ≡ come_up (members_in t) e
+members-push t e = fold-append come_up [] t (e ∷ [])
+
+ranked-at : (p : Address) (ms : List Address) (o : Option ℕ) → rank_in p ms ≡ o → rank_in p (cond (is_some o) ms (ms ++ p ∷ [])) ≡ Some (unwrap_or o (length ms))
+ranked-at p ms (Some c) e = e
+ranked-at p ms None e = first-hit (same_address p) ms p (same_address-refl p) ∙ ap (λ o. Some (unwrap_or o (length ms))) e
+
+-- the member of the next event has its column
+pub rank-now : (t : List Event) (e : Event) → rank_in (member_of e) (members_in (t ++ e ∷ [])) ≡ Some (column_of (member_of e) t)
+rank-now t e = ap (rank_in (member_of e)) (members-push t e) ∙ ranked-at (member_of e) (members_in t) (rank_in (member_of e) (members_in t)) refl
+
+other-at : (p q : Address) (ms : List Address) (b : Bool) → same_address q p ≡ false → rank_in q (cond b ms (ms ++ p ∷ [])) ≡ rank_in q ms
+other-at p q ms true e = refl
+other-at p q ms false e = first-miss (same_address q) ms p e
+
+-- the others keep theirs
+rank-other : (t : List Event) (e : Event) (q : Address) → same_address (member_of e) q ≡ false → rank_in q (members_in (t ++ e ∷ [])) ≡ rank_in q (members_in t)
+rank-other t e q other = ap (rank_in q) (members-push t e)
+    ∙ other-at (member_of e) q (members_in t) (is_some (rank_in (member_of e) (members_in t))) (same_address-sym q (member_of e) ∙ other)
+
+some-map : {X Y : Type 0} (f : X → Y) (o : Option X) → is_some (option_map f o) ≡ is_some o
+some-map f None = refl
+some-map f (Some x) = refl
+
+-- whether a member is blocked after an event of its own
+blocked-now : (t : List Event) (e : Event) → blocked_after (is_blocked (member_of e) t) e ≡ is_blocked (member_of e) (t ++ e ∷ [])
+blocked-now t (Started p) = sym (is_blocked-push p t (Started p))
+blocked-now t (Sent s) = sym (is_blocked-push s.member t (Sent s))
+blocked-now t (Delivered d) = sym (is_blocked-push d.member t (Delivered d))
+blocked-now t (Blocked p) = sym (is_blocked-now p t)
+blocked-now t (Installed i) = sym (is_blocked-open t i)
+blocked-now t (Left p) = sym (is_blocked-push p t (Left p))
+blocked-now t (Crashed p) = sym (is_blocked-push p t (Crashed p))
+
+ended-at : (t : List Event) (e : Event) (b : Bool) → is_end e ≡ b → cond b true (has_ended (member_of e) t) ≡ has_ended (member_of e) (t ++ e ∷ [])
+ended-at t e true is = sym (has_ended-now t e is)
+ended-at t e false is = sym (has_ended-still (member_of e) t e is)
+
+-- what is kept of members serves one event further
+pub members-noted : (ms ns : List Address) (m n : Address → Option Lifeline) (t : List Event) (e : Event) (row column : ℕ) → row ≡ length t → column ≡ column_of (member_of e) t
+    → ns ≡ cond (is_some (m (member_of e))) ms (ms ++ member_of e ∷ [])
+    → ((q : Address) → n q ≡ cond (same_address (member_of e) q) (Some (lifeline_after (m (member_of e)) column row e)) (m q))
+    → KnowsMembers ms m t → KnowsMembers ns n (t ++ e ∷ [])
+members-noted ms ns m n t e row column at stands comes updates was =
+    let p = member_of e in
+    let new = lifeline_after (m p) column row e in
+    record {
+      come_up = comes ∙ ap (λ b. cond b ms (ms ++ p ∷ [])) (sym (some-map (λ l. l.column) (m p)) ∙ ap is_some (was.columns p))
+          ∙ ap (λ xs. cond (is_some (rank_in p (members_in t))) xs (xs ++ p ∷ [])) was.come_up ∙ sym (members-push t e);
+      columns = noted (option_map (λ l. l.column)) (λ q. rank_in q (members_in t)) (λ q. rank_in q (members_in (t ++ e ∷ []))) m n p new updates was.columns
+          (ap Some stands ∙ sym (rank-now t e)) (rank-other t e);
+      firsts = noted (option_map (λ l. l.first)) (λ q. first_place (happens_to q) t) (λ q. first_place (happens_to q) (t ++ e ∷ [])) m n p new updates was.firsts
+          (ap (λ r. Some (unwrap_or (option_map (λ l. l.first) (m p)) r)) at ∙ ap (λ o. Some (unwrap_or o (length t))) (was.firsts p) ∙ sym (first-hit (happens_to p) t e (same_address-refl p)))
+          (λ q. first-miss (happens_to q) t e);
+      lasts = noted (option_map (λ l. l.last)) (λ q. last_place (happens_to q) t) (λ q. last_place (happens_to q) (t ++ e ∷ [])) m n p new updates was.lasts
+          (ap Some at ∙ sym (last-hit (happens_to p) t e (same_address-refl p)))
+          (λ q. last-miss (happens_to q) t e);
+      blocked = noted (λ o. unwrap_or (option_map (λ l. l.blocked) o) false) (λ q. is_blocked q t) (λ q. is_blocked q (t ++ e ∷ [])) m n p new updates was.blocked
+          (ap (λ b. blocked_after b e) (was.blocked p) ∙ blocked-now t e)
+          (λ q. is_blocked-other q t e);
+      ended = noted (λ o. unwrap_or (option_map (λ l. l.ended) o) false) (λ q. has_ended q t) (λ q. has_ended q (t ++ e ∷ [])) m n p new updates was.ended
+          (ap (λ b. cond (is_end e) true b) (was.ended p) ∙ ended-at t e (is_end e) refl)
+          (λ q. has_ended-other q t e);
+    }

@@ -1,0 +1,9 @@
+use Rattle.trace_drawing.proofs.FactOfTexts.{rows-length}
+use Rattle.trace_drawing.proofs.LawOfRows.{row-each}
+use Rattle.trace_drawing.proofs.law.rows_in_order.Goals as goal
+
+pub returns-clause-count : goal.returns-clause-count
+returns-clause-count c = rows-length
+
+pub returns-clause-each : goal.returns-clause-each
+returns-clause-each c = row-each

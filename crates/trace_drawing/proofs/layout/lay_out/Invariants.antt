@@ -1,0 +1,12 @@
+use Rattle.std.proofs.Common.{◌≡◌, take}
+use Rattle.std.specs.HashMap.{get}
+use Rattle.address.specs.Ids.{same_address, same_view_id}
+use Rattle.trace_drawing.specs.Layout.{same_message, rows_of}
+use Rattle.trace_drawing.specs.Known.{Knows}
+use Rattle.trace_drawing.proofs.layout.lay_out.Given as goal
+
+-- so far the rows are those of the events, and what is kept is of them
+abbrev pub invariant-loop-index : goal.invariant-loop-index
+invariant-loop-index l =
+    (l.rows.items ≡ rows_of (take l.index l.events))
+    × Knows l.known.members.items (get same_address l.known.lifelines) (get same_message l.known.sends) (get same_view_id l.known.installs) (take l.index l.events)

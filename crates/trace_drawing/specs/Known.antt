@@ -1,0 +1,52 @@
+-- What is kept of the events so far, and that it says what the trace says.
+use Rattle.std.specs.Prelude.{◌≡◌, ℕ, Bool, true, false, cond, Option, List, unwrap_or, option_map}
+use Rattle.address.specs.Ids.{Address, ViewId}
+use Rattle.trace_props.specs.declared.event.Event.{Event}
+use Rattle.trace_props.specs.declared.event.Event.TheVariants.{Started, Sent, Delivered, Blocked, Installed, Left, Crashed}
+use Rattle.trace_props.specs.Observed.{is_blocked, has_ended, is_end}
+use Rattle.trace_drawing.specs.declared.row.MessageKey.{MessageKey}
+use Rattle.trace_drawing.specs.declared.known.Lifeline.{Lifeline}
+use Rattle.trace_drawing.specs.Layout.{first_place, last_place, rank_in, members_in, happens_to, sends, installs}
+
+-- whether a member is blocked after an event of its own
+abbrev pub blocked_after : Bool → Event → Bool
+blocked_after blocked (Started p) = blocked
+blocked_after blocked (Sent s) = blocked
+blocked_after blocked (Delivered d) = blocked
+blocked_after blocked (Blocked p) = true
+blocked_after blocked (Installed i) = false
+blocked_after blocked (Left p) = blocked
+blocked_after blocked (Crashed p) = blocked
+
+-- what is kept of a member after an event of its own, in a row
+abbrev pub lifeline_after : Option Lifeline → ℕ → ℕ → Event → Lifeline
+lifeline_after kept column row e = record {
+  column = column;
+  first = unwrap_or (option_map (λ l. l.first) kept) row;
+  last = row;
+  blocked = blocked_after (unwrap_or (option_map (λ l. l.blocked) kept) false) e;
+  ended = cond (is_end e) true (unwrap_or (option_map (λ l. l.ended) kept) false);
+}
+
+-- what is kept of members is what the trace says of them
+pub record KnowsMembers (members : List Address) (kept : Address → Option Lifeline) (t : List Event) : Type 0 where
+  pub come_up : members ≡ members_in t
+  pub columns : (p : Address) → option_map (λ l. l.column) (kept p) ≡ rank_in p (members_in t)
+  pub firsts : (p : Address) → option_map (λ l. l.first) (kept p) ≡ first_place (happens_to p) t
+  pub lasts : (p : Address) → option_map (λ l. l.last) (kept p) ≡ last_place (happens_to p) t
+  pub blocked : (p : Address) → unwrap_or (option_map (λ l. l.blocked) (kept p)) false ≡ is_blocked p t
+  pub ended : (p : Address) → unwrap_or (option_map (λ l. l.ended) (kept p)) false ≡ has_ended p t
+
+-- where each message was sent last
+abbrev pub KnowsSends : (MessageKey → Option ℕ) → List Event → Type 0
+KnowsSends sent t = (m : MessageKey) → sent m ≡ last_place (sends m) t
+
+-- where each view was installed last
+abbrev pub KnowsInstalls : (ViewId → Option ℕ) → List Event → Type 0
+KnowsInstalls installed t = (v : ViewId) → installed v ≡ last_place (installs v) t
+
+-- all that is kept says what the trace says
+pub record Knows (members : List Address) (kept : Address → Option Lifeline) (sent : MessageKey → Option ℕ) (installed : ViewId → Option ℕ) (t : List Event) : Type 0 where
+  pub of_members : KnowsMembers members kept t
+  pub of_sends : KnowsSends sent t
+  pub of_installs : KnowsInstalls installed t

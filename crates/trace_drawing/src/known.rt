@@ -1,0 +1,314 @@
+//! What is kept of the events so far, so that a row is laid out by a few look-ups.
+
+ghost use Rattle.std.specs.Prelude.{◌≡◌, ◌++◌, ◌∷◌, [], List, Some, OnOk, IfOk, is_some, length, if◌then◌else◌};
+ghost use Rattle.std.specs.Option.{option_copied};
+ghost use Rattle.std.specs.HashMap.{get};
+ghost use Rattle.address.specs.Ids.{Address, same_address, same_view_id};
+ghost use Rattle.trace_props.specs.declared.event.Event.{Event};
+ghost use Rattle.trace_props.specs.Observed.{member_of, is_end};
+ghost use Rattle.trace_drawing.specs.Layout.{same_message, message_sent, view_installed, reached_by, column_of, row_of, member_line};
+ghost use Rattle.trace_drawing.specs.Known.{blocked_after, lifeline_after, KnowsSends, KnowsInstalls, Knows};
+
+use crate::row::{Line, MessageKey, Row};
+use address::{Address, ViewId};
+use std::alloc::{AllocError, Global};
+use std::collections::HashMap;
+use std::hash::Hash;
+use trace_props::Event;
+
+/// What is kept of a member: its column, the rows of its first and its last event, whether it is blocked, and whether it has ended.
+#[derive(Clone, Copy)]
+pub struct Lifeline {
+    pub column: u32,
+    pub first: u32,
+    pub last: u32,
+    pub blocked: bool,
+    pub ended: bool,
+}
+
+/// The members in the order in which they come up, what is kept of each, and the rows in which each message was sent last and each view installed last.
+#[derive(Drop)]
+pub struct Known {
+    pub members: Vec<Address>,
+    pub lifelines: HashMap<Address, Lifeline>,
+    pub sends: HashMap<MessageKey, u32>,
+    pub installs: HashMap<ViewId, u32>,
+}
+
+/// To whom an event happens.
+pub fn member(event: &Event) -> Address
+    ensures { result ≡ member_of event.now }
+{
+    match event {
+        Event::Started(member) => *member,
+        Event::Sent(sending) => sending.member,
+        Event::Delivered(delivery) => delivery.member,
+        Event::Blocked(member) => *member,
+        Event::Installed(install) => install.member,
+        Event::Left(member) => *member,
+        Event::Crashed(member) => *member,
+    }
+}
+
+// Whether a member is blocked after an event of its own.
+fn blocked_after(blocked: bool, event: &Event) -> bool
+    ensures { result ≡ blocked_after blocked event.now }
+{
+    match event {
+        Event::Started(_) => blocked,
+        Event::Sent(_) => blocked,
+        Event::Delivered(_) => blocked,
+        Event::Blocked(_) => true,
+        Event::Installed(_) => false,
+        Event::Left(_) => blocked,
+        Event::Crashed(_) => blocked,
+    }
+}
+
+// Whether an event ends its member.
+fn is_end(event: &Event) -> bool
+    ensures { result ≡ is_end event.now }
+{
+    match event {
+        Event::Started(_) => false,
+        Event::Sent(_) => false,
+        Event::Delivered(_) => false,
+        Event::Blocked(_) => false,
+        Event::Installed(_) => false,
+        Event::Left(_) => true,
+        Event::Crashed(_) => true,
+    }
+}
+
+// From where an event is reached.
+fn origin(
+    sends: &HashMap<MessageKey, u32>,
+    installs: &HashMap<ViewId, u32>,
+    event: &Event,
+) -> Option<u32>
+    ensures { result ≡ reached_by (get same_message sends.now) (get same_view_id installs.now) event.now }
+{
+    match event {
+        Event::Started(_) => None,
+        Event::Sent(_) => None,
+        Event::Delivered(delivery) => sends
+            .get(&MessageKey {
+                view: delivery.view,
+                sender: delivery.message.sender,
+                number: delivery.message.number,
+            })
+            .copied(),
+        Event::Blocked(_) => None,
+        Event::Installed(install) => installs.get(&install.view.id()).copied(),
+        Event::Left(_) => None,
+        Event::Crashed(_) => None,
+    }
+}
+
+// What is kept of a member after an event of its own, in a row.
+fn lifeline_after(kept: Option<&Lifeline>, column: u32, row: u32, event: &Event) -> Lifeline
+    ensures { result ≡ lifeline_after (option_copied kept.entry) column row event.now }
+{
+    match kept {
+        None => Lifeline {
+            column,
+            first: row,
+            last: row,
+            blocked: blocked_after(false, event),
+            ended: is_end(event),
+        },
+        Some(kept) => Lifeline {
+            column,
+            first: kept.first,
+            last: row,
+            blocked: blocked_after(kept.blocked, event),
+            ended: if is_end(event) { true } else { kept.ended },
+        },
+    }
+}
+
+// Keeps a member's lifeline.
+fn put_lifeline(
+    lifelines: &mut HashMap<Address, Lifeline>,
+    member: Address,
+    lifeline: Lifeline,
+) -> Result<(), AllocError>
+    ensures { OnOk result ((other : Address) → get same_address lifelines.new other ≡ (if same_address member other then Some lifeline else get same_address lifelines.old other)) }
+{
+    lifelines.insert(member, lifeline)?;
+    Ok(())
+}
+
+// Keeps the member to whom an event happens in a row.
+fn note_member(
+    members: &mut Vec<Address>,
+    lifelines: &mut HashMap<Address, Lifeline>,
+    event: &Event,
+    number: u32,
+    column: u32,
+) -> Result<(), AllocError>
+    ensures members { OnOk result (members.new.items ≡ (if is_some (get same_address lifelines.old (member_of event.now)) then members.old.items else members.old.items ++ member_of event.now ∷ [])) }
+    ensures lifelines { OnOk result ((other : Address) → get same_address lifelines.new other ≡ (if same_address (member_of event.now) other then Some (lifeline_after (get same_address lifelines.old (member_of event.now)) column number event.now) else get same_address lifelines.old other)) }
+{
+    let member = member(event);
+    let kept = lifelines.get(&member);
+    if kept.is_none() {
+        members.push(member)?;
+    }
+    let lifeline = lifeline_after(kept, column, number, event);
+    put_lifeline(lifelines, member, lifeline)?;
+    Ok(())
+}
+
+// The message that an event sends.
+fn message_sent(event: &Event) -> Option<MessageKey>
+    ensures { result ≡ message_sent event.now }
+{
+    match event {
+        Event::Started(_) => None,
+        Event::Sent(sending) => Some(MessageKey {
+            view: sending.view,
+            sender: sending.member,
+            number: sending.message.number,
+        }),
+        Event::Delivered(_) => None,
+        Event::Blocked(_) => None,
+        Event::Installed(_) => None,
+        Event::Left(_) => None,
+        Event::Crashed(_) => None,
+    }
+}
+
+// The view that an event installs.
+fn view_installed(event: &Event) -> Option<ViewId>
+    ensures { result ≡ view_installed event.now }
+{
+    match event {
+        Event::Started(_) => None,
+        Event::Sent(_) => None,
+        Event::Delivered(_) => None,
+        Event::Blocked(_) => None,
+        Event::Installed(install) => Some(install.view.id()),
+        Event::Left(_) => None,
+        Event::Crashed(_) => None,
+    }
+}
+
+// Keeps the row of a key.
+fn put_row<K: Eq + Hash + Copy + Drop>(
+    table: &mut HashMap<K, u32>,
+    key: K,
+    row: u32,
+) -> Result<(), AllocError>
+    ensures { OnOk result ((other : K) → get K.eq table.new other ≡ (if K.eq key other then Some row else get K.eq table.old other)) }
+{
+    table.insert(key, row)?;
+    Ok(())
+}
+
+// Keeps the row of a message that an event sends.
+fn note_sent(
+    sends: &mut HashMap<MessageKey, u32>,
+    event: &Event,
+    number: u32,
+) -> Result<(), AllocError>
+    ensures { OnOk result ((t : List Event) → number ≡ length t → KnowsSends (get same_message sends.old) t → KnowsSends (get same_message sends.new) (t ++ event.now ∷ [])) }
+{
+    match message_sent(event) {
+        Some(message) => {
+            put_row(sends, message, number)?;
+            Ok(())
+        }
+        None => Ok(()),
+    }
+}
+
+// Keeps the row of a view that an event installs.
+fn note_installed(
+    installs: &mut HashMap<ViewId, u32>,
+    event: &Event,
+    number: u32,
+) -> Result<(), AllocError>
+    ensures { OnOk result ((t : List Event) → number ≡ length t → KnowsInstalls (get same_view_id installs.old) t → KnowsInstalls (get same_view_id installs.new) (t ++ event.now ∷ [])) }
+{
+    match view_installed(event) {
+        Some(view) => {
+            put_row(installs, view, number)?;
+            Ok(())
+        }
+        None => Ok(()),
+    }
+}
+
+impl Known {
+    /// Nothing happened. Takes no memory.
+    pub fn new(alloc: Global) -> Known
+        ensures { Knows result.members.items (get same_address result.lifelines) (get same_message result.sends) (get same_view_id result.installs) [] }
+    {
+        Known {
+            members: Vec::new(alloc),
+            lifelines: HashMap::new(alloc),
+            sends: HashMap::new(alloc),
+            installs: HashMap::new(alloc),
+        }
+    }
+
+    /// How the row of the next event is laid out. Refused where there are 2^32 members already.
+    pub fn row(&self, event: &Event) -> Result<Row, AllocError>
+        ensures { IfOk result (λ row. (t : List Event) → Knows self.now.members.items (get same_address self.now.lifelines) (get same_message self.now.sends) (get same_view_id self.now.installs) t → row ≡ row_of t event.now) }
+    {
+        let origin = origin(&self.sends, &self.installs, event);
+        match self.lifelines.get(&member(event)) {
+            Some(lifeline) => Ok(Row {
+                column: lifeline.column,
+                before: Some(lifeline.last),
+                blocked: lifeline.blocked,
+                origin,
+            }),
+            None => match u32::try_from(self.members.len()) {
+                Ok(column) => Ok(Row {
+                    column,
+                    before: None,
+                    blocked: false,
+                    origin,
+                }),
+                Err(_) => Err(AllocError),
+            },
+        }
+    }
+
+    /// Keeps the next event, with the number of its row and its column.
+    pub fn note(&mut self, event: &Event, number: u32, column: u32) -> Result<(), AllocError>
+        ensures { OnOk result ((t : List Event) → number ≡ length t → column ≡ column_of (member_of event.now) t
+            → Knows self.old.members.items (get same_address self.old.lifelines) (get same_message self.old.sends) (get same_view_id self.old.installs) t
+            → Knows self.new.members.items (get same_address self.new.lifelines) (get same_message self.new.sends) (get same_view_id self.new.installs) (t ++ event.now ∷ [])) }
+    {
+        note_member(
+            &mut self.members,
+            &mut self.lifelines,
+            event,
+            number,
+            column,
+        )?;
+        note_sent(&mut self.sends, event, number)?;
+        note_installed(&mut self.installs, event, number)?;
+        Ok(())
+    }
+
+    /// The line of a member.
+    pub fn line(&self, member: &Address) -> Option<Line>
+        ensures { (t : List Event) → Knows self.now.members.items (get same_address self.now.lifelines) (get same_message self.now.sends) (get same_view_id self.now.installs) t → result ≡ member_line t member.now }
+    {
+        match self.lifelines.get(member) {
+            None => None,
+            Some(lifeline) => Some(Line {
+                member: *member,
+                column: lifeline.column,
+                first: lifeline.first,
+                last: lifeline.last,
+                ended: lifeline.ended,
+                blocked: lifeline.blocked,
+            }),
+        }
+    }
+}

@@ -1,0 +1,217 @@
+//! Which marks are drawn of an event, and where.
+
+ghost use Rattle.std.specs.Prelude.{◌≡◌, ◌+◌, ◌*◌, ◌/◌};
+ghost use Rattle.std.specs.Option.{option_copied};
+ghost use Rattle.trace_drawing.specs.Marks.{x_of, y_of, names_y, place_of, own_mark, blocked_stretch, edge_towards, is_delivery, reach, origin_row, link, line_mark, last_stretch};
+
+use crate::row::{Line, Row};
+use trace_props::Event;
+
+/// How many rows stand between two lines of names.
+pub const BLOCK: u32 = 100;
+
+/// How wide a column is.
+pub const COLUMN: u64 = 120;
+
+/// How high a row is.
+pub const ROW: u64 = 22;
+
+/// How high a line of names is.
+pub const NAMES: u64 = 40;
+
+/// A place of the picture, in points from the left and from the top.
+#[derive(Clone, Copy, Debug, PartialEq, Eq)]
+pub struct Place {
+    pub x: u64,
+    pub y: u64,
+}
+
+/// A mark. Lines and stretches have two ends; each other mark stands at a place, and is one event's own.
+#[derive(Clone, Copy, Debug, PartialEq, Eq)]
+pub enum Mark {
+    /// A member's line.
+    Lifeline { from: Place, to: Place },
+    /// A stretch in which a member is blocked.
+    Hatch { from: Place, to: Place },
+    /// A message's line, from its send to a delivery.
+    Message { from: Place, to: Place },
+    /// A part of a view's band, from one install to the next.
+    Band { from: Place, to: Place },
+    /// A member started.
+    Start(Place),
+    /// A member sent.
+    Send(Place),
+    /// A member delivered.
+    Delivery(Place),
+    /// A member was blocked.
+    Block(Place),
+    /// A member installed a view.
+    View(Place),
+    /// A member left.
+    Leave(Place),
+    /// A member crashed.
+    Crash(Place),
+}
+
+/// Where the middle of a column is.
+pub fn x_of(column: u32) -> u64
+    ensures { result ≡ x_of column }
+{
+    COLUMN * u64::from(column) + 110
+}
+
+/// Where the middle of a row is.
+pub fn y_of(row: u32) -> u64
+    ensures { result ≡ y_of row }
+{
+    ROW * u64::from(row) + NAMES * u64::from(row / BLOCK) + 60
+}
+
+/// Where the names above a row stand.
+pub fn names_y(row: u32) -> u64
+    ensures { result ≡ names_y row }
+{
+    (ROW * u64::from(BLOCK) + NAMES) * u64::from(row / BLOCK) + 34
+}
+
+/// Where an event of a column is marked.
+pub fn place_of(number: u32, column: u32) -> Place
+    ensures { result ≡ place_of number column }
+{
+    Place {
+        x: x_of(column),
+        y: y_of(number),
+    }
+}
+
+/// The event's own mark.
+pub fn own_mark(event: &Event, place: Place) -> Mark
+    ensures { result ≡ own_mark event.now place }
+{
+    match event {
+        Event::Started(_) => Mark::Start(place),
+        Event::Sent(_) => Mark::Send(place),
+        Event::Delivered(_) => Mark::Delivery(place),
+        Event::Blocked(_) => Mark::Block(place),
+        Event::Installed(_) => Mark::View(place),
+        Event::Left(_) => Mark::Leave(place),
+        Event::Crashed(_) => Mark::Crash(place),
+    }
+}
+
+/// The stretch of its member's line in which it was blocked, up to an event.
+pub fn blocked_stretch(number: u32, row: &Row) -> Option<Mark>
+    ensures { result ≡ blocked_stretch number row.now }
+{
+    if !row.blocked {
+        return None;
+    }
+    match row.before {
+        None => None,
+        Some(before) => Some(Mark::Hatch {
+            from: place_of(before, row.column),
+            to: place_of(number, row.column),
+        }),
+    }
+}
+
+// The edge of a view's mark towards a column.
+fn edge_towards(number: u32, from: u32, to: u32) -> Place
+    ensures { result ≡ edge_towards number from to }
+{
+    Place {
+        x: if to < from {
+            x_of(from) - 39
+        } else {
+            x_of(from) + 39
+        },
+        y: y_of(number),
+    }
+}
+
+/// Whether an event is a delivery.
+pub fn is_delivery(event: &Event) -> bool
+    ensures { result ≡ is_delivery event.now }
+{
+    match event {
+        Event::Started(_) => false,
+        Event::Sent(_) => false,
+        Event::Delivered(_) => true,
+        Event::Blocked(_) => false,
+        Event::Installed(_) => false,
+        Event::Left(_) => false,
+        Event::Crashed(_) => false,
+    }
+}
+
+// The mark by which an event is reached from a row.
+fn reach(event: &Event, origin: u32, from: u32, number: u32, to: u32) -> Mark
+    ensures { result ≡ reach event.now origin from number to }
+{
+    if is_delivery(event) {
+        Mark::Message {
+            from: place_of(origin, from),
+            to: place_of(number, to),
+        }
+    } else {
+        Mark::Band {
+            from: edge_towards(origin, from, to),
+            to: place_of(number, to),
+        }
+    }
+}
+
+/// The row from which an event is reached.
+pub fn origin_row<'a>(rows: &'a [Row], row: &Row) -> Option<&'a Row>
+    ensures { option_copied result ≡ origin_row rows.now row.now }
+{
+    match row.origin {
+        None => None,
+        Some(origin) => rows.get(origin as usize),
+    }
+}
+
+/// The mark by which an event is reached, if it is: a message's line from its send, or a view's band from its last install.
+pub fn link(rows: &[Row], number: u32, row: &Row, event: &Event) -> Option<Mark>
+    ensures { result ≡ link rows.now number row.now event.now }
+{
+    match row.origin {
+        None => None,
+        Some(origin) => match rows.get(origin as usize) {
+            None => None,
+            Some(from) => Some(reach(event, origin, from.column, number, row.column)),
+        },
+    }
+}
+
+/// A member's line, down to its last event, or to the bottom where it has not ended.
+pub fn line_mark(bottom: u64, line: &Line) -> Mark
+    ensures { result ≡ line_mark bottom line.now }
+{
+    Mark::Lifeline {
+        from: place_of(line.first, line.column),
+        to: Place {
+            x: x_of(line.column),
+            y: if line.ended { y_of(line.last) } else { bottom },
+        },
+    }
+}
+
+/// The stretch in which a member is blocked when the trace ends.
+pub fn last_stretch(bottom: u64, line: &Line) -> Option<Mark>
+    ensures { result ≡ last_stretch bottom line.now }
+{
+    if line.ended {
+        None
+    } else if line.blocked {
+        Some(Mark::Hatch {
+            from: place_of(line.last, line.column),
+            to: Place {
+                x: x_of(line.column),
+                y: bottom,
+            },
+        })
+    } else {
+        None
+    }
+}

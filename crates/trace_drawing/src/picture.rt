@@ -1,0 +1,223 @@
+//! The picture of a trace, as an SVG.
+
+ghost use Rattle.std.specs.Prelude.{◌≡◌, ◌++◌, length, flat_map, option_to_list, IfOk, OnOk};
+ghost use Rattle.trace_drawing.specs.Marks.{marks_of};
+ghost use Rattle.trace_drawing.specs.Spelling.{mark_text};
+ghost use Rattle.trace_drawing.specs.Picture.{colour_of, colour, group_start, event_start, event_group, event_groups, line_group, svg_start, head_text, picture_of};
+
+use crate::known::member;
+use crate::layout::lay_out;
+use crate::marks::{
+    Mark, blocked_stretch, is_delivery, last_stretch, line_mark, link, origin_row, own_mark,
+    place_of, x_of, y_of,
+};
+use crate::row::{Line, Row};
+use crate::spelling::{put_mark, put_number, put_some_mark};
+use crate::texts::{put_line_title, put_name_above, put_row_number, put_texts};
+use std::alloc::{AllocError, Global};
+use trace_props::Event;
+use vsync_text::{append_event, put};
+
+/// How many colours members have. With more members they come again.
+pub const COLOURS: u32 = 12;
+
+/// How marks look, by their class: in print and on a light ground, and on a dark one.
+pub const STYLE: &[u8] = b"<style>\
+text{font:12px monospace;white-space:pre;fill:#222}\
+.r{font-size:10px;fill:#999;text-anchor:end}\
+.n{font-weight:bold;text-anchor:middle}\
+.i{font-size:11px;text-anchor:middle}\
+.b{font-weight:bold}\
+.b,.t{paint-order:stroke;stroke:#fff;stroke-width:3px}\
+.t{font-size:11px;fill:#666}\
+path{fill:none}\
+.s{stroke:#aaa;stroke-width:1.5}\
+.h{stroke:#c9a227;stroke-width:8;stroke-dasharray:2 3}\
+.m{stroke:currentColor;stroke-width:1.3;stroke-opacity:.75}\
+.v{stroke:#5b7fb5;stroke-width:18;stroke-opacity:.2}\
+.k{stroke:#555;stroke-width:2}\
+.d{fill:currentColor}\
+.p{fill:#e4ecf8;stroke:#5b7fb5}\
+.g{fill:#2a8f4f}\
+.o{fill:#fff;stroke:#555;stroke-width:2}\
+.x{stroke:#d01c1c;stroke-width:3}\
+.w{fill:#fff}\
+.c0{color:#1f6fb4}.c1{color:#d9570f}.c2{color:#2a8f3c}.c3{color:#b81f5e}.c4{color:#7a4fb8}.c5{color:#8a5a3c}\
+.c6{color:#c93fa8}.c7{color:#5f6b1e}.c8{color:#148a96}.c9{color:#b88a00}.c10{color:#3c4fc9}.c11{color:#d03030}.c12{color:#888}\
+@media screen and (prefers-color-scheme:dark){\
+text{fill:#ddd}.r{fill:#777}.t{fill:#aaa}.b,.t{stroke:#16181c}.w,.o{fill:#16181c}.s{stroke:#666}.k,.o{stroke:#bbb}.p{fill:#22324d}\
+.c0{color:#5aa9e6}.c1{color:#ff8f4d}.c2{color:#5fc977}.c3{color:#f0679f}.c4{color:#b494f0}.c5{color:#c99a7a}\
+.c6{color:#f07fd6}.c7{color:#b5c25a}.c8{color:#4fc9d6}.c9{color:#e6bf45}.c10{color:#8f9bff}.c11{color:#ff7070}}\
+</style>";
+
+// The colour of a row's column.
+fn colour_of(row: &Row) -> u32
+    ensures { result ≡ colour_of row.now }
+{
+    row.column % COLOURS
+}
+
+// The colour of an event: its member's, or that of a delivered message's sender.
+fn colour(rows: &[Row], row: &Row, event: &Event) -> u32
+    ensures { result ≡ colour rows.now row.now event.now }
+{
+    if is_delivery(event) {
+        match origin_row(rows, row) {
+            None => COLOURS,
+            Some(from) => colour_of(from),
+        }
+    } else {
+        colour_of(row)
+    }
+}
+
+// Appends the beginning of an event's group.
+fn put_group_start(out: &mut Vec<u8>, colour: u32, event: &Event) -> Result<(), AllocError>
+    ensures { OnOk result (out.new.items ≡ out.old.items ++ group_start colour event.now) }
+{
+    put_number(out, b"<g class='c", u64::from(colour))?;
+    put(out, b"'><title>")?;
+    append_event(out, event)?;
+    put(out, b"</title>")
+}
+
+// Appends the marks of an event.
+fn put_marks(
+    out: &mut Vec<u8>,
+    rows: &[Row],
+    number: u32,
+    row: &Row,
+    event: &Event,
+) -> Result<(), AllocError>
+    ensures { OnOk result (out.new.items ≡ out.old.items ++ flat_map mark_text (marks_of rows.now number row.now event.now)) }
+{
+    put_some_mark(out, blocked_stretch(number, row))?;
+    put_some_mark(out, link(rows, number, row, event))?;
+    put_mark(out, own_mark(event, place_of(number, row.column)))
+}
+
+// Appends what stands before an event's marks.
+fn put_event_start(
+    out: &mut Vec<u8>,
+    rows: &[Row],
+    number: u32,
+    row: &Row,
+    event: &Event,
+) -> Result<(), AllocError>
+    ensures { OnOk result (out.new.items ≡ out.old.items ++ event_start rows.now number row.now event.now) }
+{
+    put_group_start(out, colour(rows, row, event), event)?;
+    put_name_above(out, number, row, &member(event))?;
+    put_row_number(out, number)
+}
+
+// Appends all that is drawn of an event.
+fn put_event(
+    out: &mut Vec<u8>,
+    rows: &[Row],
+    number: u32,
+    row: &Row,
+    event: &Event,
+) -> Result<(), AllocError>
+    ensures { OnOk result (out.new.items ≡ out.old.items ++ event_group rows.now number row.now event.now) }
+{
+    put_event_start(out, rows, number, row, event)?;
+    put_marks(out, rows, number, row, event)?;
+    put_texts(out, event, number, row.column)?;
+    put(out, b"</g>\n")
+}
+
+// Appends all that is drawn of events.
+fn put_events(
+    out: &mut Vec<u8>,
+    rows: &[Row],
+    events: &[Event],
+    count: u32,
+) -> Result<(), AllocError>
+    requires rows { length rows.now ≡ count }
+    requires events { length events.now ≡ count }
+    ensures { OnOk result (out.new.items ≡ out.old.items ++ event_groups rows.now 0 rows.now events.now) }
+{
+    for number in 0..count {
+        let index = number as usize;
+        let row = &rows[index];
+        let event = &events[index];
+        put_event(out, rows, number, row, event)?;
+    }
+    Ok(())
+}
+
+// Appends the marks of a member's line.
+fn put_line_marks(out: &mut Vec<u8>, line: Mark, stretch: Option<Mark>) -> Result<(), AllocError>
+    ensures { OnOk result (out.new.items ≡ out.old.items ++ (mark_text line ++ flat_map mark_text (option_to_list stretch))) }
+{
+    put_mark(out, line)?;
+    put_some_mark(out, stretch)
+}
+
+// Appends a member's line.
+fn put_line(out: &mut Vec<u8>, bottom: u64, line: &Line) -> Result<(), AllocError>
+    ensures { OnOk result (out.new.items ≡ out.old.items ++ line_group bottom line.now) }
+{
+    put_line_title(out, &line.member)?;
+    put_line_marks(out, line_mark(bottom, line), last_stretch(bottom, line))?;
+    put(out, b"</g>\n")
+}
+
+// Appends the members' lines.
+fn put_lines(out: &mut Vec<u8>, bottom: u64, lines: &[Line]) -> Result<(), AllocError>
+    ensures { OnOk result (out.new.items ≡ out.old.items ++ flat_map (line_group bottom) lines.now) }
+{
+    for line in lines {
+        put_line(out, bottom, line)?;
+    }
+    Ok(())
+}
+
+// Appends the beginning of an SVG.
+fn put_svg_start(out: &mut Vec<u8>, width: u64, height: u64) -> Result<(), AllocError>
+    ensures { OnOk result (out.new.items ≡ out.old.items ++ svg_start width height) }
+{
+    put_number(
+        out,
+        b"<svg xmlns='http://www.w3.org/2000/svg' width='",
+        width,
+    )?;
+    put_number(out, b"' height='", height)?;
+    put(out, b"'>")
+}
+
+// Appends the beginning of a picture.
+fn put_head(out: &mut Vec<u8>, width: u64, height: u64) -> Result<(), AllocError>
+    ensures { OnOk result (out.new.items ≡ out.old.items ++ head_text width height) }
+{
+    put_svg_start(out, width, height)?;
+    put(out, STYLE)?;
+    put(out, b"<rect class='w' width='100%' height='100%'/>\n")
+}
+
+// A number of rows or of columns.
+fn counted(number: usize) -> Result<u32, AllocError>
+    ensures { IfOk result (λ n. n ≡ number) }
+{
+    match u32::try_from(number) {
+        Ok(number) => Ok(number),
+        Err(_) => Err(AllocError),
+    }
+}
+
+/// The picture of a trace as an SVG (docs/FORMATS.md, "Pictures"). Refused where memory is, or where the trace has 2^32 events or more.
+pub fn draw(alloc: Global, events: &[Event]) -> Result<Vec<u8>, AllocError>
+    ensures { IfOk result (λ picture. picture.items ≡ picture_of events.now) }
+{
+    let layout = lay_out(alloc, events)?;
+    let count = counted(layout.rows.len())?;
+    let columns = counted(layout.lines.len())?;
+    let bottom = y_of(count);
+    let mut out = Vec::new(alloc);
+    put_head(&mut out, x_of(columns), bottom + 20)?;
+    put_lines(&mut out, bottom, layout.lines.as_slice())?;
+    put_events(&mut out, layout.rows.as_slice(), events, count)?;
+    put(&mut out, b"</svg>\n")?;
+    Ok(out)
+}

@@ -1,0 +1,231 @@
+//! The texts of an event.
+
+ghost use Rattle.std.specs.Prelude.{◌≡◌, ◌+◌, ◌++◌, codes, OnOk};
+ghost use Rattle.std.specs.Option.{option_copied};
+ghost use Rattle.address.specs.Ids.{text_of_address, text_of_view_id};
+ghost use Rattle.trace_drawing.specs.Labels.{label};
+ghost use Rattle.trace_drawing.specs.Marks.{x_of, y_of, place_of};
+ghost use Rattle.trace_drawing.specs.Spelling.{text_start, text_at};
+ghost use Rattle.trace_drawing.specs.Picture.{beside, given_text, back_text, install_text, texts_of, same_block, name_above, name_text, number_text, line_start};
+
+use crate::labels::put_label;
+use crate::marks::{BLOCK, names_y, place_of, x_of, y_of};
+use crate::row::Row;
+use crate::spelling::{put_number, put_path, put_text_start};
+use address::{Address, ViewId};
+use std::alloc::AllocError;
+use trace_props::{Bytes, Event, Install, Numbered};
+use vsync_text::{put, put_address, put_decimal};
+
+// Appends an address.
+fn put_name(out: &mut Vec<u8>, member: &Address) -> Result<(), AllocError>
+    ensures { OnOk result (out.new.items ≡ out.old.items ++ text_of_address member.now) }
+{
+    put_decimal(out, u64::from(member.node().number()))?;
+    put_number(out, b".", u64::from(member.incarnation()))
+}
+
+// Appends a view id.
+fn put_view_id(out: &mut Vec<u8>, view: ViewId) -> Result<(), AllocError>
+    ensures { OnOk result (out.new.items ≡ out.old.items ++ text_of_view_id view) }
+{
+    put_decimal(out, view.counter())?;
+    put_address(out, b'@', &view.creator())
+}
+
+// Appends the beginning of a text beside a mark.
+fn put_beside_start(
+    out: &mut Vec<u8>,
+    class: &[u8],
+    number: u32,
+    column: u32,
+) -> Result<(), AllocError>
+    ensures { OnOk result (out.new.items ≡ out.old.items ++ text_start class.now (x_of column + 11) (y_of number + 4)) }
+{
+    put_text_start(out, class, x_of(column) + 11, y_of(number) + 4)
+}
+
+// Appends a text beside a mark.
+fn put_beside(
+    out: &mut Vec<u8>,
+    class: &[u8],
+    number: u32,
+    column: u32,
+    content: &[u8],
+) -> Result<(), AllocError>
+    ensures { OnOk result (out.new.items ≡ out.old.items ++ beside class.now number column content.now) }
+{
+    put_beside_start(out, class, number, column)?;
+    put(out, content)?;
+    put(out, b"</text>")
+}
+
+// Appends what is shown of a payload, beside a mark.
+fn put_payload(
+    out: &mut Vec<u8>,
+    class: &[u8],
+    number: u32,
+    column: u32,
+    payload: &[u8],
+) -> Result<(), AllocError>
+    ensures { OnOk result (out.new.items ≡ out.old.items ++ beside class.now number column (label payload.now)) }
+{
+    put_beside_start(out, class, number, column)?;
+    put_label(out, payload)?;
+    put(out, b"</text>")
+}
+
+// Appends a mark where a state is given.
+fn put_given(
+    out: &mut Vec<u8>,
+    given: Option<&Bytes>,
+    number: u32,
+    column: u32,
+) -> Result<(), AllocError>
+    ensures { OnOk result (out.new.items ≡ out.old.items ++ given_text (option_copied given.entry) (place_of number column)) }
+{
+    match given {
+        None => Ok(()),
+        Some(_) => put_path(out, b"g", place_of(number, column), b"m-54-5h10l-5 9z"),
+    }
+}
+
+// Appends how many messages are handed back.
+fn put_back(
+    out: &mut Vec<u8>,
+    back: &[Numbered],
+    number: u32,
+    column: u32,
+) -> Result<(), AllocError>
+    ensures { OnOk result (out.new.items ≡ out.old.items ++ back_text back.now number column) }
+{
+    if back.is_empty() {
+        return Ok(());
+    }
+    put_text_start(out, b"t", x_of(column) + 44, y_of(number) + 4)?;
+    put_decimal(out, back.len() as u64)?;
+    put(out, b" back")?;
+    put(out, b"</text>")
+}
+
+// Appends the id of a view that is installed.
+fn put_installed(
+    out: &mut Vec<u8>,
+    view: ViewId,
+    number: u32,
+    column: u32,
+) -> Result<(), AllocError>
+    ensures { OnOk result (out.new.items ≡ out.old.items ++ text_at (codes "i") (x_of column) (y_of number + 4) (text_of_view_id view)) }
+{
+    put_text_start(out, b"i", x_of(column), y_of(number) + 4)?;
+    put_view_id(out, view)?;
+    put(out, b"</text>")
+}
+
+// Appends the texts of an install.
+fn put_install(
+    out: &mut Vec<u8>,
+    install: &Install,
+    number: u32,
+    column: u32,
+) -> Result<(), AllocError>
+    ensures { OnOk result (out.new.items ≡ out.old.items ++ install_text install.now number column) }
+{
+    put_installed(out, install.view.id(), number, column)?;
+    put_given(out, install.given.as_ref(), number, column)?;
+    put_back(out, install.handed_back.as_slice(), number, column)
+}
+
+/// Appends the texts of an event.
+pub fn put_texts(
+    out: &mut Vec<u8>,
+    event: &Event,
+    number: u32,
+    column: u32,
+) -> Result<(), AllocError>
+    ensures { OnOk result (out.new.items ≡ out.old.items ++ texts_of event.now number column) }
+{
+    match event {
+        Event::Started(_) => put_beside(out, b"t", number, column, b"started"),
+        Event::Sent(sending) => {
+            put_payload(
+                out,
+                b"b",
+                number,
+                column,
+                sending.message.payload.as_slice(),
+            )
+        }
+        Event::Delivered(delivery) => {
+            put_payload(
+                out,
+                b"t",
+                number,
+                column,
+                delivery.message.payload.as_slice(),
+            )
+        }
+        Event::Blocked(_) => Ok(()),
+        Event::Installed(install) => put_install(out, install, number, column),
+        Event::Left(_) => put_beside(out, b"t", number, column, b"left"),
+        Event::Crashed(_) => put_beside(out, b"t", number, column, b"crashed"),
+    }
+}
+
+// Whether a row lies in the same block as another.
+fn same_block(number: u32, before: Option<u32>) -> bool
+    ensures { result ≡ same_block number before }
+{
+    match before {
+        None => false,
+        Some(before) => before / BLOCK == number / BLOCK,
+    }
+}
+
+// Appends the name of a member above a column.
+fn put_above(
+    out: &mut Vec<u8>,
+    number: u32,
+    column: u32,
+    member: &Address,
+) -> Result<(), AllocError>
+    ensures { OnOk result (out.new.items ≡ out.old.items ++ name_above number column member.now) }
+{
+    put_text_start(out, b"n", x_of(column), names_y(number))?;
+    put_name(out, member)?;
+    put(out, b"</text>")
+}
+
+/// Appends the name of a member above its column, at its first event in a block of rows.
+pub fn put_name_above(
+    out: &mut Vec<u8>,
+    number: u32,
+    row: &Row,
+    member: &Address,
+) -> Result<(), AllocError>
+    ensures { OnOk result (out.new.items ≡ out.old.items ++ name_text number row.now member.now) }
+{
+    if same_block(number, row.before) {
+        Ok(())
+    } else {
+        put_above(out, number, row.column, member)
+    }
+}
+
+/// Appends the number of an event, from 1.
+pub fn put_row_number(out: &mut Vec<u8>, number: u32) -> Result<(), AllocError>
+    ensures { OnOk result (out.new.items ≡ out.old.items ++ number_text number) }
+{
+    put_text_start(out, b"r", 40, y_of(number) + 4)?;
+    put_decimal(out, u64::from(number) + 1)?;
+    put(out, b"</text>")
+}
+
+/// Appends the title of a member's line: its address.
+pub fn put_line_title(out: &mut Vec<u8>, member: &Address) -> Result<(), AllocError>
+    ensures { OnOk result (out.new.items ≡ out.old.items ++ line_start member.now) }
+{
+    put(out, b"<g><title>")?;
+    put_name(out, member)?;
+    put(out, b"</title>")
+}
