@@ -44,7 +44,7 @@ pub fn member(event: &Event) -> Address
         Event::Sent(sending) => sending.member,
         Event::Delivered(delivery) => delivery.member,
         Event::Blocked(member) => *member,
-        Event::Installed(install) => install.member,
+        Event::Installed(install) => install.get().member,
         Event::Left(member) => *member,
         Event::Crashed(member) => *member,
     }
@@ -99,7 +99,7 @@ fn origin(
             })
             .copied(),
         Event::Blocked(_) => None,
-        Event::Installed(install) => installs.get(&install.view.id()).copied(),
+        Event::Installed(install) => installs.get(&install.get().view.id()).copied(),
         Event::Left(_) => None,
         Event::Crashed(_) => None,
     }
@@ -188,7 +188,7 @@ fn view_installed(event: &Event) -> Option<ViewId>
         Event::Sent(_) => None,
         Event::Delivered(_) => None,
         Event::Blocked(_) => None,
-        Event::Installed(install) => Some(install.view.id()),
+        Event::Installed(install) => Some(install.get().view.id()),
         Event::Left(_) => None,
         Event::Crashed(_) => None,
     }

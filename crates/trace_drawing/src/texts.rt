@@ -166,7 +166,7 @@ pub fn put_texts(
             )
         }
         Event::Blocked(_) => Ok(()),
-        Event::Installed(install) => put_install(out, install, number, column),
+        Event::Installed(install) => put_install(out, install.get(), number, column),
         Event::Left(_) => put_beside(out, b"t", number, column, b"left"),
         Event::Crashed(_) => put_beside(out, b"t", number, column, b"crashed"),
     }
