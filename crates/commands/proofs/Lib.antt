@@ -2,3 +2,4 @@ pub mod FactOfTexts
 pub mod FactOfRuns
 pub mod FactOfChatLines
 pub mod FactOfVerdicts
+pub mod FactOfDrawings

@@ -2,3 +2,4 @@ pub mod Outcomes
 pub mod Checks
 pub mod Chats
 pub mod Packets
+pub mod Draws

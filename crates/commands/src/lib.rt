@@ -3,6 +3,7 @@
 
 mod chats;
 mod checks;
+mod draws;
 mod ends;
 mod packets;
 mod scripts;
@@ -10,6 +11,7 @@ mod status;
 
 pub use chats::run_chat;
 pub use checks::run_check;
+pub use draws::{run_draw, run_draw_trace};
 pub use ends::{Unreadable, end_in_fault, end_in_memory, end_with, read_all};
 pub use packets::run_packets;
 pub use scripts::run_script;

@@ -1,0 +1,66 @@
+-- How the drawing of a trace, or of a script's run, ends.
+use Rattle.std.proofs.Common.{◌≡◌, ℕ, List, [], Option, Ok, unwrap_or, subst}
+use Rattle.state_transfer.specs.Meanings.{Meaning}
+use Rattle.trace_props.specs.declared.event.Event.{Event}
+use Rattle.script_reader.specs.declared.script.Script.{Script}
+use Rattle.script_reader.specs.declared.fault.Fault.{Fault}
+use Rattle.script_reader.specs.Script.{script_of, fault_number}
+use Rattle.trace_drawing.specs.Picture.{picture_of}
+use Rattle.commands.specs.declared.status.Status.{Status}
+use Rattle.commands.specs.declared.status.Status.TheVariants.{Done, Refused, Memory}
+use Rattle.commands.specs.Outcomes.{Ends, Written, IsAnswer, fault_line}
+use Rattle.commands.specs.Outcomes.IsAnswer.{Answers}
+use Rattle.commands.specs.Draws.{IsPictureText, IsRefusalText, IsDrawingText, TellsRun, IsDrawnScript}
+use Rattle.commands.specs.Draws.IsPictureText.{Drawn, Undrawn}
+use Rattle.commands.specs.Draws.IsRefusalText.{Said, Unsaid}
+use Rattle.commands.specs.Draws.IsDrawingText.{Draws, Faulty, Unread}
+use Rattle.commands.proofs.FactOfTexts.{written-as, left-of}
+
+-- a picture was written
+pub drawn-picture : (t : List Event) (a b : Option (List ℕ)) (status : Status) (picture taken : List ℕ) → picture ≡ picture_of t → taken ≡ picture → Ends a b taken Done status → Written (IsPictureText t) a b status
+drawn-picture t a b status picture taken is all e =
+    record { meant = Done; text = picture_of t; says = Drawn; ends = subst (λ x. Ends a b x Done status) is (subst (λ x. Ends a b x Done status) all e) }
+
+-- memory was refused for it
+pub undrawn-picture : (t : List Event) (a b : Option (List ℕ)) (status : Status) → Ends a b [] Memory status → Written (IsPictureText t) a b status
+undrawn-picture t a b status e = record { meant = Memory; text = []; says = Undrawn; ends = e }
+
+-- a fault was written
+pub said-fault : (line number : ℕ) (a b : Option (List ℕ)) (status : Status) (text : List ℕ) → text ≡ fault_line line number → Ends a b text Refused status → Written (IsRefusalText line number) a b status
+said-fault line number a b status text is e = record { meant = Refused; text = fault_line line number; says = Said; ends = subst (λ x. Ends a b x Refused status) is e }
+
+-- memory was refused for it
+pub unsaid-fault : (line number : ℕ) (a b : Option (List ℕ)) (status : Status) → Ends a b [] Memory status → Written (IsRefusalText line number) a b status
+unsaid-fault line number a b status e = record { meant = Memory; text = []; says = Unsaid; ends = e }
+
+module _ (Tells : List Event → Type 0) (Faults : ℕ → Fault → Type 0) where
+  -- what happened was drawn
+  pub drawn-as : (t : List Event) (a b : Option (List ℕ)) (status : Status) → Tells t → Written (IsPictureText t) a b status → Written (IsDrawingText Tells Faults) a b status
+  drawn-as t a b status tells w = written-as (IsPictureText t) (IsDrawingText Tells Faults) a b status (λ s x says. Draws t s x tells says) w
+
+  -- the fault was said
+  pub faulty-as : (line : ℕ) (fault : Fault) (a b : Option (List ℕ)) (status : Status) → Faults line fault → Written (IsRefusalText line (fault_number fault)) a b status → Written (IsDrawingText Tells Faults) a b status
+  faulty-as line fault a b status is w = written-as (IsRefusalText line (fault_number fault)) (IsDrawingText Tells Faults) a b status (λ s x says. Faulty line fault s x is says) w
+
+  -- memory was refused
+  pub unread-as : (a b : Option (List ℕ)) (status : Status) → Ends a b [] Memory status → Written (IsDrawingText Tells Faults) a b status
+  unread-as a b status e = record { meant = Memory; text = []; says = Unread; ends = e }
+
+-- a picture of the same events
+pub picture-of-same : (t u : List Event) (a b : Option (List ℕ)) (status : Status) → t ≡ u → Written (IsPictureText t) a b status → Written (IsPictureText u) a b status
+picture-of-same t u a b status same w = subst (λ x. Written (IsPictureText x) a b status) same w
+
+from-run : {S : Type 0} (meaning : Meaning S) (bytes : List ℕ) (script : Script) → script_of bytes ≡ Ok script → (status : Status) (text : List ℕ)
+    → IsDrawingText (TellsRun meaning script) (λ line fault. ⊥) status text → IsDrawnScript meaning bytes status text
+from-run meaning bytes script read status text (Draws t _ _ run says) = Draws t status text (record { script = script; read = read; run = run }) says
+from-run meaning bytes script read status text (Faulty line fault _ _ none says) = absurd none
+from-run meaning bytes script read status text Unread = Unread
+
+-- the run of a script that was read was drawn
+pub drawn-run : {S : Type 0} (meaning : Meaning S) (bytes : List ℕ) (script : Script) (a b : Option (List ℕ)) (status : Status) → script_of bytes ≡ Ok script
+    → Written (IsDrawingText (TellsRun meaning script) (λ line fault. ⊥)) a b status → Written (IsDrawnScript meaning bytes) a b status
+drawn-run meaning bytes script a b status read w = written-as (IsDrawingText (TellsRun meaning script) (λ line fault. ⊥)) (IsDrawnScript meaning bytes) a b status (from-run meaning bytes script read) w
+
+-- memory was refused before anything was read
+pub unread-answer : (Says : List ℕ → Status → List ℕ → Type 0) (left a b : Option (List ℕ)) (status : Status) → ((bytes : List ℕ) → Written (Says bytes) a b status) → IsAnswer Says left a b status
+unread-answer Says left a b status w = Answers (unwrap_or left []) status (left-of left) (w (unwrap_or left []))
