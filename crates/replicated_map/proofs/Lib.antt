@@ -1,2 +1,1 @@
 pub mod FactOfEntries
-pub mod FactOfLookUps

@@ -9,13 +9,16 @@ use Rattle.address.specs.Ids.{Address, IsAddress}
 use Rattle.limits.specs.declared.TheConstants.{PAYLOAD}
 use Rattle.reading.specs.Reading.{number_at, ◌>>=◌}
 use Rattle.reading.specs.PartLaws.{bind_some, some_is, joined, IsPart, IsWithin, number_part}
-use Rattle.replicated_map.specs.declared.entries.Entry.{Entry}
+use Rattle.keyed_entries.specs.declared.Entry.{Entry}
 use Rattle.replicated_map.specs.declared.command.Command.{Command}
 use Rattle.replicated_map.specs.declared.command.Command.TheVariants.{Put, Remove, Replace, Clear}
-use Rattle.replicated_map.specs.Entries.{value_of, IsMap, put_within}
-use Rattle.replicated_map.specs.Encoding.{key_bytes, key_at, value_bytes, value_at}
+use Rattle.keyed_entries.specs.Entries.{value_of}
+use Rattle.replicated_map.specs.Entries.{IsMap, put_within}
+use Rattle.keyed_entries.specs.Keys.{key_bytes, key_at}
+use Rattle.replicated_map.specs.Encoding.{value_bytes, value_at}
 use Rattle.replicated_map.specs.Commands.{is_expected, carried_out, expected_bytes, command_bytes, expected_at, put_at, remove_at, replace_at, command_at, command_of, IsExpected, IsCommand, after_command, map_apply}
-use Rattle.replicated_map.specs.EncodingLaws.{key_takes, key_again, value_takes, value_again}
+use Rattle.keyed_entries.specs.KeyLaws.{key_takes, key_again}
+use Rattle.replicated_map.specs.EncodingLaws.{value_takes, value_again}
 use Rattle.replicated_map.specs.MapLaws.{nothing_is_map, put_is_map, without_is_map}
 
 -- ---- an expected value
@@ -175,7 +178,7 @@ spelled_is_read c fits =
 
 -- ---- a message leaves a map a map
 
-pub carried_out_is_map : (s : List Entry) (c : Command) → IsMap s → IsCommand c → IsMap (carried_out s c)
+pub carried_out_is_map : (s : List (Entry (List ℕ))) (c : Command) → IsMap s → IsCommand c → IsMap (carried_out s c)
 carried_out_is_map s (Put k v) is fits = put_is_map k v s is fits.0 fits.1
 carried_out_is_map s (Remove k) is fits = without_is_map k s is
 carried_out_is_map s (Replace w k v) is fits = by (is_expected (value_of k s) w) where
@@ -184,7 +187,7 @@ carried_out_is_map s (Replace w k v) is fits = by (is_expected (value_of k s) w)
   by false = is
 carried_out_is_map s Clear is fits = nothing_is_map
 
-pub applied_is_map : (s : List Entry) (from : Address) (payload : List ℕ) → IsMap s → IsAddress from → length payload ≤ PAYLOAD → IsMap (map_apply s from payload)
+pub applied_is_map : (s : List (Entry (List ℕ))) (from : Address) (payload : List ℕ) → IsMap s → IsAddress from → length payload ≤ PAYLOAD → IsMap (map_apply s from payload)
 applied_is_map s from payload is address short = by (command_of payload) refl where
   by : (o : Option Command) → command_of payload ≡ o → IsMap (after_command s o)
   by None e = is

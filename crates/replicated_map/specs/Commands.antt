@@ -4,11 +4,14 @@ use Rattle.std.specs.Cmp.Lexicographic.{pointwise}
 use Rattle.byteorder.specs.Endian.{big_bytes}
 use Rattle.address.specs.Ids.{Address}
 use Rattle.reading.specs.Reading.{Read, ◌>>=◌, number_at}
-use Rattle.replicated_map.specs.declared.entries.Entry.{Entry}
+use Rattle.keyed_entries.specs.declared.Entry.{Entry}
 use Rattle.replicated_map.specs.declared.command.Command.{Command}
 use Rattle.replicated_map.specs.declared.command.Command.TheVariants.{Put, Remove, Replace, Clear}
-use Rattle.replicated_map.specs.Entries.{IsKey, IsValue, value_of, without, put_within}
-use Rattle.replicated_map.specs.Encoding.{key_bytes, key_at, value_bytes, value_at}
+use Rattle.keyed_entries.specs.Entries.{value_of, without}
+use Rattle.keyed_entries.specs.Keys.{IsKey}
+use Rattle.replicated_map.specs.Entries.{IsValue, put_within}
+use Rattle.keyed_entries.specs.Keys.{key_bytes, key_at}
+use Rattle.replicated_map.specs.Encoding.{value_bytes, value_at}
 
 -- whether a key's value is the one that is expected
 abbrev pub is_expected : Option (List ℕ) → Option (List ℕ) → Bool
@@ -18,7 +21,7 @@ is_expected (Some v) None = false
 is_expected (Some v) (Some w) = pointwise nat_eq v w
 
 -- what a command makes of a map
-abbrev pub carried_out : List Entry → Command → List Entry
+abbrev pub carried_out : List (Entry (List ℕ)) → Command → List (Entry (List ℕ))
 carried_out s (Put k v) = put_within k v s
 carried_out s (Remove k) = without k s
 carried_out s (Replace w k v) = if is_expected (value_of k s) w then put_within k v s else s
@@ -85,10 +88,10 @@ IsCommand (Replace w k v) = IsExpected w × IsKey k × IsValue v
 IsCommand Clear = Unit {0}
 
 -- a payload that is no command changes nothing
-abbrev pub after_command : List Entry → Option Command → List Entry
+abbrev pub after_command : List (Entry (List ℕ)) → Option Command → List (Entry (List ℕ))
 after_command s None = s
 after_command s (Some c) = carried_out s c
 
 -- a message asks what its payload says, whoever sent it
-abbrev pub map_apply : List Entry → Address → List ℕ → List Entry
+abbrev pub map_apply : List (Entry (List ℕ)) → Address → List ℕ → List (Entry (List ℕ))
 map_apply s from payload = after_command s (command_of payload)

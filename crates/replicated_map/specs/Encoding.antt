@@ -1,23 +1,16 @@
 -- The map's state as bytes, and the state that bytes stand for.
-use Rattle.std.specs.Prelude.{ℕ, List, [], ◌∷◌, ◌++◌, length, Option, Some, None, Bool, true, ◌==◌, ◌&&◌, nat_le, if◌then◌else◌}
+use Rattle.std.specs.Prelude.{ℕ, List, ◌++◌, length, Option, Some, None, ◌==◌, ◌&&◌, nat_le, if◌then◌else◌}
 use Rattle.std.specs.List.{flat_map}
-use Rattle.std.specs.Ordering.{is_lt}
 use Rattle.byteorder.specs.Endian.{big_bytes}
 use Rattle.reading.specs.Reading.{Read, ◌>>=◌, bytes_at, number_at, list_at}
 use Rattle.limits.specs.declared.TheConstants.{STATE}
-use Rattle.replicated_map.specs.declared.TheConstants.{KEY, VALUE}
-use Rattle.replicated_map.specs.declared.entries.Entry.{Entry}
-use Rattle.replicated_map.specs.Entries.{key_cmp, map_size, entry_of}
+use Rattle.replicated_map.specs.declared.TheConstants.{VALUE}
+use Rattle.keyed_entries.specs.declared.Entry.{Entry}
+use Rattle.keyed_entries.specs.Keys.{key_bytes, key_at}
+use Rattle.keyed_entries.specs.Entries.{entry_of, rises}
+use Rattle.replicated_map.specs.Entries.{map_size}
 
--- ---- a key: its length in a byte, and its bytes; a value: its length in two, and its bytes
-
-abbrev pub key_bytes : List ℕ → List ℕ
-key_bytes k = big_bytes 1 (length k) ++ k
-
-unfoldable pub key_at : List ℕ → Read (List ℕ)
-key_at bytes = do
-  len ← number_at 1 1 KEY bytes
-  bytes_at len.0 len.1
+-- ---- a value: its length in two bytes, and its bytes
 
 abbrev pub value_bytes : List ℕ → List ℕ
 value_bytes v = big_bytes 2 (length v) ++ v
@@ -29,10 +22,10 @@ value_at bytes = do
 
 -- ---- an entry: its key and its value
 
-abbrev pub entry_bytes : Entry → List ℕ
+abbrev pub entry_bytes : Entry (List ℕ) → List ℕ
 entry_bytes e = key_bytes e.key ++ value_bytes e.value
 
-unfoldable pub entry_at : List ℕ → Read Entry
+unfoldable pub entry_at : List ℕ → Read (Entry (List ℕ))
 entry_at bytes = do
   key ← key_at bytes
   value ← value_at key.1
@@ -40,26 +33,16 @@ entry_at bytes = do
 
 -- ---- the state: the number of entries in two bytes, and the entries, their keys rising
 
-abbrev pub map_encode : List Entry → List ℕ
+abbrev pub map_encode : List (Entry (List ℕ)) → List ℕ
 map_encode s = big_bytes 2 (length s) ++ flat_map entry_bytes s
 
--- whether an entry's key is below that of the first of others
-abbrev pub comes_before : Entry → List Entry → Bool
-comes_before x [] = true
-comes_before x (y ∷ ys) = is_lt (key_cmp x.key y.key)
-
--- whether each key is below the next one
-abbrev pub rises : List Entry → Bool
-rises [] = true
-rises (x ∷ xs) = comes_before x xs && rises xs
-
-unfoldable pub entries_at : List ℕ → Read (List Entry)
+unfoldable pub entries_at : List ℕ → Read (List (Entry (List ℕ)))
 entries_at bytes = do
   count ← number_at 2 0 65535 bytes
   list_at entry_at count.0 count.1
 
 -- the state that bytes stand for: nothing follows its last entry, the keys rise, and the bytes are few enough
-unfoldable pub map_decode : List ℕ → Option (List Entry)
+unfoldable pub map_decode : List ℕ → Option (List (Entry (List ℕ)))
 map_decode bytes = do
   entries ← entries_at bytes
   if (length entries.1 == 0) && (rises entries.0 && nat_le (map_size entries.0) STATE) then Some entries.0 else None

@@ -1,28 +1,16 @@
--- What a key, a value and an entry are read from is their spelling, and their spelling is read as them, whatever follows.
+-- What a value and an entry are read from is their spelling, and their spelling is read as them, whatever follows.
 use Rattle.std.proofs.Common.{◌≡◌, ℕ, List, ◌++◌, length, Some, refl, sym, ap, subst, ◌∙◌, append_assoc, arith}
 use Rattle.byteorder.specs.Endian.{big_bytes}
-use Rattle.big_endian.proofs.Bytes.{wide1, wide2}
+use Rattle.big_endian.proofs.Bytes.{wide2}
 use Rattle.reading.specs.Reading.{number_at, bytes_at, ◌>>=◌}
 use Rattle.reading.specs.PartLaws.{bind_some, some_is, joined, IsPart, bytes_takes, bytes_again, number_part}
-use Rattle.replicated_map.specs.declared.TheConstants.{KEY, VALUE}
-use Rattle.replicated_map.specs.declared.entries.Entry.{Entry}
-use Rattle.replicated_map.specs.Entries.{IsKey, IsValue, entry_of, IsEntry}
-use Rattle.replicated_map.specs.Encoding.{key_bytes, key_at, value_bytes, value_at, entry_bytes, entry_at}
-
-pub key_takes : (bytes x rest : List ℕ) → key_at bytes ≡ Some (x, rest) → (bytes ≡ key_bytes x ++ rest) × IsKey x
-unfolding key_at
-key_takes bytes x rest e =
-    let a = bind_some (number_at 1 1 KEY bytes) (λ len. bytes_at len.0 len.1) (x, rest) e in
-    let t = (number_part 1 1 KEY wide1 (omega arith)).takes bytes a.0.0 a.0.1 a.1 in
-    let u = bytes_takes a.0.0 a.0.1 x rest a.2 in
-    let both : bytes ≡ (big_bytes 1 a.0.0 ++ x) ++ rest = joined bytes (big_bytes 1 a.0.0) a.0.1 x rest t.0 u.0 in
-    (subst (λ (n : ℕ). bytes ≡ (big_bytes 1 n ++ x) ++ rest) (sym u.1) both, (omega (arith, u.1, t.1.0), omega (arith, u.1, t.1.1)))
-
-pub key_again : (x rest : List ℕ) → IsKey x → key_at (key_bytes x ++ rest) ≡ Some (x, rest)
-unfolding key_at
-key_again x rest few =
-    ap key_at (append_assoc (big_bytes 1 (length x)) x rest)
-    ∙ rw ((number_part 1 1 KEY wide1 (omega arith)).again (length x) (x ++ rest) few, bytes_again (length x) x rest refl) refl
+use Rattle.replicated_map.specs.declared.TheConstants.{VALUE}
+use Rattle.keyed_entries.specs.declared.Entry.{Entry}
+use Rattle.keyed_entries.specs.KeyLaws.{key_takes, key_again}
+use Rattle.keyed_entries.specs.Entries.{entry_of}
+use Rattle.replicated_map.specs.Entries.{IsValue, IsEntry}
+use Rattle.keyed_entries.specs.Keys.{key_bytes, key_at}
+use Rattle.replicated_map.specs.Encoding.{value_bytes, value_at, entry_bytes, entry_at}
 
 pub value_takes : (bytes x rest : List ℕ) → value_at bytes ≡ Some (x, rest) → (bytes ≡ value_bytes x ++ rest) × IsValue x
 unfolding value_at
@@ -39,17 +27,17 @@ value_again x rest few =
     ap value_at (append_assoc (big_bytes 2 (length x)) x rest)
     ∙ rw ((number_part 2 0 VALUE wide2 (omega arith)).again (length x) (x ++ rest) (omega arith, few), bytes_again (length x) x rest refl) refl
 
-entry_takes : (bytes : List ℕ) (x : Entry) (rest : List ℕ) → entry_at bytes ≡ Some (x, rest) → (bytes ≡ entry_bytes x ++ rest) × IsEntry x
+entry_takes : (bytes : List ℕ) (x : Entry (List ℕ)) (rest : List ℕ) → entry_at bytes ≡ Some (x, rest) → (bytes ≡ entry_bytes x ++ rest) × IsEntry x
 unfolding entry_at
 entry_takes bytes x rest e =
     let a = bind_some (key_at bytes) (λ key. value_at key.1 >>= λ value. Some (entry_of key.0 value.0, value.1)) (x, rest) e in
     let b = bind_some (value_at a.0.1) (λ value. Some (entry_of a.0.0 value.0, value.1)) (x, rest) a.2 in
     let t = key_takes bytes a.0.0 a.0.1 a.1 in
     let u = value_takes a.0.1 b.0.0 b.0.1 b.1 in
-    subst (λ (p : Entry × List ℕ). (bytes ≡ entry_bytes p.0 ++ p.1) × IsEntry p.0) (some_is (entry_of a.0.0 b.0.0, b.0.1) (x, rest) b.2)
+    subst (λ (p : Entry (List ℕ) × List ℕ). (bytes ≡ entry_bytes p.0 ++ p.1) × IsEntry p.0) (some_is (entry_of a.0.0 b.0.0, b.0.1) (x, rest) b.2)
     (joined bytes (key_bytes a.0.0) a.0.1 (value_bytes b.0.0) b.0.1 t.0 u.0, record { key = t.1; value = u.1 })
 
-entry_again : (x : Entry) (rest : List ℕ) → IsEntry x → entry_at (entry_bytes x ++ rest) ≡ Some (x, rest)
+entry_again : (x : Entry (List ℕ)) (rest : List ℕ) → IsEntry x → entry_at (entry_bytes x ++ rest) ≡ Some (x, rest)
 unfolding entry_at
 entry_again x rest is =
     ap entry_at (append_assoc (key_bytes x.key) (value_bytes x.value) rest)

@@ -2,7 +2,6 @@ pub mod Entries
 pub mod Encoding
 pub mod Commands
 pub mod Meanings
-pub mod EntryLaws
 pub mod EncodingLaws
 pub mod MapLaws
 pub mod CommandLaws

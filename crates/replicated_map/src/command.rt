@@ -5,7 +5,8 @@ ghost use Rattle.replicated_map.specs.Commands.{IsCommand, command_bytes, comman
 
 use crate::decoding::command_from;
 use crate::encoding::put_command;
-use crate::{KeyBytes, LONGEST_COMMAND, ValueBytes};
+use crate::{LONGEST_COMMAND, ValueBytes};
+use keyed_entries::KeyBytes;
 use reading::Reader;
 use std::alloc::AllocError;
 

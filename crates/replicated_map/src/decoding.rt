@@ -2,23 +2,16 @@
 
 ghost use Rattle.std.specs.Prelude.{◌≡◌, IfOk};
 ghost use Rattle.reading.specs.Reading.{IsReadOrNone, list_at};
-ghost use Rattle.replicated_map.specs.Encoding.{key_at, value_at, entry_at, entries_at, rises, map_decode};
+ghost use Rattle.replicated_map.specs.Encoding.{value_at, entry_at, entries_at, map_decode};
 ghost use Rattle.replicated_map.specs.Commands.{expected_at, put_at, remove_at, replace_at, command_at};
 
-use crate::entries::{Entry, size_of_all};
-use crate::{Command, KEY, KeyBytes, VALUE, ValueBytes};
+use crate::entries::{copied, size_of_all};
+use crate::{Command, VALUE, ValueBytes};
+use keyed_entries::{Entry, is_rising, key_from};
 use limits::STATE;
 use reading::Reader;
 use std::alloc::{AllocError, Global};
-use std::cmp::Ordering;
-
-#[tactic(auto, unfolding(crate::specs::Encoding::key_at))]
-fn key_from<'a>(from: &mut Reader<'a>) -> Option<KeyBytes<'a>>
-    ensures { IsReadOrNone (λ x. (x, from.new)) result (key_at from.old) }
-{
-    let len = from.u8(1, KEY as u8)?;
-    KeyBytes::new(from.bytes(usize::from(len))?)
-}
+use trace_props::Bytes;
 
 #[tactic(auto, unfolding(crate::specs::Encoding::value_at))]
 fn value_from<'a>(from: &mut Reader<'a>) -> Option<ValueBytes<'a>>
@@ -90,7 +83,7 @@ pub(crate) fn command_from<'a>(from: &mut Reader<'a>) -> Option<Command<'a>>
 }
 
 #[tactic(auto, unfolding(crate::specs::Encoding::entry_at))]
-fn entry_from(alloc: Global, from: &mut Reader<'_>) -> Result<Option<Entry>, AllocError>
+fn entry_from(alloc: Global, from: &mut Reader<'_>) -> Result<Option<Entry<Bytes>>, AllocError>
     ensures { IfOk result (λ e. IsReadOrNone (λ x. (x, from.new)) e (entry_at from.old)) }
 {
     let Some(key) = key_from(from) else {
@@ -99,7 +92,7 @@ fn entry_from(alloc: Global, from: &mut Reader<'_>) -> Result<Option<Entry>, All
     let Some(value) = value_from(from) else {
         return Ok(None);
     };
-    let entry = Entry::copied(alloc, &key, &value)?;
+    let entry = copied(alloc, &key, &value)?;
     Ok(Some(entry))
 }
 
@@ -107,7 +100,7 @@ fn some_entries(
     alloc: Global,
     count: u16,
     from: &mut Reader<'_>,
-) -> Result<Option<Vec<Entry>>, AllocError>
+) -> Result<Option<Vec<Entry<Bytes>>>, AllocError>
     ensures { IfOk result (λ entries. IsReadOrNone (λ l. (l.items, from.new)) entries (list_at entry_at count from.old)) }
 {
     let mut entries = Vec::new(alloc);
@@ -121,7 +114,10 @@ fn some_entries(
 }
 
 #[tactic(auto, unfolding(crate::specs::Encoding::entries_at))]
-fn entries_from(alloc: Global, from: &mut Reader<'_>) -> Result<Option<Vec<Entry>>, AllocError>
+fn entries_from(
+    alloc: Global,
+    from: &mut Reader<'_>,
+) -> Result<Option<Vec<Entry<Bytes>>>, AllocError>
     ensures { IfOk result (λ entries. IsReadOrNone (λ l. (l.items, from.new)) entries (entries_at from.old)) }
 {
     let Some(count) = from.u16(0, u16::MAX) else {
@@ -130,21 +126,12 @@ fn entries_from(alloc: Global, from: &mut Reader<'_>) -> Result<Option<Vec<Entry
     some_entries(alloc, count, from)
 }
 
-// Whether each key is below the next one.
-fn is_rising(entries: &[Entry]) -> bool
-    ensures { result ≡ rises entries.now }
-{
-    for i in 1..entries.len() {
-        if entries[i - 1].key.as_slice().cmp(entries[i].key.as_slice()) != Ordering::Less {
-            return false;
-        }
-    }
-    true
-}
-
 // The entries of the state that bytes stand for.
 #[tactic(auto, unfolding(crate::specs::Encoding::map_decode), using(crate::specs::MapLaws::read_counted))]
-pub(crate) fn entries_of(alloc: Global, bytes: &[u8]) -> Result<Option<Vec<Entry>>, AllocError>
+pub(crate) fn entries_of(
+    alloc: Global,
+    bytes: &[u8],
+) -> Result<Option<Vec<Entry<Bytes>>>, AllocError>
     ensures { IfOk result (λ entries. IsReadOrNone (λ l. l.items) entries (map_decode bytes.now)) }
 {
     let mut from = Reader::new(bytes);

@@ -2,25 +2,17 @@
 
 ghost use Rattle.std.specs.Prelude.{◌≡◌, ◌≤◌, ◌+◌, ◌++◌, length, vec_len, vec_capacity, OnOk, OnErr};
 ghost use Rattle.std.specs.List.{flat_map, AllByRecursion};
-ghost use Rattle.replicated_map.specs.Entries.{IsKey, IsValue, IsEntry, IsMap};
-ghost use Rattle.replicated_map.specs.Encoding.{key_bytes, value_bytes, entry_bytes, map_encode};
+ghost use Rattle.replicated_map.specs.Entries.{IsValue, IsEntry, IsMap};
+ghost use Rattle.replicated_map.specs.Encoding.{value_bytes, entry_bytes, map_encode};
 ghost use Rattle.replicated_map.specs.Commands.{IsCommand, IsExpected, expected_bytes, command_bytes};
 ghost use Rattle.replicated_map.specs.declared.TheConstants.{VALUE, LONGEST_COMMAND};
 
-use crate::{Command, Entry, ValueBytes};
+use crate::{Command, ValueBytes};
 use big_endian::{put, put_u8, put_u16};
+use keyed_entries::{Entry, put_key};
 use limits::STATE;
 use std::alloc::AllocError;
-
-fn put_key(key: &[u8], out: &mut Vec<u8>)
-    requires key { IsKey key.now }
-    requires room { vec_len out.old + length (key_bytes key.now) ≤ vec_capacity out.old }
-    ensures items { out.new.items ≡ out.old.items ++ key_bytes key.now }
-    ensures room { vec_capacity out.old ≤ vec_capacity out.new }
-{
-    put_u8(key.len() as u8, out);
-    put(key, out);
-}
+use trace_props::Bytes;
 
 fn put_value(value: &[u8], out: &mut Vec<u8>)
     requires value { IsValue value.now }
@@ -78,7 +70,7 @@ pub(crate) fn put_command(command: &Command<'_>, out: &mut Vec<u8>)
     }
 }
 
-fn put_entry(entry: &Entry, out: &mut Vec<u8>)
+fn put_entry(entry: &Entry<Bytes>, out: &mut Vec<u8>)
     requires entry { IsEntry entry.now }
     requires room { vec_len out.old + length (entry_bytes entry.now) ≤ vec_capacity out.old }
     ensures items { out.new.items ≡ out.old.items ++ entry_bytes entry.now }
@@ -88,7 +80,7 @@ fn put_entry(entry: &Entry, out: &mut Vec<u8>)
     put_value(entry.value.as_slice(), out);
 }
 
-fn put_entries(entries: &[Entry], out: &mut Vec<u8>)
+fn put_entries(entries: &[Entry<Bytes>], out: &mut Vec<u8>)
     requires entries { AllByRecursion IsEntry entries.now }
     requires room { vec_len out.old + length (flat_map entry_bytes entries.now) ≤ vec_capacity out.old }
     ensures items { out.new.items ≡ out.old.items ++ flat_map entry_bytes entries.now }
@@ -100,7 +92,7 @@ fn put_entries(entries: &[Entry], out: &mut Vec<u8>)
 }
 
 #[tactic(auto, using(crate::specs::MapLaws::count_of))]
-fn put_all(entries: &[Entry], out: &mut Vec<u8>)
+fn put_all(entries: &[Entry<Bytes>], out: &mut Vec<u8>)
     requires map { IsMap entries.now }
     requires room { vec_len out.old + length (map_encode entries.now) ≤ vec_capacity out.old }
     ensures { out.new.items ≡ out.old.items ++ map_encode entries.now }
@@ -112,7 +104,7 @@ fn put_all(entries: &[Entry], out: &mut Vec<u8>)
 // Appends the encoding of a map's entries, with room for the longest taken at once. On refusal the vector's items are
 // as they were.
 #[tactic(auto, using(crate::specs::MapLaws::encoded_short))]
-pub(crate) fn put_map(entries: &[Entry], out: &mut Vec<u8>) -> Result<(), AllocError>
+pub(crate) fn put_map(entries: &[Entry<Bytes>], out: &mut Vec<u8>) -> Result<(), AllocError>
     requires { IsMap entries.now }
     ensures ok { OnOk result (out.new.items ≡ out.old.items ++ map_encode entries.now) }
     ensures err { OnErr result (out.new.items ≡ out.old.items) }

@@ -1,64 +1,30 @@
-//! Entries in the order of their keys.
+//! The entries of a map: copies, look-ups and sizes.
 
 ghost use Rattle.std.specs.Prelude.{◌≡◌, IfOk};
 ghost use Rattle.replicated_map.specs.MapLaws.{IsCounted};
-ghost use Rattle.replicated_map.specs.Entries.{IsPlace, IsEntry, Rises, entry_of, entry_size, map_size, value_of, lent};
+ghost use Rattle.keyed_entries.specs.Entries.{Rises, entry_of, value_of};
+ghost use Rattle.replicated_map.specs.Entries.{IsEntry, entry_size, map_size, lent};
 
-use crate::{KeyBytes, ValueBytes};
+use crate::ValueBytes;
+use keyed_entries::{Entry, KeyBytes, Place, find};
 use std::alloc::{AllocError, Global};
-use std::cmp::Ordering;
 use trace_props::Bytes;
 
-/// A key, of one to `KEY` bytes, and its value, of at most `VALUE`.
-#[derive(Debug, Drop)]
-pub struct Entry {
-    /// The key.
-    pub key: Bytes,
-    /// Its value.
-    pub value: Bytes,
-}
-
-impl Entry {
-    // The entry of a copied key and value.
-    pub(crate) fn copied(
-        alloc: Global,
-        key: &KeyBytes<'_>,
-        value: &ValueBytes<'_>,
-    ) -> Result<Entry, AllocError>
-        ensures { IfOk result (λ e. e ≡ entry_of key.now value.now) }
-    {
-        let key = Bytes::from_slice(alloc, key.as_slice())?;
-        let value = Bytes::from_slice(alloc, value.as_slice())?;
-        Ok(Entry { key, value })
-    }
-}
-
-// Where the entry of a key stands among others, or where it would.
-#[derive(Clone, Copy, Debug)]
-pub(crate) enum Place {
-    Held(usize),
-    Free(usize),
-}
-
-pub(crate) fn find(entries: &[Entry], key: &[u8]) -> Place
-    requires { Rises entries.now }
-    ensures { IsPlace key.now entries.now result }
+// The entry of a copied key and value.
+pub(crate) fn copied(
+    alloc: Global,
+    key: &KeyBytes<'_>,
+    value: &ValueBytes<'_>,
+) -> Result<Entry<Bytes>, AllocError>
+    ensures { IfOk result (λ e. e ≡ entry_of key.now value.now) }
 {
-    let mut low = 0;
-    let mut high = entries.len();
-    while low < high {
-        let middle = low + (high - low) / 2;
-        match key.cmp(entries[middle].key.as_slice()) {
-            Ordering::Less => high = middle,
-            Ordering::Equal => return Place::Held(middle),
-            Ordering::Greater => low = middle + 1,
-        }
-    }
-    Place::Free(low)
+    let key = Bytes::from_slice(alloc, key.as_slice())?;
+    let value = Bytes::from_slice(alloc, value.as_slice())?;
+    Ok(Entry { key, value })
 }
 
 // The value that a key has.
-pub(crate) fn value<'a>(entries: &'a [Entry], key: &[u8]) -> Option<&'a [u8]>
+pub(crate) fn value<'a>(entries: &'a [Entry<Bytes>], key: &[u8]) -> Option<&'a [u8]>
     requires { Rises entries.now }
     ensures { lent result ≡ value_of key.now entries.now }
 {
@@ -68,7 +34,7 @@ pub(crate) fn value<'a>(entries: &'a [Entry], key: &[u8]) -> Option<&'a [u8]>
     }
 }
 
-fn size_of_entry(entry: &Entry) -> usize
+fn size_of_entry(entry: &Entry<Bytes>) -> usize
     requires { IsEntry entry.now }
     ensures { result ≡ entry_size entry.now }
 {
@@ -76,7 +42,7 @@ fn size_of_entry(entry: &Entry) -> usize
 }
 
 // In how many bytes entries are encoded as a state.
-pub(crate) fn size_of_all(entries: &[Entry]) -> usize
+pub(crate) fn size_of_all(entries: &[Entry<Bytes>]) -> usize
     requires { IsCounted entries.now }
     ensures { result ≡ map_size entries.now }
 {

@@ -8,16 +8,13 @@ mod encoding;
 mod entries;
 mod law;
 mod map;
-mod parts;
+mod values;
 
 pub use command::Command;
-pub use entries::Entry;
-pub use law::{look_ups, one_encoding, one_spelling};
+use keyed_entries::KEY;
+pub use law::{one_encoding, one_spelling};
 pub use map::ReplicatedMap;
-pub use parts::{KeyBytes, ValueBytes};
-
-/// The longest key, in bytes; the shortest has one.
-pub const KEY: usize = 64;
+pub use values::ValueBytes;
 
 /// The longest value, in bytes.
 pub const VALUE: usize = 400;

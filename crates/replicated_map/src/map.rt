@@ -1,14 +1,16 @@
 ghost use Rattle.std.specs.Prelude.{◌≡◌, ◌==◌, ◌≤◌, ◌++◌, true, false, length, slice_get, IfOk, OnOk, OnErr, MatchOption};
-ghost use Rattle.replicated_map.specs.Entries.{put_within, without, value_of, lent, entry_lent};
+ghost use Rattle.keyed_entries.specs.Entries.{without, value_of};
+ghost use Rattle.replicated_map.specs.Entries.{put_within, lent, entry_lent};
 ghost use Rattle.replicated_map.specs.Encoding.{map_encode, map_decode};
 ghost use Rattle.replicated_map.specs.Commands.{is_expected, carried_out, map_apply};
 ghost use Rattle.limits.specs.declared.TheConstants.{STATE};
 
 use crate::decoding::entries_of;
 use crate::encoding::put_map;
-use crate::entries::{Entry, Place, find, size_of_all, value};
-use crate::{Command, KeyBytes, ValueBytes};
+use crate::entries::{copied, size_of_all, value};
+use crate::{Command, ValueBytes};
 use address::Address;
+use keyed_entries::{Entry, KeyBytes, Place, find};
 use limits::STATE;
 use state_transfer::Receiver;
 use std::alloc::{AllocError, Global};
@@ -19,17 +21,17 @@ use view::View;
 /// A copy of the map. Contracts see it as the list of its entries, their keys rising (docs/FORMATS.md, "The map's state").
 #[derive(Debug, Drop)]
 pub struct ReplicatedMap {
-    entries: Vec<Entry>,
+    entries: Vec<Entry<Bytes>>,
     // In how many bytes the entries are encoded as a state.
     size: usize,
 }
 
 impl Model for ReplicatedMap {
-    ghost use Rattle.std.specs.Prelude.{List, ◌≡◌};
-    ghost use Rattle.replicated_map.specs.declared.entries.Entry.{Entry};
+    ghost use Rattle.std.specs.Prelude.{List, ℕ, ◌≡◌};
+    ghost use Rattle.keyed_entries.specs.declared.Entry.{Entry};
     ghost use Rattle.replicated_map.specs.Entries.{IsMap, map_size};
 
-    ghost Value = { List Entry };
+    ghost Value = { List (Entry (List ℕ)) };
 
     ghost view = { λ m. m.entries.items };
 
@@ -97,7 +99,7 @@ impl ReplicatedMap {
             Place::Free(i) => {
                 let size = self.size + 3 + key.as_slice().len() + bytes.len();
                 if size <= STATE {
-                    let entry = Entry::copied(alloc, key, value)?;
+                    let entry = copied(alloc, key, value)?;
                     self.entries.insert(i, entry)?;
                     self.size = size;
                 }

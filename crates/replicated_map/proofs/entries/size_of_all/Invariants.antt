@@ -1,6 +1,7 @@
 use Rattle.std.proofs.Common.{◌≡◌, ◌≤◌, ◌*◌, ◌+◌, take, drop}
 use Rattle.std.specs.List.{AllByRecursion}
-use Rattle.replicated_map.specs.declared.TheConstants.{KEY, VALUE}
+use Rattle.keyed_entries.specs.declared.TheConstants.{KEY}
+use Rattle.replicated_map.specs.declared.TheConstants.{VALUE}
 use Rattle.replicated_map.specs.Entries.{IsEntry, map_size}
 use Rattle.replicated_map.proofs.entries.size_of_all.Given as goal
 

@@ -1,8 +1,10 @@
-use Rattle.std.proofs.Common.{◌≡◌, length, Some, refl, sym, ap, ◌∙◌, arith}
+use Rattle.std.proofs.Common.{◌≡◌, ℕ, List, length, Some, refl, sym, ap, ◌∙◌, arith}
 use Rattle.std.specs.List.{slice_get, insert}
 use Rattle.std.proofs.lemmas.Option.{slice_get_read, same_Some}
-use Rattle.replicated_map.specs.declared.entries.Entry.{Entry}
-use Rattle.replicated_map.specs.Entries.{IsKey, IsValue, IsHeldAt, IsFreeAt, entry_of, put_within}
+use Rattle.keyed_entries.specs.declared.Entry.{Entry}
+use Rattle.keyed_entries.specs.Entries.{IsHeldAt, IsFreeAt, entry_of}
+use Rattle.keyed_entries.specs.Keys.{IsKey}
+use Rattle.replicated_map.specs.Entries.{IsValue, put_within}
 use Rattle.replicated_map.proofs.FactOfEntries.{puts-held, puts-free, stays-held}
 use Rattle.replicated_map.proofs.map.ReplicatedMap.put.Goals as goal
 
@@ -17,7 +19,7 @@ invariant_of-self c =
     let held : IsHeldAt k s i = rw (c.as_slice-2.ensures.bytes, c.as_slice.ensures.value) at c.in-Held.ensures in
     let stands : slice_get s i ≡ Some x = slice_get_read s (length s) i x refl held.within c.index.ensures in
     let also : slice_get s i ≡ Some y = slice_get_read s (length s) i y refl held.within c.index_mut.ensures.value in
-    let old : length c.as_slice-in-Held.result.now ≡ length y.value = ap length c.as_slice-in-Held.ensures ∙ ap (λ (e : Entry). length e.value) (same_Some x y (sym stands ∙ also)) in
+    let old : length c.as_slice-in-Held.result.now ≡ length y.value = ap length c.as_slice-in-Held.ensures ∙ ap (λ (e : Entry (List ℕ)). length e.value) (same_Some x y (sym stands ∙ also)) in
     let new : v ≡ c.as_slice-bytes.result.now = c.in_ok-self-inside-in-Held.ensures in
     let many : length v ≡ length c.as_slice-bytes.result.now = ap length new in
     let key : IsKey k = rw c.as_slice-2.ensures.bytes at c.as_slice-2.ensures.key in
@@ -51,7 +53,7 @@ returns-in_ok-self-inside-in-Held-clause-ok c =
     let held : IsHeldAt k s i = rw (c.as_slice-2.ensures.bytes, c.as_slice.ensures.value) at c.in-Held.ensures in
     let stands : slice_get s i ≡ Some x = slice_get_read s (length s) i x refl held.within c.index.ensures in
     let also : slice_get s i ≡ Some y = slice_get_read s (length s) i y refl held.within c.index_mut.ensures.value in
-    let old : length c.as_slice-in-Held.result.now ≡ length y.value = ap length c.as_slice-in-Held.ensures ∙ ap (λ (e : Entry). length e.value) (same_Some x y (sym stands ∙ also)) in
+    let old : length c.as_slice-in-Held.result.now ≡ length y.value = ap length c.as_slice-in-Held.ensures ∙ ap (λ (e : Entry (List ℕ)). length e.value) (same_Some x y (sym stands ∙ also)) in
     let new : v ≡ c.as_slice-bytes.result.now = c.in_ok-self-inside-in-Held.ensures in
     let many : length v ≡ length c.as_slice-bytes.result.now = ap length new in
     let key : IsKey k = rw c.as_slice-2.ensures.bytes at c.as_slice-2.ensures.key in

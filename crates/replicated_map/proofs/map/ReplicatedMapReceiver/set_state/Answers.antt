@@ -1,5 +1,5 @@
-use Rattle.std.proofs.Common.{◌≡◌, List, Some, sym, ap, subst, ◌∙◌, rules}
-use Rattle.replicated_map.specs.declared.entries.Entry.{Entry}
+use Rattle.std.proofs.Common.{◌≡◌, ℕ, List, Some, sym, ap, subst, ◌∙◌, rules}
+use Rattle.keyed_entries.specs.declared.Entry.{Entry}
 use Rattle.replicated_map.specs.Entries.{map_size}
 use Rattle.replicated_map.specs.Encoding.{map_decode}
 use Rattle.replicated_map.specs.MapLaws.{IsCounted, decoded_is_map, map_counted}
@@ -8,7 +8,7 @@ use Rattle.replicated_map.proofs.map.ReplicatedMapReceiver.set_state.Goals as go
 pub size_of_all-self-inside-requires : goal.size_of_all-self-inside-requires
 size_of_all-self-inside-requires c =
     let e : map_decode c.args.state.now ≡ Some c.in-Some.entries.items = rw c.in-Some.is at c.in_ok-entries_of.ensures in
-    subst (λ (s : List Entry). IsCounted s) (sym c.as_slice.ensures.value) (map_counted c.in-Some.entries.items (decoded_is_map c.args.state.now c.in-Some.entries.items e))
+    subst (λ (s : List (Entry (List ℕ))). IsCounted s) (sym c.as_slice.ensures.value) (map_counted c.in-Some.entries.items (decoded_is_map c.args.state.now c.in-Some.entries.items e))
 
 pub invariant_of-self : goal.invariant_of-self
 invariant_of-self c =

@@ -1,13 +1,13 @@
 use Rattle.std.proofs.Common.{◌-◌, ◌≤◌, take, length}
-use Rattle.replicated_map.proofs.FactOfEntries.{AllBelow, StopsAt}
-use Rattle.replicated_map.proofs.entries.find.Given as goal
+use Rattle.keyed_entries.proofs.FactOfPlaces.{AllBelow, StopsAt}
+use Rattle.keyed_entries.proofs.find.Given as goal
 
 abbrev pub decreases-loop-low : goal.decreases-loop-low
-decreases-loop-low l = l.high - l.low
+decreases-loop-low g l = l.high - l.low
 
 -- the key is above all entries before the first place, and below the one at the last
 abbrev pub invariant-loop-low : goal.invariant-loop-low
-invariant-loop-low l = record {
+invariant-loop-low g l = record {
   within : l.high ≤ length l.entries;
   order : l.low ≤ l.high;
   below : AllBelow l.key (take l.low l.entries);

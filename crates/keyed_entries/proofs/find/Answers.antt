@@ -3,33 +3,32 @@ use Rattle.std.specs.Ordering.{ordering_reverse}
 use Rattle.std.specs.Cmp.Lexicographic.{nat_list_cmp_total}
 use Rattle.std.proofs.lemmas.Option.{slice_get_read}
 use Rattle.std.specs.declared.cmp.Ordering.TheVariants.{Equal, Greater}
-use Rattle.replicated_map.specs.declared.entries.Entry.{Entry}
-use Rattle.replicated_map.specs.Entries.{key_cmp}
-use Rattle.replicated_map.specs.EntryLaws.{flipped}
-use Rattle.replicated_map.proofs.FactOfEntries.{AllBelow, StopsAt, below-before, below-more, held-at, free-at}
-use Rattle.replicated_map.proofs.entries.find.Goals as goal
+use Rattle.keyed_entries.specs.Entries.{key_cmp}
+use Rattle.keyed_entries.specs.EntryLaws.{flipped}
+use Rattle.keyed_entries.proofs.FactOfPlaces.{AllBelow, StopsAt, same-order, below-before, below-more, held-at, free-at}
+use Rattle.keyed_entries.proofs.find.Goals as goal
 
 pub returns-in-Equal : goal.returns-in-Equal
-returns-in-Equal c =
+returns-in-Equal g c =
     let k = c.args.key.now in
     let es = c.args.entries.now in
     let m = c.loop-low.low + (c.loop-low.high - c.loop-low.low) / 2 in
     let e = c.index-entries-middle.result in
     let within : m < length es = omega arith in
     let s = slice_get_read es (length es) m e refl within c.index-entries-middle.is in
-    let same : key_cmp k e.key ≡ Equal = ap (λ (y : Entry). key_cmp k y.key) c.index-entries-middle.is ∙ ap (key_cmp k) (sym c.as_slice.ensures) ∙ sym c.cmp.ensures ∙ c.in-Equal.is in
+    let same : key_cmp k e.key ≡ Equal = same-order k e _ Equal c.index-entries-middle.is (ap (key_cmp k) (sym c.as_slice.ensures) ∙ sym c.cmp.ensures ∙ c.in-Equal.is) in
     let back : key_cmp e.key k ≡ Equal = nat_list_cmp_total.antisymm e.key k ∙ ap ordering_reverse same in
     held-at k es m e s (below-before k es m e c.requires s (inr back)) same
 
 pub loop-low-preserved : goal.loop-low-preserved
-loop-low-preserved c =
+loop-low-preserved g c =
     let k = c.args.key.now in
     let es = c.args.entries.now in
     let m = c.loop-low.low + (c.loop-low.high - c.loop-low.low) / 2 in
     let e = c.index-entries-middle.result in
     let within : m < length es = omega arith in
     let s = slice_get_read es (length es) m e refl within c.index-entries-middle.is in
-    let above : key_cmp k e.key ≡ Greater = ap (λ (y : Entry). key_cmp k y.key) c.index-entries-middle.is ∙ ap (key_cmp k) (sym c.as_slice.ensures) ∙ sym c.cmp.ensures ∙ c.in-Greater.is in
+    let above : key_cmp k e.key ≡ Greater = same-order k e _ Greater c.index-entries-middle.is (ap (key_cmp k) (sym c.as_slice.ensures) ∙ sym c.cmp.ensures ∙ c.in-Greater.is) in
     record {
       within = c.loop-low.invariant.within;
       order = omega arith;
@@ -38,7 +37,7 @@ loop-low-preserved c =
     }
 
 pub returns : goal.returns
-returns c =
+returns g c =
     let k = c.args.key.now in
     let es = c.args.entries.now in
     let same : c.loop-low.high ≡ c.loop-low.low = omega arith in

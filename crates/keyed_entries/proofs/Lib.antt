@@ -1,0 +1,2 @@
+pub mod FactOfPlaces
+pub mod FactOfLookUps

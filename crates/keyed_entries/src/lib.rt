@@ -1,0 +1,72 @@
+//! Entries in the order of their keys, each key once: what a state that is a map from names is made of, for applications that keep such states.
+#![tactic(auto)]
+
+ghost use Rattle.std.specs.Prelude.{◌≡◌, ℕ, List, Some, None, if◌then◌else◌};
+ghost use Rattle.std.specs.Ordering.{is_eq};
+ghost use Rattle.keyed_entries.specs.declared.Entry.{Entry as EntryValue};
+ghost use Rattle.keyed_entries.specs.Entries.{IsPlace, Rises, rises, key_cmp, value_of, put, without};
+
+mod keys;
+
+pub use keys::{KeyBytes, key_from, put_key};
+use std::cmp::Ordering;
+use trace_props::Bytes;
+
+/// The longest key, in bytes; the shortest has one.
+pub const KEY: usize = 64;
+
+/// A key and its value.
+#[derive(Debug, Drop)]
+pub struct Entry<V> {
+    /// The key.
+    pub key: Bytes,
+    /// Its value.
+    pub value: V,
+}
+
+/// Where the entry of a key stands among others, or where it would.
+#[derive(Clone, Copy, Debug)]
+pub enum Place {
+    /// An entry of the key stands at this index.
+    Held(usize),
+    /// None does; one would stand at this index.
+    Free(usize),
+}
+
+/// The place of a key among entries whose keys rise. It halves them until it has found it.
+pub fn find<V: Drop>(entries: &[Entry<V>], key: &[u8]) -> Place
+    requires { Rises entries.now }
+    ensures { IsPlace key.now entries.now result }
+{
+    let mut low = 0;
+    let mut high = entries.len();
+    while low < high {
+        let middle = low + (high - low) / 2;
+        match key.cmp(entries[middle].key.as_slice()) {
+            Ordering::Less => high = middle,
+            Ordering::Equal => return Place::Held(middle),
+            Ordering::Greater => low = middle + 1,
+        }
+    }
+    Place::Free(low)
+}
+
+/// Whether each key is below the next one.
+pub fn is_rising<V: Drop>(entries: &[Entry<V>]) -> bool
+    ensures { result ≡ rises entries.now }
+{
+    for i in 1..entries.len() {
+        if entries[i - 1].key.as_slice().cmp(entries[i].key.as_slice()) != Ordering::Less {
+            return false;
+        }
+    }
+    true
+}
+
+/// The law of look-ups: a put gives its key its value, a removal takes it, and the value of each other key stays. Entries in which each key has the same
+/// value are the same.
+pub fn look_ups<V: Drop>()
+    ensures put { (k : List ℕ) (v : V) (s : List (EntryValue V)) (q : List ℕ) → value_of q (put k v s) ≡ (if is_eq (key_cmp q k) then Some v else value_of q s) }
+    ensures without { (k : List ℕ) (s : List (EntryValue V)) (q : List ℕ) → Rises s → value_of q (without k s) ≡ (if is_eq (key_cmp q k) then None else value_of q s) }
+    ensures alike { (s u : List (EntryValue V)) → Rises s → Rises u → ((q : List ℕ) → value_of q s ≡ value_of q u) → s ≡ u }
+{}
