@@ -7,7 +7,7 @@ use crate::udp_programs::{member, udp};
 use chat_log::ChatLog;
 use clap::Error;
 use clap::error::ErrorKind;
-use commands::{Status, run_chat, run_check, run_packets, run_script};
+use commands::{Status, run_chat, run_check, run_draw, run_draw_trace, run_packets, run_script};
 use std::alloc::Global;
 use std::io::{Read, Write};
 use std::net::Net;
@@ -58,15 +58,29 @@ fn answer<I: Read, W: Write>(
         TextCommand::Chat(_) => run_chat::<ChatLog, I, W>(alloc, reader, writer),
         TextCommand::Packets(_) => run_packets::<ChatLog, I, W>(alloc, reader, writer),
         TextCommand::Check(_) => run_check::<ChatLog, I, W>(alloc, reader, writer),
+        TextCommand::Draw(_) => run_draw::<ChatLog, I, W>(alloc, reader, writer),
+        TextCommand::DrawTrace(_) => run_draw_trace::<I, W>(alloc, reader, writer),
     }
 }
 
-/// What a command's status says where it ended outside, on the standard error.
-fn explained<R: Eprint>(rt: &R, status: Status, path: &str) -> Status
+/// Whether a command draws a picture.
+fn is_drawing(command: TextCommand<'_>) -> bool {
+    match command {
+        TextCommand::Draw(_) => true,
+        TextCommand::DrawTrace(_) => true,
+        _ => false,
+    }
+}
+
+/// What a command's status says where it ended outside, on the standard error; and that memory was refused, where it draws: no picture has a line for that.
+fn explained<R: Eprint>(rt: &R, status: Status, drawing: bool, path: &str) -> Status
     ensures { result ≡ status }
 {
     if status == Status::Outside {
         return complain(rt, "a read or a write failed:", path);
+    }
+    if drawing && status == Status::Memory {
+        let _ = eprintln!(rt; "# memory");
     }
     status
 }
@@ -77,12 +91,14 @@ fn answer_at<R: Files + Input + Print + Eprint + AllocGlobal>(
     command: TextCommand<'_>,
 ) -> Status {
     let path = command.path();
+    let drawing = is_drawing(command);
     let mut output = io::writer(rt);
     if path == "-" {
         let mut input = rt.reader();
         return explained(
             rt,
             answer(rt.alloc(), command, &mut input, &mut output),
+            drawing,
             "the standard input or output",
         );
     }
@@ -92,6 +108,7 @@ fn answer_at<R: Files + Input + Print + Eprint + AllocGlobal>(
             explained(
                 rt,
                 answer(rt.alloc(), command, &mut file, &mut output),
+                drawing,
                 path,
             )
         }

@@ -6,16 +6,16 @@ use Rattle.std.proofs.lemmas.Slice.Eq.{bytes_eq-Decides}
 use Rattle.std.proofs.lemmas.Result.{IfOk-weaker}
 use Rattle.std.specs.Result.{IsErrAnd}
 use Rattle.clap.specs.Kinds.{HasKind}
-use Rattle.clap.specs.Words.{FailsBy, Kinds, Row, Text, fault_of, first_of, is_simple_and_free, is_simple, kind_of, subcommand_of}
+use Rattle.clap.specs.Words.{FailsBy, Kinds, Row, Text, fault_of, first_of, is_simple_and_free, is_simple, kind_of, one_of, subcommand_of}
 use Rattle.clap.specs.declared.error.Error.{Error}
 use Rattle.clap.specs.declared.error.kind.ErrorKind.TheVariants.{OutOfMemory}
 use Rattle.clap.specs.Walk.{is_empty}
 use Rattle.clap.proofs.OnLiterals.{clap_on_literals}
 use Rattle.vsync_words.specs.declared.words.Invocation.{Invocation}
 use Rattle.vsync_words.specs.declared.words.Invocation.TheVariants.{Text as TextOf, Udp, Member}
-use Rattle.vsync_words.specs.declared.words.TextCommand.TheVariants.{World, Chat, Packets, Check}
+use Rattle.vsync_words.specs.declared.words.TextCommand.TheVariants.{World, Chat, Packets, Check, Draw, DrawTrace}
 use Rattle.vsync_words.specs.Grammar.{IsSaid, is_path, program_app}
-use Rattle.vsync_words.specs.Words.{IsChatOn, IsCheckOn, IsOrNoMemory, IsPacketsOn, IsUdpOn, IsWorldOn}
+use Rattle.vsync_words.specs.Words.{IsChatOn, IsCheckOn, IsDrawOn, IsDrawTraceOn, IsOrNoMemory, IsPacketsOn, IsUdpOn, IsWorldOn}
 
 pub simple : is_simple_and_free program_app ≡ true
 unfolding clap_on_literals
@@ -140,6 +140,8 @@ said_world (Some said) path (TextOf (World p)) e h = same_path path p.now _ (pat
 said_world (Some said) path (TextOf (Chat p)) e h = absurd (other_name said (codes "world") (codes "chat") (name_in (codes "SCRIPT") said (codes "world") path e) h.0 refl)
 said_world (Some said) path (TextOf (Packets p)) e h = absurd (other_name said (codes "world") (codes "packets") (name_in (codes "SCRIPT") said (codes "world") path e) h.0 refl)
 said_world (Some said) path (TextOf (Check p)) e h = absurd (other_name said (codes "world") (codes "check") (name_in (codes "SCRIPT") said (codes "world") path e) h.0 refl)
+said_world (Some said) path (TextOf (Draw p)) e h = absurd (other_name said (codes "world") (codes "draw") (name_in (codes "SCRIPT") said (codes "world") path e) h.0 refl)
+said_world (Some said) path (TextOf (DrawTrace p)) e h = absurd (other_name said (codes "world") (codes "draw") (name_in (codes "SCRIPT") said (codes "world") path e) h.0 refl)
 said_world (Some said) path (Udp w) e h = absurd (other_name said (codes "world") (codes "udp") (name_in (codes "SCRIPT") said (codes "world") path e) h.0 refl)
 said_world (Some said) path (Member w) e h = absurd (other_name said (codes "world") (codes "member") (name_in (codes "SCRIPT") said (codes "world") path e) h.0 refl)
 
@@ -150,6 +152,8 @@ said_chat (Some said) path (TextOf (World p)) e h = absurd (other_name said (cod
 said_chat (Some said) path (TextOf (Chat p)) e h = same_path path p.now _ (path_in (codes "SCRIPT") said (codes "chat") path e) h.1
 said_chat (Some said) path (TextOf (Packets p)) e h = absurd (other_name said (codes "chat") (codes "packets") (name_in (codes "SCRIPT") said (codes "chat") path e) h.0 refl)
 said_chat (Some said) path (TextOf (Check p)) e h = absurd (other_name said (codes "chat") (codes "check") (name_in (codes "SCRIPT") said (codes "chat") path e) h.0 refl)
+said_chat (Some said) path (TextOf (Draw p)) e h = absurd (other_name said (codes "chat") (codes "draw") (name_in (codes "SCRIPT") said (codes "chat") path e) h.0 refl)
+said_chat (Some said) path (TextOf (DrawTrace p)) e h = absurd (other_name said (codes "chat") (codes "draw") (name_in (codes "SCRIPT") said (codes "chat") path e) h.0 refl)
 said_chat (Some said) path (Udp w) e h = absurd (other_name said (codes "chat") (codes "udp") (name_in (codes "SCRIPT") said (codes "chat") path e) h.0 refl)
 said_chat (Some said) path (Member w) e h = absurd (other_name said (codes "chat") (codes "member") (name_in (codes "SCRIPT") said (codes "chat") path e) h.0 refl)
 
@@ -160,6 +164,8 @@ said_packets (Some said) path (TextOf (World p)) e h = absurd (other_name said (
 said_packets (Some said) path (TextOf (Chat p)) e h = absurd (other_name said (codes "packets") (codes "chat") (name_in (codes "SCRIPT") said (codes "packets") path e) h.0 refl)
 said_packets (Some said) path (TextOf (Packets p)) e h = same_path path p.now _ (path_in (codes "SCRIPT") said (codes "packets") path e) h.1
 said_packets (Some said) path (TextOf (Check p)) e h = absurd (other_name said (codes "packets") (codes "check") (name_in (codes "SCRIPT") said (codes "packets") path e) h.0 refl)
+said_packets (Some said) path (TextOf (Draw p)) e h = absurd (other_name said (codes "packets") (codes "draw") (name_in (codes "SCRIPT") said (codes "packets") path e) h.0 refl)
+said_packets (Some said) path (TextOf (DrawTrace p)) e h = absurd (other_name said (codes "packets") (codes "draw") (name_in (codes "SCRIPT") said (codes "packets") path e) h.0 refl)
 said_packets (Some said) path (Udp w) e h = absurd (other_name said (codes "packets") (codes "udp") (name_in (codes "SCRIPT") said (codes "packets") path e) h.0 refl)
 said_packets (Some said) path (Member w) e h = absurd (other_name said (codes "packets") (codes "member") (name_in (codes "SCRIPT") said (codes "packets") path e) h.0 refl)
 
@@ -170,6 +176,8 @@ said_check (Some said) path (TextOf (World p)) e h = absurd (other_name said (co
 said_check (Some said) path (TextOf (Chat p)) e h = absurd (other_name said (codes "check") (codes "chat") (name_in (codes "TRACE") said (codes "check") path e) h.0 refl)
 said_check (Some said) path (TextOf (Packets p)) e h = absurd (other_name said (codes "check") (codes "packets") (name_in (codes "TRACE") said (codes "check") path e) h.0 refl)
 said_check (Some said) path (TextOf (Check p)) e h = same_path path p.now _ (path_in (codes "TRACE") said (codes "check") path e) h.1
+said_check (Some said) path (TextOf (Draw p)) e h = absurd (other_name said (codes "check") (codes "draw") (name_in (codes "TRACE") said (codes "check") path e) h.0 refl)
+said_check (Some said) path (TextOf (DrawTrace p)) e h = absurd (other_name said (codes "check") (codes "draw") (name_in (codes "TRACE") said (codes "check") path e) h.0 refl)
 said_check (Some said) path (Udp w) e h = absurd (other_name said (codes "check") (codes "udp") (name_in (codes "TRACE") said (codes "check") path e) h.0 refl)
 said_check (Some said) path (Member w) e h = absurd (other_name said (codes "check") (codes "member") (name_in (codes "TRACE") said (codes "check") path e) h.0 refl)
 
@@ -241,11 +249,89 @@ said_udp (Some said) config script (TextOf (World p)) e h = absurd (other_name s
 said_udp (Some said) config script (TextOf (Chat p)) e h = absurd (other_name said (codes "udp") (codes "chat") (udp_name said config script e) h.0 refl)
 said_udp (Some said) config script (TextOf (Packets p)) e h = absurd (other_name said (codes "udp") (codes "packets") (udp_name said config script e) h.0 refl)
 said_udp (Some said) config script (TextOf (Check p)) e h = absurd (other_name said (codes "udp") (codes "check") (udp_name said config script e) h.0 refl)
+said_udp (Some said) config script (TextOf (Draw p)) e h = absurd (other_name said (codes "udp") (codes "draw") (udp_name said config script e) h.0 refl)
+said_udp (Some said) config script (TextOf (DrawTrace p)) e h = absurd (other_name said (codes "udp") (codes "draw") (udp_name said config script e) h.0 refl)
 said_udp (Some said) config script (Member w) e h = absurd (other_name said (codes "udp") (codes "member") (udp_name said config script e) h.0 refl)
 said_udp (Some said) config script (Udp w) e h = (
   same_path config w.config.now _ (ap (λ (o : Option (Text × Option Text × Option Text)). option_map_or (λ q. q.1) o None) e) h.1.config,
   same_path script w.script.now _ (ap (λ (o : Option (Text × Option Text × Option Text)). option_map_or (λ q. q.2) o None) e) h.1.script,
 )
+
+-- `draw` with a path, and with the flag and a path
+abbrev words_of_draw : Text → Text → List Text
+words_of_draw name path = name ∷ codes "draw" ∷ path ∷ []
+
+abbrev words_of_trace : Text → Text → List Text
+words_of_trace name path = name ∷ codes "draw" ∷ codes "--trace" ∷ path ∷ []
+
+-- the subcommand, with the first value of its argument and what its flag is
+abbrev pub drawing_in : Option (Text × List Row) → Option (Text × Option Text × Option Text)
+drawing_in = option_map (λ said. (said.0, first_of (codes "INPUT") said.1, one_of (codes "trace") said.1))
+
+-- the words pass, and are `draw` with this path and this flag
+abbrev ReadsDrawing : Text → List Text → Text → Type 0
+ReadsDrawing path words flag = (fault_of program_app words ≡ []) × (drawing_in (subcommand_of program_app words) ≡ Some (codes "draw", Some path, Some flag))
+
+empty_draw : (name : Text) → ReadsDrawing [] (words_of_draw name []) (codes "false")
+unfolding clap_on_literals
+empty_draw name = (refl, refl)
+
+dash_draw : (name : Text) → ReadsDrawing (45 ∷ []) (words_of_draw name (45 ∷ [])) (codes "false")
+unfolding clap_on_literals
+dash_draw name = (refl, refl)
+
+other_draw : (name : Text) (x : ℕ) (xs : Text) → (x == 45) ≡ false → ReadsDrawing (x ∷ xs) (words_of_draw name (x ∷ xs)) (codes "false")
+unfolding clap_on_literals
+other_draw name x xs e = (simp e refl, simp e refl)
+
+pub reads_draw : (name path : Text) → is_path path ≡ true → ReadsDrawing path (words_of_draw name path) (codes "false")
+reads_draw name = by_first (λ path. ReadsDrawing path (words_of_draw name path) (codes "false")) (empty_draw name) (dash_draw name) (other_draw name)
+
+empty_trace : (name : Text) → ReadsDrawing [] (words_of_trace name []) (codes "true")
+unfolding clap_on_literals
+empty_trace name = (refl, refl)
+
+dash_trace : (name : Text) → ReadsDrawing (45 ∷ []) (words_of_trace name (45 ∷ [])) (codes "true")
+unfolding clap_on_literals
+dash_trace name = (refl, refl)
+
+other_trace : (name : Text) (x : ℕ) (xs : Text) → (x == 45) ≡ false → ReadsDrawing (x ∷ xs) (words_of_trace name (x ∷ xs)) (codes "true")
+unfolding clap_on_literals
+other_trace name x xs e = (simp e refl, simp e refl)
+
+pub reads_trace : (name path : Text) → is_path path ≡ true → ReadsDrawing path (words_of_trace name path) (codes "true")
+reads_trace name = by_first (λ path. ReadsDrawing path (words_of_trace name path) (codes "true")) (empty_trace name) (dash_trace name) (other_trace name)
+
+drawing_name : (said : Text × List Row) (path flag : Text) → drawing_in (Some said) ≡ Some (codes "draw", Some path, Some flag) → said.0 ≡ codes "draw"
+drawing_name said path flag e = ap (λ (o : Option (Text × Option Text × Option Text)). option_map_or (λ q. q.0) o []) e
+
+drawing_path : (said : Text × List Row) (path flag : Text) → drawing_in (Some said) ≡ Some (codes "draw", Some path, Some flag) → first_of (codes "INPUT") said.1 ≡ Some path
+drawing_path said path flag e = ap (λ (o : Option (Text × Option Text × Option Text)). option_map_or (λ q. q.1) o None) e
+
+drawing_flag : (said : Text × List Row) (path flag : Text) → drawing_in (Some said) ≡ Some (codes "draw", Some path, Some flag) → one_of (codes "trace") said.1 ≡ Some flag
+drawing_flag said path flag e = ap (λ (o : Option (Text × Option Text × Option Text)). option_map_or (λ q. q.2) o None) e
+
+said_draw : (o : Option (Text × List Row)) (path : Text) (i : Invocation) → drawing_in o ≡ Some (codes "draw", Some path, Some (codes "false")) → IsSomeAnd o (λ said. IsSaid said i) → IsDrawOn path i
+said_draw None path i e h = absurd h
+said_draw (Some said) path (TextOf (World p)) e h = absurd (other_name said (codes "draw") (codes "world") (drawing_name said path (codes "false") e) h.0 refl)
+said_draw (Some said) path (TextOf (Chat p)) e h = absurd (other_name said (codes "draw") (codes "chat") (drawing_name said path (codes "false") e) h.0 refl)
+said_draw (Some said) path (TextOf (Packets p)) e h = absurd (other_name said (codes "draw") (codes "packets") (drawing_name said path (codes "false") e) h.0 refl)
+said_draw (Some said) path (TextOf (Check p)) e h = absurd (other_name said (codes "draw") (codes "check") (drawing_name said path (codes "false") e) h.0 refl)
+said_draw (Some said) path (TextOf (Draw p)) e h = same_path path p.now _ (drawing_path said path (codes "false") e) h.1.0
+said_draw (Some said) path (TextOf (DrawTrace p)) e h = absurd (h.1.1 (drawing_flag said path (codes "false") e))
+said_draw (Some said) path (Udp w) e h = absurd (other_name said (codes "draw") (codes "udp") (drawing_name said path (codes "false") e) h.0 refl)
+said_draw (Some said) path (Member w) e h = absurd (other_name said (codes "draw") (codes "member") (drawing_name said path (codes "false") e) h.0 refl)
+
+said_trace : (o : Option (Text × List Row)) (path : Text) (i : Invocation) → drawing_in o ≡ Some (codes "draw", Some path, Some (codes "true")) → IsSomeAnd o (λ said. IsSaid said i) → IsDrawTraceOn path i
+said_trace None path i e h = absurd h
+said_trace (Some said) path (TextOf (World p)) e h = absurd (other_name said (codes "draw") (codes "world") (drawing_name said path (codes "true") e) h.0 refl)
+said_trace (Some said) path (TextOf (Chat p)) e h = absurd (other_name said (codes "draw") (codes "chat") (drawing_name said path (codes "true") e) h.0 refl)
+said_trace (Some said) path (TextOf (Packets p)) e h = absurd (other_name said (codes "draw") (codes "packets") (drawing_name said path (codes "true") e) h.0 refl)
+said_trace (Some said) path (TextOf (Check p)) e h = absurd (other_name said (codes "draw") (codes "check") (drawing_name said path (codes "true") e) h.0 refl)
+said_trace (Some said) path (TextOf (Draw p)) e h = absurd (h.1.1 (drawing_flag said path (codes "true") e))
+said_trace (Some said) path (TextOf (DrawTrace p)) e h = same_path path p.now _ (drawing_path said path (codes "true") e) h.1.0
+said_trace (Some said) path (Udp w) e h = absurd (other_name said (codes "draw") (codes "udp") (drawing_name said path (codes "true") e) h.0 refl)
+said_trace (Some said) path (Member w) e h = absurd (other_name said (codes "draw") (codes "member") (drawing_name said path (codes "true") e) h.0 refl)
 
 -- an error that is handed on keeps its kind
 pub fails_as : (kinds : Kinds) (r : Result Invocation Error) (e : Error) → IsErrAnd r (λ x. x ≡ e) → HasKind kinds e → FailsBy kinds r
@@ -291,3 +377,15 @@ pub udp_or_no_memory : (r : Result Invocation Error) (o : Option (Text × List R
     → IsOrNoMemory (IsUdpOn config script) r
 udp_or_no_memory r o kinds config script none value is fails =
     is_or_no_memory (IsUdpOn config script) r kinds none (IfOk-weaker r _ _ (λ i said. said_udp o config script i value said) is) fails
+
+pub draw_or_no_memory : (r : Result Invocation Error) (o : Option (Text × List Row)) (kinds : Kinds) (path : Text) → kinds ≡ []
+    → drawing_in o ≡ Some (codes "draw", Some path, Some (codes "false")) → IfOk r (λ i. IsSomeAnd o (λ said. IsSaid said i)) → FailsBy kinds r
+    → IsOrNoMemory (IsDrawOn path) r
+draw_or_no_memory r o kinds path none value is fails =
+    is_or_no_memory (IsDrawOn path) r kinds none (IfOk-weaker r _ _ (λ i said. said_draw o path i value said) is) fails
+
+pub trace_or_no_memory : (r : Result Invocation Error) (o : Option (Text × List Row)) (kinds : Kinds) (path : Text) → kinds ≡ []
+    → drawing_in o ≡ Some (codes "draw", Some path, Some (codes "true")) → IfOk r (λ i. IsSomeAnd o (λ said. IsSaid said i)) → FailsBy kinds r
+    → IsOrNoMemory (IsDrawTraceOn path) r
+trace_or_no_memory r o kinds path none value is fails =
+    is_or_no_memory (IsDrawTraceOn path) r kinds none (IfOk-weaker r _ _ (λ i said. said_trace o path i value said) is) fails

@@ -1,5 +1,5 @@
 -- The grammar of the command line, in clap's words, and what its words ask for.
-use Rattle.std.specs.Prelude.{◌≡◌, ◌==◌, ◌||◌, ℕ, Bool, true, false, not, List, [], ◌∷◌, Option, Some, codes, option_map, IsSomeAnd}
+use Rattle.std.specs.Prelude.{◌≡◌, ◌≢◌, ◌==◌, ◌||◌, ℕ, Bool, true, false, not, List, [], ◌∷◌, Option, None, Some, codes, option_map, IsSomeAnd}
 use Rattle.std.specs.Str.Parse.{digits_value, without_leading_plus}
 use Rattle.clap.specs.Walk.{is_empty}
 use Rattle.clap.specs.Words.{App, IsUnsignedIn, Row, Rule, Text, app_of, first_of, one_of, new_app, new_rule, rule_of, with_rule, with_subcommand}
@@ -8,13 +8,14 @@ use Rattle.clap.specs.declared.builder.arg.Arg.{Arg}
 use Rattle.clap.specs.declared.builder.command.Command.{Command}
 use Rattle.clap.specs.declared.builder.command.Command.TheViews.{out-Command}
 use Rattle.clap.specs.declared.builder.value_parser.ValueParser.TheVariants.{Unsigned}
+use Rattle.clap.specs.declared.builder.action.ArgAction.TheVariants.{SetTrue}
 use Rattle.script_reader.specs.declared.udp_script.TheConstants.{ROUNDS}
 use Rattle.vsync_words.specs.declared.udp_words.UdpWords.{UdpWords}
 use Rattle.vsync_words.specs.declared.udp_words.MemberWords.{MemberWords}
 use Rattle.vsync_words.specs.declared.words.Invocation.{Invocation}
 use Rattle.vsync_words.specs.declared.words.Invocation.TheVariants.{Text as TextOf, Udp, Member}
 use Rattle.vsync_words.specs.declared.words.TextCommand.{TextCommand}
-use Rattle.vsync_words.specs.declared.words.TextCommand.TheVariants.{World, Chat, Packets, Check}
+use Rattle.vsync_words.specs.declared.words.TextCommand.TheVariants.{World, Chat, Packets, Check, Draw, DrawTrace}
 use Rattle.limits.specs.declared.TheConstants.{GREATEST_INCARNATION, GREATEST_NODE}
 
 -- an argument that is required; one that is a number in a range; and an option with a value
@@ -26,6 +27,10 @@ number_rule argument low high = record (required_rule argument) { parser = Some 
 
 abbrev pub option_rule : Text → Rule
 option_rule name = record (new_rule name) { long = Some name; value_names = 1 }
+
+-- a flag with no value
+abbrev pub flag_rule : Text → Rule
+flag_rule name = record (new_rule name) { long = Some name; action = Some SetTrue }
 
 -- clap's argument has this rule, and is of its own command alone
 abbrev pub IsArg : Rule → Arg → Type 0
@@ -48,6 +53,10 @@ abbrev pub program_of_subcommands : Text → App
 program_of_subcommands name =
     record { top = record (new_shape name) { subcommand_required = true }; subs = [] }
 
+-- `draw [--trace] INPUT`
+abbrev pub draw_app : App
+draw_app = with_rule (with_rule (new_app (codes "draw")) (flag_rule (codes "trace"))) (required_rule (codes "INPUT"))
+
 -- `udp CONFIG SCRIPT`
 abbrev pub udp_app : App
 udp_app = with_rule (with_rule (new_app (codes "udp")) (required_rule (codes "CONFIG"))) (required_rule (codes "SCRIPT"))
@@ -63,13 +72,14 @@ member_numbers_app = with_rule (with_rule (with_rule (with_rule (new_app (codes 
 abbrev pub member_app : App
 member_app = with_rule (with_rule member_numbers_app (option_rule (codes "contact"))) (option_rule (codes "send"))
 
--- `vsync world SCRIPT`, `vsync chat SCRIPT`, `vsync packets SCRIPT`, `vsync check TRACE`, `vsync udp CONFIG SCRIPT` and `vsync member ..`
+-- `vsync world SCRIPT`, `vsync chat SCRIPT`, `vsync packets SCRIPT`, `vsync check TRACE`, `vsync draw [--trace] INPUT`, `vsync udp CONFIG SCRIPT` and `vsync member ..`
 abbrev pub program_app : App
-program_app = with_subcommand (with_subcommand (with_subcommand (with_subcommand (with_subcommand (with_subcommand (program_of_subcommands (codes "vsync"))
+program_app = with_subcommand (with_subcommand (with_subcommand (with_subcommand (with_subcommand (with_subcommand (with_subcommand (program_of_subcommands (codes "vsync"))
     (path_app (codes "world") (codes "SCRIPT")).top)
     (path_app (codes "chat") (codes "SCRIPT")).top)
     (path_app (codes "packets") (codes "SCRIPT")).top)
     (path_app (codes "check") (codes "TRACE")).top)
+    draw_app.top)
     udp_app.top)
     member_app.top
 
@@ -92,6 +102,15 @@ pub record AreMemberWords (rows : List Row) (words : MemberWords) : Type 0 where
   pub contact : first_of (codes "contact") rows ≡ option_map (λ s. s.now) words.contact
   pub send : first_of (codes "send") rows ≡ option_map (λ s. s.now) words.send
 
+-- the words of `draw` in its matches: the path is the first value of its argument, and a trace is drawn exactly where the flag stands
+abbrev pub IsDrawSaid : List Row → TextCommand → Type 0
+IsDrawSaid rows (World path) = ⊥
+IsDrawSaid rows (Chat path) = ⊥
+IsDrawSaid rows (Packets path) = ⊥
+IsDrawSaid rows (Check path) = ⊥
+IsDrawSaid rows (Draw path) = (first_of (codes "INPUT") rows ≡ Some path.now) × (one_of (codes "trace") rows ≢ Some (codes "true"))
+IsDrawSaid rows (DrawTrace path) = (first_of (codes "INPUT") rows ≡ Some path.now) × (one_of (codes "trace") rows ≢ Some (codes "false")) × (one_of (codes "trace") rows ≢ None)
+
 -- a subcommand over a text that was said, with its matches, is this command: it has that name, and the path is the first value
 -- of its argument
 abbrev pub IsTextSaid : Text × List Row → TextCommand → Type 0
@@ -103,6 +122,8 @@ IsTextSaid said (Packets path) =
     (said.0 ≡ codes "packets") × (first_of (codes "SCRIPT") said.1 ≡ Some path.now)
 IsTextSaid said (Check path) =
     (said.0 ≡ codes "check") × (first_of (codes "TRACE") said.1 ≡ Some path.now)
+IsTextSaid said (Draw path) = (said.0 ≡ codes "draw") × IsDrawSaid said.1 (Draw path)
+IsTextSaid said (DrawTrace path) = (said.0 ≡ codes "draw") × IsDrawSaid said.1 (DrawTrace path)
 
 -- a subcommand that was said, with its matches, is this command
 abbrev pub IsSaid : Text × List Row → Invocation → Type 0

@@ -1,10 +1,10 @@
 ghost use Rattle.std.specs.Prelude.{◌≡◌, ◌≤◌, ◌<◌, ◌∷◌, [], true, length, map, codes, string_bytes, IfOk, IfSome, IsOkAnd, IsSomeAnd};
 ghost use Rattle.clap.specs.Words.{app_of, fault_of, found_of, rows_of, subcommand_of, subcommand_rows_of, FailsBy, Text};
-ghost use Rattle.vsync_words.specs.Words.{input_of, IsWorldOn, IsChatOn, IsPacketsOn, IsCheckOn, IsUdpOn, IsOrNoMemory, RunsStandardInput};
-ghost use Rattle.vsync_words.specs.Grammar.{is_path, program_app, program_of_subcommands, path_app, AddsCommand, IsCommand, IsSaid, IsTextSaid};
+ghost use Rattle.vsync_words.specs.Words.{input_of, IsWorldOn, IsChatOn, IsPacketsOn, IsCheckOn, IsDrawOn, IsDrawTraceOn, IsUdpOn, IsOrNoMemory, RunsStandardInput};
+ghost use Rattle.vsync_words.specs.Grammar.{is_path, draw_app, flag_rule, required_rule, program_app, program_of_subcommands, path_app, AddsCommand, IsArg, IsCommand, IsDrawSaid, IsSaid, IsTextSaid};
 
 use crate::udp_words::{MemberWords, UdpWords, member_words, udp_words, with_member, with_udp};
-use clap::{Arg, ArgMatches, Error};
+use clap::{Arg, ArgAction, ArgMatches, Error};
 use std::alloc::{AllocError, Global};
 
 /// A command over one text, a script or a trace, which it reads at a path; `-` is the standard input.
@@ -18,6 +18,10 @@ pub enum TextCommand<'a> {
     Packets(&'a str),
     /// `check TRACE`: the trace is checked.
     Check(&'a str),
+    /// `draw SCRIPT`: the script is run, and a picture of it is drawn.
+    Draw(&'a str),
+    /// `draw --trace TRACE`: a picture of the trace is drawn.
+    DrawTrace(&'a str),
 }
 
 impl<'a> TextCommand<'a> {
@@ -30,6 +34,8 @@ impl<'a> TextCommand<'a> {
             TextCommand::Chat(path) => path,
             TextCommand::Packets(path) => path,
             TextCommand::Check(path) => path,
+            TextCommand::Draw(path) => path,
+            TextCommand::DrawTrace(path) => path,
         }
     }
 }
@@ -37,7 +43,7 @@ impl<'a> TextCommand<'a> {
 /// What the words of a command line ask for.
 #[derive(Clone, Copy, Debug)]
 pub enum Invocation<'a> {
-    /// `world SCRIPT`, `chat SCRIPT`, `packets SCRIPT` or `check TRACE`.
+    /// `world SCRIPT`, `chat SCRIPT`, `packets SCRIPT`, `check TRACE`, `draw SCRIPT` or `draw --trace TRACE`.
     Text(TextCommand<'a>),
     /// `udp CONFIG SCRIPT`: nodes run over datagrams in one process.
     Udp(UdpWords<'a>),
@@ -147,6 +153,46 @@ fn with_check<'a>(
     command.add_to(alloc, program)
 }
 
+// The flag `--trace`.
+fn trace_flag<'a>(alloc: Global) -> Arg<'a>
+    ensures { IsArg (flag_rule (codes "trace")) result }
+{
+    Arg::new(alloc, "trace")
+        .long("trace")
+        .action(ArgAction::SetTrue)
+        .help("The input is a trace, as `vsync world` prints it")
+}
+
+// The argument of `draw`.
+fn draw_input<'a>(alloc: Global) -> Arg<'a>
+    ensures { IsArg (required_rule (codes "INPUT")) result }
+{
+    Arg::new(alloc, "INPUT").required(true).help(
+        "The path of the script, or of the trace, or - for the standard input",
+    )
+}
+
+// The subcommand `draw` as clap reads it.
+fn draw_command<'a>(alloc: Global) -> Result<clap::Command<'a>, AllocError>
+    ensures { IfOk result (IsCommand draw_app) }
+{
+    clap::Command::new(alloc, "draw")
+        .about("Draws what happens in a script's run, or what a trace says, as an SVG")
+        .after_help(
+            "Time goes down: a row for each event, a column for each member.\n\nExamples:\n  vsync draw examples/merge.script\n  vsync draw --trace examples/merge.trace",
+        )
+        .arg(trace_flag(alloc))?
+        .arg(draw_input(alloc))
+}
+
+/// The program with `draw [--trace] INPUT` as well.
+fn with_draw<'a>(alloc: Global, program: clap::Command<'a>) -> Result<clap::Command<'a>, AllocError>
+    ensures { IfOk result (AddsCommand program.entry draw_app) }
+{
+    let command = draw_command(alloc)?;
+    program.subcommand(command)
+}
+
 /// The program, which requires a subcommand, with none yet, as clap reads it.
 fn program_grammar<'a>(alloc: Global) -> Result<clap::Command<'a>, AllocError>
     ensures { IfOk result (λ c. app_of c ≡ program_of_subcommands (codes "vsync")) }
@@ -172,8 +218,21 @@ fn grammar<'a>(alloc: Global) -> Result<clap::Command<'a>, AllocError>
     let program = with_chat(alloc, program)?;
     let program = with_packets(alloc, program)?;
     let program = with_check(alloc, program)?;
+    let program = with_draw(alloc, program)?;
     let program = with_udp(alloc, program)?;
     with_member(alloc, program)
+}
+
+// What the words of `draw` name.
+fn draw_words<'a>(matches: &ArgMatches<'a>) -> Option<TextCommand<'a>>
+    ensures { IfSome result (IsDrawSaid (rows_of (found_of matches.now))) }
+{
+    let path = matches.get_str("INPUT")?;
+    if matches.get_flag("trace") {
+        Some(TextCommand::DrawTrace(path))
+    } else {
+        Some(TextCommand::Draw(path))
+    }
 }
 
 /// The command over a text that a subcommand's matches name.
@@ -191,6 +250,9 @@ fn text_command<'a>(name: &str, matches: &ArgMatches<'a>) -> Option<TextCommand<
     }
     if name == "check" {
         return Some(TextCommand::Check(matches.get_str("TRACE")?));
+    }
+    if name == "draw" {
+        return draw_words(matches);
     }
     None
 }
@@ -233,7 +295,7 @@ fn parsed<'a>(alloc: Global, words: &'a [String]) -> Result<Invocation<'a>, Erro
 }
 
 /// The command that the words of a command line ask for, the program's name first: `world SCRIPT`, `chat SCRIPT`,
-/// `packets SCRIPT`, `check TRACE`, `udp CONFIG SCRIPT` or `member CONFIG NODE INCARNATION ROUNDS` with its options.
+/// `packets SCRIPT`, `check TRACE`, `draw [--trace] INPUT`, `udp CONFIG SCRIPT` or `member CONFIG NODE INCARNATION ROUNDS` with its options.
 /// No words after the name are `world -`. A path that begins with `-` and is more than that stands behind `--`.
 ///
 /// Words that are no command give clap's error, whose text says what is wrong (`error.kind()` says which kind of
@@ -257,6 +319,12 @@ pub fn command<'a>(alloc: Global, words: &'a [String]) -> Result<Invocation<'a>,
     ensures check { (name path : Text) → is_path path ≡ true
         → map string_bytes words.now ≡ name ∷ codes "check" ∷ path ∷ []
         → IsOrNoMemory (IsCheckOn path) result }
+    ensures draw { (name path : Text) → is_path path ≡ true
+        → map string_bytes words.now ≡ name ∷ codes "draw" ∷ path ∷ []
+        → IsOrNoMemory (IsDrawOn path) result }
+    ensures draw_trace { (name path : Text) → is_path path ≡ true
+        → map string_bytes words.now ≡ name ∷ codes "draw" ∷ codes "--trace" ∷ path ∷ []
+        → IsOrNoMemory (IsDrawTraceOn path) result }
     ensures udp { (name config script : Text) → is_path config ≡ true → is_path script ≡ true
         → map string_bytes words.now ≡ name ∷ codes "udp" ∷ config ∷ script ∷ []
         → IsOrNoMemory (IsUdpOn config script) result }

@@ -18,6 +18,8 @@ fn name_of(command: TextCommand<'_>) -> &'static str {
         TextCommand::Chat(_) => "chat",
         TextCommand::Packets(_) => "packets",
         TextCommand::Check(_) => "check",
+        TextCommand::Draw(_) => "draw",
+        TextCommand::DrawTrace(_) => "draw --trace",
     }
 }
 
@@ -74,6 +76,14 @@ fn each_subcommand_takes_a_path(rt: HostRuntime) {
         asked(alloc, &["vsync", "check", "world"], "world") == Some("check"),
         "check"
     );
+    assert!(rt;
+        asked(alloc, &["vsync", "draw", "a.script"], "a.script") == Some("draw"),
+        "draw"
+    );
+    assert!(rt;
+        asked(alloc, &["vsync", "draw", "--trace", "a.trace"], "a.trace") == Some("draw --trace"),
+        "draw --trace"
+    );
 }
 
 #[test]
@@ -95,6 +105,10 @@ fn each_subcommand_takes_the_standard_input(rt: HostRuntime) {
         asked(alloc, &["vsync", "check", "-"], "-") == Some("check"),
         "check"
     );
+    assert!(rt;
+        asked(alloc, &["vsync", "draw", "-"], "-") == Some("draw"),
+        "draw"
+    );
 }
 
 #[test]
@@ -113,6 +127,7 @@ fn a_subcommand_without_a_path_is_refused(rt: HostRuntime) {
     assert!(rt; refusal(alloc, &["vsync", "world"]) == wanted, "world");
     assert!(rt; refusal(alloc, &["vsync", "chat"]) == wanted, "chat");
     assert!(rt; refusal(alloc, &["vsync", "packets"]) == wanted, "packets");
+    assert!(rt; refusal(alloc, &["vsync", "draw", "--trace"]) == wanted, "draw --trace");
 }
 
 #[test]

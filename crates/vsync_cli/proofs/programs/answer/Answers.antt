@@ -12,3 +12,9 @@ returns-in-Packets g c = search rules
 
 pub returns-in-Check : goal.returns-in-Check
 returns-in-Check g c = search rules
+
+pub returns-in-Draw : goal.returns-in-Draw
+returns-in-Draw g c = search rules
+
+pub returns-in-DrawTrace : goal.returns-in-DrawTrace
+returns-in-DrawTrace g c = search rules
