@@ -1,0 +1,9 @@
+//! The tests of the replicated map, and of what reads bytes and keeps entries by their keys below it.
+#![tactic(auto)]
+
+#[cfg(test)]
+mod entries_tests;
+#[cfg(test)]
+mod map_tests;
+#[cfg(test)]
+mod reading_tests;
