@@ -127,7 +127,10 @@ fn a_subcommand_without_a_path_is_refused(rt: HostRuntime) {
     assert!(rt; refusal(alloc, &["vsync", "world"]) == wanted, "world");
     assert!(rt; refusal(alloc, &["vsync", "chat"]) == wanted, "chat");
     assert!(rt; refusal(alloc, &["vsync", "packets"]) == wanted, "packets");
-    assert!(rt; refusal(alloc, &["vsync", "draw", "--trace"]) == wanted, "draw --trace");
+    assert!(rt;
+        refusal(alloc, &["vsync", "draw", "--trace"]) == wanted,
+        "draw --trace"
+    );
 }
 
 #[test]
