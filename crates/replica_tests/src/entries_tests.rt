@@ -1,4 +1,4 @@
-use keyed_entries::{Entry, KeyBytes, Place, find, is_rising, key_from, look_ups, put_key};
+use keyed_entries::{Entry, KeyBytes, is_rising, key_from, look_ups, put_key};
 use reading::Reader;
 use std::alloc::{AllocError, Global};
 use trace_props::Bytes;
@@ -16,27 +16,9 @@ fn entries_of(alloc: Global, keys: &[&[u8]]) -> Result<Vec<Entry<u64>>, AllocErr
     Ok(entries)
 }
 
-// The place of a key among entries, where their keys rise.
-fn place_of(entries: &[Entry<u64>], key: &[u8]) -> Option<Place> {
-    if is_rising(entries) {
-        Some(find(entries, key))
-    } else {
-        None
-    }
-}
-
-#[test]
-fn a_key_is_found(rt: HostRuntime) {
-    look_ups::<u64>();
-    let Ok(entries) = entries_of(rt.alloc(), &[b"a", b"b", b"bc"]) else {
-        return;
-    };
-    assert!(rt; matches!(place_of(entries.as_slice(), b"bc"), Some(Place::Held(2))));
-    assert!(rt; matches!(place_of(entries.as_slice(), b"ab"), Some(Place::Free(1))));
-}
-
 #[test]
 fn equal_keys_do_not_rise(rt: HostRuntime) {
+    look_ups::<u64>();
     let Ok(entries) = entries_of(rt.alloc(), &[b"a", b"a"]) else {
         return;
     };
