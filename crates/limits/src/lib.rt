@@ -11,8 +11,14 @@ pub const MEMBERS: usize = 16;
 /// The longest payload of a message, in bytes.
 pub const PAYLOAD: usize = 512;
 
-/// The longest state that a receiver may give and a packet can carry, in bytes.
-pub const STATE: usize = 16_384;
+/// The longest state that a receiver may give, in bytes.
+pub const STATE: usize = 1_048_576;
+
+/// The longest state that an INSTALL carries itself, in bytes; a longer one goes in chunks before it.
+pub const WHOLE_STATE: usize = 4_096;
+
+/// How many bytes of a state a STATE carries, in bytes; the last one carries what is left.
+pub const CHUNK: usize = 32_768;
 
 /// The most own messages of a member that it has sent and that were not delivered to it yet, and of one sender that may wait to be ordered; in messages.
 pub const OUTSTANDING: u64 = 8;
@@ -43,13 +49,13 @@ pub const DATAGRAM: usize = 40_000;
 pub const MAGIC: u16 = 22_099;
 
 /// The version of the format of packets, as its number on the wire.
-pub const VERSION: u8 = 1;
+pub const VERSION: u8 = 2;
 
 /// How many kinds of packet there are, numbered from 1.
-pub const KINDS: u8 = 13;
+pub const KINDS: u8 = 14;
 
 /// The longest line of a script, without its line feed, in bytes.
 pub const SCRIPT_LINE: usize = 4_096;
 
 /// The longest line of a trace, without its line feed, in bytes (docs/FORMATS.md, "Trace text").
-pub const TRACE_LINE: usize = 65_536;
+pub const TRACE_LINE: usize = 2_200_000;

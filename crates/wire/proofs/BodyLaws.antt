@@ -10,14 +10,15 @@ use Rattle.wire_values.specs.declared.packet.Body.TheVariants as bodies
 use Rattle.wire_values.specs.Values.{Missing, Progress}
 use Rattle.wire_values.specs.Reading.{Read, ◌>>=◌, number_at}
 use Rattle.wire_values.specs.Fields.{IsAddress, IsViewId, IsEntry, address_bytes, number_bytes, view_id_bytes, payload_bytes, entry_bytes, address_at, view_id_at, payload_at, entry_at}
-use Rattle.wire_values.specs.Lists.{IsView, IsReport, IsInstall, view_bytes, report_bytes, install_bytes, view_at, report_at, install_at}
+use Rattle.wire_values.specs.Lists.{IsView, IsReport, IsInstall, IsChunk, view_bytes, report_bytes, install_bytes, chunk_bytes, view_at, report_at, install_at, chunk_at}
 use Rattle.wire_values.specs.Kinds.{kind_of}
-use Rattle.wire.specs.Packets.{IsBody, body_bytes, redirect_at, forward_at, order_at, nak_at, ack_at, status_at, flush_at, behind_at, reported_at, installed_at, merge_at, body_at}
+use Rattle.wire.specs.Packets.{IsBody, body_bytes, redirect_at, forward_at, order_at, nak_at, ack_at, status_at, flush_at, behind_at, reported_at, installed_at, merge_at, sent_state_at, body_at}
 use Rattle.big_endian.specs.Spelled.{IsBytes}
 use Rattle.big_endian.proofs.Bytes.{wide8}
 use Rattle.wire_values.proofs.FieldLaws.{bind_ok, ok_is, along, Takes, Takes-then, IsPart, address_part, view_id_part, payload_part, entry_part, number_takes, eight_again}
 use Rattle.wire_values.proofs.MemberLaws.{view_part}
 use Rattle.wire.proofs.InstallLaws.{report_part, install_part}
+use Rattle.wire.proofs.ChunkLaws.{chunk_part}
 
 -- a number of eight bytes is a part
 abbrev within : ℕ → ℕ → ℕ → Type 0
@@ -151,6 +152,12 @@ merge_takes bytes found fits e =
     let f = one_found view_at view_bytes IsView view_part (λ v. bodies.Merge v) bytes found fits e in
     along (Took 13 bytes) (bodies.Merge f.0, f.1) found f.2 (record { takes = f.3; is = f.4; kind_is = refl })
 
+sent_state_takes : (bytes : List ℕ) (found : Body × List ℕ) → IsBytes bytes → sent_state_at bytes ≡ Ok found → Took 14 bytes found
+unfolding sent_state_at
+sent_state_takes bytes found fits e =
+    let f = two_found view_id_at view_id_bytes IsViewId view_id_part chunk_at chunk_bytes IsChunk chunk_part (λ v c. bodies.State v c) bytes found fits e in
+    along (Took 14 bytes) (bodies.State f.0 f.1, f.2) found f.3 (record { takes = f.4; is = (f.5, f.6); kind_is = refl })
+
 -- ---- all kinds
 
 -- a test that chose the first
@@ -171,88 +178,94 @@ leave_takes bytes found fits e = along (Took 3 bytes) (bodies.Leave, bytes) foun
 past : (kind k : ℕ) → k ≤ kind → eqb kind k ≡ false → k + 1 ≤ kind
 past kind k some e = grind (arith, nat_tests)
 
-at_13 : (kind : ℕ) → 12 ≤ kind → kind ≤ 13 → eqb kind 12 ≡ false → kind ≡ 13
-at_13 kind some few e = grind (arith, nat_tests)
+at_14 : (kind : ℕ) → 13 ≤ kind → kind ≤ 14 → eqb kind 13 ≡ false → kind ≡ 14
+at_14 kind some few e = grind (arith, nat_tests)
 
 -- from each kind on
-from_13 : (kind : ℕ) (bytes : List ℕ) (found : Body × List ℕ) → IsBytes bytes → kind ≡ 13 → cond (eqb kind 13) (merge_at bytes) (Err Kind) ≡ Ok found → Took kind bytes found
-from_13 kind bytes found fits k e =
-    let t = merge_takes bytes found fits (sym (cond-true (eqb kind 13) (merge_at bytes) (Err Kind) (eq-eqb kind 13 k)) ∙ e) in
+from_14 : (kind : ℕ) (bytes : List ℕ) (found : Body × List ℕ) → IsBytes bytes → kind ≡ 14 → cond (eqb kind 14) (sent_state_at bytes) (Err Kind) ≡ Ok found → Took kind bytes found
+from_14 kind bytes found fits k e =
+    let t = sent_state_takes bytes found fits (sym (cond-true (eqb kind 14) (sent_state_at bytes) (Err Kind) (eq-eqb kind 14 k)) ∙ e) in
     record { takes = t.takes; is = t.is; kind_is = t.kind_is ∙ sym k }
 
-from_12 : (kind : ℕ) (bytes : List ℕ) (found : Body × List ℕ) → IsBytes bytes → 12 ≤ kind → kind ≤ 13 → cond (eqb kind 12) (installed_at bytes) (cond (eqb kind 13) (merge_at bytes) (Err Kind)) ≡ Ok found → Took kind bytes found
-from_12 kind bytes found fits some few e =
-    first_of (eqb kind 12) (installed_at bytes) (cond (eqb kind 13) (merge_at bytes) (Err Kind)) found (Took kind bytes found)
-    (λ t r. as_kind kind 12 bytes found t (installed_takes bytes found fits r))
-    (λ t r. from_13 kind bytes found fits (at_13 kind some few t) r) e
+from_13 : (kind : ℕ) (bytes : List ℕ) (found : Body × List ℕ) → IsBytes bytes → 13 ≤ kind → kind ≤ 14 → cond (eqb kind 13) (merge_at bytes) (cond (eqb kind 14) (sent_state_at bytes) (Err Kind)) ≡ Ok found → Took kind bytes found
+from_13 kind bytes found fits some few e =
+    first_of (eqb kind 13) (merge_at bytes) (cond (eqb kind 14) (sent_state_at bytes) (Err Kind)) found (Took kind bytes found)
+    (λ t r. as_kind kind 13 bytes found t (merge_takes bytes found fits r))
+    (λ t r. from_14 kind bytes found fits (at_14 kind some few t) r) e
 
-from_11 : (kind : ℕ) (bytes : List ℕ) (found : Body × List ℕ) → IsBytes bytes → 11 ≤ kind → kind ≤ 13 → cond (eqb kind 11) (reported_at bytes) (cond (eqb kind 12) (installed_at bytes) (cond (eqb kind 13) (merge_at bytes) (Err Kind))) ≡ Ok found → Took kind bytes found
+from_12 : (kind : ℕ) (bytes : List ℕ) (found : Body × List ℕ) → IsBytes bytes → 12 ≤ kind → kind ≤ 14 → cond (eqb kind 12) (installed_at bytes) (cond (eqb kind 13) (merge_at bytes) (cond (eqb kind 14) (sent_state_at bytes) (Err Kind))) ≡ Ok found → Took kind bytes found
+from_12 kind bytes found fits some few e =
+    first_of (eqb kind 12) (installed_at bytes) (cond (eqb kind 13) (merge_at bytes) (cond (eqb kind 14) (sent_state_at bytes) (Err Kind))) found (Took kind bytes found)
+    (λ t r. as_kind kind 12 bytes found t (installed_takes bytes found fits r))
+    (λ t r. from_13 kind bytes found fits (past kind 12 some t) few r) e
+
+from_11 : (kind : ℕ) (bytes : List ℕ) (found : Body × List ℕ) → IsBytes bytes → 11 ≤ kind → kind ≤ 14 → cond (eqb kind 11) (reported_at bytes) (cond (eqb kind 12) (installed_at bytes) (cond (eqb kind 13) (merge_at bytes) (cond (eqb kind 14) (sent_state_at bytes) (Err Kind)))) ≡ Ok found → Took kind bytes found
 from_11 kind bytes found fits some few e =
-    first_of (eqb kind 11) (reported_at bytes) (cond (eqb kind 12) (installed_at bytes) (cond (eqb kind 13) (merge_at bytes) (Err Kind))) found (Took kind bytes found)
+    first_of (eqb kind 11) (reported_at bytes) (cond (eqb kind 12) (installed_at bytes) (cond (eqb kind 13) (merge_at bytes) (cond (eqb kind 14) (sent_state_at bytes) (Err Kind)))) found (Took kind bytes found)
     (λ t r. as_kind kind 11 bytes found t (reported_takes bytes found fits r))
     (λ t r. from_12 kind bytes found fits (past kind 11 some t) few r) e
 
-from_10 : (kind : ℕ) (bytes : List ℕ) (found : Body × List ℕ) → IsBytes bytes → 10 ≤ kind → kind ≤ 13 → cond (eqb kind 10) (behind_at bytes) (cond (eqb kind 11) (reported_at bytes) (cond (eqb kind 12) (installed_at bytes) (cond (eqb kind 13) (merge_at bytes) (Err Kind)))) ≡ Ok found → Took kind bytes found
+from_10 : (kind : ℕ) (bytes : List ℕ) (found : Body × List ℕ) → IsBytes bytes → 10 ≤ kind → kind ≤ 14 → cond (eqb kind 10) (behind_at bytes) (cond (eqb kind 11) (reported_at bytes) (cond (eqb kind 12) (installed_at bytes) (cond (eqb kind 13) (merge_at bytes) (cond (eqb kind 14) (sent_state_at bytes) (Err Kind))))) ≡ Ok found → Took kind bytes found
 from_10 kind bytes found fits some few e =
-    first_of (eqb kind 10) (behind_at bytes) (cond (eqb kind 11) (reported_at bytes) (cond (eqb kind 12) (installed_at bytes) (cond (eqb kind 13) (merge_at bytes) (Err Kind)))) found (Took kind bytes found)
+    first_of (eqb kind 10) (behind_at bytes) (cond (eqb kind 11) (reported_at bytes) (cond (eqb kind 12) (installed_at bytes) (cond (eqb kind 13) (merge_at bytes) (cond (eqb kind 14) (sent_state_at bytes) (Err Kind))))) found (Took kind bytes found)
     (λ t r. as_kind kind 10 bytes found t (behind_takes bytes found fits r))
     (λ t r. from_11 kind bytes found fits (past kind 10 some t) few r) e
 
-from_9 : (kind : ℕ) (bytes : List ℕ) (found : Body × List ℕ) → IsBytes bytes → 9 ≤ kind → kind ≤ 13 → cond (eqb kind 9) (flush_at bytes) (cond (eqb kind 10) (behind_at bytes) (cond (eqb kind 11) (reported_at bytes) (cond (eqb kind 12) (installed_at bytes) (cond (eqb kind 13) (merge_at bytes) (Err Kind))))) ≡ Ok found → Took kind bytes found
+from_9 : (kind : ℕ) (bytes : List ℕ) (found : Body × List ℕ) → IsBytes bytes → 9 ≤ kind → kind ≤ 14 → cond (eqb kind 9) (flush_at bytes) (cond (eqb kind 10) (behind_at bytes) (cond (eqb kind 11) (reported_at bytes) (cond (eqb kind 12) (installed_at bytes) (cond (eqb kind 13) (merge_at bytes) (cond (eqb kind 14) (sent_state_at bytes) (Err Kind)))))) ≡ Ok found → Took kind bytes found
 from_9 kind bytes found fits some few e =
-    first_of (eqb kind 9) (flush_at bytes) (cond (eqb kind 10) (behind_at bytes) (cond (eqb kind 11) (reported_at bytes) (cond (eqb kind 12) (installed_at bytes) (cond (eqb kind 13) (merge_at bytes) (Err Kind))))) found (Took kind bytes found)
+    first_of (eqb kind 9) (flush_at bytes) (cond (eqb kind 10) (behind_at bytes) (cond (eqb kind 11) (reported_at bytes) (cond (eqb kind 12) (installed_at bytes) (cond (eqb kind 13) (merge_at bytes) (cond (eqb kind 14) (sent_state_at bytes) (Err Kind)))))) found (Took kind bytes found)
     (λ t r. as_kind kind 9 bytes found t (flush_takes bytes found fits r))
     (λ t r. from_10 kind bytes found fits (past kind 9 some t) few r) e
 
-from_8 : (kind : ℕ) (bytes : List ℕ) (found : Body × List ℕ) → IsBytes bytes → 8 ≤ kind → kind ≤ 13 → cond (eqb kind 8) (status_at bytes) (cond (eqb kind 9) (flush_at bytes) (cond (eqb kind 10) (behind_at bytes) (cond (eqb kind 11) (reported_at bytes) (cond (eqb kind 12) (installed_at bytes) (cond (eqb kind 13) (merge_at bytes) (Err Kind)))))) ≡ Ok found → Took kind bytes found
+from_8 : (kind : ℕ) (bytes : List ℕ) (found : Body × List ℕ) → IsBytes bytes → 8 ≤ kind → kind ≤ 14 → cond (eqb kind 8) (status_at bytes) (cond (eqb kind 9) (flush_at bytes) (cond (eqb kind 10) (behind_at bytes) (cond (eqb kind 11) (reported_at bytes) (cond (eqb kind 12) (installed_at bytes) (cond (eqb kind 13) (merge_at bytes) (cond (eqb kind 14) (sent_state_at bytes) (Err Kind))))))) ≡ Ok found → Took kind bytes found
 from_8 kind bytes found fits some few e =
-    first_of (eqb kind 8) (status_at bytes) (cond (eqb kind 9) (flush_at bytes) (cond (eqb kind 10) (behind_at bytes) (cond (eqb kind 11) (reported_at bytes) (cond (eqb kind 12) (installed_at bytes) (cond (eqb kind 13) (merge_at bytes) (Err Kind)))))) found (Took kind bytes found)
+    first_of (eqb kind 8) (status_at bytes) (cond (eqb kind 9) (flush_at bytes) (cond (eqb kind 10) (behind_at bytes) (cond (eqb kind 11) (reported_at bytes) (cond (eqb kind 12) (installed_at bytes) (cond (eqb kind 13) (merge_at bytes) (cond (eqb kind 14) (sent_state_at bytes) (Err Kind))))))) found (Took kind bytes found)
     (λ t r. as_kind kind 8 bytes found t (status_takes bytes found fits r))
     (λ t r. from_9 kind bytes found fits (past kind 8 some t) few r) e
 
-from_7 : (kind : ℕ) (bytes : List ℕ) (found : Body × List ℕ) → IsBytes bytes → 7 ≤ kind → kind ≤ 13 → cond (eqb kind 7) (ack_at bytes) (cond (eqb kind 8) (status_at bytes) (cond (eqb kind 9) (flush_at bytes) (cond (eqb kind 10) (behind_at bytes) (cond (eqb kind 11) (reported_at bytes) (cond (eqb kind 12) (installed_at bytes) (cond (eqb kind 13) (merge_at bytes) (Err Kind))))))) ≡ Ok found → Took kind bytes found
+from_7 : (kind : ℕ) (bytes : List ℕ) (found : Body × List ℕ) → IsBytes bytes → 7 ≤ kind → kind ≤ 14 → cond (eqb kind 7) (ack_at bytes) (cond (eqb kind 8) (status_at bytes) (cond (eqb kind 9) (flush_at bytes) (cond (eqb kind 10) (behind_at bytes) (cond (eqb kind 11) (reported_at bytes) (cond (eqb kind 12) (installed_at bytes) (cond (eqb kind 13) (merge_at bytes) (cond (eqb kind 14) (sent_state_at bytes) (Err Kind)))))))) ≡ Ok found → Took kind bytes found
 from_7 kind bytes found fits some few e =
-    first_of (eqb kind 7) (ack_at bytes) (cond (eqb kind 8) (status_at bytes) (cond (eqb kind 9) (flush_at bytes) (cond (eqb kind 10) (behind_at bytes) (cond (eqb kind 11) (reported_at bytes) (cond (eqb kind 12) (installed_at bytes) (cond (eqb kind 13) (merge_at bytes) (Err Kind))))))) found (Took kind bytes found)
+    first_of (eqb kind 7) (ack_at bytes) (cond (eqb kind 8) (status_at bytes) (cond (eqb kind 9) (flush_at bytes) (cond (eqb kind 10) (behind_at bytes) (cond (eqb kind 11) (reported_at bytes) (cond (eqb kind 12) (installed_at bytes) (cond (eqb kind 13) (merge_at bytes) (cond (eqb kind 14) (sent_state_at bytes) (Err Kind)))))))) found (Took kind bytes found)
     (λ t r. as_kind kind 7 bytes found t (ack_takes bytes found fits r))
     (λ t r. from_8 kind bytes found fits (past kind 7 some t) few r) e
 
-from_6 : (kind : ℕ) (bytes : List ℕ) (found : Body × List ℕ) → IsBytes bytes → 6 ≤ kind → kind ≤ 13 → cond (eqb kind 6) (nak_at bytes) (cond (eqb kind 7) (ack_at bytes) (cond (eqb kind 8) (status_at bytes) (cond (eqb kind 9) (flush_at bytes) (cond (eqb kind 10) (behind_at bytes) (cond (eqb kind 11) (reported_at bytes) (cond (eqb kind 12) (installed_at bytes) (cond (eqb kind 13) (merge_at bytes) (Err Kind)))))))) ≡ Ok found → Took kind bytes found
+from_6 : (kind : ℕ) (bytes : List ℕ) (found : Body × List ℕ) → IsBytes bytes → 6 ≤ kind → kind ≤ 14 → cond (eqb kind 6) (nak_at bytes) (cond (eqb kind 7) (ack_at bytes) (cond (eqb kind 8) (status_at bytes) (cond (eqb kind 9) (flush_at bytes) (cond (eqb kind 10) (behind_at bytes) (cond (eqb kind 11) (reported_at bytes) (cond (eqb kind 12) (installed_at bytes) (cond (eqb kind 13) (merge_at bytes) (cond (eqb kind 14) (sent_state_at bytes) (Err Kind))))))))) ≡ Ok found → Took kind bytes found
 from_6 kind bytes found fits some few e =
-    first_of (eqb kind 6) (nak_at bytes) (cond (eqb kind 7) (ack_at bytes) (cond (eqb kind 8) (status_at bytes) (cond (eqb kind 9) (flush_at bytes) (cond (eqb kind 10) (behind_at bytes) (cond (eqb kind 11) (reported_at bytes) (cond (eqb kind 12) (installed_at bytes) (cond (eqb kind 13) (merge_at bytes) (Err Kind)))))))) found (Took kind bytes found)
+    first_of (eqb kind 6) (nak_at bytes) (cond (eqb kind 7) (ack_at bytes) (cond (eqb kind 8) (status_at bytes) (cond (eqb kind 9) (flush_at bytes) (cond (eqb kind 10) (behind_at bytes) (cond (eqb kind 11) (reported_at bytes) (cond (eqb kind 12) (installed_at bytes) (cond (eqb kind 13) (merge_at bytes) (cond (eqb kind 14) (sent_state_at bytes) (Err Kind))))))))) found (Took kind bytes found)
     (λ t r. as_kind kind 6 bytes found t (nak_takes bytes found fits r))
     (λ t r. from_7 kind bytes found fits (past kind 6 some t) few r) e
 
-from_5 : (kind : ℕ) (bytes : List ℕ) (found : Body × List ℕ) → IsBytes bytes → 5 ≤ kind → kind ≤ 13 → cond (eqb kind 5) (order_at bytes) (cond (eqb kind 6) (nak_at bytes) (cond (eqb kind 7) (ack_at bytes) (cond (eqb kind 8) (status_at bytes) (cond (eqb kind 9) (flush_at bytes) (cond (eqb kind 10) (behind_at bytes) (cond (eqb kind 11) (reported_at bytes) (cond (eqb kind 12) (installed_at bytes) (cond (eqb kind 13) (merge_at bytes) (Err Kind))))))))) ≡ Ok found → Took kind bytes found
+from_5 : (kind : ℕ) (bytes : List ℕ) (found : Body × List ℕ) → IsBytes bytes → 5 ≤ kind → kind ≤ 14 → cond (eqb kind 5) (order_at bytes) (cond (eqb kind 6) (nak_at bytes) (cond (eqb kind 7) (ack_at bytes) (cond (eqb kind 8) (status_at bytes) (cond (eqb kind 9) (flush_at bytes) (cond (eqb kind 10) (behind_at bytes) (cond (eqb kind 11) (reported_at bytes) (cond (eqb kind 12) (installed_at bytes) (cond (eqb kind 13) (merge_at bytes) (cond (eqb kind 14) (sent_state_at bytes) (Err Kind)))))))))) ≡ Ok found → Took kind bytes found
 from_5 kind bytes found fits some few e =
-    first_of (eqb kind 5) (order_at bytes) (cond (eqb kind 6) (nak_at bytes) (cond (eqb kind 7) (ack_at bytes) (cond (eqb kind 8) (status_at bytes) (cond (eqb kind 9) (flush_at bytes) (cond (eqb kind 10) (behind_at bytes) (cond (eqb kind 11) (reported_at bytes) (cond (eqb kind 12) (installed_at bytes) (cond (eqb kind 13) (merge_at bytes) (Err Kind))))))))) found (Took kind bytes found)
+    first_of (eqb kind 5) (order_at bytes) (cond (eqb kind 6) (nak_at bytes) (cond (eqb kind 7) (ack_at bytes) (cond (eqb kind 8) (status_at bytes) (cond (eqb kind 9) (flush_at bytes) (cond (eqb kind 10) (behind_at bytes) (cond (eqb kind 11) (reported_at bytes) (cond (eqb kind 12) (installed_at bytes) (cond (eqb kind 13) (merge_at bytes) (cond (eqb kind 14) (sent_state_at bytes) (Err Kind)))))))))) found (Took kind bytes found)
     (λ t r. as_kind kind 5 bytes found t (order_takes bytes found fits r))
     (λ t r. from_6 kind bytes found fits (past kind 5 some t) few r) e
 
-from_4 : (kind : ℕ) (bytes : List ℕ) (found : Body × List ℕ) → IsBytes bytes → 4 ≤ kind → kind ≤ 13 → cond (eqb kind 4) (forward_at bytes) (cond (eqb kind 5) (order_at bytes) (cond (eqb kind 6) (nak_at bytes) (cond (eqb kind 7) (ack_at bytes) (cond (eqb kind 8) (status_at bytes) (cond (eqb kind 9) (flush_at bytes) (cond (eqb kind 10) (behind_at bytes) (cond (eqb kind 11) (reported_at bytes) (cond (eqb kind 12) (installed_at bytes) (cond (eqb kind 13) (merge_at bytes) (Err Kind)))))))))) ≡ Ok found → Took kind bytes found
+from_4 : (kind : ℕ) (bytes : List ℕ) (found : Body × List ℕ) → IsBytes bytes → 4 ≤ kind → kind ≤ 14 → cond (eqb kind 4) (forward_at bytes) (cond (eqb kind 5) (order_at bytes) (cond (eqb kind 6) (nak_at bytes) (cond (eqb kind 7) (ack_at bytes) (cond (eqb kind 8) (status_at bytes) (cond (eqb kind 9) (flush_at bytes) (cond (eqb kind 10) (behind_at bytes) (cond (eqb kind 11) (reported_at bytes) (cond (eqb kind 12) (installed_at bytes) (cond (eqb kind 13) (merge_at bytes) (cond (eqb kind 14) (sent_state_at bytes) (Err Kind))))))))))) ≡ Ok found → Took kind bytes found
 from_4 kind bytes found fits some few e =
-    first_of (eqb kind 4) (forward_at bytes) (cond (eqb kind 5) (order_at bytes) (cond (eqb kind 6) (nak_at bytes) (cond (eqb kind 7) (ack_at bytes) (cond (eqb kind 8) (status_at bytes) (cond (eqb kind 9) (flush_at bytes) (cond (eqb kind 10) (behind_at bytes) (cond (eqb kind 11) (reported_at bytes) (cond (eqb kind 12) (installed_at bytes) (cond (eqb kind 13) (merge_at bytes) (Err Kind)))))))))) found (Took kind bytes found)
+    first_of (eqb kind 4) (forward_at bytes) (cond (eqb kind 5) (order_at bytes) (cond (eqb kind 6) (nak_at bytes) (cond (eqb kind 7) (ack_at bytes) (cond (eqb kind 8) (status_at bytes) (cond (eqb kind 9) (flush_at bytes) (cond (eqb kind 10) (behind_at bytes) (cond (eqb kind 11) (reported_at bytes) (cond (eqb kind 12) (installed_at bytes) (cond (eqb kind 13) (merge_at bytes) (cond (eqb kind 14) (sent_state_at bytes) (Err Kind))))))))))) found (Took kind bytes found)
     (λ t r. as_kind kind 4 bytes found t (forward_takes bytes found fits r))
     (λ t r. from_5 kind bytes found fits (past kind 4 some t) few r) e
 
-from_3 : (kind : ℕ) (bytes : List ℕ) (found : Body × List ℕ) → IsBytes bytes → 3 ≤ kind → kind ≤ 13 → cond (eqb kind 3) (Ok (bodies.Leave, bytes)) (cond (eqb kind 4) (forward_at bytes) (cond (eqb kind 5) (order_at bytes) (cond (eqb kind 6) (nak_at bytes) (cond (eqb kind 7) (ack_at bytes) (cond (eqb kind 8) (status_at bytes) (cond (eqb kind 9) (flush_at bytes) (cond (eqb kind 10) (behind_at bytes) (cond (eqb kind 11) (reported_at bytes) (cond (eqb kind 12) (installed_at bytes) (cond (eqb kind 13) (merge_at bytes) (Err Kind))))))))))) ≡ Ok found → Took kind bytes found
+from_3 : (kind : ℕ) (bytes : List ℕ) (found : Body × List ℕ) → IsBytes bytes → 3 ≤ kind → kind ≤ 14 → cond (eqb kind 3) (Ok (bodies.Leave, bytes)) (cond (eqb kind 4) (forward_at bytes) (cond (eqb kind 5) (order_at bytes) (cond (eqb kind 6) (nak_at bytes) (cond (eqb kind 7) (ack_at bytes) (cond (eqb kind 8) (status_at bytes) (cond (eqb kind 9) (flush_at bytes) (cond (eqb kind 10) (behind_at bytes) (cond (eqb kind 11) (reported_at bytes) (cond (eqb kind 12) (installed_at bytes) (cond (eqb kind 13) (merge_at bytes) (cond (eqb kind 14) (sent_state_at bytes) (Err Kind)))))))))))) ≡ Ok found → Took kind bytes found
 from_3 kind bytes found fits some few e =
-    first_of (eqb kind 3) (Ok (bodies.Leave, bytes)) (cond (eqb kind 4) (forward_at bytes) (cond (eqb kind 5) (order_at bytes) (cond (eqb kind 6) (nak_at bytes) (cond (eqb kind 7) (ack_at bytes) (cond (eqb kind 8) (status_at bytes) (cond (eqb kind 9) (flush_at bytes) (cond (eqb kind 10) (behind_at bytes) (cond (eqb kind 11) (reported_at bytes) (cond (eqb kind 12) (installed_at bytes) (cond (eqb kind 13) (merge_at bytes) (Err Kind))))))))))) found (Took kind bytes found)
+    first_of (eqb kind 3) (Ok (bodies.Leave, bytes)) (cond (eqb kind 4) (forward_at bytes) (cond (eqb kind 5) (order_at bytes) (cond (eqb kind 6) (nak_at bytes) (cond (eqb kind 7) (ack_at bytes) (cond (eqb kind 8) (status_at bytes) (cond (eqb kind 9) (flush_at bytes) (cond (eqb kind 10) (behind_at bytes) (cond (eqb kind 11) (reported_at bytes) (cond (eqb kind 12) (installed_at bytes) (cond (eqb kind 13) (merge_at bytes) (cond (eqb kind 14) (sent_state_at bytes) (Err Kind)))))))))))) found (Took kind bytes found)
     (λ t r. as_kind kind 3 bytes found t (leave_takes bytes found fits (ok_is (bodies.Leave, bytes) found r)))
     (λ t r. from_4 kind bytes found fits (past kind 3 some t) few r) e
 
-from_2 : (kind : ℕ) (bytes : List ℕ) (found : Body × List ℕ) → IsBytes bytes → 2 ≤ kind → kind ≤ 13 → cond (eqb kind 2) (redirect_at bytes) (cond (eqb kind 3) (Ok (bodies.Leave, bytes)) (cond (eqb kind 4) (forward_at bytes) (cond (eqb kind 5) (order_at bytes) (cond (eqb kind 6) (nak_at bytes) (cond (eqb kind 7) (ack_at bytes) (cond (eqb kind 8) (status_at bytes) (cond (eqb kind 9) (flush_at bytes) (cond (eqb kind 10) (behind_at bytes) (cond (eqb kind 11) (reported_at bytes) (cond (eqb kind 12) (installed_at bytes) (cond (eqb kind 13) (merge_at bytes) (Err Kind)))))))))))) ≡ Ok found → Took kind bytes found
+from_2 : (kind : ℕ) (bytes : List ℕ) (found : Body × List ℕ) → IsBytes bytes → 2 ≤ kind → kind ≤ 14 → cond (eqb kind 2) (redirect_at bytes) (cond (eqb kind 3) (Ok (bodies.Leave, bytes)) (cond (eqb kind 4) (forward_at bytes) (cond (eqb kind 5) (order_at bytes) (cond (eqb kind 6) (nak_at bytes) (cond (eqb kind 7) (ack_at bytes) (cond (eqb kind 8) (status_at bytes) (cond (eqb kind 9) (flush_at bytes) (cond (eqb kind 10) (behind_at bytes) (cond (eqb kind 11) (reported_at bytes) (cond (eqb kind 12) (installed_at bytes) (cond (eqb kind 13) (merge_at bytes) (cond (eqb kind 14) (sent_state_at bytes) (Err Kind))))))))))))) ≡ Ok found → Took kind bytes found
 from_2 kind bytes found fits some few e =
-    first_of (eqb kind 2) (redirect_at bytes) (cond (eqb kind 3) (Ok (bodies.Leave, bytes)) (cond (eqb kind 4) (forward_at bytes) (cond (eqb kind 5) (order_at bytes) (cond (eqb kind 6) (nak_at bytes) (cond (eqb kind 7) (ack_at bytes) (cond (eqb kind 8) (status_at bytes) (cond (eqb kind 9) (flush_at bytes) (cond (eqb kind 10) (behind_at bytes) (cond (eqb kind 11) (reported_at bytes) (cond (eqb kind 12) (installed_at bytes) (cond (eqb kind 13) (merge_at bytes) (Err Kind)))))))))))) found (Took kind bytes found)
+    first_of (eqb kind 2) (redirect_at bytes) (cond (eqb kind 3) (Ok (bodies.Leave, bytes)) (cond (eqb kind 4) (forward_at bytes) (cond (eqb kind 5) (order_at bytes) (cond (eqb kind 6) (nak_at bytes) (cond (eqb kind 7) (ack_at bytes) (cond (eqb kind 8) (status_at bytes) (cond (eqb kind 9) (flush_at bytes) (cond (eqb kind 10) (behind_at bytes) (cond (eqb kind 11) (reported_at bytes) (cond (eqb kind 12) (installed_at bytes) (cond (eqb kind 13) (merge_at bytes) (cond (eqb kind 14) (sent_state_at bytes) (Err Kind))))))))))))) found (Took kind bytes found)
     (λ t r. as_kind kind 2 bytes found t (redirect_takes bytes found fits r))
     (λ t r. from_3 kind bytes found fits (past kind 2 some t) few r) e
 
-from_1 : (kind : ℕ) (bytes : List ℕ) (found : Body × List ℕ) → IsBytes bytes → 1 ≤ kind → kind ≤ 13 → cond (eqb kind 1) (Ok (bodies.Join, bytes)) (cond (eqb kind 2) (redirect_at bytes) (cond (eqb kind 3) (Ok (bodies.Leave, bytes)) (cond (eqb kind 4) (forward_at bytes) (cond (eqb kind 5) (order_at bytes) (cond (eqb kind 6) (nak_at bytes) (cond (eqb kind 7) (ack_at bytes) (cond (eqb kind 8) (status_at bytes) (cond (eqb kind 9) (flush_at bytes) (cond (eqb kind 10) (behind_at bytes) (cond (eqb kind 11) (reported_at bytes) (cond (eqb kind 12) (installed_at bytes) (cond (eqb kind 13) (merge_at bytes) (Err Kind))))))))))))) ≡ Ok found → Took kind bytes found
+from_1 : (kind : ℕ) (bytes : List ℕ) (found : Body × List ℕ) → IsBytes bytes → 1 ≤ kind → kind ≤ 14 → cond (eqb kind 1) (Ok (bodies.Join, bytes)) (cond (eqb kind 2) (redirect_at bytes) (cond (eqb kind 3) (Ok (bodies.Leave, bytes)) (cond (eqb kind 4) (forward_at bytes) (cond (eqb kind 5) (order_at bytes) (cond (eqb kind 6) (nak_at bytes) (cond (eqb kind 7) (ack_at bytes) (cond (eqb kind 8) (status_at bytes) (cond (eqb kind 9) (flush_at bytes) (cond (eqb kind 10) (behind_at bytes) (cond (eqb kind 11) (reported_at bytes) (cond (eqb kind 12) (installed_at bytes) (cond (eqb kind 13) (merge_at bytes) (cond (eqb kind 14) (sent_state_at bytes) (Err Kind)))))))))))))) ≡ Ok found → Took kind bytes found
 from_1 kind bytes found fits some few e =
-    first_of (eqb kind 1) (Ok (bodies.Join, bytes)) (cond (eqb kind 2) (redirect_at bytes) (cond (eqb kind 3) (Ok (bodies.Leave, bytes)) (cond (eqb kind 4) (forward_at bytes) (cond (eqb kind 5) (order_at bytes) (cond (eqb kind 6) (nak_at bytes) (cond (eqb kind 7) (ack_at bytes) (cond (eqb kind 8) (status_at bytes) (cond (eqb kind 9) (flush_at bytes) (cond (eqb kind 10) (behind_at bytes) (cond (eqb kind 11) (reported_at bytes) (cond (eqb kind 12) (installed_at bytes) (cond (eqb kind 13) (merge_at bytes) (Err Kind))))))))))))) found (Took kind bytes found)
+    first_of (eqb kind 1) (Ok (bodies.Join, bytes)) (cond (eqb kind 2) (redirect_at bytes) (cond (eqb kind 3) (Ok (bodies.Leave, bytes)) (cond (eqb kind 4) (forward_at bytes) (cond (eqb kind 5) (order_at bytes) (cond (eqb kind 6) (nak_at bytes) (cond (eqb kind 7) (ack_at bytes) (cond (eqb kind 8) (status_at bytes) (cond (eqb kind 9) (flush_at bytes) (cond (eqb kind 10) (behind_at bytes) (cond (eqb kind 11) (reported_at bytes) (cond (eqb kind 12) (installed_at bytes) (cond (eqb kind 13) (merge_at bytes) (cond (eqb kind 14) (sent_state_at bytes) (Err Kind)))))))))))))) found (Took kind bytes found)
     (λ t r. as_kind kind 1 bytes found t (join_takes bytes found fits (ok_is (bodies.Join, bytes) found r)))
     (λ t r. from_2 kind bytes found fits (past kind 1 some t) few r) e
 
-pub body_takes : (kind : ℕ) (bytes : List ℕ) (found : Body × List ℕ) → IsBytes bytes → 1 ≤ kind → kind ≤ 13 → body_at kind bytes ≡ Ok found → Took kind bytes found
+pub body_takes : (kind : ℕ) (bytes : List ℕ) (found : Body × List ℕ) → IsBytes bytes → 1 ≤ kind → kind ≤ 14 → body_at kind bytes ≡ Ok found → Took kind bytes found
 unfolding body_at
 body_takes kind bytes found fits some few e = from_1 kind bytes found fits some few e
 
@@ -278,7 +291,7 @@ three_again ra sa Fa pa rb sb Fb pb rc sc make x y z rest fx fy again =
     ∙ rw (pa.again x (sb y ++ (sc z ++ rest)) fx, pb.again y (sc z ++ rest) fy, again) refl
 
 pub body_again : (b : Body) (rest : List ℕ) → IsBody b → body_at (kind_of b) (body_bytes b ++ rest) ≡ Ok (b, rest)
-unfolding body_at redirect_at forward_at order_at nak_at ack_at status_at flush_at behind_at reported_at installed_at merge_at
+unfolding body_at redirect_at forward_at order_at nak_at ack_at status_at flush_at behind_at reported_at installed_at merge_at sent_state_at
 body_again bodies.Join rest fits = refl
 body_again (bodies.Redirect a) rest fits = rw (address_part.again a rest fits) refl
 body_again bodies.Leave rest fits = refl
@@ -299,3 +312,5 @@ body_again (bodies.Report v r) rest fits =
     two_again view_id_at view_id_bytes IsViewId view_id_part report_at report_bytes IsReport report_part (λ v r. bodies.Report v r) v r rest fits.0 fits.1
 body_again (bodies.Install i) rest fits = rw (install_part.again i rest fits) refl
 body_again (bodies.Merge v) rest fits = rw (view_part.again v rest fits) refl
+body_again (bodies.State v c) rest fits =
+    two_again view_id_at view_id_bytes IsViewId view_id_part chunk_at chunk_bytes IsChunk chunk_part (λ v c. bodies.State v c) v c rest fits.0 fits.1

@@ -1,4 +1,4 @@
--- The laws of a report with its flag, of a state, and of an install.
+-- The laws of a report with its flag, and of an install.
 use Rattle.std.proofs.Common.{◌≡◌, ℕ, ◌+◌, ◌≤◌, Bool, true, false, cond, leb, eqb, ◌&&◌, List, [], ◌++◌, length, Option, Some, None, Result, Ok, refl, sym, ap, subst, ◌∙◌, append_assoc, arith, inl, inr}
 use Rattle.std.specs.Prelude.{IfSome, ◌⊎◌}
 use Rattle.std.specs.List.{flat_map, AllByRecursion}
@@ -13,25 +13,18 @@ use Rattle.view.specs.Members.{View}
 use Rattle.wire_values.specs.declared.error.WireError.{WireError}
 use Rattle.wire_values.specs.declared.error.WireError.TheVariants.{Length, Value}
 use Rattle.wire_values.specs.Values.{Entry, Report, Install, nothing_reported}
+use Rattle.wire_values.specs.declared.values.state.GivenState.{GivenState}
 use Rattle.wire_values.specs.Reading.{◌>>=◌, bytes_at, number_at, list_at}
 use Rattle.wire_values.specs.Fields.{IsAddress, IsViewId, IsEntry, IsPlaced, address_bytes, number_bytes, entry_bytes, entry_at}
-use Rattle.wire_values.specs.Lists.{IsReport, IsInstall, is_filled, is_nothing, is_report, filled_bytes, report_bytes, filled_at, report_at, is_in_order, is_install, addresses_bytes, view_bytes, items_bytes, state_bytes, given_bytes, install_bytes, IsView, view_at, together_at, items_count_at, state_at, given_at, install_at}
+use Rattle.wire_values.specs.Lists.{IsReport, IsInstall, IsGiven, is_filled, is_nothing, is_report, filled_bytes, report_bytes, filled_at, report_at, is_in_order, is_install, addresses_bytes, view_bytes, items_bytes, state_bytes, given_bytes, install_bytes, IsView, view_at, together_at, items_count_at, state_at, given_at, install_at}
 use Rattle.big_endian.specs.Spelled.{IsBytes}
 use Rattle.big_endian.proofs.Bytes.{wide1, wide4, wide8}
 use Rattle.wire_values.proofs.FieldLaws.{bind_ok, ok_is, along, back, Takes, Takes-then, IsPart, entry_part, bytes_takes, bytes_again, number_takes, number_again, eight_again}
+use Rattle.wire.proofs.ChunkLaws.{state_part}
+use Rattle.wire.proofs.FlagLaws.{chosen, flag_one}
 use Rattle.wire_values.proofs.ListLaws.{list_takes, list_again}
 use Rattle.wire_values.proofs.MemberLaws.{view_part, Ordered, together_take, together_again}
 use Rattle.wire.proofs.ReportLaws.{Filled, filled-rules, rules-filled, filled_takes, filled_again, items_count_takes, items_count_again}
-
--- ---- a flag before what may be there
-
-chosen : {A : Type 0} (b : Bool) (r s : Result A WireError) (y : A) → cond b r s ≡ Ok y → ((b ≡ true) × (r ≡ Ok y)) ⊎ ((b ≡ false) × (s ≡ Ok y))
-chosen true r s y e = inl (refl, e)
-chosen false r s y e = inr (refl, e)
-
--- a flag that is not 0 is 1
-flag_one : (n : ℕ) → n ≤ 1 → eqb n 0 ≡ false → n ≡ 1
-flag_one n few e = grind (arith, nat_tests)
 
 -- ---- reports
 
@@ -111,46 +104,6 @@ report_again r rest fits = report_named r.previous refl fits.previous where
 pub report_part : IsPart report_at report_bytes IsReport
 report_part = record { takes = report_takes; again = report_again }
 
--- ---- states
-
-abbrev pub IsState : Option (List ℕ) → Type 0
-IsState o = IfSome o (λ s. length s ≤ STATE)
-
-state_takes : (bytes : List ℕ) (o : Option (List ℕ)) (rest : List ℕ) → IsBytes bytes → state_at bytes ≡ Ok (o, rest) → Takes bytes (state_bytes o) rest × IsState o
-unfolding state_at
-state_takes bytes o rest fits e =
-    let some_at = λ (left : List ℕ). number_at 4 0 STATE Length left >>= λ len. bytes_at len.0 len.1 >>= λ state. Ok (Some state.0, state.1) in
-    let a = bind_ok (number_at 1 0 1 Value bytes) (λ flag. cond (eqb flag.0 0) (Ok (None, flag.1)) (some_at flag.1)) (o, rest) e in
-    let t = number_takes 1 wide1 0 1 Value bytes a.0.0 a.0.1 fits a.1 in
-    elim (chosen (eqb a.0.0 0) (Ok (None, a.0.1)) (some_at a.0.1) (o, rest) a.2) [
-      | inl none ↦
-          let zero_flag : a.0.0 ≡ 0 = eqb-true _ _ none.0 in
-          subst (λ (p : Option (List ℕ) × List ℕ). Takes bytes (state_bytes p.0) p.1 × IsState p.0) (ok_is (None, a.0.1) (o, rest) none.1)
-          (subst (λ (n : ℕ). Takes bytes (big_bytes 1 n) a.0.1) zero_flag t.0, tt)
-      | inr some ↦
-          let one_flag : a.0.0 ≡ 1 = flag_one a.0.0 t.2 some.0 in
-          let b = bind_ok (number_at 4 0 STATE Length a.0.1) (λ len. bytes_at len.0 len.1 >>= λ state. Ok (Some state.0, state.1)) (o, rest) some.1 in
-          let c = bind_ok (bytes_at b.0.0 b.0.1) (λ state. Ok (Some state.0, state.1)) (o, rest) b.2 in
-          let u = number_takes 4 wide4 0 STATE Length a.0.1 b.0.0 b.0.1 t.0.rest_fits b.1 in
-          let v = bytes_takes b.0.0 b.0.1 c.0.0 c.0.1 u.0.rest_fits c.1 in
-          let sized : Takes a.0.1 (big_bytes 4 (length c.0.0) ++ c.0.0) c.0.1 = subst (λ (n : ℕ). Takes a.0.1 (big_bytes 4 n ++ c.0.0) c.0.1) (sym v.2) (Takes-then a.0.1 (big_bytes 4 b.0.0) b.0.1 c.0.0 c.0.1 u.0 v.0) in
-          let flagged : Takes bytes (big_bytes 1 1) a.0.1 = subst (λ (n : ℕ). Takes bytes (big_bytes 1 n) a.0.1) one_flag t.0 in
-          subst (λ (p : Option (List ℕ) × List ℕ). Takes bytes (state_bytes p.0) p.1 × IsState p.0) (ok_is (Some c.0.0, c.0.1) (o, rest) c.2)
-          (Takes-then bytes (big_bytes 1 1) a.0.1 (big_bytes 4 (length c.0.0) ++ c.0.0) c.0.1 flagged sized, omega (arith, v.2, u.2))
-    ]
-
-state_again : (o : Option (List ℕ)) (rest : List ℕ) → IsState o → state_at (state_bytes o ++ rest) ≡ Ok (o, rest)
-unfolding state_at
-state_again None rest fits = rw (number_again 1 0 1 Value 0 rest (omega arith) (omega arith) (omega arith)) refl
-state_again (Some s) rest fits =
-    let regrouped : state_bytes (Some s) ++ rest ≡ big_bytes 1 1 ++ (big_bytes 4 (length s) ++ (s ++ rest)) =
-    append_assoc (big_bytes 1 1) (big_bytes 4 (length s) ++ s) rest ∙ ap (λ (x : List ℕ). big_bytes 1 1 ++ x) (append_assoc (big_bytes 4 (length s)) s rest) in
-    ap state_at regrouped
-    ∙ rw (number_again 1 0 1 Value 1 (big_bytes 4 (length s) ++ (s ++ rest)) (omega arith) (omega arith) (omega arith), number_again 4 0 STATE Length (length s) (s ++ rest) (omega arith) (omega arith) fits, bytes_again (length s) s rest refl) refl
-
-pub state_part : IsPart state_at state_bytes IsState
-state_part = record { takes = state_takes; again = state_again }
-
 -- ---- installs
 
 -- what an install keeps to
@@ -185,13 +138,13 @@ record Given (view : View) (together : List Address) (bytes : List ℕ) (i : Ins
   items : AllByRecursion IsEntry i.items
   near : length i.items ≤ WINDOW
   small : i.base + length i.items ≤ GREATEST_NUMBER
-  state : IsState i.state
+  state : IsGiven i.state
 
-abbrev install_of : View → List Address → ℕ → List Entry → Option (List ℕ) → Install
+abbrev install_of : View → List Address → ℕ → List Entry → GivenState → Install
 install_of view together base items state = record { view = view; together = together; base = base; items = items; state = state }
 
-given_of : (view : View) (together : List Address) (bytes : List ℕ) (base : ℕ) (b1 : List ℕ) (n : ℕ) (b2 : List ℕ) (items : List Entry) (b3 : List ℕ) (state : Option (List ℕ)) (b4 : List ℕ)
-    → Takes bytes (number_bytes base) b1 → Takes b1 (big_bytes 1 n) b2 → (n ≤ WINDOW) → (base + n ≤ GREATEST_NUMBER) → Takes b2 (flat_map entry_bytes items) b3 → (length items ≡ n) → AllByRecursion IsEntry items → Takes b3 (state_bytes state) b4 → IsState state
+given_of : (view : View) (together : List Address) (bytes : List ℕ) (base : ℕ) (b1 : List ℕ) (n : ℕ) (b2 : List ℕ) (items : List Entry) (b3 : List ℕ) (state : GivenState) (b4 : List ℕ)
+    → Takes bytes (number_bytes base) b1 → Takes b1 (big_bytes 1 n) b2 → (n ≤ WINDOW) → (base + n ≤ GREATEST_NUMBER) → Takes b2 (flat_map entry_bytes items) b3 → (length items ≡ n) → AllByRecursion IsEntry items → Takes b3 (state_bytes state) b4 → IsGiven state
     → Given view together bytes (install_of view together base items state) b4
 given_of view together bytes base b1 n b2 items b3 state b4 t u near small v count fitting w is =
     let counted : Takes b1 (items_bytes items) b3 = back (λ (k : ℕ). Takes b1 (big_bytes 1 k ++ flat_map entry_bytes items) b3) (length items) n count (Takes-then b1 (big_bytes 1 n) b2 (flat_map entry_bytes items) b3 u v) in

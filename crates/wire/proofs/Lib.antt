@@ -1,4 +1,6 @@
 pub mod ReportLaws
+pub mod FlagLaws
+pub mod ChunkLaws
 pub mod InstallLaws
 pub mod BodyLaws
 pub mod PacketLaws

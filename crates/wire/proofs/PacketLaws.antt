@@ -134,6 +134,7 @@ kind_fits (bodies.Behind v n) = (omega arith, omega arith)
 kind_fits (bodies.Report v r) = (omega arith, omega arith)
 kind_fits (bodies.Install i) = (omega arith, omega arith)
 kind_fits (bodies.Merge v) = (omega arith, omega arith)
+kind_fits (bodies.State v c) = (omega arith, omega arith)
 
 pub packet_again : (p : Packet) (rest : List ℕ) → IsPacket p → packet_at (spelling p ++ rest) ≡ Ok (p, rest)
 unfolding packet_at

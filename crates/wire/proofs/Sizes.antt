@@ -6,20 +6,22 @@ use Rattle.std.proofs.lemmas.List.{length-append}
 use Rattle.byteorder.specs.Endian.{big_bytes}
 use Rattle.address.specs.Ids.{Address, ViewId}
 use Rattle.view.specs.Members.{View}
-use Rattle.limits.specs.declared.TheConstants.{MEMBERS, PAYLOAD, WINDOW, STATE, GROUP_NAME, DATAGRAM}
+use Rattle.limits.specs.declared.TheConstants.{MEMBERS, PAYLOAD, WINDOW, WHOLE_STATE, CHUNK, GROUP_NAME, DATAGRAM}
 use Rattle.wire_values.specs.declared.packet.Body.{Body}
 use Rattle.wire_values.specs.declared.packet.Body.TheVariants as bodies
 use Rattle.wire_values.specs.declared.packet.Packet.{Packet}
-use Rattle.wire_values.specs.Values.{Report, Install}
-use Rattle.wire_values.specs.Fields.{IsPlaced, address_bytes, number_bytes, view_id_bytes, payload_bytes, entry_bytes, placed_bytes}
-use Rattle.wire_values.specs.Lists.{IsView, IsReport, IsInstall, is_filled, is_nothing, addresses_bytes, view_bytes, held_bytes, filled_bytes, report_bytes, items_bytes, state_bytes, given_bytes, install_bytes}
+use Rattle.wire_values.specs.Values.{Entry, Report, Install, Chunk}
+use Rattle.wire_values.specs.declared.values.state.GivenState.{GivenState}
+use Rattle.wire_values.specs.declared.values.state.GivenState.TheVariants as given
+use Rattle.wire_values.specs.Fields.{IsEntry, IsPlaced, address_bytes, number_bytes, view_id_bytes, payload_bytes, entry_bytes, placed_bytes}
+use Rattle.wire_values.specs.Lists.{IsView, IsReport, IsInstall, IsGiven, IsChunk, chunk_bytes, is_filled, is_nothing, addresses_bytes, view_bytes, held_bytes, filled_bytes, report_bytes, items_bytes, state_bytes, given_bytes, install_bytes}
 use Rattle.wire_values.specs.Kinds.{kind_of}
 use Rattle.wire.specs.Packets.{IsBody, body_bytes, IsPacket, front_bytes, header_bytes, spelling}
 use Rattle.wire_values.specs.Texts.{group_bytes}
 use Rattle.wire_values.proofs.Lengths.{length-entry, length-items, length-held}
 use Rattle.wire_values.proofs.MemberLaws.{sound_view}
 use Rattle.wire.proofs.ReportLaws.{Filled, filled-rules}
-use Rattle.wire.proofs.InstallLaws.{IsState, placed-rules}
+use Rattle.wire.proofs.InstallLaws.{placed-rules}
 use Rattle.wire.proofs.PacketLaws.{is_name}
 
 pub length-addresses : (addresses : List Address) → length (flat_map address_bytes addresses) ≡ 6 * length addresses
@@ -45,9 +47,16 @@ report_few r is = by_previous r.previous refl is.rules where
   by_previous None named rules = omega arith
   by_previous (Some v) named rules = omega (arith, length-append (big_bytes 1 1) (filled_bytes v r), filled_few v r is.entries (filled-rules r rules))
 
-pub length-state : (o : Option (List ℕ)) → IsState o → length (state_bytes o) ≤ 5 + STATE
-length-state None is = omega arith
-length-state (Some s) is = omega (arith, length-append (big_bytes 1 1) (big_bytes 4 (length s) ++ s), length-append (big_bytes 4 (length s)) s)
+pub length-state : (g : GivenState) → IsGiven g → length (state_bytes g) ≤ 5 + WHOLE_STATE
+length-state given.Nothing is = omega arith
+length-state (given.Whole s) is = omega (arith, length-append (big_bytes 1 1) (big_bytes 4 (length s) ++ s), length-append (big_bytes 4 (length s)) s)
+length-state (given.Chunked total) is = omega (arith, length-append (big_bytes 1 2) (big_bytes 4 total))
+
+pub length-chunk : (c : Chunk) → length (chunk_bytes c) ≡ 5 + length c.bytes
+length-chunk c = omega (arith, length-append (big_bytes 4 c.total ++ big_bytes 1 c.index) c.bytes, length-append (big_bytes 4 c.total) (big_bytes 1 c.index))
+
+chunk_few : (c : Chunk) → IsChunk c → length (chunk_bytes c) ≤ 5 + CHUNK
+chunk_few c is = omega (arith, length-chunk c, is.cut)
 
 pub length-given : (i : Install) → length (given_bytes i) ≡ 9 + length (flat_map entry_bytes i.items) + length (state_bytes i.state)
 length-given i =
@@ -57,7 +66,7 @@ pub length-install : (i : Install) → length (install_bytes i) ≡ 25 + 6 * len
 length-install i =
     omega (arith, length-append (view_bytes i.view ++ addresses_bytes i.together) (given_bytes i), length-append (view_bytes i.view) (addresses_bytes i.together), length-append (big_bytes 1 (length i.together)) (flat_map address_bytes i.together), length-addresses i.together, length-view i.view, length-given i)
 
-pub install_few : (i : Install) → IsInstall i → length (install_bytes i) ≤ 30 + 12 * MEMBERS + (16 + PAYLOAD) * WINDOW + STATE
+pub install_few : (i : Install) → IsInstall i → length (install_bytes i) ≤ 30 + 12 * MEMBERS + (16 + PAYLOAD) * WINDOW + WHOLE_STATE
 install_few i is =
     let p = placed-rules i is.rules in
     let s = sound_view i.view.id i.view.members is.view.sound in
@@ -86,6 +95,7 @@ body_few (bodies.Behind v n) is = omega arith
 body_few (bodies.Report v r) is = omega (arith, length-append (view_id_bytes v) (report_bytes r), report_few r is.1)
 body_few (bodies.Install i) is = omega (arith, install_few i is)
 body_few (bodies.Merge v) is = omega (arith, view_few v is)
+body_few (bodies.State v c) is = omega (arith, length-append (view_id_bytes v) (chunk_bytes c), chunk_few c is.1)
 
 -- no packet is longer than a datagram
 pub packet_few : (p : Packet) → IsPacket p → length (spelling p) ≤ DATAGRAM

@@ -14,7 +14,7 @@ use Rattle.wire_values.specs.Names.{is_group_name}
 use Rattle.wire_values.specs.Texts.{group_bytes, group_at}
 use Rattle.wire_values.specs.Reading.{Read, ◌>>=◌, number_at}
 use Rattle.wire_values.specs.Fields.{IsAddress, IsNumber, IsCount, IsViewId, IsEntry, address_bytes, number_bytes, view_id_bytes, payload_bytes, entry_bytes, placed_bytes, address_at, view_id_at, payload_at, entry_at}
-use Rattle.wire_values.specs.Lists.{IsView, IsReport, IsInstall, view_bytes, report_bytes, install_bytes, view_at, report_at, install_at}
+use Rattle.wire_values.specs.Lists.{IsView, IsReport, IsInstall, IsChunk, view_bytes, report_bytes, install_bytes, chunk_bytes, view_at, report_at, install_at, chunk_at}
 
 -- ---- bodies
 
@@ -32,6 +32,7 @@ IsBody (bodies.Behind proposal counter) = IsViewId proposal × IsNumber counter
 IsBody (bodies.Report proposal report) = IsViewId proposal × IsReport report
 IsBody (bodies.Install install) = IsInstall install
 IsBody (bodies.Merge view) = IsView view
+IsBody (bodies.State proposal chunk) = IsViewId proposal × IsChunk chunk
 
 abbrev pub body_bytes : Body → List ℕ
 body_bytes bodies.Join = []
@@ -47,6 +48,7 @@ body_bytes (bodies.Behind proposal counter) = view_id_bytes proposal ++ number_b
 body_bytes (bodies.Report proposal report) = view_id_bytes proposal ++ report_bytes report
 body_bytes (bodies.Install install) = install_bytes install
 body_bytes (bodies.Merge view) = view_bytes view
+body_bytes (bodies.State proposal chunk) = view_id_bytes proposal ++ chunk_bytes chunk
 
 -- ---- how a body of each kind is read
 
@@ -116,6 +118,12 @@ merge_at bytes = do
   view ← view_at bytes
   Ok (bodies.Merge view.0, view.1)
 
+unfoldable pub sent_state_at : List ℕ → Read Body
+sent_state_at bytes = do
+  proposal ← view_id_at bytes
+  chunk ← chunk_at proposal.1
+  Ok (bodies.State proposal.0 chunk.0, chunk.1)
+
 unfoldable pub body_at : ℕ → List ℕ → Read Body
 body_at kind bytes =
     if kind == 1 then Ok (bodies.Join, bytes)
@@ -131,6 +139,7 @@ body_at kind bytes =
     else if kind == 11 then reported_at bytes
     else if kind == 12 then installed_at bytes
     else if kind == 13 then merge_at bytes
+    else if kind == 14 then sent_state_at bytes
     else Err Kind
 
 -- ---- packets

@@ -9,7 +9,7 @@ mod writing;
 pub use law::one_spelling;
 pub use reading::decode;
 pub use wire_values::{
-    Body, Count, Entry, GroupName, Held, Install, Items, Members, Missing, Number, Packet, Payload,
-    Progress, Report, Roster, State, WireError,
+    Body, Chunk, Count, Entry, GivenState, GroupName, Held, Install, Items, Members, Missing,
+    Number, Packet, Payload, Progress, Report, Roster, State, Total, WireError,
 };
 pub use writing::{encode, put_entry};

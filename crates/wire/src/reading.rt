@@ -3,11 +3,11 @@
 ghost use Rattle.std.specs.Prelude.{◌≡◌, Ok, Some, IfOk, IfErr};
 ghost use Rattle.wire_values.specs.Reading.{IsRead};
 ghost use Rattle.wire_values.specs.declared.packet.Packet.{Packet as PacketValue};
-ghost use Rattle.wire.specs.Packets.{redirect_at, forward_at, order_at, nak_at, ack_at, status_at, flush_at, behind_at, reported_at, installed_at, merge_at, body_at, front_at, packet_at, packet_of, Spells, wire_refusal};
+ghost use Rattle.wire.specs.Packets.{redirect_at, forward_at, order_at, nak_at, ack_at, status_at, flush_at, behind_at, reported_at, installed_at, merge_at, sent_state_at, body_at, front_at, packet_at, packet_of, Spells, wire_refusal};
 
 use limits::{DATAGRAM, GREATEST_NUMBER, KINDS, MAGIC, VERSION, WINDOW};
 use wire_values::{
-    Body, Missing, Packet, Progress, Reader, WireError, count_at, entry_at, group_at, install_at,
+    Body, Missing, Packet, Progress, Reader, WireError, chunk_at, count_at, entry_at, group_at, install_at,
     number_at, payload_at, report_at, view_at,
 };
 
@@ -121,6 +121,15 @@ fn merge_at<'a>(from: &mut Reader<'a>) -> Result<Body<'a>, WireError>
     Ok(Body::Merge(view))
 }
 
+#[tactic(auto, unfolding(crate::specs::Packets::sent_state_at))]
+fn sent_state_at<'a>(from: &mut Reader<'a>) -> Result<Body<'a>, WireError>
+    ensures { IsRead (λ x. (x, from.new)) result (sent_state_at from.old) }
+{
+    let proposal = from.view_id()?;
+    let chunk = chunk_at(from)?;
+    Ok(Body::State { proposal, chunk })
+}
+
 #[tactic(auto, unfolding(crate::specs::Packets::body_at))]
 fn body_at<'a>(kind: u8, from: &mut Reader<'a>) -> Result<Body<'a>, WireError>
     ensures { IsRead (λ x. (x, from.new)) result (body_at kind from.old) }
@@ -139,6 +148,7 @@ fn body_at<'a>(kind: u8, from: &mut Reader<'a>) -> Result<Body<'a>, WireError>
         11 => reported_at(from),
         12 => installed_at(from),
         13 => merge_at(from),
+        14 => sent_state_at(from),
         _ => Err(WireError::Kind),
     }
 }

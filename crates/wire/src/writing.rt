@@ -2,11 +2,13 @@
 
 ghost use Rattle.std.specs.Prelude.{◌≡◌, ◌≤◌, ◌+◌, ◌*◌, ◌++◌, ◌<◌, ◌^◌, true, length, vec_len, vec_capacity, IfSome, OnOk, OnErr};
 ghost use Rattle.std.specs.List.{flat_map, AllByRecursion};
+ghost use Rattle.byteorder.specs.Endian.{big_bytes};
 ghost use Rattle.wire_values.specs.Fields.{IsAddress, IsViewId, IsNumber, IsEntry, IsPlaced, address_bytes, view_id_bytes, number_bytes, payload_bytes, entry_bytes};
-ghost use Rattle.wire_values.specs.Lists.{IsView, IsReport, IsInstall, addresses_bytes, view_bytes, held_bytes, filled_bytes, report_bytes, state_bytes, given_bytes, install_bytes};
+ghost use Rattle.wire_values.specs.Lists.{IsView, IsReport, IsInstall, addresses_bytes, view_bytes, held_bytes, filled_bytes, report_bytes, state_bytes, given_bytes, install_bytes, IsGiven, IsChunk, chunk_bytes};
+ghost use Rattle.wire_values.specs.Chunks.{IsTotal};
 ghost use Rattle.wire_values.specs.Names.{is_group_name};
 ghost use Rattle.wire_values.specs.Texts.{group_bytes};
-ghost use Rattle.limits.specs.declared.TheConstants.{MEMBERS, PAYLOAD, STATE};
+ghost use Rattle.limits.specs.declared.TheConstants.{MEMBERS, PAYLOAD, WHOLE_STATE};
 ghost use Rattle.wire.specs.Packets.{IsBody, Spells, front_bytes, header_bytes, body_bytes, spelling, listed_bytes};
 
 use address::{Address, ViewId};
@@ -15,10 +17,11 @@ use byteorder::{BigEndian, ByteOrder};
 use limits::{MAGIC, VERSION};
 use std::alloc::AllocError;
 use wire_values::{
-    Body, Entry, GroupName, Held, Install, Items, Number, Packet, Payload, Report, Roster, State,
+    Body, Chunk, Entry, GivenState, GroupName, Held, Install, Items, Number, Packet, Payload,
+    Report, Roster, Total,
 };
 
-// How many bytes a spelling has: of a flag, of how many are listed, of the length of a payload and of a state;
+// How many bytes a spelling has: of a flag, of how many are listed, of the length of a payload and of a state, of the index of a chunk;
 const FLAG: usize = 1;
 
 const COUNT: usize = 1;
@@ -26,6 +29,8 @@ const COUNT: usize = 1;
 const PAYLOAD_LENGTH: usize = 2;
 
 const STATE_LENGTH: usize = 4;
+
+const INDEX: usize = 1;
 // of an address, of a number, of a view id, of an entry without its payload's bytes;
 const ADDRESS: usize = 6;
 
@@ -173,19 +178,32 @@ fn put_report(report: &Report<'_>, out: &mut Vec<u8>)
     }
 }
 
-fn put_state(state: &Option<State<'_>>, out: &mut Vec<u8>)
+fn put_total(total: Total, out: &mut Vec<u8>)
+    requires { vec_len out.old + 4 ≤ vec_capacity out.old }
+    ensures items { out.new.items ≡ out.old.items ++ big_bytes 4 total }
+    ensures room { vec_capacity out.old ≤ vec_capacity out.new }
+    ensures fits { IsTotal total }
+{
+    put_u32(total.get(), out);
+}
+
+fn put_state(state: &GivenState<'_>, out: &mut Vec<u8>)
     requires { vec_len out.old + length (state_bytes state.now) ≤ vec_capacity out.old }
     ensures items { out.new.items ≡ out.old.items ++ state_bytes state.now }
     ensures room { vec_capacity out.old ≤ vec_capacity out.new }
-    ensures fits { IfSome state.now (λ s. length s ≤ STATE) }
+    ensures fits { IsGiven state.now }
 {
     match state {
-        None => put_u8(0, out),
-        Some(state) => {
+        GivenState::Nothing => put_u8(0, out),
+        GivenState::Whole(state) => {
             let bytes = state.as_slice();
             put_u8(1, out);
             put_u32(bytes.len() as u32, out);
             put(bytes, out);
+        }
+        GivenState::Chunked(total) => {
+            put_u8(2, out);
+            put_total(*total, out);
         }
     }
 }
@@ -195,7 +213,7 @@ fn put_given(install: &Install<'_>, out: &mut Vec<u8>)
     ensures items { out.new.items ≡ out.old.items ++ given_bytes install.now }
     ensures room { vec_capacity out.old ≤ vec_capacity out.new }
     ensures entries { AllByRecursion IsEntry install.now.items }
-    ensures state { IfSome install.now.state (λ s. length s ≤ STATE) }
+    ensures state { IsGiven install.now.state }
 {
     let items = install.items();
     put_u64(install.base().get(), out);
@@ -272,6 +290,28 @@ fn put_reported(proposal: ViewId, report: &Report<'_>, out: &mut Vec<u8>)
     put_report(report, out);
 }
 
+fn put_chunk(chunk: &Chunk<'_>, out: &mut Vec<u8>)
+    requires { vec_len out.old + length (chunk_bytes chunk.now) ≤ vec_capacity out.old }
+    ensures items { out.new.items ≡ out.old.items ++ chunk_bytes chunk.now }
+    ensures room { vec_capacity out.old ≤ vec_capacity out.new }
+    ensures fits { IsChunk chunk.now }
+{
+    put_total(chunk.total(), out);
+    put_u8(chunk.index(), out);
+    put(chunk.as_slice(), out);
+}
+
+fn put_sent_state(proposal: ViewId, chunk: &Chunk<'_>, out: &mut Vec<u8>)
+    requires { vec_len out.old + length (view_id_bytes proposal ++ chunk_bytes chunk.now) ≤ vec_capacity out.old }
+    ensures items { out.new.items ≡ out.old.items ++ (view_id_bytes proposal ++ chunk_bytes chunk.now) }
+    ensures room { vec_capacity out.old ≤ vec_capacity out.new }
+    ensures proposal { IsViewId proposal }
+    ensures chunk { IsChunk chunk.now }
+{
+    put_view_id(proposal, out);
+    put_chunk(chunk, out);
+}
+
 fn put_body(body: &Body<'_>, out: &mut Vec<u8>)
     requires { vec_len out.old + length (body_bytes body.now) ≤ vec_capacity out.old }
     ensures items { out.new.items ≡ out.old.items ++ body_bytes body.now }
@@ -305,6 +345,7 @@ fn put_body(body: &Body<'_>, out: &mut Vec<u8>)
         Body::Report { proposal, report } => put_reported(*proposal, report, out),
         Body::Install(install) => put_install(install, out),
         Body::Merge(view) => put_view(view, out),
+        Body::State { proposal, chunk } => put_sent_state(*proposal, chunk, out),
     }
 }
 
@@ -346,13 +387,14 @@ fn put_header(packet: &Packet<'_>, out: &mut Vec<u8>)
     put_address(packet.destination, out);
 }
 
-fn state_len(state: &Option<State<'_>>) -> usize
+fn state_len(state: &GivenState<'_>) -> usize
     ensures size { result ≡ length (state_bytes state.now) }
-    ensures few { result ≤ 5 + STATE }
+    ensures few { result ≤ 5 + WHOLE_STATE }
 {
     match state {
-        None => FLAG,
-        Some(state) => FLAG + STATE_LENGTH + state.as_slice().len(),
+        GivenState::Nothing => FLAG,
+        GivenState::Whole(state) => FLAG + STATE_LENGTH + state.as_slice().len(),
+        GivenState::Chunked(_) => FLAG + STATE_LENGTH,
     }
 }
 
@@ -411,6 +453,7 @@ fn body_len(body: &Body<'_>) -> usize
         Body::Report { report, .. } => VIEW_ID + report_len(report),
         Body::Install(install) => install_len(install),
         Body::Merge(view) => view_len(view),
+        Body::State { chunk, .. } => VIEW_ID + STATE_LENGTH + INDEX + chunk.as_slice().len(),
     }
 }
 

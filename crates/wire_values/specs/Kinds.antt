@@ -21,6 +21,7 @@ kind_of (bodies.Behind proposal counter) = 10
 kind_of (bodies.Report proposal report) = 11
 kind_of (bodies.Install install) = 12
 kind_of (bodies.Merge view) = 13
+kind_of (bodies.State proposal chunk) = 14
 
 -- the proposal of a FLUSH
 abbrev pub flush_said : Body → Option View
@@ -37,6 +38,7 @@ flush_said (bodies.Behind proposal counter) = None
 flush_said (bodies.Report proposal report) = None
 flush_said (bodies.Install install) = None
 flush_said (bodies.Merge view) = None
+flush_said (bodies.State proposal chunk) = None
 
 -- the report of a REPORT, with the proposal that it is for
 abbrev pub report_said : Body → Option (ViewId × Report)
@@ -53,6 +55,7 @@ report_said (bodies.Behind proposal counter) = None
 report_said (bodies.Report proposal report) = Some (proposal, report)
 report_said (bodies.Install install) = None
 report_said (bodies.Merge view) = None
+report_said (bodies.State proposal chunk) = None
 
 -- the instruction of an INSTALL
 abbrev pub install_said : Body → Option Install
@@ -69,3 +72,4 @@ install_said (bodies.Behind proposal counter) = None
 install_said (bodies.Report proposal report) = None
 install_said (bodies.Install install) = Some install
 install_said (bodies.Merge view) = None
+install_said (bodies.State proposal chunk) = None

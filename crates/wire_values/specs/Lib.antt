@@ -1,5 +1,6 @@
 pub mod Values
 pub mod Names
+pub mod Chunks
 pub mod Reading
 pub mod Kinds
 pub mod Fields

@@ -4,11 +4,14 @@ use Rattle.std.specs.List.{flat_map, AllByRecursion}
 use Rattle.std.specs.Option.{option_map_or}
 use Rattle.byteorder.specs.Endian.{big_bytes}
 use Rattle.address.specs.Ids.{Address, ViewId, same_address}
-use Rattle.limits.specs.declared.TheConstants.{GREATEST_NUMBER, MEMBERS, WINDOW, STATE}
+use Rattle.limits.specs.declared.TheConstants.{GREATEST_NUMBER, MEMBERS, WINDOW, STATE, WHOLE_STATE}
 use Rattle.view.specs.Members.{View, stands_in}
 use Rattle.view.specs.View.{view_refusal}
 use Rattle.wire_values.specs.declared.error.WireError.TheVariants.{Length, Value}
-use Rattle.wire_values.specs.Values.{Entry, Report, Install, nothing_reported}
+use Rattle.wire_values.specs.Values.{Entry, Report, Install, Chunk, nothing_reported}
+use Rattle.wire_values.specs.declared.values.state.GivenState.{GivenState}
+use Rattle.wire_values.specs.declared.values.state.GivenState.TheVariants as given
+use Rattle.wire_values.specs.Chunks.{IsTotal, IsPlace, IsCut, before_chunk, chunk_len}
 use Rattle.wire_values.specs.Reading.{Read, ◌>>=◌, bytes_at, number_at, list_at}
 use Rattle.wire_values.specs.Fields.{IsAddress, IsViewId, IsEntry, IsPlaced, address_bytes, number_bytes, view_id_bytes, entry_bytes, placed_bytes, address_at, view_id_at, entry_at}
 
@@ -141,19 +144,26 @@ is_install i =
     nat_le 1 (length i.together) && nat_le (length i.together) MEMBERS && is_in_order i.together i.view.members
     && nat_le (length i.items) WINDOW && nat_le (i.base + length i.items) GREATEST_NUMBER
 
+-- the state itself only where it is short
+abbrev pub IsGiven : GivenState → Type 0
+IsGiven given.Nothing = Unit {0}
+IsGiven (given.Whole s) = length s ≤ WHOLE_STATE
+IsGiven (given.Chunked total) = IsTotal total
+
 pub record IsInstall (i : Install) : Type 0 where
   pub view : IsView i.view
   pub together : AllByRecursion IsAddress i.together
   pub items : AllByRecursion IsEntry i.items
-  pub state : IfSome i.state (λ s. length s ≤ STATE)
+  pub state : IsGiven i.state
   pub rules : is_install i ≡ true
 
 abbrev pub items_bytes : List Entry → List ℕ
 items_bytes items = big_bytes 1 (length items) ++ flat_map entry_bytes items
 
-abbrev pub state_bytes : Option (List ℕ) → List ℕ
-state_bytes None = big_bytes 1 0
-state_bytes (Some s) = big_bytes 1 1 ++ (big_bytes 4 (length s) ++ s)
+abbrev pub state_bytes : GivenState → List ℕ
+state_bytes given.Nothing = big_bytes 1 0
+state_bytes (given.Whole s) = big_bytes 1 1 ++ (big_bytes 4 (length s) ++ s)
+state_bytes (given.Chunked total) = big_bytes 1 2 ++ big_bytes 4 total
 
 -- what is given to the one that is instructed
 abbrev pub given_bytes : Install → List ℕ
@@ -168,13 +178,24 @@ items_count_at base bytes = do
   count ← number_at 1 0 WINDOW Length bytes
   if nat_le (base + count.0) GREATEST_NUMBER then Ok count else Err Value
 
-unfoldable pub state_at : List ℕ → Read (Option (List ℕ))
+unfoldable pub total_at : List ℕ → Read ℕ
+total_at bytes = number_at 4 (WHOLE_STATE + 1) STATE Length bytes
+
+unfoldable pub whole_at : List ℕ → Read GivenState
+whole_at bytes = do
+  len ← number_at 4 0 WHOLE_STATE Length bytes
+  state ← bytes_at len.0 len.1
+  Ok (given.Whole state.0, state.1)
+
+unfoldable pub chunked_at : List ℕ → Read GivenState
+chunked_at bytes = do
+  total ← total_at bytes
+  Ok (given.Chunked total.0, total.1)
+
+unfoldable pub state_at : List ℕ → Read GivenState
 state_at bytes = do
-  flag ← number_at 1 0 1 Value bytes
-  if flag.0 == 0 then Ok (None, flag.1) else do
-    len ← number_at 4 0 STATE Length flag.1
-    state ← bytes_at len.0 len.1
-    Ok (Some state.0, state.1)
+  flag ← number_at 1 0 2 Value bytes
+  if flag.0 == 0 then Ok (given.Nothing, flag.1) else if flag.0 == 1 then whole_at flag.1 else chunked_at flag.1
 
 unfoldable pub given_at : View → List Address → List ℕ → Read Install
 given_at view together bytes = do
@@ -190,3 +211,26 @@ install_at bytes = do
   len ← number_at 1 1 MEMBERS Length view.1
   together ← together_at len.0 view.0.members [] len.1
   given_at view.0 together.0 together.1
+
+-- ---- a chunk of a state
+
+pub record IsChunk (c : Chunk) : Type 0 where
+  pub total : IsTotal c.total
+  pub place : IsPlace c.total c.index
+  pub cut : IsCut c.total c.index c.bytes
+
+abbrev pub chunk_bytes : Chunk → List ℕ
+chunk_bytes c = big_bytes 4 c.total ++ big_bytes 1 c.index ++ c.bytes
+
+-- which chunk of a state with so many bytes: one that it has not is a wrong value
+unfoldable pub index_at : ℕ → List ℕ → Read ℕ
+index_at total bytes = do
+  index ← number_at 1 1 255 Value bytes
+  if nat_lt (before_chunk index.0) total then Ok index else Err Value
+
+unfoldable pub chunk_at : List ℕ → Read Chunk
+chunk_at bytes = do
+  total ← total_at bytes
+  index ← index_at total.0 total.1
+  text ← bytes_at (chunk_len total.0 index.0) index.1
+  Ok (record { total = total.0; index = index.0; bytes = text.0 }, text.1)

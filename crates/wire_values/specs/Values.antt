@@ -1,5 +1,6 @@
 -- The parts of a packet as plain values, without where their bytes lie.
 use Rattle.std.specs.Prelude.{ℕ, List, [], Option, None, nat_eq}
+use Rattle.wire_values.specs.declared.values.state.GivenState.{GivenState}
 use Rattle.std.specs.Map.{lookup}
 use Rattle.address.specs.Ids.{Address, ViewId}
 use Rattle.view.specs.Members.{View}
@@ -43,4 +44,10 @@ pub record Install : Type 0 where
   pub together : List Address
   pub base : ℕ
   pub items : List Entry
-  pub state : Option (List ℕ)
+  pub state : GivenState
+
+-- a chunk of a state: how many bytes the state has, which chunk this is, from 1, and its bytes
+pub record Chunk : Type 0 where
+  pub total : ℕ
+  pub index : ℕ
+  pub bytes : List ℕ

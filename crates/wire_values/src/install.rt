@@ -8,8 +8,8 @@ use crate::error::WireError;
 use crate::fields::Reader;
 use crate::members::{Members, Roster, rest_after, together_at, view_at};
 use crate::numbers::count_at;
-use crate::text::state_at;
-use crate::{Count, State};
+use crate::state::state_at;
+use crate::{Count, GivenState};
 use address::Address;
 use limits::{GREATEST_NUMBER, MEMBERS, WINDOW};
 use std::marker::Model;
@@ -22,7 +22,7 @@ pub struct Install<'a> {
     together: Members,
     base: Count,
     items: Items<'a>,
-    state: Option<State<'a>>,
+    state: GivenState<'a>,
 }
 
 impl<'a> Model for Install<'a> {
@@ -58,7 +58,7 @@ impl<'a> Install<'a> {
         together: Members,
         base: Count,
         items: Items<'a>,
-        state: Option<State<'a>>,
+        state: GivenState<'a>,
     ) -> Option<Install<'a>>
         ensures { SomeIff result (is_install (record { view = view; together = together; base = base; items = items.entry; state = state.entry }) ≡ true) (record { view = view; together = together; base = base; items = items.entry; state = state.entry }) }
     {
@@ -108,8 +108,8 @@ impl<'a> Install<'a> {
         self.items.again()
     }
 
-    /// The state, if one is given.
-    pub fn state(&self) -> &Option<State<'a>>
+    /// What is said of a state.
+    pub fn state(&self) -> &GivenState<'a>
         ensures { result.now ≡ self.now.state }
     {
         &self.state

@@ -9,6 +9,7 @@ mod members;
 mod numbers;
 mod packet;
 mod report;
+mod state;
 mod text;
 mod values;
 
@@ -20,5 +21,8 @@ pub use members::{Members, Roster, view_at};
 pub use numbers::{count_at, number_at};
 pub use packet::{Body, Packet};
 pub use report::{Report, report_at};
+pub use state::chunk_at;
 pub use text::{group_at, payload_at};
-pub use values::{Count, Entry, GroupName, Missing, Number, Payload, Progress, State};
+pub use values::{
+    Chunk, Count, Entry, GivenState, GroupName, Missing, Number, Payload, Progress, State, Total,
+};

@@ -4,7 +4,7 @@ ghost use Rattle.wire_values.specs.Kinds.{kind_of};
 use crate::install::Install;
 use crate::members::Roster;
 use crate::report::Report;
-use crate::{Count, Entry, GroupName, Missing, Number, Payload, Progress};
+use crate::{Chunk, Count, Entry, GroupName, Missing, Number, Payload, Progress};
 use address::{Address, ViewId};
 
 /// What a packet says, by its kind.
@@ -59,10 +59,15 @@ pub enum Body<'a> {
     Install(Install<'a>),
     /// 13 MERGE: this view is there too.
     Merge(Roster),
+    /// 14 STATE: a chunk of the state that this proposal gives.
+    State {
+        proposal: ViewId,
+        chunk: Chunk<'a>,
+    },
 }
 
 impl<'a> Body<'a> {
-    /// The number of its kind, 1 to 13.
+    /// The number of its kind, 1 to 14.
     pub fn kind(&self) -> u8
         ensures { result ≡ kind_of self.now }
     {
@@ -80,6 +85,7 @@ impl<'a> Body<'a> {
             Body::Report { .. } => 11,
             Body::Install(_) => 12,
             Body::Merge(_) => 13,
+            Body::State { .. } => 14,
         }
     }
 }

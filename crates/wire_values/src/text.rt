@@ -5,8 +5,8 @@ ghost use Rattle.wire_values.specs.Texts.{group_at};
 
 use crate::error::WireError;
 use crate::fields::Reader;
-use crate::{GroupName, Payload, State};
-use limits::{GROUP_NAME, PAYLOAD, STATE};
+use crate::{GroupName, Payload};
+use limits::{GROUP_NAME, PAYLOAD};
 
 /// Reads the name of a group: its length, 1 to `GROUP_NAME`, and its bytes, letters, digits, `-` and `_`: 20, 24 for the length, 25 for a byte.
 #[tactic(auto, using(crate::proofs::Names::name_is), unfolding(crate::specs::Texts::group_at))]
@@ -26,20 +26,4 @@ pub fn payload_at<'a>(from: &mut Reader<'a>) -> Result<Payload<'a>, WireError>
     let len = from.u16(0, PAYLOAD as u16, WireError::Length)?;
     let bytes = from.bytes(len as usize)?;
     Payload::new(bytes).ok_or(WireError::Length)
-}
-
-#[tactic(auto, unfolding(crate::specs::Lists::state_at))]
-pub(crate) fn state_at<'a>(from: &mut Reader<'a>) -> Result<Option<State<'a>>, WireError>
-    ensures { IsRead (λ x. (x, from.new)) result (state_at from.old) }
-{
-    let flag = from.u8(0, 1, WireError::Value)?;
-    if flag == 0 {
-        return Ok(None);
-    }
-    let len = from.u32(0, STATE as u32, WireError::Length)?;
-    let bytes = from.bytes(len as usize)?;
-    match State::new(bytes) {
-        Some(state) => Ok(Some(state)),
-        None => Err(WireError::Length),
-    }
 }

@@ -2,8 +2,10 @@
 
 mod entry;
 mod numbers;
+mod state;
 mod text;
 
 pub use entry::Entry;
 pub use numbers::{Count, Missing, Number, Progress};
-pub use text::{GroupName, Payload, State};
+pub use state::{Chunk, GivenState, State, Total, chunk_len};
+pub use text::{GroupName, Payload};

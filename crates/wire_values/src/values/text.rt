@@ -3,7 +3,7 @@ ghost use Rattle.std.specs.List.{list_all};
 ghost use Rattle.std.specs.Option.{SomeIff};
 ghost use Rattle.wire_values.specs.Names.{is_name_byte, is_group_name};
 
-use limits::{GROUP_NAME, PAYLOAD, STATE};
+use limits::{GROUP_NAME, PAYLOAD};
 use std::marker::Model;
 
 /// A group's name in lent bytes: 1 to `GROUP_NAME` letters, digits, `-` and `_` of ASCII.
@@ -95,42 +95,5 @@ impl<'a> Payload<'a> {
         ensures short { length result.now ≤ PAYLOAD }
     {
         self.payload
-    }
-}
-
-/// A state in lent bytes, at most `STATE` of them.
-#[derive(Drop)]
-pub struct State<'a> {
-    state: &'a [u8],
-}
-
-impl<'a> Model for State<'a> {
-    ghost use Rattle.std.specs.Prelude.{List, ℕ, length, ◌≤◌};
-    ghost use Rattle.limits.specs.declared.TheConstants.{STATE};
-
-    ghost Value = { List ℕ };
-
-    ghost view = { λ s. s.state.now };
-
-    ghost invariant = { λ s. length s.state.now ≤ STATE };
-}
-
-impl<'a> State<'a> {
-    /// The state of these bytes; `None` for more than `STATE`.
-    pub fn new(bytes: &'a [u8]) -> Option<State<'a>>
-        ensures { SomeIff result (length bytes.now ≤ STATE) bytes.now }
-    {
-        if bytes.len() > STATE {
-            return None;
-        }
-        Some(State { state: bytes })
-    }
-
-    /// Its bytes.
-    pub fn as_slice(&self) -> &'a [u8]
-        ensures bytes { result.now ≡ self.now }
-        ensures short { length result.now ≤ STATE }
-    {
-        self.state
     }
 }

@@ -1,6 +1,7 @@
-use Rattle.std.proofs.Common.{ℕ, Option, List, length, ap, arith}
+use Rattle.std.proofs.Common.{List, length, ap, arith}
 use Rattle.std.specs.List.{flat_map}
 use Rattle.wire_values.specs.Values.{Entry}
+use Rattle.wire_values.specs.declared.values.state.GivenState.{GivenState}
 use Rattle.view.specs.Members.{View}
 use Rattle.wire_values.specs.Fields.{entry_bytes}
 use Rattle.wire_values.specs.Lists.{view_bytes, state_bytes}
@@ -20,5 +21,5 @@ returns-clause-size c =
       c.items_len.ensures.size,
       ap (λ (l : List Entry). length (flat_map entry_bytes l)) c.items.ensures,
       c.state_len.ensures.size,
-      ap (λ (s : Option (List ℕ)). length (state_bytes s)) c.state.ensures,
+      ap (λ (s : GivenState). length (state_bytes s)) c.state.ensures,
     )

@@ -47,3 +47,8 @@ pub returns-in-Report-clause-fits : goal.returns-in-Report-clause-fits
 returns-in-Report-clause-fits c =
     back IsBody c.args.body.now (bodies.Report c.in-Report.proposal c.in-Report.report) c.in-Report.is
     (c.put_reported.ensures.proposal, c.put_reported.ensures.report)
+
+pub returns-in-State-clause-fits : goal.returns-in-State-clause-fits
+returns-in-State-clause-fits c =
+    back IsBody c.args.body.now (bodies.State c.in-State.proposal c.in-State.chunk) c.in-State.is
+    (c.put_sent_state.ensures.proposal, c.put_sent_state.ensures.chunk)

@@ -1,5 +1,5 @@
 use Rattle.std.proofs.Common.{rules}
-use Rattle.wire_values.proofs.values.text.State.as_slice.Goals as goal
+use Rattle.wire_values.proofs.values.state.State.as_slice.Goals as goal
 
 pub returns-clause-bytes : goal.returns-clause-bytes
 returns-clause-bytes c = search rules
