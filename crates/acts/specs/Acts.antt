@@ -1,13 +1,15 @@
 -- The acts: the small things that members do, one after another. When each is allowed, what it leaves, what it puts out and what happens by it.
 use Rattle.std.specs.Prelude.{◌≡◌, ℕ, ◌+◌, ◌-◌, ◌<◌, ◌≤◌, ◌⊎◌, ◌&&◌, Bool, true, false, not, Option, None, Some, List, [], ◌∷◌, ◌++◌, map, filter, length, max, drop, slice_get, IsSome, MatchOption, MatchBool, unwrap_or, nat_eq, if◌then◌else◌}
 use Rattle.std.specs.Option.{ForSome, option_and_then, option_eq, option_map_or}
-use Rattle.std.specs.List.{Contains}
+use Rattle.std.specs.List.{Contains, flat_map, list_all}
 use Rattle.address.specs.Ids.{Address, ViewId, same_address, same_view_id}
 use Rattle.view.specs.Members.{View, stands_in}
 use Rattle.view.specs.View.{view_refusal}
 use Rattle.limits.specs.declared.TheConstants.{PAYLOAD, WINDOW}
 use Rattle.wire_values.specs.Values.{Entry, held_at, Report, nothing_reported}
 use Rattle.wire_values.specs.Values as wire
+use Rattle.wire_values.specs.declared.values.state.GivenState.{GivenState}
+use Rattle.wire_values.specs.declared.values.state.GivenState.TheVariants as forms
 use Rattle.wire_values.specs.declared.packet.Body.{Body}
 use Rattle.wire_values.specs.declared.packet.Body.TheVariants as bodies
 use Rattle.state_transfer.specs.Meanings.{Meaning}
@@ -18,6 +20,7 @@ use Rattle.trace_props.specs.declared.event.Event.TheVariants.{Sent, Delivered, 
 use Rattle.trace_props.specs.Rules.{IsBelow}
 use Rattle.acts.specs.Words.{message_for}
 use Rattle.acts.specs.Histories.{Posted}
+use Rattle.acts.specs.Given.{Tells, IsGiven, chunk_at, chunks_of, kept_bytes}
 use Rattle.acts.specs.Cores.{ViewCore, Core, fresh_view_core, install_sent_to, is_open, id_of, report_with, delivered_more, left_of, applied}
 
 -- a cut for each view: the number before its items, and the items
@@ -25,7 +28,7 @@ pub record Cuts : Type 0 where
   pub base : ViewId → ℕ
   pub items : ViewId → List Entry
 
--- the sixteen acts
+-- the seventeen acts
 pub data Act : Type 0 where
   -- makes a first view of itself alone
   Creates : Act
@@ -53,10 +56,12 @@ pub data Act : Type 0 where
   Begins : View → Act
   -- records a report for its own proposal
   Records : FlushModel → Address → Report → Act
-  -- goes into its own proposal, to which all of its list have reported, at these cuts
-  Finishes : View → FlushModel → Cuts → Act
-  -- goes into the promised proposal of another
-  Enters : wire.Install → Act
+  -- holds a chunk of the state for the promised proposal of another: what is held afterwards
+  Gathers : ViewId → wire.Chunk → List (ViewId × wire.Chunk) → Act
+  -- goes into its own proposal, to which all of its list have reported, at these cuts, and gives its state so
+  Finishes : View → FlushModel → Cuts → GivenState → Act
+  -- goes into the promised proposal of another, with the state that is given
+  Enters : wire.Install → Option (List ℕ) → Act
   -- leaves
   Leaves : Act
 
@@ -119,6 +124,7 @@ Describes c q (bodies.Report proposal report) =
     × (q ≡ proposal.creator) × (report ≡ report_with c.view c.view_state)
 Describes c q (bodies.Install install) = (c.view ≡ Some install.view) × (install_sent_to q c.sent_installs ≡ Some install)
 Describes c q (bodies.Merge view) = Unit {0}
+Describes c q (bodies.State proposal chunk) = (state : List ℕ) × (c.kept_state ≡ Some state) × (id_of c.view ≡ Some proposal) × (chunk ≡ chunk_at state chunk.index)
 
 -- ---- when an act is allowed
 
@@ -214,27 +220,48 @@ pub record MayRecord {S : Type 0} (came : Option Posted) (c : Core S) (f : Flush
   pub listed : stands_in q f.members ≡ true
   pub new : report_from q f.reports ≡ None
 
+-- the entries with numbers past the delivered ones, of those that follow a number
+abbrev pub undelivered : ℕ → ℕ → List Entry → List Entry
+undelivered delivered base items = drop (delivered - base) items
+
+-- the state after the own cut
+abbrev pub state_after_cut : {S : Type 0} → Meaning S → Core S → View → Cuts → S
+state_after_cut meaning c v cuts = applied meaning c.state (undelivered c.view_state.delivered (cuts.base v.id) (cuts.items v.id))
+
+-- whether all of a list come from a view
+abbrev pub all_come_from : ViewId → List (Address × Report) → Bool
+all_come_from v reports = list_all (λ x. option_eq same_view_id x.1.previous (Some v)) reports
+
 -- all of the list have reported, and the cuts are those of the views that they reported
-pub record MayFinish {S : Type 0} (c : Core S) (v : View) (f : FlushModel) (cuts : Cuts) : Type 0 where
+pub record MayFinish {S : Type 0} (meaning : Meaning S) (c : Core S) (v : View) (f : FlushModel) (cuts : Cuts) (given : GivenState) : Type 0 where
   pub view : c.view ≡ Some v
   pub flush : c.flush ≡ Some f
   pub all : (q : Address) → stands_in q f.members ≡ true → IsSome (report_from q f.reports)
   pub cut : (q : Address) (r : Report) (u : ViewId) → report_from q f.reports ≡ Some r → r.previous ≡ Some u
       → IsCut (group (Some u) f.reports) (cuts.base u) (cuts.items u)
+  -- where not all come from its view, the state after the own cut is given
+  pub gives : MatchBool (all_come_from v.id f.reports) (Unit {0}) (Tells given (Some (meaning.encode (state_after_cut meaning c v cuts))))
+
+-- a STATE for the promised proposal, from its creator
+pub record MayGather {S : Type 0} (came : Option Posted) (c : Core S) (w : ViewId) (chunk : wire.Chunk) (chunks : List (ViewId × wire.Chunk)) : Type 0 where
+  pub sent : Says came c w.creator (bodies.State w chunk)
+  pub promised : IsPromised w c.promise c.installed
+  pub fewer : (k : ℕ) (x : ViewId × wire.Chunk) → slice_get chunks k ≡ Some x → Contains (c.chunks ++ (w, chunk) ∷ []) x
 
 -- who comes from no view is delivered no messages and given a state
-pub record IsForNewcomer (i : wire.Install) : Type 0 where
+pub record IsForNewcomer (i : wire.Install) (given : Option (List ℕ)) : Type 0 where
   pub base : i.base ≡ 0
   pub items : i.items ≡ []
-  pub state : IsSome i.state
+  pub state : IsSome given
 
--- by an INSTALL of the creator of the view that it promised and did not install; it fits, and its state can be read
-pub record MayEnter {S : Type 0} (meaning : Meaning S) (came : Option Posted) (c : Core S) (i : wire.Install) : Type 0 where
+-- by an INSTALL of the creator of the view that it promised and did not install; it fits, the state that it gives is held, and can be read
+pub record MayEnter {S : Type 0} (meaning : Meaning S) (came : Option Posted) (c : Core S) (i : wire.Install) (given : Option (List ℕ)) : Type 0 where
   pub asked : Says came c i.view.id.creator (bodies.Install i)
   pub promised : c.promise ≡ Some i.view
   pub waiting : c.installed ≡ false
-  pub fits : MatchOption c.view (IsForNewcomer i) (λ v. i.base ≤ c.view_state.delivered)
-  pub readable : ForSome i.state (λ bytes. IsSome (meaning.decode bytes))
+  pub fits : MatchOption c.view (IsForNewcomer i given) (λ v. i.base ≤ c.view_state.delivered)
+  pub gives : IsGiven c.chunks i.view.id i.state given
+  pub readable : ForSome given (λ bytes. IsSome (meaning.decode bytes))
 
 abbrev pub Allowed : {S : Type 0} → Meaning S → Option Posted → Core S → Act → Type 0
 Allowed meaning came c Creates = MayCreate c
@@ -250,8 +277,9 @@ Allowed meaning came c (Delivers v e) = MayDeliver c v e
 Allowed meaning came c (Promises w) = MayPromise came c w
 Allowed meaning came c (Begins w) = MayBegin c w
 Allowed meaning came c (Records f q r) = MayRecord came c f q r
-Allowed meaning came c (Finishes v f cuts) = MayFinish c v f cuts
-Allowed meaning came c (Enters i) = MayEnter meaning came c i
+Allowed meaning came c (Gathers w chunk chunks) = MayGather came c w chunk chunks
+Allowed meaning came c (Finishes v f cuts given) = MayFinish meaning c v f cuts given
+Allowed meaning came c (Enters i given) = MayEnter meaning came c i given
 Allowed meaning came c Leaves = Unit {0}
 
 -- ---- what an act leaves
@@ -261,8 +289,8 @@ abbrev pub lone_view : Address → View
 lone_view p = record { id = record { counter = 1; creator = p }; members = p ∷ [] }
 
 -- in a new view, with nothing carried over
-abbrev pub gone_into : {S : Type 0} → View → S → List (Address × wire.Install) → Core S → Core S
-gone_into w s kept c = record {
+abbrev pub gone_into : {S : Type 0} → View → S → List (Address × wire.Install) → Option (List ℕ) → Core S → Core S
+gone_into w s kept kept_state c = record {
   me = c.me;
   connected = true;
   promise = Some w;
@@ -271,20 +299,22 @@ gone_into w s kept c = record {
   view_state = fresh_view_core;
   flush = None;
   sent_installs = kept;
+  kept_state = kept_state;
+  chunks = [];
   state = s;
 }
 
+-- the chunks that are held on: those of the promise, where it is only promised again
+abbrev pub chunks_for : {S : Type 0} → View → Core S → List (ViewId × wire.Chunk)
+chunks_for w c = if option_eq same_view_id (id_of c.promise) (Some w.id) then c.chunks else []
+
 -- a proposal is promised; a flush of its own goes on only if this is it
 abbrev pub promised : {S : Type 0} → View → Option FlushModel → Core S → Core S
-promised w flush c = record c { promise = Some w; installed = false; flush = flush }
+promised w flush c = record c { promise = Some w; installed = false; flush = flush; chunks = chunks_for w c }
 
 -- a flush that begins: the member's own report is in it
 abbrev pub begun : {S : Type 0} → View → Core S → FlushModel
 begun w c = record { proposal = w.id; members = w.members; reports = (c.me, report_with c.view c.view_state) ∷ [] }
-
--- the entries with numbers past the delivered ones, of those that follow a number
-abbrev pub undelivered : ℕ → ℕ → List Entry → List Entry
-undelivered delivered base items = drop (delivered - base) items
 
 -- what a member delivers when it goes from a view by a cut; nothing without a view
 abbrev pub delivered_at : {S : Type 0} → Core S → ℕ → List Entry → List Entry
@@ -305,26 +335,21 @@ abbrev pub items_for : Cuts → Option ViewId → List Entry
 items_for cuts v = option_map_or cuts.items v []
 
 -- the instruction to go into the proposal of a flush, for one who reported this: with a state if it comes from another view than the flush's coordinator
-abbrev pub instruction : FlushModel → Cuts → ViewId → List ℕ → Address → Report → wire.Install
+abbrev pub instruction : FlushModel → Cuts → ViewId → GivenState → Address → Report → wire.Install
 instruction f cuts v state q r = record {
   view = proposed f;
   together = together_of q f;
   base = base_for cuts r.previous;
   items = items_for cuts r.previous;
-  state = if option_eq same_view_id r.previous (Some v) then None else Some state;
+  state = if option_eq same_view_id r.previous (Some v) then forms.Nothing else state;
 }
 
-abbrev pub instruction_for : FlushModel → Cuts → ViewId → List ℕ → Address → wire.Install
+abbrev pub instruction_for : FlushModel → Cuts → ViewId → GivenState → Address → wire.Install
 instruction_for f cuts v state q = instruction f cuts v state q (unwrap_or (report_from q f.reports) nothing_reported)
 
--- the state after the own cut
-abbrev pub state_after_cut : {S : Type 0} → Meaning S → Core S → View → Cuts → S
-state_after_cut meaning c v cuts = applied meaning c.state (undelivered c.view_state.delivered (cuts.base v.id) (cuts.items v.id))
-
 -- the instructions to all others of the list
-abbrev pub instructions : {S : Type 0} → Meaning S → Core S → View → FlushModel → Cuts → List (Address × wire.Install)
-instructions meaning c v f cuts =
-    let state = meaning.encode (state_after_cut meaning c v cuts) in
+abbrev pub instructions : {S : Type 0} → Core S → View → FlushModel → Cuts → GivenState → List (Address × wire.Install)
+instructions c v f cuts state =
     map (λ q. (q, instruction_for f cuts v.id state q)) (others_of c.me f.members)
 
 -- an acknowledgement never lowers what is known
@@ -340,7 +365,7 @@ with_view_core t c = record c { view_state = t }
 
 -- the core after an act; None once the member has left
 abbrev pub after : {S : Type 0} → Meaning S → Core S → Act → Option (Core S)
-after meaning c Creates = Some (gone_into (lone_view c.me) c.state [] c)
+after meaning c Creates = Some (gone_into (lone_view c.me) c.state [] None c)
 after meaning c Joins = Some (record c { connected = true })
 after meaning c (Puts q body) = Some c
 after meaning c (Sends v payload) =
@@ -360,11 +385,23 @@ after meaning c (Delivers v e) = Some (record c { view_state = delivered_more c.
 after meaning c (Promises w) = Some (promised w None c)
 after meaning c (Begins w) = Some (promised w (Some (begun w c)) c)
 after meaning c (Records f q r) = Some (record c { flush = Some (record f { reports = f.reports ++ (q, r) ∷ [] }) })
-after meaning c (Finishes v f cuts) = Some (gone_into (proposed f) (state_after_cut meaning c v cuts) (instructions meaning c v f cuts) c)
-after meaning c (Enters i) = Some (gone_into i.view (state_into meaning c (delivered_at c i.base i.items) i.state) [] c)
+after meaning c (Gathers w chunk chunks) = Some (record c { chunks = chunks })
+after meaning c (Finishes v f cuts given) =
+    let z = state_after_cut meaning c v cuts in Some (gone_into (proposed f) z (instructions c v f cuts given) (kept_bytes given (meaning.encode z)) c)
+after meaning c (Enters i given) = Some (gone_into i.view (state_into meaning c (delivered_at c i.base i.items) given) [] None c)
 after meaning c Leaves = None
 
 -- ---- what an act puts out
+
+-- the chunks of a state that is given in chunks
+abbrev pub chunk_packets : Address → Address → ViewId → List ℕ → GivenState → List Posted
+chunk_packets p q w state forms.Nothing = []
+chunk_packets p q w state (forms.Whole bytes) = []
+chunk_packets p q w state (forms.Chunked total) = map (λ chunk. packet p (bodies.State w chunk) q) (chunks_of state)
+
+-- an instruction, behind the chunks of the state that it gives
+abbrev pub instructing_one : Address → ViewId → List ℕ → Address × wire.Install → List Posted
+instructing_one p w state x = chunk_packets p x.0 w state x.1.state ++ packet p (bodies.Install x.1) x.0 ∷ []
 
 abbrev pub packets_of : {S : Type 0} → Meaning S → Core S → Act → List Posted
 packets_of meaning c Creates = []
@@ -380,8 +417,10 @@ packets_of meaning c (Delivers v e) = []
 packets_of meaning c (Promises w) = packet c.me (bodies.Report w.id (report_with c.view c.view_state)) w.id.creator ∷ []
 packets_of meaning c (Begins w) = map (packet c.me (bodies.Flush w)) (others_of c.me w.members)
 packets_of meaning c (Records f q r) = []
-packets_of meaning c (Finishes v f cuts) = map (λ p. packet c.me (bodies.Install p.1) p.0) (instructions meaning c v f cuts)
-packets_of meaning c (Enters i) = []
+packets_of meaning c (Gathers w chunk chunks) = []
+packets_of meaning c (Finishes v f cuts given) =
+    flat_map (instructing_one c.me f.proposal (meaning.encode (state_after_cut meaning c v cuts))) (instructions c v f cuts given)
+packets_of meaning c (Enters i given) = []
 packets_of meaning c Leaves = []
 
 -- ---- what happens by an act
@@ -425,8 +464,9 @@ events_of c (Delivers v e) = delivery c.me v.id e ∷ []
 events_of c (Promises w) = blocking c
 events_of c (Begins w) = blocking c
 events_of c (Records f q r) = []
-events_of c (Finishes v f cuts) = entering c (undelivered c.view_state.delivered (cuts.base v.id) (cuts.items v.id)) (proposed f) (together_of c.me f) None
-events_of c (Enters i) = entering c (delivered_at c i.base i.items) i.view i.together i.state
+events_of c (Gathers w chunk chunks) = []
+events_of c (Finishes v f cuts given) = entering c (undelivered c.view_state.delivered (cuts.base v.id) (cuts.items v.id)) (proposed f) (together_of c.me f) None
+events_of c (Enters i given) = entering c (delivered_at c i.base i.items) i.view i.together given
 events_of c Leaves = Left c.me ∷ []
 
 -- ---- what a member is handed

@@ -37,7 +37,8 @@ fresh_view_core = record {
   waiting = [];
 }
 
--- a member that runs. installed: whether the promised view is; kept: what it sent to the others of the view that it made
+-- a member that runs. installed: whether the promised view is; sent_installs: what it sent to the others of the view that it made; kept_state: the state that it
+-- gave to them in chunks; chunks: those that it holds, each for a proposal
 pub record Core (S : Type 0) : Type 0 where
   pub me : Address
   pub connected : Bool
@@ -47,6 +48,8 @@ pub record Core (S : Type 0) : Type 0 where
   pub view_state : ViewCore
   pub flush : Option FlushModel
   pub sent_installs : List (Address × wire.Install)
+  pub kept_state : Option (List ℕ)
+  pub chunks : List (ViewId × wire.Chunk)
   pub state : S
 
 -- a member that has just started
@@ -60,6 +63,8 @@ idle opening p = record {
   view_state = fresh_view_core;
   flush = None;
   sent_installs = [];
+  kept_state = None;
+  chunks = [];
   state = opening;
 }
 

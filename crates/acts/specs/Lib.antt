@@ -1,5 +1,6 @@
 pub mod Words
 pub mod Histories
+pub mod Given
 pub mod Cores
 pub mod Acts
 pub mod Chains

@@ -10,6 +10,7 @@ use Rattle.address.specs.Ids.{Address, ViewId, same_address}
 use Rattle.view.specs.Members.{View, stands_in}
 use Rattle.limits.specs.declared.TheConstants.{WINDOW}
 use Rattle.wire_values.specs.Values.{Entry, held_at, Report}
+use Rattle.wire_values.specs.Values as wire
 use Rattle.wire_values.specs.declared.packet.Body.TheVariants as bodies
 use Rattle.state_transfer.specs.Meanings.{Meaning}
 use Rattle.flush.specs.Flushes.{FlushModel}
@@ -60,6 +61,21 @@ members-are t v x = by (entry_of v.id.creator v.id t) x
 pub joins-fact : {S : Type 0} (meaning : Meaning S) (h : History) (p : Address) (c : Core S)
     → MemberFact meaning h p c → MemberFact meaning h p (record c { connected = true })
 joins-fact meaning h p c x = record {
+  standing = x.standing;
+  promise = x.promise;
+  announced = x.announced;
+  below = x.below;
+  reported = x.reported;
+  flush = x.flush;
+  view = x.view;
+  state = x.state;
+}
+
+-- ---- Gathers
+
+pub gathers-fact : {S : Type 0} (meaning : Meaning S) (h : History) (p : Address) (c : Core S) (chunks : List (ViewId × wire.Chunk))
+    → MemberFact meaning h p c → MemberFact meaning h p (record c { chunks = chunks })
+gathers-fact meaning h p c chunks x = record {
   standing = x.standing;
   promise = x.promise;
   announced = x.announced;

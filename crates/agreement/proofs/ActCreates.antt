@@ -70,9 +70,9 @@ module _ {S : Type 0} (meaning : Meaning S) where
       let none : entry_of p w t ≡ None = none-of (entry_of p w t) (not-entered t i (views-of meaning h inv.trace) above) in
       let goes : goes_from k w p ≡ Some None = coordinator-goes k w p i (same_address-refl p) (entry-now h i none) in
       let past : (u : ViewId) → IsNotPast c.promise u → ⊥ = λ u y. subst (λ (o : Option View). IsNotPast o u) a.unpromised y in
-      subst (λ (u : List Event). Invariant meaning (record { running = put p (Some (gone_into (lone_view p) c.state [] c)) s.running; history = record { pool = h.pool ++ []; trace = t ++ u } }))
+      subst (λ (u : List Event). Invariant meaning (record { running = put p (Some (gone_into (lone_view p) c.state [] None c)) s.running; history = record { pool = h.pool ++ []; trace = t ++ u } }))
       (sym (entering-lone c a.outside))
-      (made meaning s c h [] i c.state [] inv (quiet-refl meaning p h inv.trace) refl (record {
+      (made meaning s c h [] i c.state [] None inv (quiet-refl meaning p h inv.trace) refl (record {
         itself = refl;
         may = record {
           mine = refl;

@@ -1,11 +1,11 @@
 -- The act Enters: a member goes into the view that it promised, as the view's coordinator instructs it.
 use Rattle.std.proofs.Common.{◌≡◌, ℕ, ◌+◌, false, Option, Some, None, List, [], ◌∷◌, ◌++◌, length, refl, sym, ap, ◌∙◌, subst}
-use Rattle.std.specs.Prelude.{MatchOption, IsSome}
-use Rattle.std.specs.Option.{ForSome, IsSomeAnd, option_map, option_map_or}
+use Rattle.std.specs.Prelude.{MatchOption, IsSome, slice_get}
+use Rattle.std.specs.Option.{ForSome, IsSomeAnd, option_map, option_map_or, option_eq}
 use Rattle.std.proofs.lemmas.Option.{none-some, same_Some}
 use Rattle.std.proofs.lemmas.List.{append-nil, append_assoc, length-append}
 use Rattle.std.proofs.lemmas.List.Sums.{fold-append}
-use Rattle.address.specs.Ids.{Address, ViewId, same_address}
+use Rattle.address.specs.Ids.{Address, ViewId, same_address, same_view_id}
 use Rattle.view.specs.Members.{View}
 use Rattle.wire_values.specs.Values.{Entry, Report}
 use Rattle.wire_values.specs.Values as wire
@@ -24,7 +24,9 @@ use Rattle.acts.specs.Acts.{Enters, MayEnter, gone_into, undelivered, delivered_
 use Rattle.agreement.specs.Steps.{System, put, came_of, acted}
 use Rattle.agreement.specs.Packets.{end_of, IsCutOf, IsFitting, IsInstruction, state_with}
 use Rattle.agreement.specs.Members.{LiesBelow, MemberFact}
-use Rattle.agreement.specs.Invariant.{Invariant}
+use Rattle.acts.specs.Given.{IsGiven, chunk_at}
+use Rattle.agreement.specs.Invariant.{EachPiece, HoldsPutOut, Invariant}
+use Rattle.agreement.proofs.FactOfGiven.{given-is}
 use Rattle.agreement.proofs.KeepHistory.{later-trans, later-event}
 use Rattle.agreement.proofs.KeepPackets.{instruction-later}
 use Rattle.agreement.proofs.KeepOthers.{only-trans, only-event}
@@ -101,11 +103,12 @@ module _ {S : Type 0} (meaning : Meaning S) where
       ∙ undelivered-end c.view_state.delivered i.base i.items cut.low cut.high
 
   -- once it delivered its last entries it is ready
-  ready : (s : System S) (c : Core S) (i : wire.Install) (k : History) → Invariant meaning s → Fact s.history c.me c
+  ready : (s : System S) (c : Core S) (i : wire.Install) (given : Option (List ℕ)) (k : History) → EachPiece meaning s.history → HoldsPutOut s.history.pool c.chunks
+      → IsGiven c.chunks i.view.id i.state given → Invariant meaning s → Fact s.history c.me c
       → IsInstruction s.history i.view.id.creator c.me i → c.promise ≡ Some i.view → c.installed ≡ false → report_of c.me i.view.id s.history.pool ≡ Some (mine_of c)
-      → GoesOut meaning s.history k c (last_delivered c i) → k.pool ≡ s.history.pool → ForSome i.state (λ bytes. IsSome (meaning.decode bytes))
-      → IsReady meaning k c.me i (mine_of c) (left_back c i) (applied meaning c.state (last_delivered c i))
-  ready s c i k inv x instructed_so promised waiting report out pool readable =
+      → GoesOut meaning s.history k c (last_delivered c i) → k.pool ≡ s.history.pool → ForSome given (λ bytes. IsSome (meaning.decode bytes))
+      → IsReady meaning k c.me i (mine_of c) (left_back c i) (applied meaning c.state (last_delivered c i)) given
+  ready s c i given k each held is inv x instructed_so promised waiting report out pool readable =
       let h = s.history in
       let p = c.me in
       let fits = instructed_so.fits (mine_of c) report in
@@ -131,26 +134,35 @@ module _ {S : Type 0} (meaning : Meaning S) where
             ∙ ap (option_map _) (quiet.begun v.id)
             ∙ state_with-append meaning v.id (list_of p v.id h.trace) (last_delivered c i) h.trace c.state (x.state.in_view v e));
         readable = readable;
+        gives = λ e entry.
+            let w = i.view.id in
+            let states = states-later meaning h k quiet.later quiet.begun quiet.none inv.packets inv.states in
+            let instruction = instruction-later h k w.creator p i quiet.later instructed_so in
+            given-is meaning k (option_eq same_view_id (mine_of c).previous e.previous) i.state c.chunks w given
+            (λ n m v chunk at says. subst (λ (o : Option S). IsSomeAnd o (λ z. chunk ≡ chunk_at (meaning.encode z) chunk.index)) (sym (quiet.begun v))
+            (each n m v chunk (ap (λ (l : List Posted). slice_get l n) (sym pool) ∙ at) says))
+            (subst (λ (l : List Posted). HoldsPutOut l c.chunks) (sym pool) held)
+            (states.given w p i instruction.one e (mine_of c) entry (quiet.later.report p w (mine_of c) report)) is;
       }
 
   -- what is new of the history, and of the member
-  enters-moves : (s : System S) (c : Core S) (i : wire.Install) (k : History) → ((y : S) → meaning.is_state y → meaning.decode (meaning.encode y) ≡ Some y) → Invariant meaning s
+  enters-moves : (s : System S) (c : Core S) (i : wire.Install) (given : Option (List ℕ)) (k : History) → ((y : S) → meaning.is_state y → meaning.decode (meaning.encode y) ≡ Some y) → Invariant meaning s
       → Fact s.history c.me c → c.promise ≡ Some i.view → same_address i.view.id.creator c.me ≡ false
       → GoesOut meaning s.history k c (last_delivered c i) → k.pool ≡ s.history.pool
-      → IsReady meaning k c.me i (mine_of c) (left_back c i) (applied meaning c.state (last_delivered c i))
-      → Moves meaning c.me s.history (installed_on k (going c.me i (id_of c.view) (left_back c i)))
-      (Some (gone_into i.view (state_into meaning c (last_delivered c i) i.state) [] c))
-  enters-moves s c i k reads inv x promised other out pool y =
+      → IsReady meaning k c.me i (mine_of c) (left_back c i) (applied meaning c.state (last_delivered c i)) given
+      → Moves meaning c.me s.history (installed_on k (going c.me i (id_of c.view) (left_back c i) given))
+      (Some (gone_into i.view (state_into meaning c (last_delivered c i) given) [] None c))
+  enters-moves s c i given k reads inv x promised other out pool y =
       let h = s.history in
       let p = c.me in
       let r = mine_of c in
       let back = left_back c i in
       let st = applied meaning c.state (last_delivered c i) in
-      let mine = going p i (id_of c.view) back in
+      let mine = going p i (id_of c.view) back given in
       let z = installed_on k mine in
-      let goes = install-goes meaning k p i r back st y reads in
+      let goes = install-goes meaning k p i r back st given y reads in
       let m = later-event k (Installed mine) (views-of meaning k y.trace) (stands-of meaning k.trace (Installed mine) goes) in
-      let none = not-yet meaning k p i r back st y in
+      let none = not-yet meaning k p i r back st given y in
       let coordinator = y.instruction.other in
       record {
         later = later-trans h k z out.quiet.later m;
@@ -158,29 +170,30 @@ module _ {S : Type 0} (meaning : Meaning S) where
         state = only_state-trans meaning p h.trace k.trace z.trace out.quiet.state (only-state meaning p k.trace (Installed mine) refl);
         trace = trace-push meaning k (Installed mine) y.trace goes tt;
         packets = packets-later k z [] m (sym (append-nil k.pool)) y.packets (λ n q at. absurd (none-some q at));
-        entries = entries-installed k mine m y.entries none (install-entry meaning k p i r back st y m);
+        entries = entries-installed k mine m y.entries none (install-entry meaning k p i r back st given y m);
         states = states-entered meaning k mine m coordinator y.packets y.states;
         member = λ d e. subst (λ (w : Core S). Fact z p w) (same_Some _ d e)
-            (arrives meaning k c mine (state_into meaning c (last_delivered c i) i.state) [] (record {
+            (arrives meaning k c mine (state_into meaning c (last_delivered c i) given) [] None (record {
               itself = refl;
               before = y.trace.before;
               running = y.running;
               new = none;
               listed = y.instruction.listed;
-              first = same-view meaning k p i r back st y m;
+              first = same-view meaning k p i r back st given y m;
               announced = λ o. ap (flush_of i.view.id) pool ∙ x.announced i.view promised o;
               below = subst (λ (o : Option View). LiesBelow k.pool p o) promised (subst (λ (l : List Posted). LiesBelow l p c.promise) (sym pool) x.below);
               keeps = λ q j there. absurd (none-some j there);
-              now = has-taken meaning k p i r back st y;
-              is = takes-state meaning k p i r back st y reads;
-              begins = begun-same meaning k mine coordinator i.view.id ∙ view-begins meaning k p i r back st y reads;
+              now = has-taken meaning k p i r back st given y;
+              is = takes-state meaning k p i r back st given y reads;
+              begins = begun-same meaning k mine coordinator i.view.id ∙ view-begins meaning k p i r back st given y reads;
             }));
       }
 
-  pub enters-keep : (s : System S) (c : Core S) (which : Option ℕ) (i : wire.Install) → Law meaning → ((y : S) → meaning.is_state y → meaning.decode (meaning.encode y) ≡ Some y)
-      → Invariant meaning s → Fact s.history c.me c → MayEnter meaning (came_of c s.history.pool which) c i
-      → Invariant meaning (acted meaning s c.me (Enters i) c)
-  enters-keep s c which i law reads inv x a =
+  pub enters-keep : (s : System S) (c : Core S) (which : Option ℕ) (i : wire.Install) (given : Option (List ℕ)) → EachPiece meaning s.history
+      → HoldsPutOut s.history.pool c.chunks → Law meaning → ((y : S) → meaning.is_state y → meaning.decode (meaning.encode y) ≡ Some y)
+      → Invariant meaning s → Fact s.history c.me c → MayEnter meaning (came_of c s.history.pool which) c i given
+      → Invariant meaning (acted meaning s c.me (Enters i given) c)
+  enters-keep s c which i given each held law reads inv x a =
       let h = s.history in
       let p = c.me in
       let entries = last_delivered c i in
@@ -191,10 +204,10 @@ module _ {S : Type 0} (meaning : Meaning S) where
       let out : GoesOut meaning h k c entries =
       goes-out meaning h c entries law inv.trace x (follows h c i x (instructed_so.fits (mine_of c) report))
       (λ e. ap (λ o. option_map_or (λ (u : View). undelivered c.view_state.delivered i.base i.items) o []) e) in
-      let y = ready s c i k inv x instructed_so a.promised a.waiting report out refl a.readable in
-      let mine = going p i (id_of c.view) (left_back c i) in
-      subst (λ (l : History). Invariant meaning (record { running = put p (Some (gone_into i.view (state_into meaning c entries i.state) [] c)) s.running; history = l }))
+      let y = ready s c i given k each held a.gives inv x instructed_so a.promised a.waiting report out refl a.readable in
+      let mine = going p i (id_of c.view) (left_back c i) given in
+      subst (λ (l : History). Invariant meaning (record { running = put p (Some (gone_into i.view (state_into meaning c entries given) [] None c)) s.running; history = l }))
       (sym (grown-trace meaning h (deliveries p c.view entries ++ Installed mine ∷ [])
       ∙ ap {B = History} (λ (t : List Event). record { pool = h.pool; trace = t }) (sym (append_assoc h.trace (deliveries p c.view entries) (Installed mine ∷ [])))))
-      (moved meaning s p (installed_on k mine) (Some (gone_into i.view (state_into meaning c entries i.state) [] c)) inv
-      (enters-moves s c i k reads inv x a.promised said.other out refl y))
+      (moved meaning s p (installed_on k mine) (Some (gone_into i.view (state_into meaning c entries given) [] None c)) inv
+      (enters-moves s c i given k reads inv x a.promised said.other out refl y))

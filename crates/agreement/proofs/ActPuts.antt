@@ -138,6 +138,7 @@ module _ {S : Type 0} (meaning : Meaning S) where
       let by = install-fact h install.view.id q install each kept.1 in
       subst (λ (p : Address). IsInstruction h p q install) kept.0 by.fact
   describes-true h c q (bodies.Merge view) trace each x a = tt
+  describes-true h c q (bodies.State proposal chunk) trace each x a = tt
 
   -- ---- the act
 
@@ -155,6 +156,7 @@ module _ {S : Type 0} (meaning : Meaning S) where
   own-of h p q (bodies.Report proposal report) x = tt
   own-of h p q (bodies.Install install) x = x.own
   own-of h p q (bodies.Merge view) x = tt
+  own-of h p q (bodies.State proposal chunk) x = tt
 
   again-quiet : (h : History) (c : Core S) (q : Address) (b : Body) → TraceFact meaning h → has_started c.me h.trace ≡ true → BodyFact h c.me q b
       → Quiet meaning c.me h (record { pool = h.pool ++ packet c.me b q ∷ []; trace = h.trace })

@@ -8,6 +8,7 @@ use Rattle.address.specs.Ids.{Address, ViewId, same_address, same_view_id}
 use Rattle.view.specs.Members.{View, stands_in}
 use Rattle.wire_values.specs.Values.{Entry, Report}
 use Rattle.wire_values.specs.Values as wire
+use Rattle.wire_values.specs.declared.values.state.GivenState.{GivenState}
 use Rattle.flush.specs.Flushes.{FlushModel, report_from, comes_from, has_come_from, together_of}
 use Rattle.trace_props.specs.declared.event.Event.{Event}
 use Rattle.trace_props.specs.declared.event.Install.{Install}
@@ -115,8 +116,8 @@ module _ {S : Type 0} (meaning : Meaning S) where
     pub rises : IsBelow v.id f.proposal
     pub cut : (q : Address) (r : Report) (u : ViewId) → report_from q f.reports ≡ Some r → r.previous ≡ Some u → IsCutOf h.trace (cuts.base u) (cuts.items u) r u
 
-  pub ready : (h : History) (c : Core S) (v : View) (f : FlushModel) (cuts : Cuts) → EachPacket h → Fact h c.me c → MayFinish c v f cuts → IsReady h c v f cuts
-  ready h c v f cuts each x a =
+  pub ready : (h : History) (c : Core S) (v : View) (f : FlushModel) (cuts : Cuts) (given : GivenState) → EachPacket h → Fact h c.me c → MayFinish meaning c v f cuts given → IsReady h c v f cuts
+  ready h c v f cuts given each x a =
       let old = x.flush f a.flush in
       let runs = subst (λ (b : Bool). RunsFlush h.pool c.me c.promise b c.view c.view_state f) old.waits old in
       let inside : ForSome c.view (ViewFact h c.me false c.view_state c.sent_installs) = λ u e. subst (λ (b : Bool). ViewFact h c.me b c.view_state c.sent_installs u) old.waits (x.view u e) in
@@ -130,9 +131,9 @@ module _ {S : Type 0} (meaning : Meaning S) where
       }
 
   -- nobody has installed the proposal, and its coordinator may
-  pub departs : (s : System S) (h : History) (c : Core S) (v : View) (f : FlushModel) (cuts : Cuts) → Invariant meaning s → MayFinish c v f cuts
+  pub departs : (s : System S) (h : History) (c : Core S) (v : View) (f : FlushModel) (cuts : Cuts) (given : GivenState) → Invariant meaning s → MayFinish meaning c v f cuts given
       → IsReady s.history c v f cuts → GoesOut meaning s.history h c (last_entries c v cuts) → MayMake h.trace (maker_install c v f cuts)
-  departs s h c v f cuts inv a x out =
+  departs s h c v f cuts given inv a x out =
       let old = s.history in
       let t = h.trace in
       let p = c.me in

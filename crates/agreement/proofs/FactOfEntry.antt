@@ -42,19 +42,19 @@ use Rattle.address.proofs.Plain.{found}
 -- ---- what is so of a member that is about to go into a view as it was instructed
 
 -- its install
-abbrev pub going : Address → wire.Install → Option ViewId → List Numbered → Install
-going p i from back = record {
+abbrev pub going : Address → wire.Install → Option ViewId → List Numbered → Option (List ℕ) → Install
+going p i from back given = record {
   member = p;
   previous = from;
   view = i.view;
   together = i.together;
   handed_back = back;
-  given = i.state;
+  given = given;
 }
 
 module _ {S : Type 0} (meaning : Meaning S) where
   -- it runs, and has delivered its last messages; the instruction is for its report
-  pub record IsReady (k : History) (p : Address) (i : wire.Install) (r : Report) (back : List Numbered) (s : S) : Type 0 where
+  pub record IsReady (k : History) (p : Address) (i : wire.Install) (r : Report) (back : List Numbered) (s : S) (given : Option (List ℕ)) : Type 0 where
     pub trace : TraceFact meaning k
     pub packets : EachPacket k
     pub entries : EachEntry k
@@ -68,14 +68,17 @@ module _ {S : Type 0} (meaning : Meaning S) where
     pub rest : MatchOption r.previous (back ≡ []) (λ v. sent_in p v k.trace ≡ own p (delivered_in p v k.trace) ++ back)
     pub now : state_of meaning p k.trace ≡ s
     pub in_view : ForSome r.previous (λ v. state_with meaning v (list_of p v k.trace) k.trace ≡ Some s)
-    pub readable : ForSome i.state (λ bytes. IsSome (meaning.decode bytes))
+    pub readable : ForSome given (λ bytes. IsSome (meaning.decode bytes))
+    -- the state with which the view begins, where it comes from another view than the coordinator
+    pub gives : (e : Install) → entry_of i.view.id.creator i.view.id k.trace ≡ Some e
+        → given ≡ cond (option_eq same_view_id r.previous e.previous) None (option_map meaning.encode (entry_state meaning i.view.id k.trace))
 
-  module _ (k : History) (p : Address) (i : wire.Install) (r : Report) (back : List Numbered) (s : S) (x : IsReady k p i r back s) where
+  module _ (k : History) (p : Address) (i : wire.Install) (r : Report) (back : List Numbered) (s : S) (given : Option (List ℕ)) (x : IsReady k p i r back s given) where
     abbrev w : ViewId
     w = i.view.id
 
     abbrev mine : Install
-    mine = going p i r.previous back
+    mine = going p i r.previous back given
 
     fits : IsFitting k w p i r
     fits = x.instruction.fits r x.report
@@ -167,13 +170,13 @@ module _ {S : Type 0} (meaning : Meaning S) where
 
     -- the state that it takes: a given one, else its own
     abbrev taken : S
-    taken = unwrap_or (option_and_then meaning.decode i.state) s
+    taken = unwrap_or (option_and_then meaning.decode given) s
 
     after-install : state_of meaning p (k.trace ++ Installed mine ∷ []) ≡ taken
     after-install =
         state_of-push meaning p k.trace (Installed mine)
-        ∙ cond-true (same_address p p) (unwrap_or (option_and_then meaning.decode i.state) (state_of meaning p k.trace)) (state_of meaning p k.trace) (same_address-refl p)
-        ∙ ap (λ z. unwrap_or (option_and_then meaning.decode i.state) z) x.now
+        ∙ cond-true (same_address p p) (unwrap_or (option_and_then meaning.decode given) (state_of meaning p k.trace)) (state_of meaning p k.trace) (same_address-refl p)
+        ∙ ap (λ z. unwrap_or (option_and_then meaning.decode given) z) x.now
 
     -- who comes along with the coordinator has the coordinator's state
     along : (e : Install) (v : ViewId) (z : S) → entry_of w.creator w k.trace ≡ Some e → e.previous ≡ Some v → r.previous ≡ Some v → entry_state meaning w k.trace ≡ Some z → s ≡ z
@@ -184,20 +187,20 @@ module _ {S : Type 0} (meaning : Meaning S) where
 
     takes-by : (b : Bool) (e : Install) (z : S) → ((y : S) → meaning.is_state y → meaning.decode (meaning.encode y) ≡ Some y) → entry_of w.creator w k.trace ≡ Some e
         → entry_state meaning w k.trace ≡ Some z → option_eq same_view_id r.previous e.previous ≡ b
-        → i.state ≡ cond b None (option_map meaning.encode (entry_state meaning w k.trace)) → taken ≡ z
-    takes-by true e z reads entry begins same given =
+        → given ≡ cond b None (option_map meaning.encode (entry_state meaning w k.trace)) → taken ≡ z
+    takes-by true e z reads entry begins same is =
         let from = found e.previous (x.instruction.led.from e entry) in
-        ap (λ o. unwrap_or (option_and_then meaning.decode o) s) given
+        ap (λ o. unwrap_or (option_and_then meaning.decode o) s) is
         ∙ along e from.0 z entry from.1 (same-previous r.previous e.previous same ∙ from.1) begins
-    takes-by false e z reads entry begins other given =
-        ap (λ o. unwrap_or (option_and_then meaning.decode o) s) (given ∙ ap (option_map meaning.encode) begins)
+    takes-by false e z reads entry begins other is =
+        ap (λ o. unwrap_or (option_and_then meaning.decode o) s) (is ∙ ap (option_map meaning.encode) begins)
         ∙ ap (λ o. unwrap_or o s) (reads z (x.states.are w z begins))
 
     -- it takes the state with which the view begins
     takes : ((y : S) → meaning.is_state y → meaning.decode (meaning.encode y) ≡ Some y) → taken ≡ begun.0
     takes reads =
         takes-by (option_eq same_view_id r.previous coordinator.0.previous) coordinator.0 begun.0 reads coordinator.1 begun.1 refl
-        (x.states.given w p i x.instruction.one coordinator.0 r coordinator.1 x.report)
+        (x.gives coordinator.0 coordinator.1)
 
     -- ---- all of it
 

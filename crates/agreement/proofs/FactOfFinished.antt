@@ -7,6 +7,7 @@ use Rattle.address.specs.Ids.{Address, ViewId, same_address, same_view_id}
 use Rattle.view.specs.Members.{View, stands_in}
 use Rattle.wire_values.specs.Values.{Report}
 use Rattle.wire_values.specs.Values as wire
+use Rattle.wire_values.specs.declared.values.state.GivenState.{GivenState}
 use Rattle.flush.specs.Flushes.{FlushModel, report_from, comes_from, has_come_from, group, together_of}
 use Rattle.trace_props.specs.declared.event.Install.{Install}
 use Rattle.trace_props.specs.Observed.{entry_of}
@@ -123,12 +124,12 @@ together-as k p q mine r f e x from =
 -- ---- the instructions
 
 -- an instruction is that for what its address reported
-pub instruction-as : (f : FlushModel) (cuts : Cuts) (v : ViewId) (state : List ℕ) (q : Address) (r : Report) → report_from q f.reports ≡ Some r
+pub instruction-as : (f : FlushModel) (cuts : Cuts) (v : ViewId) (state : GivenState) (q : Address) (r : Report) → report_from q f.reports ≡ Some r
     → instruction_for f cuts v state q ≡ instruction f cuts v state q r
 instruction-as f cuts v state q r from = ap (λ o. instruction f cuts v state q (unwrap_or o wire.nothing_reported)) from
 
 -- what was put out for the view is exactly the instructions to the others of the list, at cuts of the views that were reported
-pub record IsPutOut (k : History) (p : Address) (mine : Report) (f : FlushModel) (cuts : Cuts) (v : ViewId) (state : List ℕ) : Type 0 where
+pub record IsPutOut (k : History) (p : Address) (mine : Report) (f : FlushModel) (cuts : Cuts) (v : ViewId) (state : GivenState) : Type 0 where
   pub each : (q : Address) → stands_in q (others_of p f.members) ≡ true → install_of f.proposal q k.pool ≡ Some (instruction_for f cuts v state q)
   pub only : (q : Address) (j : wire.Install) → install_of f.proposal q k.pool ≡ Some j → (stands_in q (others_of p f.members) ≡ true) × (j ≡ instruction_for f cuts v state q)
   pub cut : (q : Address) (r : Report) (u : ViewId) → report_from q f.reports ≡ Some r → r.previous ≡ Some u → IsCutOf k.trace (cuts.base u) (cuts.items u) r u
@@ -144,7 +145,7 @@ abbrev end_for : Cuts → Option ViewId → ℕ
 end_for cuts o = base_for cuts o + length (items_for cuts o)
 
 -- who was instructed to go into the view has reported, and was given its own instruction
-pub instructed-report : (k : History) (p q : Address) (mine : Report) (f : FlushModel) (cuts : Cuts) (v : ViewId) (state : List ℕ) (e : Install) (j : wire.Install) → IsFinished k p mine f e
+pub instructed-report : (k : History) (p q : Address) (mine : Report) (f : FlushModel) (cuts : Cuts) (v : ViewId) (state : GivenState) (e : Install) (j : wire.Install) → IsFinished k p mine f e
     → IsPutOut k p mine f cuts v state → install_of f.proposal q k.pool ≡ Some j
     → (r : Report) × (report_from q f.reports ≡ Some r) × (report_of q f.proposal k.pool ≡ Some r) × (j ≡ instruction f cuts v state q r)
 instructed-report k p q mine f cuts v state e j x y install =
@@ -152,7 +153,7 @@ instructed-report k p q mine f cuts v state e j x y install =
     let s = found (report_from q f.reports) (x.all q (filter-within (λ r. not (same_address r p)) q f.members instructed_so.0)) in
     (s.0, s.1, reported-other k p q mine s.0 f e x (others-other p q f.members instructed_so.0) s.1, instructed_so.1 ∙ instruction-as f cuts v state q s.0 s.1)
 
-fits-as : (k : History) (p q : Address) (mine r : Report) (f : FlushModel) (cuts : Cuts) (v : ViewId) (state : List ℕ) (e : Install) → IsFinished k p mine f e
+fits-as : (k : History) (p q : Address) (mine r : Report) (f : FlushModel) (cuts : Cuts) (v : ViewId) (state : GivenState) (e : Install) → IsFinished k p mine f e
     → IsPutOut k p mine f cuts v state → report_from q f.reports ≡ Some r → IsFitting k f.proposal q (instruction f cuts v state q r) r
 fits-as k p q mine r f cuts v state e x y from = record {
   cut = cut-as k cuts r r.previous (λ u is. y.cut q r u from is);
@@ -169,7 +170,7 @@ fits-as k p q mine r f cuts v state e x y from = record {
 }
 
 -- an instruction is what it has to be
-pub instructs : (k : History) (p q : Address) (mine : Report) (f : FlushModel) (cuts : Cuts) (v : ViewId) (state : List ℕ) (e : Install) (u : ViewId) → IsFinished k p mine f e
+pub instructs : (k : History) (p q : Address) (mine : Report) (f : FlushModel) (cuts : Cuts) (v : ViewId) (state : GivenState) (e : Install) (u : ViewId) → IsFinished k p mine f e
     → mine.previous ≡ Some u → IsPutOut k p mine f cuts v state → stands_in q (others_of p f.members) ≡ true → IsInstruction k p q (instruction_for f cuts v state q)
 instructs k p q mine f cuts v state e u x inside y there =
     let w = f.proposal in

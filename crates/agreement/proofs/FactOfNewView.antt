@@ -1,5 +1,5 @@
 -- A member has gone into a view: what then holds of it.
-use Rattle.std.proofs.Common.{◌≡◌, ◌<◌, ◌≤◌, true, false, Some, None, List, [], ◌∷◌, ◌++◌, length, map, refl, sym, ap, ◌∙◌, subst, arith}
+use Rattle.std.proofs.Common.{◌≡◌, ℕ, ◌<◌, ◌≤◌, true, false, Option, Some, None, List, [], ◌∷◌, ◌++◌, length, map, refl, sym, ap, ◌∙◌, subst, arith}
 use Rattle.std.specs.Option.{option_map}
 use Rattle.std.proofs.lemmas.Bool.{and_from, cond-true}
 use Rattle.std.proofs.lemmas.Option.{none-some, same_Some}
@@ -48,9 +48,9 @@ module _ {S : Type 0} (meaning : Meaning S) where
     pub begins : entry_state meaning i.view.id (installed_on h i).trace ≡ Some s
 
   -- so it is open in that view, with nothing delivered, sent or held there yet
-  pub arrives : (h : History) (c : Core S) (i : Install) (s : S) (kept : List (Address × wire.Install)) → Comes h c i s kept
-      → MemberFact meaning (installed_on h i) c.me (gone_into i.view s kept c)
-  arrives h c i s kept x =
+  pub arrives : (h : History) (c : Core S) (i : Install) (s : S) (kept : List (Address × wire.Install)) (kept_state : Option (List ℕ)) → Comes h c i s kept
+      → MemberFact meaning (installed_on h i) c.me (gone_into i.view s kept kept_state c)
+  arrives h c i s kept kept_state x =
       let t = h.trace in
       let me = c.me in
       let v = i.view in

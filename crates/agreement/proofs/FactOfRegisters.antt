@@ -40,6 +40,7 @@ flush-says w (bodies.Behind proposal counter) l e = absurd (none-some l e)
 flush-says w (bodies.Report proposal report) l e = absurd (none-some l e)
 flush-says w (bodies.Install install) l e = absurd (none-some l e)
 flush-says w (bodies.Merge view) l e = absurd (none-some l e)
+flush-says w (bodies.State proposal chunk) l e = absurd (none-some l e)
 
 -- what reports for a proposal is a REPORT for it
 pub report-says : (w : ViewId) (b : Body) (r : Report) → report_in w b ≡ Some r → b ≡ bodies.Report w r
@@ -58,6 +59,7 @@ report-says w (bodies.Report proposal report) r e =
     ap (λ v. bodies.Report v report) (same_view_id-true proposal w x.0) ∙ ap (bodies.Report w) x.1
 report-says w (bodies.Install install) r e = absurd (none-some r e)
 report-says w (bodies.Merge view) r e = absurd (none-some r e)
+report-says w (bodies.State proposal chunk) r e = absurd (none-some r e)
 
 -- what instructs to go into a view is an INSTALL of it
 pub install-says : (w : ViewId) (b : Body) (i : wire.Install) → install_in w b ≡ Some i → (b ≡ bodies.Install i) × (i.view.id ≡ w)
@@ -76,6 +78,7 @@ install-says w (bodies.Install install) i e =
     let x = cond_some (same_view_id install.view.id w) install i e in
     (ap bodies.Install x.1, ap (λ (j : wire.Install). j.view.id) (sym x.1) ∙ same_view_id-true install.view.id w x.0)
 install-says w (bodies.Merge view) i e = absurd (none-some i e)
+install-says w (bodies.State proposal chunk) i e = absurd (none-some i e)
 
 -- ---- where a register was written
 

@@ -7,7 +7,7 @@ use Rattle.trace_props.proofs.KeepEightRules.{synchronous-nil}
 use Rattle.acts.specs.Words.{tally_of, no_tally}
 use Rattle.acts.specs.Histories.{install_of}
 use Rattle.agreement.specs.Steps.{nothing_yet}
-use Rattle.agreement.specs.Invariant.{Invariant}
+use Rattle.agreement.specs.Invariant.{Invariant, Kept}
 
 no-tally : (p : Address) (v : ViewId) → tally_of p v [] ≡ no_tally
 unfolding tally_of
@@ -18,8 +18,8 @@ unfolding install_of
 no-install w q = refl
 
 module _ {S : Type 0} (meaning : Meaning S) where
-  pub nothing-holds : Invariant meaning nothing_yet
-  nothing-holds = record {
+  nothing-agreed : Invariant meaning nothing_yet
+  nothing-agreed = record {
     trace = record {
       synchronous = synchronous-nil meaning;
       before = λ p v none. record { none_delivered = refl; sent = refl; tally = no-tally p v };
@@ -36,4 +36,14 @@ module _ {S : Type 0} (meaning : Meaning S) where
       are = λ w s at. absurd (none-some s at);
     };
     members = λ p c at. absurd (none-some c at);
+  }
+
+  pub nothing-holds : Kept meaning nothing_yet
+  nothing-holds = record {
+    agreed = nothing-agreed;
+    chunks = record {
+      pieces = λ k m w chunk at. absurd (none-some m at);
+      held = λ p c at. absurd (none-some c at);
+      kept = λ p c at. absurd (none-some c at);
+    };
   }

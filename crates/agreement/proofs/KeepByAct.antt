@@ -1,21 +1,22 @@
--- Each of the sixteen acts keeps the invariant, as a step of a member that runs; and so do a start and a crash.
+-- Each of the seventeen acts keeps the invariant, as a step of a member that runs; and so do a start and a crash.
 use Rattle.std.proofs.Common.{◌≡◌, ℕ, ◌≤◌, length, false, Option, Some, List, subst, sym}
-use Rattle.address.specs.Ids.{Address, IsAddress}
+use Rattle.address.specs.Ids.{Address, ViewId, IsAddress}
 use Rattle.view.specs.Members.{View}
 use Rattle.limits.specs.declared.TheConstants.{PAYLOAD}
 use Rattle.wire_values.specs.Values.{Entry, Report}
 use Rattle.wire_values.specs.Values as wire
+use Rattle.wire_values.specs.declared.values.state.GivenState.{GivenState}
 use Rattle.wire_values.specs.declared.packet.Body.{Body}
 use Rattle.state_transfer.specs.Meanings.{Meaning}
 use Rattle.flush.specs.Flushes.{FlushModel}
 use Rattle.trace_props.specs.Observed.{has_started}
 use Rattle.acts.specs.Histories.{History}
 use Rattle.acts.specs.Cores.{Core}
-use Rattle.acts.specs.Acts.{Cuts, Act, Creates, Joins, Puts, Sends, Queues, Orders, TakesAck, Collects, Holds, Delivers, Promises, Begins, Records, Finishes, Enters, Leaves, Allowed}
+use Rattle.acts.specs.Acts.{Cuts, Act, Creates, Joins, Puts, Sends, Queues, Orders, TakesAck, Collects, Holds, Delivers, Promises, Begins, Records, Gathers, Finishes, Enters, Leaves, Allowed}
 use Rattle.agreement.specs.Steps.{System, Start, Crash, came_of, acted, stepped}
 use Rattle.agreement.specs.Members.{MemberFact}
-use Rattle.agreement.specs.Invariant.{Invariant}
-use Rattle.agreement.proofs.ActChangesOwn.{joins-fact, queues-fact, hears-fact, collects-fact, holds-fact, records-fact}
+use Rattle.agreement.specs.Invariant.{EachPiece, HoldsPutOut, Invariant}
+use Rattle.agreement.proofs.ActChangesOwn.{joins-fact, gathers-fact, queues-fact, hears-fact, collects-fact, holds-fact, records-fact}
 use Rattle.agreement.proofs.ActLeaves.{still-keeps, leaves-keeps, crashed-keeps}
 use Rattle.agreement.proofs.KeepByStart.{starts-keep}
 use Rattle.agreement.proofs.ActSends.{sends-keep}
@@ -53,6 +54,9 @@ module _ {S : Type 0} (meaning : Meaning S) where
 
   pub joins-keeps : Keeps Joins
   joins-keeps = at-own Joins (λ s c which i x a. still-keeps meaning s c.me _ i (joins-fact meaning s.history c.me c x))
+
+  pub gathers-keeps : (w : ViewId) (chunk : wire.Chunk) (chunks : List (ViewId × wire.Chunk)) → Keeps (Gathers w chunk chunks)
+  gathers-keeps w chunk chunks = at-own (Gathers w chunk chunks) (λ s c which i x a. still-keeps meaning s c.me _ i (gathers-fact meaning s.history c.me c chunks x))
 
   pub puts-keeps : (q : Address) (b : Body) → Keeps (Puts q b)
   puts-keeps q b = at-own (Puts q b) (λ s c which i x a. puts-keep meaning s c q b i x a)
@@ -99,13 +103,18 @@ module _ {S : Type 0} (meaning : Meaning S) where
   orders-keeps law v e waiting held = at-own (Orders v e waiting held) (λ s c which i x a. orders-keep meaning s c v e waiting held law i x a)
 
   pub finishes-keeps : ((z : S) (from : Address) (payload : List ℕ) → meaning.is_state z → IsAddress from → length payload ≤ PAYLOAD → meaning.is_state (meaning.apply z from payload))
-      → (v : View) (f : FlushModel) (cuts : Cuts) → Keeps (Finishes v f cuts)
-  finishes-keeps law v f cuts = at-own (Finishes v f cuts) (λ s c which i x a. finishes-keep meaning s c v f cuts law i x a)
+      → (v : View) (f : FlushModel) (cuts : Cuts) (given : GivenState) → Keeps (Finishes v f cuts given)
+  finishes-keeps law v f cuts given = at-own (Finishes v f cuts given) (λ s c which i x a. finishes-keep meaning s c v f cuts given law i x a)
 
   -- by that law, and by the law that an encoded state is read back
   pub enters-keeps : ((z : S) (from : Address) (payload : List ℕ) → meaning.is_state z → IsAddress from → length payload ≤ PAYLOAD → meaning.is_state (meaning.apply z from payload))
-      → ((z : S) → meaning.is_state z → meaning.decode (meaning.encode z) ≡ Some z) → (i : wire.Install) → Keeps (Enters i)
-  enters-keeps law reads i = at-own (Enters i) (λ s c which inv x a. enters-keep meaning s c which i law reads inv x a)
+      → ((z : S) → meaning.is_state z → meaning.decode (meaning.encode z) ≡ Some z) → (i : wire.Install) (given : Option (List ℕ)) (s : System S) (p : Address) (c : Core S) (which : Option ℕ)
+      → EachPiece meaning s.history → HoldsPutOut s.history.pool c.chunks → Holding s → s.running p ≡ Some c → Allowed meaning (came_of c s.history.pool which) c (Enters i given)
+      → Holding (acted meaning s p (Enters i given) c)
+  enters-keeps law reads i given s p c which each held inv runs a =
+      let x = inv.members p c runs in
+      subst (λ (q : Address). Holding (acted meaning s q (Enters i given) c)) x.standing.itself
+      (enters-keep meaning s c which i given each held law reads inv (subst (λ (q : Address). Fact s.history q c) (sym x.standing.itself) x) a)
 
   -- a start and a crash keep it
   pub start-keeps : (s : System S) (p : Address) → meaning.is_state meaning.opening → Holding s → IsAddress p → has_started p s.history.trace ≡ false

@@ -8,17 +8,18 @@ use Rattle.std.proofs.lemmas.List.{append_assoc}
 use Rattle.address.specs.Ids.{Address, same_address}
 use Rattle.state_transfer.specs.Meanings.{Meaning}
 use Rattle.trace_props.specs.declared.event.Event.{Event}
-use Rattle.address.proofs.SameIds.{same_address-true, same_address-refl}
+use Rattle.address.proofs.SameIds.{same_address-true}
 use Rattle.trace_props.proofs.FactOfPlaces.{slice_get-before}
 use Rattle.acts.specs.Histories.{Posted, History}
 use Rattle.acts.specs.Cores.{Core}
-use Rattle.acts.specs.Acts.{Act, Creates, Joins, Puts, Sends, Queues, Orders, TakesAck, Collects, Holds, Delivers, Promises, Begins, Records, Finishes, Enters, Leaves, Allowed, after, packets_of, events_of}
+use Rattle.acts.specs.Acts.{Act, Creates, Joins, Puts, Sends, Queues, Orders, TakesAck, Collects, Holds, Delivers, Promises, Begins, Records, Gathers, Finishes, Enters, Leaves, Allowed, after, packets_of, events_of}
 use Rattle.acts.specs.Acts.{handed}
 use Rattle.agreement.specs.Steps.{System, put, came_of, grown, acted}
 use Rattle.acts.specs.Chains.{Chain, packets_along, events_along}
-use Rattle.agreement.specs.Invariant.{Invariant}
+use Rattle.agreement.specs.Invariant.{Kept}
 use Rattle.agreement.specs.Law.{ActsKeep}
 use Rattle.agreement.proofs.KeepBySteps
+use Rattle.agreement.proofs.KeepChunks.{put-at}
 use Rattle.agreement.proofs.KeepWithoutInstall.{grown-none}
 
 -- ---- the members that run
@@ -38,9 +39,6 @@ put-same-by false p q x running e at = refl
 -- and what is there may be put
 put-same : {S : Type 0} (p : Address) (x : Option (Core S)) (running : Address → Option (Core S)) → running p ≡ x → put p x running ≡ running
 put-same p x running at = λ i q. put-same-by (same_address q p) p q x running refl at i
-
-put-at : {S : Type 0} (p : Address) (x : Option (Core S)) (running : Address → Option (Core S)) → put p x running p ≡ x
-put-at p x running = ap (λ b. cond b x (running p)) (same_address-refl p)
 
 grown-again : (h : History) (a b : List Posted) (x y : List Event) → grown (grown h a x) b y ≡ grown h (a ++ b) (x ++ y)
 grown-again h a b x y =
@@ -69,8 +67,9 @@ module _ {S : Type 0} (meaning : Meaning S) where
   act-still c d (Promises w) e = subst (IsStill c) (same_Some _ d e) (record { itself = refl; connected = λ x. x })
   act-still c d (Begins w) e = subst (IsStill c) (same_Some _ d e) (record { itself = refl; connected = λ x. x })
   act-still c d (Records f q r) e = subst (IsStill c) (same_Some _ d e) (record { itself = refl; connected = λ x. x })
-  act-still c d (Finishes v f cuts) e = subst (IsStill c) (same_Some _ d e) (record { itself = refl; connected = λ x. refl })
-  act-still c d (Enters i) e = subst (IsStill c) (same_Some _ d e) (record { itself = refl; connected = λ x. refl })
+  act-still c d (Gathers w chunk chunks) e = subst (IsStill c) (same_Some _ d e) (record { itself = refl; connected = λ x. x })
+  act-still c d (Finishes v f cuts given) e = subst (IsStill c) (same_Some _ d e) (record { itself = refl; connected = λ x. refl })
+  act-still c d (Enters i given) e = subst (IsStill c) (same_Some _ d e) (record { itself = refl; connected = λ x. refl })
   act-still c d Leaves e = absurd (none-some d e)
 
   handed-still : (c d : Core S) (m k : Posted) → IsStill c d → handed c m ≡ Some k → handed d m ≡ Some k
@@ -101,7 +100,7 @@ module _ {S : Type 0} (meaning : Meaning S) where
   -- ---- the acts
 
   abbrev Holding : System S → Type 0
-  Holding s = Invariant meaning s
+  Holding s = Kept meaning s
 
   -- the system after acts
   abbrev along : System S → Address → Option (Core S) → List Act → Option (Core S) → System S

@@ -1,5 +1,5 @@
 -- A member makes a view: what its install keeps of the states, of what was put out, and of all others.
-use Rattle.std.proofs.Common.{◌≡◌, ℕ, Bool, true, false, cond, Some, None, List, [], ◌∷◌, ◌++◌, filter, refl, sym, ap, ◌∙◌, subst, is_some, ◌⊎◌, inl, inr}
+use Rattle.std.proofs.Common.{◌≡◌, ℕ, Bool, true, false, cond, Option, Some, None, List, [], ◌∷◌, ◌++◌, filter, refl, sym, ap, ◌∙◌, subst, is_some, ◌⊎◌, inl, inr}
 use Rattle.std.specs.Prelude.{slice_get}
 use Rattle.std.specs.Option.{option_map, option_or}
 use Rattle.std.proofs.lemmas.Bool.{and_right, cond-true}
@@ -152,10 +152,10 @@ module _ {S : Type 0} (meaning : Meaning S) where
       later-trans h k2 (made_on h more i) (packed-later h more i may other_installs) (later-event k2 (Installed i) views may.running)
 
   -- the member that makes a view keeps the invariant
-  pub made : (s : System S) (c : Core S) (h : History) (more : List Posted) (i : Install) (z : S) (kept : List (Address × wire.Install)) → Invariant meaning s
+  pub made : (s : System S) (c : Core S) (h : History) (more : List Posted) (i : Install) (z : S) (kept : List (Address × wire.Install)) (kept_state : Option (List ℕ)) → Invariant meaning s
       → Quiet meaning c.me s.history h → h.pool ≡ s.history.pool → Makes h c more i z kept
-      → Invariant meaning (record { running = put c.me (Some (gone_into i.view z kept c)) s.running; history = made_on h more i })
-  made s c h more i z kept inv quiet pool x =
+      → Invariant meaning (record { running = put c.me (Some (gone_into i.view z kept kept_state c)) s.running; history = made_on h more i })
+  made s c h more i z kept kept_state inv quiet pool x =
       let t = h.trace in
       let w = i.view.id in
       let may = x.may in
@@ -184,7 +184,7 @@ module _ {S : Type 0} (meaning : Meaning S) where
       let state = ap (λ q. state_of meaning q (t ++ Installed i ∷ [])) (sym x.itself) ∙ now ∙ ap (λ q. state_of meaning q t) x.itself ∙ x.state in
       let before : state_of meaning i.member t ≡ z = ap (λ q. state_of meaning q t) x.itself ∙ x.state in
       let owner : c.me ≡ w.creator = sym x.itself ∙ may.mine in
-      moved meaning s c.me k (Some (gone_into i.view z kept c)) inv (record {
+      moved meaning s c.me k (Some (gone_into i.view z kept kept_state c)) inv (record {
         later = later-trans s.history h k quiet.later later;
         only = only-trans c.me s.history h k quiet.only (only-trans c.me h k2 k (only-packets c.me h more x.from) (only-event c.me k2 (Installed i) x.itself));
         state = only_state-trans meaning c.me s.history.trace t k.trace quiet.state (only-state meaning c.me t (Installed i) x.itself);
@@ -192,8 +192,8 @@ module _ {S : Type 0} (meaning : Meaning S) where
         packets = packets-later h k more later refl each x.packets;
         entries = entries-installed k2 i installed (λ q u e y. is_entry-later h k2 q u e packed y (entries q u e y)) (may.new i.member) new;
         states = states-made h more i may later each (subst meaning.is_state (sym before) x.is) x.gives x.begins states;
-        member = λ d e. subst (λ (y : Core S). MemberFact meaning k c.me y) (same_Some (gone_into i.view z kept c) d e)
-            (arrives meaning k2 c i z kept (record {
+        member = λ d e. subst (λ (y : Core S). MemberFact meaning k c.me y) (same_Some (gone_into i.view z kept kept_state c) d e)
+            (arrives meaning k2 c i z kept kept_state (record {
               itself = x.itself;
               before = trace.before;
               running = running;

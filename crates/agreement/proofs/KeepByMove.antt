@@ -12,6 +12,7 @@ use Rattle.address.proofs.SameIds.{same_address-true}
 use Rattle.acts.specs.Words.{list_of}
 use Rattle.acts.specs.Histories.{Posted, History, report_of}
 use Rattle.acts.specs.Histories as histories
+use Rattle.acts.specs.Given.{Tells}
 use Rattle.acts.specs.Cores.{Core}
 use Rattle.agreement.specs.Steps.{System, put}
 use Rattle.agreement.specs.Packets.{PacketFact, GivesState, BeginsWith, state_with}
@@ -52,15 +53,14 @@ pub given-later : {S : Type 0} (meaning : Meaning S) (h k : History) (w : ViewId
     → Later h k → ((v : ViewId) (s : S) → entry_state meaning v h.trace ≡ Some s → entry_state meaning v k.trace ≡ Some s)
     → EachPacket h → ((e : Install) → entry_of i.view.id.creator i.view.id h.trace ≡ Some e → is_some (entry_state meaning i.view.id h.trace) ≡ true)
     → histories.install_of w q h.pool ≡ Some i → GivesState meaning h q i → GivesState meaning k q i
-given-later meaning h k w q i m kept each there install x e r entry report =
+given-later {S} meaning h k w q i m kept each there install x e r entry report =
     let by = install-fact h w q i each install in
     let led = by.fact.led in
     let was : entry_of i.view.id.creator i.view.id h.trace ≡ Some e =
     sym (same-later (entry_of i.view.id.creator i.view.id h.trace) (entry_of i.view.id.creator i.view.id k.trace) (λ z y. m.entry i.view.id.creator i.view.id z y) led.entered) ∙ entry in
     let said : report_of q i.view.id h.pool ≡ Some r =
     sym (same-later (report_of q i.view.id h.pool) (report_of q i.view.id k.pool) (λ z y. m.report q i.view.id z y) (led.answered q i by.fact.one)) ∙ report in
-    x e r was said
-    ∙ ap (λ o. cond (option_eq same_view_id r.previous e.previous) None (option_map meaning.encode o)) (sym (state-same meaning i.view.id h k kept (there e was)))
+    subst (λ (o : Option S). Tells i.state (cond (option_eq same_view_id r.previous e.previous) None (option_map meaning.encode o))) (sym (state-same meaning i.view.id h k kept (there e was))) (x e r was said)
 
 pub begins-later : {S : Type 0} (meaning : Meaning S) (h k : History) (w : ViewId) (e : Install) → Later h k
     → ((v : ViewId) (s : S) → entry_state meaning v h.trace ≡ Some s → entry_state meaning v k.trace ≡ Some s)

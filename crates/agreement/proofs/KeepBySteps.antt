@@ -6,11 +6,12 @@ use Rattle.address.specs.Ids.{Address, IsAddress}
 use Rattle.limits.specs.declared.TheConstants.{PAYLOAD}
 use Rattle.state_transfer.specs.Meanings.{Meaning}
 use Rattle.acts.specs.Cores.{Core}
-use Rattle.acts.specs.Acts.{Act, Creates, Joins, Puts, Sends, Queues, Orders, TakesAck, Collects, Holds, Delivers, Promises, Begins, Records, Finishes, Enters, Leaves, Allowed}
+use Rattle.acts.specs.Acts.{Act, Creates, Joins, Puts, Sends, Queues, Orders, TakesAck, Collects, Holds, Delivers, Promises, Begins, Records, Gathers, Finishes, Enters, Leaves, Allowed}
 use Rattle.agreement.specs.Steps.{System, Step, Start, Crash, Does, MayStep, MayRun, nothing_yet, came_of, acted, stepped, after_steps}
-use Rattle.agreement.specs.Invariant.{Invariant}
+use Rattle.agreement.specs.Invariant.{Invariant, Kept}
 use Rattle.agreement.specs.Law.{KeepsInvariant, IsAlwaysSynchronous}
 use Rattle.agreement.proofs.KeepByAct
+use Rattle.agreement.proofs.KeepChunks.{act-chunks, start-chunks, crash-chunks}
 use Rattle.agreement.proofs.KeepAtFirst.{nothing-holds}
 
 module _ {S : Type 0} (meaning : Meaning S) where
@@ -22,26 +23,38 @@ module _ {S : Type 0} (meaning : Meaning S) where
     pub reads_back : (s : S) → meaning.is_state s → meaning.decode (meaning.encode s) ≡ Some s
 
   abbrev Holding : System S → Type 0
-  Holding s = Invariant meaning s
+  Holding s = Kept meaning s
 
-  -- each act
-  pub act-keeps : Laws → (act : Act) → KeepByAct.Keeps meaning act
-  act-keeps l Creates = KeepByAct.creates-keeps meaning
-  act-keeps l Joins = KeepByAct.joins-keeps meaning
-  act-keeps l (Puts q body) = KeepByAct.puts-keeps meaning q body
-  act-keeps l (Sends v payload) = KeepByAct.sends-keeps meaning v payload
-  act-keeps l (Queues v e waiting) = KeepByAct.queues-keeps meaning v e waiting
-  act-keeps l (Orders v e waiting held) = KeepByAct.orders-keeps meaning l.applies v e waiting held
-  act-keeps l (TakesAck v q n) = KeepByAct.hears-keeps meaning v q n
-  act-keeps l (Collects v n held) = KeepByAct.collects-keeps meaning v n held
-  act-keeps l (Holds v g e held) = KeepByAct.holds-keeps meaning v g e held
-  act-keeps l (Delivers v e) = KeepByAct.delivers-keeps meaning l.applies v e
-  act-keeps l (Promises w) = KeepByAct.promises-keeps meaning w
-  act-keeps l (Begins w) = KeepByAct.begins-keeps meaning w
-  act-keeps l (Records f q r) = KeepByAct.records-keeps meaning f q r
-  act-keeps l (Finishes v f cuts) = KeepByAct.finishes-keeps meaning l.applies v f cuts
-  act-keeps l (Enters i) = KeepByAct.enters-keeps meaning l.applies l.reads_back i
-  act-keeps l Leaves = KeepByAct.leaves-act-keeps meaning
+  -- each act keeps the invariant
+  abbrev Agrees : Act → Type 0
+  Agrees act = (s : System S) (p : Address) (c : Core S) (which : Option ℕ) → Holding s → s.running p ≡ Some c → Allowed meaning (came_of c s.history.pool which) c act
+      → Invariant meaning (acted meaning s p act c)
+
+  act-agrees : Laws → (act : Act) → Agrees act
+  act-agrees l Creates s p c which x runs a = KeepByAct.creates-keeps meaning s p c which x.agreed runs a
+  act-agrees l Joins s p c which x runs a = KeepByAct.joins-keeps meaning s p c which x.agreed runs a
+  act-agrees l (Puts q body) s p c which x runs a = KeepByAct.puts-keeps meaning q body s p c which x.agreed runs a
+  act-agrees l (Sends v payload) s p c which x runs a = KeepByAct.sends-keeps meaning v payload s p c which x.agreed runs a
+  act-agrees l (Queues v e waiting) s p c which x runs a = KeepByAct.queues-keeps meaning v e waiting s p c which x.agreed runs a
+  act-agrees l (Orders v e waiting held) s p c which x runs a = KeepByAct.orders-keeps meaning l.applies v e waiting held s p c which x.agreed runs a
+  act-agrees l (TakesAck v q n) s p c which x runs a = KeepByAct.hears-keeps meaning v q n s p c which x.agreed runs a
+  act-agrees l (Collects v n held) s p c which x runs a = KeepByAct.collects-keeps meaning v n held s p c which x.agreed runs a
+  act-agrees l (Holds v g e held) s p c which x runs a = KeepByAct.holds-keeps meaning v g e held s p c which x.agreed runs a
+  act-agrees l (Delivers v e) s p c which x runs a = KeepByAct.delivers-keeps meaning l.applies v e s p c which x.agreed runs a
+  act-agrees l (Promises w) s p c which x runs a = KeepByAct.promises-keeps meaning w s p c which x.agreed runs a
+  act-agrees l (Begins w) s p c which x runs a = KeepByAct.begins-keeps meaning w s p c which x.agreed runs a
+  act-agrees l (Records f q r) s p c which x runs a = KeepByAct.records-keeps meaning f q r s p c which x.agreed runs a
+  act-agrees l (Gathers w chunk chunks) s p c which x runs a = KeepByAct.gathers-keeps meaning w chunk chunks s p c which x.agreed runs a
+  act-agrees l (Finishes v f cuts given) s p c which x runs a = KeepByAct.finishes-keeps meaning l.applies v f cuts given s p c which x.agreed runs a
+  act-agrees l (Enters i given) s p c which x runs a = KeepByAct.enters-keeps meaning l.applies l.reads_back i given s p c which x.chunks.pieces (x.chunks.held p c runs) x.agreed runs a
+  act-agrees l Leaves s p c which x runs a = KeepByAct.leaves-act-keeps meaning s p c which x.agreed runs a
+
+  -- and what holds of chunks
+  pub act-keeps : Laws → (act : Act) (s : System S) (p : Address) (c : Core S) (which : Option ℕ) → Holding s → s.running p ≡ Some c
+      → Allowed meaning (came_of c s.history.pool which) c act → Holding (acted meaning s p act c)
+  act-keeps l act s p c which x runs a =
+      let agreed = act-agrees l act s p c which x runs a in
+      record { agreed = agreed; chunks = act-chunks meaning act s p c which x.chunks runs a agreed }
 
   -- each step
   does-keeps : Laws → (s : System S) (p : Address) (which : Option ℕ) (act : Act) (o : Option (Core S)) → s.running p ≡ o → Holding s
@@ -51,10 +64,10 @@ module _ {S : Type 0} (meaning : Meaning S) where
 
   crash-by : (s : System S) (p : Address) (o : Option (Core S)) → s.running p ≡ o → Holding s → IsSome o → Holding (stepped meaning s (Crash p))
   crash-by s p None runs i a = absurd (let n : false ≡ true = a in cc)
-  crash-by s p (Some c) runs i a = KeepByAct.crash-keeps meaning s p c i runs
+  crash-by s p (Some c) runs i a = record { agreed = KeepByAct.crash-keeps meaning s p c i.agreed runs; chunks = crash-chunks meaning s p i.chunks }
 
   pub step-keeps : Laws → (s : System S) (x : Step) → Holding s → MayStep meaning s x → Holding (stepped meaning s x)
-  step-keeps l s (Start p) i a = KeepByAct.start-keeps meaning s p l.opens i a.0 a.1
+  step-keeps l s (Start p) i a = record { agreed = KeepByAct.start-keeps meaning s p l.opens i.agreed a.0 a.1; chunks = start-chunks meaning s p i.chunks }
   step-keeps l s (Crash p) i a = crash-by s p (s.running p) refl i a
   step-keeps l s (Does p which act) i a = does-keeps l s p which act (s.running p) refl i a
 
@@ -67,4 +80,4 @@ module _ {S : Type 0} (meaning : Meaning S) where
   keeps-invariant l steps a = steps-keep l nothing_yet steps (nothing-holds meaning) a
 
   pub always-synchronous : Laws → IsAlwaysSynchronous meaning
-  always-synchronous l steps a = (keeps-invariant l steps a).trace.synchronous
+  always-synchronous l steps a = (keeps-invariant l steps a).agreed.trace.synchronous

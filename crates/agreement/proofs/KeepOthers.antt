@@ -142,6 +142,7 @@ IsOwn p (bodies.Behind proposal counter) = Unit {0}
 IsOwn p (bodies.Report proposal report) = Unit {0}
 IsOwn p (bodies.Install install) = install.view.id.creator ≡ p
 IsOwn p (bodies.Merge view) = Unit {0}
+IsOwn p (bodies.State proposal chunk) = Unit {0}
 
 pub record IsFrom (p : Address) (m : Posted) : Type 0 where
   pub source : m.source ≡ p
@@ -168,6 +169,7 @@ no-flush p w (bodies.Behind proposal counter) own o = refl
 no-flush p w (bodies.Report proposal report) own o = refl
 no-flush p w (bodies.Install install) own o = refl
 no-flush p w (bodies.Merge view) own o = refl
+no-flush p w (bodies.State proposal chunk) own o = refl
 
 no-install : (p : Address) (w : ViewId) (b : Body) → IsOwn p b → same_address w.creator p ≡ false → install_in w b ≡ None
 no-install p w bodies.Join own o = refl
@@ -183,6 +185,7 @@ no-install p w (bodies.Behind proposal counter) own o = refl
 no-install p w (bodies.Report proposal report) own o = refl
 no-install p w (bodies.Install install) own o = cond-false (same_view_id install.view.id w) (Some install) None (not-of p install.view.id w own o)
 no-install p w (bodies.Merge view) own o = refl
+no-install p w (bodies.State proposal chunk) own o = refl
 
 either-none : {X : Type 0} (b : Bool) (x : Option X) → x ≡ None → cond b x None ≡ None
 either-none true x e = e

@@ -199,6 +199,7 @@ body-later h k p q (bodies.Behind proposal counter) m x = x
 body-later h k p q (bodies.Report proposal report) m x = answer-later h k p proposal report m x
 body-later h k p q (bodies.Install install) m x = instruction-later h k p q install m x
 body-later h k p q (bodies.Merge view) m x = x
+body-later h k p q (bodies.State proposal chunk) m x = x
 
 pub packet-later : (h k : History) (p : Posted) → Later h k → PacketFact h p → PacketFact k p
 packet-later h k p m x = body-later h k p.source p.destination p.body m x

@@ -98,8 +98,8 @@ module _ {S : Type 0} (meaning : Meaning S) where
       ▸ record { inside = refl; own = refl; above = for-some (λ p. IsBelow p.id view_of_rest.id) view_of_three refl; view = refl }
       ▸ record { asked = refl; listed = refl; connected = refl; above = inl (for-some (λ p. IsBelow p.id view_of_rest.id) view_of_three refl) }
       ▸ record { flush = refl; received = refl; listed = refl; new = refl }
-      ▸ record { view = refl; flush = refl; all = all-reported rest_reports; cut = cuts-of rest_reports stable_cuts rest-cuts }
-      ▸ record { asked = refl; promised = refl; waiting = refl; fits = omega arith; readable = for-none (λ bytes. IsSome (meaning.decode bytes)) }
+      ▸ record { view = refl; flush = refl; all = all-reported rest_reports; cut = cuts-of rest_reports stable_cuts rest-cuts; gives = tt }
+      ▸ record { asked = refl; promised = refl; waiting = refl; fits = omega arith; gives = refl; readable = for-none (λ bytes. IsSome (meaning.decode bytes)) }
       ▸ tt
 
   pub leave-plays : meaning.decode (meaning.encode meaning.opening) ≡ Some meaning.opening → LeavePlays meaning

@@ -25,6 +25,7 @@ pub mod FactOfNewView
 pub mod ActOrders
 pub mod FactOfEntrants
 pub mod FactOfEntry
+pub mod FactOfGiven
 pub mod ActEnters
 pub mod FactOfFirstInstall
 pub mod KeepByFirstInstall
@@ -35,9 +36,11 @@ pub mod FactMayInstall
 pub mod ActFinishes
 pub mod KeepByAct
 pub mod KeepAtFirst
+pub mod KeepChunks
 pub mod KeepBySteps
 pub mod StoriesPlay
 pub mod CrashStoryPlays
 pub mod LeaveStoryPlays
 pub mod MergeStoryPlays
+pub mod ChunkStoryPlays
 pub mod KeepByCall

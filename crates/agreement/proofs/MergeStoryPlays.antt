@@ -95,10 +95,10 @@ module _ {S : Type 0} (meaning : Meaning S) where
       ▸ record { flush = refl; received = refl; listed = refl; new = refl }
       ▸ record { flush = refl; received = refl; listed = refl; new = refl }
       ▸ record { flush = refl; received = refl; listed = refl; new = refl }
-      ▸ record { view = refl; flush = refl; all = all-reported four_reports; cut = cuts-of four_reports empty_cuts four-cuts }
-      ▸ record { asked = refl; promised = refl; waiting = refl; fits = omega arith; readable = for-none (λ bytes. IsSome (meaning.decode bytes)) }
-      ▸ record { asked = refl; promised = refl; waiting = refl; fits = omega arith; readable = for-none (λ bytes. IsSome (meaning.decode bytes)) }
-      ▸ record { asked = refl; promised = refl; waiting = refl; fits = record { base = refl; items = refl; state = refl }; readable = for-some (λ bytes. IsSome (meaning.decode bytes)) (meaning.encode meaning.opening) (ap is_some reads) }
+      ▸ record { view = refl; flush = refl; all = all-reported four_reports; cut = cuts-of four_reports empty_cuts four-cuts; gives = refl }
+      ▸ record { asked = refl; promised = refl; waiting = refl; fits = omega arith; gives = refl; readable = for-none (λ bytes. IsSome (meaning.decode bytes)) }
+      ▸ record { asked = refl; promised = refl; waiting = refl; fits = omega arith; gives = refl; readable = for-none (λ bytes. IsSome (meaning.decode bytes)) }
+      ▸ record { asked = refl; promised = refl; waiting = refl; fits = record { base = refl; items = refl; state = refl }; gives = refl; readable = for-some (λ bytes. IsSome (meaning.decode bytes)) (meaning.encode meaning.opening) (ap is_some reads) }
       ▸ tt
 
   parting-runs : Runs fifth_system parting_chapter
@@ -108,12 +108,12 @@ module _ {S : Type 0} (meaning : Meaning S) where
       ▸ record { inside = refl; own = refl; above = for-some (λ p. IsBelow p.id second_half.id) view_of_four refl; view = refl }
       ▸ record { asked = refl; listed = refl; connected = refl; above = inl (for-some (λ p. IsBelow p.id first_half.id) view_of_four refl) }
       ▸ record { flush = refl; received = refl; listed = refl; new = refl }
-      ▸ record { view = refl; flush = refl; all = all-reported first_reports; cut = cuts-of first_reports empty_cuts first-cuts }
-      ▸ record { asked = refl; promised = refl; waiting = refl; fits = omega arith; readable = for-none (λ bytes. IsSome (meaning.decode bytes)) }
+      ▸ record { view = refl; flush = refl; all = all-reported first_reports; cut = cuts-of first_reports empty_cuts first-cuts; gives = tt }
+      ▸ record { asked = refl; promised = refl; waiting = refl; fits = omega arith; gives = refl; readable = for-none (λ bytes. IsSome (meaning.decode bytes)) }
       ▸ record { asked = refl; listed = refl; connected = refl; above = inl (for-some (λ p. IsBelow p.id second_half.id) view_of_four refl) }
       ▸ record { flush = refl; received = refl; listed = refl; new = refl }
-      ▸ record { view = refl; flush = refl; all = all-reported second_reports; cut = cuts-of second_reports empty_cuts second-cuts }
-      ▸ record { asked = refl; promised = refl; waiting = refl; fits = omega arith; readable = for-none (λ bytes. IsSome (meaning.decode bytes)) }
+      ▸ record { view = refl; flush = refl; all = all-reported second_reports; cut = cuts-of second_reports empty_cuts second-cuts; gives = tt }
+      ▸ record { asked = refl; promised = refl; waiting = refl; fits = omega arith; gives = refl; readable = for-none (λ bytes. IsSome (meaning.decode bytes)) }
       ▸ tt
 
   apart-runs : Runs sixth_system apart_chapter
@@ -145,10 +145,10 @@ module _ {S : Type 0} (meaning : Meaning S) where
       ▸ record { flush = refl; received = refl; listed = refl; new = refl }
       ▸ record { flush = refl; received = refl; listed = refl; new = refl }
       ▸ record { flush = refl; received = refl; listed = refl; new = refl }
-      ▸ record { view = refl; flush = refl; all = all-reported all_reports; cut = cuts-of all_reports half_cuts all-cuts }
-      ▸ record { asked = refl; promised = refl; waiting = refl; fits = omega arith; readable = for-none (λ bytes. IsSome (meaning.decode bytes)) }
-      ▸ record { asked = refl; promised = refl; waiting = refl; fits = omega arith; readable = for-some (λ bytes. IsSome (meaning.decode bytes)) (meaning.encode half) (ap is_some reads) }
-      ▸ record { asked = refl; promised = refl; waiting = refl; fits = omega arith; readable = for-some (λ bytes. IsSome (meaning.decode bytes)) (meaning.encode half) (ap is_some reads) }
+      ▸ record { view = refl; flush = refl; all = all-reported all_reports; cut = cuts-of all_reports half_cuts all-cuts; gives = refl }
+      ▸ record { asked = refl; promised = refl; waiting = refl; fits = omega arith; gives = refl; readable = for-none (λ bytes. IsSome (meaning.decode bytes)) }
+      ▸ record { asked = refl; promised = refl; waiting = refl; fits = omega arith; gives = refl; readable = for-some (λ bytes. IsSome (meaning.decode bytes)) (meaning.encode half) (ap is_some reads) }
+      ▸ record { asked = refl; promised = refl; waiting = refl; fits = omega arith; gives = refl; readable = for-some (λ bytes. IsSome (meaning.decode bytes)) (meaning.encode half) (ap is_some reads) }
       ▸ tt
 
   pub merge-plays : meaning.decode (meaning.encode meaning.opening) ≡ Some meaning.opening → meaning.decode (meaning.encode half) ≡ Some half → MergePlays meaning

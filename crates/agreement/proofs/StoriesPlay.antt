@@ -22,7 +22,7 @@ use Rattle.agreement.specs.Stories.{one, two, three, view_of_two, view_of_three,
 pub one-is : IsAddress one
 one-is = record { node = omega arith; node_fits = omega arith; incarnation = omega arith; incarnation_fits = omega arith }
 
-two-is : IsAddress two
+pub two-is : IsAddress two
 two-is = record { node = omega arith; node_fits = omega arith; incarnation = omega arith; incarnation_fits = omega arith }
 
 three-is : IsAddress three
@@ -99,7 +99,7 @@ no-items reports b stable end = record { base = sym stable; each = λ j e at. ab
 
 -- ---- the flushes with which all stories begin
 
-two-cuts : Each (HasCut two_reports empty_cuts) two_reports
+pub two-cuts : Each (HasCut two_reports empty_cuts) two_reports
 two-cuts =
     let cut = for-some (λ u. IsCut (group (Some u) two_reports) 0 []) (lone_view one).id (no-items (delivered_nothing (lone_view one) ∷ []) 0 refl refl) in
     (cut, (for-none (λ u. IsCut (group (Some u) two_reports) 0 []), tt))
@@ -143,8 +143,8 @@ module _ {S : Type 0} (meaning : Meaning S) where
       ▸ record { inside = refl; own = refl; above = for-some (λ p. IsBelow p.id view_of_two.id) (lone_view one) refl; view = refl }
       ▸ record { asked = refl; listed = refl; connected = refl; above = inl (for-none (λ p. IsBelow p.id view_of_two.id)) }
       ▸ record { flush = refl; received = refl; listed = refl; new = refl }
-      ▸ record { view = refl; flush = refl; all = all-reported two_reports; cut = cuts-of two_reports empty_cuts two-cuts }
-      ▸ record { asked = refl; promised = refl; waiting = refl; fits = record { base = refl; items = refl; state = refl }; readable = for-some (λ bytes. IsSome (meaning.decode bytes)) (meaning.encode meaning.opening) (ap is_some reads) }
+      ▸ record { view = refl; flush = refl; all = all-reported two_reports; cut = cuts-of two_reports empty_cuts two-cuts; gives = refl }
+      ▸ record { asked = refl; promised = refl; waiting = refl; fits = record { base = refl; items = refl; state = refl }; gives = refl; readable = for-some (λ bytes. IsSome (meaning.decode bytes)) (meaning.encode meaning.opening) (ap is_some reads) }
       ▸ tt
 
   third-runs : meaning.decode (meaning.encode meaning.opening) ≡ Some meaning.opening → Runs third_system (third_chapter (meaning.encode meaning.opening))
@@ -157,9 +157,9 @@ module _ {S : Type 0} (meaning : Meaning S) where
       ▸ record { asked = refl; listed = refl; connected = refl; above = inl (for-none (λ p. IsBelow p.id view_of_three.id)) }
       ▸ record { flush = refl; received = refl; listed = refl; new = refl }
       ▸ record { flush = refl; received = refl; listed = refl; new = refl }
-      ▸ record { view = refl; flush = refl; all = all-reported three_reports; cut = cuts-of three_reports empty_cuts three-cuts }
-      ▸ record { asked = refl; promised = refl; waiting = refl; fits = omega arith; readable = for-none (λ bytes. IsSome (meaning.decode bytes)) }
-      ▸ record { asked = refl; promised = refl; waiting = refl; fits = record { base = refl; items = refl; state = refl }; readable = for-some (λ bytes. IsSome (meaning.decode bytes)) (meaning.encode meaning.opening) (ap is_some reads) }
+      ▸ record { view = refl; flush = refl; all = all-reported three_reports; cut = cuts-of three_reports empty_cuts three-cuts; gives = refl }
+      ▸ record { asked = refl; promised = refl; waiting = refl; fits = omega arith; gives = refl; readable = for-none (λ bytes. IsSome (meaning.decode bytes)) }
+      ▸ record { asked = refl; promised = refl; waiting = refl; fits = record { base = refl; items = refl; state = refl }; gives = refl; readable = for-some (λ bytes. IsSome (meaning.decode bytes)) (meaning.encode meaning.opening) (ap is_some reads) }
       ▸ tt
 
   -- what goes on from the three

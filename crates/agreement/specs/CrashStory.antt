@@ -4,6 +4,7 @@ use Rattle.std.specs.Prelude.{ℕ, None, Some, List, [], ◌∷◌, ◌++◌, ta
 use Rattle.address.specs.Ids.{Address}
 use Rattle.wire_values.specs.Values.{Entry, Report}
 use Rattle.wire_values.specs.declared.packet.Body.TheVariants as bodies
+use Rattle.wire_values.specs.declared.values.state.GivenState.TheVariants as forms
 use Rattle.state_transfer.specs.Meanings.{Meaning}
 use Rattle.trace_props.specs.declared.event.Event.{Event}
 use Rattle.trace_props.specs.declared.event.Event.TheVariants.{Blocked, Crashed}
@@ -65,8 +66,8 @@ crash_chapter =
     ∷ Does two None (Begins view_of_rest)
     ∷ Does three (Some 18) (Promises view_of_rest)
     ∷ Does two (Some 19) (Records (flush_with view_of_rest (take 1 rest_reports)) three delivered_both)
-    ∷ Does two (Some 19) (Finishes view_of_three (flush_with view_of_rest rest_reports) both_cuts)
-    ∷ Does three (Some 20) (Enters (for_companion view_of_rest (two ∷ three ∷ []) (entry_a ∷ entry_b ∷ [])))
+    ∷ Does two (Some 19) (Finishes view_of_three (flush_with view_of_rest rest_reports) both_cuts forms.Nothing)
+    ∷ Does three (Some 20) (Enters (for_companion view_of_rest (two ∷ three ∷ []) (entry_a ∷ entry_b ∷ [])) None)
     ∷ []
 
 -- the whole story

@@ -1,8 +1,12 @@
--- The invariant: what holds of every history that comes of steps, in four families. Of the trace, of each packet, of each install, of each member.
-use Rattle.std.specs.Prelude.{◌≡◌, ◌≤◌, ℕ, true, None, Some, List, [], length, slice_get, is_some}
+-- The invariant: what holds of every history that comes of steps, in four families. Of the trace, of each packet, of each install, of each member. Beside it
+-- stands what holds of the chunks of states.
+use Rattle.std.specs.Prelude.{◌≡◌, ◌≤◌, ℕ, true, Option, None, Some, List, [], length, slice_get, is_some}
+use Rattle.std.specs.Option.{ForSome, IsSomeAnd}
 use Rattle.address.specs.Ids.{Address, ViewId, IsAddress}
 use Rattle.limits.specs.declared.TheConstants.{PAYLOAD}
+use Rattle.view.specs.Members.{View}
 use Rattle.wire_values.specs.Values as wire
+use Rattle.wire_values.specs.declared.packet.Body.TheVariants as bodies
 use Rattle.state_transfer.specs.Meanings.{Meaning}
 use Rattle.trace_props.specs.declared.event.Event.{Event}
 use Rattle.trace_props.specs.declared.event.Numbered.{Numbered}
@@ -14,7 +18,7 @@ use Rattle.acts.specs.Words.{tally_of, no_tally}
 use Rattle.acts.specs.Histories.{Posted, History, install_of}
 use Rattle.acts.specs.Cores.{Core}
 use Rattle.agreement.specs.Steps.{System}
-use Rattle.agreement.specs.Packets.{PacketFact, IsEntry, GivesState, BeginsWith}
+use Rattle.agreement.specs.Packets.{PacketFact, IsEntry, GivesState, BeginsWith, IsPiece, WasPutOut}
 use Rattle.agreement.specs.Members.{MemberFact}
 
 -- a member that has not installed a view delivered nothing and sent nothing there
@@ -60,6 +64,24 @@ pub record StateFact {S : Type 0} (meaning : Meaning S) (h : History) : Type 0 w
   pub begins : (w : ViewId) (e : Install) → entry_of w.creator w h.trace ≡ Some e → BeginsWith meaning h.trace w e
   pub are : (w : ViewId) (s : S) → entry_state meaning w h.trace ≡ Some s → meaning.is_state s
 
+-- the chunks that were put out are pieces of the state with which their view begins
+abbrev pub EachPiece : {S : Type 0} → Meaning S → History → Type 0
+EachPiece meaning h = (k : ℕ) (m : Posted) (w : ViewId) (chunk : wire.Chunk) → slice_get h.pool k ≡ Some m → m.body ≡ bodies.State w chunk → IsPiece meaning h.trace w chunk
+
+-- chunks that are held were put out, for the same proposals
+abbrev pub HoldsPutOut : List Posted → List (ViewId × wire.Chunk) → Type 0
+HoldsPutOut pool chunks = (k : ℕ) (w : ViewId) (chunk : wire.Chunk) → slice_get chunks k ≡ Some (w, chunk) → WasPutOut pool w chunk
+
+-- a state that is kept is the one with which the current view begins
+abbrev pub KeepsState : {S : Type 0} → Meaning S → List Event → Option View → Option (List ℕ) → Type 0
+KeepsState meaning t view kept = ForSome kept (λ bytes. ForSome view (λ v. IsSomeAnd (entry_state meaning v.id t) (λ s. meaning.encode s ≡ bytes)))
+
+-- of the chunks that were put out, those that each member holds, and the state that it keeps
+pub record ChunkFact {S : Type 0} (meaning : Meaning S) (s : System S) : Type 0 where
+  pub pieces : EachPiece meaning s.history
+  pub held : (p : Address) (c : Core S) → s.running p ≡ Some c → HoldsPutOut s.history.pool c.chunks
+  pub kept : (p : Address) (c : Core S) → s.running p ≡ Some c → KeepsState meaning s.history.trace c.view c.kept_state
+
 -- of the trace, of each packet, of each install, of states, of each member that runs
 pub record Invariant {S : Type 0} (meaning : Meaning S) (s : System S) : Type 0 where
   pub trace : TraceFact meaning s.history
@@ -67,3 +89,8 @@ pub record Invariant {S : Type 0} (meaning : Meaning S) (s : System S) : Type 0 
   pub entries : EachEntry s.history
   pub states : StateFact meaning s.history
   pub members : (p : Address) (c : Core S) → s.running p ≡ Some c → MemberFact meaning s.history p c
+
+-- what every step keeps: the invariant, and what holds of chunks
+pub record Kept {S : Type 0} (meaning : Meaning S) (s : System S) : Type 0 where
+  pub agreed : Invariant meaning s
+  pub chunks : ChunkFact meaning s

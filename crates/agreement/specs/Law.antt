@@ -8,10 +8,10 @@ use Rattle.acts.specs.Histories.{Posted}
 use Rattle.acts.specs.Cores.{Core}
 use Rattle.agreement.specs.Steps.{System, Step, MayRun, nothing_yet, after_steps, put, came_of, grown}
 use Rattle.acts.specs.Chains.{Acted}
-use Rattle.agreement.specs.Invariant.{Invariant}
+use Rattle.agreement.specs.Invariant.{Kept}
 
 abbrev pub KeepsInvariant : {S : Type 0} → Meaning S → Type 0
-KeepsInvariant meaning = (steps : List Step) → MayRun meaning nothing_yet steps → Invariant meaning (after_steps meaning nothing_yet steps)
+KeepsInvariant meaning = (steps : List Step) → MayRun meaning nothing_yet steps → Kept meaning (after_steps meaning nothing_yet steps)
 
 -- all eight rules at every place, within the events of a step too
 abbrev pub IsAlwaysSynchronous : {S : Type 0} → Meaning S → Type 0
@@ -21,6 +21,6 @@ IsAlwaysSynchronous meaning = (steps : List Step) → MayRun meaning nothing_yet
 -- what a member did in one call: acts, on a packet of the pool that it was handed, or on none
 abbrev pub ActsKeep : {S : Type 0} → Meaning S → Type 0
 ActsKeep {S} meaning = (s : System S) (p : Address) (c : Core S) (end : Option (Core S)) (which : Option ℕ) (came : Option Posted) (packets : List Posted)
-    (events : List Event) → Invariant meaning s → s.running p ≡ Some c → came ≡ came_of c s.history.pool which → (came ≡ None → which ≡ None)
+    (events : List Event) → Kept meaning s → s.running p ≡ Some c → came ≡ came_of c s.history.pool which → (came ≡ None → which ≡ None)
     → Acted meaning came (Some c) packets events end
-    → Invariant meaning (record { running = put p end s.running; history = grown s.history packets events })
+    → Kept meaning (record { running = put p end s.running; history = grown s.history packets events })

@@ -4,6 +4,7 @@ use Rattle.std.specs.Prelude.{ℕ, None, Some, List, [], ◌∷◌, ◌++◌, ta
 use Rattle.address.specs.Ids.{Address}
 use Rattle.wire_values.specs.Values.{Entry, Report}
 use Rattle.wire_values.specs.Values as wire
+use Rattle.wire_values.specs.declared.values.state.GivenState.TheVariants as forms
 use Rattle.wire_values.specs.declared.packet.Body.TheVariants as bodies
 use Rattle.state_transfer.specs.Meanings.{Meaning}
 use Rattle.trace_props.specs.declared.event.Event.{Event}
@@ -29,7 +30,7 @@ stable_cuts = record { base = λ v. 1; items = λ v. [] }
 
 -- the instruction to the third
 abbrev pub for_third : wire.Install
-for_third = record { view = view_of_rest; together = two ∷ three ∷ []; base = 1; items = []; state = None }
+for_third = record { view = view_of_rest; together = two ∷ three ∷ []; base = 1; items = []; state = forms.Nothing }
 
 -- the second sends a message, the first orders it, all deliver it, and the first and the second learn that it is stable
 abbrev pub stable_chapter : List Step
@@ -68,8 +69,8 @@ leave_chapter =
     ∷ Does two (Some 19) (Begins view_of_rest)
     ∷ Does three (Some 21) (Promises view_of_rest)
     ∷ Does two (Some 22) (Records (flush_with view_of_rest (take 1 rest_reports)) three (delivered_first view_of_three entry_of_two))
-    ∷ Does two (Some 22) (Finishes view_of_three (flush_with view_of_rest rest_reports) stable_cuts)
-    ∷ Does three (Some 23) (Enters for_third)
+    ∷ Does two (Some 22) (Finishes view_of_three (flush_with view_of_rest rest_reports) stable_cuts forms.Nothing)
+    ∷ Does three (Some 23) (Enters for_third None)
     ∷ []
 
 -- the whole story

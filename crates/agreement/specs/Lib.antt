@@ -7,3 +7,4 @@ pub mod Stories
 pub mod CrashStory
 pub mod LeaveStory
 pub mod MergeStory
+pub mod ChunkStory

@@ -5,6 +5,7 @@ use Rattle.address.specs.Ids.{Address, same_view_id}
 use Rattle.view.specs.Members.{View}
 use Rattle.wire_values.specs.Values.{Entry, Report, nothing_reported}
 use Rattle.wire_values.specs.Values as wire
+use Rattle.wire_values.specs.declared.values.state.GivenState.TheVariants as forms
 use Rattle.wire_values.specs.declared.packet.Body.TheVariants as bodies
 use Rattle.state_transfer.specs.Meanings.{Meaning}
 use Rattle.trace_props.specs.declared.event.Event.{Event}
@@ -65,7 +66,7 @@ half_cuts = record { base = λ v. 0; items = λ v. if same_view_id v first_half.
 
 -- the instruction to one that comes from another view: it has the messages that that one lacks, and this state
 abbrev pub for_merged : View → List Address → List Entry → List ℕ → wire.Install
-for_merged w together items state = record { view = w; together = together; base = 0; items = items; state = Some state }
+for_merged w together items state = record { view = w; together = together; base = 0; items = items; state = forms.Whole state }
 
 -- the fourth joins
 abbrev pub fourth_chapter : List ℕ → List Step
@@ -80,10 +81,10 @@ fourth_chapter state =
     ∷ Does one (Some 15) (Records (flush_with view_of_four (take 1 four_reports)) two (delivered_nothing view_of_three))
     ∷ Does one (Some 16) (Records (flush_with view_of_four (take 2 four_reports)) three (delivered_nothing view_of_three))
     ∷ Does one (Some 17) (Records (flush_with view_of_four (take 3 four_reports)) four nothing_reported)
-    ∷ Does one (Some 17) (Finishes view_of_three (flush_with view_of_four four_reports) empty_cuts)
-    ∷ Does two (Some 18) (Enters (for_companion view_of_four (one ∷ two ∷ three ∷ []) []))
-    ∷ Does three (Some 19) (Enters (for_companion view_of_four (one ∷ two ∷ three ∷ []) []))
-    ∷ Does four (Some 20) (Enters (for_newcomer view_of_four four state))
+    ∷ Does one (Some 17) (Finishes view_of_three (flush_with view_of_four four_reports) empty_cuts (forms.Whole state))
+    ∷ Does two (Some 18) (Enters (for_companion view_of_four (one ∷ two ∷ three ∷ []) []) None)
+    ∷ Does three (Some 19) (Enters (for_companion view_of_four (one ∷ two ∷ three ∷ []) []) None)
+    ∷ Does four (Some 20) (Enters (for_newcomer view_of_four four state) (Some state))
     ∷ []
 
 -- the first and the third each lose sight of the other half; the first proposes twice
@@ -94,12 +95,12 @@ parting_chapter =
     ∷ Does three None (Begins second_half)
     ∷ Does two (Some 23) (Promises first_half)
     ∷ Does one (Some 25) (Records (flush_with first_half (take 1 first_reports)) two (delivered_nothing view_of_four))
-    ∷ Does one (Some 25) (Finishes view_of_four (flush_with first_half first_reports) empty_cuts)
-    ∷ Does two (Some 26) (Enters (for_companion first_half (one ∷ two ∷ []) []))
+    ∷ Does one (Some 25) (Finishes view_of_four (flush_with first_half first_reports) empty_cuts forms.Nothing)
+    ∷ Does two (Some 26) (Enters (for_companion first_half (one ∷ two ∷ []) []) None)
     ∷ Does four (Some 24) (Promises second_half)
     ∷ Does three (Some 27) (Records (flush_with second_half (take 1 second_reports)) four (delivered_nothing view_of_four))
-    ∷ Does three (Some 27) (Finishes view_of_four (flush_with second_half second_reports) empty_cuts)
-    ∷ Does four (Some 28) (Enters (for_companion second_half (three ∷ four ∷ []) []))
+    ∷ Does three (Some 27) (Finishes view_of_four (flush_with second_half second_reports) empty_cuts forms.Nothing)
+    ∷ Does four (Some 28) (Enters (for_companion second_half (three ∷ four ∷ []) []) None)
     ∷ []
 
 -- a message in each half; that of the third is not delivered to the fourth
@@ -133,10 +134,10 @@ merge_chapter state =
     ∷ Does one (Some 36) (Records (flush_with view_of_all (take 1 all_reports)) two (delivered_first first_half entry_of_one))
     ∷ Does one (Some 37) (Records (flush_with view_of_all (take 2 all_reports)) three (delivered_first second_half entry_of_three))
     ∷ Does one (Some 38) (Records (flush_with view_of_all (take 3 all_reports)) four (delivered_nothing second_half))
-    ∷ Does one (Some 38) (Finishes first_half (flush_with view_of_all all_reports) half_cuts)
-    ∷ Does two (Some 39) (Enters (for_companion view_of_all (one ∷ two ∷ []) (entry_of_one ∷ [])))
-    ∷ Does three (Some 40) (Enters (for_merged view_of_all (three ∷ four ∷ []) (entry_of_three ∷ []) state))
-    ∷ Does four (Some 41) (Enters (for_merged view_of_all (three ∷ four ∷ []) (entry_of_three ∷ []) state))
+    ∷ Does one (Some 38) (Finishes first_half (flush_with view_of_all all_reports) half_cuts (forms.Whole state))
+    ∷ Does two (Some 39) (Enters (for_companion view_of_all (one ∷ two ∷ []) (entry_of_one ∷ [])) None)
+    ∷ Does three (Some 40) (Enters (for_merged view_of_all (three ∷ four ∷ []) (entry_of_three ∷ []) state) (Some state))
+    ∷ Does four (Some 41) (Enters (for_merged view_of_all (three ∷ four ∷ []) (entry_of_three ∷ []) state) (Some state))
     ∷ []
 
 -- the whole story, for the state with which all begin, and that of the first half

@@ -1,6 +1,6 @@
 -- What holds of each packet that was put out, and of each install, from then on.
 use Rattle.std.specs.Prelude.{◌≡◌, ℕ, ◌+◌, ◌<◌, ◌≤◌, true, false, Option, None, Some, List, filter, length, is_some, slice_get, if◌then◌else◌}
-use Rattle.std.specs.Option.{ForSome, option_map, option_eq}
+use Rattle.std.specs.Option.{ForSome, IsSomeAnd, option_map, option_eq}
 use Rattle.address.specs.Ids.{Address, ViewId, same_address, same_view_id}
 use Rattle.view.specs.Members.{View, stands_in}
 use Rattle.view.specs.View.{view_refusal}
@@ -16,6 +16,7 @@ use Rattle.trace_props.specs.Observed.{sent_in, entry_of}
 use Rattle.trace_props.specs.State.{entry_state}
 use Rattle.acts.specs.Words.{list_of, order_of, members_of, open_count, IsClosed}
 use Rattle.acts.specs.Histories.{Posted, History, flush_of, report_of, install_of, goes_from, goes_with}
+use Rattle.acts.specs.Given.{Tells, chunk_at}
 use Rattle.acts.specs.Cores.{applied}
 
 -- ---- what a message and a count mean
@@ -143,6 +144,7 @@ BodyFact h p q (bodies.Behind proposal counter) = Unit {0}
 BodyFact h p q (bodies.Report proposal report) = IsAnswer h p proposal report
 BodyFact h p q (bodies.Install install) = IsInstruction h p q install
 BodyFact h p q (bodies.Merge view) = Unit {0}
+BodyFact h p q (bodies.State proposal chunk) = Unit {0}
 
 abbrev pub PacketFact : History → Posted → Type 0
 PacketFact h m = BodyFact h m.source m.destination m.body
@@ -170,7 +172,15 @@ state_with meaning v entries t = option_map (λ s. applied meaning s entries) (e
 -- an INSTALL gives the state with which its view begins to all who come from another view than its coordinator
 abbrev pub GivesState : {S : Type 0} → Meaning S → History → Address → wire.Install → Type 0
 GivesState meaning h q i = (e : Install) (r : Report) → entry_of i.view.id.creator i.view.id h.trace ≡ Some e → report_of q i.view.id h.pool ≡ Some r
-    → i.state ≡ (if option_eq same_view_id r.previous e.previous then None else option_map meaning.encode (entry_state meaning i.view.id h.trace))
+    → Tells i.state (if option_eq same_view_id r.previous e.previous then None else option_map meaning.encode (entry_state meaning i.view.id h.trace))
+
+-- a chunk is one of the state with which its view begins
+abbrev pub IsPiece : {S : Type 0} → Meaning S → List Event → ViewId → wire.Chunk → Type 0
+IsPiece meaning t w chunk = IsSomeAnd (entry_state meaning w t) (λ s. chunk ≡ chunk_at (meaning.encode s) chunk.index)
+
+-- a chunk was put out for a proposal
+abbrev pub WasPutOut : List Posted → ViewId → wire.Chunk → Type 0
+WasPutOut pool w chunk = (k : ℕ) × (m : Posted) × (slice_get pool k ≡ Some m) × (m.body ≡ bodies.State w chunk)
 
 -- a view begins with the state that its coordinator had at the end of the view from which it came
 abbrev pub BeginsWith : {S : Type 0} → Meaning S → List Event → ViewId → Install → Type 0

@@ -4,6 +4,7 @@ use Rattle.address.specs.Ids.{Address, ViewId}
 use Rattle.view.specs.Members.{View}
 use Rattle.wire_values.specs.Values.{Entry, Report, nothing_reported}
 use Rattle.wire_values.specs.Values as wire
+use Rattle.wire_values.specs.declared.values.state.GivenState.TheVariants as forms
 use Rattle.wire_values.specs.declared.packet.Body.TheVariants as bodies
 use Rattle.state_transfer.specs.Meanings.{Meaning}
 use Rattle.flush.specs.Flushes.{FlushModel}
@@ -78,11 +79,11 @@ empty_cuts = record { base = λ v. 0; items = λ v. [] }
 
 -- the instruction to one that comes from no view: it is given this state
 abbrev pub for_newcomer : View → Address → List ℕ → wire.Install
-for_newcomer w q state = record { view = w; together = q ∷ []; base = 0; items = []; state = Some state }
+for_newcomer w q state = record { view = w; together = q ∷ []; base = 0; items = []; state = forms.Whole state }
 
 -- the instruction to one that comes from the view of the coordinator
 abbrev pub for_companion : View → List Address → List Entry → wire.Install
-for_companion w together items = record { view = w; together = together; base = 0; items = items; state = None }
+for_companion w together items = record { view = w; together = together; base = 0; items = items; state = forms.Nothing }
 
 -- ---- all stories begin alike. Packets are named by their place in the pool, from 0
 
@@ -99,8 +100,8 @@ second_chapter state =
     ∷ Does one (Some 0) (Begins view_of_two)
     ∷ Does two (Some 1) (Promises view_of_two)
     ∷ Does one (Some 2) (Records (flush_with view_of_two (take 1 two_reports)) two nothing_reported)
-    ∷ Does one (Some 2) (Finishes (lone_view one) (flush_with view_of_two two_reports) empty_cuts)
-    ∷ Does two (Some 3) (Enters (for_newcomer view_of_two two state))
+    ∷ Does one (Some 2) (Finishes (lone_view one) (flush_with view_of_two two_reports) empty_cuts (forms.Whole state))
+    ∷ Does two (Some 3) (Enters (for_newcomer view_of_two two state) (Some state))
     ∷ []
 
 -- the third joins
@@ -114,9 +115,9 @@ third_chapter state =
     ∷ Does three (Some 6) (Promises view_of_three)
     ∷ Does one (Some 7) (Records (flush_with view_of_three (take 1 three_reports)) two (delivered_nothing view_of_two))
     ∷ Does one (Some 8) (Records (flush_with view_of_three (take 2 three_reports)) three nothing_reported)
-    ∷ Does one (Some 8) (Finishes view_of_two (flush_with view_of_three three_reports) empty_cuts)
-    ∷ Does two (Some 9) (Enters (for_companion view_of_three (one ∷ two ∷ []) []))
-    ∷ Does three (Some 10) (Enters (for_newcomer view_of_three three state))
+    ∷ Does one (Some 8) (Finishes view_of_two (flush_with view_of_three three_reports) empty_cuts (forms.Whole state))
+    ∷ Does two (Some 9) (Enters (for_companion view_of_three (one ∷ two ∷ []) []) None)
+    ∷ Does three (Some 10) (Enters (for_newcomer view_of_three three state) (Some state))
     ∷ []
 
 -- three come together, each newcomer is given this state, and then the story goes on

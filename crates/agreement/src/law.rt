@@ -1,4 +1,5 @@
 ghost use Rattle.agreement.specs.Law.{KeepsInvariant, IsAlwaysSynchronous, ActsKeep};
+ghost use Rattle.agreement.specs.ChunkStory.{ChunkPlays};
 ghost use Rattle.agreement.specs.CrashStory.{CrashPlays};
 ghost use Rattle.agreement.specs.LeaveStory.{LeavePlays};
 ghost use Rattle.agreement.specs.MergeStory.{MergePlays};
@@ -14,13 +15,15 @@ pub fn agreement<R: Receiver>()
     ensures keep { ActsKeep R.meaning }
 {}
 
-/// The law speaks of something: these three lists of steps are allowed from the beginning on, and these traces come of them. In each three members come
+/// The law speaks of something: these four lists of steps are allowed from the beginning on, and these traces come of them. In three of them three members come
 /// together one after the other. Then the first orders two messages and crashes before the second has the last one; the second takes over and delivers it
 /// by the cut. Or the first orders a message of the second, which becomes stable, and leaves before it has the next one, which is handed back. Or a fourth
 /// joins, the four fall into two halves, a message is ordered in each, and the halves merge: the second half is given the state of the first, and the
-/// fourth delivers what it lacks of its own half. Each of the sixteen acts is done somewhere. For every receiver that keeps the laws. It does nothing.
+/// fourth delivers what it lacks of its own half. In the fourth list a member joins another and is given its state in chunks, which are put out twice.
+/// Each of the seventeen acts is done somewhere. For every receiver that keeps the laws. It does nothing.
 pub fn stories_play<R: Receiver>()
     ensures crash { CrashPlays R.meaning }
     ensures leave { LeavePlays R.meaning }
     ensures merge { MergePlays R.meaning }
+    ensures chunks { ChunkPlays }
 {}

@@ -1,5 +1,5 @@
 -- What a member decides in a change of view, by what it knows and what it notes.
-use Rattle.std.specs.Prelude.{ℕ, Bool, true, false, ◌&&◌, nat_eq, nat_le, length, is_some, Option, None, Some, List, if◌then◌else◌}
+use Rattle.std.specs.Prelude.{ℕ, Bool, true, false, ◌&&◌, nat_eq, nat_le, length, is_some, Option, None, Some, List, [], unwrap_or, if◌then◌else◌}
 use Rattle.std.specs.Option.{option_map, option_map_or, option_and_then}
 use Rattle.address.specs.Ids.{Address, same_address}
 use Rattle.view.specs.Members.{View}
@@ -8,11 +8,15 @@ use Rattle.suspicion.specs.Suspicion.{leads}
 use Rattle.next_view.specs.Notes.{NotesModel}
 use Rattle.next_view.specs.Candidates.{candidates, next_counter, is_changed, is_broken, is_abandoned}
 use Rattle.wire_values.specs.Values as wire
+use Rattle.wire_values.specs.declared.values.state.GivenState.{GivenState}
+use Rattle.wire_values.specs.declared.values.state.GivenState.TheVariants as forms
+use Rattle.limits.specs.declared.TheConstants.{WHOLE_STATE}
 use Rattle.flush.specs.Cuts.{cut_base, cut_items}
 use Rattle.flush.specs.Flushes.{FlushModel, group}
 use Rattle.view_install.specs.Promises.{PromiseModel, may_install}
 use Rattle.acts.specs.Cores.{Core}
-use Rattle.acts.specs.Acts.{Cuts}
+use Rattle.acts.specs.Acts.{Cuts, all_come_from, state_after_cut}
+use Rattle.acts.specs.Given.{kept_bytes}
 
 -- what it has promised
 abbrev pub promise_of : {S : Type 0} → Core S → PromiseModel
@@ -62,16 +66,35 @@ due_proposal c b = option_and_then (due_at c b) c.view
 abbrev pub cuts_of : FlushModel → Cuts
 cuts_of f = record { base = λ u. cut_base (group (Some u) f.reports); items = λ u. cut_items (group (Some u) f.reports) }
 
+-- how a state is given, if one is: itself where it is short, else in chunks
+abbrev pub form_of : Option (List ℕ) → GivenState
+form_of None = forms.Nothing
+form_of (Some bytes) = if nat_le (length bytes) WHOLE_STATE then forms.Whole bytes else forms.Chunked (length bytes)
+
+-- what is kept of it: all of it where it goes in chunks
+abbrev pub kept_of : Option (List ℕ) → Option (List ℕ)
+kept_of given = kept_bytes (form_of given) (unwrap_or given [])
+
+-- the state that a finished flush gives: that after its own cut, where not all come from its coordinator's view
+abbrev pub given_by : {S : Type 0} → Meaning S → Core S → View → FlushModel → Option (List ℕ)
+given_by meaning c v f = if all_come_from v.id f.reports then None else Some (meaning.encode (state_after_cut meaning c v (cuts_of f)))
+
 -- ---- an INSTALL
 
 -- whether there is no state, or one that can be read
 abbrev pub is_readable : {S : Type 0} → Meaning S → Option (List ℕ) → Bool
 is_readable meaning given = option_map_or (λ bytes. is_some (meaning.decode bytes)) given true
 
+-- whether a state is given
+abbrev pub gives_some : GivenState → Bool
+gives_some forms.Nothing = false
+gives_some (forms.Whole bytes) = true
+gives_some (forms.Chunked total) = true
+
 -- who comes from a view delivers what follows a number that it has reached; who comes from none delivers no messages and is given a state
 abbrev pub is_fitting : Option View → ℕ → wire.Install → Bool
 is_fitting (Some v) delivered i = nat_le i.base delivered
-is_fitting None delivered i = nat_eq i.base 0 && nat_eq (length i.items) 0 && is_some i.state
+is_fitting None delivered i = nat_eq i.base 0 && nat_eq (length i.items) 0 && gives_some i.state
 
 -- whether it would enter by an INSTALL: the creator of the view says so, the view is promised with its list and not installed, and it fits
 abbrev pub is_entry : {S : Type 0} → Core S → Address → wire.Install → Bool

@@ -1,6 +1,7 @@
 -- The rules of a change of view as acts.
-use Rattle.std.specs.Prelude.{◌≡◌, true, false, Option, None, Some, List, [], ◌∷◌, map, IsSome}
-use Rattle.address.specs.Ids.{Address}
+use Rattle.std.specs.Prelude.{◌≡◌, ℕ, ◌++◌, slice_get, true, false, Option, None, Some, List, [], ◌∷◌, map, unwrap_or, IsSome}
+use Rattle.std.specs.List.{Contains, flat_map}
+use Rattle.address.specs.Ids.{Address, ViewId}
 use Rattle.view.specs.Members.{View, stands_in}
 use Rattle.view.specs.View.{view_refusal}
 use Rattle.state_transfer.specs.Meanings.{Meaning}
@@ -14,9 +15,10 @@ use Rattle.flush.specs.declared.progress.Progress.TheVariants.{Complete}
 use Rattle.view_install.specs.Promises.{offered, is_accept}
 use Rattle.acts.specs.Histories.{Posted}
 use Rattle.acts.specs.Cores.{Core, report_with}
-use Rattle.acts.specs.Acts.{packet, others_of, promised, begun, proposed, gone_into, blocking, entering, undelivered, state_after_cut, instructions, delivered_at, state_into}
+use Rattle.acts.specs.Acts.{packet, others_of, promised, begun, proposed, gone_into, blocking, entering, undelivered, IsPromised, instructing_one, state_after_cut, instructions, delivered_at, state_into}
+use Rattle.acts.specs.Given.{IsGiven}
 use Rattle.acts.specs.Chains.{Acted}
-use Rattle.decisions.specs.Decisions.{promise_of, next_proposal, proposal_after, due_proposal, cuts_of, is_readable, is_entry}
+use Rattle.decisions.specs.Decisions.{promise_of, next_proposal, proposal_after, due_proposal, cuts_of, form_of, kept_of, given_by, is_readable, is_entry}
 
 -- a FLUSH whose offer is accepted is promised, and reported for
 abbrev pub PromisesActed : {S : Type 0} → Meaning S → Type 0
@@ -53,14 +55,21 @@ RecordsActed {S} meaning = (came : Option Posted) (c : Core S) (f : FlushModel) 
 -- a flush to which all of its list have reported is finished, at its cuts
 abbrev pub FinishesActed : {S : Type 0} → Meaning S → Type 0
 FinishesActed {S} meaning = (came : Option Posted) (c : Core S) (v : View) (f : FlushModel) → c.view ≡ Some v → c.flush ≡ Some f → IsFlush f → progress_of f ≡ Complete
-    → let given = instructions meaning c v f (cuts_of f) in
+    → let given = given_by meaning c v f in
+    let to_others = instructions c v f (cuts_of f) (form_of given) in
     let last = undelivered c.view_state.delivered ((cuts_of f).base v.id) ((cuts_of f).items v.id) in
-    Acted meaning came (Some c) (map (λ p. packet c.me (bodies.Install p.1) p.0) given) (entering c last (proposed f) (together_of c.me f) None)
-    (Some (gone_into (proposed f) (state_after_cut meaning c v (cuts_of f)) given c))
+    Acted meaning came (Some c) (flat_map (instructing_one c.me f.proposal (unwrap_or given [])) to_others) (entering c last (proposed f) (together_of c.me f) None)
+    (Some (gone_into (proposed f) (state_after_cut meaning c v (cuts_of f)) to_others (kept_of given) c))
 
--- an INSTALL by which it would enter, whose state can be read, is entered
+-- a STATE for the promised proposal, from its creator, is held
+abbrev pub GathersActed : {S : Type 0} → Meaning S → Type 0
+GathersActed {S} meaning = (came : Option Posted) (c : Core S) (w : ViewId) (chunk : wire.Chunk) (chunks : List (ViewId × wire.Chunk)) → came ≡ Some (packet w.creator (bodies.State w chunk) c.me)
+    → IsPromised w c.promise c.installed → ((k : ℕ) (x : ViewId × wire.Chunk) → slice_get chunks k ≡ Some x → Contains (c.chunks ++ (w, chunk) ∷ []) x)
+    → Acted meaning came (Some c) [] [] (Some (record c { chunks = chunks }))
+
+-- an INSTALL by which it would enter, whose state is held and can be read, is entered
 abbrev pub EntersActed : {S : Type 0} → Meaning S → Type 0
-EntersActed {S} meaning = (came : Option Posted) (c : Core S) (q : Address) (i : wire.Install) → came ≡ Some (packet q (bodies.Install i) c.me)
-    → is_entry c q i ≡ true → is_readable meaning i.state ≡ true
+EntersActed {S} meaning = (came : Option Posted) (c : Core S) (q : Address) (i : wire.Install) (given : Option (List ℕ)) → came ≡ Some (packet q (bodies.Install i) c.me)
+    → is_entry c q i ≡ true → IsGiven c.chunks i.view.id i.state given → is_readable meaning given ≡ true
     → let last = delivered_at c i.base i.items in
-    Acted meaning came (Some c) [] (entering c last i.view i.together i.state) (Some (gone_into i.view (state_into meaning c last i.state) [] c))
+    Acted meaning came (Some c) [] (entering c last i.view i.together given) (Some (gone_into i.view (state_into meaning c last given) [] None c))

@@ -4,13 +4,14 @@
 //! Definitions, and one function that does nothing: its clauses are the laws.
 #![tactic(auto)]
 
-ghost use Rattle.decisions.specs.Laws.{PromisesActed, BeginsActed, ProposesActed, DueActed, RecordsActed, FinishesActed, EntersActed};
+ghost use Rattle.decisions.specs.Laws.{PromisesActed, BeginsActed, ProposesActed, DueActed, RecordsActed, GathersActed, FinishesActed, EntersActed};
 
 use state_transfer::Receiver;
 
 /// The laws of a change of view, each of one act: a FLUSH whose offer is accepted is promised and reported for; a next proposal with a list that is a view is promised
-/// and announced, as is that of the candidates of a member that leads its view, and one that is due; an awaited report is recorded; a flush to which all
-/// of its list have reported is finished at its cuts; an INSTALL that fits, is of the promised view and can be read is entered.
+/// and announced, as is that of the candidates of a member that leads its view, and one that is due; an awaited report is recorded; a chunk for the promised
+/// proposal is held; a flush to which all of its list have reported is finished at its cuts; an INSTALL that fits, is of the promised view, whose state is held
+/// and can be read is entered.
 /// For every receiver that keeps the laws. It does nothing.
 pub fn changes_of_view<R: Receiver>()
     ensures promises { PromisesActed R.meaning }
@@ -18,6 +19,7 @@ pub fn changes_of_view<R: Receiver>()
     ensures proposes { ProposesActed R.meaning }
     ensures due { DueActed R.meaning }
     ensures records { RecordsActed R.meaning }
+    ensures gathers { GathersActed R.meaning }
     ensures finishes { FinishesActed R.meaning }
     ensures enters { EntersActed R.meaning }
 {}

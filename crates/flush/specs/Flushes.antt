@@ -1,5 +1,5 @@
 -- A flush: a proposal, its list, and the reports of those of the list who reported, in order of arrival.
-use Rattle.std.specs.Prelude.{◌≡◌, true, false, Bool, not, ◌&&◌, List, [], ◌∷◌, ◌++◌, map, filter, Option, is_some, if◌then◌else◌}
+use Rattle.std.specs.Prelude.{◌≡◌, true, false, Bool, not, ◌&&◌, List, [], ◌∷◌, ◌++◌, map, filter, Option, Some, is_some, if◌then◌else◌}
 use Rattle.std.specs.List.{list_all}
 use Rattle.std.specs.Map.{lookup}
 use Rattle.std.specs.Option.{option_eq, option_map_or, option_and_then}
@@ -56,6 +56,10 @@ has_come_from v p reports = option_map_or (comes_from v) (report_from p reports)
 -- those of the list who reported the same previous view as an address, itself among them; nobody where it did not report
 abbrev pub together_of : Address → FlushModel → List Address
 together_of p f = option_map_or (λ r. filter (λ m. has_come_from r.previous m f.reports) f.members) (report_from p f.reports) []
+
+-- whether all who reported come from one view
+abbrev pub all_come_from : ViewId → List (Address × Report) → Bool
+all_come_from v reports = list_all (λ p. comes_from (Some v) p.1) reports
 
 -- the view from which an address reported that it comes; none where it did not report
 abbrev pub previous_of : Address → FlushModel → Option ViewId

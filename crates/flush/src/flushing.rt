@@ -2,7 +2,7 @@ ghost use Rattle.std.specs.Prelude.{◌≡◌, ◌≤◌, ◌+◌, false, [], �
 ghost use Rattle.std.specs.List.{list_all};
 ghost use Rattle.limits.specs.declared.TheConstants.{WINDOW};
 ghost use Rattle.flush.specs.Cuts.{greatest_stable, held_among, cut_base, cut_items};
-ghost use Rattle.flush.specs.Flushes.{IsFlush, has_reported, group, is_awaited, reported, progress_of, has_come_from, together_of, previous_of};
+ghost use Rattle.flush.specs.Flushes.{IsFlush, has_reported, comes_from, group, is_awaited, reported, progress_of, has_come_from, together_of, all_come_from, previous_of};
 
 use crate::cut::Cut;
 use crate::owned_report::OwnedReport;
@@ -99,6 +99,13 @@ impl Flush {
         }
     }
 
+    /// Whether all who reported come from this view. Takes no memory.
+    pub fn all_come_from(&self, view: &ViewId) -> bool
+        ensures { result ≡ all_come_from view.now self.now.reports }
+    {
+        all_come_from(self.reports.as_slice(), &Some(*view))
+    }
+
     /// Takes a report from an address. It is recorded, behind those that came before, exactly where the address stands in the list and has not
     /// reported; else nothing changes. The answer is Complete exactly where all of the list have reported then. The report is copied. An error
     /// for want of memory comes only where it was to be recorded; it leaves the flush as it was.
@@ -183,6 +190,18 @@ impl Flush {
             number += 1;
         }
         Ok(Cut { base, entries })
+    }
+}
+
+/// Whether all of these reports are from a view.
+fn all_come_from(reports: Slice<'_, Address, OwnedReport>, previous: &Option<ViewId>) -> bool
+    ensures { result ≡ list_all (λ p. comes_from previous.now p.1) reports.entry }
+{
+    match reports.split_first() {
+        None => true,
+        Some(((_, report), others)) => {
+            report.comes_from(previous) && all_come_from(others, previous)
+        }
     }
 }
 

@@ -1,4 +1,4 @@
-use Rattle.decisions.proofs.ActsAreAllowed.{promises-acted, begins-acted, proposes-acted, due-acted, records-acted, finishes-acted, enters-acted}
+use Rattle.decisions.proofs.ActsAreAllowed.{promises-acted, begins-acted, proposes-acted, due-acted, records-acted, gathers-acted, finishes-acted, enters-acted}
 use Rattle.decisions.proofs.changes_of_view.Goals as goal
 
 pub returns-clause-promises : goal.returns-clause-promises
@@ -21,3 +21,6 @@ returns-clause-finishes g c = finishes-acted g.R.Receiver.meaning
 
 pub returns-clause-enters : goal.returns-clause-enters
 returns-clause-enters g c = enters-acted g.R.Receiver.meaning
+
+pub returns-clause-gathers : goal.returns-clause-gathers
+returns-clause-gathers g c = gathers-acted g.R.Receiver.meaning

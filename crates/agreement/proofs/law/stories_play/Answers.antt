@@ -3,6 +3,7 @@ use Rattle.agreement.proofs.StoriesPlay.{one-is}
 use Rattle.agreement.proofs.CrashStoryPlays.{crash-plays}
 use Rattle.agreement.proofs.LeaveStoryPlays.{leave-plays}
 use Rattle.agreement.proofs.MergeStoryPlays.{merge-plays, is-short}
+use Rattle.agreement.proofs.ChunkStoryPlays.{chunk-plays}
 use Rattle.agreement.proofs.law.stories_play.Goals as goal
 
 pub returns-clause-crash : goal.returns-clause-crash
@@ -21,3 +22,6 @@ returns-clause-merge g c =
     let half = g.met.R.Receiver.applies g.R.Receiver.meaning.opening one message_a g.met.R.Receiver.opens one-is is-short in
     let reads_half = g.met.R.Receiver.reads_back (g.R.Receiver.meaning.apply g.R.Receiver.meaning.opening one message_a) half in
     merge-plays g.R.Receiver.meaning reads reads_half
+
+pub returns-clause-chunks : goal.returns-clause-chunks
+returns-clause-chunks g c = chunk-plays
