@@ -7,12 +7,12 @@ use Rattle.wire_values.specs.declared.packet.Body.{Body}
 use Rattle.wire_values.specs.declared.packet.Body.TheVariants as bodies
 use Rattle.state_transfer.specs.Meanings.{Meaning}
 use Rattle.acts.specs.Histories.{Posted}
-use Rattle.acts.specs.Cores.{Core}
-use Rattle.decisions.specs.Decisions.{is_entry, is_readable}
+use Rattle.decisions.specs.Decisions.{is_readable}
 use Rattle.membership.specs.declared.member_state.MemberState.{MemberState}
 use Rattle.wire_values.specs.Kinds.{install_said}
-use Rattle.membership.specs.MemberStates.{core_of}
-use Rattle.membership.specs.Changes.{TakesInstall}
+use Rattle.membership.specs.MemberStates.{would_hold}
+use Rattle.membership.specs.Changes.{TakesInstall, TakesChunk, would_enter}
+use Rattle.state_chunks.specs.HeldChunks.{given_in}
 use Rattle.member_messages.specs.Heard.{takes_forward, takes_nak, takes_ack, takes_order, takes_status}
 use Rattle.member_messages.specs.Messages.{OnForward, OnAck, OnNak, OnOrder, OnStatus}
 use Rattle.member_views.specs.Views.{OnJoin, OnRedirect, OnSuspect, OnFlush, OnBehind, OnReport, OnMerge, is_suspectable, is_proposing}
@@ -35,6 +35,7 @@ FollowsRule meaning who source (bodies.Behind proposal counter) old new = OnBehi
 FollowsRule meaning who source (bodies.Report proposal report) old new = OnReport meaning who source proposal report old new
 FollowsRule meaning who source (bodies.Install install) old new = TakesInstall meaning who source install old new
 FollowsRule meaning who source (bodies.Merge view) old new = OnMerge meaning who source view old new
+FollowsRule meaning who source (bodies.State proposal chunk) old new = TakesChunk source proposal chunk old new
 
 -- whether the rule of its kind ignores a packet
 abbrev pub ignores : {S : Type 0} → Address → Address → Body → MemberState S → Bool
@@ -49,15 +50,16 @@ ignores me q (bodies.Status view progress) l = not (takes_status q view progress
 ignores me q (bodies.Flush proposal) l = is_flush_ignored q proposal l
 ignores me q (bodies.Behind proposal counter) l = not (is_proposing proposal l)
 ignores me q (bodies.Report proposal report) l = is_report_ignored q proposal l
-ignores me q (bodies.Install install) l = not (is_entry (core_of me l) q install)
+ignores me q (bodies.Install install) l = not (would_enter me l q install)
 ignores me q (bodies.Merge view) l = is_merge_ignored me q l
+ignores me q (bodies.State proposal chunk) l = not (would_hold q proposal chunk l)
 
 -- ---- an INSTALL that it would enter
 
 -- the INSTALL that came, if it would enter by it
-abbrev pub entry_of : {S : Type 0} → Core S → Posted → Option wire.Install
-entry_of c m = option_and_then (λ i. if is_entry c m.source i then Some i else None) (install_said m.body)
+abbrev pub entry_of : {S : Type 0} → Address → MemberState S → Posted → Option wire.Install
+entry_of me l m = option_and_then (λ i. if would_enter me l m.source i then Some i else None) (install_said m.body)
 
--- whether it would enter by a packet, and the receiver cannot read its state
-abbrev pub is_unreadable_by : {S : Type 0} → Meaning S → Core S → Posted → Bool
-is_unreadable_by meaning c m = option_map_or (λ i. not (is_readable meaning i.state)) (entry_of c m) false
+-- whether it would enter by a packet, and the receiver cannot read the state that it is given
+abbrev pub is_unreadable_by : {S : Type 0} → Meaning S → Address → MemberState S → Posted → Bool
+is_unreadable_by meaning me l m = option_map_or (λ i. not (is_readable meaning (given_in i.state l.chunks))) (entry_of me l m) false

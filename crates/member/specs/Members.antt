@@ -16,7 +16,7 @@ use Rattle.step_output.specs.Names.{same_name}
 use Rattle.membership.specs.declared.member_state.MemberState.{MemberState}
 use Rattle.membership.specs.MemberStates.{core_of as core_at}
 pub use Rattle.wire_values.specs.Kinds.{install_said}
-pub use Rattle.member.specs.Hearing.{entry_of}
+pub use Rattle.member.specs.Hearing.{entry_of, is_unreadable_by}
 pub use Rattle.member_views.specs.Firsts.{lone_install}
 pub use Rattle.member_messages.specs.Refusals.{send_refusal}
 use Rattle.member.specs.declared.error.Error.{Error}
@@ -67,12 +67,9 @@ came_at m Leave = None
 
 -- ---- an INSTALL that it would enter
 
-abbrev pub entry_at : {S : Type 0} → MemberModel S → Input → Option wire.Install
-entry_at m input = option_and_then (λ c. option_and_then (entry_of c) (came_at m input)) (core_of m)
-
--- whether it is handed an INSTALL that it would enter, whose state the receiver cannot read
+-- whether it is handed an INSTALL that it would enter, and the receiver cannot read the state that it is given
 abbrev pub is_unreadable : {S : Type 0} → Meaning S → MemberModel S → Input → Bool
-is_unreadable meaning m input = option_map_or (λ i. not (is_readable meaning i.state)) (entry_at m input) false
+is_unreadable meaning m input = option_map_or (λ l. option_map_or (is_unreadable_by meaning m.address l) (came_at m input) false) m.member_state false
 
 -- ---- refusals
 

@@ -49,7 +49,7 @@ pub(crate) fn take_packet<R: Receiver>(
     ensures did { OnOk result (Did R.meaning (came_in (record { address = who.now.address; group = who.now.group; member_state = Some member_state.old }) (Ok packet.now)) (who_of who.now) (in_step member_state.old out.old) (in_step member_state.new out.new)) }
     ensures connected { OnOk result (is_connected member_state.new ≡ is_connected member_state.old) }
     ensures calm { OnOk result (IsCalm (WINDOW + 3) out.old out.new) }
-    ensures unreadable { result ≡ Err stop.Unreadable → option_map_or (is_unreadable_by R.meaning (core_of who.now.address member_state.old)) (came_in (record { address = who.now.address; group = who.now.group; member_state = Some member_state.old }) (Ok packet.now)) false ≡ true }
+    ensures unreadable { result ≡ Err stop.Unreadable → option_map_or (is_unreadable_by R.meaning who.now.address member_state.old) (came_in (record { address = who.now.address; group = who.now.group; member_state = Some member_state.old }) (Ok packet.now)) false ≡ true }
     ensures ignored { ignores_packet who.now.address (came_in (record { address = who.now.address; group = who.now.group; member_state = Some member_state.old }) (Ok packet.now)) member_state.old ≡ true → (result ≡ Ok tt) × StaysAs (in_step member_state.old out.old) (in_step member_state.new out.new) }
 {
     if is_handed(member_state, who, packet) {

@@ -6,7 +6,7 @@ ghost use Rattle.address.specs.Ids.{same_address};
 ghost use Rattle.acts.specs.Acts.{packet};
 ghost use Rattle.step_output.specs.Calm.{IsCalm};
 ghost use Rattle.membership.specs.declared.stop.Stop.TheVariants as stop;
-ghost use Rattle.membership.specs.MemberStates.{IsMemberState, core_of, is_connected};
+ghost use Rattle.membership.specs.MemberStates.{IsMemberState, is_connected};
 ghost use Rattle.membership.specs.Changes.{StaysAs};
 ghost use Rattle.membership.specs.Doing.{Did};
 ghost use Rattle.member_messages.specs.Ordered.{IsOrdered};
@@ -40,7 +40,7 @@ pub(crate) fn hear<R: Receiver>(
     ensures does { OnOk result (FollowsRule R.meaning (who_of who.now) source body.now (in_step member_state.old out.old) (in_step member_state.new out.new)) }
     ensures did { OnOk result (Did R.meaning (Some (packet source body.now who.now.address)) (who_of who.now) (in_step member_state.old out.old) (in_step member_state.new out.new)) }
     ensures calm { OnOk result (IsCalm (WINDOW + 3) out.old out.new) }
-    ensures unreadable { result ≡ Err stop.Unreadable → is_unreadable_by R.meaning (core_of who.now.address member_state.old) (packet source body.now who.now.address) ≡ true }
+    ensures unreadable { result ≡ Err stop.Unreadable → is_unreadable_by R.meaning who.now.address member_state.old (packet source body.now who.now.address) ≡ true }
     ensures ignored { ignores who.now.address source body.now member_state.old ≡ true → (result ≡ Ok tt) × StaysAs (in_step member_state.old out.old) (in_step member_state.new out.new) }
 {
     match body {
@@ -89,6 +89,9 @@ pub(crate) fn hear<R: Receiver>(
             member_state.take_install(who, source, install, out)?
         }
         Body::Merge(view) => on_merge(member_state, who, source, view, out)?,
+        Body::State { proposal, chunk } => {
+            member_state.take_chunk(who, source, *proposal, chunk, out)?
+        }
     }
     Ok(())
 }

@@ -16,9 +16,9 @@ use Rattle.step_output.specs.declared.output.Output.{Output}
 use Rattle.step_output.proofs.FactOfGrows.{grows-nothing}
 use Rattle.traffic.specs.declared.view_state.ViewState.{ViewState}
 use Rattle.traffic.specs.ViewStates.{view_of, view_core_of}
-use Rattle.traffic.specs.Goings.{open_core, Goes}
+use Rattle.traffic.specs.Goings.{Beside, open_core, Goes}
 use Rattle.membership.specs.declared.member_state.MemberState.{MemberState}
-use Rattle.membership.specs.MemberStates.{IsMemberState, IsFlushing, core_of, view_in, sent_installs_in}
+use Rattle.membership.specs.MemberStates.{IsMemberState, IsFlushing, core_of, view_in, sent_installs_in, chunks_in}
 use Rattle.membership.specs.Doing.{Did}
 use Rattle.member_messages.specs.Ordered.{IsOrderly}
 use Rattle.step_output.specs.Steps.{who}
@@ -45,9 +45,13 @@ ordered-by me t orderly = λ u some. subst (λ (x : ViewState). IsOrderly me x) 
 abbrev pub going_on : {S : Type 0} → MemberState S → ViewState → S → MemberState S
 going_on l t s = record l { view_state = Some t; receiver = s }
 
+-- what it keeps beside its view's messages
+abbrev beside_of : {S : Type 0} → MemberState S → Beside
+beside_of l = record { sent_installs = sent_installs_in l.sent_installs.items; kept_state = l.sent_state; chunks = chunks_in l }
+
 -- it is open in its view
 pub core-open : {S : Type 0} (group : List ℕ) (me : Address) (l : MemberState S) (t : ViewState) → IsMemberState (who me group) l → l.promise.is_installed ≡ true → l.view_state ≡ Some t
-    → core_of me l ≡ open_core me (view_of t) (sent_installs_in l.sent_installs.items) (view_core_of t) l.receiver
+    → core_of me l ≡ open_core me (view_of t) (beside_of l) (view_core_of t) l.receiver
 core-open group me l t i promised there =
     let flush : l.flush ≡ None = no-flush group me l i promised in
     let promise : l.promise.proposal ≡ Some (view_of t) = sym (i.installed promised) ∙ ap view_in there in
@@ -71,7 +75,9 @@ member_state-kept group me l t u s i promised there same =
         spelled = i.sent_installs.spelled;
         sound = i.sent_installs.sound;
         current = subst (λ (v : Option View). AllByRecursion (λ p. v ≡ Some p.1.view) i.sent_installs.given) inside i.sent_installs.current;
+        state = i.sent_installs.state;
       };
+      unpromised = i.unpromised;
     }
 
 module _ {S : Type 0} (meaning : Meaning S) where
@@ -87,9 +93,9 @@ module _ {S : Type 0} (meaning : Meaning S) where
     grows = x.grows;
     acted =
         subst (λ (c : Core S). Acted meaning came (Some c) x.posted x.happened (Some (core_of me (going_on l u s)))) (sym (core-open group me l t i promised there))
-        (subst (λ (c : Core S). Acted meaning came (Some (open_core me (view_of t) (sent_installs_in l.sent_installs.items) (view_core_of t) l.receiver)) x.posted x.happened (Some c))
+        (subst (λ (c : Core S). Acted meaning came (Some (open_core me (view_of t) (beside_of l) (view_core_of t) l.receiver)) x.posted x.happened (Some c))
         (ap (λ (v : View). open_core me v (sent_installs_in l.sent_installs.items) (view_core_of u) s) (sym same) ∙ sym (core-open group me (going_on l u s) u (member_state-kept group me l t u s i promised there same) promised refl))
-        (x.acted (sent_installs_in l.sent_installs.items)));
+        (x.acted (beside_of l)));
   }
 
   -- nothing of it but what it puts out

@@ -153,16 +153,16 @@ OnBehind meaning who w counter old new = MatchBool (is_proposing w old.member) (
 abbrev pub expects : {S : Type 0} → Address → ViewId → MemberState S → Bool
 expects q w l = option_map_or (is_expected q w) l.flush false
 
--- it is as it was, and puts out again the INSTALL that it kept for that member
-pub record SaysAgain {S : Type 0} (q : Address) (old new : InStep S) : Type 0 where
+-- it is as it was, and puts out again the INSTALL that it kept for that member, behind the chunks of the state that it gives
+pub record SaysAgain {S : Type 0} (who : Who) (q : Address) (old new : InStep S) : Type 0 where
   pub member_state : new.member ≡ old.member
-  pub again : InstallsAgain q old new.out
+  pub again : InstallsAgain who q old new.out
 
 -- a report that is awaited is taken; for one that asks for the current view its INSTALL is put out again, where it was kept
 abbrev pub OnReport : {S : Type 0} → Meaning S → Who → Address → ViewId → wire.Report → InStep S → InStep S → Type 0
 OnReport meaning who q w r old new =
     MatchBool (expects q w old.member) (TakesReport meaning who q w r old new)
-    (MatchBool (is_in w old.member) (SaysAgain q old new) (StaysAs old new))
+    (MatchBool (is_in w old.member) (SaysAgain who q old new) (StaysAs old new))
 
 -- ---- time passes: what may be lost is put out again
 

@@ -1,6 +1,7 @@
 -- What a member does in a change of view: exactly what it puts out, what happens to it, and what is left of it.
-use Rattle.std.specs.Prelude.{◌≡◌, ℕ, Bool, true, false, ◌++◌, [], ◌∷◌, map, find, Option, None, Some, MatchBool, MatchOption}
-use Rattle.std.specs.Option.{option_map, option_to_list}
+use Rattle.std.specs.Prelude.{◌≡◌, ℕ, Bool, true, false, ◌&&◌, ◌++◌, List, [], ◌∷◌, map, length, find, Option, None, Some, IfSome, MatchBool, MatchOption, if◌then◌else◌}
+use Rattle.std.specs.List.{AllByRecursion}
+use Rattle.std.specs.Option.{option_map, option_map_or, option_to_list}
 use Rattle.address.specs.Ids.{Address, ViewId}
 use Rattle.view.specs.Members.{View}
 use Rattle.state_transfer.specs.Meanings.{Meaning}
@@ -12,13 +13,20 @@ use Rattle.view_install.specs.declared.promise.OfferAnswer.{OfferAnswer}
 use Rattle.view_install.specs.declared.promise.OfferAnswer.TheVariants.{Accept, Behind, Ignore}
 use Rattle.view_install.specs.Promises.{offered, promising, after_install}
 use Rattle.acts.specs.Acts.{packet, others_of, proposed}
-use Rattle.decisions.specs.Decisions.{due_proposal, is_entry, is_readable}
+use Rattle.decisions.specs.Decisions.{due_proposal, is_entry, is_readable, kept_of}
 use Rattle.step_output.specs.declared.output.Output.{Output}
-use Rattle.step_output.specs.Outputs.{Grows, spelled}
+use Rattle.step_output.specs.Outputs.{Grows, packet_in, spelled}
 use Rattle.traffic.specs.declared.view_state.ViewState.{ViewState}
 use Rattle.traffic.specs.ViewStates.{fresh_in}
-use Rattle.membership.specs.MemberStates.{core_of, report_in, blocked_by, begun_with, is_sent_to, is_complete, recording, anew_proposal}
-use Rattle.membership.specs.Installs.{finished_state, finish_packets, finish_events, state_by, arriving, enter_events}
+use Rattle.membership.specs.MemberStates.{core_of, view_in, report_in, blocked_by, begun_with, is_sent_to, is_complete, recording, anew_proposal, held_for, would_hold}
+use Rattle.membership.specs.Installs.{finished_state, finished_given, finish_packets, finish_sent, finish_events, state_by, arriving, enter_events}
+use Rattle.membership.specs.declared.member_state.MemberState.{MemberState}
+use Rattle.membership.specs.declared.sent_install.SentInstall.{SentInstall}
+use Rattle.state_chunks.specs.HeldChunks.{is_there, given_in}
+use Rattle.wire.specs.Packets.{IsPacket}
+use Rattle.wire_values.specs.Chunks.{IsTotal}
+use Rattle.acts.specs.Histories.{Posted}
+use Rattle.acts.specs.Given.{chunks_of}
 use Rattle.step_output.specs.Steps.{Who}
 use Rattle.membership.specs.InSteps.{InStep, in_step}
 
@@ -30,7 +38,7 @@ StaysAs old new = (new.member ≡ old.member) × (new.out ≡ old.out)
 
 -- it promises the proposal, is blocked, and reports to who proposed it
 pub record Promises {S : Type 0} (who : Who) (w : View) (old new : InStep S) : Type 0 where
-  pub member_state : new.member ≡ record (old.member) { promise = promising w old.member.promise; flush = None }
+  pub member_state : new.member ≡ record (old.member) { promise = promising w old.member.promise; flush = None; chunks = held_for w old.member }
   pub grows : Grows who.group old.out new.out (packet who.address (bodies.Report w.id (report_in old.member)) w.id.creator ∷ []) (blocked_by who.address old.member)
 
 -- by the answer to its offer: it promises, or says how far it is, or ignores it
@@ -56,7 +64,7 @@ TakesFlush who w old new = TakesBy who (offered w old.member.promise) w old new
 
 -- it proposes: it is blocked, its own report is in the flush, and the proposal goes to the others of the list
 pub record Begins {S : Type 0} (who : Who) (w : View) (old new : InStep S) : Type 0 where
-  pub member_state : new.member ≡ record (old.member) { promise = promising w old.member.promise; flush = Some (begun_with who.address w (report_in old.member)) }
+  pub member_state : new.member ≡ record (old.member) { promise = promising w old.member.promise; flush = Some (begun_with who.address w (report_in old.member)); chunks = held_for w old.member }
   pub grows : Grows who.group old.out new.out (map (packet who.address (bodies.Flush w)) (others_of who.address w.members)) (blocked_by who.address old.member)
 
 -- it proposes what is due, and nothing where nothing is
@@ -72,11 +80,14 @@ pub record Finishes {S : Type 0} (meaning : Meaning S) (who : Who) (f : FlushMod
     promise = after_install (proposed f) old.member.promise;
     flush = None;
     sent_installs = new.member.sent_installs;
+    sent_state = kept_of (finished_given meaning f t old.member.receiver);
+    chunks = [];
     receiver = finished_state meaning f t old.member.receiver;
     notes = settled f.members old.member.notes;
   }
-  pub sent_installs : new.member.sent_installs.items ≡ map (spelled who.group) (finish_packets who.address f t (meaning.encode (finished_state meaning f t old.member.receiver)))
-  pub grows : Grows who.group old.out new.out (finish_packets who.address f t (meaning.encode (finished_state meaning f t old.member.receiver))) (finish_events who.address f t)
+  pub sent_installs : new.member.sent_installs.items ≡ finish_sent who f t (finished_given meaning f t old.member.receiver)
+  pub sent_state : IfSome new.member.sent_state (λ bytes. IsTotal (length bytes))
+  pub grows : Grows who.group old.out new.out (finish_packets who.address f t (finished_given meaning f t old.member.receiver)) (finish_events who.address f t)
 
 -- it goes into its own proposal, and proposes what is due then
 pub record FinishesAndProposes {S : Type 0} (meaning : Meaning S) (who : Who) (f : FlushModel) (t : ViewState) (old new : InStep S) : Type 0 where
@@ -107,10 +118,29 @@ Regroups meaning who old new =
 abbrev pub TakesReport : {S : Type 0} → Meaning S → Who → Address → ViewId → wire.Report → InStep S → InStep S → Type 0
 TakesReport meaning who q w r old new = GoesOn meaning who (in_step (record (old.member) { flush = option_map (recording q w r) old.member.flush }) old.out) new
 
--- it puts out again the INSTALL that it kept for a member of its view, if it kept one
-pub record InstallsAgain {S : Type 0} (q : Address) (old : InStep S) (later : Output) : Type 0 where
-  pub packets : later.packets.items ≡ old.out.packets.items ++ option_to_list (find (is_sent_to q) old.member.sent_installs.items)
+-- the chunks of the state that it gave, for a member of its view
+abbrev pub state_packets : {S : Type 0} → Address → Address → MemberState S → List Posted
+state_packets me q l =
+    option_map_or (λ v. option_map_or (λ state. map (λ chunk. packet me (bodies.State v.id chunk) q) (chunks_of state)) l.sent_state []) (view_in l.view_state) []
+
+-- those that stand before an INSTALL that it kept
+abbrev pub chunks_before : {S : Type 0} → Address → Address → MemberState S → Option SentInstall → List Posted
+chunks_before me q l sent = option_map_or (λ s. if s.in_chunks then state_packets me q l else []) sent []
+
+-- it puts out again the INSTALL that it kept for a member of its view, if it kept one, behind the chunks of the state that it gives
+pub record InstallsAgain {S : Type 0} (who : Who) (q : Address) (old : InStep S) (later : Output) : Type 0 where
+  pub packets : later.packets.items
+      ≡ (old.out.packets.items ++ map (spelled who.group) (chunks_before who.address q old.member (find (is_sent_to q) old.member.sent_installs.items)))
+      ++ map (λ s. s.packet) (option_to_list (find (is_sent_to q) old.member.sent_installs.items))
+  pub sound : AllByRecursion (λ m. IsPacket (packet_in who.group m)) (chunks_before who.address q old.member (find (is_sent_to q) old.member.sent_installs.items))
   pub events : later.events.items ≡ old.out.events.items
+
+-- ---- a STATE
+
+-- it holds a chunk that it would hold
+abbrev pub TakesChunk : {S : Type 0} → Address → ViewId → wire.Chunk → InStep S → InStep S → Type 0
+TakesChunk q w chunk old new =
+    MatchBool (would_hold q w chunk old.member) ((new.member ≡ record (old.member) { chunks = old.member.chunks ++ chunk ∷ [] }) × (new.out ≡ old.out)) (StaysAs old new)
 
 -- ---- a BEHIND
 
@@ -131,31 +161,41 @@ TakesSuspicion meaning who p old new = Regroups meaning who (in_step (record (ol
 -- ---- an INSTALL
 
 -- it installs the view, and begins there anew
-pub record Arrives {S : Type 0} (who : Who) (view_state : Option ViewState) (i : wire.Install) (own : ℕ) (old new : InStep S) : Type 0 where
+pub record Arrives {S : Type 0} (who : Who) (view_state : Option ViewState) (i : wire.Install) (given : Option (List ℕ)) (own : ℕ) (old new : InStep S) : Type 0 where
   pub member_state : new.member ≡ record (old.member) {
     view_state = Some (fresh_in who.address i.view);
     promise = after_install i.view old.member.promise;
     flush = None;
     sent_installs = new.member.sent_installs;
+    sent_state = None;
+    chunks = [];
     notes = no_notes;
   }
   pub sent_installs : new.member.sent_installs.items ≡ []
-  pub grows : Grows who.group old.out new.out [] (arriving who.address view_state i own ∷ [])
+  pub grows : Grows who.group old.out new.out [] (arriving who.address view_state i given own ∷ [])
 
 -- it delivers what it lacks of its view, takes the state that is given, installs the view, and begins there anew
-pub record Enters {S : Type 0} (meaning : Meaning S) (who : Who) (view_state : Option ViewState) (i : wire.Install) (old new : InStep S) : Type 0 where
+pub record Enters {S : Type 0} (meaning : Meaning S) (who : Who) (view_state : Option ViewState) (i : wire.Install) (given : Option (List ℕ)) (old new : InStep S) : Type 0 where
   pub member_state : new.member ≡ record (old.member) {
     view_state = Some (fresh_in who.address i.view);
     promise = after_install i.view old.member.promise;
     flush = None;
     sent_installs = new.member.sent_installs;
-    receiver = state_by meaning view_state i old.member.receiver;
+    sent_state = None;
+    chunks = [];
+    receiver = state_by meaning view_state i given old.member.receiver;
     notes = no_notes;
   }
   pub sent_installs : new.member.sent_installs.items ≡ []
-  pub grows : Grows who.group old.out new.out [] (enter_events who.address view_state i)
+  pub grows : Grows who.group old.out new.out [] (enter_events who.address view_state i given)
+
+-- whether it would enter by an INSTALL: it is an entry, and the state that it gives is there
+abbrev pub would_enter : {S : Type 0} → Address → MemberState S → Address → wire.Install → Bool
+would_enter me l q i = is_entry (core_of me l) q i && is_there i.state l.chunks
 
 -- it enters exactly where it would, by a state that can be read
 abbrev pub TakesInstall : {S : Type 0} → Meaning S → Who → Address → wire.Install → InStep S → InStep S → Type 0
 TakesInstall meaning who q i old new =
-    MatchBool (is_entry (core_of who.address old.member) q i) ((is_readable meaning i.state ≡ true) × Enters meaning who old.member.view_state i old new) (StaysAs old new)
+    MatchBool (would_enter who.address old.member q i)
+    (let given = given_in i.state old.member.chunks in (is_readable meaning given ≡ true) × Enters meaning who old.member.view_state i given old new)
+    (StaysAs old new)

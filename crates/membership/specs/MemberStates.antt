@@ -1,6 +1,6 @@
 -- A member while it runs: what it decides by, and what always holds of it.
-use Rattle.std.specs.Prelude.{◌≡◌, Bool, true, false, ◌&&◌, ◌||◌, is_some, List, [], ◌∷◌, map, Option, None, Some, Result, Ok, Err, IsSome, if◌then◌else◌}
-use Rattle.std.specs.Option.{ForSome, option_map, option_map_or, option_and_then}
+use Rattle.std.specs.Prelude.{◌≡◌, Bool, true, false, not, ◌&&◌, ◌||◌, is_some, List, [], ◌∷◌, map, length, Option, None, Some, Result, Ok, Err, IfSome, IsSome, if◌then◌else◌}
+use Rattle.std.specs.Option.{ForSome, option_eq, option_map, option_map_or, option_and_then}
 use Rattle.std.specs.List.{list_all, filter_map, AllByRecursion}
 use Rattle.address.specs.Ids.{Address, ViewId, same_address, same_view_id}
 use Rattle.view.specs.Members.{View, stands_in}
@@ -21,6 +21,11 @@ use Rattle.acts.specs.Cores.{Core, fresh_view_core, report_with, is_open}
 use Rattle.acts.specs.Acts.{packet, proposed}
 use Rattle.decisions.specs.Decisions.{proposal_after}
 use Rattle.step_output.specs.declared.output.Outgoing.{Outgoing}
+use Rattle.membership.specs.declared.sent_install.SentInstall.{SentInstall}
+use Rattle.state_chunks.specs.HeldChunks.{is_new}
+use Rattle.wire_values.specs.Chunks.{IsTotal}
+use Rattle.wire_values.specs.declared.values.state.GivenState.{GivenState}
+use Rattle.wire_values.specs.declared.values.state.GivenState.TheVariants as forms
 use Rattle.step_output.specs.Outputs.{packet_in, spelled}
 use Rattle.traffic.specs.declared.view_state.ViewState.{ViewState}
 use Rattle.traffic.specs.ViewStates.{view_of, view_core_of}
@@ -44,8 +49,15 @@ said_by (Ok p) = option_map (λ i. (p.destination, i)) (install_said p.body)
 said_by (Err e) = None
 
 -- the INSTALLs that kept bytes spell, each with whom it is for
-abbrev pub sent_installs_in : List Outgoing → List (Address × wire.Install)
-sent_installs_in packets = filter_map (λ o. said_by (packet_of o.bytes)) packets
+abbrev pub sent_installs_in : List SentInstall → List (Address × wire.Install)
+sent_installs_in sent = filter_map (λ s. said_by (packet_of s.packet.bytes)) sent
+
+-- the chunks that it holds, each for the proposal that it promised
+abbrev pub labelled : ViewId → List wire.Chunk → List (ViewId × wire.Chunk)
+labelled w chunks = map (λ c. (w, c)) chunks
+
+abbrev pub chunks_in : {S : Type 0} → MemberState S → List (ViewId × wire.Chunk)
+chunks_in l = option_map_or (λ w. labelled w.id l.chunks) l.promise.proposal []
 
 -- what it decides by
 abbrev pub core_of : {S : Type 0} → Address → MemberState S → Core S
@@ -58,6 +70,8 @@ core_of me l = record {
   view_state = view_core_in l.view_state;
   flush = l.flush;
   sent_installs = sent_installs_in l.sent_installs.items;
+  kept_state = l.sent_state;
+  chunks = chunks_in l;
   state = l.receiver;
 }
 
@@ -75,9 +89,29 @@ blocked_by me l = if is_open (view_in l.view_state) l.promise.is_installed then 
 abbrev pub begun_with : Address → View → wire.Report → FlushModel
 begun_with me w r = record { proposal = w.id; members = w.members; reports = (me, r) ∷ [] }
 
--- whether a packet that is kept is for this address
-abbrev pub is_sent_to : Address → Outgoing → Bool
-is_sent_to q o = same_address o.destination q
+-- whether an INSTALL that is kept is for this address
+abbrev pub is_sent_to : Address → SentInstall → Bool
+is_sent_to q s = same_address s.packet.destination q
+
+-- ---- the state that is given
+
+-- whether it goes in chunks
+abbrev pub is_chunked : GivenState → Bool
+is_chunked forms.Nothing = false
+is_chunked (forms.Whole bytes) = false
+is_chunked (forms.Chunked total) = true
+
+-- whether this is what it promised and did not install
+abbrev pub awaits : {S : Type 0} → ViewId → MemberState S → Bool
+awaits w l = option_eq same_view_id (cores.id_of l.promise.proposal) (Some w) && not l.promise.is_installed
+
+-- whether it would hold a chunk of the state of a proposal from this address: the creator's, for the proposal that it awaits, and new to it
+abbrev pub would_hold : {S : Type 0} → Address → ViewId → wire.Chunk → MemberState S → Bool
+would_hold q w chunk l = same_address q w.creator && awaits w l && is_new chunk l.chunks
+
+-- the chunks that are held on where a proposal is promised: those of that proposal
+abbrev pub held_for : {S : Type 0} → View → MemberState S → List wire.Chunk
+held_for w l = if option_eq same_view_id (cores.id_of l.promise.proposal) (Some w.id) then l.chunks else []
 
 -- ---- its own flush
 
@@ -106,6 +140,8 @@ pub record idle_member {S : Type 0} (me : Address) (s : S) (l : MemberState S) :
   pub promise : l.promise ≡ record { member = me; proposal = None; is_installed = false }
   pub flush : l.flush ≡ None
   pub sent_installs : l.sent_installs.items ≡ []
+  pub sent_state : l.sent_state ≡ None
+  pub chunks : l.chunks ≡ []
   pub receiver : l.receiver ≡ s
   pub notes : l.notes ≡ no_notes
 
@@ -129,12 +165,17 @@ pub record IsFlushing {S : Type 0} (me : Address) (l : MemberState S) (f : Flush
 abbrev pub install_packet : Address → Address × wire.Install → Posted
 install_packet me p = packet me (bodies.Install p.1) p.0
 
--- what it kept are INSTALLs of its view, to others, as it spelled them
+-- the same with whether its state goes in chunks
+abbrev pub sent_install : Who → Address × wire.Install → SentInstall
+sent_install who p = record { packet = spelled who.group (install_packet who.address p); in_chunks = is_chunked p.1.state }
+
+-- what it kept are INSTALLs of its view, to others, as it spelled them, and a state of which there are chunks
 pub record IsKept {S : Type 0} (who : Who) (l : MemberState S) : Type 0 where
   pub given : List (Address × wire.Install)
-  pub spelled : l.sent_installs.items ≡ map (spelled who.group) (map (install_packet who.address) given)
+  pub spelled : l.sent_installs.items ≡ map (sent_install who) given
   pub sound : AllByRecursion (λ m. IsPacket (packet_in who.group m)) (map (install_packet who.address) given)
   pub current : AllByRecursion (λ p. view_in l.view_state ≡ Some p.1.view) given
+  pub state : IfSome l.sent_state (λ bytes. IsTotal (length bytes))
 
 -- what always holds of a member that runs, as its acts need it
 pub record IsMemberState {S : Type 0} (who : Who) (l : MemberState S) : Type 0 where
@@ -154,3 +195,5 @@ pub record IsMemberState {S : Type 0} (who : Who) (l : MemberState S) : Type 0 w
   pub installed : l.promise.is_installed ≡ true → view_in l.view_state ≡ l.promise.proposal
   pub flushing : ForSome l.flush (IsFlushing who.address l)
   pub sent_installs : IsKept who l
+  -- before it promised anything it holds no chunk
+  pub unpromised : l.promise.proposal ≡ None → l.chunks ≡ []

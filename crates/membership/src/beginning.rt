@@ -100,6 +100,7 @@ impl<R: Receiver> MemberState<R> {
         let flush = begun(who, &self.view_state, proposal)?;
         let others = others_of(who.alloc, &who.address, proposal.members().as_slice())?;
         announce_all(who, proposal, others.as_slice(), out)?;
+        self.drop_other_chunks(proposal);
         let _ = self.promise.offer(proposal);
         self.flush = Some(flush);
         Ok(())

@@ -4,7 +4,8 @@ ghost use Rattle.std.specs.Prelude.{◌≡◌, ◌∷◌, [], true, false, Err, 
 ghost use Rattle.std.specs.Option.{option_and_then};
 ghost use Rattle.acts.specs.Acts.{deliveries};
 ghost use Rattle.acts.specs.Cores.{applied, id_of};
-ghost use Rattle.decisions.specs.Decisions.{is_readable, is_fitting};
+ghost use Rattle.decisions.specs.Decisions.{is_readable, gives_some, is_fitting};
+ghost use Rattle.state_chunks.specs.HeldChunks.{given_in};
 ghost use Rattle.sequencer.specs.Forwards.{AreShort};
 ghost use Rattle.traffic.specs.ViewStates.{view_of};
 ghost use Rattle.step_output.specs.Outputs.{Grows};
@@ -24,7 +25,7 @@ use step_output::{Identity, Output};
 use trace_props::{BoxedInstall, Bytes, Event, HandedBack, Install as Installed};
 use traffic::ViewState;
 use view::{Addresses, View};
-use wire_values::{Entry, Install, Items, Roster, State};
+use wire_values::{Entry, GivenState, Install, Items, Roster};
 
 // The entries of an INSTALL.
 fn all_of<'a>(alloc: Global, items: Items<'a>) -> Result<Vec<Entry<'a>>, AllocError>
@@ -38,20 +39,33 @@ fn all_of<'a>(alloc: Global, items: Items<'a>) -> Result<Vec<Entry<'a>>, AllocEr
     Ok(entries)
 }
 
+// Whether a state is given.
+fn gives_some(state: &GivenState<'_>) -> bool
+    ensures { result ≡ gives_some state.now }
+{
+    match state {
+        GivenState::Nothing => false,
+        GivenState::Whole(_) => true,
+        GivenState::Chunked(_) => true,
+    }
+}
+
 // Whether an INSTALL begins at most where the member is; for one without a view, whether it delivers nothing and gives a state.
 pub(crate) fn is_fitting(view_state: &Option<ViewState>, install: &Install<'_>) -> bool
     ensures { result ≡ is_fitting (view_in view_state.now) (view_core_in view_state.now).delivered install.now }
 {
     match view_state {
         None => {
-            install.base().get() == 0 && install.items().len() == 0 && install.state().is_some()
+            install.base().get() == 0
+                && install.items().len() == 0
+                && gives_some(install.state())
         }
         Some(view_state) => install.base() <= view_state.delivered(),
     }
 }
 
 // Takes a given state, if there is one.
-fn take_state<R: Receiver>(receiver: &mut R, given: &Option<State<'_>>) -> Result<(), Stop>
+fn take_state<R: Receiver>(receiver: &mut R, given: &Option<Bytes>) -> Result<(), Stop>
     ensures state { OnOk result (receiver.new ≡ unwrap_or (option_and_then R.meaning.decode given.now) receiver.old) }
     ensures readable { OnOk result (is_readable R.meaning given.now ≡ true) }
     ensures unreadable { result ≡ Err stop.Unreadable → is_readable R.meaning given.now ≡ false }
@@ -119,16 +133,6 @@ fn view_from(alloc: Global, roster: &Roster) -> Result<View, AllocError>
     Ok(View::new(roster.id(), Addresses::from_vec(members)).unwrap())
 }
 
-// A copy of a given state.
-fn state_copied(alloc: Global, given: &Option<State<'_>>) -> Result<Option<Bytes>, AllocError>
-    ensures { IfOk result (λ b. b ≡ given.now) }
-{
-    match given {
-        None => Ok(None),
-        Some(state) => Ok(Some(Bytes::from_slice(alloc, state.as_slice())?)),
-    }
-}
-
 // What is left of the own messages when so many more of them were delivered.
 fn left_of(
     alloc: Global,
@@ -162,17 +166,17 @@ fn install_view(
     who: &Identity,
     view_state: Option<ViewState>,
     install: &Install<'_>,
+    given: Option<Bytes>,
     own: usize,
     out: &mut Output,
 ) -> Result<(), AllocError>
-    ensures { OnOk result (Grows who.now.group out.old out.new [] (arriving who.now.address view_state install.now own ∷ [])) }
+    ensures { OnOk result (Grows who.now.group out.old out.new [] (arriving who.now.address view_state install.now given own ∷ [])) }
 {
     let previous = id_in(&view_state);
     let view = view_from(who.alloc, install.view())?;
     let together = Vec::from_slice(who.alloc, install.together().as_slice())?;
     let together = Addresses::from_vec(together);
     let handed_back = left_of(who.alloc, view_state, own)?;
-    let given = state_copied(who.alloc, install.state())?;
     let install = Installed {
         member: who.address,
         previous,
@@ -196,13 +200,15 @@ impl<R: Receiver> MemberState<R> {
         install: &Install<'_>,
         out: &mut Output,
     ) -> Result<(), Stop>
-        ensures enters { OnOk result (Enters R.meaning (who_of who.now) view_state install.now (in_step self.old out.old) (in_step self.new out.new)) }
-        ensures readable { OnOk result (is_readable R.meaning install.now.state ≡ true) }
-        ensures unreadable { result ≡ Err stop.Unreadable → is_readable R.meaning install.now.state ≡ false }
+        ensures enters { OnOk result (Enters R.meaning (who_of who.now) view_state install.now (given_in install.now.state self.old.chunks) (in_step self.old out.old) (in_step self.new out.new)) }
+        ensures readable { OnOk result (is_readable R.meaning (given_in install.now.state self.old.chunks) ≡ true) }
+        ensures unreadable { result ≡ Err stop.Unreadable → is_readable R.meaning (given_in install.now.state self.old.chunks) ≡ false }
     {
+        let given = self.chunks.given(who.alloc, install.state())?;
+        self.chunks.clear();
         let own = deliver_last(who, &view_state, install, &mut self.receiver, out)?;
-        take_state(&mut self.receiver, install.state())?;
-        self.arrive(who, view_state, install, own, out)?;
+        take_state(&mut self.receiver, &given)?;
+        self.arrive(who, view_state, install, given, own, out)?;
         Ok(())
     }
 
@@ -212,12 +218,13 @@ impl<R: Receiver> MemberState<R> {
         who: &Identity,
         view_state: Option<ViewState>,
         install: &Install<'_>,
+        given: Option<Bytes>,
         own: usize,
         out: &mut Output,
     ) -> Result<(), AllocError>
-        ensures { OnOk result (Arrives (who_of who.now) view_state install.now own (in_step self.old out.old) (in_step self.new out.new)) }
+        ensures { OnOk result (Arrives (who_of who.now) view_state install.now given own (in_step self.old out.old) (in_step self.new out.new)) }
     {
-        install_view(who, view_state, install, own, out)?;
+        install_view(who, view_state, install, given, own, out)?;
         let view = view_from(who.alloc, install.view())?;
         let _ = self.promise.install(install.view());
         self.notes.clear();
@@ -225,6 +232,8 @@ impl<R: Receiver> MemberState<R> {
         self.view_state = Some(ViewState::fresh(who.alloc, &who.address, view)?);
         self.flush = None;
         self.sent_installs = Vec::new(who.alloc);
+        self.sent_state = None;
+        self.chunks.clear();
         Ok(())
     }
 }

@@ -1,19 +1,26 @@
 //! What a finished flush says: what its creator delivers and installs, and what it says to each other of the list.
 
-ghost use Rattle.std.specs.Prelude.{◌≡◌, ◌≤◌, ◌++◌, drop, [], ◌∷◌, OnOk, IfOk, Some, None, length, map};
+ghost use Rattle.std.specs.Prelude.{◌≡◌, ◌≤◌, ◌++◌, drop, [], ◌∷◌, OnOk, IfOk, IfSome, Some, None, length, map, unwrap_or};
 ghost use Rattle.std.specs.List.{flat_map, AllByRecursion};
 ghost use Rattle.limits.specs.declared.TheConstants.{STATE};
 ghost use Rattle.view.specs.View.{view_refusal};
 ghost use Rattle.wire_values.specs.Fields.{entry_bytes, IsEntry};
 ghost use Rattle.flush.specs.Flushes.{together_of, previous_of};
-ghost use Rattle.acts.specs.Acts.{others_of, base_for, items_for, delivery};
+ghost use Rattle.wire_values.specs.Chunks.{IsTotal};
+ghost use Rattle.wire_values.specs.declared.packet.Body.TheVariants as bodies;
+ghost use Rattle.acts.specs.Acts.{others_of, base_for, items_for, delivery, packet, chunk_packets};
 ghost use Rattle.acts.specs.Cores.{applied};
-ghost use Rattle.decisions.specs.Decisions.{cuts_of};
+ghost use Rattle.decisions.specs.Decisions.{cuts_of, kept_of};
 ghost use Rattle.traffic.specs.ViewStates.{view_of};
 ghost use Rattle.step_output.specs.Outputs.{Grows};
-ghost use Rattle.membership.specs.Installs.{SpellsCut, IsSayable, instruction_to, instructing, delivered_by, own_of, going, finished_state, finish_packets, finish_events};
+ghost use Rattle.membership.specs.Installs.{SpellsCut, IsSayable, instruction_to, instructing, delivered_by, own_of, going, finished_state, finished_given, finish_packets, finish_sent, finish_events};
+ghost use Rattle.membership.specs.MemberStates.{sent_install};
+ghost use Rattle.step_output.specs.Steps.{who_of};
 
+use crate::SentInstall;
 use crate::beginning::others_of;
+use crate::giving::{form_of, given_state, is_chunked, kept_of, put_given};
+use crate::sent_install::copied;
 use address::{Address, ViewId};
 use flush::Flush;
 use state_transfer::Receiver;
@@ -23,7 +30,7 @@ use trace_props::{BoxedInstall, Bytes, Delivery, Event, Install as Installed, Me
 use traffic::ViewState;
 use view::{Addresses, View};
 use wire::put_entry;
-use wire_values::{Body, Count, Entry, Install, Items, Members, Roster, State};
+use wire_values::{Body, Count, Entry, GivenState, Install, Items, Members, Roster};
 
 // A cut as an INSTALL lists it.
 #[derive(Drop)]
@@ -126,44 +133,88 @@ fn instruction<'a>(
     member: &Address,
     together: &Addresses,
     cut: &'a CutText,
-    state: &'a [u8],
+    given: &'a Option<Bytes>,
 ) -> Install<'a>
     requires list { view_refusal flush.now.proposal flush.now.members ≡ None }
-    requires short { length state.now ≤ STATE }
+    requires short { IfSome given.now (λ s. length s ≤ STATE) }
     requires together { together.now ≡ together_of member.now flush.now }
     requires cut { SpellsCut (base_for (cuts_of flush.now) (previous_of member.now flush.now)) (items_for (cuts_of flush.now) (previous_of member.now flush.now)) cut.now }
-    requires sound { IsSayable flush.now view state.now member.now }
-    ensures { result ≡ instruction_to flush.now view state.now member.now }
+    requires sound { IsSayable flush.now view given.now member.now }
+    ensures { result ≡ instruction_to flush.now view given.now member.now }
 {
     let items = Items::new(cut.count as u8, cut.text.as_slice()).unwrap();
     let together = Members::from_slice(together.as_slice()).unwrap();
     let roster = Roster::new(flush.proposal(), flush.members().as_slice()).unwrap();
-    let given = if flush.previous(member) == Some(view) {
-        None
+    let state = if flush.previous(member) == Some(view) {
+        GivenState::Nothing
     } else {
-        Some(State::new(state).unwrap())
+        form_of(given)
     };
-    Install::new(roster, together, cut.base, items, given).unwrap()
+    Install::new(roster, together, cut.base, items, state).unwrap()
 }
 
-// Puts out the INSTALL for one of the list.
+// Puts out the chunks of the state that one of the list is given.
+fn put_needed(
+    who: &Identity,
+    flush: &Flush,
+    view: ViewId,
+    given: &Option<Bytes>,
+    member: Address,
+    out: &mut Output,
+) -> Result<(), AllocError>
+    requires short { IfSome given.now (λ s. length s ≤ STATE) }
+    ensures { OnOk result (Grows who.now.group out.old out.new (chunk_packets who.now.address member flush.now.proposal (unwrap_or given.now []) (instruction_to flush.now view given.now member).state) []) }
+{
+    if flush.previous(&member) == Some(view) {
+        return Ok(());
+    }
+    put_given(who, flush.proposal(), member, given, out)?;
+    Ok(())
+}
+
+// Puts out an INSTALL, and keeps it.
+fn put_install(
+    who: &Identity,
+    member: Address,
+    install: Install<'_>,
+    sent: &mut Vec<SentInstall>,
+    out: &mut Output,
+) -> Result<(), AllocError>
+    ensures sent { OnOk result (sent.new.items ≡ sent.old.items ++ sent_install (who_of who.now) (member, install) ∷ []) }
+    ensures out { OnOk result (Grows who.now.group out.old out.new (packet who.now.address (bodies.Install install) member ∷ []) []) }
+{
+    let in_chunks = is_chunked(install.state());
+    let packet = who.spelled(member, Body::Install(install))?;
+    sent.push(SentInstall {
+        packet: copied(who.alloc, &packet)?,
+        in_chunks,
+    })?;
+    out.packets.push(packet)?;
+    Ok(())
+}
+
+// Puts out the INSTALL for one of the list, behind the chunks of the state that it gives.
 fn instruct(
     who: &Identity,
     flush: &Flush,
     view: ViewId,
-    state: &[u8],
+    given: &Option<Bytes>,
     member: Address,
+    sent: &mut Vec<SentInstall>,
     out: &mut Output,
 ) -> Result<(), AllocError>
     requires list { view_refusal flush.now.proposal flush.now.members ≡ None }
-    requires short { length state.now ≤ STATE }
-    requires sound { IsSayable flush.now view state.now member }
-    ensures { OnOk result (Grows who.now.group out.old out.new (instructing who.now.address flush.now view state.now member ∷ []) []) }
+    requires short { IfSome given.now (λ s. length s ≤ STATE) }
+    requires sound { IsSayable flush.now view given.now member }
+    ensures sent { OnOk result (sent.new.items ≡ sent.old.items ++ sent_install (who_of who.now) (member, instruction_to flush.now view given.now member) ∷ []) }
+    ensures out { OnOk result (Grows who.now.group out.old out.new (instructing who.now.address flush.now view given.now member) []) }
 {
     let cut = cut_text(who.alloc, flush, &flush.previous(&member))?;
     let together = flush.together(who.alloc, &member)?;
-    let install = instruction(flush, view, &member, &together, &cut, state);
-    who.put(member, Body::Install(install), out)
+    let install = instruction(flush, view, &member, &together, &cut, given);
+    put_needed(who, flush, view, given, member, out)?;
+    put_install(who, member, install, sent, out)?;
+    Ok(())
 }
 
 // Puts out the INSTALLs for some of the list, in order.
@@ -171,20 +222,22 @@ fn instruct_all(
     who: &Identity,
     flush: &Flush,
     view: ViewId,
-    state: &[u8],
+    given: &Option<Bytes>,
     members: &[Address],
+    sent: &mut Vec<SentInstall>,
     out: &mut Output,
 ) -> Result<(), AllocError>
     requires list { view_refusal flush.now.proposal flush.now.members ≡ None }
-    requires short { length state.now ≤ STATE }
-    requires sound { AllByRecursion (IsSayable flush.now view state.now) members.now }
-    ensures { OnOk result (Grows who.now.group out.old out.new (map (instructing who.now.address flush.now view state.now) members.now) []) }
+    requires short { IfSome given.now (λ s. length s ≤ STATE) }
+    requires sound { AllByRecursion (IsSayable flush.now view given.now) members.now }
+    ensures sent { OnOk result (sent.new.items ≡ sent.old.items ++ map (λ q. sent_install (who_of who.now) (q, instruction_to flush.now view given.now q)) members.now) }
+    ensures out { OnOk result (Grows who.now.group out.old out.new (flat_map (instructing who.now.address flush.now view given.now) members.now) []) }
 {
     match members.split_first() {
         None => Ok(()),
         Some((first, rest)) => {
-            instruct(who, flush, view, state, *first, out)?;
-            instruct_all(who, flush, view, state, rest, out)?;
+            instruct(who, flush, view, given, *first, sent, out)?;
+            instruct_all(who, flush, view, given, rest, sent, out)?;
             Ok(())
         }
     }
@@ -265,25 +318,29 @@ fn install_view(
     )
 }
 
-// Finishes a flush to which all of its list have reported: what its creator delivers and installs, and what it says to the others.
+// Finishes a flush to which all of its list have reported: what its creator delivers and installs, and what it says to the others. The INSTALLs go
+// behind those that are kept; the answer is what is kept of the state that they give.
 pub(crate) fn finish<R: Receiver>(
     who: &Identity,
     flush: &Flush,
     view_state: ViewState,
     receiver: &mut R,
+    sent: &mut Vec<SentInstall>,
     out: &mut Output,
-) -> Result<(), AllocError>
+) -> Result<Option<Bytes>, AllocError>
     requires list { view_refusal flush.now.proposal flush.now.members ≡ None }
-    requires sound { AllByRecursion (IsSayable flush.now (view_of view_state).id (R.meaning.encode (finished_state R.meaning flush.now view_state receiver.old))) (others_of who.now.address flush.now.members) }
+    requires sound { AllByRecursion (IsSayable flush.now (view_of view_state).id (finished_given R.meaning flush.now view_state receiver.old)) (others_of who.now.address flush.now.members) }
     ensures state { OnOk result (receiver.new ≡ finished_state R.meaning flush.now view_state receiver.old) }
-    ensures out { OnOk result (Grows who.now.group out.old out.new (finish_packets who.now.address flush.now view_state (R.meaning.encode (finished_state R.meaning flush.now view_state receiver.old))) (finish_events who.now.address flush.now view_state)) }
+    ensures kept { IfOk result (λ k. k ≡ kept_of (finished_given R.meaning flush.now view_state receiver.old)) }
+    ensures total { IfOk result (λ k. IfSome k (λ bytes. IsTotal (length bytes))) }
+    ensures sent { OnOk result (sent.new.items ≡ sent.old.items ++ finish_sent (who_of who.now) flush.now view_state (finished_given R.meaning flush.now view_state receiver.old)) }
+    ensures out { OnOk result (Grows who.now.group out.old out.new (finish_packets who.now.address flush.now view_state (finished_given R.meaning flush.now view_state receiver.old)) (finish_events who.now.address flush.now view_state)) }
 {
     let view = view_state.view().id();
     let own = deliver_cut(who, flush, &view_state, receiver, out)?;
-    let mut state = Vec::new(who.alloc);
-    receiver.get_state(&mut state)?;
+    let given = given_state(who, flush, view, receiver)?;
     let others = others_of(who.alloc, &who.address, flush.members().as_slice())?;
     install_view(who, flush, view_state, own, out)?;
-    instruct_all(who, flush, view, state.as_slice(), others.as_slice(), out)?;
-    Ok(())
+    instruct_all(who, flush, view, &given, others.as_slice(), sent, out)?;
+    Ok(kept_of(given))
 }

@@ -5,13 +5,16 @@
 mod beginning;
 mod entering;
 mod finishing;
+mod giving;
 mod installing;
 mod member_state;
 mod promising;
 mod proposing;
 mod reporting;
+mod sent_install;
 mod stop;
 mod taking;
 
 pub use member_state::MemberState;
+pub use sent_install::SentInstall;
 pub use stop::Stop;

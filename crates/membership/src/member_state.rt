@@ -3,12 +3,14 @@ ghost use Rattle.std.specs.Option.{option_copied};
 ghost use Rattle.acts.specs.Cores.{is_open};
 ghost use Rattle.membership.specs.MemberStates.{view_in, is_connected, idle_member};
 
+use crate::SentInstall;
 use address::Address;
 use flush::Flush;
 use next_view::Notes;
+use state_chunks::HeldChunks;
 use state_transfer::Receiver;
 use std::alloc::Global;
-use step_output::Outgoing;
+use trace_props::Bytes;
 use traffic::ViewState;
 use view::View;
 use view_install::Promise;
@@ -25,7 +27,11 @@ pub struct MemberState<R: Receiver> {
     /// Its own flush, while it goes on.
     pub flush: Option<Flush>,
     /// The INSTALL packets that it put out for the others of its view, if it made that view.
-    pub sent_installs: Vec<Outgoing>,
+    pub sent_installs: Vec<SentInstall>,
+    /// The state that these give, where it goes in chunks.
+    pub sent_state: Option<Bytes>,
+    /// The chunks that it holds of the state that its promised proposal gives.
+    pub chunks: HeldChunks,
     /// The receiver that it delivers to.
     pub receiver: R,
     /// What it notes for its next view.
@@ -43,6 +49,8 @@ impl<R: Receiver> MemberState<R> {
             promise: Promise::new(member),
             flush: None,
             sent_installs: Vec::new(alloc),
+            sent_state: None,
+            chunks: HeldChunks::new(alloc),
             receiver,
             notes: Notes::new(alloc),
         }

@@ -9,7 +9,7 @@ ghost use Rattle.acts.specs.Acts.{packet};
 ghost use Rattle.acts.specs.Cores.{report_with};
 ghost use Rattle.traffic.specs.ViewStates.{view_of, view_core_of};
 ghost use Rattle.step_output.specs.Outputs.{Grows};
-ghost use Rattle.membership.specs.MemberStates.{view_in, view_core_in, report_in, blocked_by};
+ghost use Rattle.membership.specs.MemberStates.{view_in, view_core_in, report_in, blocked_by, held_for};
 ghost use Rattle.membership.specs.Changes.{Promises};
 ghost use Rattle.step_output.specs.Steps.{who_of};
 ghost use Rattle.membership.specs.InSteps.{in_step};
@@ -89,6 +89,16 @@ impl<R: Receiver> MemberState<R> {
         who.put(proposal.creator(), Body::Report { proposal, report }, out)
     }
 
+    // Of the chunks that it holds it holds on those of this proposal alone.
+    pub(crate) fn drop_other_chunks(&mut self, proposal: &Roster)
+        ensures { self.new ≡ record self.old { chunks = held_for proposal.now self.old } }
+    {
+        let promised = self.promise.proposal();
+        if promised.map(|promised| promised.id()) != Some(proposal.id()) {
+            self.chunks.clear();
+        }
+    }
+
     // Promises the proposal of another, which its offer accepts: its own flush ends, it is blocked, and it reports.
     pub(crate) fn promise(
         &mut self,
@@ -102,6 +112,7 @@ impl<R: Receiver> MemberState<R> {
         self.block(who, out)?;
         self.report(who, proposal.id(), out)?;
         self.flush = None;
+        self.drop_other_chunks(proposal);
         let _ = self.promise.offer(proposal);
         Ok(())
     }

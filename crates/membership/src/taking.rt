@@ -1,23 +1,24 @@
-//! A member takes FLUSH, BEHIND and INSTALL packets, and suspicions.
+//! A member takes FLUSH, BEHIND, STATE and INSTALL packets, and suspicions.
 
 ghost use Rattle.std.specs.Prelude.{◌≡◌, OnOk, Ok, Err, true, false};
 ghost use Rattle.address.specs.Ids.{same_address};
 ghost use Rattle.view_install.specs.Promises.{offered, may_install, same_view};
 ghost use Rattle.decisions.specs.Decisions.{is_readable, is_entry};
 ghost use Rattle.membership.specs.declared.stop.Stop.TheVariants as stop;
-ghost use Rattle.membership.specs.MemberStates.{core_of, is_connected, IsMemberState};
-ghost use Rattle.membership.specs.Changes.{StaysAs, is_behind, is_ignored_offer, TakesFlush, TakesInstall, TakesBehind, TakesSuspicion};
+ghost use Rattle.membership.specs.MemberStates.{core_of, is_connected, awaits, would_hold, IsMemberState};
+ghost use Rattle.state_chunks.specs.HeldChunks.{given_in};
+ghost use Rattle.membership.specs.Changes.{StaysAs, is_behind, is_ignored_offer, TakesFlush, TakesInstall, TakesBehind, TakesSuspicion, TakesChunk, would_enter};
 ghost use Rattle.step_output.specs.Steps.{who_of};
 ghost use Rattle.membership.specs.InSteps.{in_step};
 
 use crate::entering::is_fitting;
 use crate::{MemberState, Stop};
-use address::Address;
+use address::{Address, ViewId};
 use state_transfer::Receiver;
 use std::alloc::AllocError;
 use step_output::{Identity, Output};
 use view_install::{OfferAnswer, Promise};
-use wire_values::{Body, Install, Number, Roster};
+use wire_values::{Body, Chunk, Install, Number, Roster};
 
 impl<R: Receiver> MemberState<R> {
     // Says to who proposed less than what it promised how far it is.
@@ -99,13 +100,58 @@ impl<R: Receiver> MemberState<R> {
         Ok(())
     }
 
-    /// Whether it would go into a view by an INSTALL from this address. Takes no memory.
-    pub fn would_enter(&self, me: &Address, source: &Address, install: &Install<'_>) -> bool
+    // Whether an INSTALL from this address is an entry to what it promised.
+    fn is_entry(&self, me: &Address, source: &Address, install: &Install<'_>) -> bool
         ensures { result ≡ is_entry (core_of me.now self.now) source.now install.now }
     {
         *source == install.view().id().creator()
             && may_install(&self.promise, install.view())
             && is_fitting(&self.view_state, install)
+    }
+
+    /// Whether it would go into a view by an INSTALL from this address: all chunks of the state that it gives are held, too. Takes no memory.
+    pub fn would_enter(&self, me: &Address, source: &Address, install: &Install<'_>) -> bool
+        ensures { result ≡ would_enter me.now self.now source.now install.now }
+    {
+        self.is_entry(me, source, install) && self.chunks.is_there(install.state())
+    }
+
+    // Whether this is what it promised and did not install.
+    fn awaits(&self, proposal: ViewId) -> bool
+        ensures { result ≡ awaits proposal self.now }
+    {
+        match self.promise.proposal() {
+            None => false,
+            Some(promised) => promised.id() == proposal && !self.promise.is_installed(),
+        }
+    }
+
+    /// Whether it would hold a chunk of the state of a proposal, from this address: from who proposed it, for what the member promised and did not install, of a
+    /// state of the same length as the chunks that it holds, and with an index that it holds none of. Takes no memory.
+    pub fn would_hold(&self, source: &Address, proposal: ViewId, chunk: &Chunk<'_>) -> bool
+        ensures { result ≡ would_hold source.now proposal chunk.now self.now }
+    {
+        *source == proposal.creator() && self.awaits(proposal) && self.chunks.is_new(chunk)
+    }
+
+    /// Takes a chunk of a state: it is held, where it would hold it; else it is ignored. After an error for want of memory nothing is said of the member.
+    pub fn take_chunk(
+        &mut self,
+        who: &Identity,
+        source: Address,
+        proposal: ViewId,
+        chunk: &Chunk<'_>,
+        out: &mut Output,
+    ) -> Result<(), AllocError>
+        requires member_state { IsMemberState (who_of who.now) self.old }
+        ensures member_state { OnOk result (IsMemberState (who_of who.now) self.new) }
+        ensures takes { OnOk result (TakesChunk source proposal chunk.now (in_step self.old out.old) (in_step self.new out.new)) }
+        ensures ignored { would_hold source proposal chunk.now self.old ≡ false → (result ≡ Ok tt) × StaysAs (in_step self.old out.old) (in_step self.new out.new) }
+    {
+        if self.would_hold(&source, proposal, chunk) {
+            self.chunks.hold(chunk)?;
+        }
+        Ok(())
     }
 
     /// Takes an INSTALL: it goes into the view, where it would by this one; else the INSTALL is ignored. After an error nothing is said of the member.
@@ -119,8 +165,8 @@ impl<R: Receiver> MemberState<R> {
         requires member_state { IsMemberState (who_of who.now) self.old }
         ensures member_state { OnOk result (IsMemberState (who_of who.now) self.new) }
         ensures takes { OnOk result (TakesInstall R.meaning (who_of who.now) source install.now (in_step self.old out.old) (in_step self.new out.new)) }
-        ensures unreadable { result ≡ Err stop.Unreadable → (is_entry (core_of who.now.address self.old) source install.now ≡ true) × (is_readable R.meaning install.now.state ≡ false) }
-        ensures ignored { is_entry (core_of who.now.address self.old) source install.now ≡ false → (result ≡ Ok tt) × StaysAs (in_step self.old out.old) (in_step self.new out.new) }
+        ensures unreadable { result ≡ Err stop.Unreadable → (would_enter who.now.address self.old source install.now ≡ true) × (is_readable R.meaning (given_in install.now.state self.old.chunks) ≡ false) }
+        ensures ignored { would_enter who.now.address self.old source install.now ≡ false → (result ≡ Ok tt) × StaysAs (in_step self.old out.old) (in_step self.new out.new) }
     {
         if !self.would_enter(&who.address, &source, install) {
             return Ok(());

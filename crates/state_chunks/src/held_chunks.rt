@@ -57,7 +57,6 @@ pub struct HeldChunks {
 impl Model for HeldChunks {
     ghost use Rattle.std.specs.Prelude.{List};
     ghost use Rattle.wire_values.specs.Values.{Chunk};
-
     ghost use Rattle.std.specs.List.{AllByRecursion};
     ghost use Rattle.wire_values.specs.Lists.{IsChunk};
 

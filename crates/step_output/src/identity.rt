@@ -20,8 +20,8 @@ pub struct Identity {
 }
 
 impl Identity {
-    // A packet of this member, in bytes.
-    fn spelled(&self, destination: Address, body: Body<'_>) -> Result<Outgoing, AllocError>
+    /// A packet of this member, in bytes.
+    pub fn spelled(&self, destination: Address, body: Body<'_>) -> Result<Outgoing, AllocError>
         ensures { IfOk result (λ o. let m = packet self.now.address body.entry destination in (o ≡ spelled self.now.group m) × IsPacket (packet_in self.now.group m)) }
     {
         let packet = Packet {

@@ -12,7 +12,7 @@ use Rattle.traffic.specs.declared.coordinator.Coordinator.{Coordinator}
 use Rattle.traffic.specs.declared.follower.Follower.{Follower}
 use Rattle.traffic.specs.ViewStates.{coordinator_core, follower_core}
 use Rattle.traffic.specs.Coordinators.{IsCoordinator}
-use Rattle.traffic.specs.Goings.{open_core, Goes, CoordinatorGoes, FollowerGoes}
+use Rattle.traffic.specs.Goings.{Beside, open_core, Goes, CoordinatorGoes, FollowerGoes}
 use Rattle.step_output.specs.Steps.{Who}
 use Rattle.traffic.specs.InViews.{InView, in_view}
 
@@ -28,7 +28,7 @@ module _ {S : Type 0} (meaning : Meaning S) where
   then-goes : (came : Option Posted) (who : Who) (v w : View) (a b c : InView ViewCore S) → w ≡ v → Goes meaning came who v a b → Goes meaning came who w b c → Goes meaning came who v a c
   then-goes came who v w a b c same x y =
       let z : Goes meaning came who v b c = subst (λ (r : View). Goes meaning came who r b c) same y in
-      let core = λ (kept : List (Address × wire.Install)) (n : InView ViewCore S). Some (open_core who.address v kept n.part n.state) in
+      let core = λ (kept : Beside) (n : InView ViewCore S). Some (open_core who.address v kept n.part n.state) in
       record {
         posted = x.posted ++ z.posted;
         happened = x.happened ++ z.happened;

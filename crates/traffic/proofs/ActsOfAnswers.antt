@@ -24,7 +24,7 @@ use Rattle.step_output.specs.declared.output.Output.{Output}
 use Rattle.step_output.specs.Outputs.{Grows}
 use Rattle.traffic.specs.ViewStates.{coordinator_core, follower_core}
 use Rattle.traffic.specs.Coordinators.{IsCoordinator}
-use Rattle.traffic.specs.Goings.{open_core, CoordinatorGoes, FollowerGoes}
+use Rattle.traffic.specs.Goings.{Beside, open_core, CoordinatorGoes, FollowerGoes}
 use Rattle.traffic.specs.Followers.{collected_to}
 use Rattle.traffic.specs.Takes.{TakesStatus, AsksUpTo, status_packet, orders_held, forward_of, ack_of, follower_pushing, SendsForward, progress_of}
 use Rattle.traffic.proofs.ActsOfCoordinator.{view_core_at, puts-acts}
@@ -39,7 +39,7 @@ use Rattle.traffic.specs.InViews.{in_view}
 module _ {S : Type 0} (meaning : Meaning S) where
   -- ---- another member
 
-  announced-by : (b : Bool) (p : Address) (kept : List (Address × wire.Install)) (m : Follower) (s : S) (a : Progress) → nat_lt m.window.stable (min a.stable m.window.delivered) ≡ b
+  announced-by : (b : Bool) (p : Address) (kept : Beside) (m : Follower) (s : S) (a : Progress) → nat_lt m.window.stable (min a.stable m.window.delivered) ≡ b
       → Acted meaning (status_packet p m.view a) (Some (open_core p m.view kept (follower_core m) s)) [] [] (Some (open_core p m.view kept (follower_core (collected_to a.stable m)) s))
   announced-by true p kept m s a more =
       let t = min a.stable m.window.delivered in
@@ -99,7 +99,7 @@ module _ {S : Type 0} (meaning : Meaning S) where
         refl,
       )
 
-  puts-forwards : (came : Option Posted) (p : Address) (kept : List (Address × wire.Install)) (m : Follower) (s : S) (fs : List Numbered) → In fs m.forwards.rest
+  puts-forwards : (came : Option Posted) (p : Address) (kept : Beside) (m : Follower) (s : S) (fs : List Numbered) → In fs m.forwards.rest
       → Acted meaning came (Some (open_core p m.view kept (follower_core m) s)) (map (forward_of p m.view) fs ++ ack_of p m ∷ []) [] (Some (open_core p m.view kept (follower_core m) s))
   puts-forwards came p kept m s [] i = record { acts = Puts m.view.id.creator (bodies.Ack m.view.id m.window.delivered) ∷ []; chain = ((refl, omega arith), refl); puts = refl; happens = refl }
   puts-forwards came p kept m s (f ∷ fs) i =
@@ -132,7 +132,7 @@ module _ {S : Type 0} (meaning : Meaning S) where
     coordinator = i;
   }
 
-  puts-held : (came : Option Posted) (p q : Address) (kept : List (Address × wire.Install)) (m : Coordinator) (s : S) (k n : ℕ) → IsCoordinator p m
+  puts-held : (came : Option Posted) (p q : Address) (kept : Beside) (m : Coordinator) (s : S) (k n : ℕ) → IsCoordinator p m
       → Acted meaning came (Some (open_core p m.view kept (coordinator_core m) s)) (orders_held p m.view q m.window.held k n) [] (Some (open_core p m.view kept (coordinator_core m) s))
   puts-held came p q kept m s k zero i = nothing-acted meaning came (Some (open_core p m.view kept (coordinator_core m) s))
   puts-held came p q kept m s k (suc n) i = by (held_at k m.window.held) refl (puts-held came p q kept m s (k + 1) n i)

@@ -33,7 +33,7 @@ use Rattle.acts.proofs.LawsOfActs.{nothing-acted}
 use Rattle.traffic.specs.declared.coordinator.Coordinator.{Coordinator}
 use Rattle.traffic.specs.ViewStates.{waiting_of, ordered_of, senders_of, coordinator_core, after_delivery}
 use Rattle.traffic.specs.Coordinators.{IsCoordinator, queued, after_one, acknowledged}
-use Rattle.traffic.specs.Goings.{open_core}
+use Rattle.traffic.specs.Goings.{Beside, open_core}
 use Rattle.traffic.proofs.FactOfQueues.{served-fact}
 use Rattle.traffic.proofs.FactOfOffered.{offered-fact, unwanted-fact, is_wanted, entry_from}
 use Rattle.traffic.proofs.Windows.{holds-more, holds-above, next-taken}
@@ -85,12 +85,12 @@ pub due-fact : (m : Coordinator) (e : Entry) → m.orderer.ordered ≡ m.window.
 due-fact m e same low h = due-by (may_order m.window.stable m.orderer) m e refl same low h h
 
 module _ {S : Type 0} (meaning : Meaning S) where
-  abbrev pub GoesOn : Option Posted → Address → View → List (Address × wire.Install) → ViewCore → S → List Posted → List Event → ViewCore → S → Type 0
+  abbrev pub GoesOn : Option Posted → Address → View → Beside → ViewCore → S → List Posted → List Event → ViewCore → S → Type 0
   GoesOn came p v kept t s posted happened u z = Acted meaning came (Some (open_core p v kept t s)) posted happened (Some (open_core p v kept u z))
 
   -- ---- Orders
 
-  pub orders-acts : (came : Option Posted) (p : Address) (kept : List (Address × wire.Install)) (m : Coordinator) (s : S) (e : Entry) → IsCoordinator p m → IsWindow m.window
+  pub orders-acts : (came : Option Posted) (p : Address) (kept : Beside) (m : Coordinator) (s : S) (e : Entry) → IsCoordinator p m → IsWindow m.window
       → is_distinct m.view.members ≡ true → Due m e
       → GoesOn came p m.view kept (coordinator_core m) s [] (delivery p m.view.id e ∷ []) (coordinator_core (after_one p (m.orderer.ordered + 1, e) m)) (meaning.apply s e.sender e.payload)
   orders-acts came p kept m s e i w distinct d =
@@ -137,7 +137,7 @@ module _ {S : Type 0} (meaning : Meaning S) where
   abbrev pub IsFrom : Option Posted → Address → Coordinator → Address → ℕ → List ℕ → Type 0
   IsFrom came p m q n x = MatchBool (same_address q p) (Contains m.forwards.rest (record { number = n; payload = x })) (came ≡ Some (packet q (bodies.Forward m.view.id n x) p))
 
-  pub queues-by : (b : Bool) (came : Option Posted) (p : Address) (kept : List (Address × wire.Install)) (m : Coordinator) (s : S) (q : Address) (n : ℕ) (x : List ℕ) → is_wanted q n m.orderer.queues ≡ b
+  pub queues-by : (b : Bool) (came : Option Posted) (p : Address) (kept : Beside) (m : Coordinator) (s : S) (q : Address) (n : ℕ) (x : List ℕ) → is_wanted q n m.orderer.queues ≡ b
       → IsCoordinator p m → IsFrom came p m q n x → GoesOn came p m.view kept (coordinator_core m) s [] [] (coordinator_core (queued q n x m)) s
   queues-by true came p kept m s q n x wanted i from =
       let queues = m.orderer.queues in
@@ -173,7 +173,7 @@ module _ {S : Type 0} (meaning : Meaning S) where
   abbrev pub IsAcked : Option Posted → Address → Coordinator → Address → ℕ → Type 0
   IsAcked came p m q n = MatchBool (same_address q p) (n ≤ m.window.delivered) (came ≡ Some (packet q (bodies.Ack m.view.id n) p))
 
-  pub hears-by : (b : Bool) (came : Option Posted) (p : Address) (kept : List (Address × wire.Install)) (m : Coordinator) (s : S) (q : Address) (n : ℕ) (listed : stands_in q (members_of m.acks) ≡ true)
+  pub hears-by : (b : Bool) (came : Option Posted) (p : Address) (kept : Beside) (m : Coordinator) (s : S) (q : Address) (n : ℕ) (listed : stands_in q (members_of m.acks) ≡ true)
       → nat_lt m.window.stable (min (stable_count (noted q n m.acks)) m.window.delivered) ≡ b
       → IsCoordinator p m → IsAcked came p m q n → GoesOn came p m.view kept (coordinator_core m) s [] [] (coordinator_core (acknowledged q n m)) s
   hears-by true came p kept m s q n listed more i acked =

@@ -23,7 +23,7 @@ use Rattle.traffic.specs.declared.follower.Follower.{Follower}
 use Rattle.step_output.specs.declared.output.Output.{Output}
 use Rattle.step_output.specs.Outputs.{Grows}
 use Rattle.traffic.specs.ViewStates.{after_delivery, follower_core}
-use Rattle.traffic.specs.Goings.{open_core, FollowerGoes}
+use Rattle.traffic.specs.Goings.{Beside, open_core, FollowerGoes}
 use Rattle.traffic.specs.Followers.{order_packet, DeliversOne, collected_to, held_too}
 use Rattle.traffic.proofs.ActsOfCoordinator.{view_core_at, delivered-by}
 use Rattle.traffic.proofs.Windows.{holds-more, holds-above}
@@ -54,7 +54,7 @@ module _ {S : Type 0} (meaning : Meaning S) where
 
   -- ---- Delivers
 
-  delivers-acts : (came : Option Posted) (p : Address) (kept : List (Address × wire.Install)) (m : Follower) (s : S) (e : Entry) → same_address p m.view.id.creator ≡ false
+  delivers-acts : (came : Option Posted) (p : Address) (kept : Beside) (m : Follower) (s : S) (e : Entry) → same_address p m.view.id.creator ≡ false
       → held_at (m.window.delivered + 1) m.window.held ≡ Some e
       → Acted meaning came (Some (open_core p m.view kept (follower_core m) s)) [] (delivery p m.view.id e ∷ [])
       (Some (open_core p m.view kept (follower_core (record m { window = record (m.window) { delivered = m.window.delivered + 1 }; forwards = after_delivery p e m.forwards })) (meaning.apply s e.sender e.payload)))
@@ -89,7 +89,7 @@ module _ {S : Type 0} (meaning : Meaning S) where
 
   -- ---- Collects and Holds, by an ORDER
 
-  collects-by : (b : Bool) (p : Address) (kept : List (Address × wire.Install)) (m : Follower) (s : S) (g : ℕ) (e : Entry) → nat_lt m.window.stable (min (g - WINDOW) m.window.delivered) ≡ b
+  collects-by : (b : Bool) (p : Address) (kept : Beside) (m : Follower) (s : S) (g : ℕ) (e : Entry) → nat_lt m.window.stable (min (g - WINDOW) m.window.delivered) ≡ b
       → Acted meaning (order_packet p m.view g e) (Some (open_core p m.view kept (follower_core m) s)) [] [] (Some (open_core p m.view kept (follower_core (collected_to (g - WINDOW) m)) s))
   collects-by true p kept m s g e more =
       let t = min (g - WINDOW) m.window.delivered in
@@ -121,7 +121,7 @@ module _ {S : Type 0} (meaning : Meaning S) where
         happens = refl;
       }
 
-  holds-by : (b : Bool) (p : Address) (kept : List (Address × wire.Install)) (m : Follower) (s : S) (g : ℕ) (e : Entry) → same_address p m.view.id.creator ≡ false → offers g m.window ≡ b
+  holds-by : (b : Bool) (p : Address) (kept : Beside) (m : Follower) (s : S) (g : ℕ) (e : Entry) → same_address p m.view.id.creator ≡ false → offers g m.window ≡ b
       → Acted meaning (order_packet p m.view g e) (Some (open_core p m.view kept (follower_core m) s)) [] [] (Some (open_core p m.view kept (follower_core (held_too g e m)) s))
   holds-by true p kept m s g e other new =
       let x = taken-fact g m.window new in
@@ -159,7 +159,7 @@ module _ {S : Type 0} (meaning : Meaning S) where
   -- ---- a packet that says what is known
 
   pub puts-goes : (came : Option Posted) (p : Address) (group : List ℕ) (m : Follower) (s : S) (out more : Output) (q : Address) (b : Body)
-      → ((kept : List (Address × wire.Install)) → Describes (open_core p m.view kept (follower_core m) s) q b) → Grows group out more (packet p b q ∷ []) [] → Does came (who p group) (in_view m s out) (in_view m s more)
+      → ((kept : Beside) → Describes (open_core p m.view kept (follower_core m) s) q b) → Grows group out more (packet p b q ∷ []) [] → Does came (who p group) (in_view m s out) (in_view m s more)
   puts-goes came p group m s out more q b says puts = (
     record {
       posted = packet p b q ∷ [];
@@ -227,6 +227,6 @@ module _ {S : Type 0} (meaning : Meaning S) where
 
   -- and then a packet that needs no more than what is known in the view
   pub then-puts : (came : Option Posted) (p : Address) (group : List ℕ) (a b : Follower) (s t : S) (out more most : Output) (q : Address) (body : Body) → Does came (who p group) (in_view a s out) (in_view b t more)
-      → ((kept : List (Address × wire.Install)) → Describes (open_core p b.view kept (follower_core b) t) q body) → Grows group more most (packet p body q ∷ []) [] → Does came (who p group) (in_view a s out) (in_view b t most)
+      → ((kept : Beside) → Describes (open_core p b.view kept (follower_core b) t) q body) → Grows group more most (packet p body q ∷ []) [] → Does came (who p group) (in_view a s out) (in_view b t most)
   then-puts came p group a b s t out more most q body x says puts =
       other-then meaning came (who p group) (in_view a s out) (in_view b t more) (in_view b t most) x (puts-goes came p group b t more most q body says puts)

@@ -17,8 +17,15 @@ use Rattle.traffic.specs.Coordinators.{IsCoordinator}
 use Rattle.step_output.specs.Steps.{Who}
 use Rattle.traffic.specs.InViews.{InView, in_view}
 
+-- what a member keeps beside its view's messages: what it sent to the others of the view that it made, the state that it gave to them in chunks, and the chunks
+-- that it holds
+pub record Beside : Type 0 where
+  pub sent_installs : List (Address × wire.Install)
+  pub kept_state : Option (List ℕ)
+  pub chunks : List (ViewId × wire.Chunk)
+
 -- open in a view, with nothing else promised
-abbrev pub open_core : {S : Type 0} → Address → View → List (Address × wire.Install) → ViewCore → S → Core S
+abbrev pub open_core : {S : Type 0} → Address → View → Beside → ViewCore → S → Core S
 open_core p v kept t s = record {
   me = p;
   connected = true;
@@ -27,15 +34,17 @@ open_core p v kept t s = record {
   view = Some v;
   view_state = t;
   flush = None;
-  sent_installs = kept;
+  sent_installs = kept.sent_installs;
+  kept_state = kept.kept_state;
+  chunks = kept.chunks;
   state = s;
 }
 
--- on a packet that came, a member that is open in a view went on so, by acts alone; what it keeps of its installs does not matter
+-- on a packet that came, a member that is open in a view went on so, by acts alone; what it keeps beside does not matter
 pub record Goes {S : Type 0} (meaning : Meaning S) (came : Option Posted) (who : Who) (v : View) (old new : InView ViewCore S) : Type 0 where
   pub posted : List Posted
   pub happened : List Event
-  pub acted : (kept : List (Address × wire.Install))
+  pub acted : (kept : Beside)
       → Acted meaning came (Some (open_core who.address v kept old.part old.state)) posted happened (Some (open_core who.address v kept new.part new.state))
   pub grows : Grows who.group old.out new.out posted happened
 

@@ -193,6 +193,7 @@ fn packet_kind(bytes: &[u8]) -> &'static str {
             Body::Report { .. } => "REPORT",
             Body::Install { .. } => "INSTALL",
             Body::Merge { .. } => "MERGE",
+            Body::State { .. } => "STATE",
             _ => "another",
         },
         Err(_) => "no packet",

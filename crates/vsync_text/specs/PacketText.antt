@@ -24,6 +24,7 @@ kind_name (bodies.Behind proposal counter) = codes "BEHIND"
 kind_name (bodies.Report proposal report) = codes "REPORT"
 kind_name (bodies.Install install) = codes "INSTALL"
 kind_name (bodies.Merge view) = codes "MERGE"
+kind_name (bodies.State proposal chunk) = codes "STATE"
 
 -- what a packet says, who sent it and to whom; `-` for each where bytes spell no packet
 abbrev pub packet_fields : Result Packet WireError → List ℕ

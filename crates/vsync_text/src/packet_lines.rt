@@ -30,6 +30,7 @@ fn kind_name(body: &Body<'_>) -> &'static [u8]
         Body::Report { .. } => b"REPORT",
         Body::Install(_) => b"INSTALL",
         Body::Merge(_) => b"MERGE",
+        Body::State { .. } => b"STATE",
     }
 }
 
