@@ -15,7 +15,8 @@ use Rattle.state_transfer.specs.Meanings.{Meaning}
 use Rattle.address.proofs.SameIds.{same_address-true}
 use Rattle.acts.specs.Histories.{Posted}
 use Rattle.acts.specs.Acts.{packet}
-use Rattle.decisions.specs.Decisions.{is_entry, is_readable}
+use Rattle.decisions.specs.Decisions.{is_readable}
+use Rattle.state_chunks.specs.HeldChunks.{given_in}
 use Rattle.step_output.specs.declared.output.Output.{Output}
 use Rattle.step_output.specs.Outputs.{Puts}
 use Rattle.step_output.specs.Calm.{IsCalm}
@@ -23,8 +24,8 @@ use Rattle.step_output.specs.Names.{same_name}
 use Rattle.membership.specs.declared.member_state.MemberState.{MemberState}
 use Rattle.membership.specs.declared.stop.Stop.{Stop}
 use Rattle.membership.specs.declared.stop.Stop.TheVariants as stop
-use Rattle.membership.specs.MemberStates.{core_of as core_at, is_connected}
-use Rattle.membership.specs.Changes.{StaysAs, Enters}
+use Rattle.membership.specs.MemberStates.{is_connected}
+use Rattle.membership.specs.Changes.{StaysAs, Enters, would_enter}
 use Rattle.membership.specs.Doing.{Did}
 use Rattle.member.specs.Hearing.{FollowsRule, ignores, entry_of, is_unreadable_by}
 use Rattle.member.specs.Running.{IsRunning}
@@ -66,8 +67,8 @@ module _ {S : Type 0} (meaning : Meaning S) (p : Address) (group : List ℕ) whe
     pub take-did : Did meaning (Some (packet q body p)) (who p group) (in_step old out) (in_step new later) → Did meaning o (who p group) (in_step old out) (in_step new later)
     take-did x = subst (λ (k : Option Posted). Did meaning k (who p group) (in_step old out) (in_step new later)) (sym came) x
 
-    pub take-unreadable : is_unreadable_by meaning (core_at p old) (packet q body p) ≡ true → option_map_or (is_unreadable_by meaning (core_at p old)) o false ≡ true
-    take-unreadable x = ap (λ (k : Option Posted). option_map_or (is_unreadable_by meaning (core_at p old)) k false) came ∙ x
+    pub take-unreadable : is_unreadable_by meaning p old (packet q body p) ≡ true → option_map_or (is_unreadable_by meaning p old) o false ≡ true
+    take-unreadable x = ap (λ (k : Option Posted). option_map_or (is_unreadable_by meaning p old) k false) came ∙ x
 
     pub take-ignored : ignores_packet p o old ≡ true → ignores p q body old ≡ true
     take-ignored x = sym (ap (λ (k : Option Posted). ignores_packet p k old) came) ∙ x
@@ -78,12 +79,13 @@ module _ {S : Type 0} (meaning : Meaning S) (p : Address) (group : List ℕ) whe
 
   -- ---- an INSTALL by which it entered could be read
 
-  entry-by : (b : Bool) (i : wire.Install) (A : Type 0) (B : Type 0) → MatchBool b ((is_readable meaning i.state ≡ true) × A) B → option_map_or (λ (j : wire.Install). not (is_readable meaning j.state)) (cond b (Some i) None) false ≡ false
-  entry-by true i A B x = ap not x.0
-  entry-by false i A B x = refl
+  entry-by : (b : Bool) (i : wire.Install) (chunks : List wire.Chunk) (A : Type 0) (B : Type 0) → MatchBool b ((is_readable meaning (given_in i.state chunks) ≡ true) × A) B
+      → option_map_or (λ (j : wire.Install). not (is_readable meaning (given_in j.state chunks))) (cond b (Some i) None) false ≡ false
+  entry-by true i chunks A B x = ap not x.0
+  entry-by false i chunks A B x = refl
 
   hears-readable : (m : Posted) (body : Body) (old new : MemberState S) (out later : Output) → m.body ≡ body → FollowsRule meaning (who p group) m.source body (in_step old out) (in_step new later)
-      → option_map_or (λ i. not (is_readable meaning i.state)) (entry_of (core_at p old) (record { source = m.source; destination = m.destination; body = body })) false ≡ false
+      → is_unreadable_by meaning p old (record { source = m.source; destination = m.destination; body = body }) ≡ false
   hears-readable m bodies.Join old new out later is x = refl
   hears-readable m (bodies.Redirect c) old new out later is x = refl
   hears-readable m bodies.Leave old new out later is x = refl
@@ -96,19 +98,15 @@ module _ {S : Type 0} (meaning : Meaning S) (p : Address) (group : List ℕ) whe
   hears-readable m (bodies.Behind w n) old new out later is x = refl
   hears-readable m (bodies.Report w r) old new out later is x = refl
   hears-readable m (bodies.Install i) old new out later is x =
-      entry-by (is_entry (core_at p old) m.source i) i (Enters meaning (who p group) old.view_state i (in_step old out) (in_step new later)) (StaysAs (in_step old out) (in_step new later)) x
+      entry-by (would_enter p old m.source i) i old.chunks (Enters meaning (who p group) old.view_state i (given_in i.state old.chunks) (in_step old out) (in_step new later)) (StaysAs (in_step old out) (in_step new later)) x
   hears-readable m (bodies.Merge v) old new out later is x = refl
+  hears-readable m (bodies.State w chunk) old new out later is x = refl
 
   readable-by : (o : Option Posted) (old new : MemberState S) (out later : Output)
       → MatchOption o (StaysAs (in_step old out) (in_step new later)) (λ m. FollowsRule meaning (who p group) m.source m.body (in_step old out) (in_step new later))
-      → option_map_or (λ i. not (is_readable meaning i.state)) (option_and_then (entry_of (core_at p old)) o) false ≡ false
+      → option_map_or (is_unreadable_by meaning p old) o false ≡ false
   readable-by None old new out later x = refl
   readable-by (Some m) old new out later x = hears-readable m m.body old new out later refl x
-
-  unread-by : (o : Option Posted) (old : MemberState S) → option_map_or (is_unreadable_by meaning (core_at p old)) o false ≡ true
-      → option_map_or (λ i. not (is_readable meaning i.state)) (option_and_then (entry_of (core_at p old)) o) false ≡ true
-  unread-by None old e = e
-  unread-by (Some m) old e = e
 
   -- ---- a datagram
 
@@ -119,7 +117,7 @@ module _ {S : Type 0} (meaning : Meaning S) (p : Address) (group : List ℕ) whe
   pub wire-handled : (bytes : Bor (List ℕ)) (w : WireError) (old : MemberState S) → packet_of bytes.now ≡ Err w → IsRunning (who p group) old → Holds (Some old) bytes (Err (Wire w)) (Some old)
   wire-handled bytes w old e runs =
       FactOfStep.refused-handled meaning p group old (Datagram bytes) (Wire w) (ap (λ (r : Result Packet WireError). option_map Wire (error_in r)) e) refl
-      (ap (λ (r : Result Packet WireError). option_map_or (λ (i : wire.Install). not (is_readable meaning i.state)) (option_and_then (entry_of (core_at p old)) (came_in (here old) r)) false) e)
+      (ap (λ (r : Result Packet WireError). option_map_or (is_unreadable_by meaning p old) (came_in (here old) r) false) e)
       (ap (λ (r : Result Packet WireError). not (is_some (error_in r)) && ignores_packet p (came_in (here old) r) old) e) runs
 
   ignored-in : (bytes : Bor (List ℕ)) (k : Packet) (old : MemberState S) → packet_of bytes.now ≡ Ok k → is_ignored (here old) (Datagram bytes) ≡ true → ignores_packet p (came_in (here old) (Ok k)) old ≡ true
@@ -144,16 +142,15 @@ module _ {S : Type 0} (meaning : Meaning S) (p : Address) (group : List ℕ) whe
 
   -- one by which it ended
   stopped-handled : (s : Stop) (bytes : Bor (List ℕ)) (k : Packet) (old : MemberState S) → packet_of bytes.now ≡ Ok k → (ignores_packet p (came_in (here old) (Ok k)) old ≡ true → ⊥)
-      → (s ≡ stop.Unreadable → option_map_or (is_unreadable_by meaning (core_at p old)) (came_in (here old) (Ok k)) false ≡ true) → Holds (Some old) bytes (Err (Refused (stopped s))) None
+      → (s ≡ stop.Unreadable → option_map_or (is_unreadable_by meaning p old) (came_in (here old) (Ok k)) false ≡ true) → Holds (Some old) bytes (Err (Refused (stopped s))) None
   stopped-handled stop.Memory bytes k old e taken unread =
       FactOfStep.memory-handled meaning p group old (Datagram bytes) (ap (λ (r : Result Packet WireError). option_map Wire (error_in r)) e)
       (FactOfStep.unless (is_ignored (here old) (Datagram bytes)) (λ i. taken (ignored-in bytes k old e i)))
   stopped-handled stop.Unreadable bytes k old e taken unread =
       FactOfStep.unreadable-handled meaning p group old (Datagram bytes)
-      (subst (λ (r : Result Packet WireError). option_map_or (λ (i : wire.Install). not (is_readable meaning i.state)) (option_and_then (entry_of (core_at p old)) (came_in (here old) r)) false ≡ true) (sym e)
-      (unread-by (came_in (here old) (Ok k)) old (unread refl)))
+      (subst (λ (r : Result Packet WireError). option_map_or (is_unreadable_by meaning p old) (came_in (here old) r) false ≡ true) (sym e) (unread refl))
       (FactOfStep.unless (is_ignored (here old) (Datagram bytes)) (λ i. taken (ignored-in bytes k old e i)))
 
   pub packet-stopped : (s : Stop) (e : Error) (bytes : Bor (List ℕ)) (k : Packet) (old : MemberState S) → e ≡ Refused (stopped s) → packet_of bytes.now ≡ Ok k → (ignores_packet p (came_in (here old) (Ok k)) old ≡ true → ⊥)
-      → (s ≡ stop.Unreadable → option_map_or (is_unreadable_by meaning (core_at p old)) (came_in (here old) (Ok k)) false ≡ true) → Holds (Some old) bytes (Err e) None
+      → (s ≡ stop.Unreadable → option_map_or (is_unreadable_by meaning p old) (came_in (here old) (Ok k)) false ≡ true) → Holds (Some old) bytes (Err e) None
   packet-stopped s e bytes k old is spells taken unread = subst (λ (x : Error). Holds (Some old) bytes (Err x) None) (sym is) (stopped-handled s bytes k old spells taken unread)

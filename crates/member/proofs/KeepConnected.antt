@@ -5,7 +5,7 @@ use Rattle.state_transfer.specs.Meanings.{Meaning}
 use Rattle.trace_props.specs.declared.event.Event.{Event}
 use Rattle.acts.specs.Histories.{Posted}
 use Rattle.acts.specs.Cores.{Core}
-use Rattle.acts.specs.Acts.{Act, Creates, Joins, Puts, Sends, Queues, Orders, TakesAck, Collects, Holds, Delivers, Promises, Begins, Records, Finishes, Enters, Leaves, after}
+use Rattle.acts.specs.Acts.{Act, Creates, Joins, Puts, Sends, Queues, Orders, TakesAck, Collects, Holds, Delivers, Promises, Begins, Records, Gathers, Finishes, Enters, Leaves, after}
 use Rattle.acts.specs.Chains.{Chain, Acted}
 
 module _ {S : Type 0} (meaning : Meaning S) where
@@ -26,8 +26,9 @@ module _ {S : Type 0} (meaning : Meaning S) where
   act-connected c d (Promises w) e on = so c d _ e on
   act-connected c d (Begins w) e on = so c d _ e on
   act-connected c d (Records f q r) e on = so c d _ e on
-  act-connected c d (Finishes v f cuts) e on = so c d _ e refl
-  act-connected c d (Enters i) e on = so c d _ e refl
+  act-connected c d (Gathers w chunk chunks) e on = so c d _ e on
+  act-connected c d (Finishes v f cuts given) e on = so c d _ e refl
+  act-connected c d (Enters i given) e on = so c d _ e refl
   act-connected c d Leaves e on = absurd (none-some d e)
 
   ended : (came : Option Posted) (d : Core S) (acts : List Act) → Chain meaning came None acts (Some d) → ⊥

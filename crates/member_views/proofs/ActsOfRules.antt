@@ -26,7 +26,7 @@ use Rattle.traffic.specs.declared.view_state.ViewState.{ViewState}
 use Rattle.traffic.specs.ViewStates.{view_of, fresh_in}
 use Rattle.traffic.proofs.FactOfNewView.{fresh-is, fresh-view}
 use Rattle.membership.specs.declared.member_state.MemberState.{MemberState}
-use Rattle.membership.specs.MemberStates.{core_of, view_in, sent_installs_in, is_connected, report_in, install_packet, IsMemberState}
+use Rattle.membership.specs.MemberStates.{core_of, view_in, sent_installs_in, is_connected, report_in, sent_install, IsMemberState}
 use Rattle.membership.specs.Changes.{StaysAs, TakesFlush, TakesReport, TakesBehind, TakesSuspicion, Regroups}
 use Rattle.membership.specs.Doing.{Did}
 use Rattle.membership.proofs.ActsInTurn.{stays-did, did-then, noted-did}
@@ -108,7 +108,7 @@ module _ {S : Type 0} (meaning : Meaning S) (who : Who) where
   unkept l none kept =
       let k = kept.sent_installs in
       let given : k.given ≡ [] = none-kept (view_in l.view_state) (λ (p : Address × wire.Install). p.1.view) k.given (ap view_in none) k.current in
-      ap sent_installs_in (k.spelled ∙ ap (λ g. map (spelled who.group) (map (install_packet who.address) g)) given)
+      ap sent_installs_in (k.spelled ∙ ap (λ g. map (sent_install who) g) given)
 
   created-at : (came : Option Posted) (old new : InStep S) → is_some old.member.contact ≡ false → old.member.promise.proposal ≡ None → sent_installs_in old.member.sent_installs.items ≡ []
       → Creates who (in_step (record (old.member) { view_state = None; flush = None }) old.out) new → DidThis came (in_step (record (old.member) { view_state = None; flush = None }) old.out) new
@@ -117,9 +117,9 @@ module _ {S : Type 0} (meaning : Meaning S) (who : Who) where
       let w = lone_view who.address in
       let view : view_of (fresh_in who.address w) ≡ w = fresh-view who.address w in
       let view_state = fresh-is who.address w in
-      let core : core_of who.address new.member ≡ gone_into w old.member.receiver [] c =
+      let core : core_of who.address new.member ≡ gone_into w old.member.receiver [] None c =
       ap (core_of who.address) z.member_state
-      ∙ (λ j. record { me = who.address; connected = true; promise = Some w; installed = true; view = Some (view j); view_state = view_state j; flush = None; sent_installs = kept j; state = old.member.receiver }) in
+      ∙ (λ j. record { me = who.address; connected = true; promise = Some w; installed = true; view = Some (view j); view_state = view_state j; flush = None; sent_installs = kept j; kept_state = None; chunks = []; state = old.member.receiver }) in
       record {
         posted = [];
         happened = _;
@@ -253,20 +253,20 @@ module _ {S : Type 0} (meaning : Meaning S) (who : Who) where
       (λ own t. changes.takes-behind-did meaning who came counter old new kept t)
       (λ other s. stays came old new s)
 
-  says-again : (came : Option Posted) (q : Address) (old new : InStep S) → IsMemberState who old.member → SaysAgain q old new → DidThis came old new
+  says-again : (came : Option Posted) (q : Address) (old new : InStep S) → IsMemberState who old.member → SaysAgain who q old new → DidThis came old new
   says-again came q old new kept x =
       subst (λ (z : MemberState S). DidThis came old (in_step z new.out)) (sym x.member_state) (changes.installs-again-did meaning who came q old.member old.out new.out kept x.again)
 
   unexpected : (came : Option Posted) (q : Address) (w : ViewId) (old new : InStep S) → IsMemberState who old.member
-      → MatchBool (is_in w old.member) (SaysAgain q old new) (StaysAs old new) → DidThis came old new
+      → MatchBool (is_in w old.member) (SaysAgain who q old new) (StaysAs old new) → DidThis came old new
   unexpected came q w old new kept x =
-      match-bool (is_in w old.member) (SaysAgain q old new) (StaysAs old new) x
+      match-bool (is_in w old.member) (SaysAgain who q old new) (StaysAs old new) x
       (λ here a. says-again came q old new kept a) (λ other s. stays came old new s)
 
   pub report-did : (came : Option Posted) (q : Address) (w : ViewId) (r : wire.Report) (old new : InStep S) → IsMemberState who old.member → came ≡ Some (packet q (bodies.Report w r) who.address)
       → OnReport meaning who q w r old new → DidThis came old new
   report-did came q w r old new kept came_so x =
-      match-bool (expects q w old.member) (TakesReport meaning who q w r old new) (MatchBool (is_in w old.member) (SaysAgain q old new) (StaysAs old new)) x
+      match-bool (expects q w old.member) (TakesReport meaning who q w r old new) (MatchBool (is_in w old.member) (SaysAgain who q old new) (StaysAs old new)) x
       (λ awaited t. changes.takes-report-did meaning who came q w r old new kept t came_so)
       (λ other y. unexpected came q w old new kept y)
 

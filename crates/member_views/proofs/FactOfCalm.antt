@@ -20,7 +20,8 @@ use Rattle.view_install.specs.Promises.{offered}
 use Rattle.acts.specs.Histories.{Posted}
 use Rattle.acts.specs.Cores.{is_open}
 use Rattle.acts.specs.Acts.{delivery}
-use Rattle.decisions.specs.Decisions.{due_proposal, is_entry, cuts_of}
+use Rattle.decisions.specs.Decisions.{due_proposal, cuts_of}
+use Rattle.state_chunks.specs.HeldChunks.{given_in}
 use Rattle.step_output.specs.declared.output.Output.{Output}
 use Rattle.step_output.specs.Outputs.{Grows}
 use Rattle.step_output.specs.Calm.{is_quiet, IsCalm}
@@ -29,9 +30,9 @@ use Rattle.traffic.specs.declared.view_state.ViewState.{ViewState}
 use Rattle.traffic.specs.ViewStates.{view_of, view_core_of}
 use Rattle.membership.specs.declared.member_state.MemberState.{MemberState}
 use Rattle.next_view.specs.Notes.{having_heard, suspecting}
-use Rattle.membership.specs.MemberStates.{core_of, is_complete, recording, anew_proposal, view_in, blocked_by}
+use Rattle.membership.specs.MemberStates.{core_of, is_complete, recording, anew_proposal, view_in, blocked_by, would_hold}
 use Rattle.membership.specs.Installs.{delivered_by, lacking, finish_events, enter_events}
-use Rattle.membership.specs.Changes.{StaysAs, TakesBy, TakesFlush, BeginsAndGoesOn, Begins, FinishesAndProposes, GoesOn, Regroups, TakesReport, TakesBehind, TakesSuspicion, TakesInstall, Enters}
+use Rattle.membership.specs.Changes.{StaysAs, TakesBy, TakesFlush, BeginsAndGoesOn, Begins, FinishesAndProposes, GoesOn, Regroups, TakesReport, TakesBehind, TakesSuspicion, TakesInstall, TakesChunk, would_enter, Enters}
 use Rattle.member_views.specs.Views.{OnJoin, OnRedirect, OnSuspect, OnFlush, OnBehind, OnReport, OnMerge, Asks, Redirects, SaysAgain, Admits, Meets, AnnouncesView, outdated, joined, merged, leads_now, has_member, is_less, is_suspectable, is_proposing, expects, is_in}
 use Rattle.flush.proofs.FewItems.{cut-few}
 use Rattle.step_output.specs.Steps.{Who}
@@ -136,25 +137,34 @@ module _ {S : Type 0} (who : Who) where
     behind counter old new x =
         let heard = record (old.member) { notes = having_heard counter old.member.notes } in goes-on-by (anew_proposal who.address heard) (in_step heard old.out) new x
 
-    enters-in : (view_state : Option ViewState) (i : wire.Install) → length i.items ≤ WINDOW → (length (enter_events who.address view_state i) ≤ WINDOW + 1) × (list_all is_quiet (enter_events who.address view_state i) ≡ true)
-    enters-in None i few = (omega (arith), refl)
-    enters-in (Some t) i few =
+    enters-in : (view_state : Option ViewState) (i : wire.Install) (given : Option (List ℕ)) → length i.items ≤ WINDOW
+        → (length (enter_events who.address view_state i given) ≤ WINDOW + 1) × (list_all is_quiet (enter_events who.address view_state i given) ≡ true)
+    enters-in None i given few = (omega (arith), refl)
+    enters-in (Some t) i given few =
         let l = lacking (Some t) i in
         let a = shorter ((view_core_of t).delivered - i.base) i.items in
         let e = delivered-few who.address (view_of t).id l in
         (one-more (map (delivery who.address (view_of t).id) l) _ WINDOW (omega (arith, e, a, few)), quiet-then (map (delivery who.address (view_of t).id) l) _ (deliveries-quiet who.address (view_of t).id l) refl)
 
-    entry-by : (b : Bool) (A : Type 0) (i : wire.Install) (old new : InStep S) → length i.items ≤ WINDOW
-        → MatchBool b (A × Enters meaning who old.member.view_state i old new) (StaysAs old new) → IsCalm (WINDOW + 3) old.out new.out
-    entry-by true A i old new few x =
-        let k = enters-in old.member.view_state i few in
-        calm-wider (WINDOW + 1) (WINDOW + 3) old.out new.out (omega (arith)) (calm-grown who.group (WINDOW + 1) old.out new.out [] (enter_events who.address old.member.view_state i) x.1.grows k.0 k.1)
-    entry-by false A i old new few x = stays (WINDOW + 3) old new x
+    entry-by : (b : Bool) (A : Type 0) (i : wire.Install) (given : Option (List ℕ)) (old new : InStep S) → length i.items ≤ WINDOW
+        → MatchBool b (A × Enters meaning who old.member.view_state i given old new) (StaysAs old new) → IsCalm (WINDOW + 3) old.out new.out
+    entry-by true A i given old new few x =
+        let k = enters-in old.member.view_state i given few in
+        calm-wider (WINDOW + 1) (WINDOW + 3) old.out new.out (omega (arith)) (calm-grown who.group (WINDOW + 1) old.out new.out [] (enter_events who.address old.member.view_state i given) x.1.grows k.0 k.1)
+    entry-by false A i given old new few x = stays (WINDOW + 3) old new x
+
+    chunk-by : (b : Bool) (chunks : List wire.Chunk) (old new : InStep S) → MatchBool b ((new.member ≡ record (old.member) { chunks = chunks }) × (new.out ≡ old.out)) (StaysAs old new)
+        → IsCalm (WINDOW + 3) old.out new.out
+    chunk-by true chunks old new x = record { more = []; grows = ap (λ (o : Output). o.events.items) x.1 ∙ sym (append-nil old.out.events.items); few = omega (arith); quiet = refl }
+    chunk-by false chunks old new x = stays (WINDOW + 3) old new x
 
     -- ---- by the packet that came, or the input
 
     pub install-calm : (q : Address) (i : wire.Install) (old new : InStep S) → length i.items ≤ WINDOW → TakesInstall meaning who q i old new → IsCalm (WINDOW + 3) old.out new.out
-    install-calm q i old new few x = entry-by (is_entry (core_of who.address old.member) q i) _ i old new few x
+    install-calm q i old new few x = entry-by (would_enter who.address old.member q i) _ i (given_in i.state old.member.chunks) old new few x
+
+    pub chunk-calm : (q : Address) (w : ViewId) (chunk : wire.Chunk) (old new : InStep S) → TakesChunk q w chunk old new → IsCalm (WINDOW + 3) old.out new.out
+    chunk-calm q w chunk old new x = chunk-by (would_hold q w chunk old.member) (old.member.chunks ++ chunk ∷ []) old new x
 
     announces : (p : Address) (old new : InStep S) → AnnouncesView who p old new → IsCalm (WINDOW + 3) old.out new.out
     announces p old new x = silent who.group (WINDOW + 3) _ old.out new.out x.grows
@@ -206,12 +216,12 @@ module _ {S : Type 0} (who : Who) where
     behind-calm w counter old new x = behind-by (is_proposing w old.member) counter old new x
 
     again-by : (b : Bool) (q : Address) (old new : InStep S)
-        → MatchBool b (SaysAgain q old new) (StaysAs old new) → IsCalm (WINDOW + 3) old.out new.out
+        → MatchBool b (SaysAgain who q old new) (StaysAs old new) → IsCalm (WINDOW + 3) old.out new.out
     again-by true q old new x = record { more = []; grows = x.again.events ∙ sym (append-nil old.out.events.items); few = omega (arith); quiet = refl }
     again-by false q old new x = stays (WINDOW + 3) old new x
 
     report-by : (b d : Bool) (q : Address) (w : ViewId) (r : wire.Report) (old new : InStep S)
-        → MatchBool b (TakesReport meaning who q w r old new) (MatchBool d (SaysAgain q old new) (StaysAs old new)) → IsCalm (WINDOW + 3) old.out new.out
+        → MatchBool b (TakesReport meaning who q w r old new) (MatchBool d (SaysAgain who q old new) (StaysAs old new)) → IsCalm (WINDOW + 3) old.out new.out
     report-by true d q w r old new x = calm-wider (WINDOW + 2) (WINDOW + 3) old.out new.out (omega (arith)) (goes-on (in_step (record (old.member) { flush = option_map (recording q w r) old.member.flush }) old.out) new x)
     report-by false d q w r old new x = again-by d q old new x
 

@@ -55,8 +55,8 @@ module _ {S : Type 0} (who : Who) where
   outside l e = outside-of l.view_state l.contact e
 
   pub created-member_state : (l new : MemberState S) → IsMemberState who l → is_connected l ≡ false
-      → new ≡ record l { view_state = Some (fresh_in who.address (lone_view who.address)); promise = record { member = l.promise.member; proposal = Some (lone_view who.address); is_installed = true } }
+      → new ≡ record l { view_state = Some (fresh_in who.address (lone_view who.address)); promise = record { member = l.promise.member; proposal = Some (lone_view who.address); is_installed = true }; sent_state = None; chunks = [] }
       → IsMemberState who new
   created-member_state l new x idle is =
       lives.created-member_state who l new x idle
-      (is ∙ ap (λ (p : Address). record l { view_state = Some (fresh_in who.address (lone_view who.address)); promise = record { member = p; proposal = Some (lone_view who.address); is_installed = true } }) x.own)
+      (is ∙ ap (λ (p : Address). record l { view_state = Some (fresh_in who.address (lone_view who.address)); promise = record { member = p; proposal = Some (lone_view who.address); is_installed = true }; sent_state = None; chunks = [] }) x.own)

@@ -11,14 +11,15 @@ use Rattle.view_install.specs.declared.promise.OfferAnswer.{OfferAnswer}
 use Rattle.view_install.specs.declared.promise.OfferAnswer.TheVariants.{Accept, Behind, Ignore}
 use Rattle.view_install.specs.Promises.{offered}
 use Rattle.acts.specs.Acts.{proposed}
-use Rattle.decisions.specs.Decisions.{due_proposal, is_entry}
+use Rattle.decisions.specs.Decisions.{due_proposal}
 use Rattle.step_output.specs.declared.output.Output.{Output}
 use Rattle.traffic.specs.declared.view_state.ViewState.{ViewState}
 use Rattle.traffic.specs.ViewStates.{fresh_in}
 use Rattle.membership.specs.declared.member_state.MemberState.{MemberState}
 use Rattle.next_view.specs.Notes.{having_heard, suspecting}
-use Rattle.membership.specs.MemberStates.{core_of, is_complete, recording, anew_proposal}
-use Rattle.membership.specs.Changes.{StaysAs, TakesBy, TakesFlush, Begins, BeginsAndGoesOn, FinishesAndProposes, GoesOn, Regroups, TakesReport, TakesBehind, TakesSuspicion, TakesInstall, Enters}
+use Rattle.membership.specs.MemberStates.{core_of, is_complete, recording, anew_proposal, would_hold}
+use Rattle.membership.specs.Changes.{StaysAs, TakesBy, TakesFlush, Begins, BeginsAndGoesOn, FinishesAndProposes, GoesOn, Regroups, TakesReport, TakesBehind, TakesSuspicion, TakesInstall, TakesChunk, would_enter, Enters}
+use Rattle.state_chunks.specs.HeldChunks.{given_in}
 use Rattle.member_views.specs.Views.{OnJoin, OnRedirect, OnSuspect, OnFlush, OnBehind, OnReport, OnMerge, Asks, Redirects, SaysAgain, Admits, Meets, AnnouncesView, outdated, joined, merged, leads_now, has_member, is_less, is_suspectable, is_proposing, expects, is_in}
 use Rattle.step_output.specs.Steps.{Who}
 use Rattle.membership.specs.InSteps.{InStep, in_step}
@@ -85,15 +86,23 @@ module _ {S : Type 0} (who : Who) where
         let heard = record (old.member) { notes = having_heard counter old.member.notes } in from old.member heard new.member (λ i. old.member.view_state)
         (goes-on-by (anew_proposal who.address heard) (in_step heard old.out) new x)
 
-    entry-by : (b : Bool) (A : Type 0) (i : wire.Install) (old new : InStep S)
-        → MatchBool b (A × Enters meaning who old.member.view_state i old new) (StaysAs old new) → Steady who.address old.member new.member
-    entry-by true A i old new x = Fresh i.view (ap (λ (l : MemberState S). l.view_state) x.1.member_state)
-    entry-by false A i old new x = stays old new x
+    entry-by : (b : Bool) (A : Type 0) (i : wire.Install) (given : Option (List ℕ)) (old new : InStep S)
+        → MatchBool b (A × Enters meaning who old.member.view_state i given old new) (StaysAs old new) → Steady who.address old.member new.member
+    entry-by true A i given old new x = Fresh i.view (ap (λ (l : MemberState S). l.view_state) x.1.member_state)
+    entry-by false A i given old new x = stays old new x
+
+    chunk-by : (b : Bool) (chunks : List wire.Chunk) (old new : InStep S) → MatchBool b ((new.member ≡ record (old.member) { chunks = chunks }) × (new.out ≡ old.out)) (StaysAs old new)
+        → Steady who.address old.member new.member
+    chunk-by true chunks old new x = Same (ap (λ (l : MemberState S). l.view_state) x.0)
+    chunk-by false chunks old new x = stays old new x
 
     -- ---- by the packet that came, or the input
 
     pub install-steady : (q : Address) (i : wire.Install) (old new : InStep S) → TakesInstall meaning who q i old new → Steady who.address old.member new.member
-    install-steady q i old new x = entry-by (is_entry (core_of who.address old.member) q i) _ i old new x
+    install-steady q i old new x = entry-by (would_enter who.address old.member q i) _ i (given_in i.state old.member.chunks) old new x
+
+    pub chunk-steady : (q : Address) (w : ViewId) (chunk : wire.Chunk) (old new : InStep S) → TakesChunk q w chunk old new → Steady who.address old.member new.member
+    chunk-steady q w chunk old new x = chunk-by (would_hold q w chunk old.member) (old.member.chunks ++ chunk ∷ []) old new x
 
     announces : (p : Address) (old new : InStep S) → AnnouncesView who p old new → Steady who.address old.member new.member
     announces p old new x = Same (ap (λ (l : MemberState S). l.view_state) x.member_state)
@@ -146,12 +155,12 @@ module _ {S : Type 0} (who : Who) where
     behind-steady w counter old new x = behind-by (is_proposing w old.member) counter old new x
 
     again-by : (b : Bool) (q : Address) (old new : InStep S)
-        → MatchBool b (SaysAgain q old new) (StaysAs old new) → Steady who.address old.member new.member
+        → MatchBool b (SaysAgain who q old new) (StaysAs old new) → Steady who.address old.member new.member
     again-by true q old new x = Same (ap (λ (l : MemberState S). l.view_state) x.member_state)
     again-by false q old new x = stays old new x
 
     report-by : (b d : Bool) (q : Address) (w : ViewId) (r : wire.Report) (old new : InStep S)
-        → MatchBool b (TakesReport meaning who q w r old new) (MatchBool d (SaysAgain q old new) (StaysAs old new)) → Steady who.address old.member new.member
+        → MatchBool b (TakesReport meaning who q w r old new) (MatchBool d (SaysAgain who q old new) (StaysAs old new)) → Steady who.address old.member new.member
     report-by true d q w r old new x =
         let recorded = record (old.member) { flush = option_map (recording q w r) old.member.flush } in from old.member recorded new.member (λ i. old.member.view_state) (goes-on (in_step recorded old.out) new x)
     report-by false d q w r old new x = again-by d q old new x

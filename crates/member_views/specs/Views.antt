@@ -30,6 +30,8 @@ pub record Creates {S : Type 0} (who : Who) (old new : InStep S) : Type 0 where
   pub member_state : new.member ≡ record (old.member) {
     view_state = Some (fresh_in who.address (lone_view who.address));
     promise = record { member = old.member.promise.member; proposal = Some (lone_view who.address); is_installed = true };
+    sent_state = None;
+    chunks = [];
   }
   pub grows : Grows who.group old.out new.out [] (Installed (lone_install who.address) ∷ [])
 

@@ -61,6 +61,8 @@ pub fn create<R: Receiver>(
     let _ = member_state.promise.install(&roster);
     member_state.receiver.view_accepted(&view);
     member_state.view_state = Some(ViewState::fresh(who.alloc, &who.address, view)?);
+    member_state.sent_state = None;
+    member_state.chunks.clear();
     Ok(())
 }
 

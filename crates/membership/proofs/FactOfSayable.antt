@@ -216,15 +216,15 @@ install-by : (t i b : ℕ) (c : Bool) → 1 ≤ t → t ≤ MEMBERS → c ≡ tr
     → (nat_le 1 t && nat_le t MEMBERS && c && nat_le i WINDOW && nat_le (b + i) GREATEST_NUMBER) ≡ true
 install-by t i b c one few ordered short small = grind (arith, nat_tests)
 
-pub sayable : (f : FlushModel) (v : ViewId) (state : List ℕ) (q : Address) → IsFlush f → is_complete f ≡ true → view_refusal f.proposal f.members ≡ None → stands_in q f.members ≡ true
-    → IsSayable f v state q
-sayable f v state q i complete sound stands =
+pub sayable : (f : FlushModel) (v : ViewId) (given : Option (List ℕ)) (q : Address) → IsFlush f → is_complete f ≡ true → view_refusal f.proposal f.members ≡ None → stands_in q f.members ≡ true
+    → IsSayable f v given q
+sayable f v given q i complete sound stands =
     let there : has_reported q f.reports ≡ true = all-by (λ m. has_reported m f.reports) f.members q complete stands in
     let t = together-by (report_from q f.reports) q f refl there stands (few-members f sound) in
     let l = listed-by f i (previous_of q f) in
     install-by (length (together_of q f)) (length (items_for (cuts_of f) (previous_of q f))) (base_for (cuts_of f) (previous_of q f)) (is_in_order (together_of q f) f.members)
     t.one t.few t.ordered l.few l.small
 
-pub all-sayable : (f : FlushModel) (v : ViewId) (state : List ℕ) (me : Address) → IsFlush f → is_complete f ≡ true → view_refusal f.proposal f.members ≡ None
-    → AllByRecursion (IsSayable f v state) (others_of me f.members)
-all-sayable f v state me i complete sound = all-filter (IsSayable f v state) (λ q. not (same_address q me)) f.members (λ q stands. sayable f v state q i complete sound stands)
+pub all-sayable : (f : FlushModel) (v : ViewId) (given : Option (List ℕ)) (me : Address) → IsFlush f → is_complete f ≡ true → view_refusal f.proposal f.members ≡ None
+    → AllByRecursion (IsSayable f v given) (others_of me f.members)
+all-sayable f v given me i complete sound = all-filter (IsSayable f v given) (λ q. not (same_address q me)) f.members (λ q stands. sayable f v given q i complete sound stands)

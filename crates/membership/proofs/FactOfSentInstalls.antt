@@ -1,41 +1,46 @@
 -- What a member kept of the view that it made, read from its bytes.
-use Rattle.std.proofs.Common.{◌≡◌, ℕ, Bool, true, false, cond, Option, Some, None, List, [], ◌∷◌, map, refl, ap, ◌∙◌, ◌⊎◌, inl, inr}
-use Rattle.std.specs.Prelude.{Ok, find}
-use Rattle.std.specs.List.{AllByRecursion, cons_option}
-use Rattle.address.specs.Ids.{Address, same_address}
+use Rattle.std.proofs.Common.{◌≡◌, ℕ, Bool, true, false, cond, Option, Some, None, List, [], ◌∷◌, ◌++◌, map, refl, ap, subst, ◌∙◌, ◌⊎◌, inl, inr, append_assoc}
+use Rattle.std.specs.Prelude.{Ok, find, unwrap_or}
+use Rattle.std.specs.List.{AllByRecursion, cons_option, flat_map}
+use Rattle.address.specs.Ids.{Address, ViewId, same_address}
 use Rattle.view.specs.Members.{View}
 use Rattle.wire_values.specs.Values as wire
 use Rattle.wire.specs.Packets.{IsPacket, packet_of, spelling}
 use Rattle.wire.proofs.OneSpelling.{spelled_read}
 use Rattle.address.proofs.SameIds.{same_address-true, same_address-sym}
 use Rattle.acts.specs.Cores.{install_sent_to}
-use Rattle.step_output.specs.declared.output.Outgoing.{Outgoing}
-use Rattle.step_output.specs.Outputs.{packet_in, spelled}
-use Rattle.membership.specs.MemberStates.{said_by, sent_installs_in, is_sent_to, install_packet}
+use Rattle.acts.specs.Histories.{Posted}
+use Rattle.acts.specs.Acts.{chunk_packets}
+use Rattle.flush.specs.Flushes.{FlushModel}
+use Rattle.step_output.specs.Outputs.{packet_in}
+use Rattle.step_output.specs.Steps.{Who}
+use Rattle.membership.specs.declared.sent_install.SentInstall.{SentInstall}
+use Rattle.membership.specs.MemberStates.{said_by, sent_installs_in, is_sent_to, install_packet, sent_install}
+use Rattle.membership.specs.Installs.{instruction_to, instructing}
 
 -- what is kept is what was spelled
-pub kept-are : (group : List ℕ) (me : Address) (given : List (Address × wire.Install)) → AllByRecursion (λ m. IsPacket (packet_in group m)) (map (install_packet me) given)
-    → sent_installs_in (map (spelled group) (map (install_packet me) given)) ≡ given
-kept-are group me [] sound = refl
-kept-are group me (p ∷ given) sound =
-    let m = packet_in group (install_packet me p) in
+pub kept-are : (who : Who) (given : List (Address × wire.Install)) → AllByRecursion (λ m. IsPacket (packet_in who.group m)) (map (install_packet who.address) given)
+    → sent_installs_in (map (sent_install who) given) ≡ given
+kept-are who [] sound = refl
+kept-are who (p ∷ given) sound =
+    let m = packet_in who.group (install_packet who.address p) in
     let read : packet_of (spelling m) ≡ Ok m = spelled_read (spelling m) m (sound.0, refl) in
-    ap (λ r. cons_option (said_by r) (sent_installs_in (map (spelled group) (map (install_packet me) given)))) read ∙ ap (λ l. p ∷ l) (kept-are group me given sound.1)
+    ap (λ r. cons_option (said_by r) (sent_installs_in (map (sent_install who) given))) read ∙ ap (λ l. p ∷ l) (kept-are who given sound.1)
 
 -- the packet that is found for an address gives the INSTALL that was kept for it
-pub record IsAgain (group : List ℕ) (me q : Address) (view : Option View) (given : List (Address × wire.Install)) (o : Option Outgoing) : Type 0 where
+pub record IsAgain (who : Who) (q : Address) (view : Option View) (given : List (Address × wire.Install)) (o : Option SentInstall) : Type 0 where
   pub to : Address
   pub install : wire.Install
-  pub is : o ≡ Some (spelled group (install_packet me (to, install)))
+  pub is : o ≡ Some (sent_install who (to, install))
   pub same : to ≡ q
-  pub sound : IsPacket (packet_in group (install_packet me (to, install)))
+  pub sound : IsPacket (packet_in who.group (install_packet who.address (to, install)))
   pub current : view ≡ Some install.view
   pub first : install_sent_to q given ≡ Some install
 
-again-by : (b : Bool) (group : List ℕ) (me q : Address) (view : Option View) (p : Address × wire.Install) (given : List (Address × wire.Install)) (rest : Option Outgoing) → same_address p.0 q ≡ b
-    → IsPacket (packet_in group (install_packet me p)) → view ≡ Some p.1.view → (rest ≡ None) ⊎ IsAgain group me q view given rest
-    → (cond b (Some (spelled group (install_packet me p))) rest ≡ None) ⊎ IsAgain group me q view (p ∷ given) (cond b (Some (spelled group (install_packet me p))) rest)
-again-by true group me q view p given rest w sound current later = inr (record {
+again-by : (b : Bool) (who : Who) (q : Address) (view : Option View) (p : Address × wire.Install) (given : List (Address × wire.Install)) (rest : Option SentInstall) → same_address p.0 q ≡ b
+    → IsPacket (packet_in who.group (install_packet who.address p)) → view ≡ Some p.1.view → (rest ≡ None) ⊎ IsAgain who q view given rest
+    → (cond b (Some (sent_install who p)) rest ≡ None) ⊎ IsAgain who q view (p ∷ given) (cond b (Some (sent_install who p)) rest)
+again-by true who q view p given rest w sound current later = inr (record {
   to = p.0;
   install = p.1;
   is = refl;
@@ -44,8 +49,8 @@ again-by true group me q view p given rest w sound current later = inr (record {
   current = current;
   first = ap (λ t. cond t (Some p.1) (install_sent_to q given)) (same_address-sym q p.0 ∙ w);
 })
-again-by false group me q view p given rest w sound current (inl none) = inl none
-again-by false group me q view p given rest w sound current (inr a) = inr (record {
+again-by false who q view p given rest w sound current (inl none) = inl none
+again-by false who q view p given rest w sound current (inr a) = inr (record {
   to = a.to;
   install = a.install;
   is = a.is;
@@ -55,9 +60,9 @@ again-by false group me q view p given rest w sound current (inr a) = inr (recor
   first = ap (λ t. cond t (Some p.1) (install_sent_to q given)) (same_address-sym q p.0 ∙ w) ∙ a.first;
 })
 
-pub again-in : (group : List ℕ) (me q : Address) (view : Option View) (given : List (Address × wire.Install)) → AllByRecursion (λ m. IsPacket (packet_in group m)) (map (install_packet me) given)
+pub again-in : (who : Who) (q : Address) (view : Option View) (given : List (Address × wire.Install)) → AllByRecursion (λ m. IsPacket (packet_in who.group m)) (map (install_packet who.address) given)
     → AllByRecursion (λ p. view ≡ Some p.1.view) given
-    → (find (is_sent_to q) (map (spelled group) (map (install_packet me) given)) ≡ None) ⊎ IsAgain group me q view given (find (is_sent_to q) (map (spelled group) (map (install_packet me) given)))
-again-in group me q view [] sound current = inl refl
-again-in group me q view (p ∷ given) sound current =
-    again-by (same_address p.0 q) group me q view p given (find (is_sent_to q) (map (spelled group) (map (install_packet me) given))) refl sound.0 current.0 (again-in group me q view given sound.1 current.1)
+    → (find (is_sent_to q) (map (sent_install who) given) ≡ None) ⊎ IsAgain who q view given (find (is_sent_to q) (map (sent_install who) given))
+again-in who q view [] sound current = inl refl
+again-in who q view (p ∷ given) sound current =
+    again-by (same_address p.0 q) who q view p given (find (is_sent_to q) (map (sent_install who) given)) refl sound.0 current.0 (again-in who q view given sound.1 current.1)

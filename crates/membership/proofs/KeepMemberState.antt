@@ -1,8 +1,8 @@
 -- What always holds of a member goes on to hold, whatever it does in a change of view.
 use Rattle.std.proofs.Common.{◌≡◌, ℕ, Bool, true, false, cond, not, ◌&&◌, ◌||◌, Option, Some, None, List, [], ◌∷◌, ◌++◌, map, refl, sym, ap, ◌∙◌, subst, is_some}
-use Rattle.std.specs.Prelude.{IsSome, MatchOption, MatchBool}
-use Rattle.std.specs.Option.{option_map, option_map_or}
-use Rattle.std.specs.List.{AllByRecursion}
+use Rattle.std.specs.Prelude.{length, unwrap_or, IfSome, IsSome, MatchOption, MatchBool, if◌then◌else◌}
+use Rattle.std.specs.Option.{option_eq, option_map, option_map_or}
+use Rattle.std.specs.List.{AllByRecursion, flat_map}
 use Rattle.std.specs.Cmp.Lexicographic.{pointwise}
 use Rattle.std.proofs.lemmas.Bool.{and_parts, cond-true}
 use Rattle.std.proofs.lemmas.Option.{none-some, same_Some}
@@ -17,18 +17,23 @@ use Rattle.view_install.specs.Promises.{PromiseModel, offered, is_accept, same_v
 use Rattle.view_install.specs.declared.promise.OfferAnswer.TheVariants.{Accept, Ignore}
 use Rattle.view_install.proofs.ViewsRise.{only-the-promised}
 use Rattle.address.proofs.SameIds.{same_view_id-refl, same_address-refl}
-use Rattle.acts.specs.Acts.{others_of, proposed, lone_view}
+use Rattle.wire_values.specs.Chunks.{IsTotal}
+use Rattle.wire_values.specs.Lists.{IsChunk}
+use Rattle.acts.specs.Histories.{Posted}
+use Rattle.acts.specs.Acts.{others_of, proposed, lone_view, chunk_packets}
+use Rattle.acts.specs.Cores.{id_of}
+use Rattle.state_chunks.specs.HeldChunks.{is_new}
 use Rattle.decisions.specs.Decisions.{is_fitting, is_entry}
 use Rattle.decisions.proofs.FactOfOffer.{accepted-parts}
 use Rattle.step_output.specs.declared.output.Output.{Output}
-use Rattle.step_output.specs.Outputs.{packet_in, spelled}
+use Rattle.step_output.specs.Outputs.{packet_in}
 use Rattle.traffic.specs.declared.view_state.ViewState.{ViewState}
 use Rattle.traffic.specs.ViewStates.{view_of, fresh_in}
 use Rattle.traffic.proofs.FactOfNewView.{fresh-view}
 use Rattle.membership.specs.declared.member_state.MemberState.{MemberState}
-use Rattle.membership.specs.MemberStates.{core_of, view_in, view_core_in, is_connected, report_in, begun_with, recording, is_complete, leads_in, idle_member, install_packet, IsFlushing, IsKept, IsMemberState}
-use Rattle.membership.specs.Installs.{instruction_to, instructing, finished_state}
-use Rattle.membership.specs.Changes.{StaysAs, Promises, Begins, ProposesIf, Finishes, FinishesAndProposes, GoesOn, Enters}
+use Rattle.membership.specs.MemberStates.{core_of, view_in, view_core_in, is_connected, report_in, begun_with, recording, is_complete, leads_in, idle_member, install_packet, sent_install, held_for, awaits, would_hold, IsFlushing, IsKept, IsMemberState}
+use Rattle.membership.specs.Installs.{instruction_to, instructing, finished_given}
+use Rattle.membership.specs.Changes.{StaysAs, Promises, Begins, ProposesIf, Finishes, FinishesAndProposes, GoesOn, Enters, TakesChunk}
 use Rattle.membership.proofs.FactOfProposed.{IsProposal}
 use Rattle.view.proofs.FactOfMembers.{coordinator-in}
 use Rattle.step_output.specs.Steps.{Who, who}
@@ -91,28 +96,46 @@ other-installed me w p own may =
 -- ---- what was kept
 
 -- what was kept before it is kept with the same view
-kept-on : {S : Type 0} (group : List ℕ) (me : Address) (l new : MemberState S) → new.sent_installs ≡ l.sent_installs → new.view_state ≡ l.view_state → IsKept (who me group) l → IsKept (who me group) new
-kept-on group me l new kept view_state k = record {
+kept-on : {S : Type 0} (who : Who) (l new : MemberState S) → new.sent_installs ≡ l.sent_installs → new.sent_state ≡ l.sent_state → new.view_state ≡ l.view_state → IsKept who l → IsKept who new
+kept-on who l new kept state view_state k = record {
   given = k.given;
   spelled = ap (λ v. v.items) kept ∙ k.spelled;
   sound = k.sound;
   current = subst (λ (t : Option ViewState). AllByRecursion (λ p. view_in t ≡ Some p.1.view) k.given) (sym view_state) k.current;
+  state = subst (λ (o : Option (List ℕ)). IfSome o (λ bytes. IsTotal (length bytes))) (sym state) k.state;
 }
 
-nothing-kept : {S : Type 0} (group : List ℕ) (me : Address) (l : MemberState S) → l.sent_installs.items ≡ [] → IsKept (who me group) l
-nothing-kept group me l e = record { given = []; spelled = e; sound = tt; current = tt }
+-- no INSTALLs were kept
+nothing-kept : {S : Type 0} (who : Who) (l : MemberState S) → l.sent_installs.items ≡ [] → IfSome l.sent_state (λ bytes. IsTotal (length bytes)) → IsKept who l
+nothing-kept who l e total = record { given = []; spelled = e; sound = tt; current = tt; state = total }
 
 -- each INSTALL of a flush, with whom it is for
-abbrev pub given_by : FlushModel → ViewId → List ℕ → List Address → List (Address × wire.Install)
-given_by f v state list = map (λ q. (q, instruction_to f v state q)) list
+abbrev pub given_by : FlushModel → ViewId → Option (List ℕ) → List Address → List (Address × wire.Install)
+given_by f v given list = map (λ q. (q, instruction_to f v given q)) list
 
-pub given-packets : (me : Address) (f : FlushModel) (v : ViewId) (state : List ℕ) (list : List Address) → map (install_packet me) (given_by f v state list) ≡ map (instructing me f v state) list
-given-packets me f v state [] = refl
-given-packets me f v state (q ∷ list) = ap (λ l. instructing me f v state q ∷ l) (given-packets me f v state list)
+-- as they are kept
+pub given-sent : (who : Who) (f : FlushModel) (v : ViewId) (given : Option (List ℕ)) (list : List Address)
+    → map (λ q. sent_install who (q, instruction_to f v given q)) list ≡ map (sent_install who) (given_by f v given list)
+given-sent who f v given [] = refl
+given-sent who f v given (q ∷ list) = ap (λ l. sent_install who (q, instruction_to f v given q) ∷ l) (given-sent who f v given list)
 
-all-current : (f : FlushModel) (v : ViewId) (state : List ℕ) (list : List Address) (o : Option View) → o ≡ Some (proposed f) → AllByRecursion (λ p. o ≡ Some p.1.view) (given_by f v state list)
-all-current f v state [] o e = tt
-all-current f v state (q ∷ list) o e = (e, all-current f v state list o e)
+-- what holds of all holds of one, and of those behind it
+last-holds : (P : Posted → Type 0) (chunks : List Posted) (p : Posted) (rest : List Posted) → AllByRecursion P ((chunks ++ p ∷ []) ++ rest) → P p × AllByRecursion P rest
+last-holds P [] p rest all = all
+last-holds P (chunk ∷ chunks) p rest all = last-holds P chunks p rest all.1
+
+-- where all that a flush says can be said, its INSTALLs can
+pub given-sound : (P : Posted → Type 0) (me : Address) (f : FlushModel) (v : ViewId) (given : Option (List ℕ)) (list : List Address)
+    → AllByRecursion P (flat_map (instructing me f v given) list) → AllByRecursion P (map (install_packet me) (given_by f v given list))
+given-sound P me f v given [] all = tt
+given-sound P me f v given (q ∷ list) all =
+    let x = instruction_to f v given q in
+    let both = last-holds P (chunk_packets me q f.proposal (unwrap_or given []) x.state) (install_packet me (q, x)) (flat_map (instructing me f v given) list) all in
+    (both.0, given-sound P me f v given list both.1)
+
+all-current : (f : FlushModel) (v : ViewId) (given : Option (List ℕ)) (list : List Address) (o : Option View) → o ≡ Some (proposed f) → AllByRecursion (λ p. o ≡ Some p.1.view) (given_by f v given list)
+all-current f v given [] o e = tt
+all-current f v given (q ∷ list) o e = (e, all-current f v given list o e)
 
 -- ---- a first view of itself alone
 
@@ -134,6 +157,11 @@ created-promise me p own none =
     ∙ ap (λ (o : Option View). is_accept (option_map_or (λ v. answer_past (view_id_cmp w.id v.id) v p.is_installed) o Accept)) none in
     ap (after_install w) (cond-true (is_accept (offered w p)) (promising w p) p accepted) ∙ own-installed me w (promising w p) own refl refl
 
+-- those that are held on are as they were
+held-on : (b : Bool) (chunks : List wire.Chunk) → AllByRecursion IsChunk chunks → AllByRecursion IsChunk (if b then chunks else [])
+held-on true chunks all = all
+held-on false chunks all = tt
+
 module _ {S : Type 0} (who : Who) where
   -- ---- at its start
 
@@ -149,7 +177,8 @@ module _ {S : Type 0} (who : Who) where
         waiting = λ e f w q. absurd (none-some w (sym none ∙ q));
         installed = λ e. not-both l.promise.is_installed e (ap (λ (p : PromiseModel). p.is_installed) i.promise);
         flushing = λ f e. absurd (none-some f (sym i.flush ∙ e));
-        sent_installs = nothing-kept who.group who.address l i.sent_installs;
+        sent_installs = nothing-kept who l i.sent_installs (subst (λ (o : Option (List ℕ)). IfSome o (λ bytes. IsTotal (length bytes))) (sym i.sent_state) tt);
+        held = subst (AllByRecursion IsChunk) (sym i.chunks) tt;
       }
 
   -- ---- a FLUSH is promised
@@ -167,7 +196,8 @@ module _ {S : Type 0} (who : Who) where
         waiting = λ e f v q. subst (λ (z : View). same_address z.id.creator who.address ≡ false) (same_Some w v q) other;
         installed = λ e. absurd (let n : false ≡ true = e in cc);
         flushing = λ f e. absurd (none-some f e);
-        sent_installs = kept-on who.group who.address l.member _ refl refl kept.sent_installs;
+        sent_installs = kept-on who l.member _ refl refl refl kept.sent_installs;
+        held = held-on (option_eq same_view_id (id_of l.member.promise.proposal) (Some w.id)) l.member.chunks kept.held;
       })
 
   -- ---- a flush of its own begins
@@ -196,18 +226,19 @@ module _ {S : Type 0} (who : Who) where
         listed = λ v e. subst (λ (z : View). stands_in who.address z.members ≡ true) (same_Some w v e) p.listed;
         waiting = λ e f. absurd (none-some (begun_with who.address w (report_in l.member)) (sym f));
         installed = λ e. absurd (let n : false ≡ true = e in cc);
-        flushing = λ f e. subst (λ (g : FlushModel). IsFlushing who.address (record (l.member) { promise = promising w l.member.promise; flush = Some (begun_with who.address w (report_in l.member)) }) g)
+        flushing = λ f e. subst (λ (g : FlushModel). IsFlushing who.address (record (l.member) { promise = promising w l.member.promise; flush = Some (begun_with who.address w (report_in l.member)); chunks = held_for w l.member }) g)
             (same_Some (begun_with who.address w (report_in l.member)) f e) (begun-flushing l.member w p _ refl refl refl);
-        sent_installs = kept-on who.group who.address l.member _ refl refl kept.sent_installs;
+        sent_installs = kept-on who l.member _ refl refl refl kept.sent_installs;
+        held = held-on (option_eq same_view_id (id_of l.member.promise.proposal) (Some w.id)) l.member.chunks kept.held;
       })
 
   -- ---- a view is entered
 
   -- in a view that is the promised one, with no notes of suspects
-  pub gone-member_state : (new : MemberState S) (w : View) → new.view_state ≡ Some (fresh_in who.address w) → new.promise ≡ installed_as who.address w → new.flush ≡ None → new.notes.suspects ≡ []
+  pub gone-member_state : (new : MemberState S) (w : View) → new.view_state ≡ Some (fresh_in who.address w) → new.promise ≡ installed_as who.address w → new.flush ≡ None → new.notes.suspects ≡ [] → new.chunks ≡ []
       → stands_in who.address w.members ≡ true
       → IsKept who new → IsMemberState who new
-  gone-member_state new w view_state promise flush suspects stands kept =
+  gone-member_state new w view_state promise flush suspects chunks stands kept =
       let view : view_in new.view_state ≡ Some w = ap view_in view_state ∙ ap Some (fresh-view who.address w) in
       let proposal : new.promise.proposal ≡ Some w = ap (λ (p : PromiseModel). p.proposal) promise in
       record {
@@ -220,6 +251,7 @@ module _ {S : Type 0} (who : Who) where
         installed = λ e. view ∙ sym proposal;
         flushing = λ f e. absurd (none-some f (sym flush ∙ e));
         sent_installs = kept;
+        held = subst (AllByRecursion IsChunk) (sym chunks) tt;
       }
 
   -- it goes into its own proposal
@@ -227,19 +259,20 @@ module _ {S : Type 0} (who : Who) where
       → old.promise ≡ l.promise → Finishes meaning who f t (in_step old out) (in_step new later) → IsMemberState who new
   finished-member_state meaning f t l old new out later kept flush same z =
       let x = kept.flushing f flush in
-      let state = meaning.encode (finished_state meaning f t old.receiver) in
-      let same_packets = given-packets who.address f (view_of t).id state (others_of who.address f.members) in
+      let given = finished_given meaning f t old.receiver in
+      let others = others_of who.address f.members in
       let view_state : new.view_state ≡ Some (fresh_in who.address (proposed f)) = ap (λ (n : MemberState S). n.view_state) z.member_state in
       let promise : after_install (proposed f) old.promise ≡ installed_as who.address (proposed f) =
       own-installed who.address (proposed f) old.promise (ap (λ (p : PromiseModel). p.member) same ∙ kept.own) (ap (λ (p : PromiseModel). p.proposal) same ∙ x.promise)
       (ap (λ (p : PromiseModel). p.is_installed) same ∙ x.waiting) in
-      gone-member_state new (proposed f) view_state (ap (λ (n : MemberState S). n.promise) z.member_state ∙ promise) (ap (λ (n : MemberState S). n.flush) z.member_state) (ap (λ (n : MemberState S). n.notes.suspects) z.member_state)
+      gone-member_state new (proposed f) view_state (ap (λ (n : MemberState S). n.promise) z.member_state ∙ promise) (ap (λ (n : MemberState S). n.flush) z.member_state) (ap (λ (n : MemberState S). n.notes.suspects) z.member_state) (ap (λ (n : MemberState S). n.chunks) z.member_state)
       (subst (λ (p : Address). stands_in p f.members ≡ true) x.own (coordinator-in f.proposal f.members x.list))
       (record {
-        given = given_by f (view_of t).id state (others_of who.address f.members);
-        spelled = z.sent_installs ∙ ap (map (spelled who.group)) (sym same_packets);
-        sound = subst (λ ps. AllByRecursion (λ m. IsPacket (packet_in who.group m)) ps) (sym same_packets) z.grows.sound;
-        current = all-current f (view_of t).id state (others_of who.address f.members) (view_in new.view_state) (ap view_in view_state ∙ ap Some (fresh-view who.address (proposed f)));
+        given = given_by f (view_of t).id given others;
+        spelled = z.sent_installs ∙ given-sent who f (view_of t).id given others;
+        sound = given-sound (λ m. IsPacket (packet_in who.group m)) who.address f (view_of t).id given others z.grows.sound;
+        current = all-current f (view_of t).id given others (view_in new.view_state) (ap view_in view_state ∙ ap Some (fresh-view who.address (proposed f)));
+        state = z.sent_state;
       })
 
   -- all have reported: it goes into its own proposal, and proposes what is due then
@@ -247,23 +280,24 @@ module _ {S : Type 0} (who : Who) where
       → option_map_or is_complete old.member.flush false ≡ true → Finishes meaning who f t old mid → ProposesIf who mid new → GoesOn meaning who old new
   goes-on meaning f t old mid new flush view_state complete finishes proposes =
       let all : is_complete f ≡ true = subst (λ (o : Option FlushModel). option_map_or is_complete o false ≡ true) flush complete in
-      let then : FinishesAndProposes meaning who f t old new = record { mid = in_step mid.member mid.out; finishes = finishes; proposes = proposes } in
+      let both : FinishesAndProposes meaning who f t old new = record { mid = in_step mid.member mid.out; finishes = finishes; proposes = proposes } in
       let inside : MatchOption old.member.view_state ⊥ (λ u. FinishesAndProposes meaning who f u old new) =
-      subst (λ (o : Option ViewState). MatchOption o ⊥ (λ u. FinishesAndProposes meaning who f u old new)) (sym view_state) then in
+      subst (λ (o : Option ViewState). MatchOption o ⊥ (λ u. FinishesAndProposes meaning who f u old new)) (sym view_state) both in
       let done : MatchBool (is_complete f) (MatchOption old.member.view_state ⊥ (λ u. FinishesAndProposes meaning who f u old new)) (StaysAs old new) =
       subst (λ (b : Bool). MatchBool b (MatchOption old.member.view_state ⊥ (λ u. FinishesAndProposes meaning who f u old new)) (StaysAs old new)) (sym all) inside in
       subst (λ (o : Option FlushModel). MatchOption o (StaysAs old new)
       (λ g. MatchBool (is_complete g) (MatchOption old.member.view_state ⊥ (λ u. FinishesAndProposes meaning who g u old new)) (StaysAs old new))) (sym flush) done
 
   -- it enters the view of another
-  pub entered-member_state : (meaning : Meaning S) (q : Address) (i : wire.Install) (view_state : Option ViewState) (l old new : MemberState S) (out later : Output)
-      → IsMemberState who l → is_entry (core_of who.address l) q i ≡ true → old.promise ≡ l.promise → Enters meaning who view_state i (in_step old out) (in_step new later) → IsMemberState who new
-  entered-member_state meaning q i view_state l old new out later kept enters same z =
+  pub entered-member_state : (meaning : Meaning S) (q : Address) (i : wire.Install) (given : Option (List ℕ)) (view_state : Option ViewState) (l old new : MemberState S) (out later : Output)
+      → IsMemberState who l → is_entry (core_of who.address l) q i ≡ true → old.promise ≡ l.promise → Enters meaning who view_state i given (in_step old out) (in_step new later) → IsMemberState who new
+  entered-member_state meaning q i given view_state l old new out later kept enters same z =
       let parts = and_parts (same_address q i.view.id.creator && may_install i.view l.promise) (is_fitting (view_in l.view_state) (view_core_in l.view_state).delivered i) enters in
       let may : may_install i.view l.promise ≡ true = (and_parts (same_address q i.view.id.creator) (may_install i.view l.promise) parts.0).1 in
       let promise : after_install i.view old.promise ≡ installed_as who.address i.view = ap (after_install i.view) same ∙ other-installed who.address i.view l.promise kept.own may in
-      gone-member_state new i.view (ap (λ (n : MemberState S). n.view_state) z.member_state) (ap (λ (n : MemberState S). n.promise) z.member_state ∙ promise) (ap (λ (n : MemberState S). n.flush) z.member_state) (ap (λ (n : MemberState S). n.notes.suspects) z.member_state)
-      (kept.listed i.view (only-the-promised i.view l.promise may).0) (nothing-kept who.group who.address new z.sent_installs)
+      gone-member_state new i.view (ap (λ (n : MemberState S). n.view_state) z.member_state) (ap (λ (n : MemberState S). n.promise) z.member_state ∙ promise) (ap (λ (n : MemberState S). n.flush) z.member_state) (ap (λ (n : MemberState S). n.notes.suspects) z.member_state) (ap (λ (n : MemberState S). n.chunks) z.member_state)
+      (kept.listed i.view (only-the-promised i.view l.promise may).0) (nothing-kept who new z.sent_installs
+      (subst (λ (o : Option (List ℕ)). IfSome o (λ bytes. IsTotal (length bytes))) (sym (ap (λ (n : MemberState S). n.sent_state) z.member_state)) tt))
 
   -- a member whose flush and view are these
   pub whole-member_state : (l : MemberState S) (f : FlushModel) (t : ViewState) → l.flush ≡ Some f → l.view_state ≡ Some t → IsMemberState who l → IsMemberState who (record l { flush = Some f; view_state = Some t })
@@ -290,7 +324,8 @@ module _ {S : Type 0} (who : Who) where
     waiting = λ i f. kept.waiting i e;
     installed = kept.installed;
     flushing = λ f same. absurd (none-some f same);
-    sent_installs = kept-on who.group who.address l _ refl refl kept.sent_installs;
+    sent_installs = kept-on who l _ refl refl refl kept.sent_installs;
+    held = kept.held;
   }
   recorded-by l q w r (Some f) e kept = record {
     own = kept.own;
@@ -302,7 +337,8 @@ module _ {S : Type 0} (who : Who) where
     installed = kept.installed;
     flushing = λ g same. subst (λ (z : FlushModel). IsFlushing who.address (record l { flush = Some (recording q w r f) }) z) (same_Some (recording q w r f) g same)
         (recorded-flushing l q w r f (same_view_id f.proposal w) (is_awaited q f) (Some (recording q w r f)) (kept.flushing f e));
-    sent_installs = kept-on who.group who.address l _ refl refl kept.sent_installs;
+    sent_installs = kept-on who l _ refl refl refl kept.sent_installs;
+    held = kept.held;
   }
 
   pub recorded-member_state : (l new : MemberState S) (q : Address) (w : ViewId) (r : wire.Report) → IsMemberState who l → new ≡ record l { flush = option_map (recording q w r) l.flush } → IsMemberState who new
@@ -323,7 +359,26 @@ module _ {S : Type 0} (who : Who) where
     installed = kept.installed;
     flushing = λ f e. let x = kept.flushing f e in
         record { inside = x.inside; promise = x.promise; own = x.own; waiting = x.waiting; list = x.list; reported = x.reported; leads = λ v i. leads v (x.leads v i) };
-    sent_installs = kept-on who.group who.address l _ refl refl kept.sent_installs;
+    sent_installs = kept-on who l _ refl refl refl kept.sent_installs;
+    held = kept.held;
+  })
+
+  -- ---- a chunk of a state
+
+  -- other chunks
+  pub held-member_state : (l new : MemberState S) (chunks : List wire.Chunk) → IsMemberState who l → new ≡ record l { chunks = chunks } → AllByRecursion IsChunk chunks → IsMemberState who new
+  held-member_state l new chunks kept is all = subst (λ (z : MemberState S). IsMemberState who z) (sym is) (record {
+    own = kept.own;
+    unsuspected = kept.unsuspected;
+    inside = kept.inside;
+    unconnected = kept.unconnected;
+    listed = kept.listed;
+    waiting = kept.waiting;
+    installed = kept.installed;
+    flushing = λ f e. let x = kept.flushing f e in
+        record { inside = x.inside; promise = x.promise; own = x.own; waiting = x.waiting; list = x.list; reported = x.reported; leads = x.leads };
+    sent_installs = kept-on who l _ refl refl refl kept.sent_installs;
+    held = all;
   })
 
   -- ---- a new contact
@@ -339,7 +394,8 @@ module _ {S : Type 0} (who : Who) where
     installed = kept.installed;
     flushing = λ f e. let x = kept.flushing f e in
         record { inside = x.inside; promise = x.promise; own = x.own; waiting = x.waiting; list = x.list; reported = x.reported; leads = x.leads };
-    sent_installs = kept-on who.group who.address l _ refl refl kept.sent_installs;
+    sent_installs = kept-on who l _ refl refl refl kept.sent_installs;
+    held = kept.held;
   })
 
   -- ---- a first view of itself alone
@@ -349,10 +405,10 @@ module _ {S : Type 0} (who : Who) where
   unflushed (Some f) l e none kept = not-both (is_some l.view_state) (kept.flushing f e).inside (ap is_some none)
 
   pub created-member_state : (l new : MemberState S) → IsMemberState who l → is_connected l ≡ false
-      → new ≡ record l { view_state = Some (fresh_in who.address (lone_view who.address)); promise = installed_as who.address (lone_view who.address) } → IsMemberState who new
+      → new ≡ record l { view_state = Some (fresh_in who.address (lone_view who.address)); promise = installed_as who.address (lone_view who.address); sent_state = None; chunks = [] } → IsMemberState who new
   created-member_state l new kept off is =
       let none : l.view_state ≡ None = outside l.view_state (is_some l.contact) off in
-      let no-items : l.sent_installs.items ≡ [] = kept.sent_installs.spelled ∙ ap (λ g. map (spelled who.group) (map (install_packet who.address) g))
+      let no-items : l.sent_installs.items ≡ [] = kept.sent_installs.spelled ∙ ap (map (sent_install who))
       (none-given (view_in l.view_state) kept.sent_installs.given (ap view_in none) kept.sent_installs.current) in
       let view_state : new.view_state ≡ Some (fresh_in who.address (lone_view who.address)) = ap (λ (n : MemberState S). n.view_state) is in
       let promise : new.promise ≡ installed_as who.address (lone_view who.address) = ap (λ (n : MemberState S). n.promise) is in
@@ -369,5 +425,7 @@ module _ {S : Type 0} (who : Who) where
         waiting = λ e f. not-both new.promise.is_installed (ap (λ (p : PromiseModel). p.is_installed) promise) e;
         installed = λ e. view ∙ sym proposal;
         flushing = λ f e. absurd (none-some f (sym flush ∙ e));
-        sent_installs = nothing-kept who.group who.address new (ap (λ (n : MemberState S). n.sent_installs.items) is ∙ no-items);
+        sent_installs = nothing-kept who new (ap (λ (n : MemberState S). n.sent_installs.items) is ∙ no-items)
+            (subst (λ (o : Option (List ℕ)). IfSome o (λ bytes. IsTotal (length bytes))) (sym (ap (λ (n : MemberState S). n.sent_state) is)) tt);
+        held = subst (AllByRecursion IsChunk) (sym (ap (λ (n : MemberState S). n.chunks) is)) tt;
       }

@@ -24,6 +24,7 @@ use Rattle.step_output.specs.declared.output.Outgoing.{Outgoing}
 use Rattle.membership.specs.declared.sent_install.SentInstall.{SentInstall}
 use Rattle.state_chunks.specs.HeldChunks.{is_new}
 use Rattle.wire_values.specs.Chunks.{IsTotal}
+use Rattle.wire_values.specs.Lists.{IsChunk}
 use Rattle.wire_values.specs.declared.values.state.GivenState.{GivenState}
 use Rattle.wire_values.specs.declared.values.state.GivenState.TheVariants as forms
 use Rattle.step_output.specs.Outputs.{packet_in, spelled}
@@ -195,5 +196,5 @@ pub record IsMemberState {S : Type 0} (who : Who) (l : MemberState S) : Type 0 w
   pub installed : l.promise.is_installed ≡ true → view_in l.view_state ≡ l.promise.proposal
   pub flushing : ForSome l.flush (IsFlushing who.address l)
   pub sent_installs : IsKept who l
-  -- before it promised anything it holds no chunk
-  pub unpromised : l.promise.proposal ≡ None → l.chunks ≡ []
+  -- each chunk that it holds is as a packet has it
+  pub held : AllByRecursion IsChunk l.chunks

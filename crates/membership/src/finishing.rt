@@ -180,8 +180,8 @@ fn put_install(
     sent: &mut Vec<SentInstall>,
     out: &mut Output,
 ) -> Result<(), AllocError>
-    ensures sent { OnOk result (sent.new.items ≡ sent.old.items ++ sent_install (who_of who.now) (member, install) ∷ []) }
-    ensures out { OnOk result (Grows who.now.group out.old out.new (packet who.now.address (bodies.Install install) member ∷ []) []) }
+    ensures sent { OnOk result (sent.new.items ≡ sent.old.items ++ sent_install (who_of who.now) (member, install.entry) ∷ []) }
+    ensures out { OnOk result (Grows who.now.group out.old out.new (packet who.now.address (bodies.Install install.entry) member ∷ []) []) }
 {
     let in_chunks = is_chunked(install.state());
     let packet = who.spelled(member, Body::Install(install))?;

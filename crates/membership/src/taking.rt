@@ -150,6 +150,7 @@ impl<R: Receiver> MemberState<R> {
     {
         if self.would_hold(&source, proposal, chunk) {
             self.chunks.hold(chunk)?;
+            self.chunks.kept();
         }
         Ok(())
     }

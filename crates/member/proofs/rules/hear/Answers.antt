@@ -2,7 +2,7 @@
 use Rattle.std.proofs.Common.{Some, sym, ap, ◌∙◌, refl}
 use Rattle.wire_values.specs.declared.packet.Body.{Body}
 use Rattle.acts.specs.Acts.{packet}
-use Rattle.membership.proofs.ActsOfChanges.{takes-install-did}
+use Rattle.membership.proofs.ActsOfChanges.{takes-install-did, takes-chunk-did}
 use Rattle.member.specs.Hearing.{ignores}
 use Rattle.member.proofs.KeepOrder.{steady-ordered, items-few}
 use Rattle.member_views.proofs.KeepSteady as steady
@@ -145,3 +145,28 @@ returns-in_ok-take_install-in-Install-clause-ignored g c =
 pub returns-in_err-take_install-in-Install-clause-ignored : goal.returns-in_err-take_install-in-Install-clause-ignored
 returns-in_err-take_install-in-Install-clause-ignored g c =
     λ i. let y = c.in_err-take_install-in-Install.ensures.ignored (not-true _ (sym (ap (λ (b : Body). ignores c.args.who.now.address c.args.source b c.args.member_state.now) c.in-Install.is) ∙ i)) in absurd (let n = y.0 in cc)
+
+pub returns-in_ok-take_chunk-in-State-clause-ordered : goal.returns-in_ok-take_chunk-in-State-clause-ordered
+returns-in_ok-take_chunk-in-State-clause-ordered g c =
+    steady-ordered c.args.who.now.group c.args.who.now.address c.args.member_state.now c.take_chunk.new.self
+    (steady.chunk-steady (who_of c.args.who.now) g.R.Receiver.meaning c.args.source c.in-State.proposal c.in-State.chunk (in_step c.args.member_state.now c.args.out.now) (in_step c.take_chunk.new.self c.take_chunk.new.out) c.in_ok-take_chunk-in-State.ensures.takes)
+    c.in_ok-take_chunk-in-State.ensures.member_state c.requires.ordered
+
+pub returns-in_ok-take_chunk-in-State-clause-did : goal.returns-in_ok-take_chunk-in-State-clause-did
+returns-in_ok-take_chunk-in-State-clause-did g c =
+    takes-chunk-did g.R.Receiver.meaning (who_of c.args.who.now) _ c.args.source c.in-State.proposal c.in-State.chunk (in_step c.args.member_state.now c.args.out.now)
+    (in_step c.take_chunk.new.self c.take_chunk.new.out)
+    c.in_ok-take_chunk-in-State.ensures.takes (ap (λ (b : Body). Some (packet c.args.source b c.args.who.now.address)) c.in-State.is)
+
+pub returns-in_ok-take_chunk-in-State-clause-calm : goal.returns-in_ok-take_chunk-in-State-clause-calm
+returns-in_ok-take_chunk-in-State-clause-calm g c =
+    calm.chunk-calm (who_of c.args.who.now) g.R.Receiver.meaning c.args.source c.in-State.proposal c.in-State.chunk (in_step c.args.member_state.now c.args.out.now)
+    (in_step c.take_chunk.new.self c.take_chunk.new.out) c.in_ok-take_chunk-in-State.ensures.takes
+
+pub returns-in_ok-take_chunk-in-State-clause-ignored : goal.returns-in_ok-take_chunk-in-State-clause-ignored
+returns-in_ok-take_chunk-in-State-clause-ignored g c =
+    λ i. let y = c.in_ok-take_chunk-in-State.ensures.ignored (not-true _ (sym (ap (λ (b : Body). ignores c.args.who.now.address c.args.source b c.args.member_state.now) c.in-State.is) ∙ i)) in (refl, y.1)
+
+pub returns-in_err-take_chunk-in-State-clause-ignored : goal.returns-in_err-take_chunk-in-State-clause-ignored
+returns-in_err-take_chunk-in-State-clause-ignored g c =
+    λ i. let y = c.in_err-take_chunk-in-State.ensures.ignored (not-true _ (sym (ap (λ (b : Body). ignores c.args.who.now.address c.args.source b c.args.member_state.now) c.in-State.is) ∙ i)) in absurd (let n = y.0 in cc)

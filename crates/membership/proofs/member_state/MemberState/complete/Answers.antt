@@ -1,13 +1,13 @@
 use Rattle.std.proofs.Common.{refl}
 use Rattle.traffic.specs.ViewStates.{view_of}
-use Rattle.membership.specs.Installs.{finished_state}
+use Rattle.membership.specs.Installs.{finished_given}
 use Rattle.membership.proofs.FactOfSayable.{all-sayable}
 use Rattle.membership.proofs.KeepMemberState.{finished-member_state}
 use Rattle.membership.proofs.member_state.MemberState.complete.Goals as goal
 
 pub settle-requires-clause-sound : goal.settle-requires-clause-sound
 settle-requires-clause-sound g c =
-    all-sayable c.args.flush (view_of c.args.view_state).id (g.R.Receiver.meaning.encode (finished_state g.R.Receiver.meaning c.args.flush c.args.view_state c.args.self.now.receiver)) c.args.who.now.address
+    all-sayable c.args.flush (view_of c.args.view_state).id (finished_given g.R.Receiver.meaning c.args.flush c.args.view_state c.args.self.now.receiver) c.args.who.now.address
     c.kept.ensures c.requires.complete (c.requires.member_state.flushing c.args.flush refl).list
 
 pub returns-clause-member_state : goal.returns-clause-member_state

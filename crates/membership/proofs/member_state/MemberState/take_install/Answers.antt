@@ -1,9 +1,16 @@
-use Rattle.std.proofs.Common.{rules}
+use Rattle.std.proofs.Common.{rules, ◌≡◌, true, sym, ◌∙◌}
+use Rattle.std.proofs.lemmas.Bool.{and_parts}
+use Rattle.decisions.specs.Decisions.{is_entry}
+use Rattle.state_chunks.specs.HeldChunks.{is_there, given_in}
+use Rattle.step_output.specs.Steps.{who_of}
+use Rattle.membership.specs.MemberStates.{core_of}
+use Rattle.membership.specs.Changes.{would_enter}
 use Rattle.membership.proofs.KeepMemberState.{entered-member_state}
 use Rattle.membership.proofs.member_state.MemberState.take_install.Goals as goal
-use Rattle.step_output.specs.Steps.{who_of}
 
 pub returns-clause-member_state : goal.returns-clause-member_state
 returns-clause-member_state g c =
-    entered-member_state (who_of c.args.who.now) g.R.Receiver.meaning c.args.source c.args.install.now c.take-view_state.result c.args.self.now _ c.enter.new.self c.args.out.now c.enter.new.out
-    c.requires.member_state (search rules) (search rules) c.in_ok-enter.ensures.enters
+    let would : would_enter c.args.who.now.address c.args.self.now c.args.source c.args.install.now ≡ true = search rules in
+    let entry = (and_parts (is_entry (core_of c.args.who.now.address c.args.self.now) c.args.source c.args.install.now) (is_there c.args.install.now.state c.args.self.now.chunks) would).0 in
+    entered-member_state (who_of c.args.who.now) g.R.Receiver.meaning c.args.source c.args.install.now (given_in c.args.install.now.state c.args.self.now.chunks) c.take-view_state.result c.args.self.now _ c.enter.new.self c.args.out.now c.enter.new.out
+    c.requires.member_state entry (search rules) c.in_ok-enter.ensures.enters
