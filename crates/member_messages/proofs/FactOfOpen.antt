@@ -77,7 +77,7 @@ member_state-kept group me l t u s i promised there same =
         current = subst (λ (v : Option View). AllByRecursion (λ p. v ≡ Some p.1.view) i.sent_installs.given) inside i.sent_installs.current;
         state = i.sent_installs.state;
       };
-      unpromised = i.unpromised;
+      held = i.held;
     }
 
 module _ {S : Type 0} (meaning : Meaning S) where
@@ -94,7 +94,7 @@ module _ {S : Type 0} (meaning : Meaning S) where
     acted =
         subst (λ (c : Core S). Acted meaning came (Some c) x.posted x.happened (Some (core_of me (going_on l u s)))) (sym (core-open group me l t i promised there))
         (subst (λ (c : Core S). Acted meaning came (Some (open_core me (view_of t) (beside_of l) (view_core_of t) l.receiver)) x.posted x.happened (Some c))
-        (ap (λ (v : View). open_core me v (sent_installs_in l.sent_installs.items) (view_core_of u) s) (sym same) ∙ sym (core-open group me (going_on l u s) u (member_state-kept group me l t u s i promised there same) promised refl))
+        (ap (λ (v : View). open_core me v (beside_of l) (view_core_of u) s) (sym same) ∙ sym (core-open group me (going_on l u s) u (member_state-kept group me l t u s i promised there same) promised refl))
         (x.acted (beside_of l)));
   }
 

@@ -1,5 +1,5 @@
 -- A member stays what it always is, when it notes, asks, and makes a first view.
-use Rattle.std.proofs.Common.{◌≡◌, true, false, ◌||◌, Option, Some, None, List, refl, ap, ◌∙◌, is_some}
+use Rattle.std.proofs.Common.{◌≡◌, true, false, ◌||◌, Option, Some, None, List, refl, ap, ◌∙◌, is_some, []}
 use Rattle.std.specs.Option.{option_map_or}
 use Rattle.address.specs.Ids.{Address}
 use Rattle.view.specs.Members.{View}

@@ -1,5 +1,5 @@
 -- In a change of view a member keeps what it keeps of its view, or begins a view anew.
-use Rattle.std.proofs.Common.{◌≡◌, ℕ, Bool, true, false, Option, Some, None, ap, ◌∙◌, is_some, ◌&&◌, not}
+use Rattle.std.proofs.Common.{◌≡◌, ℕ, Bool, true, false, Option, Some, None, ap, ◌∙◌, is_some, ◌&&◌, not, List, ◌++◌, ◌∷◌, []}
 use Rattle.std.specs.Prelude.{MatchBool, MatchOption}
 use Rattle.std.specs.Option.{option_map}
 use Rattle.address.specs.Ids.{Address, ViewId, same_address}
