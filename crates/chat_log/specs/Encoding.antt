@@ -4,7 +4,6 @@ use Rattle.std.specs.List.{flat_map}
 use Rattle.byteorder.specs.Endian.{big_bytes}
 pub use Rattle.big_endian.specs.Spelled.{address_bytes}
 use Rattle.limits.specs.declared.TheConstants.{PAYLOAD}
-use Rattle.chat_log.specs.declared.TheConstants.{LINES}
 use Rattle.chat_log.specs.declared.lines.Line.{Line}
 use Rattle.reading.specs.Reading.{Read, ◌>>=◌, bytes_at, number_at, address_at, list_at}
 
@@ -29,18 +28,18 @@ line_at bytes = do
   payload ← payload_at sender.1
   Some (record { sender = sender.0; payload = payload.0 }, payload.1)
 
--- ---- the state: the number of lines in a byte, and the lines, the oldest first
+-- ---- the state: the number of lines in width bytes, and the lines, the oldest first
 
-abbrev pub chat_encode : List Line → List ℕ
-chat_encode s = big_bytes 1 (length s) ++ flat_map line_bytes s
+abbrev pub chat_encode : ℕ → List Line → List ℕ
+chat_encode width s = big_bytes width (length s) ++ flat_map line_bytes s
 
-unfoldable pub lines_at : List ℕ → Read (List Line)
-lines_at bytes = do
-  count ← number_at 1 0 LINES bytes
+unfoldable pub lines_at : ℕ → ℕ → List ℕ → Read (List Line)
+lines_at lines width bytes = do
+  count ← number_at width 0 lines bytes
   list_at line_at count.0 count.1
 
 -- the state that bytes stand for: nothing follows its last line
-unfoldable pub chat_decode : List ℕ → Option (List Line)
-chat_decode bytes = do
-  lines ← lines_at bytes
-  if length lines.1 == 0 then Some lines.0 else None
+unfoldable pub chat_decode : ℕ → ℕ → List ℕ → Option (List Line)
+chat_decode lines width bytes = do
+  state ← lines_at lines width bytes
+  if length state.1 == 0 then Some state.0 else None

@@ -1,3 +1,4 @@
+pub mod Sizes
 pub mod Chat
 pub mod Encoding
 pub mod Meanings

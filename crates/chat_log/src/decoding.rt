@@ -2,15 +2,16 @@
 
 ghost use Rattle.std.specs.Prelude.{◌≡◌, IfOk};
 ghost use Rattle.chat_log.specs.Chat.{said};
-ghost use Rattle.reading.specs.Reading.{IsReadOrNone, list_at};
+ghost use Rattle.reading.specs.Reading.{IsReadOrNone, number_at, list_at};
 ghost use Rattle.chat_log.specs.Encoding.{payload_at, line_at, chat_decode};
 
 use crate::lines::push_line;
-use crate::{LINES, Line};
+use crate::{ChatSize, Line};
 use address::Address;
 use limits::PAYLOAD;
 use reading::Reader;
 use std::alloc::{AllocError, Global};
+use std::collections::VecDeque;
 
 /// A line, its payload in lent bytes.
 #[derive(Debug, Drop)]
@@ -38,12 +39,12 @@ fn line_at<'a>(from: &mut Reader<'a>) -> Option<LentLine<'a>>
 
 fn lines_at(
     alloc: Global,
-    count: u8,
+    count: u16,
     from: &mut Reader<'_>,
-) -> Result<Option<Vec<Line>>, AllocError>
+) -> Result<Option<VecDeque<Line>>, AllocError>
     ensures { IfOk result (λ lines. IsReadOrNone (λ l. (l.items, from.new)) lines (list_at line_at count from.old)) }
 {
-    let mut lines = Vec::new(alloc);
+    let mut lines = VecDeque::new(alloc);
     for _ in 0..count {
         let Some(line) = line_at(from) else {
             return Ok(None);
@@ -53,13 +54,26 @@ fn lines_at(
     Ok(Some(lines))
 }
 
+fn count_at<L: ChatSize>(from: &mut Reader<'_>) -> Option<u16>
+    ensures { IsReadOrNone (λ x. (x, from.new)) result (number_at L.WIDTH 0 L.LINES from.old) }
+{
+    if L::WIDTH == 1 {
+        let count = from.u8(0, L::LINES as u8)?;
+        return Some(u16::from(count));
+    }
+    from.u16(0, L::LINES as u16)
+}
+
 // The lines of the state that bytes stand for.
 #[tactic(auto, unfolding(crate::specs::Encoding::lines_at, crate::specs::Encoding::chat_decode))]
-pub(crate) fn chat_of(alloc: Global, bytes: &[u8]) -> Result<Option<Vec<Line>>, AllocError>
-    ensures { IfOk result (λ lines. IsReadOrNone (λ l. l.items) lines (chat_decode bytes.now)) }
+pub(crate) fn chat_of<L: ChatSize>(
+    alloc: Global,
+    bytes: &[u8],
+) -> Result<Option<VecDeque<Line>>, AllocError>
+    ensures { IfOk result (λ lines. IsReadOrNone (λ l. l.items) lines (chat_decode L.LINES L.WIDTH bytes.now)) }
 {
     let mut from = Reader::new(bytes);
-    let Some(count) = from.u8(0, LINES as u8) else {
+    let Some(count) = count_at::<L>(&mut from) else {
         return Ok(None);
     };
     let Some(lines) = lines_at(alloc, count, &mut from)? else {

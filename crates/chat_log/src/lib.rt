@@ -7,17 +7,17 @@ mod decoding;
 mod law;
 mod lines;
 mod log;
+mod size;
 mod writing;
 
 pub use chat::Chat;
 pub use law::one_encoding;
-use limits::PAYLOAD;
 pub use lines::Line;
-pub use log::ChatLog;
+pub use log::{ChatLog, LastLines, LongChat};
+pub use size::{ChatSize, Long, Short};
 
-/// The most lines that a chat keeps.
+/// The most lines that a chat keeps (docs/FORMATS.md, "The chat's state").
 pub const LINES: usize = 24;
 
-/// The most bytes that a chat's state is encoded in: the number of lines in one, and of each line the sender
-/// in six, the length of the payload in two, and the payload.
-pub const LONGEST: usize = 1 + LINES * (8 + PAYLOAD);
+/// The most lines that a long chat keeps (docs/FORMATS.md, "The chat's state").
+pub const LONG_LINES: usize = 2_000;

@@ -3,9 +3,10 @@ ghost use Rattle.chat_log.specs.Chat.{said};
 
 use address::Address;
 use std::alloc::AllocError;
+use std::collections::VecDeque;
 use trace_props::Bytes;
 
-/// A line of the chat: who said it, and what, at most `PAYLOAD` bytes.
+/// A line of the chat: who said it, and what, at most `PAYLOAD` bytes (docs/FORMATS.md, "The chat's state").
 #[derive(Debug, Drop)]
 pub struct Line {
     /// Who said it.
@@ -14,9 +15,9 @@ pub struct Line {
     pub payload: Bytes,
 }
 
-// Adds a line at the end.
+// Adds a line at the end. Where memory is refused, the lines are as they were.
 pub(crate) fn push_line(
-    lines: &mut Vec<Line>,
+    lines: &mut VecDeque<Line>,
     sender: Address,
     payload: &[u8],
 ) -> Result<(), AllocError>
@@ -24,6 +25,6 @@ pub(crate) fn push_line(
     ensures err { OnErr result (lines.new.items ≡ lines.old.items) }
 {
     let payload = Bytes::from_slice(*lines.allocator(), payload)?;
-    lines.push(Line { sender, payload })?;
+    lines.push_back(Line { sender, payload })?;
     Ok(())
 }

@@ -1,6 +1,6 @@
 use crate::fixtures::{address, first_of};
 use address::{Address, ViewId};
-use chat_log::{Chat, ChatLog, one_encoding};
+use chat_log::{Chat, ChatLog, Long, LongChat, Short, one_encoding};
 use state_transfer::Receiver;
 use std::alloc::{AllocError, Global};
 use view::View;
@@ -239,7 +239,100 @@ fn views_leave_the_lines(rt: HostRuntime) {
     chat.blocked();
     chat.view_accepted(&view);
     assert!(rt; has_state(rt.alloc(), &chat, TWO));
-    one_encoding();
+    one_encoding::<Short>();
+    one_encoding::<Long>();
+}
+
+// `hi` of 1.1 in a long chat, by hand from the table of docs/FORMATS.md.
+const LONG_HI: &[u8] = b"\x00\x01\x00\x01\x00\x00\x00\x01\x00\x02hi";
+
+// A long chat that was delivered so many messages by a sender: the number of each, from 1, in two bytes.
+fn long_chat_of(alloc: Global, sender: Address, count: u16) -> Result<LongChat, AllocError> {
+    let mut chat = LongChat::opening(alloc)?;
+    for before in 0..count {
+        chat.receive(sender, &(before + 1).to_be_bytes())?;
+    }
+    Ok(chat)
+}
+
+// Whether a long chat is written as these bytes.
+fn has_long_state(alloc: Global, chat: &LongChat, bytes: &[u8]) -> bool {
+    let mut state = Vec::new(alloc);
+    chat.get_state(&mut state).is_ok() && state.as_slice() == bytes
+}
+
+// Whether these bytes are taken as a long chat's state, and are written again.
+fn are_long(alloc: Global, bytes: &[u8]) -> bool {
+    match LongChat::opening(alloc) {
+        Ok(mut chat) => chat.set_state(bytes) == Ok(true) && has_long_state(alloc, &chat, bytes),
+        Err(_) => false,
+    }
+}
+
+#[test]
+fn a_long_chat_has_its_number_of_lines_in_two_bytes(rt: HostRuntime) {
+    let alloc = rt.alloc();
+    let mut chat = LongChat::opening(alloc).ok().expect(&rt, "a chat");
+    assert!(rt; has_long_state(alloc, &chat, b"\x00\x00"), "no line");
+    assert!(rt; chat.receive(first_of(1), b"hi").is_ok(), "it is taken");
+    assert!(rt; has_long_state(alloc, &chat, LONG_HI), "one line");
+    assert!(rt; are_long(alloc, LONG_HI), "it is read");
+    assert!(rt; !are_taken(alloc, LONG_HI), "a chat does not read it");
+}
+
+#[test]
+fn the_last_2000_lines_are_kept(rt: HostRuntime) {
+    let sender = first_of(3);
+    let chat = long_chat_of(rt.alloc(), sender, 2_001)
+        .ok()
+        .expect(&rt, "a chat");
+    assert_eq!(rt; chat.len(), 2_000, "how many lines there are");
+    assert!(rt;
+        chat.line(0) == Some((sender, b"\x00\x02".as_slice())),
+        "the first line is the second message"
+    );
+    assert!(rt;
+        chat.line(1_999) == Some((sender, b"\x07\xd1".as_slice())),
+        "the last line is the last message"
+    );
+    assert!(rt; chat.line(2_000).is_none(), "there are no more");
+}
+
+#[test]
+fn a_long_state_of_2000_lines_is_taken(rt: HostRuntime) {
+    let state = with_copies(rt.alloc(), b"\x07\xd0", LINE, 2_000)
+        .ok()
+        .expect(&rt, "a state");
+    assert!(rt; are_long(rt.alloc(), &state));
+}
+
+#[test]
+fn a_long_state_of_2001_lines_is_refused(rt: HostRuntime) {
+    let state = with_copies(rt.alloc(), b"\x07\xd1", LINE, 2_001)
+        .ok()
+        .expect(&rt, "a state");
+    assert!(rt; !are_long(rt.alloc(), &state));
+}
+
+// The state of a long chat whose lines are all as long as can be.
+fn longest_long_state(alloc: Global) -> Result<Vec<u8>, AllocError> {
+    let mut chat = LongChat::opening(alloc)?;
+    for _ in 0..2_001 {
+        chat.receive(first_of(1), &[255; 512])?;
+    }
+    let mut state = Vec::new(alloc);
+    chat.get_state(&mut state)?;
+    Ok(state)
+}
+
+#[test]
+fn the_longest_long_state_has_1040002_bytes(rt: HostRuntime) {
+    let state = longest_long_state(rt.alloc()).ok().expect(&rt, "a state");
+    assert_eq!(rt; state.len(), 1_040_002, "how many bytes there are");
+    assert!(rt;
+        are_long(rt.alloc(), &state),
+        "it is taken and written again"
+    );
 }
 
 // With no refusal each call does its work. Run by `rt try --test --fail-alloc N` for N from 1, one call is refused

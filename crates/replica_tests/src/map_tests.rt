@@ -18,7 +18,7 @@ const REPLACE_XY: &[u8] = b"\x03\x01\x00\x02xy\x01a\x00\x01z";
 const CLEAR: &[u8] = b"\x04";
 
 // The state of both entries.
-const BOTH: &[u8] = b"\x00\x02\x01a\x00\x02xy\x01b\x00\x00";
+const BOTH: &[u8] = b"\x00\x00\x00\x02\x01a\x00\x02xy\x01b\x00\x00";
 
 // Who sends commands.
 fn sender() -> Address {
@@ -102,14 +102,20 @@ fn a_removal_leaves_the_others(rt: HostRuntime) {
         comes_to(
             rt.alloc(),
             &[PUT_A, PUT_B, REMOVE_A],
-            b"\x00\x01\x01b\x00\x00"
+            b"\x00\x00\x00\x01\x01b\x00\x00"
         )
     );
 }
 
 #[test]
 fn a_replacement_takes_the_place_of_the_expected(rt: HostRuntime) {
-    assert!(rt; comes_to(rt.alloc(), &[PUT_A, REPLACE_XY], b"\x00\x01\x01a\x00\x01z"));
+    assert!(rt;
+        comes_to(
+            rt.alloc(),
+            &[PUT_A, REPLACE_XY],
+            b"\x00\x00\x00\x01\x01a\x00\x01z"
+        )
+    );
 }
 
 #[test]
@@ -118,14 +124,14 @@ fn another_value_is_not_replaced(rt: HostRuntime) {
         comes_to(
             rt.alloc(),
             &[PUT_A, REPLACE_NONE],
-            b"\x00\x01\x01a\x00\x02xy"
+            b"\x00\x00\x00\x01\x01a\x00\x02xy"
         )
     );
 }
 
 #[test]
 fn a_cleared_map_has_no_entry(rt: HostRuntime) {
-    assert!(rt; comes_to(rt.alloc(), &[PUT_A, PUT_B, CLEAR], b"\x00\x00"));
+    assert!(rt; comes_to(rt.alloc(), &[PUT_A, PUT_B, CLEAR], b"\x00\x00\x00\x00"));
 }
 
 #[test]
@@ -137,6 +143,35 @@ fn what_spells_no_command_changes_nothing(rt: HostRuntime) {
             BOTH
         )
     );
+}
+
+// A map with as many entries as fit, each with the longest value, and its state.
+fn full_state(alloc: Global) -> Result<Vec<u8>, AllocError> {
+    let mut map = ReplicatedMap::opening(alloc)?;
+    for number in 0..2_700u32 {
+        let key = number.to_be_bytes();
+        let put = Command::Put {
+            key: KeyBytes::new(&key).unwrap(),
+            value: ValueBytes::new(&[255; 400]).unwrap(),
+        };
+        let mut payload = Vec::new(alloc);
+        put.encode(&mut payload)?;
+        map.receive(sender(), &payload)?;
+    }
+    let mut state = Vec::new(alloc);
+    map.get_state(&mut state)?;
+    Ok(state)
+}
+
+// 4 bytes, and 407 for each entry: 2,576 of them fit into 1,048,576.
+#[test]
+fn a_put_past_the_longest_state_changes_nothing(rt: HostRuntime) {
+    let alloc = rt.alloc();
+    let Ok(state) = full_state(alloc) else {
+        return;
+    };
+    assert!(rt; state.len() == 1_048_436);
+    assert!(rt; are_taken(alloc, state.as_slice()));
 }
 
 #[test]
@@ -157,10 +192,10 @@ fn a_state_is_taken(rt: HostRuntime) {
 
 #[test]
 fn keys_that_do_not_rise_are_no_state(rt: HostRuntime) {
-    assert!(rt; !are_taken(rt.alloc(), b"\x00\x02\x01b\x00\x00\x01a\x00\x00"));
+    assert!(rt; !are_taken(rt.alloc(), b"\x00\x00\x00\x02\x01b\x00\x00\x01a\x00\x00"));
 }
 
 #[test]
 fn a_byte_too_many_is_no_state(rt: HostRuntime) {
-    assert!(rt; !are_taken(rt.alloc(), b"\x00\x00\x00"));
+    assert!(rt; !are_taken(rt.alloc(), b"\x00\x00\x00\x00\x00"));
 }

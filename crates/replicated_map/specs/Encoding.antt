@@ -31,14 +31,14 @@ entry_at bytes = do
   value ← value_at key.1
   Some (entry_of key.0 value.0, value.1)
 
--- ---- the state: the number of entries in two bytes, and the entries, their keys rising
+-- ---- the state: the number of entries in four bytes, and the entries, their keys rising
 
 abbrev pub map_encode : List (Entry (List ℕ)) → List ℕ
-map_encode s = big_bytes 2 (length s) ++ flat_map entry_bytes s
+map_encode s = big_bytes 4 (length s) ++ flat_map entry_bytes s
 
 unfoldable pub entries_at : List ℕ → Read (List (Entry (List ℕ)))
 entries_at bytes = do
-  count ← number_at 2 0 65535 bytes
+  count ← number_at 4 0 4294967295 bytes
   list_at entry_at count.0 count.1
 
 -- the state that bytes stand for: nothing follows its last entry, the keys rise, and the bytes are few enough

@@ -17,9 +17,9 @@ IsValue v = length v ≤ VALUE
 abbrev pub entry_size : Entry (List ℕ) → ℕ
 entry_size e = 3 + length e.key + length e.value
 
--- how many bytes a state is encoded in: the number of its entries in two
+-- how many bytes a state is encoded in: the number of its entries in four
 abbrev pub map_size : List (Entry (List ℕ)) → ℕ
-map_size s = 2 + sum_by entry_size s
+map_size s = 4 + sum_by entry_size s
 
 -- the entries that a map may hold
 pub record IsEntry (e : Entry (List ℕ)) : Type 0 where

@@ -9,7 +9,7 @@ use Rattle.std.proofs.lemmas.List.{append-nil, nil_from_length, length-append}
 use Rattle.std.proofs.lemmas.List.Sums.{sum_by-cons}
 use Rattle.std.proofs.lemmas.Option.{cond_some}
 use Rattle.byteorder.specs.Endian.{big_bytes}
-use Rattle.big_endian.proofs.Bytes.{wide2}
+use Rattle.big_endian.proofs.Bytes.{wide4}
 use Rattle.limits.specs.declared.TheConstants.{STATE}
 use Rattle.reading.specs.Reading.{number_at, list_at}
 use Rattle.reading.specs.PartLaws.{bind_some, joined, number_part, list_takes, list_again}
@@ -40,38 +40,38 @@ length-entries [] = refl
 length-entries (e ∷ s) = let rest = length-entries s in omega (arith, length-append (entry_bytes e) (flat_map entry_bytes s), length-entry e, rest, sum_by-cons entry_size e s)
 
 -- a state is encoded in as many bytes as it is counted
-pub length-encode : (s : List (Entry (List ℕ))) → length (map_encode s) ≡ map_size s
-length-encode s = omega (arith, length-append (big_bytes 2 (length s)) (flat_map entry_bytes s), length-entries s)
+pub encoded_size : (s : List (Entry (List ℕ))) → length (map_encode s) ≡ map_size s
+encoded_size s = omega (arith, length-append (big_bytes 4 (length s)) (flat_map entry_bytes s), length-entries s)
 
 few-entries : (s : List (Entry (List ℕ))) → 3 * length s ≤ sum_by entry_size s
 few-entries [] = omega arith
 few-entries (e ∷ s) = let rest = few-entries s in omega (arith, rest, sum_by-cons entry_size e s)
 
-count-fits : (s : List (Entry (List ℕ))) → map_size s ≤ STATE → length s ≤ 65535
+count-fits : (s : List (Entry (List ℕ))) → map_size s ≤ STATE → length s ≤ 4294967295
 count-fits s fits = omega (arith, few-entries s, fits)
 
-pub count_of : (s : List (Entry (List ℕ))) → IsMap s → length s ≤ 65535
+pub count_of : (s : List (Entry (List ℕ))) → IsMap s → length s ≤ 4294967295
 count_of s is = count-fits s is.fits
 
 entries_takes : (bytes : List ℕ) (s : List (Entry (List ℕ))) (rest : List ℕ) → entries_at bytes ≡ Some (s, rest) → (bytes ≡ map_encode s ++ rest) × AllByRecursion IsEntry s
 unfolding entries_at
 entries_takes bytes s rest e =
-    let a = bind_some (number_at 2 0 65535 bytes) (λ count. list_at entry_at count.0 count.1) (s, rest) e in
-    let t = (number_part 2 0 65535 wide2 (omega arith)).takes bytes a.0.0 a.0.1 a.1 in
+    let a = bind_some (number_at 4 0 4294967295 bytes) (λ count. list_at entry_at count.0 count.1) (s, rest) e in
+    let t = (number_part 4 0 4294967295 wide4 (omega arith)).takes bytes a.0.0 a.0.1 a.1 in
     let u = list_takes entry_at entry_bytes IsEntry entry_part a.0.0 a.0.1 s rest a.2 in
-    let both : bytes ≡ (big_bytes 2 a.0.0 ++ flat_map entry_bytes s) ++ rest = joined bytes (big_bytes 2 a.0.0) a.0.1 (flat_map entry_bytes s) rest t.0 u.0 in
-    (subst (λ (n : ℕ). bytes ≡ (big_bytes 2 n ++ flat_map entry_bytes s) ++ rest) (sym u.1) both, u.2)
+    let both : bytes ≡ (big_bytes 4 a.0.0 ++ flat_map entry_bytes s) ++ rest = joined bytes (big_bytes 4 a.0.0) a.0.1 (flat_map entry_bytes s) rest t.0 u.0 in
+    (subst (λ (n : ℕ). bytes ≡ (big_bytes 4 n ++ flat_map entry_bytes s) ++ rest) (sym u.1) both, u.2)
 
 -- entries that were read: few enough to be counted
 pub record IsCounted (s : List (Entry (List ℕ))) : Type 0 where
   pub entries : AllByRecursion IsEntry s
-  pub few : length s ≤ 65535
+  pub few : length s ≤ 4294967295
 
 pub read_counted : (bytes : List ℕ) (s : List (Entry (List ℕ))) (rest : List ℕ) → entries_at bytes ≡ Some (s, rest) → IsCounted s
 unfolding entries_at
 read_counted bytes s rest e =
-    let a = bind_some (number_at 2 0 65535 bytes) (λ count. list_at entry_at count.0 count.1) (s, rest) e in
-    let t = (number_part 2 0 65535 wide2 (omega arith)).takes bytes a.0.0 a.0.1 a.1 in
+    let a = bind_some (number_at 4 0 4294967295 bytes) (λ count. list_at entry_at count.0 count.1) (s, rest) e in
+    let t = (number_part 4 0 4294967295 wide4 (omega arith)).takes bytes a.0.0 a.0.1 a.1 in
     let u = list_takes entry_at entry_bytes IsEntry entry_part a.0.0 a.0.1 s rest a.2 in
     record { entries = u.2; few = omega (arith, u.1, t.1.1) }
 
@@ -81,8 +81,8 @@ map_counted s is = record { entries = is.entries; few = count-fits s is.fits }
 entries_again : (s : List (Entry (List ℕ))) (rest : List ℕ) → IsMap s → entries_at (map_encode s ++ rest) ≡ Some (s, rest)
 unfolding entries_at
 entries_again s rest is =
-    ap entries_at (append_assoc (big_bytes 2 (length s)) (flat_map entry_bytes s) rest)
-    ∙ rw ((number_part 2 0 65535 wide2 (omega arith)).again (length s) (flat_map entry_bytes s ++ rest) (omega arith, count-fits s is.fits), list_again entry_at entry_bytes IsEntry entry_part s rest is.entries) refl
+    ap entries_at (append_assoc (big_bytes 4 (length s)) (flat_map entry_bytes s) rest)
+    ∙ rw ((number_part 4 0 4294967295 wide4 (omega arith)).again (length s) (flat_map entry_bytes s ++ rest) (omega arith, count-fits s is.fits), list_again entry_at entry_bytes IsEntry entry_part s rest is.entries) refl
 
 abbrev passes : List (Entry (List ℕ)) × List ℕ → Bool
 passes p = eqb (length p.1) 0 && (rises p.0 && leb (map_size p.0) STATE)
@@ -117,7 +117,7 @@ encoded_is_decoded s is =
     rw (again, rises-tested s is.rises, le-leb (map_size s) STATE is.fits) refl
 
 pub encoded_short : (s : List (Entry (List ℕ))) → IsMap s → length (map_encode s) ≤ STATE
-encoded_short s is = omega (arith, length-encode s, is.fits)
+encoded_short s is = omega (arith, encoded_size s, is.fits)
 
 -- ---- a message leaves a map a map
 

@@ -98,7 +98,7 @@ fn entry_from(alloc: Global, from: &mut Reader<'_>) -> Result<Option<Entry<Bytes
 
 fn some_entries(
     alloc: Global,
-    count: u16,
+    count: u32,
     from: &mut Reader<'_>,
 ) -> Result<Option<Vec<Entry<Bytes>>>, AllocError>
     ensures { IfOk result (λ entries. IsReadOrNone (λ l. (l.items, from.new)) entries (list_at entry_at count from.old)) }
@@ -120,7 +120,7 @@ fn entries_from(
 ) -> Result<Option<Vec<Entry<Bytes>>>, AllocError>
     ensures { IfOk result (λ entries. IsReadOrNone (λ l. (l.items, from.new)) entries (entries_at from.old)) }
 {
-    let Some(count) = from.u16(0, u16::MAX) else {
+    let Some(count) = from.u32(0, u32::MAX) else {
         return Ok(None);
     };
     some_entries(alloc, count, from)

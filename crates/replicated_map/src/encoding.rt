@@ -2,15 +2,14 @@
 
 ghost use Rattle.std.specs.Prelude.{◌≡◌, ◌≤◌, ◌+◌, ◌++◌, length, vec_len, vec_capacity, OnOk, OnErr};
 ghost use Rattle.std.specs.List.{flat_map, AllByRecursion};
-ghost use Rattle.replicated_map.specs.Entries.{IsValue, IsEntry, IsMap};
+ghost use Rattle.replicated_map.specs.Entries.{IsValue, IsEntry, IsMap, map_size};
 ghost use Rattle.replicated_map.specs.Encoding.{value_bytes, entry_bytes, map_encode};
 ghost use Rattle.replicated_map.specs.Commands.{IsCommand, IsExpected, expected_bytes, command_bytes};
 ghost use Rattle.replicated_map.specs.declared.TheConstants.{VALUE, LONGEST_COMMAND};
 
 use crate::{Command, ValueBytes};
-use big_endian::{put, put_u8, put_u16};
+use big_endian::{put, put_u8, put_u16, put_u32};
 use keyed_entries::{Entry, put_key};
-use limits::STATE;
 use std::alloc::AllocError;
 use trace_props::Bytes;
 
@@ -97,19 +96,24 @@ fn put_all(entries: &[Entry<Bytes>], out: &mut Vec<u8>)
     requires room { vec_len out.old + length (map_encode entries.now) ≤ vec_capacity out.old }
     ensures { out.new.items ≡ out.old.items ++ map_encode entries.now }
 {
-    put_u16(entries.len() as u16, out);
+    put_u32(entries.len() as u32, out);
     put_entries(entries, out);
 }
 
-// Appends the encoding of a map's entries, with room for the longest taken at once. On refusal the vector's items are
+// Appends the encoding of a map's entries, whose room, size bytes, is taken at once. On refusal the vector's items are
 // as they were.
-#[tactic(auto, using(crate::specs::MapLaws::encoded_short))]
-pub(crate) fn put_map(entries: &[Entry<Bytes>], out: &mut Vec<u8>) -> Result<(), AllocError>
-    requires { IsMap entries.now }
+#[tactic(auto, using(crate::specs::MapLaws::encoded_size))]
+pub(crate) fn put_map(
+    entries: &[Entry<Bytes>],
+    size: usize,
+    out: &mut Vec<u8>,
+) -> Result<(), AllocError>
+    requires map { IsMap entries.now }
+    requires size { size ≡ map_size entries.now }
     ensures ok { OnOk result (out.new.items ≡ out.old.items ++ map_encode entries.now) }
     ensures err { OnErr result (out.new.items ≡ out.old.items) }
 {
-    out.reserve(STATE)?;
+    out.reserve(size)?;
     put_all(entries, out);
     Ok(())
 }

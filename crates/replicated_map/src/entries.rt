@@ -46,7 +46,7 @@ pub(crate) fn size_of_all(entries: &[Entry<Bytes>]) -> usize
     requires { IsCounted entries.now }
     ensures { result ≡ map_size entries.now }
 {
-    let mut size = 2;
+    let mut size = 4;
     for entry in entries {
         size += size_of_entry(entry);
     }

@@ -141,7 +141,7 @@ impl ReplicatedMap {
             }
             Command::Clear => {
                 self.entries.clear();
-                self.size = 2;
+                self.size = 4;
                 Ok(())
             }
         }
@@ -169,7 +169,7 @@ impl Receiver for ReplicatedMap {
     fn opening(alloc: Global) -> Result<ReplicatedMap, AllocError> {
         Ok(ReplicatedMap {
             entries: Vec::new(alloc),
-            size: 2,
+            size: 4,
         })
     }
 
@@ -195,7 +195,7 @@ impl Receiver for ReplicatedMap {
         ensures short { OnOk result (length (map_encode self.now) ≤ STATE) }
         ensures err { OnErr result (state.new.items ≡ state.old.items) }
     {
-        put_map(self.entries.as_slice(), state)
+        put_map(self.entries.as_slice(), self.size, state)
     }
 
     fn kept(&self) {

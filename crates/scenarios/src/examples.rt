@@ -29,7 +29,7 @@ fn run_each(
         let script = bytes_of(rt, folder, input.as_str())?;
         let stored = format!(in rt.alloc(); "{name}{end}")?;
         let output = bytes_of(rt, folder, stored.as_str())?;
-        let (text, code) = run(rt.alloc(), command.as_bytes(), script.as_slice());
+        let (text, code) = run(rt.alloc(), command.as_bytes(), false, script.as_slice());
         let wanted = Answer {
             text: output.as_slice(),
             status: status_of(output.as_slice()),

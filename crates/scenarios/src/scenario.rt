@@ -1,4 +1,4 @@
-//! A scenario's file: a line that says what it shows, and its runs. A run is a line `=== vsync COMMAND -`, the input, a line `=== prints`, the output and a
+//! A scenario's file: a line that says what it shows, and its runs. A run is a line `=== vsync COMMAND -`, or `=== vsync COMMAND --long -`, the input, a line `=== prints`, the output and a
 //! line `=== exit status N`.
 
 use std::alloc::Global;
@@ -82,6 +82,11 @@ impl Scenario {
             },
             None => &[],
         }
+    }
+
+    /// Whether members keep the long chat: `--long` stands behind the command.
+    pub fn is_long(&self) -> bool {
+        self.headline().split(|b| *b == b' ').nth(2) == Some(b"--long".as_slice())
     }
 
     pub fn input(&self) -> &[u8] {

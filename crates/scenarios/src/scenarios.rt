@@ -16,7 +16,12 @@ fn run_one<W: Write>(
     status: u8,
     report: &mut Report,
 ) -> io::Result<()> {
-    let (text, code) = run(alloc, scenario.command(), scenario.input());
+    let (text, code) = run(
+        alloc,
+        scenario.command(),
+        scenario.is_long(),
+        scenario.input(),
+    );
     let wanted = Answer {
         text: scenario.output(),
         status,

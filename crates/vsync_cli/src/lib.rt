@@ -4,12 +4,12 @@
 mod programs;
 mod udp_programs;
 
-pub use chat_log::{Chat, ChatLog};
+pub use chat_log::{Chat, ChatLog, LongChat};
 pub use commands::{
     Status, run_chat, run_check, run_draw, run_draw_trace, run_packets, run_script,
 };
 pub use programs::program;
 pub use udp_runs::{run_member, run_udp};
 pub use vsync_words::{
-    Invocation, MemberMistake, MemberPlan, MemberWords, TextCommand, UdpWords, command,
+    Invocation, MemberMistake, MemberPlan, MemberWords, TextCommand, TextWords, UdpWords, command,
 };

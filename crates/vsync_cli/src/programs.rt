@@ -1,10 +1,10 @@
 ghost use Rattle.std.specs.Prelude.{◌≡◌, ◌≢◌, ◌⊎◌, ◌<◌, [], length, map, string_bytes};
 ghost use Rattle.clap.specs.Words.{fault_of, kind_of};
-ghost use Rattle.vsync_cli.specs.Ends.{Does, EndsBy, EndsByFault};
+ghost use Rattle.vsync_cli.specs.Ends.{Does, DoesWith, EndsBy, EndsByFault};
 ghost use Rattle.vsync_words.specs.Grammar.{program_app};
 
 use crate::udp_programs::{member, udp};
-use chat_log::ChatLog;
+use chat_log::{Chat, ChatLog, LongChat};
 use clap::Error;
 use clap::error::ErrorKind;
 use commands::{Status, run_chat, run_check, run_draw, run_draw_trace, run_packets, run_script};
@@ -44,7 +44,26 @@ pub(crate) fn failed<R: Print + Eprint>(rt: &R, error: &io::Error, what: &str, p
     complain(rt, what, path)
 }
 
-/// Does a command on its input, to a writer.
+/// Does a command on its input, to a writer, where members keep the chat `C`.
+fn answer_with<C: Chat, I: Read, W: Write>(
+    alloc: Global,
+    command: TextCommand<'_>,
+    reader: &mut I,
+    writer: &mut W,
+) -> Status
+    ensures { DoesWith C.meaning C.lines_of command.entry (I.remaining reader.old) (W.contents writer.old) (W.contents writer.new) result }
+{
+    match command {
+        TextCommand::World(_) => run_script::<C, I, W>(alloc, reader, writer),
+        TextCommand::Chat(_) => run_chat::<C, I, W>(alloc, reader, writer),
+        TextCommand::Packets(_) => run_packets::<C, I, W>(alloc, reader, writer),
+        TextCommand::Check(_) => run_check::<C, I, W>(alloc, reader, writer),
+        TextCommand::Draw(_) => run_draw::<C, I, W>(alloc, reader, writer),
+        TextCommand::DrawTrace(_) => run_draw_trace::<I, W>(alloc, reader, writer),
+    }
+}
+
+/// Does a command on its input, to a writer: members keep the long chat where the command says so.
 fn answer<I: Read, W: Write>(
     alloc: Global,
     command: TextCommand<'_>,
@@ -53,13 +72,10 @@ fn answer<I: Read, W: Write>(
 ) -> Status
     ensures { Does command.entry (I.remaining reader.old) (W.contents writer.old) (W.contents writer.new) result }
 {
-    match command {
-        TextCommand::World(_) => run_script::<ChatLog, I, W>(alloc, reader, writer),
-        TextCommand::Chat(_) => run_chat::<ChatLog, I, W>(alloc, reader, writer),
-        TextCommand::Packets(_) => run_packets::<ChatLog, I, W>(alloc, reader, writer),
-        TextCommand::Check(_) => run_check::<ChatLog, I, W>(alloc, reader, writer),
-        TextCommand::Draw(_) => run_draw::<ChatLog, I, W>(alloc, reader, writer),
-        TextCommand::DrawTrace(_) => run_draw_trace::<I, W>(alloc, reader, writer),
+    if command.is_long() {
+        answer_with::<LongChat, I, W>(alloc, command, reader, writer)
+    } else {
+        answer_with::<ChatLog, I, W>(alloc, command, reader, writer)
     }
 }
 

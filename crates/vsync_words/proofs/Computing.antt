@@ -14,7 +14,7 @@ use Rattle.clap.proofs.OnLiterals.{clap_on_literals}
 use Rattle.vsync_words.specs.declared.words.Invocation.{Invocation}
 use Rattle.vsync_words.specs.declared.words.Invocation.TheVariants.{Text as TextOf, Udp, Member}
 use Rattle.vsync_words.specs.declared.words.TextCommand.TheVariants.{World, Chat, Packets, Check, Draw, DrawTrace}
-use Rattle.vsync_words.specs.Grammar.{IsSaid, is_path, program_app}
+use Rattle.vsync_words.specs.Grammar.{IsFlag, IsSaid, is_path, program_app, with_long}
 use Rattle.vsync_words.specs.Words.{IsChatOn, IsCheckOn, IsDrawOn, IsDrawTraceOn, IsOrNoMemory, IsPacketsOn, IsUdpOn, IsWorldOn}
 
 pub simple : is_simple_and_free program_app ≡ true
@@ -25,9 +25,9 @@ pub simple_app : is_simple program_app ≡ true
 unfolding clap_on_literals
 simple_app = refl
 
--- a word, one of two subcommands, and a path that is no flag
-abbrev words_on : Text → Text → Text → List Text
-words_on name subcommand path = name ∷ subcommand ∷ path ∷ []
+-- a word, a subcommand, and a path that is no flag, perhaps behind `--long`
+abbrev words_on : Bool → Text → Text → Text → List Text
+words_on long name subcommand path = name ∷ subcommand ∷ with_long long path
 
 -- where the subcommand passes with `-`, the empty path and each path with a first letter other than `-`, it passes with each path
 by_first : (P : Text → Type 0) → P [] → P (45 ∷ []) → ((x : ℕ) (xs : Text) → (x == 45) ≡ false → P (x ∷ xs)) → (path : Text) → is_path path ≡ true → P path
@@ -44,75 +44,92 @@ by_first P empty dash other (x ∷ xs) is = go (x == 45) refl
             let short : length (y ∷ ys) ≡ 0 = eqb-true (length (y ∷ ys)) 0 none in
             absurd (omega arith)
 
--- the subcommand, with the first value of this argument
-abbrev pub value_in : Text → Option (Text × List Row) → Option (Text × Option Text)
-value_in argument = option_map (λ said. (said.0, first_of argument said.1))
+-- the subcommand, with the first value of this argument and what its flag is
+abbrev pub value_in : Text → Option (Text × List Row) → Option (Text × Option Text × Option Text)
+value_in argument = option_map (λ said. (said.0, first_of argument said.1, one_of (codes "long") said.1))
 
--- the words pass, and are this subcommand with the path as this argument's value
-abbrev Reads : Text → Text → Text → Text → Type 0
-Reads subcommand argument name path =
-    (fault_of program_app (words_on name subcommand path) ≡ [])
-    × (value_in argument (subcommand_of program_app (words_on name subcommand path)) ≡ Some (subcommand, Some path))
+-- the value of a flag that stands, and of one that does not
+abbrev pub flag_value : Bool → Text
+flag_value true = codes "true"
+flag_value false = codes "false"
 
-other_world : (name : Text) (x : ℕ) (xs : Text) → (x == 45) ≡ false → Reads (codes "world") (codes "SCRIPT") name (x ∷ xs)
+-- the words pass, and are this subcommand with the path as this argument's value, and this flag
+abbrev Reads : Bool → Text → Text → Text → Text → Type 0
+Reads long subcommand argument name path =
+    (fault_of program_app (words_on long name subcommand path) ≡ [])
+    × (value_in argument (subcommand_of program_app (words_on long name subcommand path)) ≡ Some (subcommand, Some path, Some (flag_value long)))
+
+other_world : (long : Bool) (name : Text) (x : ℕ) (xs : Text) → (x == 45) ≡ false → Reads long (codes "world") (codes "SCRIPT") name (x ∷ xs)
 unfolding clap_on_literals
-other_world name x xs e = (simp e refl, simp e refl)
+other_world true name x xs e = (simp e refl, simp e refl)
+other_world false name x xs e = (simp e refl, simp e refl)
 
-other_chat : (name : Text) (x : ℕ) (xs : Text) → (x == 45) ≡ false → Reads (codes "chat") (codes "SCRIPT") name (x ∷ xs)
+other_chat : (long : Bool) (name : Text) (x : ℕ) (xs : Text) → (x == 45) ≡ false → Reads long (codes "chat") (codes "SCRIPT") name (x ∷ xs)
 unfolding clap_on_literals
-other_chat name x xs e = (simp e refl, simp e refl)
+other_chat true name x xs e = (simp e refl, simp e refl)
+other_chat false name x xs e = (simp e refl, simp e refl)
 
-other_packets : (name : Text) (x : ℕ) (xs : Text) → (x == 45) ≡ false → Reads (codes "packets") (codes "SCRIPT") name (x ∷ xs)
+other_packets : (long : Bool) (name : Text) (x : ℕ) (xs : Text) → (x == 45) ≡ false → Reads long (codes "packets") (codes "SCRIPT") name (x ∷ xs)
 unfolding clap_on_literals
-other_packets name x xs e = (simp e refl, simp e refl)
+other_packets true name x xs e = (simp e refl, simp e refl)
+other_packets false name x xs e = (simp e refl, simp e refl)
 
-other_check : (name : Text) (x : ℕ) (xs : Text) → (x == 45) ≡ false → Reads (codes "check") (codes "TRACE") name (x ∷ xs)
+other_check : (long : Bool) (name : Text) (x : ℕ) (xs : Text) → (x == 45) ≡ false → Reads long (codes "check") (codes "TRACE") name (x ∷ xs)
 unfolding clap_on_literals
-other_check name x xs e = (simp e refl, simp e refl)
+other_check true name x xs e = (simp e refl, simp e refl)
+other_check false name x xs e = (simp e refl, simp e refl)
 
-empty_world : (name : Text) → Reads (codes "world") (codes "SCRIPT") name []
+empty_world : (long : Bool) (name : Text) → Reads long (codes "world") (codes "SCRIPT") name []
 unfolding clap_on_literals
-empty_world name = (refl, refl)
+empty_world true name = (refl, refl)
+empty_world false name = (refl, refl)
 
-empty_chat : (name : Text) → Reads (codes "chat") (codes "SCRIPT") name []
+empty_chat : (long : Bool) (name : Text) → Reads long (codes "chat") (codes "SCRIPT") name []
 unfolding clap_on_literals
-empty_chat name = (refl, refl)
+empty_chat true name = (refl, refl)
+empty_chat false name = (refl, refl)
 
-empty_packets : (name : Text) → Reads (codes "packets") (codes "SCRIPT") name []
+empty_packets : (long : Bool) (name : Text) → Reads long (codes "packets") (codes "SCRIPT") name []
 unfolding clap_on_literals
-empty_packets name = (refl, refl)
+empty_packets true name = (refl, refl)
+empty_packets false name = (refl, refl)
 
-empty_check : (name : Text) → Reads (codes "check") (codes "TRACE") name []
+empty_check : (long : Bool) (name : Text) → Reads long (codes "check") (codes "TRACE") name []
 unfolding clap_on_literals
-empty_check name = (refl, refl)
+empty_check true name = (refl, refl)
+empty_check false name = (refl, refl)
 
-dash_world : (name : Text) → Reads (codes "world") (codes "SCRIPT") name (45 ∷ [])
+dash_world : (long : Bool) (name : Text) → Reads long (codes "world") (codes "SCRIPT") name (45 ∷ [])
 unfolding clap_on_literals
-dash_world name = (refl, refl)
+dash_world true name = (refl, refl)
+dash_world false name = (refl, refl)
 
-dash_chat : (name : Text) → Reads (codes "chat") (codes "SCRIPT") name (45 ∷ [])
+dash_chat : (long : Bool) (name : Text) → Reads long (codes "chat") (codes "SCRIPT") name (45 ∷ [])
 unfolding clap_on_literals
-dash_chat name = (refl, refl)
+dash_chat true name = (refl, refl)
+dash_chat false name = (refl, refl)
 
-dash_packets : (name : Text) → Reads (codes "packets") (codes "SCRIPT") name (45 ∷ [])
+dash_packets : (long : Bool) (name : Text) → Reads long (codes "packets") (codes "SCRIPT") name (45 ∷ [])
 unfolding clap_on_literals
-dash_packets name = (refl, refl)
+dash_packets true name = (refl, refl)
+dash_packets false name = (refl, refl)
 
-dash_check : (name : Text) → Reads (codes "check") (codes "TRACE") name (45 ∷ [])
+dash_check : (long : Bool) (name : Text) → Reads long (codes "check") (codes "TRACE") name (45 ∷ [])
 unfolding clap_on_literals
-dash_check name = (refl, refl)
+dash_check true name = (refl, refl)
+dash_check false name = (refl, refl)
 
-pub reads_world : (name path : Text) → is_path path ≡ true → Reads (codes "world") (codes "SCRIPT") name path
-reads_world name = by_first (Reads (codes "world") (codes "SCRIPT") name) (empty_world name) (dash_world name) (other_world name)
+pub reads_world : (long : Bool) (name path : Text) → is_path path ≡ true → Reads long (codes "world") (codes "SCRIPT") name path
+reads_world long name = by_first (Reads long (codes "world") (codes "SCRIPT") name) (empty_world long name) (dash_world long name) (other_world long name)
 
-pub reads_chat : (name path : Text) → is_path path ≡ true → Reads (codes "chat") (codes "SCRIPT") name path
-reads_chat name = by_first (Reads (codes "chat") (codes "SCRIPT") name) (empty_chat name) (dash_chat name) (other_chat name)
+pub reads_chat : (long : Bool) (name path : Text) → is_path path ≡ true → Reads long (codes "chat") (codes "SCRIPT") name path
+reads_chat long name = by_first (Reads long (codes "chat") (codes "SCRIPT") name) (empty_chat long name) (dash_chat long name) (other_chat long name)
 
-pub reads_packets : (name path : Text) → is_path path ≡ true → Reads (codes "packets") (codes "SCRIPT") name path
-reads_packets name = by_first (Reads (codes "packets") (codes "SCRIPT") name) (empty_packets name) (dash_packets name) (other_packets name)
+pub reads_packets : (long : Bool) (name path : Text) → is_path path ≡ true → Reads long (codes "packets") (codes "SCRIPT") name path
+reads_packets long name = by_first (Reads long (codes "packets") (codes "SCRIPT") name) (empty_packets long name) (dash_packets long name) (other_packets long name)
 
-pub reads_check : (name path : Text) → is_path path ≡ true → Reads (codes "check") (codes "TRACE") name path
-reads_check name = by_first (Reads (codes "check") (codes "TRACE") name) (empty_check name) (dash_check name) (other_check name)
+pub reads_check : (long : Bool) (name path : Text) → is_path path ≡ true → Reads long (codes "check") (codes "TRACE") name path
+reads_check long name = by_first (Reads long (codes "check") (codes "TRACE") name) (empty_check long name) (dash_check long name) (other_check long name)
 
 -- a subcommand that was said with one name was not said with another
 other_name : (said : Text × List Row) (name other : Text) → said.0 ≡ name → said.0 ≡ other → bytes_eq name other ≡ false → ⊥
@@ -121,65 +138,88 @@ other_name said name other is was differs =
     absurd cc
 
 -- what a subcommand that was said has by `value_in`
-name_in : (argument : Text) (said : Text × List Row) (name path : Text) → value_in argument (Some said) ≡ Some (name, Some path) → said.0 ≡ name
-name_in argument said name path e = ap (λ (o : Option (Text × Option Text)). option_map_or (λ q. q.0) o []) e
+name_in : (argument : Text) (said : Text × List Row) (name path flag : Text) → value_in argument (Some said) ≡ Some (name, Some path, Some flag) → said.0 ≡ name
+name_in argument said name path flag e = ap (λ (o : Option (Text × Option Text × Option Text)). option_map_or (λ q. q.0) o []) e
 
-path_in : (argument : Text) (said : Text × List Row) (name path : Text) → value_in argument (Some said) ≡ Some (name, Some path)
+path_in : (argument : Text) (said : Text × List Row) (name path flag : Text) → value_in argument (Some said) ≡ Some (name, Some path, Some flag)
     → first_of argument said.1 ≡ Some path
-path_in argument said name path e = ap (λ (o : Option (Text × Option Text)). option_map_or (λ q. q.1) o None) e
+path_in argument said name path flag e = ap (λ (o : Option (Text × Option Text × Option Text)). option_map_or (λ q. q.1) o None) e
+
+flag_in : (argument : Text) (said : Text × List Row) (name path flag : Text) → value_in argument (Some said) ≡ Some (name, Some path, Some flag)
+    → one_of (codes "long") said.1 ≡ Some flag
+flag_in argument said name path flag e = ap (λ (o : Option (Text × Option Text × Option Text)). option_map_or (λ q. q.2) o None) e
 
 -- the path of the command is that of the words
 same_path : (path : Text) (p : Text) (value : Option Text) → value ≡ Some path → value ≡ Some p → p ≡ path
 same_path path p value is was = cc
 
+-- the flag of the command is that of the words
+same_flag : (value : Option Text) (was long : Bool) → value ≡ Some (flag_value long) → IsFlag value was → was ≡ long
+same_flag value true true e is = refl
+same_flag value true false e is = absurd (is.0 e)
+same_flag value false true e is = absurd (is e)
+same_flag value false false e is = refl
+
 -- a subcommand that was said, with this name and value, is this command
-said_world : (o : Option (Text × List Row)) (path : Text) (i : Invocation)
-    → value_in (codes "SCRIPT") o ≡ Some (codes "world", Some path) → IsSomeAnd o (λ said. IsSaid said i) → IsWorldOn path i
-said_world None path i e h = absurd h
-said_world (Some said) path (TextOf (World p)) e h = same_path path p.now _ (path_in (codes "SCRIPT") said (codes "world") path e) h.1
-said_world (Some said) path (TextOf (Chat p)) e h = absurd (other_name said (codes "world") (codes "chat") (name_in (codes "SCRIPT") said (codes "world") path e) h.0 refl)
-said_world (Some said) path (TextOf (Packets p)) e h = absurd (other_name said (codes "world") (codes "packets") (name_in (codes "SCRIPT") said (codes "world") path e) h.0 refl)
-said_world (Some said) path (TextOf (Check p)) e h = absurd (other_name said (codes "world") (codes "check") (name_in (codes "SCRIPT") said (codes "world") path e) h.0 refl)
-said_world (Some said) path (TextOf (Draw p)) e h = absurd (other_name said (codes "world") (codes "draw") (name_in (codes "SCRIPT") said (codes "world") path e) h.0 refl)
-said_world (Some said) path (TextOf (DrawTrace p)) e h = absurd (other_name said (codes "world") (codes "draw") (name_in (codes "SCRIPT") said (codes "world") path e) h.0 refl)
-said_world (Some said) path (Udp w) e h = absurd (other_name said (codes "world") (codes "udp") (name_in (codes "SCRIPT") said (codes "world") path e) h.0 refl)
-said_world (Some said) path (Member w) e h = absurd (other_name said (codes "world") (codes "member") (name_in (codes "SCRIPT") said (codes "world") path e) h.0 refl)
+said_world : (o : Option (Text × List Row)) (long : Bool) (path : Text) (i : Invocation)
+    → value_in (codes "SCRIPT") o ≡ Some (codes "world", Some path, Some (flag_value long)) → IsSomeAnd o (λ said. IsSaid said i) → IsWorldOn long path i
+said_world None long path i e h = absurd h
+said_world (Some said) long path (TextOf (World p)) e h = (
+  same_path path p.path.now _ (path_in (codes "SCRIPT") said (codes "world") path (flag_value long) e) h.1.path,
+  same_flag _ p.long long (flag_in (codes "SCRIPT") said (codes "world") path (flag_value long) e) h.1.long,
+)
+said_world (Some said) long path (TextOf (Chat p)) e h = absurd (other_name said (codes "world") (codes "chat") (name_in (codes "SCRIPT") said (codes "world") path (flag_value long) e) h.0 refl)
+said_world (Some said) long path (TextOf (Packets p)) e h = absurd (other_name said (codes "world") (codes "packets") (name_in (codes "SCRIPT") said (codes "world") path (flag_value long) e) h.0 refl)
+said_world (Some said) long path (TextOf (Check p)) e h = absurd (other_name said (codes "world") (codes "check") (name_in (codes "SCRIPT") said (codes "world") path (flag_value long) e) h.0 refl)
+said_world (Some said) long path (TextOf (Draw p)) e h = absurd (other_name said (codes "world") (codes "draw") (name_in (codes "SCRIPT") said (codes "world") path (flag_value long) e) h.0 refl)
+said_world (Some said) long path (TextOf (DrawTrace p)) e h = absurd (other_name said (codes "world") (codes "draw") (name_in (codes "SCRIPT") said (codes "world") path (flag_value long) e) h.0 refl)
+said_world (Some said) long path (Udp w) e h = absurd (other_name said (codes "world") (codes "udp") (name_in (codes "SCRIPT") said (codes "world") path (flag_value long) e) h.0 refl)
+said_world (Some said) long path (Member w) e h = absurd (other_name said (codes "world") (codes "member") (name_in (codes "SCRIPT") said (codes "world") path (flag_value long) e) h.0 refl)
 
-said_chat : (o : Option (Text × List Row)) (path : Text) (i : Invocation)
-    → value_in (codes "SCRIPT") o ≡ Some (codes "chat", Some path) → IsSomeAnd o (λ said. IsSaid said i) → IsChatOn path i
-said_chat None path i e h = absurd h
-said_chat (Some said) path (TextOf (World p)) e h = absurd (other_name said (codes "chat") (codes "world") (name_in (codes "SCRIPT") said (codes "chat") path e) h.0 refl)
-said_chat (Some said) path (TextOf (Chat p)) e h = same_path path p.now _ (path_in (codes "SCRIPT") said (codes "chat") path e) h.1
-said_chat (Some said) path (TextOf (Packets p)) e h = absurd (other_name said (codes "chat") (codes "packets") (name_in (codes "SCRIPT") said (codes "chat") path e) h.0 refl)
-said_chat (Some said) path (TextOf (Check p)) e h = absurd (other_name said (codes "chat") (codes "check") (name_in (codes "SCRIPT") said (codes "chat") path e) h.0 refl)
-said_chat (Some said) path (TextOf (Draw p)) e h = absurd (other_name said (codes "chat") (codes "draw") (name_in (codes "SCRIPT") said (codes "chat") path e) h.0 refl)
-said_chat (Some said) path (TextOf (DrawTrace p)) e h = absurd (other_name said (codes "chat") (codes "draw") (name_in (codes "SCRIPT") said (codes "chat") path e) h.0 refl)
-said_chat (Some said) path (Udp w) e h = absurd (other_name said (codes "chat") (codes "udp") (name_in (codes "SCRIPT") said (codes "chat") path e) h.0 refl)
-said_chat (Some said) path (Member w) e h = absurd (other_name said (codes "chat") (codes "member") (name_in (codes "SCRIPT") said (codes "chat") path e) h.0 refl)
+said_chat : (o : Option (Text × List Row)) (long : Bool) (path : Text) (i : Invocation)
+    → value_in (codes "SCRIPT") o ≡ Some (codes "chat", Some path, Some (flag_value long)) → IsSomeAnd o (λ said. IsSaid said i) → IsChatOn long path i
+said_chat None long path i e h = absurd h
+said_chat (Some said) long path (TextOf (World p)) e h = absurd (other_name said (codes "chat") (codes "world") (name_in (codes "SCRIPT") said (codes "chat") path (flag_value long) e) h.0 refl)
+said_chat (Some said) long path (TextOf (Chat p)) e h = (
+  same_path path p.path.now _ (path_in (codes "SCRIPT") said (codes "chat") path (flag_value long) e) h.1.path,
+  same_flag _ p.long long (flag_in (codes "SCRIPT") said (codes "chat") path (flag_value long) e) h.1.long,
+)
+said_chat (Some said) long path (TextOf (Packets p)) e h = absurd (other_name said (codes "chat") (codes "packets") (name_in (codes "SCRIPT") said (codes "chat") path (flag_value long) e) h.0 refl)
+said_chat (Some said) long path (TextOf (Check p)) e h = absurd (other_name said (codes "chat") (codes "check") (name_in (codes "SCRIPT") said (codes "chat") path (flag_value long) e) h.0 refl)
+said_chat (Some said) long path (TextOf (Draw p)) e h = absurd (other_name said (codes "chat") (codes "draw") (name_in (codes "SCRIPT") said (codes "chat") path (flag_value long) e) h.0 refl)
+said_chat (Some said) long path (TextOf (DrawTrace p)) e h = absurd (other_name said (codes "chat") (codes "draw") (name_in (codes "SCRIPT") said (codes "chat") path (flag_value long) e) h.0 refl)
+said_chat (Some said) long path (Udp w) e h = absurd (other_name said (codes "chat") (codes "udp") (name_in (codes "SCRIPT") said (codes "chat") path (flag_value long) e) h.0 refl)
+said_chat (Some said) long path (Member w) e h = absurd (other_name said (codes "chat") (codes "member") (name_in (codes "SCRIPT") said (codes "chat") path (flag_value long) e) h.0 refl)
 
-said_packets : (o : Option (Text × List Row)) (path : Text) (i : Invocation)
-    → value_in (codes "SCRIPT") o ≡ Some (codes "packets", Some path) → IsSomeAnd o (λ said. IsSaid said i) → IsPacketsOn path i
-said_packets None path i e h = absurd h
-said_packets (Some said) path (TextOf (World p)) e h = absurd (other_name said (codes "packets") (codes "world") (name_in (codes "SCRIPT") said (codes "packets") path e) h.0 refl)
-said_packets (Some said) path (TextOf (Chat p)) e h = absurd (other_name said (codes "packets") (codes "chat") (name_in (codes "SCRIPT") said (codes "packets") path e) h.0 refl)
-said_packets (Some said) path (TextOf (Packets p)) e h = same_path path p.now _ (path_in (codes "SCRIPT") said (codes "packets") path e) h.1
-said_packets (Some said) path (TextOf (Check p)) e h = absurd (other_name said (codes "packets") (codes "check") (name_in (codes "SCRIPT") said (codes "packets") path e) h.0 refl)
-said_packets (Some said) path (TextOf (Draw p)) e h = absurd (other_name said (codes "packets") (codes "draw") (name_in (codes "SCRIPT") said (codes "packets") path e) h.0 refl)
-said_packets (Some said) path (TextOf (DrawTrace p)) e h = absurd (other_name said (codes "packets") (codes "draw") (name_in (codes "SCRIPT") said (codes "packets") path e) h.0 refl)
-said_packets (Some said) path (Udp w) e h = absurd (other_name said (codes "packets") (codes "udp") (name_in (codes "SCRIPT") said (codes "packets") path e) h.0 refl)
-said_packets (Some said) path (Member w) e h = absurd (other_name said (codes "packets") (codes "member") (name_in (codes "SCRIPT") said (codes "packets") path e) h.0 refl)
+said_packets : (o : Option (Text × List Row)) (long : Bool) (path : Text) (i : Invocation)
+    → value_in (codes "SCRIPT") o ≡ Some (codes "packets", Some path, Some (flag_value long)) → IsSomeAnd o (λ said. IsSaid said i) → IsPacketsOn long path i
+said_packets None long path i e h = absurd h
+said_packets (Some said) long path (TextOf (World p)) e h = absurd (other_name said (codes "packets") (codes "world") (name_in (codes "SCRIPT") said (codes "packets") path (flag_value long) e) h.0 refl)
+said_packets (Some said) long path (TextOf (Chat p)) e h = absurd (other_name said (codes "packets") (codes "chat") (name_in (codes "SCRIPT") said (codes "packets") path (flag_value long) e) h.0 refl)
+said_packets (Some said) long path (TextOf (Packets p)) e h = (
+  same_path path p.path.now _ (path_in (codes "SCRIPT") said (codes "packets") path (flag_value long) e) h.1.path,
+  same_flag _ p.long long (flag_in (codes "SCRIPT") said (codes "packets") path (flag_value long) e) h.1.long,
+)
+said_packets (Some said) long path (TextOf (Check p)) e h = absurd (other_name said (codes "packets") (codes "check") (name_in (codes "SCRIPT") said (codes "packets") path (flag_value long) e) h.0 refl)
+said_packets (Some said) long path (TextOf (Draw p)) e h = absurd (other_name said (codes "packets") (codes "draw") (name_in (codes "SCRIPT") said (codes "packets") path (flag_value long) e) h.0 refl)
+said_packets (Some said) long path (TextOf (DrawTrace p)) e h = absurd (other_name said (codes "packets") (codes "draw") (name_in (codes "SCRIPT") said (codes "packets") path (flag_value long) e) h.0 refl)
+said_packets (Some said) long path (Udp w) e h = absurd (other_name said (codes "packets") (codes "udp") (name_in (codes "SCRIPT") said (codes "packets") path (flag_value long) e) h.0 refl)
+said_packets (Some said) long path (Member w) e h = absurd (other_name said (codes "packets") (codes "member") (name_in (codes "SCRIPT") said (codes "packets") path (flag_value long) e) h.0 refl)
 
-said_check : (o : Option (Text × List Row)) (path : Text) (i : Invocation)
-    → value_in (codes "TRACE") o ≡ Some (codes "check", Some path) → IsSomeAnd o (λ said. IsSaid said i) → IsCheckOn path i
-said_check None path i e h = absurd h
-said_check (Some said) path (TextOf (World p)) e h = absurd (other_name said (codes "check") (codes "world") (name_in (codes "TRACE") said (codes "check") path e) h.0 refl)
-said_check (Some said) path (TextOf (Chat p)) e h = absurd (other_name said (codes "check") (codes "chat") (name_in (codes "TRACE") said (codes "check") path e) h.0 refl)
-said_check (Some said) path (TextOf (Packets p)) e h = absurd (other_name said (codes "check") (codes "packets") (name_in (codes "TRACE") said (codes "check") path e) h.0 refl)
-said_check (Some said) path (TextOf (Check p)) e h = same_path path p.now _ (path_in (codes "TRACE") said (codes "check") path e) h.1
-said_check (Some said) path (TextOf (Draw p)) e h = absurd (other_name said (codes "check") (codes "draw") (name_in (codes "TRACE") said (codes "check") path e) h.0 refl)
-said_check (Some said) path (TextOf (DrawTrace p)) e h = absurd (other_name said (codes "check") (codes "draw") (name_in (codes "TRACE") said (codes "check") path e) h.0 refl)
-said_check (Some said) path (Udp w) e h = absurd (other_name said (codes "check") (codes "udp") (name_in (codes "TRACE") said (codes "check") path e) h.0 refl)
-said_check (Some said) path (Member w) e h = absurd (other_name said (codes "check") (codes "member") (name_in (codes "TRACE") said (codes "check") path e) h.0 refl)
+said_check : (o : Option (Text × List Row)) (long : Bool) (path : Text) (i : Invocation)
+    → value_in (codes "TRACE") o ≡ Some (codes "check", Some path, Some (flag_value long)) → IsSomeAnd o (λ said. IsSaid said i) → IsCheckOn long path i
+said_check None long path i e h = absurd h
+said_check (Some said) long path (TextOf (World p)) e h = absurd (other_name said (codes "check") (codes "world") (name_in (codes "TRACE") said (codes "check") path (flag_value long) e) h.0 refl)
+said_check (Some said) long path (TextOf (Chat p)) e h = absurd (other_name said (codes "check") (codes "chat") (name_in (codes "TRACE") said (codes "check") path (flag_value long) e) h.0 refl)
+said_check (Some said) long path (TextOf (Packets p)) e h = absurd (other_name said (codes "check") (codes "packets") (name_in (codes "TRACE") said (codes "check") path (flag_value long) e) h.0 refl)
+said_check (Some said) long path (TextOf (Check p)) e h = (
+  same_path path p.path.now _ (path_in (codes "TRACE") said (codes "check") path (flag_value long) e) h.1.path,
+  same_flag _ p.long long (flag_in (codes "TRACE") said (codes "check") path (flag_value long) e) h.1.long,
+)
+said_check (Some said) long path (TextOf (Draw p)) e h = absurd (other_name said (codes "check") (codes "draw") (name_in (codes "TRACE") said (codes "check") path (flag_value long) e) h.0 refl)
+said_check (Some said) long path (TextOf (DrawTrace p)) e h = absurd (other_name said (codes "check") (codes "draw") (name_in (codes "TRACE") said (codes "check") path (flag_value long) e) h.0 refl)
+said_check (Some said) long path (Udp w) e h = absurd (other_name said (codes "check") (codes "udp") (name_in (codes "TRACE") said (codes "check") path (flag_value long) e) h.0 refl)
+said_check (Some said) long path (Member w) e h = absurd (other_name said (codes "check") (codes "member") (name_in (codes "TRACE") said (codes "check") path (flag_value long) e) h.0 refl)
 
 -- `udp` and two paths
 abbrev words_of_udp : Text → Text → Text → List Text
@@ -318,7 +358,7 @@ said_draw (Some said) path (TextOf (Chat p)) e h = absurd (other_name said (code
 said_draw (Some said) path (TextOf (Packets p)) e h = absurd (other_name said (codes "draw") (codes "packets") (drawing_name said path (codes "false") e) h.0 refl)
 said_draw (Some said) path (TextOf (Check p)) e h = absurd (other_name said (codes "draw") (codes "check") (drawing_name said path (codes "false") e) h.0 refl)
 said_draw (Some said) path (TextOf (Draw p)) e h = same_path path p.now _ (drawing_path said path (codes "false") e) h.1.0
-said_draw (Some said) path (TextOf (DrawTrace p)) e h = absurd (h.1.1 (drawing_flag said path (codes "false") e))
+said_draw (Some said) path (TextOf (DrawTrace p)) e h = absurd (h.1.1.0 (drawing_flag said path (codes "false") e))
 said_draw (Some said) path (Udp w) e h = absurd (other_name said (codes "draw") (codes "udp") (drawing_name said path (codes "false") e) h.0 refl)
 said_draw (Some said) path (Member w) e h = absurd (other_name said (codes "draw") (codes "member") (drawing_name said path (codes "false") e) h.0 refl)
 
@@ -348,29 +388,29 @@ is_or_no_memory IsIt (Err e) kinds none is fails = by_memory (subst (λ (k : Kin
     by_memory (inl memory) = memory
     by_memory (inr other) = absurd other
 
-pub world_or_no_memory : (r : Result Invocation Error) (o : Option (Text × List Row)) (kinds : Kinds) (path : Text) → kinds ≡ []
-    → value_in (codes "SCRIPT") o ≡ Some (codes "world", Some path) → IfOk r (λ i. IsSomeAnd o (λ said. IsSaid said i)) → FailsBy kinds r
-    → IsOrNoMemory (IsWorldOn path) r
-world_or_no_memory r o kinds path none value is fails =
-    is_or_no_memory (IsWorldOn path) r kinds none (IfOk-weaker r _ _ (λ i said. said_world o path i value said) is) fails
+pub world_or_no_memory : (r : Result Invocation Error) (o : Option (Text × List Row)) (kinds : Kinds) (long : Bool) (path : Text) → kinds ≡ []
+    → value_in (codes "SCRIPT") o ≡ Some (codes "world", Some path, Some (flag_value long)) → IfOk r (λ i. IsSomeAnd o (λ said. IsSaid said i)) → FailsBy kinds r
+    → IsOrNoMemory (IsWorldOn long path) r
+world_or_no_memory r o kinds long path none value is fails =
+    is_or_no_memory (IsWorldOn long path) r kinds none (IfOk-weaker r _ _ (λ i said. said_world o long path i value said) is) fails
 
-pub chat_or_no_memory : (r : Result Invocation Error) (o : Option (Text × List Row)) (kinds : Kinds) (path : Text) → kinds ≡ []
-    → value_in (codes "SCRIPT") o ≡ Some (codes "chat", Some path) → IfOk r (λ i. IsSomeAnd o (λ said. IsSaid said i)) → FailsBy kinds r
-    → IsOrNoMemory (IsChatOn path) r
-chat_or_no_memory r o kinds path none value is fails =
-    is_or_no_memory (IsChatOn path) r kinds none (IfOk-weaker r _ _ (λ i said. said_chat o path i value said) is) fails
+pub chat_or_no_memory : (r : Result Invocation Error) (o : Option (Text × List Row)) (kinds : Kinds) (long : Bool) (path : Text) → kinds ≡ []
+    → value_in (codes "SCRIPT") o ≡ Some (codes "chat", Some path, Some (flag_value long)) → IfOk r (λ i. IsSomeAnd o (λ said. IsSaid said i)) → FailsBy kinds r
+    → IsOrNoMemory (IsChatOn long path) r
+chat_or_no_memory r o kinds long path none value is fails =
+    is_or_no_memory (IsChatOn long path) r kinds none (IfOk-weaker r _ _ (λ i said. said_chat o long path i value said) is) fails
 
-pub packets_or_no_memory : (r : Result Invocation Error) (o : Option (Text × List Row)) (kinds : Kinds) (path : Text) → kinds ≡ []
-    → value_in (codes "SCRIPT") o ≡ Some (codes "packets", Some path) → IfOk r (λ i. IsSomeAnd o (λ said. IsSaid said i)) → FailsBy kinds r
-    → IsOrNoMemory (IsPacketsOn path) r
-packets_or_no_memory r o kinds path none value is fails =
-    is_or_no_memory (IsPacketsOn path) r kinds none (IfOk-weaker r _ _ (λ i said. said_packets o path i value said) is) fails
+pub packets_or_no_memory : (r : Result Invocation Error) (o : Option (Text × List Row)) (kinds : Kinds) (long : Bool) (path : Text) → kinds ≡ []
+    → value_in (codes "SCRIPT") o ≡ Some (codes "packets", Some path, Some (flag_value long)) → IfOk r (λ i. IsSomeAnd o (λ said. IsSaid said i)) → FailsBy kinds r
+    → IsOrNoMemory (IsPacketsOn long path) r
+packets_or_no_memory r o kinds long path none value is fails =
+    is_or_no_memory (IsPacketsOn long path) r kinds none (IfOk-weaker r _ _ (λ i said. said_packets o long path i value said) is) fails
 
-pub check_or_no_memory : (r : Result Invocation Error) (o : Option (Text × List Row)) (kinds : Kinds) (path : Text) → kinds ≡ []
-    → value_in (codes "TRACE") o ≡ Some (codes "check", Some path) → IfOk r (λ i. IsSomeAnd o (λ said. IsSaid said i)) → FailsBy kinds r
-    → IsOrNoMemory (IsCheckOn path) r
-check_or_no_memory r o kinds path none value is fails =
-    is_or_no_memory (IsCheckOn path) r kinds none (IfOk-weaker r _ _ (λ i said. said_check o path i value said) is) fails
+pub check_or_no_memory : (r : Result Invocation Error) (o : Option (Text × List Row)) (kinds : Kinds) (long : Bool) (path : Text) → kinds ≡ []
+    → value_in (codes "TRACE") o ≡ Some (codes "check", Some path, Some (flag_value long)) → IfOk r (λ i. IsSomeAnd o (λ said. IsSaid said i)) → FailsBy kinds r
+    → IsOrNoMemory (IsCheckOn long path) r
+check_or_no_memory r o kinds long path none value is fails =
+    is_or_no_memory (IsCheckOn long path) r kinds none (IfOk-weaker r _ _ (λ i said. said_check o long path i value said) is) fails
 
 pub udp_or_no_memory : (r : Result Invocation Error) (o : Option (Text × List Row)) (kinds : Kinds) (config script : Text) → kinds ≡ []
     → paths_in o ≡ Some (codes "udp", Some config, Some script) → IfOk r (λ i. IsSomeAnd o (λ said. IsSaid said i)) → FailsBy kinds r

@@ -1,10 +1,11 @@
 -- What clap's commands come to, argument by argument.
-use Rattle.std.proofs.Common.{◌||◌, ◌∙◌, ap, ap₂, true, Bool}
+use Rattle.std.proofs.Common.{◌≡◌, ◌||◌, ◌∙◌, ap, ap₂, codes, refl, true, false, Bool, Option, None, Some}
+use Rattle.std.proofs.lemmas.Bool.{both_ways}
 use Rattle.clap.specs.declared.builder.arg.Arg.{Arg}
 use Rattle.clap.specs.declared.builder.command.Command.{Command}
 use Rattle.clap.specs.declared.builder.command.Command.TheOpen.{Command-F}
-use Rattle.clap.specs.Words.{AddsArg, AddsSubcommand, App, Rule, app_of, with_rule, with_subcommand}
-use Rattle.vsync_words.specs.Grammar.{AddsCommand, IsArg, IsCommand}
+use Rattle.clap.specs.Words.{AddsArg, AddsSubcommand, App, Rule, Text, app_of, with_rule, with_subcommand}
+use Rattle.vsync_words.specs.Grammar.{AddsCommand, IsArg, IsCommand, IsFlag}
 
 -- one more argument
 pub with_one : (old : Command) (a : Arg) (new : Command) (app : App) (rule : Rule) → IsCommand app old → IsArg rule a → AddsArg old a new
@@ -18,9 +19,8 @@ with_command old command new app is adds = adds.shape is.1 ∙ ap (λ (a : App).
 abbrev pub has_globals : Command-F Command → Bool
 has_globals c = c.has_globals
 
-abbrev pub is_global : Arg → Bool
-is_global a = a.global
-
--- the same argument, which is required
-abbrev pub needed : Rule → Rule
-needed r = record r { required = true }
+-- what clap answers for a flag says whether it stands
+pub flag_stands : (value : Option Text) (b : Bool) → (value ≡ None → b ≡ false) → (value ≡ Some (codes "true") → b ≡ true) → (value ≡ Some (codes "false") → b ≡ false)
+    → IsFlag value b
+flag_stands value true gone on off = (λ e. both_ways true (off e) refl, λ e. both_ways true (gone e) refl)
+flag_stands value false gone on off = λ e. both_ways false refl (on e)

@@ -14,6 +14,7 @@ use Rattle.vsync_words.specs.declared.udp_words.UdpWords.{UdpWords}
 use Rattle.vsync_words.specs.declared.udp_words.MemberWords.{MemberWords}
 use Rattle.vsync_words.specs.declared.words.Invocation.{Invocation}
 use Rattle.vsync_words.specs.declared.words.Invocation.TheVariants.{Text as TextOf, Udp, Member}
+use Rattle.vsync_words.specs.declared.words.TextWords.{TextWords}
 use Rattle.vsync_words.specs.declared.words.TextCommand.{TextCommand}
 use Rattle.vsync_words.specs.declared.words.TextCommand.TheVariants.{World, Chat, Packets, Check, Draw, DrawTrace}
 use Rattle.limits.specs.declared.TheConstants.{GREATEST_INCARNATION, GREATEST_NODE}
@@ -44,9 +45,9 @@ IsCommand app c = (app_of c ≡ app) × ((out-Command c).has_globals ≡ false)
 abbrev pub AddsCommand : Command → App → Command → Type 0
 AddsCommand old app new = app_of new ≡ with_subcommand (app_of old) app.top
 
--- a subcommand with one argument, which is required
+-- a subcommand with the flag `--long` and one argument, which is required
 abbrev pub path_app : Text → Text → App
-path_app name argument = with_rule (new_app name) (required_rule argument)
+path_app name argument = with_rule (with_rule (new_app name) (flag_rule (codes "long"))) (required_rule argument)
 
 -- a program that requires a subcommand, with none yet
 abbrev pub program_of_subcommands : Text → App
@@ -72,7 +73,7 @@ member_numbers_app = with_rule (with_rule (with_rule (with_rule (new_app (codes 
 abbrev pub member_app : App
 member_app = with_rule (with_rule member_numbers_app (option_rule (codes "contact"))) (option_rule (codes "send"))
 
--- `vsync world SCRIPT`, `vsync chat SCRIPT`, `vsync packets SCRIPT`, `vsync check TRACE`, `vsync draw [--trace] INPUT`, `vsync udp CONFIG SCRIPT` and `vsync member ..`
+-- `vsync world [--long] SCRIPT`, `vsync chat [--long] SCRIPT`, `vsync packets [--long] SCRIPT`, `vsync check [--long] TRACE`, `vsync draw [--trace] INPUT`, `vsync udp CONFIG SCRIPT` and `vsync member ..`
 abbrev pub program_app : App
 program_app = with_subcommand (with_subcommand (with_subcommand (with_subcommand (with_subcommand (with_subcommand (with_subcommand (program_of_subcommands (codes "vsync"))
     (path_app (codes "world") (codes "SCRIPT")).top)
@@ -102,26 +103,31 @@ pub record AreMemberWords (rows : List Row) (words : MemberWords) : Type 0 where
   pub contact : first_of (codes "contact") rows ≡ option_map (λ s. s.now) words.contact
   pub send : first_of (codes "send") rows ≡ option_map (λ s. s.now) words.send
 
+-- the value of a flag says whether it stands
+abbrev pub IsFlag : Option Text → Bool → Type 0
+IsFlag value true = (value ≢ Some (codes "false")) × (value ≢ None)
+IsFlag value false = value ≢ Some (codes "true")
+
+-- the words of a subcommand with `--long` are the first value of its argument, and whether the flag stands
+pub record AreTextWords (argument : Text) (rows : List Row) (words : TextWords) : Type 0 where
+  pub path : first_of argument rows ≡ Some words.path.now
+  pub long : IsFlag (one_of (codes "long") rows) words.long
+
 -- the words of `draw` in its matches: the path is the first value of its argument, and a trace is drawn exactly where the flag stands
 abbrev pub IsDrawSaid : List Row → TextCommand → Type 0
-IsDrawSaid rows (World path) = ⊥
-IsDrawSaid rows (Chat path) = ⊥
-IsDrawSaid rows (Packets path) = ⊥
-IsDrawSaid rows (Check path) = ⊥
-IsDrawSaid rows (Draw path) = (first_of (codes "INPUT") rows ≡ Some path.now) × (one_of (codes "trace") rows ≢ Some (codes "true"))
-IsDrawSaid rows (DrawTrace path) = (first_of (codes "INPUT") rows ≡ Some path.now) × (one_of (codes "trace") rows ≢ Some (codes "false")) × (one_of (codes "trace") rows ≢ None)
+IsDrawSaid rows (World words) = ⊥
+IsDrawSaid rows (Chat words) = ⊥
+IsDrawSaid rows (Packets words) = ⊥
+IsDrawSaid rows (Check words) = ⊥
+IsDrawSaid rows (Draw path) = (first_of (codes "INPUT") rows ≡ Some path.now) × IsFlag (one_of (codes "trace") rows) false
+IsDrawSaid rows (DrawTrace path) = (first_of (codes "INPUT") rows ≡ Some path.now) × IsFlag (one_of (codes "trace") rows) true
 
--- a subcommand over a text that was said, with its matches, is this command: it has that name, and the path is the first value
--- of its argument
+-- a subcommand over a text that was said, with its matches, is this command: it has that name, and these words
 abbrev pub IsTextSaid : Text × List Row → TextCommand → Type 0
-IsTextSaid said (World path) =
-    (said.0 ≡ codes "world") × (first_of (codes "SCRIPT") said.1 ≡ Some path.now)
-IsTextSaid said (Chat path) =
-    (said.0 ≡ codes "chat") × (first_of (codes "SCRIPT") said.1 ≡ Some path.now)
-IsTextSaid said (Packets path) =
-    (said.0 ≡ codes "packets") × (first_of (codes "SCRIPT") said.1 ≡ Some path.now)
-IsTextSaid said (Check path) =
-    (said.0 ≡ codes "check") × (first_of (codes "TRACE") said.1 ≡ Some path.now)
+IsTextSaid said (World words) = (said.0 ≡ codes "world") × AreTextWords (codes "SCRIPT") said.1 words
+IsTextSaid said (Chat words) = (said.0 ≡ codes "chat") × AreTextWords (codes "SCRIPT") said.1 words
+IsTextSaid said (Packets words) = (said.0 ≡ codes "packets") × AreTextWords (codes "SCRIPT") said.1 words
+IsTextSaid said (Check words) = (said.0 ≡ codes "check") × AreTextWords (codes "TRACE") said.1 words
 IsTextSaid said (Draw path) = (said.0 ≡ codes "draw") × IsDrawSaid said.1 (Draw path)
 IsTextSaid said (DrawTrace path) = (said.0 ≡ codes "draw") × IsDrawSaid said.1 (DrawTrace path)
 
@@ -135,3 +141,8 @@ IsSaid said (Member words) = (said.0 ≡ codes "member") × AreMemberWords said.
 abbrev pub is_path : Text → Bool
 is_path [] = true
 is_path (first ∷ rest) = not (first == 45) || is_empty rest
+
+-- the words of a path, behind `--long` or alone
+abbrev pub with_long : Bool → Text → List Text
+with_long true path = codes "--long" ∷ path ∷ []
+with_long false path = path ∷ []

@@ -1,63 +1,68 @@
 -- What a command names.
-use Rattle.std.specs.Prelude.{◌≡◌, ℕ, List, Result, MatchResult, codes}
+use Rattle.std.specs.Prelude.{◌≡◌, ℕ, Bool, false, List, Result, MatchResult, codes}
 use Rattle.clap.specs.Words.{kind_of}
 use Rattle.clap.specs.declared.error.Error.{Error}
 use Rattle.clap.specs.declared.error.kind.ErrorKind.TheVariants.{OutOfMemory}
 use Rattle.vsync_words.specs.declared.words.Invocation.{Invocation}
 use Rattle.vsync_words.specs.declared.words.Invocation.TheVariants.{Text, Udp, Member}
+use Rattle.vsync_words.specs.declared.words.TextWords.{TextWords}
 use Rattle.vsync_words.specs.declared.words.TextCommand.{TextCommand}
 use Rattle.vsync_words.specs.declared.words.TextCommand.TheVariants.{World, Chat, Packets, Check, Draw, DrawTrace}
 
--- the script of this path is run
-abbrev pub IsWorldOn : List ℕ → Invocation → Type 0
-IsWorldOn path (Text (World input)) = input.now ≡ path
-IsWorldOn path (Text (Chat input)) = ⊥
-IsWorldOn path (Text (Packets input)) = ⊥
-IsWorldOn path (Text (Check input)) = ⊥
-IsWorldOn path (Text (Draw input)) = ⊥
-IsWorldOn path (Text (DrawTrace input)) = ⊥
-IsWorldOn path (Udp words) = ⊥
-IsWorldOn path (Member words) = ⊥
+-- the words name this path, and the long chat or the short one
+abbrev pub AreOn : Bool → List ℕ → TextWords → Type 0
+AreOn long path words = (words.path.now ≡ path) × (words.long ≡ long)
+
+-- the script of this path is run; its members keep the long chat, or the short one
+abbrev pub IsWorldOn : Bool → List ℕ → Invocation → Type 0
+IsWorldOn long path (Text (World words)) = AreOn long path words
+IsWorldOn long path (Text (Chat words)) = ⊥
+IsWorldOn long path (Text (Packets words)) = ⊥
+IsWorldOn long path (Text (Check words)) = ⊥
+IsWorldOn long path (Text (Draw input)) = ⊥
+IsWorldOn long path (Text (DrawTrace input)) = ⊥
+IsWorldOn long path (Udp words) = ⊥
+IsWorldOn long path (Member words) = ⊥
 
 -- the script of this path is run, and the chats are printed
-abbrev pub IsChatOn : List ℕ → Invocation → Type 0
-IsChatOn path (Text (World input)) = ⊥
-IsChatOn path (Text (Chat input)) = input.now ≡ path
-IsChatOn path (Text (Packets input)) = ⊥
-IsChatOn path (Text (Check input)) = ⊥
-IsChatOn path (Text (Draw input)) = ⊥
-IsChatOn path (Text (DrawTrace input)) = ⊥
-IsChatOn path (Udp words) = ⊥
-IsChatOn path (Member words) = ⊥
+abbrev pub IsChatOn : Bool → List ℕ → Invocation → Type 0
+IsChatOn long path (Text (World words)) = ⊥
+IsChatOn long path (Text (Chat words)) = AreOn long path words
+IsChatOn long path (Text (Packets words)) = ⊥
+IsChatOn long path (Text (Check words)) = ⊥
+IsChatOn long path (Text (Draw input)) = ⊥
+IsChatOn long path (Text (DrawTrace input)) = ⊥
+IsChatOn long path (Udp words) = ⊥
+IsChatOn long path (Member words) = ⊥
 
 -- the script of this path is run, and the packets are printed
-abbrev pub IsPacketsOn : List ℕ → Invocation → Type 0
-IsPacketsOn path (Text (World input)) = ⊥
-IsPacketsOn path (Text (Chat input)) = ⊥
-IsPacketsOn path (Text (Packets input)) = input.now ≡ path
-IsPacketsOn path (Text (Check input)) = ⊥
-IsPacketsOn path (Text (Draw input)) = ⊥
-IsPacketsOn path (Text (DrawTrace input)) = ⊥
-IsPacketsOn path (Udp words) = ⊥
-IsPacketsOn path (Member words) = ⊥
+abbrev pub IsPacketsOn : Bool → List ℕ → Invocation → Type 0
+IsPacketsOn long path (Text (World words)) = ⊥
+IsPacketsOn long path (Text (Chat words)) = ⊥
+IsPacketsOn long path (Text (Packets words)) = AreOn long path words
+IsPacketsOn long path (Text (Check words)) = ⊥
+IsPacketsOn long path (Text (Draw input)) = ⊥
+IsPacketsOn long path (Text (DrawTrace input)) = ⊥
+IsPacketsOn long path (Udp words) = ⊥
+IsPacketsOn long path (Member words) = ⊥
 
 -- the trace of this path is checked
-abbrev pub IsCheckOn : List ℕ → Invocation → Type 0
-IsCheckOn path (Text (World input)) = ⊥
-IsCheckOn path (Text (Chat input)) = ⊥
-IsCheckOn path (Text (Packets input)) = ⊥
-IsCheckOn path (Text (Check input)) = input.now ≡ path
-IsCheckOn path (Text (Draw input)) = ⊥
-IsCheckOn path (Text (DrawTrace input)) = ⊥
-IsCheckOn path (Udp words) = ⊥
-IsCheckOn path (Member words) = ⊥
+abbrev pub IsCheckOn : Bool → List ℕ → Invocation → Type 0
+IsCheckOn long path (Text (World words)) = ⊥
+IsCheckOn long path (Text (Chat words)) = ⊥
+IsCheckOn long path (Text (Packets words)) = ⊥
+IsCheckOn long path (Text (Check words)) = AreOn long path words
+IsCheckOn long path (Text (Draw input)) = ⊥
+IsCheckOn long path (Text (DrawTrace input)) = ⊥
+IsCheckOn long path (Udp words) = ⊥
+IsCheckOn long path (Member words) = ⊥
 
 -- the script of this path is run, and a picture of it is drawn
 abbrev pub IsDrawOn : List ℕ → Invocation → Type 0
-IsDrawOn path (Text (World input)) = ⊥
-IsDrawOn path (Text (Chat input)) = ⊥
-IsDrawOn path (Text (Packets input)) = ⊥
-IsDrawOn path (Text (Check input)) = ⊥
+IsDrawOn path (Text (World words)) = ⊥
+IsDrawOn path (Text (Chat words)) = ⊥
+IsDrawOn path (Text (Packets words)) = ⊥
+IsDrawOn path (Text (Check words)) = ⊥
 IsDrawOn path (Text (Draw input)) = input.now ≡ path
 IsDrawOn path (Text (DrawTrace input)) = ⊥
 IsDrawOn path (Udp words) = ⊥
@@ -65,10 +70,10 @@ IsDrawOn path (Member words) = ⊥
 
 -- a picture of the trace of this path is drawn
 abbrev pub IsDrawTraceOn : List ℕ → Invocation → Type 0
-IsDrawTraceOn path (Text (World input)) = ⊥
-IsDrawTraceOn path (Text (Chat input)) = ⊥
-IsDrawTraceOn path (Text (Packets input)) = ⊥
-IsDrawTraceOn path (Text (Check input)) = ⊥
+IsDrawTraceOn path (Text (World words)) = ⊥
+IsDrawTraceOn path (Text (Chat words)) = ⊥
+IsDrawTraceOn path (Text (Packets words)) = ⊥
+IsDrawTraceOn path (Text (Check words)) = ⊥
 IsDrawTraceOn path (Text (Draw input)) = ⊥
 IsDrawTraceOn path (Text (DrawTrace input)) = input.now ≡ path
 IsDrawTraceOn path (Udp words) = ⊥
@@ -82,16 +87,25 @@ IsUdpOn config script (Member words) = ⊥
 
 -- a script from the standard input is run
 abbrev pub RunsStandardInput : Invocation → Type 0
-RunsStandardInput = IsWorldOn (codes "-")
+RunsStandardInput = IsWorldOn false (codes "-")
 
 -- the path of a command's input
 abbrev pub input_of : TextCommand → List ℕ
-input_of (World path) = path.now
-input_of (Chat path) = path.now
-input_of (Packets path) = path.now
-input_of (Check path) = path.now
+input_of (World words) = words.path.now
+input_of (Chat words) = words.path.now
+input_of (Packets words) = words.path.now
+input_of (Check words) = words.path.now
 input_of (Draw path) = path.now
 input_of (DrawTrace path) = path.now
+
+-- whether a command's members keep the long chat
+abbrev pub is_long : TextCommand → Bool
+is_long (World words) = words.long
+is_long (Chat words) = words.long
+is_long (Packets words) = words.long
+is_long (Check words) = words.long
+is_long (Draw path) = false
+is_long (DrawTrace path) = false
 
 -- this command, or an error that says that memory was refused
 abbrev pub IsOrNoMemory : (Invocation → Type 0) → Result Invocation Error → Type 0

@@ -6,4 +6,4 @@ mod words;
 
 pub use script_reader::MemberPlan;
 pub use udp_words::{MemberMistake, MemberWords, UdpWords};
-pub use words::{Invocation, TextCommand, command};
+pub use words::{Invocation, TextCommand, TextWords, command};

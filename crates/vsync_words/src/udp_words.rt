@@ -92,8 +92,8 @@ fn payload_in(word: Option<&str>) -> Result<Option<&[u8]>, MemberMistake>
     Ok(Some(word.as_bytes()))
 }
 
-// An argument that is required.
-fn required<'a>(alloc: Global, name: &'a str, help: &'a str) -> Arg<'a>
+/// An argument that is required.
+pub(crate) fn required<'a>(alloc: Global, name: &'a str, help: &'a str) -> Arg<'a>
     ensures { IsArg (required_rule name.now) result }
 {
     Arg::new(alloc, name).required(true).help(help)

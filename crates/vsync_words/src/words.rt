@@ -1,23 +1,34 @@
-ghost use Rattle.std.specs.Prelude.{◌≡◌, ◌≤◌, ◌<◌, ◌∷◌, [], true, length, map, codes, string_bytes, IfOk, IfSome, IsOkAnd, IsSomeAnd};
+ghost use Rattle.std.specs.Prelude.{◌≡◌, ◌≤◌, ◌<◌, ◌∷◌, [], Bool, true, length, map, codes, string_bytes, IfOk, IfSome, IsOkAnd, IsSomeAnd};
 ghost use Rattle.clap.specs.Words.{app_of, fault_of, found_of, rows_of, subcommand_of, subcommand_rows_of, FailsBy, Text};
-ghost use Rattle.vsync_words.specs.Words.{input_of, IsWorldOn, IsChatOn, IsPacketsOn, IsCheckOn, IsDrawOn, IsDrawTraceOn, IsUdpOn, IsOrNoMemory, RunsStandardInput};
-ghost use Rattle.vsync_words.specs.Grammar.{is_path, draw_app, flag_rule, required_rule, program_app, program_of_subcommands, path_app, AddsCommand, IsArg, IsCommand, IsDrawSaid, IsSaid, IsTextSaid};
+ghost use Rattle.vsync_words.specs.Words.{input_of, is_long, IsWorldOn, IsChatOn, IsPacketsOn, IsCheckOn, IsDrawOn, IsDrawTraceOn, IsUdpOn, IsOrNoMemory, RunsStandardInput};
+ghost use Rattle.vsync_words.specs.Grammar.{is_path, with_long, draw_app, flag_rule, required_rule, program_app, program_of_subcommands, path_app, AddsCommand, AreTextWords, IsArg, IsCommand, IsDrawSaid, IsSaid, IsTextSaid};
 
-use crate::udp_words::{MemberWords, UdpWords, member_words, udp_words, with_member, with_udp};
+use crate::udp_words::{
+    MemberWords, UdpWords, member_words, required, udp_words, with_member, with_udp,
+};
 use clap::{Arg, ArgAction, ArgMatches, Error};
 use std::alloc::{AllocError, Global};
+
+/// The words of `world`, `chat`, `packets` and `check`: a path, and perhaps `--long` (docs/FORMATS.md, "The chat's state").
+#[derive(Clone, Copy, Debug)]
+pub struct TextWords<'a> {
+    /// The path of the script or of the trace; `-` is the standard input.
+    pub path: &'a str,
+    /// Whether `--long` stands there: the members keep the long chat.
+    pub long: bool,
+}
 
 /// A command over one text, a script or a trace, which it reads at a path; `-` is the standard input.
 #[derive(Clone, Copy, Debug)]
 pub enum TextCommand<'a> {
-    /// `world SCRIPT`: the script is run.
-    World(&'a str),
-    /// `chat SCRIPT`: the script is run, and the chats of the running members are printed.
-    Chat(&'a str),
-    /// `packets SCRIPT`: the script is run, and the packets that were put out are printed.
-    Packets(&'a str),
-    /// `check TRACE`: the trace is checked.
-    Check(&'a str),
+    /// `world [--long] SCRIPT`: the script is run.
+    World(TextWords<'a>),
+    /// `chat [--long] SCRIPT`: the script is run, and the chats of the running members are printed.
+    Chat(TextWords<'a>),
+    /// `packets [--long] SCRIPT`: the script is run, and the packets that were put out are printed.
+    Packets(TextWords<'a>),
+    /// `check [--long] TRACE`: the trace is checked.
+    Check(TextWords<'a>),
     /// `draw SCRIPT`: the script is run, and a picture of it is drawn.
     Draw(&'a str),
     /// `draw --trace TRACE`: a picture of the trace is drawn.
@@ -30,12 +41,26 @@ impl<'a> TextCommand<'a> {
         ensures { result.now ≡ input_of self.now }
     {
         match self {
-            TextCommand::World(path) => path,
-            TextCommand::Chat(path) => path,
-            TextCommand::Packets(path) => path,
-            TextCommand::Check(path) => path,
+            TextCommand::World(words) => words.path,
+            TextCommand::Chat(words) => words.path,
+            TextCommand::Packets(words) => words.path,
+            TextCommand::Check(words) => words.path,
             TextCommand::Draw(path) => path,
             TextCommand::DrawTrace(path) => path,
+        }
+    }
+
+    /// Whether its members keep the long chat.
+    pub fn is_long(&self) -> bool
+        ensures { result ≡ is_long self.now }
+    {
+        match self {
+            TextCommand::World(words) => words.long,
+            TextCommand::Chat(words) => words.long,
+            TextCommand::Packets(words) => words.long,
+            TextCommand::Check(words) => words.long,
+            TextCommand::Draw(_) => false,
+            TextCommand::DrawTrace(_) => false,
         }
     }
 }
@@ -43,7 +68,7 @@ impl<'a> TextCommand<'a> {
 /// What the words of a command line ask for.
 #[derive(Clone, Copy, Debug)]
 pub enum Invocation<'a> {
-    /// `world SCRIPT`, `chat SCRIPT`, `packets SCRIPT`, `check TRACE`, `draw SCRIPT` or `draw --trace TRACE`.
+    /// `world SCRIPT`, `chat SCRIPT`, `packets SCRIPT` or `check TRACE`, each perhaps with `--long`; `draw SCRIPT` or `draw --trace TRACE`.
     Text(TextCommand<'a>),
     /// `udp CONFIG SCRIPT`: nodes run over datagrams in one process.
     Udp(UdpWords<'a>),
@@ -51,7 +76,17 @@ pub enum Invocation<'a> {
     Member(MemberWords<'a>),
 }
 
-/// A subcommand with one argument, the path of its input.
+// The flag `--long`.
+fn long_flag<'a>(alloc: Global) -> Arg<'a>
+    ensures { IsArg (flag_rule (codes "long")) result }
+{
+    Arg::new(alloc, "long")
+        .long("long")
+        .action(ArgAction::SetTrue)
+        .help("The members keep the last 2000 lines of the chat, not the last 24")
+}
+
+/// A subcommand with the flag `--long` and one argument, the path of its input.
 #[derive(Drop)]
 struct PathCommand<'a> {
     name: &'a str,
@@ -66,13 +101,11 @@ impl<'a> PathCommand<'a> {
     fn grammar(&self, alloc: Global) -> Result<clap::Command<'a>, AllocError>
         ensures { IfOk result (IsCommand (path_app self.now.name.now self.now.argument.now)) }
     {
-        let path = Arg::new(alloc, self.argument)
-            .required(true)
-            .help(self.argument_help);
         clap::Command::new(alloc, self.name)
             .about(self.about)
             .after_help(self.after_help)
-            .arg(path)
+            .arg(long_flag(alloc))?
+            .arg(required(alloc, self.argument, self.argument_help))
     }
 
     /// The program with this subcommand as well.
@@ -88,7 +121,7 @@ impl<'a> PathCommand<'a> {
     }
 }
 
-/// The program with `world SCRIPT` as well.
+/// The program with `world [--long] SCRIPT` as well.
 fn with_world<'a>(
     alloc: Global,
     program: clap::Command<'a>,
@@ -105,7 +138,7 @@ fn with_world<'a>(
     command.add_to(alloc, program)
 }
 
-/// The program with `chat SCRIPT` as well.
+/// The program with `chat [--long] SCRIPT` as well.
 fn with_chat<'a>(alloc: Global, program: clap::Command<'a>) -> Result<clap::Command<'a>, AllocError>
     ensures { IfOk result (AddsCommand program.entry (path_app (codes "chat") (codes "SCRIPT"))) }
 {
@@ -119,7 +152,7 @@ fn with_chat<'a>(alloc: Global, program: clap::Command<'a>) -> Result<clap::Comm
     command.add_to(alloc, program)
 }
 
-/// The program with `packets SCRIPT` as well.
+/// The program with `packets [--long] SCRIPT` as well.
 fn with_packets<'a>(
     alloc: Global,
     program: clap::Command<'a>,
@@ -136,7 +169,7 @@ fn with_packets<'a>(
     command.add_to(alloc, program)
 }
 
-/// The program with `check TRACE` as well.
+/// The program with `check [--long] TRACE` as well.
 fn with_check<'a>(
     alloc: Global,
     program: clap::Command<'a>,
@@ -223,6 +256,15 @@ fn grammar<'a>(alloc: Global) -> Result<clap::Command<'a>, AllocError>
     with_member(alloc, program)
 }
 
+// The words of a subcommand with `--long` and this argument.
+fn text_words<'a>(matches: &ArgMatches<'a>, argument: &str) -> Option<TextWords<'a>>
+    ensures { IfSome result (AreTextWords argument.now (rows_of (found_of matches.now))) }
+{
+    let path = matches.get_str(argument)?;
+    let long = matches.get_flag("long");
+    Some(TextWords { path, long })
+}
+
 // What the words of `draw` name.
 fn draw_words<'a>(matches: &ArgMatches<'a>) -> Option<TextCommand<'a>>
     ensures { IfSome result (IsDrawSaid (rows_of (found_of matches.now))) }
@@ -240,16 +282,16 @@ fn text_command<'a>(name: &str, matches: &ArgMatches<'a>) -> Option<TextCommand<
     ensures { IfSome result (IsTextSaid (name.now, rows_of (found_of matches.now))) }
 {
     if name == "world" {
-        return Some(TextCommand::World(matches.get_str("SCRIPT")?));
+        return Some(TextCommand::World(text_words(matches, "SCRIPT")?));
     }
     if name == "chat" {
-        return Some(TextCommand::Chat(matches.get_str("SCRIPT")?));
+        return Some(TextCommand::Chat(text_words(matches, "SCRIPT")?));
     }
     if name == "packets" {
-        return Some(TextCommand::Packets(matches.get_str("SCRIPT")?));
+        return Some(TextCommand::Packets(text_words(matches, "SCRIPT")?));
     }
     if name == "check" {
-        return Some(TextCommand::Check(matches.get_str("TRACE")?));
+        return Some(TextCommand::Check(text_words(matches, "TRACE")?));
     }
     if name == "draw" {
         return draw_words(matches);
@@ -294,8 +336,8 @@ fn parsed<'a>(alloc: Global, words: &'a [String]) -> Result<Invocation<'a>, Erro
     }
 }
 
-/// The command that the words of a command line ask for, the program's name first: `world SCRIPT`, `chat SCRIPT`,
-/// `packets SCRIPT`, `check TRACE`, `draw [--trace] INPUT`, `udp CONFIG SCRIPT` or `member CONFIG NODE INCARNATION ROUNDS` with its options.
+/// The command that the words of a command line ask for, the program's name first: `world [--long] SCRIPT`, `chat [--long] SCRIPT`,
+/// `packets [--long] SCRIPT`, `check [--long] TRACE`, `draw [--trace] INPUT`, `udp CONFIG SCRIPT` or `member CONFIG NODE INCARNATION ROUNDS` with its options.
 /// No words after the name are `world -`. A path that begins with `-` and is more than that stands behind `--`.
 ///
 /// Words that are no command give clap's error, whose text says what is wrong (`error.kind()` says which kind of
@@ -307,18 +349,18 @@ pub fn command<'a>(alloc: Global, words: &'a [String]) -> Result<Invocation<'a>,
         IsSomeAnd (subcommand_of program_app (map string_bytes words.now)) (λ said. IsSaid said i)) }
     ensures refused { 1 < length words.now
         → FailsBy (fault_of program_app (map string_bytes words.now)) result }
-    ensures world { (name path : Text) → is_path path ≡ true
-        → map string_bytes words.now ≡ name ∷ codes "world" ∷ path ∷ []
-        → IsOrNoMemory (IsWorldOn path) result }
-    ensures chat { (name path : Text) → is_path path ≡ true
-        → map string_bytes words.now ≡ name ∷ codes "chat" ∷ path ∷ []
-        → IsOrNoMemory (IsChatOn path) result }
-    ensures packets { (name path : Text) → is_path path ≡ true
-        → map string_bytes words.now ≡ name ∷ codes "packets" ∷ path ∷ []
-        → IsOrNoMemory (IsPacketsOn path) result }
-    ensures check { (name path : Text) → is_path path ≡ true
-        → map string_bytes words.now ≡ name ∷ codes "check" ∷ path ∷ []
-        → IsOrNoMemory (IsCheckOn path) result }
+    ensures world { (long : Bool) (name path : Text) → is_path path ≡ true
+        → map string_bytes words.now ≡ name ∷ codes "world" ∷ with_long long path
+        → IsOrNoMemory (IsWorldOn long path) result }
+    ensures chat { (long : Bool) (name path : Text) → is_path path ≡ true
+        → map string_bytes words.now ≡ name ∷ codes "chat" ∷ with_long long path
+        → IsOrNoMemory (IsChatOn long path) result }
+    ensures packets { (long : Bool) (name path : Text) → is_path path ≡ true
+        → map string_bytes words.now ≡ name ∷ codes "packets" ∷ with_long long path
+        → IsOrNoMemory (IsPacketsOn long path) result }
+    ensures check { (long : Bool) (name path : Text) → is_path path ≡ true
+        → map string_bytes words.now ≡ name ∷ codes "check" ∷ with_long long path
+        → IsOrNoMemory (IsCheckOn long path) result }
     ensures draw { (name path : Text) → is_path path ≡ true
         → map string_bytes words.now ≡ name ∷ codes "draw" ∷ path ∷ []
         → IsOrNoMemory (IsDrawOn path) result }
@@ -330,7 +372,10 @@ pub fn command<'a>(alloc: Global, words: &'a [String]) -> Result<Invocation<'a>,
         → IsOrNoMemory (IsUdpOn config script) result }
 {
     if words.len() <= 1 {
-        return Ok(Invocation::Text(TextCommand::World("-")));
+        return Ok(Invocation::Text(TextCommand::World(TextWords {
+            path: "-",
+            long: false,
+        })));
     }
     parsed(alloc, words)
 }

@@ -38,6 +38,21 @@ fn asked(alloc: Global, line: &[&str], path: &str) -> Option<&'static str> {
     }
 }
 
+/// Whether the words ask for a command on the path `a` whose members keep the long chat; `None` where they ask for another path, or are no command.
+fn long_asked(alloc: Global, line: &[&str]) -> Option<bool> {
+    let words = words_of(alloc, line).ok()?;
+    match command(alloc, words.as_slice()) {
+        Ok(Invocation::Text(command)) => {
+            if command.path() == "a" {
+                Some(command.is_long())
+            } else {
+                None
+            }
+        }
+        _ => None,
+    }
+}
+
 /// The kind of error that the words give; `None` where they are a command.
 pub(crate) fn refusal(alloc: Global, line: &[&str]) -> Option<ErrorKind> {
     let words = words_of(alloc, line).ok()?;
@@ -108,6 +123,51 @@ fn each_subcommand_takes_the_standard_input(rt: HostRuntime) {
     assert!(rt;
         asked(alloc, &["vsync", "draw", "-"], "-") == Some("draw"),
         "draw"
+    );
+}
+
+#[test]
+fn the_flag_stands_before_the_path_or_behind_it(rt: HostRuntime) {
+    let alloc = rt.alloc();
+    for name in ["world", "chat", "packets", "check"] {
+        assert!(rt;
+            long_asked(alloc, &["vsync", name, "--long", "a"]) == Some(true),
+            "{name} --long a"
+        );
+        assert!(rt;
+            long_asked(alloc, &["vsync", name, "a", "--long"]) == Some(true),
+            "{name} a --long"
+        );
+        assert!(rt;
+            long_asked(alloc, &["vsync", name, "a"]) == Some(false),
+            "{name} a"
+        );
+    }
+}
+
+#[test]
+fn behind_two_dashes_the_flag_is_a_path(rt: HostRuntime) {
+    assert!(rt; asked(rt.alloc(), &["vsync", "world", "--", "--long"], "--long") == Some("world"));
+}
+
+#[test]
+fn draw_has_no_long_chat(rt: HostRuntime) {
+    let alloc = rt.alloc();
+    assert!(rt;
+        long_asked(alloc, &["vsync", "draw", "a"]) == Some(false),
+        "draw a"
+    );
+    assert!(rt;
+        refusal(alloc, &["vsync", "draw", "--long", "a"]) == Some(ErrorKind::UnknownArgument),
+        "draw --long a"
+    );
+}
+
+#[test]
+fn a_flag_alone_is_refused(rt: HostRuntime) {
+    assert!(rt;
+        refusal(rt.alloc(), &["vsync", "world", "--long"])
+            == Some(ErrorKind::MissingRequiredArgument)
     );
 }
 

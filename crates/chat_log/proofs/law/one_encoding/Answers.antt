@@ -4,7 +4,12 @@ use Rattle.chat_log.specs.ChatLaws.{decoded_is_chat, decoded_is_encoded, encoded
 use Rattle.chat_log.proofs.law.one_encoding.Goals as goal
 
 pub returns-clause-exact : goal.returns-clause-exact
-returns-clause-exact c = λ bytes s. (λ e. (decoded_is_chat bytes s e, decoded_is_encoded bytes s e), λ p. ap chat_decode (sym p.1) ∙ encoded_is_decoded s p.0)
+returns-clause-exact g c =
+    let size = g.L.ChatSize in
+    λ bytes s. (
+      λ e. (decoded_is_chat size.LINES size.WIDTH size.fits bytes s e, decoded_is_encoded size.LINES size.WIDTH size.fits bytes s e),
+      λ p. ap (chat_decode size.LINES size.WIDTH) (sym p.1) ∙ encoded_is_decoded size.LINES size.WIDTH size.fits s p.0,
+    )
 
 pub returns-clause-short : goal.returns-clause-short
-returns-clause-short c = encoded_few
+returns-clause-short g c = encoded_few g.L.ChatSize.LINES g.L.ChatSize.WIDTH

@@ -5,37 +5,37 @@ use Rattle.vsync_words.proofs.Computing.{chat_or_no_memory, draw_or_no_memory, t
 use Rattle.vsync_words.proofs.words.command.Goals as goal
 
 pub returns-clause-world : goal.returns-clause-world
-returns-clause-world c = λ name path is words.
-    let reads = reads_world name path is in
+returns-clause-world c = λ long name path is words.
+    let reads = reads_world long name path is in
     world_or_no_memory c.parsed.result (subcommand_of program_app (map string_bytes c.args.words.now))
-    (fault_of program_app (map string_bytes c.args.words.now)) path
+    (fault_of program_app (map string_bytes c.args.words.now)) long path
     (ap (fault_of program_app) words ∙ reads.0)
     (ap (λ (w : List Text). value_in (codes "SCRIPT") (subcommand_of program_app w)) words ∙ reads.1)
     c.parsed.ensures.said c.parsed.ensures.refused
 
 pub returns-clause-chat : goal.returns-clause-chat
-returns-clause-chat c = λ name path is words.
-    let reads = reads_chat name path is in
+returns-clause-chat c = λ long name path is words.
+    let reads = reads_chat long name path is in
     chat_or_no_memory c.parsed.result (subcommand_of program_app (map string_bytes c.args.words.now))
-    (fault_of program_app (map string_bytes c.args.words.now)) path
+    (fault_of program_app (map string_bytes c.args.words.now)) long path
     (ap (fault_of program_app) words ∙ reads.0)
     (ap (λ (w : List Text). value_in (codes "SCRIPT") (subcommand_of program_app w)) words ∙ reads.1)
     c.parsed.ensures.said c.parsed.ensures.refused
 
 pub returns-clause-packets : goal.returns-clause-packets
-returns-clause-packets c = λ name path is words.
-    let reads = reads_packets name path is in
+returns-clause-packets c = λ long name path is words.
+    let reads = reads_packets long name path is in
     packets_or_no_memory c.parsed.result (subcommand_of program_app (map string_bytes c.args.words.now))
-    (fault_of program_app (map string_bytes c.args.words.now)) path
+    (fault_of program_app (map string_bytes c.args.words.now)) long path
     (ap (fault_of program_app) words ∙ reads.0)
     (ap (λ (w : List Text). value_in (codes "SCRIPT") (subcommand_of program_app w)) words ∙ reads.1)
     c.parsed.ensures.said c.parsed.ensures.refused
 
 pub returns-clause-check : goal.returns-clause-check
-returns-clause-check c = λ name path is words.
-    let reads = reads_check name path is in
+returns-clause-check c = λ long name path is words.
+    let reads = reads_check long name path is in
     check_or_no_memory c.parsed.result (subcommand_of program_app (map string_bytes c.args.words.now))
-    (fault_of program_app (map string_bytes c.args.words.now)) path
+    (fault_of program_app (map string_bytes c.args.words.now)) long path
     (ap (fault_of program_app) words ∙ reads.0)
     (ap (λ (w : List Text). value_in (codes "TRACE") (subcommand_of program_app w)) words ∙ reads.1)
     c.parsed.ensures.said c.parsed.ensures.refused

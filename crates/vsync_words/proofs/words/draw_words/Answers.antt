@@ -9,8 +9,10 @@ pub returns-then-get_flag : goal.returns-then-get_flag
 returns-then-get_flag c =
     let flag = one_text-rows (found_of c.args.matches.now) (codes "trace") in (
       sym (first_value-rows (found_of c.args.matches.now) (codes "INPUT")) ∙ (sym c.get_str.ensures ∙ ap (option_map (λ s. s.now)) c.in_ok-path.was),
-      λ other. both_ways c.get_flag.result (c.get_flag.ensures.other (flag ∙ other)) c.if-get_flag.true,
-      λ none. both_ways c.get_flag.result (c.get_flag.ensures.none (flag ∙ none)) c.if-get_flag.true,
+      (
+        λ other. both_ways c.get_flag.result (c.get_flag.ensures.other (flag ∙ other)) c.if-get_flag.true,
+        λ none. both_ways c.get_flag.result (c.get_flag.ensures.none (flag ∙ none)) c.if-get_flag.true,
+      ),
     )
 
 -- it does not

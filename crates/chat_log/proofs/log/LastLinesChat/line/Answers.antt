@@ -1,6 +1,6 @@
 use Rattle.std.proofs.Common.{rules, arith}
 use Rattle.std.proofs.lemmas.Grind.{elements}
-use Rattle.chat_log.proofs.log.ChatLogChat.line.Goals as goal
+use Rattle.chat_log.proofs.log.LastLinesChat.line.Goals as goal
 
 pub returns-in_err-line-clause-few : goal.returns-in_err-line-clause-few
 returns-in_err-line-clause-few c = search rules

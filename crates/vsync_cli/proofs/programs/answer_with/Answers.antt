@@ -1,5 +1,5 @@
 use Rattle.std.proofs.Common.{rules}
-use Rattle.vsync_cli.proofs.programs.answer.Goals as goal
+use Rattle.vsync_cli.proofs.programs.answer_with.Goals as goal
 
 pub returns-in-World : goal.returns-in-World
 returns-in-World g c = search rules

@@ -1,5 +1,5 @@
 use Rattle.std.proofs.Common.{rules}
-use Rattle.chat_log.proofs.log.ChatLog.len.Goals as goal
+use Rattle.chat_log.proofs.log.LastLines.len.Goals as goal
 
 pub returns-clause-value : goal.returns-clause-value
 returns-clause-value c = search rules

@@ -1,5 +1,5 @@
 use Rattle.std.proofs.Common.{rules}
-use Rattle.chat_log.proofs.log.ChatLogReceiver.set_state.Goals as goal
+use Rattle.chat_log.proofs.log.LastLinesReceiver.set_state.Goals as goal
 
 pub returns-in-None-clause-ok : goal.returns-in-None-clause-ok
 returns-in-None-clause-ok c = search rules
