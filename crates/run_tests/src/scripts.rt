@@ -131,8 +131,8 @@ fn packets_of(alloc: Global, script: &[u8]) -> (Vec<u8>, Status) {
 fn packets_are_printed_in_order(rt: HostRuntime) {
     let (text, status) = packets_of(rt.alloc(), b"start 2\njoin 2 9.1\ntick 2\n");
     let wanted = b"\
-        1 JOIN 2.1 9.1 5653010105776f726c64000200000001000900000001\n\
-        2 JOIN 2.1 9.1 5653010105776f726c64000200000001000900000001\n"
+        1 JOIN 2.1 9.1 5653020105776f726c64000200000001000900000001\n\
+        2 JOIN 2.1 9.1 5653020105776f726c64000200000001000900000001\n"
         .as_slice();
     assert!(rt; text.as_slice() == wanted, "the lines");
     assert!(rt; status == Status::Done, "the status");

@@ -34,7 +34,7 @@ fn numbered(alloc: Global) -> Result<Vec<u8>, AllocError> {
 
 #[test]
 fn a_packet_is_printed_with_its_kind_and_its_bytes(rt: HostRuntime) {
-    let wanted = b"12 LEAVE 3.1 1.2 5653010305776f726c64000300000001000100000002\n";
+    let wanted = b"12 LEAVE 3.1 1.2 5653020305776f726c64000300000001000100000002\n";
     assert!(rt; is(line_of(rt.alloc(), 12, &LEAVE), wanted));
 }
 
@@ -43,14 +43,14 @@ fn bytes_that_spell_no_packet_have_dashes(rt: HostRuntime) {
     assert!(rt;
         is(
             line_of(rt.alloc(), 1, &LEAVE[..21]),
-            b"1 - - - 5653010305776f726c640003000000010001000000\n"
+            b"1 - - - 5653020305776f726c640003000000010001000000\n"
         )
     );
 }
 
 #[test]
 fn packets_are_numbered_from_1(rt: HostRuntime) {
-    let wanted = b"1 LEAVE 3.1 1.2 5653010305776f726c64000300000001000100000002\n2 - - - 5653\n";
+    let wanted = b"1 LEAVE 3.1 1.2 5653020305776f726c64000300000001000100000002\n2 - - - 5653\n";
     assert!(rt; is(two_lines(rt.alloc()), wanted));
 }
 

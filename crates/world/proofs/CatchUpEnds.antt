@@ -162,7 +162,7 @@ module _ {S : Type 0} (meaning : Meaning S) (laws : KeepBySteps.Laws meaning) wh
     joined : (lc lq : MemberState S) (kc : Coordinator) (kq : Follower) → FactOfReplies.RunsAs meaning w c lc (kinds.Coordinator kc)
         → FactOfReplies.RunsAs meaning w q lq (kinds.Follower kq) → kc.view.id ≡ pair.view → kq.view.id ≡ pair.view → Found w pair
     joined lc lq kc kq rc rq ic iq =
-        let one = FactOfPairs.one-view meaning (system_of w.node_states w.history.pool w.history.trace) keeps.agreed c q (core_at c lc) (core_at q lq) kc.view kq.view
+        let one = FactOfPairs.one-view meaning (system_of w.node_states w.history.pool w.history.trace) keeps.agreed.agreed c q (core_at c lc) (core_at q lq) kc.view kq.view
         (CatchUpLevels.runs-in meaning laws w c lc (kinds.Coordinator kc) rc) (CatchUpLevels.runs-in meaning laws w q lq (kinds.Follower kq) rq)
         (rw rc.view_state refl) (rw rq.view_state refl) (iq ∙ sym ic) in
         record {

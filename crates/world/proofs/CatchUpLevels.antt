@@ -200,7 +200,7 @@ module _ {S : Type 0} (meaning : Meaning S) (laws : KeepBySteps.Laws meaning) wh
 
   pub numbers : (w : WorldModel S) (c q : Address) (lc lq : MemberState S) (kc : Coordinator) (kq : Follower) → Couple w c q lc lq kc kq → Numbers w c q kc kq
   numbers w c q lc lq kc kq x =
-      let p = FactOfPairs.compared meaning (system_of w.node_states w.history.pool w.history.trace) x.keeps.agreed c q (core_at c lc) (core_at q lq) kc.view (record {
+      let p = FactOfPairs.compared meaning (system_of w.node_states w.history.pool w.history.trace) x.keeps.agreed.agreed c q (core_at c lc) (core_at q lq) kc.view (record {
         coordinator = runs-in w c lc (kinds.Coordinator kc) x.first;
         member = runs-in w q lq (kinds.Follower kq) x.other;
         own = x.own;

@@ -40,7 +40,7 @@ module _ {S : Type 0} (meaning : Meaning S) where
     pub joined : is_connected n h ≡ c.connected
     pub fact : MemberFact meaning (record { pool = posts_in h.pool; trace = h.trace }) m.address c
 
-  runs-at : (at : ℕ → NodeState S) (h : History) (n : ℕ) (m : MemberModel S) → KeepByTurn.World meaning at h → at n ≡ Running m → m.address.node ≡ n
+  pub runs-at : (at : ℕ → NodeState S) (h : History) (n : ℕ) (m : MemberModel S) → KeepByTurn.World meaning at h → at n ≡ Running m → m.address.node ≡ n
       → runs at m.address ≡ core_of m
   runs-at at h n m w there node = subst (λ (k : ℕ). core_here m.address (at k) ≡ core_of m) (sym node) (ap (core_here m.address) there ∙ core-running m.address m refl)
 
@@ -55,7 +55,7 @@ module _ {S : Type 0} (meaning : Meaning S) where
           group = k.2.group;
           core = x.1;
           joined = x.2;
-          fact = w.agreed.members m.address x.0 (runs-at at h n m w there k.1 ∙ x.1);
+          fact = w.agreed.agreed.members m.address x.0 (runs-at at h n m w there k.1 ∙ x.1);
         },
       )
 

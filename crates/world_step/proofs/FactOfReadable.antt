@@ -1,8 +1,10 @@
 -- The state that an INSTALL of the pool gives can be read, if it gives one: so no member of a world is ever closed for want of that.
-use Rattle.std.proofs.Common.{◌≡◌, ℕ, Bool, true, false, cond, not, List, Option, Some, None, slice_get, is_some, refl, sym, ap, ◌∙◌, subst}
-use Rattle.std.specs.Option.{option_map, option_map_or, option_and_then}
+use Rattle.std.proofs.Common.{◌≡◌, ℕ, Bool, true, false, cond, not, ◌&&◌, List, Option, Some, None, slice_get, is_some, refl, sym, ap, ◌∙◌, subst}
+use Rattle.std.specs.Option.{option_eq, option_map, option_map_or, option_and_then}
+use Rattle.std.proofs.lemmas.Bool.{and_parts}
 use Rattle.std.proofs.lemmas.Option.{none-some, same_Some, cond_some}
-use Rattle.address.specs.Ids.{Address}
+use Rattle.address.specs.Ids.{Address, same_address, same_view_id}
+use Rattle.address.proofs.SameIds.{same_address-true}
 use Rattle.wire_values.specs.Values.{Report}
 use Rattle.wire_values.specs.Values as wire
 use Rattle.wire_values.specs.declared.packet.Body.{Body}
@@ -14,12 +16,20 @@ use Rattle.acts.specs.Histories.{Posted, History, report_of}
 use Rattle.acts.specs.Cores.{Core}
 use Rattle.acts.specs.Acts.{handed}
 use Rattle.agreement.specs.Steps.{System, came_of}
-use Rattle.agreement.specs.Invariant.{Invariant}
+use Rattle.agreement.specs.Invariant.{Kept}
+use Rattle.agreement.proofs.FactOfGiven.{given-is}
+use Rattle.acts.specs.Given.{IsGiven}
+use Rattle.state_chunks.specs.HeldChunks.{given_in}
+use Rattle.membership.specs.declared.member_state.MemberState.{MemberState}
+use Rattle.membership.specs.MemberStates.{IsMemberState, core_of as core_at}
+use Rattle.membership.specs.Changes.{would_enter}
+use Rattle.membership.proofs.ActsOfChanges.{entry-given}
+use Rattle.step_output.specs.Steps.{who}
 use Rattle.agreement.specs.Packets.{IsInstruction, BodyFact}
 use Rattle.agreement.proofs.KeepBySteps
 use Rattle.member.specs.declared.input.Input.{Input}
 use Rattle.wire_values.specs.Kinds.{install_said as install_in}
-use Rattle.member.specs.Members.{MemberModel, core_of, came_at, is_entry, entry_of as entry_by, is_readable, is_unreadable}
+use Rattle.member.specs.Members.{MemberModel, came_at, is_readable, is_unreadable, is_unreadable_by}
 use Rattle.address.proofs.Plain.{found}
 
 -- what came to a member came from the pool, or nothing came
@@ -31,14 +41,17 @@ pub record Comes {S : Type 0} (pool : List Posted) (c : Core S) (came : Option P
 pub nothing-comes : {S : Type 0} (pool : List Posted) (c : Core S) → Comes pool c None
 nothing-comes pool c = record { which = None; from = refl; none = λ e. refl }
 
--- a packet that came stands in the pool
-came-there : {S : Type 0} (pool : List Posted) (c : Core S) (which : Option ℕ) (m : Posted) → Some m ≡ came_of c pool which → (k : ℕ) × (slice_get pool k ≡ Some m)
+-- a packet that came stands in the pool, and is for the member
+came-there : {S : Type 0} (pool : List Posted) (c : Core S) (which : Option ℕ) (m : Posted) → Some m ≡ came_of c pool which → (k : ℕ) × (slice_get pool k ≡ Some m) × (m.destination ≡ c.me)
 came-there pool c None m e = absurd (none-some m (sym e))
-came-there pool c (Some k) m e = (k, by (slice_get pool k) e)
+came-there pool c (Some k) m e = let y = by (slice_get pool k) e in (k, y.0, y.1)
   where
-    by : (o : Option Posted) → Some m ≡ option_and_then (handed c) o → o ≡ Some m
+    by : (o : Option Posted) → Some m ≡ option_and_then (handed c) o → (o ≡ Some m) × (m.destination ≡ c.me)
     by None e = absurd (none-some m (sym e))
-    by (Some x) e = ap Some (cond_some _ x m (sym e)).1
+    by (Some x) e =
+        let y = cond_some (c.connected && same_address x.destination c.me && not (same_address x.source c.me)) x m (sym e) in
+        let t = and_parts (c.connected && same_address x.destination c.me) (not (same_address x.source c.me)) y.0 in
+        (ap Some y.1, ap (λ (p : Posted). p.destination) (sym y.1) ∙ same_address-true x.destination c.me (and_parts c.connected (same_address x.destination c.me) t.0).1)
 
 -- what a packet that is an INSTALL says is an instruction
 instruction : (h : History) (p q : Address) (b : Body) (i : wire.Install) → BodyFact h p q b → install_in b ≡ Some i → IsInstruction h p q i
@@ -55,6 +68,12 @@ instruction h p q (bodies.Behind proposal counter) i f e = absurd (none-some i e
 instruction h p q (bodies.Report proposal report) i f e = absurd (none-some i e)
 instruction h p q (bodies.Install j) i f e = subst (IsInstruction h p q) (same_Some j i e) f
 instruction h p q (bodies.Merge view) i f e = absurd (none-some i e)
+instruction h p q (bodies.State proposal chunk) i f e = absurd (none-some i e)
+
+-- a member whose core this is
+pub member-there : {S : Type 0} (p : Address) (o : Option (MemberState S)) (c : Core S) → option_map (core_at p) o ≡ Some c → (l : MemberState S) × (o ≡ Some l) × (core_at p l ≡ c)
+member-there p None c e = absurd (none-some c e)
+member-there p (Some l) c e = (l, refl, same_Some (core_at p l) c e)
 
 module _ {S : Type 0} (meaning : Meaning S) (laws : KeepBySteps.Laws meaning) where
   -- a state that a receiver can be in is read back
@@ -63,34 +82,42 @@ module _ {S : Type 0} (meaning : Meaning S) (laws : KeepBySteps.Laws meaning) wh
   read-back false None given are e = ap (is_readable meaning) e
   read-back false (Some s) given are e = ap (is_readable meaning) e ∙ ap is_some (laws.reads_back s (are s refl))
 
-  -- so the state of an instruction can be read
-  instruction-readable : (s : System S) → Invariant meaning s → (p q : Address) (i : wire.Install) → IsInstruction s.history p q i → is_readable meaning i.state ≡ true
-  instruction-readable s inv p q i f =
+  -- so the state that an instruction gives to a member can be read
+  instruction-readable : (s : System S) → Kept meaning s → (p q : Address) (c : Core S) (i : wire.Install) (given : Option (List ℕ)) → s.running q ≡ Some c
+      → IsInstruction s.history p q i → IsGiven c.chunks i.view.id i.state given → is_readable meaning given ≡ true
+  instruction-readable s kept p q c i given here f is =
+      let inv = kept.agreed in
       let e = found (entry_of i.view.id.creator i.view.id s.history.trace) f.led.entered in
       let r = found (report_of q i.view.id s.history.pool) (f.led.answered q i f.one) in
-      read-back _ (entry_state meaning i.view.id s.history.trace) i.state (λ z at. inv.states.are i.view.id z at) (inv.states.given i.view.id q i f.one e.0 r.0 e.1 r.1)
+      let same = option_eq same_view_id r.0.previous e.0.previous in
+      read-back same (entry_state meaning i.view.id s.history.trace) given (λ z at. inv.states.are i.view.id z at)
+      (given-is meaning s.history same i.state c.chunks i.view.id given kept.chunks.pieces (kept.chunks.held q c here) (inv.states.given i.view.id q i f.one e.0 r.0 e.1 r.1) is)
 
-  -- what a member would enter by is an INSTALL that came, and can be read
-  entry-readable : (s : System S) → Invariant meaning s → (c : Core S) (m : Posted) (k : ℕ) → slice_get s.history.pool k ≡ Some m
-      → option_map_or (λ i. not (is_readable meaning i.state)) (entry_by c m) false ≡ false
-  entry-readable s inv c m k at = by (install_in m.body) refl
-    where
-      entered : (b : Bool) (i : wire.Install) → install_in m.body ≡ Some i → option_map_or (λ i. not (is_readable meaning i.state)) (cond b (Some i) None) false ≡ false
-      entered true i e = ap not (instruction-readable s inv m.source m.destination i (instruction s.history m.source m.destination m.body i (inv.packets k m at) e))
-      entered false i e = refl
+  module _ (s : System S) (kept : Kept meaning s) (p : Address) (group : List ℕ) (l : MemberState S) (lives : IsMemberState (who p group) l) (here : s.running p ≡ Some (core_at p l)) where
+    -- what it would enter by is an INSTALL that came, and can be read
+    entry-readable : (m : Posted) (k : ℕ) → slice_get s.history.pool k ≡ Some m → m.destination ≡ p → is_unreadable_by meaning p l m ≡ false
+    entry-readable m k at to = by (install_in m.body) refl
+      where
+        entered : (b : Bool) (i : wire.Install) → would_enter p l m.source i ≡ b → install_in m.body ≡ Some i
+            → option_map_or (λ j. not (is_readable meaning (given_in j.state l.chunks))) (cond b (Some i) None) false ≡ false
+        entered true i enters e =
+            ap not (instruction-readable s kept m.source p (core_at p l) i (given_in i.state l.chunks) here
+            (subst (λ (q : Address). IsInstruction s.history m.source q i) to (instruction s.history m.source m.destination m.body i (kept.agreed.packets k m at) e))
+            (entry-given meaning (who p group) m.source i l lives enters))
+        entered false i enters e = refl
 
-      by : (o : Option wire.Install) → install_in m.body ≡ o → option_map_or (λ i. not (is_readable meaning i.state)) (option_and_then (λ i. cond (is_entry c m.source i) (Some i) None) o) false ≡ false
-      by None e = refl
-      by (Some i) e = entered (is_entry c m.source i) i e
+        by : (o : Option wire.Install) → install_in m.body ≡ o
+            → option_map_or (λ j. not (is_readable meaning (given_in j.state l.chunks))) (option_and_then (λ i. cond (would_enter p l m.source i) (Some i) None) o) false ≡ false
+        by None e = refl
+        by (Some i) e = entered (would_enter p l m.source i) i refl e
 
-  readable-by : (s : System S) → Invariant meaning s → (c : Core S) (o : Option Posted) → Comes s.history.pool c o
-      → option_map_or (λ i. not (is_readable meaning i.state)) (option_and_then (entry_by c) o) false ≡ false
-  readable-by s inv c None x = refl
-  readable-by s inv c (Some m) x = let y = came-there s.history.pool c x.which m x.from in entry-readable s inv c m y.0 y.1
+    readable-by : (o : Option Posted) → Comes s.history.pool (core_at p l) o → option_map_or (is_unreadable_by meaning p l) o false ≡ false
+    readable-by None x = refl
+    readable-by (Some m) x = let y = came-there s.history.pool (core_at p l) x.which m x.from in entry-readable m y.0 y.1 y.2
 
   -- what `handle` calls unreadable never is, whatever comes from the pool
-  pub never-unreadable : (s : System S) (m : MemberModel S) (c : Core S) (input : Input) → Invariant meaning s → core_of m ≡ Some c
-      → Comes s.history.pool c (came_at m input) → is_unreadable meaning m input ≡ false
-  never-unreadable s m c input inv core x =
-      ap (λ (o : Option (Core S)). option_map_or (λ i. not (is_readable meaning i.state)) (option_and_then (λ d. option_and_then (entry_by d) (came_at m input)) o) false) core
-      ∙ readable-by s inv c (came_at m input) x
+  pub never-unreadable : (s : System S) (m : MemberModel S) (l : MemberState S) (input : Input) → Kept meaning s → m.member_state ≡ Some l → IsMemberState (who m.address m.group) l
+      → s.running m.address ≡ Some (core_at m.address l) → Comes s.history.pool (core_at m.address l) (came_at m input) → is_unreadable meaning m input ≡ false
+  never-unreadable s m l input kept is lives here x =
+      ap (λ (o : Option (MemberState S)). option_map_or (λ k. option_map_or (is_unreadable_by meaning m.address k) (came_at m input) false) o false) is
+      ∙ readable-by s kept m.address m.group l lives here (came_at m input) x

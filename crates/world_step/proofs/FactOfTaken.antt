@@ -203,7 +203,12 @@ module _ {S : Type 0} (meaning : Meaning S) where
     is-free free = FactOfMembers.free-is meaning h n m c x input None free
 
     readable : is_unreadable meaning m input ≡ false
-    readable = FactOfReadable.never-unreadable meaning laws (system_of at h.pool h.trace) m c input w.agreed x.core table.comes
+    readable =
+        let k : IsNodeStateOf n (last_of n h.trace) (is_connected n h) h.trace (Running m) = subst (IsNodeStateOf n (last_of n h.trace) (is_connected n h) h.trace) there (w.node_states n) in
+        let l = FactOfReadable.member-there m.address m.member_state c x.core in
+        FactOfReadable.never-unreadable meaning laws (system_of at h.pool h.trace) m l.0 input w.agreed l.1 (k.3 l.0 l.1).member_state
+        (FactOfMembers.runs-at meaning at h n m w there x.node ∙ x.core ∙ ap Some (sym l.2))
+        (subst (λ (d : Core S). FactOfReadable.Comes (posts_in h.pool) d (came_at m input)) (sym l.2) table.comes)
 
     taken : (out : Output) (left : MemberModel S) (a : Answer) (now : NodeState S) (t : List Event) (pool : List (List ℕ)) → new n ≡ now → Handled meaning m input (Ok out) left
         → Takes m.address input out left a (about (Running m) h.trace h.pool) (about now t pool) → Turned new n h e a t pool

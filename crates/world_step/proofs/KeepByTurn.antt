@@ -9,7 +9,7 @@ use Rattle.trace_props.proofs.FactOfObserved.{has_ended-stays}
 use Rattle.acts.specs.Histories.{Posted}
 use Rattle.acts.specs.Cores.{Core}
 use Rattle.agreement.specs.Steps.{System}
-use Rattle.agreement.specs.Invariant.{Invariant}
+use Rattle.agreement.specs.Invariant.{Kept}
 use Rattle.world_model.specs.declared.WorldEvent.{WorldEvent}
 use Rattle.world_model.specs.declared.Answer.{Answer}
 use Rattle.world_model.specs.Histories.{History, last_of, is_connected, connects_after, after}
@@ -31,7 +31,7 @@ node_state-kept n last connected t s (Running m) k = k
 
 module _ {S : Type 0} (meaning : Meaning S) where
   abbrev pub Holding : System S → Type 0
-  Holding s = Invariant meaning s
+  Holding s = Kept meaning s
 
   abbrev pub World : (ℕ → NodeState S) → History → Type 0
   World at h = IsWorld meaning at h

@@ -6,7 +6,7 @@ use Rattle.wire.specs.Packets.{packet_of}
 use Rattle.state_transfer.specs.Meanings.{Meaning}
 use Rattle.trace_props.specs.declared.event.Event.{Event}
 use Rattle.trace_props.specs.Observed.{has_started, has_ended}
-use Rattle.agreement.specs.Invariant.{Invariant}
+use Rattle.agreement.specs.Invariant.{Kept}
 use Rattle.member.specs.Running.{IsAlive}
 use Rattle.member.specs.Members.{MemberModel, core_of}
 use Rattle.step_output.specs.Outputs.{packet_in}
@@ -48,7 +48,7 @@ EachSpelled pool = (k : ℕ) (bytes : List ℕ) → slice_get pool k ≡ Some by
 pub record IsWorld {S : Type 0} (meaning : Meaning S) (at : ℕ → NodeState S) (h : History) : Type 0 where
   pub faithful : IsFaithful h
   pub paired : length h.events ≡ length h.replies
-  pub agreed : Invariant meaning (system_of at h.pool h.trace)
+  pub agreed : Kept meaning (system_of at h.pool h.trace)
   pub spelled : EachSpelled h.pool
   pub starts : StartsInTurn h.trace
   pub node_states : (n : ℕ) → IsNodeStateOf n (last_of n h.trace) (is_connected n h) h.trace (at n)

@@ -170,3 +170,17 @@ returns-in_ok-take_chunk-in-State-clause-ignored g c =
 pub returns-in_err-take_chunk-in-State-clause-ignored : goal.returns-in_err-take_chunk-in-State-clause-ignored
 returns-in_err-take_chunk-in-State-clause-ignored g c =
     λ i. let y = c.in_err-take_chunk-in-State.ensures.ignored (not-true _ (sym (ap (λ (b : Body). ignores c.args.who.now.address c.args.source b c.args.member_state.now) c.in-State.is) ∙ i)) in absurd (let n = y.0 in cc)
+
+pub returns-in_ok-on_flush-in-Flush-clause-ordered : goal.returns-in_ok-on_flush-in-Flush-clause-ordered
+returns-in_ok-on_flush-in-Flush-clause-ordered g c =
+    steady-ordered c.args.who.now.group c.args.who.now.address c.args.member_state.now c.on_flush.new.member_state
+    (steady.flush-steady (who_of c.args.who.now) g.R.Receiver.meaning c.args.source c.in-Flush.proposal (in_step c.args.member_state.now c.args.out.now) (in_step c.on_flush.new.member_state c.on_flush.new.out) c.in_ok-on_flush-in-Flush.ensures.does)
+    c.in_ok-on_flush-in-Flush.ensures.member_state c.requires.ordered
+
+pub returns-in_ok-on_forward-in-Forward-clause-ignored : goal.returns-in_ok-on_forward-in-Forward-clause-ignored
+returns-in_ok-on_forward-in-Forward-clause-ignored g c =
+    λ i. let y = c.in_ok-on_forward-in-Forward.ensures.ignored (not-true _ (sym (ap (λ (b : Body). ignores c.args.who.now.address c.args.source b c.args.member_state.now) c.in-Forward.is) ∙ i)) in (refl, y.1)
+
+pub returns-in_ok-on_nak-in-Nak-clause-ignored : goal.returns-in_ok-on_nak-in-Nak-clause-ignored
+returns-in_ok-on_nak-in-Nak-clause-ignored g c =
+    λ i. let y = c.in_ok-on_nak-in-Nak.ensures.ignored (not-true _ (sym (ap (λ (b : Body). ignores c.args.who.now.address c.args.source b c.args.member_state.now) c.in-Nak.is) ∙ i)) in (refl, y.1)

@@ -12,10 +12,10 @@ returns-clause-faithful g c = subst (λ (w : WorldValue _). IsFaithful w.history
 
 pub returns-clause-ordered : goal.returns-clause-ordered
 returns-clause-ordered g c = subst (λ (w : WorldValue _). EachPlace IsWellOrdered w.history.trace) c.self.view_is (λ k. ((reached-keeps g.R.Receiver.meaning
-    (record { opens = g.met.R.Receiver.opens; applies = g.met.R.Receiver.applies; decodes = g.met.R.Receiver.decodes; reads_back = g.met.R.Receiver.reads_back }) _ c.self.invariant).agreed.trace.synchronous k).ordered)
+    (record { opens = g.met.R.Receiver.opens; applies = g.met.R.Receiver.applies; decodes = g.met.R.Receiver.decodes; reads_back = g.met.R.Receiver.reads_back }) _ c.self.invariant).agreed.agreed.trace.synchronous k).ordered)
 
 pub returns-clause-synchronous : goal.returns-clause-synchronous
 returns-clause-synchronous g c =
     subst (λ (w : WorldValue _). IsVirtuallySynchronous g.R.Receiver.meaning w.history.trace) c.self.view_is
     (reached-keeps g.R.Receiver.meaning
-    (record { opens = g.met.R.Receiver.opens; applies = g.met.R.Receiver.applies; decodes = g.met.R.Receiver.decodes; reads_back = g.met.R.Receiver.reads_back }) _ c.self.invariant).agreed.trace.synchronous
+    (record { opens = g.met.R.Receiver.opens; applies = g.met.R.Receiver.applies; decodes = g.met.R.Receiver.decodes; reads_back = g.met.R.Receiver.reads_back }) _ c.self.invariant).agreed.agreed.trace.synchronous
