@@ -1,4 +1,4 @@
--- The acts that change only what a member keeps: Joins, Queues, Hears, Collects, Holds, Records.
+-- The acts that change only what a member keeps: Joins, Gathers, Queues, TakesAck, Collects, Holds, Records.
 use Rattle.std.proofs.Common.{◌≡◌, ℕ, ◌+◌, ◌<◌, ◌≤◌, Bool, true, false, cond, Option, Some, None, List, [], ◌∷◌, ◌++◌, length, refl, sym, ap, ◌∙◌, subst, arith, is_some, nat_eq, eqb-true}
 use Rattle.std.specs.Prelude.{slice_get, max, nat_lt, MatchBool}
 use Rattle.std.specs.List.{Contains}

@@ -12,7 +12,7 @@ use Rattle.trace_props.specs.Observed.{member_of, is_start}
 use Rattle.address.proofs.SameIds.{same_address-from}
 use Rattle.acts.specs.Histories.{Posted}
 use Rattle.acts.specs.Cores.{Core, is_open}
-use Rattle.acts.specs.Acts.{Act, Creates, Joins, Puts, Sends, Queues, Orders, TakesAck, Collects, Holds, Delivers, Promises, Begins, Records, Finishes, Enters, Leaves, after, events_of, deliveries, delivery, entering, blocking}
+use Rattle.acts.specs.Acts.{Act, Creates, Joins, Puts, Sends, Queues, Orders, TakesAck, Collects, Holds, Delivers, Promises, Begins, Records, Gathers, Finishes, Enters, Leaves, after, events_of, deliveries, delivery, entering, blocking}
 use Rattle.acts.specs.Chains.{Acted, Chain, events_along}
 use Rattle.world_model.specs.Faithful.{is_quiet, are_quiet}
 
@@ -56,8 +56,9 @@ module _ {S : Type 0} (meaning : Meaning S) where
   own-act c (Promises w) = own-blocking c (is_open c.view c.installed) refl
   own-act c (Begins w) = own-blocking c (is_open c.view c.installed) refl
   own-act c (Records f q r) = tt
-  own-act c (Finishes v f cuts) = own-entering c _ _ _ None
-  own-act c (Enters i) = own-entering c _ i.view i.together i.state
+  own-act c (Gathers w chunk chunks) = tt
+  own-act c (Finishes v f cuts given) = own-entering c _ _ _ None
+  own-act c (Enters i given) = own-entering c _ i.view i.together given
   own-act c Leaves = ((refl, refl), tt)
 
   abbrev me_of : Core S → Address
@@ -78,8 +79,9 @@ module _ {S : Type 0} (meaning : Meaning S) where
   me-stays c d (Promises w) e = sym (ap me_of (same_Some _ d e))
   me-stays c d (Begins w) e = sym (ap me_of (same_Some _ d e))
   me-stays c d (Records f q r) e = sym (ap me_of (same_Some _ d e))
-  me-stays c d (Finishes v f cuts) e = sym (ap me_of (same_Some _ d e))
-  me-stays c d (Enters i) e = sym (ap me_of (same_Some _ d e))
+  me-stays c d (Gathers w chunk chunks) e = sym (ap me_of (same_Some _ d e))
+  me-stays c d (Finishes v f cuts given) e = sym (ap me_of (same_Some _ d e))
+  me-stays c d (Enters i given) e = sym (ap me_of (same_Some _ d e))
   me-stays c d Leaves e = absurd (none-some d e)
 
   own-chain : (p : Address) (came : Option Posted) (acts : List Act) (o end : Option (Core S)) → ((d : Core S) → o ≡ Some d → d.me ≡ p) → Chain meaning came o acts end
