@@ -162,7 +162,7 @@ module _ {S : Type 0} (meaning : Meaning S) where
   tick-free w c l t r = rw (core-is w c l t r) refl
 
   tick-readable : (w : WorldModel S) (c : Address) (l : MemberState S) (t : ViewState) (r : RunsAs w c l t) → is_unreadable meaning r.member input.Tick ≡ false
-  tick-readable w c l t r = rw (core-is w c l t r) refl
+  tick-readable w c l t r = rw (r.member_state) refl
 
   ticked-by : (old new : WorldModel S) (c : Address) (l : MemberState S) (k : Coordinator) (r : RunsAs old c l (kinds.Coordinator k)) → OthersStand c.node old.node_states new.node_states
       → FactOfPlayed.Taken meaning input.Tick r.member old.history.trace old.history.pool (new.node_states c.node) new.history.trace new.history.pool → Ticked old new c l k
@@ -238,7 +238,7 @@ module _ {S : Type 0} (meaning : Meaning S) where
     packet-free = rw (core-is w q l t r, read) refl
 
     packet-readable : is_unreadable meaning r.member (input.Datagram b) ≡ false
-    packet-readable = rw (core-is w q l t r, came, f.plain) refl
+    packet-readable = rw (came, r.member_state, f.plain) refl
 
   heard-by : (old new : WorldModel S) (k : ℕ) (q : Address) (l : MemberState S) (t : ViewState) (r : RunsAs old q l t) (m : Posted) (f : IsFor old k q m) (b : Bor (List ℕ)) → b.now ≡ bytes_as m
       → OthersStand q.node old.node_states new.node_states
