@@ -223,6 +223,49 @@ fn those_of_one_view_go_together(rt: HostRuntime) {
     );
 }
 
+#[test]
+fn all_come_from_a_view_or_not_all(rt: HostRuntime) {
+    let alloc = rt.alloc();
+    let mut flush = started(alloc, &[1, 2, 3]).expect(&rt, "a flush");
+    assert!(rt; flush.all_come_from(&view_id(3)), "nobody has reported");
+    assert!(rt;
+        stands(&mut flush, 2, report(3, 0, 0, &[]), Progress::Waiting),
+        "a report of 3@1.1"
+    );
+    assert!(rt; flush.all_come_from(&view_id(3)), "one, of 3@1.1");
+    assert!(rt; !flush.all_come_from(&view_id(4)), "none is of 4@1.1");
+    assert!(rt;
+        stands(&mut flush, 1, report(3, 0, 0, &[]), Progress::Waiting),
+        "another report of 3@1.1"
+    );
+    assert!(rt; flush.all_come_from(&view_id(3)), "two, of 3@1.1");
+    assert!(rt; is_complete(&mut flush, 3), "the last report, of no view");
+    assert!(rt; !flush.all_come_from(&view_id(3)), "one is of no view");
+}
+
+#[test]
+fn members_of_two_views_do_not_all_come_from_one(rt: HostRuntime) {
+    let (one, two) = ([spelled(1, 10)], [spelled(6, 60)]);
+    let flush = of_three_views(rt.alloc(), &one, &two).expect(
+        &rt,
+        "two reports waited and the third completed",
+    );
+    assert!(rt; !flush.all_come_from(&view_id(3)), "one is of 4@1.1");
+    assert!(rt; !flush.all_come_from(&view_id(4)), "one is of 3@1.1");
+    assert!(rt;
+        flush.previous(&first_of(1)) == Some(view_id(3)),
+        "the view of the first"
+    );
+    assert!(rt;
+        flush.previous(&first_of(3)).is_none(),
+        "the third came from none"
+    );
+    assert!(rt;
+        flush.previous(&first_of(4)).is_none(),
+        "a stranger did not report"
+    );
+}
+
 /// Whether a report is recorded, or is refused for want of memory and leaves the flush as it was, so that it is recorded afterwards.
 fn reported_or_unchanged(flush: &mut Flush, node: u16, report: &Report<'_>) -> bool
     requires { 1 ≤ node }

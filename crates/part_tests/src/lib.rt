@@ -19,6 +19,8 @@ mod sequencer_tests;
 #[cfg(test)]
 mod stability_tests;
 #[cfg(test)]
+mod state_chunks_tests;
+#[cfg(test)]
 mod suspicion_tests;
 #[cfg(test)]
 mod trace_props_tests;

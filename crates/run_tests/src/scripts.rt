@@ -8,7 +8,7 @@ use world_model::WorldEvent;
 
 /// The JOIN of 2.1 to 9.1.
 const JOIN: [u8; 22] = [
-    b'V', b'S', 1, 1, 5, b'w', b'o', b'r', b'l', b'd', 0, 2, 0, 0, 0, 1, 0, 9, 0, 0, 0, 1,
+    b'V', b'S', 2, 1, 5, b'w', b'o', b'r', b'l', b'd', 0, 2, 0, 0, 0, 1, 0, 9, 0, 0, 0, 1,
 ];
 
 /// The packet K that a world put out.
@@ -73,7 +73,7 @@ fn a_node_runs_once_it_was_started(rt: HostRuntime) {
 
 /// The MERGE of the first view of 1.1 to 2.1.
 const MERGE: [u8; 43] = [
-    b'V', b'S', 1, 13, 5, b'w', b'o', b'r', b'l', b'd', 0, 1, 0, 0, 0, 1, 0, 2, 0, 0, 0, 1, 0, 0,
+    b'V', b'S', 2, 13, 5, b'w', b'o', b'r', b'l', b'd', 0, 1, 0, 0, 0, 1, 0, 2, 0, 0, 0, 1, 0, 0,
     0, 0, 0, 0, 0, 1, 0, 1, 0, 0, 0, 1, 1, 0, 1, 0, 0, 0, 1,
 ];
 

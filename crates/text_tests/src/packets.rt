@@ -5,7 +5,13 @@ use vsync_text::{append_packet, append_packets, put_decimal};
 
 /// A LEAVE of 3.1 to 1.2.
 const LEAVE: [u8; 22] = [
-    b'V', b'S', 1, 3, 5, b'w', b'o', b'r', b'l', b'd', 0, 3, 0, 0, 0, 1, 0, 1, 0, 0, 0, 2,
+    b'V', b'S', 2, 3, 5, b'w', b'o', b'r', b'l', b'd', 0, 3, 0, 0, 0, 1, 0, 1, 0, 0, 0, 2,
+];
+
+/// A STATE from 1.1 to 2.1, of the proposal 2@1.1: the last of the two chunks of 32,769 bytes, a 7.
+const STATE: [u8; 42] = [
+    b'V', b'S', 2, 14, 5, b'w', b'o', b'r', b'l', b'd', 0, 1, 0, 0, 0, 1, 0, 2, 0, 0, 0, 1, 0, 0,
+    0, 0, 0, 0, 0, 2, 0, 1, 0, 0, 0, 1, 0, 0, 128, 1, 2, 7,
 ];
 
 /// The line of the packet of a number.
@@ -36,6 +42,14 @@ fn numbered(alloc: Global) -> Result<Vec<u8>, AllocError> {
 fn a_packet_is_printed_with_its_kind_and_its_bytes(rt: HostRuntime) {
     let wanted = b"12 LEAVE 3.1 1.2 5653020305776f726c64000300000001000100000002\n";
     assert!(rt; is(line_of(rt.alloc(), 12, &LEAVE), wanted));
+}
+
+#[test]
+fn a_chunk_is_printed_as_a_state(rt: HostRuntime) {
+    let wanted = b"4 STATE 1.1 2.1 \
+        5653020e05776f726c64000100000001000200000001\
+        0000000000000002000100000001000080010207\n";
+    assert!(rt; is(line_of(rt.alloc(), 4, &STATE), wanted));
 }
 
 #[test]

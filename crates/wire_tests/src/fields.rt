@@ -1,12 +1,12 @@
 //! The fields of packets by themselves (docs/WIRE.md): each is read off the front, what is left is left, and what is short or out of range is refused
 //! with its number.
 
-use crate::samples::{FLUSH, INSTALL, JOIN, ORDER, REPORT, second_view, unhex};
+use crate::samples::{FLUSH, INSTALL, JOIN, ORDER, REPORT, STATE, second_view, unhex};
 use limits::GREATEST_NUMBER;
 use std::alloc::Global;
 use wire_values::{
-    Reader, WireError, count_at, entry_at, group_at, install_at, number_at, payload_at, report_at,
-    view_at,
+    Reader, WireError, chunk_at, count_at, entry_at, group_at, install_at, number_at, payload_at,
+    report_at, view_at,
 };
 
 /// How many bytes stand before the body in a packet of the group `world`.
@@ -123,4 +123,18 @@ fn views_reports_and_installs_are_read(rt: HostRuntime) {
         install.base().get() == 6 && install.items().len() == 1,
         "base 6, one message"
     );
+}
+
+#[test]
+fn a_chunk_is_read(rt: HostRuntime) {
+    let mut bytes = behind(rt.alloc(), STATE, BODY + 14);
+    assert!(rt; bytes.push(8).is_ok(), "a byte is put behind it");
+    let mut from = Reader::new(&bytes);
+    let chunk = chunk_at(&mut from).expect(&rt, "a chunk");
+    assert!(rt;
+        chunk.total().get() == 32_769 && chunk.index() == 2,
+        "the last of a state of 32,769 bytes"
+    );
+    assert!(rt; chunk.as_slice() == [7].as_slice(), "its byte");
+    assert!(rt; from.rest() == [8].as_slice(), "one byte is left");
 }

@@ -11,4 +11,6 @@ mod longest;
 #[cfg(test)]
 mod samples;
 #[cfg(test)]
+mod states;
+#[cfg(test)]
 mod vectors;

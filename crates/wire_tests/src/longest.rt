@@ -3,8 +3,8 @@ use address::{Address, Node};
 use std::alloc::Global;
 use wire::{encode, put_entry};
 use wire_values::{
-    Body, Count, Entry, GroupName, Held, Install, Items, Members, Number, Packet, Payload, Report,
-    Roster, State,
+    Body, Chunk, Count, Entry, GivenState, GroupName, Held, Install, Items, Members, Number,
+    Packet, Payload, Report, Roster, State, Total,
 };
 
 /// The bytes of a packet with the longest name, from the greatest address.
@@ -86,25 +86,20 @@ fn install<'a>(members: &[Address], text: &'a [u8], state: &'a [u8]) -> Option<I
     let view = Roster::new(second_view(), members)?;
     let together = Members::from_slice(members)?;
     let items = Items::new(32, text)?;
-    Install::new(
-        view,
-        together,
-        Count::zero(),
-        items,
-        Some(State::new(state)?),
-    )
+    let given = GivenState::Whole(State::new(state)?);
+    Install::new(view, together, Count::zero(), items, given)
 }
 
-/// Whether these entries, with 16 members and a state of the greatest length, make the longest install.
+/// Whether these entries, with 16 members and the longest state that an INSTALL carries, make the longest install.
 fn is_longest_install(alloc: Global, members: &[Address], text: &[u8]) -> bool {
-    match install(members, text, &[9; 16_384]) {
-        Some(install) => has_length(alloc, Body::Install(install), 12, 33_551),
+    match install(members, text, &[9; 4_096]) {
+        Some(install) => has_length(alloc, Body::Install(install), 12, 21_263),
         None => false,
     }
 }
 
 #[test]
-fn the_longest_install_has_33551_bytes(rt: HostRuntime) {
+fn the_longest_install_has_21263_bytes(rt: HostRuntime) {
     let members = sixteen(rt.alloc()).expect(&rt, "the members");
     let text = entries(rt.alloc(), false).expect(&rt, "the entries");
     assert!(rt; is_longest_install(rt.alloc(), &members, &text));
@@ -114,4 +109,23 @@ fn the_longest_install_has_33551_bytes(rt: HostRuntime) {
 fn entries_are_as_many_as_is_said(rt: HostRuntime) {
     let text = entries(rt.alloc(), false).expect(&rt, "the entries");
     assert!(rt; Items::new(31, &text).is_none());
+}
+
+/// Whether a chunk of 32,768 bytes, the last of the longest state, makes the longest STATE.
+fn is_longest_state(alloc: Global, bytes: &[u8]) -> bool {
+    match Total::new(1_048_576).and_then(|total| Chunk::new(total, 32, bytes)) {
+        Some(chunk) => {
+            let proposal = second_view();
+            has_length(alloc, Body::State { proposal, chunk }, 14, 32_836)
+        }
+        None => false,
+    }
+}
+
+#[test]
+fn the_longest_state_has_32836_bytes(rt: HostRuntime) {
+    let bytes = vec![in rt.alloc(); 9u8; 32_768]
+        .ok()
+        .expect(&rt, "the bytes");
+    assert!(rt; is_longest_state(rt.alloc(), &bytes));
 }

@@ -7,7 +7,7 @@ use wire::{decode, encode};
 use wire_values::{Entry, Number, Packet, Payload};
 
 // One packet of each kind in the group `world`, between 1.1 and 2.1, spelled by hand from the tables of
-// docs/WIRE.md. JOIN, ORDER and FLUSH are vectors of the format.
+// docs/WIRE.md. JOIN, ORDER and FLUSH are vectors of the format. STATE is the last of the two chunks of 32,769 bytes.
 pub const JOIN: &[u8] = b"56530201 05 776f726c64 000200000001 000100000001";
 
 pub const REDIRECT: &[u8] = b"56530202 05 776f726c64 000200000001 000100000001 000300000002";
@@ -47,6 +47,9 @@ pub const INSTALL: &[u8] = b"5653020c 05 776f726c64 000100000001 000200000001
 pub const MERGE: &[u8] = b"5653020d 05 776f726c64 000200000001 000100000001
     0000000000000002 000200000001 02 000200000001 000100000001";
 
+pub const STATE: &[u8] = b"5653020e 05 776f726c64 000100000001 000200000001
+    0000000000000002 000100000001 00008001 02 07";
+
 // The two other vectors.
 pub const REPORT_OF_NONE: &[u8] = b"5653020b 05 776f726c64 000200000001 000100000001
     0000000000000002 000100000001 00";
@@ -55,8 +58,14 @@ pub const INSTALL_WITH_STATE: &[u8] = b"5653020c 05 776f726c64 000100000001 0002
     0000000000000002 000100000001 02 000100000001 000200000001 01 000200000001
     0000000000000000 00 01 00000001 00";
 
-pub const EACH: [&[u8]; 13] = [
+// An INSTALL of a state of 1,048,576 bytes, which goes in chunks.
+pub const INSTALL_IN_CHUNKS: &[u8] = b"5653020c 05 776f726c64 000100000001 000200000001
+    0000000000000002 000100000001 02 000100000001 000200000001 01 000200000001
+    0000000000000000 00 02 00100000";
+
+pub const EACH: [&[u8]; 14] = [
     JOIN, REDIRECT, LEAVE, FORWARD, ORDER, NAK, ACK, STATUS, FLUSH, BEHIND, REPORT, INSTALL, MERGE,
+    STATE,
 ];
 
 /// The bytes that a text has in hexadecimal; what is no digit only separates.

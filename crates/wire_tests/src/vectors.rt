@@ -1,12 +1,13 @@
 use crate::samples::{
-    EACH, FLUSH, INSTALL_WITH_STATE, JOIN, ORDER, REPORT, REPORT_OF_NONE, address, entry, is_exact,
-    is_spelled, number, second_view, unhex,
+    EACH, FLUSH, INSTALL_IN_CHUNKS, INSTALL_WITH_STATE, JOIN, ORDER, REPORT, REPORT_OF_NONE, STATE,
+    address, entry, is_exact, is_spelled, number, second_view, unhex,
 };
 use address::Address;
 use std::alloc::Global;
 use wire::decode;
 use wire_values::{
-    Body, Count, GroupName, Held, Install, Items, Members, Packet, Report, Roster, State,
+    Body, Chunk, Count, GivenState, GroupName, Held, Install, Items, Members, Packet, Report,
+    Roster, State, Total,
 };
 
 /// Whether a packet of the group `world` is written as a text says in hexadecimal.
@@ -47,17 +48,29 @@ fn of_two() -> Option<Roster> {
     Roster::new(second_view(), &[address(1, 1), address(2, 1)])
 }
 
-/// The install of that view at 2.1, alone with itself, with a state of one zero.
-fn install() -> Option<Install<'static>> {
+/// The install of that view at 2.1, alone with itself, with a state.
+fn install(given: GivenState<'static>) -> Option<Body<'static>> {
     let together = Members::from_slice(&[address(2, 1)])?;
-    let state = State::new(b"\x00")?;
-    Install::new(
-        of_two()?,
-        together,
-        Count::zero(),
-        Items::none(),
-        Some(state),
-    )
+    let install = Install::new(of_two()?, together, Count::zero(), Items::none(), given)?;
+    Some(Body::Install(install))
+}
+
+/// That install with a state of one zero.
+fn install_of_zero() -> Option<Body<'static>> {
+    install(GivenState::Whole(State::new(b"\x00")?))
+}
+
+/// That install with a state of 1,048,576 bytes in chunks.
+fn install_in_chunks() -> Option<Body<'static>> {
+    install(GivenState::Chunked(Total::new(1_048_576)?))
+}
+
+/// The second chunk of a state of 32,769 bytes: a seven.
+fn state() -> Option<Body<'static>> {
+    Some(Body::State {
+        proposal: second_view(),
+        chunk: Chunk::new(Total::new(32_769)?, 2, b"\x07")?,
+    })
 }
 
 fn report_of_none() -> Body<'static> {
@@ -99,13 +112,21 @@ fn a_flush_is_written(rt: HostRuntime) {
 
 #[test]
 fn an_install_with_a_state_is_written(rt: HostRuntime) {
-    match install() {
-        Some(install) => {
-            let body = Body::Install(install);
-            assert!(rt; is_written_down(rt.alloc(), body, INSTALL_WITH_STATE));
-        }
-        None => assert!(rt; false, "the install is made of its parts"),
-    }
+    let body = install_of_zero().expect(&rt, "the install");
+    assert!(rt; is_written_down(rt.alloc(), body, INSTALL_WITH_STATE));
+}
+
+// Two that are no vectors of the format.
+#[test]
+fn an_install_in_chunks_is_written(rt: HostRuntime) {
+    let body = install_in_chunks().expect(&rt, "the install");
+    assert!(rt; is_written_down(rt.alloc(), body, INSTALL_IN_CHUNKS));
+}
+
+#[test]
+fn a_chunk_is_written(rt: HostRuntime) {
+    let body = state().expect(&rt, "the chunk");
+    assert!(rt; is_written_down(rt.alloc(), body, STATE));
 }
 
 /// Whether a text is a packet of a kind and of a length, and is written back.
@@ -131,6 +152,11 @@ fn vectors_are_read(rt: HostRuntime) {
         "the INSTALL with a state"
     );
     assert!(rt; is_read(alloc, ORDER, 5, 61), "the ORDER");
+    assert!(rt;
+        is_read(alloc, INSTALL_IN_CHUNKS, 12, 70),
+        "the INSTALL in chunks"
+    );
+    assert!(rt; is_read(alloc, STATE, 14, 42), "the STATE");
 }
 
 /// Whether a text is a packet of a kind, and is written back.
