@@ -1,4 +1,4 @@
-//! Cases by themselves: numbers at their greatest, the greatest proposal, and packets that are ignored.
+//! Cases by themselves: numbers at their greatest, the greatest proposal, packets that are ignored, and (in `chunks`) a state in chunks.
 
 use crate::hexadecimal::unhex;
 use crate::next::{next_of, number, put_waiting, send};
@@ -58,6 +58,13 @@ const FORWARD: &[u8] = b"56530204 05 776f726c64 000200000001 000100000001
 const ORDER_TO_FIRST: &[u8] = b"56530205 05 776f726c64 000200000001 000100000001
     0000000000000002 000100000001 0000000000000001 000200000001 0000000000000001 0001 61";
 
+// The last chunk of a state of 32,769 bytes: in another group, and of 3@2.1, which the coordinator has not promised.
+const STATE_OF_OTHERS: &[u8] = b"5653020e 05 6f74686572 000200000001 000100000001
+    0000000000000003 000200000001 00008001 02 07";
+
+const STATE_TO_FIRST: &[u8] = b"5653020e 05 776f726c64 000200000001 000100000001
+    0000000000000003 000200000001 00008001 02 07";
+
 // ACK of one message where none was ordered.
 const ACK_ABOVE: &[u8] = b"56530207 05 776f726c64 000200000001 000100000001
     0000000000000002 000100000001 0000000000000001";
@@ -94,6 +101,11 @@ const FOR_NOBODY: &[(&str, &[u8])] = &[
     ("FORWARD from itself", FORWARD_OF_ITSELF),
     ("ORDER to the coordinator, from node", ORDER_TO_FIRST),
     ("ACK above the highest ordered, from node", ACK_ABOVE),
+    ("STATE in another group", STATE_OF_OTHERS),
+    (
+        "STATE of a view that is not promised, from node",
+        STATE_TO_FIRST,
+    ),
 ];
 
 /// The number with which bytes are refused; 0 where they are a packet.
@@ -125,8 +137,17 @@ impl Cases {
         self.text.as_slice()
     }
 
+    pub(crate) fn alloc(&self) -> Global {
+        self.alloc
+    }
+
+    // The line over cases.
+    pub(crate) fn head(&mut self, line: &[u8]) -> Result<(), AllocError> {
+        self.text.extend_from_slice(line)
+    }
+
     // A line of what was asked and a word.
-    fn put(&mut self, asked: &str, answer: &str) -> Result<(), AllocError> {
+    pub(crate) fn put(&mut self, asked: &str, answer: &str) -> Result<(), AllocError> {
         self.text.extend_from_slice(asked.as_bytes())?;
         self.text.extend_from_slice(b": ")?;
         self.text.extend_from_slice(answer.as_bytes())?;
@@ -134,7 +155,7 @@ impl Cases {
     }
 
     // A line of what was asked and a number.
-    fn put_number(&mut self, asked: &str, answer: u64) -> Result<(), AllocError> {
+    pub(crate) fn put_number(&mut self, asked: &str, answer: u64) -> Result<(), AllocError> {
         self.text.extend_from_slice(asked.as_bytes())?;
         self.text.extend_from_slice(b": ")?;
         put_decimal(&mut self.text, answer)?;
@@ -152,7 +173,7 @@ impl Cases {
 
     // Counters at their greatest.
     fn counters(&mut self) -> Result<(), AllocError> {
-        self.text.extend_from_slice(b"== counters\n")?;
+        self.head(b"== counters\n")?;
         self.read_all(COUNTERS)
     }
 
@@ -168,9 +189,24 @@ impl Cases {
     }
 
     // What a channel answers to a packet in hexadecimal: whose it was, and what came of it.
-    fn hand(&mut self, channel: &mut Chat, asked: &str, digits: &[u8]) -> Result<(), AllocError> {
+    pub(crate) fn hand(
+        &mut self,
+        channel: &mut Chat,
+        asked: &str,
+        digits: &[u8],
+    ) -> Result<(), AllocError> {
         let bytes = unhex(self.alloc, digits)?;
-        match channel.incoming(bytes.as_slice()) {
+        self.hand_bytes(channel, asked, bytes.as_slice())
+    }
+
+    // The same of a packet's bytes.
+    pub(crate) fn hand_bytes(
+        &mut self,
+        channel: &mut Chat,
+        asked: &str,
+        bytes: &[u8],
+    ) -> Result<(), AllocError> {
+        match channel.incoming(bytes) {
             Ok(Some(source)) => self.put_number(asked, u64::from(source.node().number()))?,
             Ok(None) => self.put(asked, "of nobody")?,
             Err(error) => self.put_number("refused", u64::from(error.number()))?,
@@ -204,13 +240,13 @@ impl Cases {
 
     // The greatest proposal comes to a lone member.
     fn greatest(&mut self) -> Result<(), AllocError> {
-        self.text.extend_from_slice(b"== the greatest proposal\n")?;
+        self.head(b"== the greatest proposal\n")?;
         let mut channel = apart(self.alloc, 1)?;
         self.found_and_promise(&mut channel)
     }
 
     // Whether two channels do the same next.
-    fn compare(&mut self, came: &mut Chat, fresh: &mut Chat) -> Result<(), AllocError> {
+    pub(crate) fn compare(&mut self, came: &mut Chat, fresh: &mut Chat) -> Result<(), AllocError> {
         let came = next_of(self.alloc, came)?;
         let wanted = next_of(self.alloc, fresh)?;
         let is_same = came.as_slice() == wanted.as_slice() && wanted.len() > 100;
@@ -246,8 +282,7 @@ impl Cases {
 
     // What the coordinator ignores.
     fn at_first(&mut self) -> Result<(), AllocError> {
-        self.text
-            .extend_from_slice(b"== ignored by the coordinator\n")?;
+        self.head(b"== ignored by the coordinator\n")?;
         let mut channel = channel_at(self.alloc, Stand::Coordinator)?;
         let mut fresh = channel_at(self.alloc, Stand::Coordinator)?;
         let mut other = channel_at(self.alloc, Stand::Coordinator)?;
@@ -283,8 +318,7 @@ impl Cases {
 
     // What another member ignores.
     fn at_other(&mut self) -> Result<(), AllocError> {
-        self.text
-            .extend_from_slice(b"== ignored by another member\n")?;
+        self.head(b"== ignored by another member\n")?;
         let mut channel = self.of_three()?;
         let mut fresh = self.of_three()?;
         let mut other = self.of_three()?;
@@ -298,6 +332,7 @@ impl Cases {
         self.next("the counter after 2^62, refused with", GREATEST)?;
         self.greatest()?;
         self.at_first()?;
-        self.at_other()
+        self.at_other()?;
+        self.chunks()
     }
 }

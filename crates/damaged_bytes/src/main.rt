@@ -4,6 +4,7 @@
 #![tactic(auto)]
 
 mod cases;
+mod chunks;
 mod hexadecimal;
 mod judge;
 mod next;
