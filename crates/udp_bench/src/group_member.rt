@@ -24,7 +24,11 @@ pub(crate) struct Member {
 }
 
 // Connects the channel of a node: that of node 1 makes the group, and the others join it.
-fn connect(channel: &mut Channel<ChatLog>, settings: &Settings, node: Node) -> io::Result<()> {
+pub(crate) fn connect<R: Receiver>(
+    channel: &mut Channel<R>,
+    settings: &Settings,
+    node: Node,
+) -> io::Result<()> {
     let group = settings.group();
     let first = Node::new(1).ok_or(io::Error::from(ErrorKind::InvalidInput))?;
     let connected = if node == first {

@@ -1,12 +1,18 @@
-//! Four nodes over UDP, of which node 2, which is not the coordinator, sends as fast as it may: how long each message takes. `bench/udp` runs it.
+//! Four nodes over UDP, of which node 2, which is not the coordinator, sends as fast as it may: how long each message takes; and a fifth that joins four: how long it takes to be
+//! given their state. `bench/udp` runs it.
 //!
 //! Its words are KIND CONFIG COUNT [NODE]. KIND is `member`, or `bare` for sockets that exchange as many datagrams of the same lengths with no member. COUNT messages of
 //! 16 bytes are sent. With NODE the process is that node; without it all four are in it. It prints a line for each message: the nanoseconds at which it was sent,
 //! 0 where another process sent it, and at which it was delivered at each node that is in the process. Without words it does nothing.
+//!
+//! KIND `join` has five nodes, each with a round a millisecond, as `vsync member`, and `rush` has rounds with no pause, as `vsync udp`. Four of them have a long chat of COUNT lines of 512 bytes each, at most 2,000,
+//! when node 5 asks to be let in. With NODE 1 the process is those four, and prints `ready` when node 5 may begin; with NODE 5 it is node 5; without NODE all five
+//! are in it. Where node 5 is, it prints its rounds until it has the chat, and the nanoseconds.
 #![tactic(auto)]
 
 mod bare;
 mod group_member;
+mod join;
 mod party;
 mod race;
 
@@ -14,13 +20,34 @@ use std::io::ErrorKind;
 use std::{env, fs, io};
 use udp_net::{Settings, settings};
 
+/// What is run.
+#[derive(Clone, Copy)]
+enum Kind {
+    /// Four members, of which one sends.
+    Member,
+    /// Four sockets, with no member.
+    Bare,
+    /// A fifth member joins four.
+    Join(bool),
+}
+
 /// What the words ask for.
 #[derive(Drop)]
 struct Words {
-    is_bare: bool,
+    kind: Kind,
     config: String,
     count: usize,
     node: Option<u16>,
+}
+
+// The kind that a word names.
+fn kind_of(word: &str) -> Kind {
+    match word {
+        "bare" => Kind::Bare,
+        "join" => Kind::Join(true),
+        "rush" => Kind::Join(false),
+        _ => Kind::Member,
+    }
 }
 
 // The words of the command line; `None` where there are none.
@@ -32,13 +59,13 @@ fn words_of(rt: &HostRuntime) -> io::Result<Option<Words>> {
     let invalid = io::Error::from(ErrorKind::InvalidInput);
     match words.as_slice() {
         [_, kind, config, count] => Ok(Some(Words {
-            is_bare: kind.as_str() == "bare",
+            kind: kind_of(kind.as_str()),
             config: config.clone()?,
             count: count.as_str().parse().unwrap_or(0),
             node: None,
         })),
         [_, kind, config, count, node] => Ok(Some(Words {
-            is_bare: kind.as_str() == "bare",
+            kind: kind_of(kind.as_str()),
             config: config.clone()?,
             count: count.as_str().parse().unwrap_or(0),
             node: Some(node.as_str().parse().unwrap_or(0)),
@@ -62,11 +89,15 @@ fn main(rt: HostRuntime) -> io::Result<()> {
         return Ok(());
     };
     let settings = settings_at(&rt, words.config.as_str())?;
-    if words.is_bare {
-        let parties = race::parties::<bare::Bare>(&rt, &settings, words.node)?;
-        race::run(&rt, parties, words.node, words.count)
-    } else {
-        let parties = race::parties::<group_member::Member>(&rt, &settings, words.node)?;
-        race::run(&rt, parties, words.node, words.count)
+    match words.kind {
+        Kind::Bare => {
+            let parties = race::parties::<bare::Bare>(&rt, &settings, words.node)?;
+            race::run(&rt, parties, words.node, words.count)
+        }
+        Kind::Member => {
+            let parties = race::parties::<group_member::Member>(&rt, &settings, words.node)?;
+            race::run(&rt, parties, words.node, words.count)
+        }
+        Kind::Join(has_pauses) => { join::run(&rt, &settings, words.node, words.count, has_pauses) }
     }
 }

@@ -9,7 +9,7 @@ use udp_net::{Settings, SocketNet};
 use vsync_text::put_decimal;
 
 /// How long the four may take to come together, and all messages to be delivered, in nanoseconds.
-const LONGEST: u64 = 60_000_000_000;
+pub(crate) const LONGEST: u64 = 60_000_000_000;
 
 /// How long a process answers the others when it has all messages, in nanoseconds.
 const AFTER: u64 = 500_000_000;
@@ -23,7 +23,7 @@ pub(crate) struct Runs<P: Party> {
 }
 
 // The nanoseconds since some moment that is the same for all processes.
-fn now(rt: &HostRuntime) -> io::Result<u64> {
+pub(crate) fn now(rt: &HostRuntime) -> io::Result<u64> {
     Ok(u64::try_from(rt.monotonic()?.as_nanos()).unwrap_or(u64::MAX))
 }
 

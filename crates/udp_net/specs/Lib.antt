@@ -1,3 +1,4 @@
+pub mod Bursts
 pub mod Errors
 pub mod Logs
 pub mod Settings

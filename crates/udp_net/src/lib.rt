@@ -4,6 +4,8 @@
 
 mod document;
 mod error;
+mod held_back;
+mod lane;
 mod memory_net;
 mod net;
 mod node_ports;
@@ -11,7 +13,25 @@ mod socket_net;
 
 pub use document::settings;
 pub use error::{BindError, Fault, SettingsError};
+pub use held_back::HeldBack;
 pub use memory_net::{MemoryNet, Offered};
 pub use net::{Net, Received};
 pub use node_ports::{MOST_NODES, MOST_SILENT, NodePort, Settings};
 pub use socket_net::SocketNet;
+
+/// How many bytes a socket's net sends to a node in one turn, in bytes; the datagram that goes over them is sent too. The buffer of a socket has 212,992 bytes
+/// by default on Linux, of which a datagram takes up to twice its length.
+pub const BURST: usize = 65_536;
+
+/// How many bytes are offered for a node in one turn at most, in bytes; with the datagram that goes over them the node's next turn begins.
+pub const OFFERS: usize = 2_097_152;
+
+/// The most receives of a turn.
+pub const TURN: u32 = 64;
+
+/// The most bytes of datagrams that a socket's net holds back for a node, in bytes: a state of `limits::STATE` bytes, and almost as much again.
+pub const HELD_BACK: usize = 2_097_152;
+
+/// By how many of their first bytes two datagrams of the same length for a node are told apart, in bytes. In those of a packet stands what it is about: its header, and its
+/// view or proposal, place, number or index (docs/WIRE.md).
+pub const FRONT: usize = 128;

@@ -3,12 +3,14 @@
 #![tactic(auto)]
 
 mod alone;
+mod bursts;
 mod calls;
 mod channels;
 mod documents;
 mod files;
 mod lan;
 mod lines;
+mod long;
 mod members;
 mod pair;
 mod scripts;
@@ -117,7 +119,20 @@ fn print_nets(rt: &HostRuntime, text: &mut Vec<u8>) -> io::Result<()> {
     let told = sockets::two(rt, text);
     print(rt, "sockets", told, text)?;
     let told = sockets::merge(rt, text);
-    print(rt, "a partition and its merge, over sockets", told, text)
+    print(rt, "a partition and its merge, over sockets", told, text)?;
+    let told = bursts::once(rt, text);
+    print(rt, "a long burst, over sockets", told, text)?;
+    let told = bursts::twice(rt, text);
+    print(rt, "a long burst that is offered twice", told, text)?;
+    let told = bursts::too_long(rt, text);
+    print(rt, "a burst that is too long", told, text)?;
+    let told = long::joins(rt, text);
+    print(
+        rt,
+        "a fifth is given a long state, over sockets",
+        told,
+        text,
+    )
 }
 
 /// Prints all stories.

@@ -2,7 +2,7 @@
 
 use crate::lines::{put_number, put_refusal, put_truth};
 use address::Node;
-use chat_log::ChatLog;
+use chat_log::{Chat, ChatLog};
 use commands::Status;
 use std::alloc::{AllocError, Global};
 use test_net::{MERGE, holds, settings_of, trace_of};
@@ -12,10 +12,10 @@ use udp_runs::{Loopback, run_udp};
 /// At how many places of ports it is tried, since others may have taken some.
 const PLACES: u16 = 40;
 
-/// The settings of nodes 1 to 4 at ports behind this one.
+/// The settings of nodes 1 to 5 at ports behind this one.
 fn settings_at(alloc: Global, port: u16) -> Result<Settings, AllocError> {
     let mut text = format!(in alloc; "group = \"chat\"\nsilent = 50\n")?;
-    for number in 1..=4u16 {
+    for number in 1..=5u16 {
         let at = port.wrapping_add(number);
         let node = format!(in alloc; "[[node]]\nnumber = {number}\nport = {at}\n")?;
         text.push_str(node.as_str())?;
@@ -23,31 +23,38 @@ fn settings_at(alloc: Global, port: u16) -> Result<Settings, AllocError> {
     settings_of(alloc, text.as_str())
 }
 
-/// The port before the four of a place.
+/// The port before the five of a place.
 fn port(place: u16) -> u16 {
     place.wrapping_mul(8).wrapping_add(47_400)
 }
 
-/// What a script writes over sockets, and its status.
-fn run(rt: &HostRuntime, settings: &Settings, script: &[u8]) -> (Vec<u8>, Status) {
+/// What a script writes over sockets, with chats of this kind, and its status.
+pub fn run_with<C: Chat>(
+    rt: &HostRuntime,
+    settings: &Settings,
+    script: &[u8],
+) -> (Vec<u8>, Status) {
     let mut machine = Loopback::new(rt.alloc(), rt, settings);
     let mut text = Vec::new(rt.alloc());
     let mut reader = script;
-    let status = run_udp::<ChatLog, _, _, _>(
-        rt.alloc(),
-        settings,
-        &mut machine,
-        &mut reader,
-        &mut text,
-    );
+    let status = run_udp::<C, _, _, _>(rt.alloc(), settings, &mut machine, &mut reader, &mut text);
     (text, status)
 }
 
-/// The settings of a place whose four ports are free.
-fn free_settings(rt: &HostRuntime) -> Result<Settings, AllocError> {
+/// What a script writes over sockets, and its status.
+fn run(rt: &HostRuntime, settings: &Settings, script: &[u8]) -> (Vec<u8>, Status) {
+    run_with::<ChatLog>(rt, settings, script)
+}
+
+/// The settings of a place whose five ports are free.
+pub fn free_settings(rt: &HostRuntime) -> Result<Settings, AllocError> {
     for place in 0..PLACES {
         let settings = settings_at(rt.alloc(), port(place))?;
-        let (_, status) = run(rt, &settings, b"start 1\nstart 2\nstart 3\nstart 4\n");
+        let (_, status) = run(
+            rt,
+            &settings,
+            b"start 1\nstart 2\nstart 3\nstart 4\nstart 5\n",
+        );
         if status == Status::Done {
             return Ok(settings);
         }
@@ -79,7 +86,7 @@ pub fn merge(rt: &HostRuntime, told: &mut Vec<u8>) -> Result<(), AllocError> {
 }
 
 /// The socket of a node.
-fn bound(rt: &HostRuntime, settings: &Settings, number: u16) -> Result<SocketNet, BindError> {
+pub fn bound(rt: &HostRuntime, settings: &Settings, number: u16) -> Result<SocketNet, BindError> {
     match Node::new(number) {
         Some(node) => SocketNet::bind(rt.alloc(), rt, settings, node),
         None => Err(BindError::Config),

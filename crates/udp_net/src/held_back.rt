@@ -1,0 +1,102 @@
+ghost use Rattle.std.specs.Prelude.{◌≡◌, [], OnOk, OnErr, length, take};
+ghost use Rattle.udp_net.specs.Bursts.{looks_like, is_held, fits, held_after, TakesFirst};
+
+use crate::{FRONT, HELD_BACK};
+use std::alloc::{AllocError, Global};
+use std::collections::VecDeque;
+use std::marker::Model;
+use trace_props::Bytes;
+
+/// Datagrams that wait to be sent: first in, first out, none twice, and at most `HELD_BACK` bytes of them. Those of the same length with the same first `FRONT` bytes are
+/// taken for the same. Contracts see their list.
+#[derive(Drop)]
+pub struct HeldBack {
+    waiting: VecDeque<Bytes>,
+    // How many bytes they have.
+    size: usize,
+}
+
+impl Model for HeldBack {
+    ghost use Rattle.std.specs.Prelude.{List, ℕ, ◌≡◌, ◌≤◌};
+    ghost use Rattle.udp_net.specs.Bursts.{size_of};
+    ghost use Rattle.udp_net.specs.declared.TheConstants.{HELD_BACK};
+
+    ghost Value = { List (List ℕ) };
+
+    ghost view = { λ h. h.waiting.items };
+
+    ghost invariant = { λ h. (h.size ≡ size_of h.waiting.items) × (h.size ≤ HELD_BACK) };
+}
+
+// The first bytes of a datagram.
+fn front(datagram: &[u8]) -> &[u8]
+    ensures { result.now ≡ take FRONT datagram.now }
+{
+    &datagram[..FRONT.min(datagram.len())]
+}
+
+// Whether two datagrams are taken for the same.
+fn looks_like(one: &[u8], other: &[u8]) -> bool
+    ensures { result ≡ looks_like one.now other.now }
+{
+    one.len() == other.len() && front(one) == front(other)
+}
+
+impl HeldBack {
+    /// None waits. Takes no memory.
+    pub fn new(alloc: Global) -> HeldBack
+        ensures { result ≡ [] }
+    {
+        HeldBack {
+            waiting: VecDeque::new(alloc),
+            size: 0,
+        }
+    }
+
+    /// How many wait.
+    pub fn len(&self) -> usize
+        ensures { result ≡ length self.now }
+    {
+        self.waiting.len()
+    }
+
+    /// Puts a copy of a datagram behind the others. One that waits already, or for which there is no room, is dropped. An error for want of memory leaves the
+    /// others as they were.
+    pub fn hold(&mut self, datagram: &[u8]) -> Result<(), AllocError>
+        ensures ok { OnOk result (self.new ≡ held_after datagram.now self.old) }
+        ensures err { OnErr result (self.new ≡ self.old) }
+    {
+        if !self.fits(datagram) || self.has(datagram) {
+            return Ok(());
+        }
+        self.waiting
+            .push_back(Bytes::from_slice(*self.waiting.allocator(), datagram)?)?;
+        self.size += datagram.len();
+        Ok(())
+    }
+
+    /// Takes out the one that waits longest.
+    pub fn next(&mut self) -> Option<Bytes>
+        ensures { TakesFirst self.old result self.new }
+    {
+        let datagram = self.waiting.pop_front()?;
+        self.size -= datagram.as_slice().len();
+        Some(datagram)
+    }
+
+    // Whether there is room for a datagram.
+    fn fits(&self, datagram: &[u8]) -> bool
+        ensures { result ≡ fits datagram.now self.now }
+    {
+        datagram.len() <= HELD_BACK - self.size
+    }
+
+    // Whether one that looks like a datagram waits already.
+    fn has(&self, datagram: &[u8]) -> bool
+        ensures { result ≡ is_held datagram.now self.now }
+    {
+        self.waiting
+            .iter()
+            .any(|waiting| looks_like(waiting.as_slice(), datagram))
+    }
+}
