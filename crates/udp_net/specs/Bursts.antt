@@ -3,7 +3,7 @@ use Rattle.std.specs.Prelude.{◌≡◌, ℕ, ◌+◌, ◌-◌, Bool, true, fals
 use Rattle.std.specs.List.{list_any, sum_by}
 use Rattle.std.specs.Cmp.Lexicographic.{pointwise}
 use Rattle.udp_net.specs.declared.node_ports.NodePort.{NodePort}
-use Rattle.udp_net.specs.declared.TheConstants.{FRONT, HELD_BACK}
+use Rattle.udp_net.specs.declared.TheConstants.{BURST, OFFERS, PATIENCE, FRONT, HELD_BACK}
 
 -- how many bytes datagrams have
 abbrev pub size_of : List (List ℕ) → ℕ
@@ -32,11 +32,12 @@ TakesFirst old (Some first) new = old ≡ first ∷ new
 
 -- ---- the way to a node
 
--- the node and its port, how many bytes may be sent and be offered yet in this turn, and what is held back
+-- the node and its port, how many bytes may be sent and be offered yet in this turn, for how many turns of the net the node is waited for, and what is held back
 pub record LaneModel : Type 0 where
   pub port : NodePort
   pub to_send : ℕ
   pub to_offer : ℕ
+  pub patience : ℕ
   pub held : List (List ℕ)
 
 -- a datagram that is offered goes at once: nothing is held back, and some of the bytes that may be sent are left
@@ -50,6 +51,10 @@ offered n l = record l { to_offer = l.to_offer - n }
 -- a datagram goes at once, or is held back
 abbrev pub after_offer : List ℕ → LaneModel → LaneModel
 after_offer datagram l = if passes l then record l { to_send = l.to_send - length datagram } else record l { held = held_after datagram l.held }
+
+-- a turn of the net is over: the node's next one begins, unless it has to be waited for
+abbrev pub begun : LaneModel → LaneModel
+begun l = if nat_eq l.patience 0 then record l { to_send = BURST; to_offer = OFFERS; patience = PATIENCE } else record l { to_offer = OFFERS; patience = l.patience - 1 }
 
 -- the next of those that are held back goes, where some of the bytes that may be sent are left
 abbrev pub GoesOn : LaneModel → Option (List ℕ) → LaneModel → Type 0

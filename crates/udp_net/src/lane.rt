@@ -1,19 +1,21 @@
 ghost use Rattle.std.specs.Prelude.{◌≡◌, [], OnErr, IfOk, OnOk, length, nat_eq};
-ghost use Rattle.udp_net.specs.Bursts.{passes, offered, after_offer, GoesOn};
+ghost use Rattle.udp_net.specs.Bursts.{passes, offered, after_offer, begun, GoesOn};
 ghost use Rattle.udp_net.specs.declared.TheConstants.{BURST, OFFERS};
 
 use crate::held_back::HeldBack;
-use crate::{BURST, NodePort, OFFERS};
+use crate::{BURST, NodePort, OFFERS, PATIENCE};
 use std::alloc::{AllocError, Global};
 use std::marker::Model;
 use trace_props::Bytes;
 
-/// The way to a node: its port, how many bytes may be sent there and be offered for it yet in this turn, and what is held back.
+/// The way to a node: its port, how many bytes may be sent there and be offered for it yet in this turn, for how many turns of the net it is waited for before its next one, and
+/// what is held back.
 #[derive(Drop)]
 pub(crate) struct Lane {
     port: NodePort,
     to_send: usize,
     to_offer: usize,
+    patience: u32,
     held: HeldBack,
 }
 
@@ -22,18 +24,19 @@ impl Model for Lane {
 
     ghost Value = { LaneModel };
 
-    ghost view = { λ l. record { port = l.port; to_send = l.to_send; to_offer = l.to_offer; held = l.held } };
+    ghost view = { λ l. record { port = l.port; to_send = l.to_send; to_offer = l.to_offer; patience = l.patience; held = l.held } };
 }
 
 impl Lane {
     // The way to a node, on which nothing went. Takes no memory.
     pub(crate) fn new(alloc: Global, port: NodePort) -> Lane
-        ensures { result ≡ record { port = port; to_send = BURST; to_offer = OFFERS; held = [] } }
+        ensures { result ≡ record { port = port; to_send = BURST; to_offer = OFFERS; patience = 0; held = [] } }
     {
         Lane {
             port,
             to_send: BURST,
             to_offer: OFFERS,
+            patience: 0,
             held: HeldBack::new(alloc),
         }
     }
@@ -74,12 +77,24 @@ impl Lane {
         self.to_offer == 0
     }
 
-    // A turn begins.
-    pub(crate) fn begin(&mut self)
-        ensures { self.new ≡ record self.old { to_send = BURST; to_offer = OFFERS } }
+    // A datagram came from the node.
+    pub(crate) fn hear(&mut self)
+        ensures { self.new ≡ record self.old { patience = 0 } }
     {
-        self.to_send = BURST;
+        self.patience = 0;
+    }
+
+    // A turn of the net is over: the node's next turn begins, unless it has to be waited for.
+    pub(crate) fn begin(&mut self)
+        ensures { self.new ≡ begun self.old }
+    {
         self.to_offer = OFFERS;
+        if self.patience > 0 {
+            self.patience -= 1;
+            return;
+        }
+        self.patience = PATIENCE;
+        self.to_send = BURST;
     }
 
     // Takes out the next of those that are held back, if one goes in this turn: it must be sent then.

@@ -26,6 +26,9 @@ pub const BURST: usize = 65_536;
 /// How many bytes are offered for a node in one turn at most, in bytes; with the datagram that goes over them the node's next turn begins.
 pub const OFFERS: usize = 2_097_152;
 
+/// For how many of its turns a socket's net waits for a datagram from a node before more than `BURST` bytes go there.
+pub const PATIENCE: u32 = 100;
+
 /// The most receives of a turn.
 pub const TURN: u32 = 64;
 

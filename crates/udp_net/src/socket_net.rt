@@ -16,9 +16,9 @@ use std::net::{Ipv4Addr, UdpSocket};
 /// already is not held back twice (`FRONT`), so that what is asked for again and again takes its turn as a whole. It is lost where more than `HELD_BACK` bytes would wait
 /// for its node, or memory is refused; so is what waits when the net is dropped.
 ///
-/// There is no clock. A turn ends with a receive that finds no datagram, or fails; with the `TURN`th receive; and for one node where `OFFERS` bytes were
-/// offered for it, as by answers to one that asks often. So who has rounds, each with receives until none waits, as a runner, has a turn a round, and
-/// with a round a millisecond about `BURST` bytes go to a node in a millisecond.
+/// There is no clock. A turn of the net ends with a receive that finds no datagram, or fails, and with the `TURN`th receive. A node's next turn begins there, if a datagram came
+/// from it since its last one, or after `PATIENCE` turns of the net: so no more is sent to one that has rounds, as a runner, than it takes in each of them, however
+/// long they are. It begins too where `OFFERS` bytes were offered for the node, as by answers to one that asks often.
 #[derive(Drop)]
 pub struct SocketNet {
     socket: UdpSocket,
@@ -49,7 +49,7 @@ fn lanes_to(alloc: Global, nodes: &[NodePort]) -> Result<Vec<Lane>, AllocError> 
     Ok(lanes)
 }
 
-// A turn begins on a way: what was held back goes on.
+// A turn of the net is over: what was held back on a way goes on, where the next one begins there.
 fn go_on(socket: &UdpSocket, lane: &mut Lane) {
     lane.begin();
     for _ in 0..lane.held() {
@@ -92,13 +92,27 @@ impl SocketNet {
         }
     }
 
+    // A datagram came from a port.
+    fn hear(&mut self, port: u16)
+        ensures { self.new.failures ≡ self.old.failures }
+    {
+        for lane in self.lanes.as_mut_slice() {
+            if lane.port().port == port {
+                lane.hear();
+            }
+        }
+    }
+
     // Takes the next datagram that came.
     fn take(&mut self, buffer: &mut [u8]) -> Result<Option<usize>, Fault>
         ensures within { IfOk result (λ count. IfSome count (λ n. n ≤ length buffer.new)) }
         ensures failed { self.new.failures ≡ failures_after self.old.failures result }
     {
-        match self.socket.recv(buffer) {
-            Ok(count) => Ok(Some(count)),
+        match self.socket.recv_from(buffer) {
+            Ok((count, from)) => {
+                self.hear(from.port());
+                Ok(Some(count))
+            }
             Err(error) if error.kind() == ErrorKind::WouldBlock => Ok(None),
             Err(_) => {
                 self.failures = self.failures.saturating_add(1);

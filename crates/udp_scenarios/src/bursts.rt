@@ -68,15 +68,27 @@ impl Pair {
         Ok(self.came.len() > before)
     }
 
-    // Turns of node 1, until nothing comes of one.
+    // Node 1 takes what came to it, so that a turn of it is over.
+    fn turn(&mut self) {
+        for _ in 0..TURNS {
+            match self.from.receive(self.buffer.as_mut_slice()) {
+                Ok(Some(_)) => {}
+                _ => return,
+            }
+        }
+    }
+
+    // Turns of node 1, until nothing comes of one; node 2 says a word in each.
     fn turns(&mut self) -> Result<(), AllocError> {
+        let node = Node::new(1).ok_or(AllocError)?;
         for _ in 0..TURNS {
             let has_come = self.take()?;
             if !has_come {
                 break;
             }
             self.turns.push(self.came.len())?;
-            let _ = self.from.receive(self.buffer.as_mut_slice());
+            self.to.send(node, b"more");
+            self.turn();
         }
         Ok(())
     }
@@ -111,6 +123,21 @@ pub fn twice(rt: &HostRuntime, told: &mut Vec<u8>) -> Result<(), AllocError> {
     put_number(told, "datagrams that came", numbers.len() as u64)?;
     let last = numbers.last().copied().unwrap_or(0);
     put_number(told, "the last", u64::from(last))
+}
+
+/// As many datagrams, to one from whom nothing comes.
+pub fn unheard(rt: &HostRuntime, told: &mut Vec<u8>) -> Result<(), AllocError> {
+    let mut pair = nets(rt)?;
+    pair.offer(rt.alloc(), 33)?;
+    for _ in 0..100u8 {
+        pair.turn();
+        let _ = pair.take()?;
+    }
+    put_number(told, "came in 100 turns", pair.came.len() as u64)?;
+    pair.turn();
+    pair.turn();
+    let _ = pair.take()?;
+    put_number(told, "came in 102 turns", pair.came.len() as u64)
 }
 
 /// More than is held back.

@@ -124,6 +124,8 @@ fn print_nets(rt: &HostRuntime, text: &mut Vec<u8>) -> io::Result<()> {
     print(rt, "a long burst, over sockets", told, text)?;
     let told = bursts::twice(rt, text);
     print(rt, "a long burst that is offered twice", told, text)?;
+    let told = bursts::unheard(rt, text);
+    print(rt, "a long burst to one who is not heard", told, text)?;
     let told = bursts::too_long(rt, text);
     print(rt, "a burst that is too long", told, text)?;
     let told = long::joins(rt, text);
