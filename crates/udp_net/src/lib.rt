@@ -23,7 +23,7 @@ pub use socket_net::SocketNet;
 /// by default on Linux, of which a datagram takes up to twice its length.
 pub const BURST: usize = 65_536;
 
-/// How many bytes are offered for a node in one turn at most, in bytes; with the datagram that goes over them the node's next turn begins.
+/// How many bytes are offered for a node in one turn at most, in bytes; with the datagram that goes over them the turn is over for it.
 pub const OFFERS: usize = 2_097_152;
 
 /// For how many of its turns a socket's net waits for a datagram from a node before more than `BURST` bytes go there.

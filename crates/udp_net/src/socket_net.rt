@@ -18,7 +18,7 @@ use std::net::{Ipv4Addr, UdpSocket};
 ///
 /// There is no clock. A turn of the net ends with a receive that finds no datagram, or fails, and with the `TURN`th receive. A node's next turn begins there, if a datagram came
 /// from it since its last one, or after `PATIENCE` turns of the net: so no more is sent to one that has rounds, as a runner, than it takes in each of them, however
-/// long they are. It begins too where `OFFERS` bytes were offered for the node, as by answers to one that asks often.
+/// long they are. For one node a turn of the net is over too where `OFFERS` bytes were offered for it, as by answers to one that asks often.
 #[derive(Drop)]
 pub struct SocketNet {
     socket: UdpSocket,
