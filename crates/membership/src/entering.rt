@@ -56,9 +56,7 @@ pub(crate) fn is_fitting(view_state: &Option<ViewState>, install: &Install<'_>) 
 {
     match view_state {
         None => {
-            install.base().get() == 0
-                && install.items().len() == 0
-                && gives_some(install.state())
+            install.base().get() == 0 && install.items().len() == 0 && gives_some(install.state())
         }
         Some(view_state) => install.base() <= view_state.delivered(),
     }

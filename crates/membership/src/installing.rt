@@ -39,8 +39,7 @@ fn view_of(alloc: Global, flush: &Flush) -> Result<View, AllocError>
 fn install_sent_to<'a>(sent: &'a [SentInstall], member: &Address) -> Option<&'a SentInstall>
     ensures { option_copied result ≡ find (is_sent_to member.now) sent.now }
 {
-    sent.iter()
-        .find(|sent| sent.packet.destination == *member)
+    sent.iter().find(|sent| sent.packet.destination == *member)
 }
 
 impl<R: Receiver> MemberState<R> {

@@ -7,8 +7,8 @@ ghost use Rattle.wire.specs.Packets.{redirect_at, forward_at, order_at, nak_at, 
 
 use limits::{DATAGRAM, GREATEST_NUMBER, KINDS, MAGIC, VERSION, WINDOW};
 use wire_values::{
-    Body, Missing, Packet, Progress, Reader, WireError, chunk_at, count_at, entry_at, group_at, install_at,
-    number_at, payload_at, report_at, view_at,
+    Body, Missing, Packet, Progress, Reader, WireError, chunk_at, count_at, entry_at, group_at,
+    install_at, number_at, payload_at, report_at, view_at,
 };
 
 #[tactic(auto, unfolding(crate::specs::Packets::redirect_at))]
