@@ -10,12 +10,22 @@ A line `deliver K` names a packet by its number, so whoever writes a script must
 docs/PROTOCOL.md as far as that asks for: who puts out a packet of which kind for whom. Payloads and states are left out. The program is
 not asked. A `deliver K` of a packet that is not there does nothing, so a mistake here could make a script poor, and never a wrong one.
 """
+import pathlib
 import random
+import re
 import sys
 
-MEMBERS = 16
-OUTSTANDING = 8
-WINDOW = 32
+LIMITS = (pathlib.Path(__file__).resolve().parent.parent / "crates/limits/src/lib.rt").read_text()
+
+
+def limit(name):
+    """A limit of the channel, by its name in the crate `limits`."""
+    return int(re.search(rf"^pub const {name}: \w+ = ([\d_]+);", LIMITS, re.MULTILINE)[1])
+
+
+MEMBERS = limit("MEMBERS")
+OUTSTANDING = limit("OUTSTANDING")
+WINDOW = limit("WINDOW")
 
 
 class Packet:

@@ -1,7 +1,10 @@
 -- How the drawing of a trace, or of a script's run, ends.
-use Rattle.std.proofs.Common.{◌≡◌, ℕ, List, [], Option, Ok, unwrap_or, subst}
+use Rattle.std.proofs.Common.{◌≡◌, ℕ, List, [], Option, Ok, unwrap_or, subst, ap, ◌∙◌}
 use Rattle.state_transfer.specs.Meanings.{Meaning}
 use Rattle.trace_props.specs.declared.event.Event.{Event}
+use Rattle.trace_props.specs.declared.verdict.Verdict.{Verdict}
+use Rattle.trace_drawing.specs.declared.refused.Refused.{Refused as RefusedEvent}
+use Rattle.trace_reader.specs.Traces.{trace_of}
 use Rattle.script_reader.specs.declared.script.Script.{Script}
 use Rattle.script_reader.specs.declared.fault.Fault.{Fault}
 use Rattle.script_reader.specs.Script.{script_of, fault_number}
@@ -10,20 +13,24 @@ use Rattle.commands.specs.declared.status.Status.{Status}
 use Rattle.commands.specs.declared.status.Status.TheVariants.{Done, Refused, Memory}
 use Rattle.commands.specs.Outcomes.{Ends, Written, IsAnswer, fault_line}
 use Rattle.commands.specs.Outcomes.IsAnswer.{Answers}
-use Rattle.commands.specs.Draws.{IsPictureText, IsRefusalText, IsDrawingText, TellsRun, IsDrawnScript}
+use Rattle.commands.specs.Draws.{IsPictureText, IsRefusalText, IsDrawingText, TellsRun, IsJudgedAs, IsDrawnScript, IsDrawnTrace}
 use Rattle.commands.specs.Draws.IsPictureText.{Drawn, Undrawn}
 use Rattle.commands.specs.Draws.IsRefusalText.{Said, Unsaid}
 use Rattle.commands.specs.Draws.IsDrawingText.{Draws, Faulty, Unread}
 use Rattle.commands.proofs.FactOfTexts.{written-as, left-of}
 
 -- a picture was written
-pub drawn-picture : (t : List Event) (a b : Option (List ℕ)) (status : Status) (picture taken : List ℕ) → picture ≡ picture_of t → taken ≡ picture → Ends a b taken Done status → Written (IsPictureText t) a b status
-drawn-picture t a b status picture taken is all e =
-    record { meant = Done; text = picture_of t; says = Drawn; ends = subst (λ x. Ends a b x Done status) is (subst (λ x. Ends a b x Done status) all e) }
+pub drawn-picture : (t : List Event) (rs : List RefusedEvent) (v : Verdict) (a b : Option (List ℕ)) (status : Status) (picture taken : List ℕ) → picture ≡ picture_of t rs v → taken ≡ picture → Ends a b taken Done status → Written (IsPictureText t rs v) a b status
+drawn-picture t rs v a b status picture taken is all e =
+    record { meant = Done; text = picture_of t rs v; says = Drawn; ends = subst (λ x. Ends a b x Done status) is (subst (λ x. Ends a b x Done status) all e) }
 
 -- memory was refused for it
-pub undrawn-picture : (t : List Event) (a b : Option (List ℕ)) (status : Status) → Ends a b [] Memory status → Written (IsPictureText t) a b status
-undrawn-picture t a b status e = record { meant = Memory; text = []; says = Undrawn; ends = e }
+pub undrawn-picture : (t : List Event) (rs : List RefusedEvent) (v : Verdict) (a b : Option (List ℕ)) (status : Status) → Ends a b [] Memory status → Written (IsPictureText t rs v) a b status
+undrawn-picture t rs v a b status e = record { meant = Memory; text = []; says = Undrawn; ends = e }
+
+-- a picture with the same refusals was written
+pub picture-of-run : (t : List Event) (rs os : List RefusedEvent) (v : Verdict) (a b : Option (List ℕ)) (status : Status) → rs ≡ os → Written (IsPictureText t rs v) a b status → Written (IsPictureText t os v) a b status
+picture-of-run t rs os v a b status same w = subst (λ x. Written (IsPictureText t x v) a b status) same w
 
 -- a fault was written
 pub said-fault : (line number : ℕ) (a b : Option (List ℕ)) (status : Status) (text : List ℕ) → text ≡ fault_line line number → Ends a b text Refused status → Written (IsRefusalText line number) a b status
@@ -33,10 +40,10 @@ said-fault line number a b status text is e = record { meant = Refused; text = f
 pub unsaid-fault : (line number : ℕ) (a b : Option (List ℕ)) (status : Status) → Ends a b [] Memory status → Written (IsRefusalText line number) a b status
 unsaid-fault line number a b status e = record { meant = Memory; text = []; says = Unsaid; ends = e }
 
-module _ (Tells : List Event → Type 0) (Faults : ℕ → Fault → Type 0) where
+module _ (Tells : List Event → List RefusedEvent → Verdict → Type 0) (Faults : ℕ → Fault → Type 0) where
   -- what happened was drawn
-  pub drawn-as : (t : List Event) (a b : Option (List ℕ)) (status : Status) → Tells t → Written (IsPictureText t) a b status → Written (IsDrawingText Tells Faults) a b status
-  drawn-as t a b status tells w = written-as (IsPictureText t) (IsDrawingText Tells Faults) a b status (λ s x says. Draws t s x tells says) w
+  pub drawn-as : (t : List Event) (rs : List RefusedEvent) (v : Verdict) (a b : Option (List ℕ)) (status : Status) → Tells t rs v → Written (IsPictureText t rs v) a b status → Written (IsDrawingText Tells Faults) a b status
+  drawn-as t rs v a b status tells w = written-as (IsPictureText t rs v) (IsDrawingText Tells Faults) a b status (λ s x says. Draws t rs v s x tells says) w
 
   -- the fault was said
   pub faulty-as : (line : ℕ) (fault : Fault) (a b : Option (List ℕ)) (status : Status) → Faults line fault → Written (IsRefusalText line (fault_number fault)) a b status → Written (IsDrawingText Tells Faults) a b status
@@ -47,12 +54,12 @@ module _ (Tells : List Event → Type 0) (Faults : ℕ → Fault → Type 0) whe
   unread-as a b status e = record { meant = Memory; text = []; says = Unread; ends = e }
 
 -- a picture of the same events
-pub picture-of-same : (t u : List Event) (a b : Option (List ℕ)) (status : Status) → t ≡ u → Written (IsPictureText t) a b status → Written (IsPictureText u) a b status
-picture-of-same t u a b status same w = subst (λ x. Written (IsPictureText x) a b status) same w
+pub picture-of-same : (t u : List Event) (rs : List RefusedEvent) (v : Verdict) (a b : Option (List ℕ)) (status : Status) → t ≡ u → Written (IsPictureText t rs v) a b status → Written (IsPictureText u rs v) a b status
+picture-of-same t u rs v a b status same w = subst (λ x. Written (IsPictureText x rs v) a b status) same w
 
 from-run : {S : Type 0} (meaning : Meaning S) (bytes : List ℕ) (script : Script) → script_of bytes ≡ Ok script → (status : Status) (text : List ℕ)
     → IsDrawingText (TellsRun meaning script) (λ line fault. ⊥) status text → IsDrawnScript meaning bytes status text
-from-run meaning bytes script read status text (Draws t _ _ run says) = Draws t status text (record { script = script; read = read; run = run }) says
+from-run meaning bytes script read status text (Draws t rs v _ _ run says) = Draws t rs v status text (record { script = script; read = read; run = run }) says
 from-run meaning bytes script read status text (Faulty line fault _ _ none says) = absurd none
 from-run meaning bytes script read status text Unread = Unread
 
@@ -60,6 +67,18 @@ from-run meaning bytes script read status text Unread = Unread
 pub drawn-run : {S : Type 0} (meaning : Meaning S) (bytes : List ℕ) (script : Script) (a b : Option (List ℕ)) (status : Status) → script_of bytes ≡ Ok script
     → Written (IsDrawingText (TellsRun meaning script) (λ line fault. ⊥)) a b status → Written (IsDrawnScript meaning bytes) a b status
 drawn-run meaning bytes script a b status read w = written-as (IsDrawingText (TellsRun meaning script) (λ line fault. ⊥)) (IsDrawnScript meaning bytes) a b status (from-run meaning bytes script read) w
+
+from-judged : {S : Type 0} (meaning : Meaning S) (bytes : List ℕ) (events : List Event) → trace_of bytes ≡ Ok events → (status : Status) (text : List ℕ)
+    → IsDrawingText (IsJudgedAs meaning events) (λ line fault. ⊥) status text → IsDrawnTrace meaning bytes status text
+from-judged meaning bytes events read status text (Draws t rs v _ _ tells says) = Draws t rs v status text (record { read = read ∙ ap Ok tells.is; none = tells.none; judged = tells.judged }) says
+from-judged meaning bytes events read status text (Faulty line fault _ _ none says) = absurd none
+from-judged meaning bytes events read status text Unread = Unread
+
+-- the trace that was read was checked and drawn
+pub drawn-judged : {S : Type 0} (meaning : Meaning S) (bytes : List ℕ) (events : List Event) (a b : Option (List ℕ)) (status : Status) → trace_of bytes ≡ Ok events
+    → Written (IsDrawingText (IsJudgedAs meaning events) (λ line fault. ⊥)) a b status → Written (IsDrawnTrace meaning bytes) a b status
+drawn-judged meaning bytes events a b status read w =
+    written-as (IsDrawingText (IsJudgedAs meaning events) (λ line fault. ⊥)) (IsDrawnTrace meaning bytes) a b status (from-judged meaning bytes events read) w
 
 -- memory was refused before anything was read
 pub unread-answer : (Says : List ℕ → Status → List ℕ → Type 0) (left a b : Option (List ℕ)) (status : Status) → ((bytes : List ℕ) → Written (Says bytes) a b status) → IsAnswer Says left a b status

@@ -3,16 +3,19 @@
 ghost use Rattle.std.specs.Prelude.{[]};
 ghost use Rattle.script_reader.specs.Script.{fault_number};
 ghost use Rattle.commands.specs.Outcomes.{Ends, Written};
-ghost use Rattle.commands.specs.Draws.{IsPictureText, IsRefusalText, IsDrawingText, TellsRun, DrawsScript, DrawsTrace};
+ghost use Rattle.commands.specs.Refusals.{refusals_of};
+ghost use Rattle.commands.specs.Draws.{IsPictureText, IsRefusalText, IsDrawingText, TellsRun, IsJudgedAs, DrawsScript, DrawsTrace};
 
 use crate::Status;
 use crate::ends::{Unreadable, end_with, read_all};
+use crate::refusals::refusals_of;
 use script_reader::{Fault, Script, Unread, read_script};
 use state_transfer::Receiver;
 use std::alloc::Global;
 use std::io::{Read, Write};
-use trace_drawing::draw;
-use trace_props::Event;
+use trace_checker::check;
+use trace_drawing::{Refused, draw};
+use trace_props::{Event, Trace, Verdict};
 use trace_reader::read_trace;
 use world::World;
 
@@ -23,11 +26,17 @@ fn end_undrawn<W: Write>(writer: &mut W) -> Status
     end_with(writer, b"", Status::Memory)
 }
 
-/// Writes the picture of what happened.
-fn print_picture<W: Write>(alloc: Global, events: &[Event], writer: &mut W) -> Status
-    ensures { Written (IsPictureText events.now) (W.contents writer.old) (W.contents writer.new) result }
+/// Writes the picture of what happened, with what was refused, and with a mark where a rule breaks.
+fn print_picture<W: Write>(
+    alloc: Global,
+    events: &[Event],
+    refusals: &[Refused],
+    verdict: Verdict,
+    writer: &mut W,
+) -> Status
+    ensures { Written (IsPictureText events.now refusals.now verdict) (W.contents writer.old) (W.contents writer.new) result }
 {
-    match draw(alloc, events) {
+    match draw(alloc, events, refusals, verdict) {
         Ok(picture) => end_with(writer, picture.as_slice(), Status::Done),
         Err(_) => end_undrawn(writer),
     }
@@ -44,19 +53,47 @@ fn refuse<W: Write>(alloc: Global, writer: &mut W, line: u64, fault: Fault) -> S
     }
 }
 
+/// Writes the picture of a world that ran a script's events.
+fn print_world<R: Receiver, W: Write>(
+    alloc: Global,
+    world: &World<R>,
+    script: &Script,
+    writer: &mut W,
+) -> Status
+    ensures { Written (IsPictureText world.now.history.trace (refusals_of script.now.lines script.now.events world.now.history.replies) Verdict.Holds) (W.contents writer.old) (W.contents writer.new) result }
+{
+    let events = world.trace().events();
+    match refusals_of(alloc, script.lines(), script.events(), world.replies()) {
+        Ok(refusals) => {
+            print_picture(alloc, events, refusals.as_slice(), Verdict::Holds, writer)
+        }
+        Err(_) => end_undrawn(writer),
+    }
+}
+
 /// Runs a script's events in a world, and writes the picture of what happened.
 fn play_picture<R: Receiver, W: Write>(alloc: Global, script: &Script, writer: &mut W) -> Status
     ensures { Written (IsDrawingText (TellsRun R.meaning script.now) (λ line fault. ⊥)) (W.contents writer.old) (W.contents writer.new) result }
 {
     let mut world = World::<R>::new(alloc);
     match world.run(script.events()) {
-        Ok(()) => print_picture(alloc, world.trace().events(), writer),
+        Ok(()) => print_world(alloc, &world, script, writer),
         Err(_) => end_undrawn(writer),
     }
 }
 
-/// Runs a script from a reader in a world whose receivers are `R`, and writes to a writer the picture of what happened as an SVG
-/// (docs/FORMATS.md, "Pictures"); or the script's first fault. Answers the exit status.
+/// Checks a trace, and writes its picture, with a mark where a rule breaks.
+fn judge_picture<R: Receiver, W: Write>(alloc: Global, trace: &Trace, writer: &mut W) -> Status
+    ensures { Written (IsDrawingText (IsJudgedAs R.meaning trace.now.events) (λ line fault. ⊥)) (W.contents writer.old) (W.contents writer.new) result }
+{
+    match check::<R>(alloc, trace) {
+        Ok(verdict) => print_picture(alloc, trace.events(), &[], verdict, writer),
+        Err(_) => end_undrawn(writer),
+    }
+}
+
+/// Runs a script from a reader in a world whose receivers are `R`, and writes to a writer the picture of what happened, and of what was
+/// refused, as an SVG (docs/FORMATS.md, "Pictures"); or the script's first fault. Answers the exit status.
 ///
 /// Where memory is refused outside a member's step, it writes nothing, and answers `Status::Memory`.
 pub fn run_draw<R: Receiver, I: Read, W: Write>(
@@ -78,12 +115,16 @@ pub fn run_draw<R: Receiver, I: Read, W: Write>(
     }
 }
 
-/// Reads the text of a trace from a reader, and writes to a writer its picture as an SVG (docs/FORMATS.md, "Pictures"); or the text's
-/// first fault. Answers the exit status.
+/// Reads the text of a trace from a reader, and writes to a writer its picture as an SVG, with a mark where it breaks a rule for receivers
+/// that are `R` (docs/FORMATS.md, "Pictures"); or the text's first fault. Answers the exit status.
 ///
 /// Where memory is refused, it writes nothing, and answers `Status::Memory`.
-pub fn run_draw_trace<I: Read, W: Write>(alloc: Global, reader: &mut I, writer: &mut W) -> Status
-    ensures { DrawsTrace (I.remaining reader.old) (W.contents writer.old) (W.contents writer.new) result }
+pub fn run_draw_trace<R: Receiver, I: Read, W: Write>(
+    alloc: Global,
+    reader: &mut I,
+    writer: &mut W,
+) -> Status
+    ensures { DrawsTrace R.meaning (I.remaining reader.old) (W.contents writer.old) (W.contents writer.new) result }
 {
     let bytes = match read_all(alloc, reader) {
         Ok(bytes) => bytes,
@@ -91,7 +132,7 @@ pub fn run_draw_trace<I: Read, W: Write>(alloc: Global, reader: &mut I, writer: 
         Err(Unreadable::Failed) => return Status::Outside,
     };
     match read_trace(alloc, bytes.as_slice()) {
-        Ok(trace) => print_picture(alloc, trace.events(), writer),
+        Ok(trace) => judge_picture::<R, W>(alloc, &trace, writer),
         Err(Unread::Fault { line, fault }) => refuse(alloc, writer, line, fault),
         Err(Unread::Memory) => end_undrawn(writer),
     }

@@ -6,6 +6,7 @@ mod checks;
 mod draws;
 mod ends;
 mod packets;
+mod refusals;
 mod scripts;
 mod status;
 

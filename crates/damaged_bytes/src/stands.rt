@@ -14,7 +14,7 @@ pub type Chat = Channel<ChatLog>;
 pub const GROUP: &[u8] = b"world";
 
 /// FLUSH of 2@1.1 with 1.1 and 2.1, to 2.1.
-const FLUSH: &[u8] = b"56530209 05 776f726c64 000100000001 000200000001
+const FLUSH: &[u8] = b"56530309 05 776f726c64 000100000001 000200000001
     0000000000000002 000100000001 02 000100000001 000200000001";
 
 /// How a channel stands.

@@ -1,19 +1,29 @@
 //! Where the events of worked traces stand.
 
 use address::{Address, Node};
+use limits::Refusal;
 use std::alloc::Global;
-use trace_drawing::{Line, Row, lay_out};
+use trace_drawing::{Layout, Line, Refused, RefusedRow, Row, lay_out};
 use trace_reader::read_trace;
 
-/// Whether a trace has these rows.
+/// Whether a trace in which nothing was refused has these rows, each at the next level.
 fn has_rows(alloc: Global, text: &[u8], wanted: &[Row]) -> bool {
     let Ok(trace) = read_trace(alloc, text) else {
         return false;
     };
-    match lay_out(alloc, trace.events()) {
-        Ok(layout) => layout.rows.as_slice() == wanted,
-        Err(_) => false,
+    let Ok(layout) = lay_out(alloc, trace.events(), &[]) else {
+        return false;
+    };
+    for (level, row) in wanted.iter().enumerate() {
+        let wanted = Row {
+            level: level as u32,
+            ..*row
+        };
+        if layout.rows.get(level) != Some(&wanted) {
+            return false;
+        }
     }
+    layout.rows.len() == wanted.len()
 }
 
 /// Whether a trace has these lines.
@@ -21,7 +31,7 @@ fn has_lines(alloc: Global, text: &[u8], wanted: &[Line]) -> bool {
     let Ok(trace) = read_trace(alloc, text) else {
         return false;
     };
-    match lay_out(alloc, trace.events()) {
+    match lay_out(alloc, trace.events(), &[]) {
         Ok(layout) => layout.lines.as_slice() == wanted,
         Err(_) => false,
     }
@@ -31,6 +41,7 @@ fn has_lines(alloc: Global, text: &[u8], wanted: &[Line]) -> bool {
 fn first(column: u32) -> Row {
     Row {
         column,
+        level: 0,
         before: None,
         blocked: false,
         origin: None,
@@ -41,6 +52,7 @@ fn first(column: u32) -> Row {
 fn later(column: u32, before: u32, origin: Option<u32>) -> Row {
     Row {
         column,
+        level: 0,
         before: Some(before),
         blocked: false,
         origin,
@@ -139,4 +151,65 @@ fn a_line_goes_from_the_first_event_to_the_last(rt: HostRuntime) {
         },
     ];
     assert!(rt; has_lines(rt.alloc(), text, &wanted));
+}
+
+/// What a node refused at a place.
+fn refused(place: usize, number: u16, line: u64) -> Refused {
+    Refused {
+        place,
+        node: Node::new(number).unwrap(),
+        line,
+        refusal: Refusal::Busy,
+    }
+}
+
+/// Where it is drawn.
+fn drawn(column: Option<u32>, level: u32, line: u64) -> RefusedRow {
+    RefusedRow {
+        column,
+        level,
+        line,
+        refusal: Refusal::Busy,
+    }
+}
+
+/// The levels of a layout's rows.
+fn has_levels(layout: &Layout, levels: &[u32]) -> bool {
+    layout.rows.len() == levels.len()
+        && layout
+            .rows
+            .iter()
+            .zip(levels.iter())
+            .all(|(row, level)| row.level == *level)
+}
+
+#[test]
+fn refusals_stand_between_events(rt: HostRuntime) {
+    let text = b"started 4.1\nstarted 2.1\ncrashed 4.1\nstarted 4.2\n";
+    let trace = read_trace(rt.alloc(), text).unwrap();
+    let refusals = [
+        refused(0, 4, 1),
+        refused(1, 4, 3),
+        refused(1, 2, 4),
+        refused(3, 4, 7),
+        refused(4, 4, 9),
+    ];
+    let layout = lay_out(rt.alloc(), trace.events(), &refusals).unwrap();
+    assert!(rt; has_levels(&layout, &[1, 4, 5, 7]), "events");
+    assert!(rt;
+        layout.rows[2].before == Some(1),
+        "the crash is below the start"
+    );
+    let wanted = [
+        drawn(None, 0, 1),
+        drawn(Some(0), 2, 3),
+        drawn(None, 3, 4),
+        drawn(Some(0), 6, 7),
+        drawn(Some(2), 8, 9),
+    ];
+    assert!(rt; layout.refused.as_slice() == wanted.as_slice(), "refusals");
+    assert!(rt;
+        layout.lines[0].first == 1 && layout.lines[0].last == 5,
+        "the line of 4.1"
+    );
 }

@@ -1,15 +1,23 @@
 //! The pictures of worked traces, spelled out by hand.
 
+use address::Node;
+use limits::Refusal;
 use std::alloc::Global;
-use trace_drawing::draw;
+use trace_drawing::{Refused, draw};
+use trace_props::{Rule, Verdict};
 use trace_reader::read_trace;
 
-/// Whether the picture of a trace begins and ends so.
+/// Whether the picture of a trace that keeps all rules begins and ends so.
 fn draws(alloc: Global, text: &[u8], front: &[u8], back: &[u8]) -> bool {
+    draws_with(alloc, text, Verdict::Holds, front, back)
+}
+
+/// Whether the picture of a trace with a verdict begins and ends so.
+fn draws_with(alloc: Global, text: &[u8], verdict: Verdict, front: &[u8], back: &[u8]) -> bool {
     let Ok(trace) = read_trace(alloc, text) else {
         return false;
     };
-    match draw(alloc, trace.events()) {
+    match draw(alloc, trace.events(), &[], verdict) {
         Ok(picture) => picture.as_slice().starts_with(front) && picture.as_slice().ends_with(back),
         Err(_) => false,
     }
@@ -128,4 +136,107 @@ fn an_end_is_marked(rt: HostRuntime) {
         draws(rt.alloc(), b"crashed 1.1\n", b"<svg ", crashed),
         "crashed"
     );
+}
+
+/// A verdict that names a rule and a place.
+fn breaks(rule: Rule, place: u64) -> Verdict {
+    Verdict::Breaks { rule, place }
+}
+
+#[test]
+fn a_broken_rule_is_marked_where_it_breaks(rt: HostRuntime) {
+    let text = b"started 1.1\nstarted 2.1\nblocked 2.1\nleft 1.1\n";
+    let front = b"<svg xmlns='http://www.w3.org/2000/svg' width='610' height='168'><style>";
+    let back =
+        b"</style><g><title>happens out of place\nblocked 2.1\n</title><path class='f' d='M230 104m-60-10h165v20h-165z'/>\
+        <text class='q' x='342' y='108'>happens out of place</text></g>\n</svg>\n";
+    assert!(rt; draws_with(rt.alloc(), text, breaks(Rule::WellPlaced, 3), front, back));
+}
+
+#[test]
+fn each_rule_has_its_words(rt: HostRuntime) {
+    let words: [(Rule, &[u8]); 8] = [
+        (
+            Rule::WellPlaced,
+            b">happens out of place</text></g>\n</svg>\n",
+        ),
+        (
+            Rule::RisingViews,
+            b">not a view that it may install</text></g>\n</svg>\n",
+        ),
+        (
+            Rule::SoundMessages,
+            b">not its sender's next message</text></g>\n</svg>\n",
+        ),
+        (
+            Rule::OneOrder,
+            b">delivered in another order</text></g>\n</svg>\n",
+        ),
+        (
+            Rule::SameNext,
+            b">other messages delivered before</text></g>\n</svg>\n",
+        ),
+        (
+            Rule::Together,
+            b">others came together with it</text></g>\n</svg>\n",
+        ),
+        (
+            Rule::HandedBack,
+            b">other messages to be handed back</text></g>\n</svg>\n",
+        ),
+        (
+            Rule::StateOfEntry,
+            b">enters with another state</text></g>\n</svg>\n",
+        ),
+    ];
+    for (rule, back) in words {
+        assert!(rt; draws_with(rt.alloc(), b"left 1.1\n", breaks(rule, 1), b"<svg ", back));
+    }
+}
+
+#[test]
+fn a_place_outside_of_the_trace_has_no_mark(rt: HostRuntime) {
+    let back = b">left</text></g>\n</svg>\n";
+    for place in [0, 2, 4_294_967_296] {
+        assert!(rt;
+            draws_with(
+                rt.alloc(),
+                b"left 1.1\n",
+                breaks(Rule::OneOrder, place),
+                b"<svg ",
+                back
+            )
+        );
+    }
+}
+
+#[test]
+fn a_refusal_is_grey_between_the_events(rt: HostRuntime) {
+    let trace = read_trace(rt.alloc(), b"started 5.1\nleft 5.1\n").unwrap();
+    let refusals = [
+        Refused {
+            place: 1,
+            node: Node::new(5).unwrap(),
+            line: 2,
+            refusal: Refusal::NotConnected,
+        },
+        Refused {
+            place: 2,
+            node: Node::new(6).unwrap(),
+            line: 40,
+            refusal: Refusal::TooLong,
+        },
+    ];
+    let picture = draw(rt.alloc(), trace.events(), &refusals, Verdict::Holds).unwrap();
+    let front = b"<svg xmlns='http://www.w3.org/2000/svg' width='230' height='168'><style>";
+    let back = b"<g class='c0'><title>left 5.1\n</title><text class='r' x='40' y='108'>2</text>\
+        <path class='o' d='M110 104m-6 0a6 6 0 1 0 12 0a6 6 0 1 0-12 0'/><text class='t' x='121' y='108'>left</text></g>\n\
+        <style>.u{fill:#fff;stroke:#999;stroke-width:1.5}.e{font-size:10px;fill:#999;paint-order:stroke;stroke:#fff;stroke-width:3px}\
+        @media screen and (prefers-color-scheme:dark){.u{fill:#16181c;stroke:#777}.e{fill:#777;stroke:#16181c}}</style>\
+        <g><title># refused 2 1\n</title><path class='u' d='M110 82m-5 0a5 5 0 1 0 10 0a5 5 0 1 0-10 0m2 0h6'/>\
+        <text class='e' x='121' y='86'>not connected</text></g>\n\
+        <g><title># refused 40 4\n</title><path class='u' d='M60 126m-5 0a5 5 0 1 0 10 0a5 5 0 1 0-10 0m2 0h6'/>\
+        <text class='e' x='71' y='130'>too long</text></g>\n</svg>\n";
+    assert!(rt; picture.as_slice().starts_with(front), "its size");
+    assert!(rt; picture.as_slice().ends_with(back), "its marks");
 }

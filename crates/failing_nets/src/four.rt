@@ -77,7 +77,7 @@ impl<'a> Four<'a> {
         for number in 1..=4u16 {
             let channel = connected(alloc, number)?;
             let net = Wire::new(wires, first_at(number).node());
-            members.push(Runner::new(alloc, net, channel, SILENT)?)?;
+            members.push(Runner::new(alloc, net, channel, &[], SILENT)?)?;
         }
         Ok(Four {
             alloc,

@@ -24,7 +24,7 @@ pub const CHUNK: usize = 32_768;
 pub const OUTSTANDING: u64 = 8;
 
 /// How far the numbers of a view's order may lie past the stable one, in messages: what a window takes and keeps, and a packet can carry.
-pub const WINDOW: u64 = 32;
+pub const WINDOW: u64 = 64;
 
 /// The most events of one step of a member, and so the places of the trace that are reserved before each step; in events. In a step at most the
 /// messages of a window are delivered, and a few views change.
@@ -49,7 +49,7 @@ pub const DATAGRAM: usize = 40_000;
 pub const MAGIC: u16 = 22_099;
 
 /// The version of the format of packets, as its number on the wire.
-pub const VERSION: u8 = 2;
+pub const VERSION: u8 = 3;
 
 /// How many kinds of packet there are, numbered from 1.
 pub const KINDS: u8 = 14;

@@ -34,10 +34,10 @@ fn next(window: &mut Window) -> u64 {
     }
 }
 
-/// The window that took 32, 1, 2 and 3, delivered three and knows two to be stable.
+/// The window that took 64, 1, 2 and 3, delivered three and knows two to be stable.
 fn after_three(alloc: Global) -> Result<Window, AllocError> {
     let mut window = Window::new(alloc)?;
-    for g in [32, 1, 2, 3] {
+    for g in [64, 1, 2, 3] {
         offered(&mut window, g);
     }
     for _ in 0..4 {
@@ -50,24 +50,24 @@ fn after_three(alloc: Global) -> Result<Window, AllocError> {
 #[test]
 fn an_entry_out_of_reach_is_not_taken(rt: HostRuntime) {
     let mut window = Window::new(rt.alloc()).ok().expect(&rt, "a window");
-    assert!(rt; !offered(&mut window, 33), "33 of a window of 32");
-    assert!(rt; offered(&mut window, 32), "32 of a window of 32");
+    assert!(rt; !offered(&mut window, 65), "65 of a window of 64");
+    assert!(rt; offered(&mut window, 64), "64 of a window of 64");
 }
 
 #[test]
 fn an_entry_is_taken_once(rt: HostRuntime) {
     let mut window = Window::new(rt.alloc()).ok().expect(&rt, "a window");
-    assert!(rt; offered(&mut window, 32), "first");
-    assert!(rt; !offered(&mut window, 32), "again");
+    assert!(rt; offered(&mut window, 64), "first");
+    assert!(rt; !offered(&mut window, 64), "again");
 }
 
 #[test]
 fn nothing_is_delivered_behind_a_gap(rt: HostRuntime) {
     let mut window = Window::new(rt.alloc()).ok().expect(&rt, "a window");
-    assert!(rt; offered(&mut window, 32), "32 is taken");
+    assert!(rt; offered(&mut window, 64), "64 is taken");
     assert!(rt; offered(&mut window, 1), "1 is taken");
     assert_eq!(rt; next(&mut window), 1, "1 is delivered");
-    assert_eq!(rt; next(&mut window), 0, "32 is not");
+    assert_eq!(rt; next(&mut window), 0, "64 is not");
 }
 
 #[test]
@@ -106,17 +106,17 @@ fn lets_go_what_is_stable(rt: HostRuntime) {
 }
 
 #[test]
-fn reaches_32_behind_what_is_stable(rt: HostRuntime) {
+fn reaches_64_behind_what_is_stable(rt: HostRuntime) {
     let mut window = after_three(rt.alloc()).ok().expect(&rt, "a window");
-    assert!(rt; offered(&mut window, 34), "34 behind 2");
-    assert!(rt; !offered(&mut window, 35), "35 behind 2");
+    assert!(rt; offered(&mut window, 66), "66 behind 2");
+    assert!(rt; !offered(&mut window, 67), "67 behind 2");
 }
 
 #[test]
 fn says_its_gaps(rt: HostRuntime) {
     let mut window = after_three(rt.alloc()).ok().expect(&rt, "a window");
-    assert!(rt; offered(&mut window, 34), "34 is taken");
-    assert!(rt; window.gaps(34) == Some((4, 33)), "what lacks before 34");
+    assert!(rt; offered(&mut window, 66), "66 is taken");
+    assert!(rt; window.gaps(66) == Some((4, 65)), "what lacks before 66");
     assert!(rt; window.gaps(3).is_none(), "nothing lacks up to 3");
 }
 
@@ -146,8 +146,8 @@ fn last_held(window: &Window) -> u64 {
 #[test]
 fn a_slot_has_the_entry_of_its_number(rt: HostRuntime) {
     let window = after_three(rt.alloc()).ok().expect(&rt, "a window");
-    assert_eq!(rt; window.held_count(), 2, "3 and 32 are held");
-    assert_eq!(rt; last_held(&window), 32, "the last of them");
+    assert_eq!(rt; window.held_count(), 2, "3 and 64 are held");
+    assert_eq!(rt; last_held(&window), 64, "the last of them");
 }
 
 #[test]

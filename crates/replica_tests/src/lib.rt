@@ -1,8 +1,10 @@
-//! The tests of the replicated map, and of what reads bytes and keeps entries by their keys below it.
+//! The tests of the replicated map and of the table of locks, and of what reads bytes and keeps entries by their keys below it.
 #![tactic(auto)]
 
 #[cfg(test)]
 mod entries_tests;
+#[cfg(test)]
+mod lock_tests;
 #[cfg(test)]
 mod map_tests;
 #[cfg(test)]

@@ -141,27 +141,27 @@ fn a_node_where_none_runs_is_not_caught_up(rt: HostRuntime) {
 }
 
 #[test]
-fn thirty_two_lost_messages_are_recovered(rt: HostRuntime) {
+fn sixty_four_lost_messages_are_recovered(rt: HostRuntime) {
     let alloc = rt.alloc();
     let mut world = behind(alloc, &[]).expect(&rt, "the events are done");
-    for _ in 0..32 {
+    for _ in 0..64 {
         let payload = Bytes::from_slice(alloc, b"x").expect(&rt, "there is memory");
         assert!(rt;
             world.run(&[WorldEvent::Send(node(1), payload)]).is_ok(),
             "it is sent"
         );
     }
-    assert!(rt; world.packets().len() == 36, "thirty-two ORDERs are lost");
+    assert!(rt; world.packets().len() == 68, "sixty-four ORDERs are lost");
     assert!(rt;
         world.catch_up(node(2)) == Ok(true),
         "the catch-up is played"
     );
     assert!(rt;
-        delivered_to_second(&world) == 32,
+        delivered_to_second(&world) == 64,
         "all are delivered to 2.1"
     );
     assert!(rt;
-        world.packets().len() == 102,
-        "a STATUS, a NAK, 32 ORDERs, 32 ACKs"
+        world.packets().len() == 198,
+        "a STATUS, a NAK, 64 ORDERs, 64 ACKs"
     );
 }

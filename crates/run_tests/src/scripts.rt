@@ -8,7 +8,7 @@ use world_model::WorldEvent;
 
 /// The JOIN of 2.1 to 9.1.
 const JOIN: [u8; 22] = [
-    b'V', b'S', 2, 1, 5, b'w', b'o', b'r', b'l', b'd', 0, 2, 0, 0, 0, 1, 0, 9, 0, 0, 0, 1,
+    b'V', b'S', 3, 1, 5, b'w', b'o', b'r', b'l', b'd', 0, 2, 0, 0, 0, 1, 0, 9, 0, 0, 0, 1,
 ];
 
 /// The packet K that a world put out.
@@ -73,7 +73,7 @@ fn a_node_runs_once_it_was_started(rt: HostRuntime) {
 
 /// The MERGE of the first view of 1.1 to 2.1.
 const MERGE: [u8; 43] = [
-    b'V', b'S', 2, 13, 5, b'w', b'o', b'r', b'l', b'd', 0, 1, 0, 0, 0, 1, 0, 2, 0, 0, 0, 1, 0, 0,
+    b'V', b'S', 3, 13, 5, b'w', b'o', b'r', b'l', b'd', 0, 1, 0, 0, 0, 1, 0, 2, 0, 0, 0, 1, 0, 0,
     0, 0, 0, 0, 0, 1, 0, 1, 0, 0, 0, 1, 1, 0, 1, 0, 0, 0, 1,
 ];
 
@@ -131,8 +131,8 @@ fn packets_of(alloc: Global, script: &[u8]) -> (Vec<u8>, Status) {
 fn packets_are_printed_in_order(rt: HostRuntime) {
     let (text, status) = packets_of(rt.alloc(), b"start 2\njoin 2 9.1\ntick 2\n");
     let wanted = b"\
-        1 JOIN 2.1 9.1 5653020105776f726c64000200000001000900000001\n\
-        2 JOIN 2.1 9.1 5653020105776f726c64000200000001000900000001\n"
+        1 JOIN 2.1 9.1 5653030105776f726c64000200000001000900000001\n\
+        2 JOIN 2.1 9.1 5653030105776f726c64000200000001000900000001\n"
         .as_slice();
     assert!(rt; text.as_slice() == wanted, "the lines");
     assert!(rt; status == Status::Done, "the status");

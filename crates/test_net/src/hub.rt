@@ -1,10 +1,14 @@
 use crate::{Wire, Wires};
 use address::Node;
 use std::cell::RefCell;
+use std::time::Duration;
 use udp_net::BindError;
-use udp_runs::Machine;
+use udp_runs::{Machine, Tally};
 
-/// The machine whose nodes these wires join.
+/// How much later it is each time that the machine is asked for the time, in milliseconds.
+const STEP: u64 = 10;
+
+/// The machine whose nodes these wires join. Its time goes on by `STEP` each time that it is asked for.
 #[derive(Drop)]
 pub struct Hub<'a> {
     /// The wires.
@@ -23,9 +27,16 @@ impl<'a> Machine for Hub<'a> {
         Ok(Wire::new(self.wires, node))
     }
 
-    fn pause(&mut self) {
+    fn now(&mut self) -> Duration {
+        match self.wires.try_borrow_mut() {
+            Ok(mut wires) => wires.pass(Duration::from_millis(STEP)),
+            Err(_) => Duration::MAX,
+        }
+    }
+
+    fn tell(&mut self, tally: &Tally) {
         if let Ok(mut wires) = self.wires.try_borrow_mut() {
-            wires.pauses = wires.pauses.wrapping_add(1);
+            wires.tally = Some(*tally);
         }
     }
 }

@@ -7,7 +7,7 @@ use udp_net::{Settings, settings};
 
 /// The settings of nodes 1 to 4, with 50 rounds of silence.
 pub const FOUR: &str =
-    "group = \"chat\"\nsilent = 50\n[[node]]\nnumber = 1\nport = 47401\n[[node]]\nnumber = 2\nport = 47402\n[[node]]\nnumber = 3\nport = 47403\n[[node]]\nnumber = 4\nport = 47404\n";
+    "group = \"chat\"\nsilent = 50\n[[node]]\nnumber = 1\nport = 27401\n[[node]]\nnumber = 2\nport = 27402\n[[node]]\nnumber = 3\nport = 27403\n[[node]]\nnumber = 4\nport = 27404\n";
 
 /// Four that part into two pairs, send on each side, and merge.
 pub const MERGE: &[u8] =

@@ -4,8 +4,10 @@ use address::Node;
 use std::alloc::Global;
 use std::cell::RefCell;
 use std::collections::VecDeque;
+use std::time::Duration;
 use trace_props::Bytes;
 use udp_net::{Fault, Net};
+use udp_runs::Tally;
 
 /// Which call fails. Of all nodes, the first of each kind is numbered 1.
 #[derive(Clone, Copy, Debug, PartialEq, Eq)]
@@ -33,8 +35,11 @@ pub struct Wires {
     failing: Failing,
     /// The node for which no net can be made.
     pub taken: Option<Node>,
-    /// How many pauses there were.
-    pub pauses: u64,
+    /// How often a net of theirs waited.
+    pub waits: u64,
+    /// What a node that ran by itself told last.
+    pub tally: Option<Tally>,
+    time: Duration,
 }
 
 impl Wires {
@@ -52,8 +57,16 @@ impl Wires {
             sends: 0,
             failing,
             taken: None,
-            pauses: 0,
+            waits: 0,
+            tally: None,
+            time: Duration::ZERO,
         }
+    }
+
+    // Lets time pass, and answers what time it is then.
+    pub(crate) fn pass(&mut self, time: Duration) -> Duration {
+        self.time = self.time.saturating_add(time);
+        self.time
     }
 
     // Puts a datagram for a node behind the others, unless this send fails.
@@ -121,6 +134,8 @@ impl Net for Wire<'_> {
 
     ghost failed = { λ n. n.failures };
 
+    ghost unsent = { λ _. 0 };
+
     fn send(&mut self, node: Node, bytes: &[u8]) {
         if let Ok(mut wires) = self.wires.try_borrow_mut() {
             wires.send(node, bytes);
@@ -142,7 +157,17 @@ impl Net for Wire<'_> {
         }
     }
 
+    fn wait(&mut self, _limit: Duration) {
+        if let Ok(mut wires) = self.wires.try_borrow_mut() {
+            wires.waits = wires.waits.wrapping_add(1);
+        }
+    }
+
     fn failures(&self) -> u64 {
         self.failures
+    }
+
+    fn unsent(&self) -> u64 {
+        0
     }
 }

@@ -25,43 +25,44 @@ origin-known s v t (Installed i) a b = b i.view.id
 origin-known s v t (Left p) a b = refl
 origin-known s v t (Crashed p) a b = refl
 
-abbrev row : ℕ → Option ℕ → Bool → Option ℕ → Row
-row c b k o = record { column = c; before = b; blocked = k; origin = o }
+abbrev row : ℕ → ℕ → Option ℕ → Bool → Option ℕ → Row
+row c n b k o = record { column = c; level = n; before = b; blocked = k; origin = o }
 
-row-same : (c d : ℕ) (a b : Option ℕ) (k l : Bool) (o q : Option ℕ) → c ≡ d → a ≡ b → k ≡ l → o ≡ q → row c a k o ≡ row d b l q
-row-same c d a b k l o q e f g h = ap (λ x. row x a k o) e ∙ ap (λ x. row d x k o) f ∙ ap (λ x. row d b x o) g ∙ ap (λ x. row d b l x) h
+row-same : (c d n m : ℕ) (a b : Option ℕ) (k l : Bool) (o q : Option ℕ) → c ≡ d → n ≡ m → a ≡ b → k ≡ l → o ≡ q → row c n a k o ≡ row d m b l q
+row-same c d n m a b k l o q e i f g h = ap (λ x. row x n a k o) e ∙ ap (λ x. row d x a k o) i ∙ ap (λ x. row d m x k o) f ∙ ap (λ x. row d m b x o) g ∙ ap (λ x. row d m b l x) h
 
 -- the row of an event of a member that is known
-pub row-known : (ms : List Address) (m : Address → Option Lifeline) (s : MessageKey → Option ℕ) (v : ViewId → Option ℕ) (t : List Event) (e : Event) (l : Lifeline) (o : Option ℕ)
-    → Some l ≡ m (member_of e) → o ≡ reached_by s v e → Knows ms m s v t
-    → row l.column (Some l.last) l.blocked o ≡ row_of t e
-row-known ms m s v t e l o is reached knows =
+pub row-known : (at : ℕ → ℕ) (ms : List Address) (m : Address → Option Lifeline) (s : MessageKey → Option ℕ) (v : ViewId → Option ℕ) (t : List Event) (e : Event) (l : Lifeline) (o : Option ℕ) (n : ℕ)
+    → Some l ≡ m (member_of e) → o ≡ reached_by s v e → n ≡ at (length t) → Knows at ms m s v t
+    → row l.column n (Some l.last) l.blocked o ≡ row_of at t e
+row-known at ms m s v t e l o n is reached here knows =
     let p = member_of e in
-    row-same l.column (column_of p t) (Some l.last) (last_place (happens_to p) t) l.blocked (is_blocked p t) o (origin_of t e)
+    row-same l.column (column_of p t) n (at (length t)) (Some l.last) (option_map at (last_place (happens_to p) t)) l.blocked (is_blocked p t) o (origin_of t e)
     (ap (λ k. unwrap_or (option_map (λ x. x.column) k) (length (members_in t))) is ∙ ap (λ r. unwrap_or r (length (members_in t))) (knows.of_members.columns p))
+    here
     (ap (λ k. option_map (λ x. x.last) k) is ∙ knows.of_members.lasts p)
     (ap (λ k. unwrap_or (option_map (λ x. x.blocked) k) false) is ∙ knows.of_members.blocked p)
     (reached ∙ origin-known s v t e knows.of_sends knows.of_installs)
 
 -- the rows of a trace, one event further
-rows_from-push : (past t : List Event) (e : Event) → rows_from past (t ++ e ∷ []) ≡ rows_from past t ++ row_of (past ++ t) e ∷ []
-rows_from-push past [] e = ap (λ p. row_of p e ∷ []) (sym (append-nil past))
-rows_from-push past (x ∷ xs) e = ap (λ rs. row_of past x ∷ rs) (rows_from-push (past ++ x ∷ []) xs e ∙ ap (λ p. rows_from (past ++ x ∷ []) xs ++ row_of p e ∷ []) (append_assoc past (x ∷ []) xs))
+rows_from-push : (at : ℕ → ℕ) (past t : List Event) (e : Event) → rows_from at past (t ++ e ∷ []) ≡ rows_from at past t ++ row_of at (past ++ t) e ∷ []
+rows_from-push at past [] e = ap (λ p. row_of at p e ∷ []) (sym (append-nil past))
+rows_from-push at past (x ∷ xs) e = ap (λ rs. row_of at past x ∷ rs) (rows_from-push at (past ++ x ∷ []) xs e ∙ ap (λ p. rows_from at (past ++ x ∷ []) xs ++ row_of at p e ∷ []) (append_assoc past (x ∷ []) xs))
 
-next-take : {X : Type 0} (xs : List X) (i : ℕ) (x : X) → x ≡ get_or xs i x → i < length xs → take (i + 1) xs ≡ take i xs ++ x ∷ []
+pub next-take : {X : Type 0} (xs : List X) (i : ℕ) (x : X) → x ≡ get_or xs i x → i < length xs → take (i + 1) xs ≡ take i xs ++ x ∷ []
 next-take xs i x at inside =
     let e : i + 1 ≡ suc i = omega arith in
     ap (λ n. take n xs) e ∙ take-suc xs i x inside ∙ ap (λ y. take i xs ++ y ∷ []) (sym at)
 
-length-front : {X : Type 0} (xs : List X) (i : ℕ) → i < length xs → i ≡ length (take i xs)
+pub length-front : {X : Type 0} (xs : List X) (i : ℕ) → i < length xs → i ≡ length (take i xs)
 length-front xs i inside = omega (arith, length-take i xs)
 
 -- one row more, and what is kept serves one event further
-pub rows-next : (events : List Event) (i : ℕ) (e : Event) (rows more : List Row) (r : Row) → e ≡ get_or events i e → i < length events
-    → rows ≡ rows_of (take i events) → r ≡ row_of (take i events) e → more ≡ rows ++ r ∷ [] → more ≡ rows_of (take (i + 1) events)
-rows-next events i e rows more r at inside so_far is pushed =
-    pushed ∙ ap (λ rs. rs ++ r ∷ []) so_far ∙ ap (λ x. rows_of (take i events) ++ x ∷ []) is
-    ∙ sym (ap rows_of (next-take events i e at inside) ∙ rows_from-push [] (take i events) e)
+pub rows-next : (at : ℕ → ℕ) (events : List Event) (i : ℕ) (e : Event) (rows more : List Row) (r : Row) → e ≡ get_or events i e → i < length events
+    → rows ≡ rows_of at (take i events) → r ≡ row_of at (take i events) e → more ≡ rows ++ r ∷ [] → more ≡ rows_of at (take (i + 1) events)
+rows-next at events i e rows more r stands inside so_far is pushed =
+    pushed ∙ ap (λ rs. rs ++ r ∷ []) so_far ∙ ap (λ x. rows_of at (take i events) ++ x ∷ []) is
+    ∙ sym (ap (rows_of at) (next-take events i e stands inside) ∙ rows_from-push at [] (take i events) e)
 
 pub known-next : (events : List Event) (i : ℕ) (e : Event) (K : List Event → Type 0) → e ≡ get_or events i e → i < length events
     → (i ≡ length (take i events) → K (take i events ++ e ∷ [])) → K (take (i + 1) events)
@@ -70,12 +71,15 @@ known-next events i e K at inside then = subst K (sym (next-take events i e at i
 -- LINES
 
 -- one member more
-pub lines-next : (t : List Event) (members items : List Address) (i : ℕ) (p : Address) (lines : List Line) → items ≡ members → p ≡ get_or items i p → i < length items
-    → lines ≡ filter_map (member_line t) (take i members) → (o : Option Line) → o ≡ member_line t p → lines ++ cons_option o [] ≡ filter_map (member_line t) (take (i + 1) members)
-lines-next t members items i p lines same at inside so_far o is =
-    ap (λ ls. ls ++ cons_option o []) so_far ∙ ap (λ xs. filter_map (member_line t) (take i xs) ++ cons_option o []) (sym same) ∙ ap (λ x. filter_map (member_line t) (take i items) ++ cons_option x []) is
-    ∙ sym (ap (filter_map (member_line t)) (next-take items i p at inside) ∙ filter_map-append (member_line t) (take i items) (p ∷ []))
-    ∙ ap (λ xs. filter_map (member_line t) (take (i + 1) xs)) same
+pub lines-next : (at : ℕ → ℕ) (t : List Event) (members items : List Address) (i : ℕ) (p : Address) (lines : List Line) → items ≡ members → p ≡ get_or items i p → i < length items
+    → lines ≡ filter_map (member_line at t) (take i members) → (o : Option Line) → o ≡ member_line at t p → lines ++ cons_option o [] ≡ filter_map (member_line at t) (take (i + 1) members)
+lines-next at t members items i p lines same stands inside so_far o is =
+    ap (λ ls. ls ++ cons_option o []) so_far ∙ ap (λ xs. filter_map (member_line at t) (take i xs) ++ cons_option o []) (sym same) ∙ ap (λ x. filter_map (member_line at t) (take i items) ++ cons_option x []) is
+    ∙ sym (ap (filter_map (member_line at t)) (next-take items i p stands inside) ∙ filter_map-append (member_line at t) (take i items) (p ∷ []))
+    ∙ ap (λ xs. filter_map (member_line at t) (take (i + 1) xs)) same
 
-pub row-column : (r : Row) (t : List Event) (e : Event) → r ≡ row_of t e → r.column ≡ column_of (member_of e) t
-row-column r t e is = ap (λ x. x.column) is
+pub row-column : (at : ℕ → ℕ) (r : Row) (t : List Event) (e : Event) → r ≡ row_of at t e → r.column ≡ column_of (member_of e) t
+row-column at r t e is = ap (λ x. x.column) is
+
+pub row-level : (at : ℕ → ℕ) (r : Row) (t : List Event) (e : Event) → r ≡ row_of at t e → r.level ≡ at (length t)
+row-level at r t e is = ap (λ x. x.level) is

@@ -1,23 +1,33 @@
 -- Texts that are appended one behind another.
-use Rattle.std.proofs.Common.{◌≡◌, ℕ, ◌+◌, ◌<◌, List, [], ◌∷◌, ◌++◌, length, take, drop, get_or, suc, sym, refl, ap, ◌∙◌, arith, append_assoc, append-nil}
+use Rattle.std.proofs.Common.{◌≡◌, ◌==◌, true, false, ℕ, ◌+◌, ◌<◌, List, [], ◌∷◌, ◌++◌, length, take, drop, get_or, suc, sym, refl, ap, ◌∙◌, arith, append_assoc, append-nil}
 use Rattle.std.proofs.Math.Seq.{take-suc, drop-cons}
 use Rattle.std.specs.Prelude.{flat_map}
 use Rattle.std.proofs.lemmas.Grind.{flat_map-append}
 use Rattle.trace_props.specs.declared.event.Event.{Event}
 use Rattle.trace_drawing.specs.declared.row.Row.{Row}
+use Rattle.trace_drawing.specs.declared.refusals.TheConstants.{REFUSED_STYLE}
+use Rattle.trace_drawing.specs.declared.refused.RefusedRow.{RefusedRow}
+use Rattle.trace_drawing.specs.Refused.{refused_group, refused_text}
 use Rattle.trace_drawing.specs.Layout.{rows_from, rows_of}
 use Rattle.trace_drawing.specs.Picture.{event_group, event_groups}
 
 pub after-three : (a b c d x y z : List ℕ) → b ≡ a ++ x → c ≡ b ++ y → d ≡ c ++ z → d ≡ a ++ (x ++ y ++ z)
 after-three a b c d x y z e f g = g ∙ ap (λ u. u ++ z) (f ∙ ap (λ u. u ++ y) e ∙ append_assoc a x y) ∙ append_assoc a (x ++ y) z
 
--- one text more of those that stand one behind another
-pub texts-next : {X : Type 0} (f : X → List ℕ) (xs : List X) (i : ℕ) (x : X) (a b c : List ℕ) → x ≡ get_or xs i x → i < length xs → b ≡ a ++ flat_map f (take i xs) → c ≡ b ++ f x → c ≡ a ++ flat_map f (take (i + 1) xs)
-texts-next f xs i x a b c at inside so_far more =
+pub after-four : (a b c d e x y z w : List ℕ) → b ≡ a ++ x → c ≡ b ++ y → d ≡ c ++ z → e ≡ d ++ w → e ≡ a ++ (x ++ y ++ z ++ w)
+after-four a b c d e x y z w f g h k = k ∙ ap (λ u. u ++ w) (after-three a b c d x y z f g h) ∙ append_assoc a (x ++ y ++ z) w
+
+-- one text more of those that stand one behind another, where `d` stands for what is not there
+pub texts-at : {X : Type 0} (f : X → List ℕ) (xs : List X) (i : ℕ) (x d : X) (a b c : List ℕ) → x ≡ get_or xs i d → i < length xs → b ≡ a ++ flat_map f (take i xs) → c ≡ b ++ f x → c ≡ a ++ flat_map f (take (i + 1) xs)
+texts-at f xs i x d a b c at inside so_far more =
     let e : i + 1 ≡ suc i = omega arith in
-    let next = ap (λ n. flat_map f (take n xs)) e ∙ ap (flat_map f) (take-suc xs i x inside) ∙ flat_map-append f (take i xs) (get_or xs i x ∷ [])
-    ∙ ap (λ t. flat_map f (take i xs) ++ t) (append-nil (f (get_or xs i x)) ∙ ap f (sym at)) in
+    let next = ap (λ n. flat_map f (take n xs)) e ∙ ap (flat_map f) (take-suc xs i d inside) ∙ flat_map-append f (take i xs) (get_or xs i d ∷ [])
+    ∙ ap (λ t. flat_map f (take i xs) ++ t) (append-nil (f (get_or xs i d)) ∙ ap f (sym at)) in
     more ∙ ap (λ t. t ++ f x) so_far ∙ append_assoc a _ _ ∙ ap (λ t. a ++ t) (sym next)
+
+-- one text more
+pub texts-next : {X : Type 0} (f : X → List ℕ) (xs : List X) (i : ℕ) (x : X) (a b c : List ℕ) → x ≡ get_or xs i x → i < length xs → b ≡ a ++ flat_map f (take i xs) → c ≡ b ++ f x → c ≡ a ++ flat_map f (take (i + 1) xs)
+texts-next f xs i x a b c at inside so_far more = texts-at f xs i x x a b c at inside so_far more
 
 -- one event's group more, and the rest is one shorter
 pub groups-next : (rows : List Row) (events : List Event) (k : ℕ) (r d : Row) (e : Event) (out new whole : List ℕ) → r ≡ get_or rows k d → e ≡ get_or events k e → k < length rows → k < length events
@@ -31,10 +41,15 @@ groups-next rows events k r d e out new whole at_row at_event in_rows in_events 
     ∙ ap (λ t. out ++ t) (sym (ap (λ xs. event_groups rows k xs (drop k events)) rest_of_rows ∙ ap (λ xs. event_groups rows k (r ∷ drop (k + 1) rows) xs) rest_of_events))
     ∙ so_far
 
-rows_from-length : (past t : List Event) → length (rows_from past t) ≡ length t
-rows_from-length past [] = refl
-rows_from-length past (e ∷ es) = ap suc (rows_from-length (past ++ e ∷ []) es)
+-- what is drawn of refusals, where there are some
+pub refused-all : (rows : List RefusedRow) → (length rows == 0) ≡ false → REFUSED_STYLE.now ++ flat_map refused_group rows ≡ refused_text rows
+refused-all [] e = absurd (let n : true ≡ false = e in cc)
+refused-all (r ∷ rs) e = refl
+
+rows_from-length : (at : ℕ → ℕ) (past t : List Event) → length (rows_from at past t) ≡ length t
+rows_from-length at past [] = refl
+rows_from-length at past (e ∷ es) = ap suc (rows_from-length at (past ++ e ∷ []) es)
 
 -- a row for each event
-pub rows-length : (t : List Event) → length (rows_of t) ≡ length t
-rows-length t = rows_from-length [] t
+pub rows-length : (at : ℕ → ℕ) (t : List Event) → length (rows_of at t) ≡ length t
+rows-length at t = rows_from-length at [] t

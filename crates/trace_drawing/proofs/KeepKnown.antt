@@ -1,5 +1,5 @@
 -- What is kept of the events, one event further.
-use Rattle.std.proofs.Common.{◌≡◌, ℕ, Bool, true, false, cond, List, [], ◌∷◌, ◌++◌, length, Option, Some, None, is_some, unwrap_or, option_map, sym, refl, ap, ◌∙◌}
+use Rattle.std.proofs.Common.{◌≡◌, ℕ, Bool, true, false, cond, List, [], ◌∷◌, ◌++◌, length, Option, Some, None, is_some, unwrap_or, option_map, nat_eq, sym, refl, ap, ◌∙◌}
 use Rattle.std.specs.Option.{option_map_or}
 use Rattle.std.proofs.lemmas.List.Sums.{fold-append}
 use Rattle.address.specs.Ids.{Address, ViewId, same_address, same_view_id}
@@ -10,8 +10,8 @@ use Rattle.trace_props.specs.Observed.{member_of, is_blocked, has_ended, is_end}
 use Rattle.trace_props.proofs.FactOfObserved.{is_blocked-push, is_blocked-other, is_blocked-now, is_blocked-open, has_ended-still, has_ended-other, has_ended-now}
 use Rattle.trace_drawing.specs.declared.row.MessageKey.{MessageKey}
 use Rattle.trace_drawing.specs.declared.known.Lifeline.{Lifeline}
-use Rattle.trace_drawing.specs.Layout.{first_place, last_place, rank_in, come_up, members_in, column_of, happens_to, same_message, message_sent, view_installed, sends, installs}
-use Rattle.trace_drawing.specs.Known.{blocked_after, lifeline_after, KnowsMembers, KnowsSends, KnowsInstalls}
+use Rattle.trace_drawing.specs.Layout.{first_place, last_place, rank_in, come_up, members_in, column_of, happens_to, happens_at, same_message, message_sent, view_installed, sends, installs}
+use Rattle.trace_drawing.specs.Known.{blocked_after, lifeline_after, KnowsMembers, KnowsSends, KnowsInstalls, KnowsNodes}
 use Rattle.trace_drawing.proofs.FactOfPlaces.{last_place-push, last-hit, last-miss, first-hit, first-miss}
 
 -- TABLES OF LAST PLACES
@@ -35,6 +35,10 @@ installs-noted m n t e row v is at updates was = lasts-noted installs m n t e ro
 
 pub installs-left : (m : ViewId → Option ℕ) (t : List Event) (e : Event) → None ≡ view_installed e → KnowsInstalls m t → KnowsInstalls m (t ++ e ∷ [])
 installs-left m t e is was q = was q ∙ sym (last-miss (installs q) t e (ap (λ o. option_map_or (λ w. same_view_id w q) o false) (sym is)))
+
+pub nodes-noted : (m n : ℕ → Option ℕ) (t : List Event) (e : Event) (row : ℕ) → row ≡ length t
+    → ((q : ℕ) → n q ≡ cond (nat_eq (member_of e).node q) (Some row) (m q)) → KnowsNodes m t → KnowsNodes n (t ++ e ∷ [])
+nodes-noted m n t e row at updates was = lasts-noted happens_at m n t e row at updates was
 
 -- MEMBERS
 
@@ -87,25 +91,30 @@ ended-at : (t : List Event) (e : Event) (b : Bool) → is_end e ≡ b → cond b
 ended-at t e true is = sym (has_ended-now t e is)
 ended-at t e false is = sym (has_ended-still (member_of e) t e is)
 
+map-or : (at : ℕ → ℕ) (o : Option ℕ) (n : ℕ) → unwrap_or (option_map at o) (at n) ≡ at (unwrap_or o n)
+map-or at None n = refl
+map-or at (Some k) n = refl
+
 -- what is kept of members serves one event further
-pub members-noted : (ms ns : List Address) (m n : Address → Option Lifeline) (t : List Event) (e : Event) (row column : ℕ) → row ≡ length t → column ≡ column_of (member_of e) t
+pub members-noted : (at : ℕ → ℕ) (ms ns : List Address) (m n : Address → Option Lifeline) (t : List Event) (e : Event) (level column : ℕ) → level ≡ at (length t) → column ≡ column_of (member_of e) t
     → ns ≡ cond (is_some (m (member_of e))) ms (ms ++ member_of e ∷ [])
-    → ((q : Address) → n q ≡ cond (same_address (member_of e) q) (Some (lifeline_after (m (member_of e)) column row e)) (m q))
-    → KnowsMembers ms m t → KnowsMembers ns n (t ++ e ∷ [])
-members-noted ms ns m n t e row column at stands comes updates was =
+    → ((q : Address) → n q ≡ cond (same_address (member_of e) q) (Some (lifeline_after (m (member_of e)) column level e)) (m q))
+    → KnowsMembers at ms m t → KnowsMembers at ns n (t ++ e ∷ [])
+members-noted at ms ns m n t e level column here stands comes updates was =
     let p = member_of e in
-    let new = lifeline_after (m p) column row e in
+    let new = lifeline_after (m p) column level e in
     record {
       come_up = comes ∙ ap (λ b. cond b ms (ms ++ p ∷ [])) (sym (some-map (λ l. l.column) (m p)) ∙ ap is_some (was.columns p))
           ∙ ap (λ xs. cond (is_some (rank_in p (members_in t))) xs (xs ++ p ∷ [])) was.come_up ∙ sym (members-push t e);
       columns = noted (option_map (λ l. l.column)) (λ q. rank_in q (members_in t)) (λ q. rank_in q (members_in (t ++ e ∷ []))) m n p new updates was.columns
           (ap Some stands ∙ sym (rank-now t e)) (rank-other t e);
-      firsts = noted (option_map (λ l. l.first)) (λ q. first_place (happens_to q) t) (λ q. first_place (happens_to q) (t ++ e ∷ [])) m n p new updates was.firsts
-          (ap (λ r. Some (unwrap_or (option_map (λ l. l.first) (m p)) r)) at ∙ ap (λ o. Some (unwrap_or o (length t))) (was.firsts p) ∙ sym (first-hit (happens_to p) t e (same_address-refl p)))
-          (λ q. first-miss (happens_to q) t e);
-      lasts = noted (option_map (λ l. l.last)) (λ q. last_place (happens_to q) t) (λ q. last_place (happens_to q) (t ++ e ∷ [])) m n p new updates was.lasts
-          (ap Some at ∙ sym (last-hit (happens_to p) t e (same_address-refl p)))
-          (λ q. last-miss (happens_to q) t e);
+      firsts = noted (option_map (λ l. l.first)) (λ q. option_map at (first_place (happens_to q) t)) (λ q. option_map at (first_place (happens_to q) (t ++ e ∷ []))) m n p new updates was.firsts
+          (ap (λ r. Some (unwrap_or (option_map (λ l. l.first) (m p)) r)) here ∙ ap (λ o. Some (unwrap_or o (at (length t)))) (was.firsts p)
+          ∙ ap Some (map-or at (first_place (happens_to p) t) (length t)) ∙ sym (ap (option_map at) (first-hit (happens_to p) t e (same_address-refl p))))
+          (λ q other. ap (option_map at) (first-miss (happens_to q) t e other));
+      lasts = noted (option_map (λ l. l.last)) (λ q. option_map at (last_place (happens_to q) t)) (λ q. option_map at (last_place (happens_to q) (t ++ e ∷ []))) m n p new updates was.lasts
+          (ap Some here ∙ sym (ap (option_map at) (last-hit (happens_to p) t e (same_address-refl p))))
+          (λ q other. ap (option_map at) (last-miss (happens_to q) t e other));
       blocked = noted (λ o. unwrap_or (option_map (λ l. l.blocked) o) false) (λ q. is_blocked q t) (λ q. is_blocked q (t ++ e ∷ [])) m n p new updates was.blocked
           (ap (λ b. blocked_after b e) (was.blocked p) ∙ blocked-now t e)
           (λ q. is_blocked-other q t e);

@@ -1,29 +1,53 @@
 -- Rows and columns of a whole trace, and what its lines refer to.
-use Rattle.std.proofs.Common.{◌≡◌, ◌↔◌, ℕ, ◌+◌, ◌<◌, ◌≤◌, Bool, true, false, cond, List, [], ◌∷◌, ◌++◌, length, take, drop, slice_get, suc, zero, Option, Some, None, sym, refl, ap, ◌∙◌, subst, arith, append_assoc, append-nil, length-take, IsSomeAnd}
+use Rattle.std.proofs.Common.{◌≡◌, ◌↔◌, ℕ, ◌+◌, ◌-◌, ◌<◌, ◌≤◌, Bool, true, false, cond, List, [], ◌∷◌, ◌++◌, length, take, drop, slice_get, suc, zero, nat_le, Option, Some, None, sym, refl, ap, ◌∙◌, subst, arith, append_assoc, append-nil, length-take, IsSomeAnd}
 use Rattle.std.specs.List.{position_from}
 use Rattle.std.specs.Option.{option_or}
+use Rattle.std.proofs.lemmas.Bool.{ne_eqb, leb-true, leb-false}
 use Rattle.std.proofs.lemmas.Option.{none-some, same_Some, slice_get_within, cond_some}
 use Rattle.address.specs.Ids.{Address, same_address}
 use Rattle.address.proofs.SameIds.{same_address-true}
 use Rattle.trace_props.specs.declared.event.Event.{Event}
 use Rattle.trace_props.specs.declared.event.Event.TheVariants.{Started, Sent, Delivered, Blocked, Installed, Left, Crashed}
+use Rattle.trace_props.specs.declared.verdict.Rule.{Rule}
+use Rattle.trace_props.specs.declared.verdict.Verdict.TheVariants.{Breaks}
 use Rattle.trace_props.specs.Observed.{member_of}
 use Rattle.trace_props.proofs.FactOfPlaces.{slice_get-take}
-use Rattle.trace_drawing.specs.Layout.{last_from, last_place, rank_in, members_in, column_of, sends, installs, origin_of, row_of, rows_from, rows_of}
+use Rattle.trace_drawing.specs.declared.refused.Refused.{Refused}
+use Rattle.trace_drawing.specs.Layout.{last_from, last_place, rank_in, members_in, column_of, sends, installs, origin_of, above, level_of, row_of, rows_from, rows_of}
+use Rattle.trace_drawing.specs.declared.broken.TheConstants.{BROKEN_STYLE}
+use Rattle.trace_drawing.specs.Broken.{broken_group, broken_in, broken_text}
 use Rattle.trace_drawing.specs.Promises.{IsReachedFrom}
 use Rattle.trace_drawing.proofs.FactOfPlaces.{first_from-push}
 use Rattle.trace_drawing.proofs.KeepKnown.{members-push, rank-now}
 
 -- ROWS
 
-each-from : (past t : List Event) (k : ℕ) (e : Event) → slice_get t k ≡ Some e → slice_get (rows_from past t) k ≡ Some (row_of (past ++ take k t) e)
-each-from past [] k e at = absurd (none-some e at)
-each-from past (x ∷ xs) zero e at = ap (λ p. Some (row_of p x)) (sym (append-nil past)) ∙ ap (λ y. Some (row_of (past ++ []) y)) (same_Some x e at)
-each-from past (x ∷ xs) (suc k) e at = each-from (past ++ x ∷ []) xs k e at ∙ ap (λ p. Some (row_of p e)) (append_assoc past (x ∷ []) (take k xs))
+each-from : (level : ℕ → ℕ) (past t : List Event) (k : ℕ) (e : Event) → slice_get t k ≡ Some e → slice_get (rows_from level past t) k ≡ Some (row_of level (past ++ take k t) e)
+each-from level past [] k e at = absurd (none-some e at)
+each-from level past (x ∷ xs) zero e at = ap (λ p. Some (row_of level p x)) (sym (append-nil past)) ∙ ap (λ y. Some (row_of level (past ++ []) y)) (same_Some x e at)
+each-from level past (x ∷ xs) (suc k) e at = each-from level (past ++ x ∷ []) xs k e at ∙ ap (λ p. Some (row_of level p e)) (append_assoc past (x ∷ []) (take k xs))
 
 -- the row of each event is laid out by what stands before it
-pub row-each : (t : List Event) (k : ℕ) (e : Event) → slice_get t k ≡ Some e → slice_get (rows_of t) k ≡ Some (row_of (take k t) e)
-row-each t k e at = each-from [] t k e at
+pub row-each : (level : ℕ → ℕ) (t : List Event) (k : ℕ) (e : Event) → slice_get t k ≡ Some e → slice_get (rows_of level t) k ≡ Some (row_of level (take k t) e)
+row-each level t k e at = each-from level [] t k e at
+
+-- it stands at its level
+pub level-each : (level : ℕ → ℕ) (t : List Event) (k : ℕ) (e : Event) → slice_get t k ≡ Some e → (row_of level (take k t) e).level ≡ level k
+level-each level t k e at = let whole : length (take k t) ≡ k = omega (arith, length-take k t, slice_get_within t k e at) in ap level whole
+
+more-at : (r : Refused) (rs : List Refused) (j k : ℕ) (b c : Bool) → nat_le r.place j ≡ b → nat_le r.place k ≡ c → j < k → above rs j ≤ above rs k → cond b (above rs j + 1) 0 ≤ cond c (above rs k + 1) 0
+more-at r rs j k true true e f less rest = omega (arith, rest)
+more-at r rs j k true false e f less rest = absurd (omega (arith, leb-true r.place j e, leb-false r.place k f, less))
+more-at r rs j k false c e f less rest = omega arith
+
+-- more stands above a later event
+above-later : (refusals : List Refused) (j k : ℕ) → j < k → above refusals j ≤ above refusals k
+above-later [] j k less = omega arith
+above-later (r ∷ rs) j k less = more-at r rs j k (nat_le r.place j) (nat_le r.place k) refl refl less (above-later rs j k less)
+
+-- later events have greater levels
+pub level-order : (refusals : List Refused) (j k : ℕ) → j < k → level_of refusals j < level_of refusals k
+level-order refusals j k less = omega (arith, less, above-later refusals j k less)
 
 -- COLUMNS
 
@@ -127,3 +151,14 @@ reached-earlier t k o (Blocked p) at is = absurd (none-some o is)
 reached-earlier t k o (Installed i) at is = earlier (installs i.view.id) t k o is
 reached-earlier t k o (Left p) at is = absurd (none-some o is)
 reached-earlier t k o (Crashed p) at is = absurd (none-some o is)
+
+-- A BROKEN RULE
+
+-- the rule that an event breaks is drawn in that event's row and column
+pub broken-marked : (level : ℕ → ℕ) (t : List Event) (rule : Rule) (k : ℕ) (e : Event) → slice_get t k ≡ Some e
+    → broken_text (rows_of level t) t (Breaks rule (k + 1)) ≡ BROKEN_STYLE.now ++ broken_group rule (row_of level (take k t) e) e
+broken-marked level t rule k e at =
+    let i : k + 1 - 1 ≡ k = omega arith in
+    ap (λ b. cond b [] (broken_in rule (slice_get (rows_of level t) (k + 1 - 1)) (slice_get t (k + 1 - 1)))) (ne_eqb (k + 1) 0 (λ x. omega (arith, x)))
+    ∙ ap (λ n. broken_in rule (slice_get (rows_of level t) n) (slice_get t n)) i
+    ∙ ap (λ r. broken_in rule r (slice_get t k)) (row-each level t k e at) ∙ ap (λ x. broken_in rule (Some (row_of level (take k t) e)) x) at

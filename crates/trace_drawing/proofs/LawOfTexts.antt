@@ -9,9 +9,12 @@ use Rattle.address.specs.Ids.{Address, ViewId, text_of_address, text_of_view_id}
 use Rattle.trace_props.specs.declared.event.Event.{Event}
 use Rattle.trace_props.specs.declared.event.Event.TheVariants.{Started, Sent, Delivered, Blocked, Installed, Left, Crashed}
 use Rattle.trace_props.specs.declared.event.Numbered.{Numbered}
+use Rattle.trace_props.specs.declared.verdict.Rule.{Rule}
+use Rattle.trace_props.specs.declared.verdict.Rule.TheVariants.{WellPlaced, RisingViews, SoundMessages, OneOrder, SameNext, Together, HandedBack, StateOfEntry}
 use Rattle.vsync_text.specs.TraceText.{hex_digit, hex_of_byte, hex_of, text_of_payload, text_of_previous, text_of_addresses, text_of_numbered, text_of_handed_back, text_of_given, field, line_with, install_view, install_rest, event_word, fields_of, line_of}
 use Rattle.trace_drawing.specs.declared.labels.TheConstants.{LETTERS, BYTES}
 use Rattle.trace_drawing.specs.Labels.{escaped_byte, escaped, is_text, dots, label}
+use Rattle.trace_drawing.specs.Broken.{words_of}
 use Rattle.trace_drawing.specs.Promises.{is_no_bracket, is_plain}
 
 -- TEXTS OF PLAIN BYTES
@@ -171,3 +174,14 @@ word-plain (Crashed p) = refl
 -- a title is plain
 pub title-plain : (e : Event) → list_all is_plain (line_of e) ≡ true
 title-plain e = line-plain (event_word e) (fields_of e) (word-plain e) (fields-plain e)
+
+-- the words of a broken rule are plain
+pub words-plain : (rule : Rule) → list_all is_plain (words_of rule) ≡ true
+words-plain WellPlaced = refl
+words-plain RisingViews = refl
+words-plain SoundMessages = refl
+words-plain OneOrder = refl
+words-plain SameNext = refl
+words-plain Together = refl
+words-plain HandedBack = refl
+words-plain StateOfEntry = refl

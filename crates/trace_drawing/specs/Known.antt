@@ -6,7 +6,7 @@ use Rattle.trace_props.specs.declared.event.Event.TheVariants.{Started, Sent, De
 use Rattle.trace_props.specs.Observed.{is_blocked, has_ended, is_end}
 use Rattle.trace_drawing.specs.declared.row.MessageKey.{MessageKey}
 use Rattle.trace_drawing.specs.declared.known.Lifeline.{Lifeline}
-use Rattle.trace_drawing.specs.Layout.{first_place, last_place, rank_in, members_in, happens_to, sends, installs}
+use Rattle.trace_drawing.specs.Layout.{first_place, last_place, rank_in, members_in, happens_to, happens_at, sends, installs}
 
 -- whether a member is blocked after an event of its own
 abbrev pub blocked_after : Bool → Event → Bool
@@ -18,22 +18,22 @@ blocked_after blocked (Installed i) = false
 blocked_after blocked (Left p) = blocked
 blocked_after blocked (Crashed p) = blocked
 
--- what is kept of a member after an event of its own, in a row
+-- what is kept of a member after an event of its own, at a level
 abbrev pub lifeline_after : Option Lifeline → ℕ → ℕ → Event → Lifeline
-lifeline_after kept column row e = record {
+lifeline_after kept column level e = record {
   column = column;
-  first = unwrap_or (option_map (λ l. l.first) kept) row;
-  last = row;
+  first = unwrap_or (option_map (λ l. l.first) kept) level;
+  last = level;
   blocked = blocked_after (unwrap_or (option_map (λ l. l.blocked) kept) false) e;
   ended = cond (is_end e) true (unwrap_or (option_map (λ l. l.ended) kept) false);
 }
 
 -- what is kept of members is what the trace says of them
-pub record KnowsMembers (members : List Address) (kept : Address → Option Lifeline) (t : List Event) : Type 0 where
+pub record KnowsMembers (level : ℕ → ℕ) (members : List Address) (kept : Address → Option Lifeline) (t : List Event) : Type 0 where
   pub come_up : members ≡ members_in t
   pub columns : (p : Address) → option_map (λ l. l.column) (kept p) ≡ rank_in p (members_in t)
-  pub firsts : (p : Address) → option_map (λ l. l.first) (kept p) ≡ first_place (happens_to p) t
-  pub lasts : (p : Address) → option_map (λ l. l.last) (kept p) ≡ last_place (happens_to p) t
+  pub firsts : (p : Address) → option_map (λ l. l.first) (kept p) ≡ option_map level (first_place (happens_to p) t)
+  pub lasts : (p : Address) → option_map (λ l. l.last) (kept p) ≡ option_map level (last_place (happens_to p) t)
   pub blocked : (p : Address) → unwrap_or (option_map (λ l. l.blocked) (kept p)) false ≡ is_blocked p t
   pub ended : (p : Address) → unwrap_or (option_map (λ l. l.ended) (kept p)) false ≡ has_ended p t
 
@@ -45,8 +45,12 @@ KnowsSends sent t = (m : MessageKey) → sent m ≡ last_place (sends m) t
 abbrev pub KnowsInstalls : (ViewId → Option ℕ) → List Event → Type 0
 KnowsInstalls installed t = (v : ViewId) → installed v ≡ last_place (installs v) t
 
+-- where something happened last at each node
+abbrev pub KnowsNodes : (ℕ → Option ℕ) → List Event → Type 0
+KnowsNodes kept t = (n : ℕ) → kept n ≡ last_place (happens_at n) t
+
 -- all that is kept says what the trace says
-pub record Knows (members : List Address) (kept : Address → Option Lifeline) (sent : MessageKey → Option ℕ) (installed : ViewId → Option ℕ) (t : List Event) : Type 0 where
-  pub of_members : KnowsMembers members kept t
+pub record Knows (level : ℕ → ℕ) (members : List Address) (kept : Address → Option Lifeline) (sent : MessageKey → Option ℕ) (installed : ViewId → Option ℕ) (t : List Event) : Type 0 where
+  pub of_members : KnowsMembers level members kept t
   pub of_sends : KnowsSends sent t
   pub of_installs : KnowsInstalls installed t

@@ -1,5 +1,5 @@
--- Where a trace's events stand in its picture: a row for each event, a column for each member, and from where an event is reached.
-use Rattle.std.specs.Prelude.{ℕ, ◌+◌, Bool, false, ◌&&◌, cond, Option, None, Some, List, [], ◌∷◌, ◌++◌, length, nat_eq, fold, filter_map, is_some, unwrap_or, option_map}
+-- Where a trace's events, and what was refused between them, stand in a picture: a row for each, a column for each member, and from where an event is reached.
+use Rattle.std.specs.Prelude.{ℕ, ◌+◌, Bool, false, ◌&&◌, cond, Option, None, Some, List, [], ◌∷◌, ◌++◌, length, take, slice_get, nat_eq, nat_le, option_and_then, fold, filter_map, is_some, unwrap_or, option_map}
 use Rattle.std.specs.Option.{option_or, option_map_or}
 use Rattle.std.specs.List.{position_from}
 use Rattle.address.specs.Ids.{Address, ViewId, same_address, same_view_id}
@@ -9,6 +9,8 @@ use Rattle.trace_props.specs.Observed.{member_of, install_of, is_blocked, has_en
 use Rattle.trace_drawing.specs.declared.row.Row.{Row}
 use Rattle.trace_drawing.specs.declared.row.Line.{Line}
 use Rattle.trace_drawing.specs.declared.row.MessageKey.{MessageKey}
+use Rattle.trace_drawing.specs.declared.refused.Refused.{Refused}
+use Rattle.trace_drawing.specs.declared.refused.RefusedRow.{RefusedRow}
 
 -- PLACES
 
@@ -44,6 +46,15 @@ abbrev pub column_of : Address → List Event → ℕ
 column_of p t = unwrap_or (rank_in p (members_in t)) (length (members_in t))
 
 -- ROWS
+
+-- how many refusals stand above an event: the first ones that have no later place
+abbrev pub above : List Refused → ℕ → ℕ
+above [] k = 0
+above (r ∷ rs) k = cond (nat_le r.place k) (above rs k + 1) 0
+
+-- the level of an event: how many events and refusals stand above it
+abbrev pub level_of : List Refused → ℕ → ℕ
+level_of refusals k = k + above refusals k
 
 abbrev pub happens_to : Address → Event → Bool
 happens_to p e = same_address (member_of e) p
@@ -86,37 +97,69 @@ reached_by sent installed (Crashed p) = None
 abbrev pub origin_of : List Event → Event → Option ℕ
 origin_of past e = reached_by (λ m. last_place (sends m) past) (λ v. last_place (installs v) past) e
 
--- how the row of an event is laid out, given all that stands before it
-abbrev pub row_of : List Event → Event → Row
-row_of past e = record {
+-- how the row of an event is laid out, given the levels of events and all that stands before it
+abbrev pub row_of : (ℕ → ℕ) → List Event → Event → Row
+row_of level past e = record {
   column = column_of (member_of e) past;
-  before = last_place (happens_to (member_of e)) past;
+  level = level (length past);
+  before = option_map level (last_place (happens_to (member_of e)) past);
   blocked = is_blocked (member_of e) past;
   origin = origin_of past e;
 }
 
 -- the rows of events that stand behind others
-abbrev pub rows_from : List Event → List Event → List Row
-rows_from past [] = []
-rows_from past (e ∷ es) = row_of past e ∷ rows_from (past ++ e ∷ []) es
+abbrev pub rows_from : (ℕ → ℕ) → List Event → List Event → List Row
+rows_from level past [] = []
+rows_from level past (e ∷ es) = row_of level past e ∷ rows_from level (past ++ e ∷ []) es
 
 -- the rows of a trace: one for each event, in order
-abbrev pub rows_of : List Event → List Row
-rows_of t = rows_from [] t
+abbrev pub rows_of : (ℕ → ℕ) → List Event → List Row
+rows_of level t = rows_from level [] t
 
 -- MEMBERS' LINES
 
 -- a member's line: in its column, from its first event to its last
-abbrev pub member_line : List Event → Address → Option Line
-member_line t p = option_map (λ column. record {
+abbrev pub member_line : (ℕ → ℕ) → List Event → Address → Option Line
+member_line level t p = option_map (λ column. record {
   member = p;
   column = column;
-  first = unwrap_or (first_place (happens_to p) t) 0;
-  last = unwrap_or (last_place (happens_to p) t) 0;
+  first = unwrap_or (option_map level (first_place (happens_to p) t)) 0;
+  last = unwrap_or (option_map level (last_place (happens_to p) t)) 0;
   ended = has_ended p t;
   blocked = is_blocked p t;
 }) (rank_in p (members_in t))
 
 -- the lines of a trace's members, by column
-abbrev pub member_lines : List Event → List Line
-member_lines t = filter_map (member_line t) (members_in t)
+abbrev pub member_lines : (ℕ → ℕ) → List Event → List Line
+member_lines level t = filter_map (member_line level t) (members_in t)
+
+-- REFUSALS
+
+-- the place up to which events stand before a refusal, where others before it stand at a place
+abbrev pub later : ℕ → ℕ → ℕ
+later front place = cond (nat_le place front) front place
+
+abbrev pub happens_at : ℕ → Event → Bool
+happens_at node e = nat_eq (member_of e).node node
+
+-- the column of an event, by its row
+abbrev pub column_in : List Row → Option ℕ → Option ℕ
+column_in rows event = option_and_then (λ k. option_map (λ r. r.column) (slice_get rows k)) event
+
+-- where a refusal is drawn: in the column of the last event of its node so far, below all that stands before it
+abbrev pub refused_row : List Row → List Event → ℕ → ℕ → Refused → RefusedRow
+refused_row rows t count front r = record {
+  column = column_in rows (last_place (happens_at r.node) (take front t));
+  level = count + front;
+  line = r.line;
+  refusal = r.refusal;
+}
+
+-- where refusals are drawn, behind so many others and so many events
+abbrev pub refused_from : List Row → List Event → ℕ → ℕ → List Refused → List RefusedRow
+refused_from rows t count front [] = []
+refused_from rows t count front (r ∷ rs) = refused_row rows t count (later front r.place) r ∷ refused_from rows t (count + 1) (later front r.place) rs
+
+-- where refusals are drawn
+abbrev pub refused_rows : List Row → List Event → List Refused → List RefusedRow
+refused_rows rows t refusals = refused_from rows t 0 0 refusals

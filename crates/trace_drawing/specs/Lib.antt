@@ -3,5 +3,7 @@ pub mod Known
 pub mod Marks
 pub mod Labels
 pub mod Spelling
+pub mod Refused
+pub mod Broken
 pub mod Picture
 pub mod Promises

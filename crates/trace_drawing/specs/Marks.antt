@@ -15,17 +15,17 @@ use Rattle.trace_drawing.specs.declared.marks.Mark.TheVariants as marks
 abbrev pub x_of : ℕ → ℕ
 x_of column = COLUMN * column + 110
 
--- the middle of a row: a line of names stands above each block of rows
+-- the middle of a row, by its level: a line of names stands above each block of rows
 abbrev pub y_of : ℕ → ℕ
-y_of row = ROW * row + NAMES * (row / BLOCK) + 60
+y_of level = ROW * level + NAMES * (level / BLOCK) + 60
 
 -- the foot of the names above a row
 abbrev pub names_y : ℕ → ℕ
-names_y row = (ROW * BLOCK + NAMES) * (row / BLOCK) + 34
+names_y level = (ROW * BLOCK + NAMES) * (level / BLOCK) + 34
 
 -- where an event of a column is marked
 abbrev pub place_of : ℕ → ℕ → Place
-place_of number column = record { x = x_of column; y = y_of number }
+place_of level column = record { x = x_of column; y = y_of level }
 
 -- MARKS OF AN EVENT
 
@@ -40,12 +40,12 @@ own_mark (Left p) at = marks.Leave at
 own_mark (Crashed p) at = marks.Crash at
 
 -- the stretch of its member's line in which it was blocked, up to the event
-abbrev pub blocked_stretch : ℕ → Row → Option Mark
-blocked_stretch number row = cond row.blocked (option_map (λ before. marks.Hatch (place_of before row.column) (place_of number row.column)) row.before) None
+abbrev pub blocked_stretch : Row → Option Mark
+blocked_stretch row = cond row.blocked (option_map (λ before. marks.Hatch (place_of before row.column) (place_of row.level row.column)) row.before) None
 
 -- the edge of a view's mark towards a column
 abbrev pub edge_towards : ℕ → ℕ → ℕ → Place
-edge_towards number from to = record { x = cond (nat_lt to from) (x_of from - 39) (x_of from + 39); y = y_of number }
+edge_towards level from to = record { x = cond (nat_lt to from) (x_of from - 39) (x_of from + 39); y = y_of level }
 
 abbrev pub is_delivery : Event → Bool
 is_delivery (Started p) = false
@@ -57,20 +57,20 @@ is_delivery (Left p) = false
 is_delivery (Crashed p) = false
 
 -- the mark by which an event is reached from a row: a message's line to a delivery, a part of a view's band to an install
-abbrev pub reach : Event → ℕ → ℕ → ℕ → ℕ → Mark
-reach e origin from number to = cond (is_delivery e) (marks.Message (place_of origin from) (place_of number to)) (marks.Band (edge_towards origin from to) (place_of number to))
+abbrev pub reach : Event → Row → Row → Mark
+reach e from to = cond (is_delivery e) (marks.Message (place_of from.level from.column) (place_of to.level to.column)) (marks.Band (edge_towards from.level from.column to.column) (place_of to.level to.column))
 
 -- the row from which an event is reached
 abbrev pub origin_row : List Row → Row → Option Row
 origin_row rows row = option_and_then (slice_get rows) row.origin
 
 -- the mark by which an event is reached, if it is
-abbrev pub link : List Row → ℕ → Row → Event → Option Mark
-link rows number row e = option_and_then (λ origin. option_map (λ from. reach e origin from.column number row.column) (slice_get rows origin)) row.origin
+abbrev pub link : List Row → Row → Event → Option Mark
+link rows row e = option_map (λ from. reach e from row) (origin_row rows row)
 
 -- all marks of an event: one of its own, and at most two that refer to earlier events
-abbrev pub marks_of : List Row → ℕ → Row → Event → List Mark
-marks_of rows number row e = option_to_list (blocked_stretch number row) ++ option_to_list (link rows number row e) ++ own_mark e (place_of number row.column) ∷ []
+abbrev pub marks_of : List Row → Row → Event → List Mark
+marks_of rows row e = option_to_list (blocked_stretch row) ++ option_to_list (link rows row e) ++ own_mark e (place_of row.level row.column) ∷ []
 
 -- MEMBERS' LINES
 

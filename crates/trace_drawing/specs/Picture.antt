@@ -6,23 +6,28 @@ use Rattle.trace_props.specs.declared.event.Event.{Event}
 use Rattle.trace_props.specs.declared.event.Event.TheVariants.{Started, Sent, Delivered, Blocked, Installed, Left, Crashed}
 use Rattle.trace_props.specs.declared.event.Install.{Install}
 use Rattle.trace_props.specs.declared.event.Numbered.{Numbered}
+use Rattle.trace_props.specs.declared.verdict.Verdict.{Verdict}
 use Rattle.trace_props.specs.Observed.{member_of}
 use Rattle.vsync_text.specs.TraceText.{line_of}
 use Rattle.trace_drawing.specs.declared.marks.TheConstants.{BLOCK}
 use Rattle.trace_drawing.specs.declared.picture.TheConstants.{COLOURS, STYLE}
 use Rattle.trace_drawing.specs.declared.row.Row.{Row}
 use Rattle.trace_drawing.specs.declared.row.Line.{Line}
+use Rattle.trace_drawing.specs.declared.refused.Refused.{Refused}
+use Rattle.trace_drawing.specs.declared.refused.RefusedRow.{RefusedRow}
 use Rattle.trace_drawing.specs.declared.marks.Place.{Place}
-use Rattle.trace_drawing.specs.Layout.{rows_of, member_lines}
+use Rattle.trace_drawing.specs.Layout.{level_of, rows_of, member_lines, refused_rows}
 use Rattle.trace_drawing.specs.Marks.{x_of, y_of, names_y, place_of, is_delivery, origin_row, marks_of, line_mark, last_stretch}
 use Rattle.trace_drawing.specs.Labels.{label}
-use Rattle.trace_drawing.specs.Spelling.{path, text_at, mark_text, number_behind}
+use Rattle.trace_drawing.specs.Refused.{refused_text}
+use Rattle.trace_drawing.specs.Broken.{broken_text, room_for}
+use Rattle.trace_drawing.specs.Spelling.{path, text_at, mark_text, number_behind, group_end}
 
 -- TEXTS BESIDE AN EVENT'S OWN MARK
 
 -- a text beside a mark
 abbrev pub beside : List ℕ → ℕ → ℕ → List ℕ → List ℕ
-beside class number column content = text_at class (x_of column + 11) (y_of number + 4) content
+beside class level column content = text_at class (x_of column + 11) (y_of level + 4) content
 
 -- a mark where a state is given
 abbrev pub given_text : Option (List ℕ) → Place → List ℕ
@@ -31,40 +36,40 @@ given_text (Some state) at = path (codes "g") at (codes "m-54-5h10l-5 9z")
 
 -- how many messages are handed back, where there are any
 abbrev pub back_text : List Numbered → ℕ → ℕ → List ℕ
-back_text [] number column = []
-back_text (m ∷ ms) number column = text_at (codes "t") (x_of column + 44) (y_of number + 4) (decimal (length (m ∷ ms)) ++ codes " back")
+back_text [] level column = []
+back_text (m ∷ ms) level column = text_at (codes "t") (x_of column + 44) (y_of level + 4) (decimal (length (m ∷ ms)) ++ codes " back")
 
 -- the view's id, a mark where a state is given, and how much is handed back
 abbrev pub install_text : Install → ℕ → ℕ → List ℕ
-install_text i number column =
-    text_at (codes "i") (x_of column) (y_of number + 4) (text_of_view_id i.view.id) ++ given_text i.given (place_of number column) ++ back_text i.handed_back number column
+install_text i level column =
+    text_at (codes "i") (x_of column) (y_of level + 4) (text_of_view_id i.view.id) ++ given_text i.given (place_of level column) ++ back_text i.handed_back level column
 
 -- the texts of an event: the payload of a message, the id of a view
 abbrev pub texts_of : Event → ℕ → ℕ → List ℕ
-texts_of (Started p) number column = beside (codes "t") number column (codes "started")
-texts_of (Sent s) number column = beside (codes "b") number column (label s.message.payload)
-texts_of (Delivered d) number column = beside (codes "t") number column (label d.message.payload)
-texts_of (Blocked p) number column = []
-texts_of (Installed i) number column = install_text i number column
-texts_of (Left p) number column = beside (codes "t") number column (codes "left")
-texts_of (Crashed p) number column = beside (codes "t") number column (codes "crashed")
+texts_of (Started p) level column = beside (codes "t") level column (codes "started")
+texts_of (Sent s) level column = beside (codes "b") level column (label s.message.payload)
+texts_of (Delivered d) level column = beside (codes "t") level column (label d.message.payload)
+texts_of (Blocked p) level column = []
+texts_of (Installed i) level column = install_text i level column
+texts_of (Left p) level column = beside (codes "t") level column (codes "left")
+texts_of (Crashed p) level column = beside (codes "t") level column (codes "crashed")
 
 -- whether a row lies in the same block as another
 abbrev pub same_block : ℕ → Option ℕ → Bool
-same_block number None = false
-same_block number (Some before) = nat_eq (before / BLOCK) (number / BLOCK)
+same_block level None = false
+same_block level (Some before) = nat_eq (before / BLOCK) (level / BLOCK)
 
 -- the name of a member above a column
 abbrev pub name_above : ℕ → ℕ → Address → List ℕ
-name_above number column p = text_at (codes "n") (x_of column) (names_y number) (text_of_address p)
+name_above level column p = text_at (codes "n") (x_of column) (names_y level) (text_of_address p)
 
 -- the name of a member above its column, at its first event in a block of rows
-abbrev pub name_text : ℕ → Row → Address → List ℕ
-name_text number row p = cond (same_block number row.before) [] (name_above number row.column p)
+abbrev pub name_text : Row → Address → List ℕ
+name_text row p = cond (same_block row.level row.before) [] (name_above row.level row.column p)
 
 -- the number of an event, from 1
-abbrev pub number_text : ℕ → List ℕ
-number_text number = text_at (codes "r") 40 (y_of number + 4) (decimal (number + 1))
+abbrev pub number_text : ℕ → ℕ → List ℕ
+number_text number level = text_at (codes "r") 40 (y_of level + 4) (decimal (number + 1))
 
 -- EVENTS
 
@@ -80,16 +85,13 @@ colour rows row e = cond (is_delivery e) (unwrap_or (option_map colour_of (origi
 abbrev pub group_start : ℕ → Event → List ℕ
 group_start colour e = number_behind (codes "<g class='c") colour ++ codes "'><title>" ++ line_of e ++ codes "</title>"
 
-abbrev pub group_end : List ℕ
-group_end = codes "</g>" ++ 10 ∷ []
-
 -- what stands before an event's marks: its title, the name above its column, and its number
 abbrev pub event_start : List Row → ℕ → Row → Event → List ℕ
-event_start rows number row e = group_start (colour rows row e) e ++ name_text number row (member_of e) ++ number_text number
+event_start rows number row e = group_start (colour rows row e) e ++ name_text row (member_of e) ++ number_text number row.level
 
 -- all that is drawn of an event
 abbrev pub event_group : List Row → ℕ → Row → Event → List ℕ
-event_group rows number row e = event_start rows number row e ++ flat_map mark_text (marks_of rows number row e) ++ texts_of e number row.column ++ group_end
+event_group rows number row e = event_start rows number row e ++ flat_map mark_text (marks_of rows row e) ++ texts_of e row.level row.column ++ group_end
 
 -- the groups of events and their rows, in order
 abbrev pub event_groups : List Row → ℕ → List Row → List Event → List ℕ
@@ -124,11 +126,13 @@ head_text width height = svg_start width height ++ STYLE.now ++ paper
 abbrev pub svg_end : List ℕ
 svg_end = codes "</svg>" ++ 10 ∷ []
 
--- the picture of rows and lines, and of their events
-abbrev pub picture_with : List Row → List Line → List Event → List ℕ
-picture_with rows lines events =
-    head_text (x_of (length lines)) (y_of (length rows) + 20) ++ flat_map (line_group (y_of (length rows))) lines ++ event_groups rows 0 rows events ++ svg_end
+-- the picture of rows and lines, of their events, of what was refused between them, and of a broken rule
+abbrev pub picture_with : List Row → List Line → List RefusedRow → List Event → Verdict → List ℕ
+picture_with rows lines refused events verdict =
+    head_text (x_of (length lines) + room_for verdict) (y_of (length rows + length refused) + 20) ++ flat_map (line_group (y_of (length rows + length refused))) lines
+    ++ event_groups rows 0 rows events ++ refused_text refused ++ broken_text rows events verdict ++ svg_end
 
--- the picture of a trace
-abbrev pub picture_of : List Event → List ℕ
-picture_of t = picture_with (rows_of t) (member_lines t) t
+-- the picture of a trace, with what was refused between its events, and the mark of a broken rule where the verdict has one
+abbrev pub picture_of : List Event → List Refused → Verdict → List ℕ
+picture_of t refusals verdict =
+    picture_with (rows_of (level_of refusals) t) (member_lines (level_of refusals) t) (refused_rows (rows_of (level_of refusals) t) t refusals) t verdict

@@ -1,6 +1,6 @@
 //! What is kept of the events so far, so that a row is laid out by a few look-ups.
 
-ghost use Rattle.std.specs.Prelude.{◌≡◌, ◌++◌, ◌∷◌, [], List, Some, OnOk, IfOk, is_some, length, if◌then◌else◌};
+ghost use Rattle.std.specs.Prelude.{◌≡◌, ℕ, ◌++◌, ◌∷◌, [], List, Some, OnOk, IfOk, is_some, length, if◌then◌else◌};
 ghost use Rattle.std.specs.Option.{option_copied};
 ghost use Rattle.std.specs.HashMap.{get};
 ghost use Rattle.address.specs.Ids.{Address, same_address, same_view_id};
@@ -16,7 +16,7 @@ use std::collections::HashMap;
 use std::hash::Hash;
 use trace_props::Event;
 
-/// What is kept of a member: its column, the rows of its first and its last event, whether it is blocked, and whether it has ended.
+/// What is kept of a member: its column, the levels of its first and its last event, whether it is blocked, and whether it has ended.
 #[derive(Clone, Copy)]
 pub struct Lifeline {
     pub column: u32,
@@ -26,7 +26,7 @@ pub struct Lifeline {
     pub ended: bool,
 }
 
-/// The members in the order in which they come up, what is kept of each, and the rows in which each message was sent last and each view installed last.
+/// The members in the order in which they come up, what is kept of each, and at which event each message was sent last and each view installed last.
 #[derive(Drop)]
 pub struct Known {
     pub members: Vec<Address>,
@@ -105,22 +105,22 @@ fn origin(
     }
 }
 
-// What is kept of a member after an event of its own, in a row.
-fn lifeline_after(kept: Option<&Lifeline>, column: u32, row: u32, event: &Event) -> Lifeline
-    ensures { result ≡ lifeline_after (option_copied kept.entry) column row event.now }
+// What is kept of a member after an event of its own, at a level.
+fn lifeline_after(kept: Option<&Lifeline>, column: u32, level: u32, event: &Event) -> Lifeline
+    ensures { result ≡ lifeline_after (option_copied kept.entry) column level event.now }
 {
     match kept {
         None => Lifeline {
             column,
-            first: row,
-            last: row,
+            first: level,
+            last: level,
             blocked: blocked_after(false, event),
             ended: is_end(event),
         },
         Some(kept) => Lifeline {
             column,
             first: kept.first,
-            last: row,
+            last: level,
             blocked: blocked_after(kept.blocked, event),
             ended: if is_end(event) { true } else { kept.ended },
         },
@@ -139,23 +139,23 @@ fn put_lifeline(
     Ok(())
 }
 
-// Keeps the member to whom an event happens in a row.
+// Keeps the member to whom an event happens at a level.
 fn note_member(
     members: &mut Vec<Address>,
     lifelines: &mut HashMap<Address, Lifeline>,
     event: &Event,
-    number: u32,
     column: u32,
+    level: u32,
 ) -> Result<(), AllocError>
     ensures members { OnOk result (members.new.items ≡ (if is_some (get same_address lifelines.old (member_of event.now)) then members.old.items else members.old.items ++ member_of event.now ∷ [])) }
-    ensures lifelines { OnOk result ((other : Address) → get same_address lifelines.new other ≡ (if same_address (member_of event.now) other then Some (lifeline_after (get same_address lifelines.old (member_of event.now)) column number event.now) else get same_address lifelines.old other)) }
+    ensures lifelines { OnOk result ((other : Address) → get same_address lifelines.new other ≡ (if same_address (member_of event.now) other then Some (lifeline_after (get same_address lifelines.old (member_of event.now)) column level event.now) else get same_address lifelines.old other)) }
 {
     let member = member(event);
     let kept = lifelines.get(&member);
     if kept.is_none() {
         members.push(member)?;
     }
-    let lifeline = lifeline_after(kept, column, number, event);
+    let lifeline = lifeline_after(kept, column, level, event);
     put_lifeline(lifelines, member, lifeline)?;
     Ok(())
 }
@@ -194,8 +194,8 @@ fn view_installed(event: &Event) -> Option<ViewId>
     }
 }
 
-// Keeps the row of a key.
-fn put_row<K: Eq + Hash + Copy + Drop>(
+/// Keeps the number of an event under a key.
+pub fn put_row<K: Eq + Hash + Copy + Drop>(
     table: &mut HashMap<K, u32>,
     key: K,
     row: u32,
@@ -243,7 +243,7 @@ fn note_installed(
 impl Known {
     /// Nothing happened. Takes no memory.
     pub fn new(alloc: Global) -> Known
-        ensures { Knows result.members.items (get same_address result.lifelines) (get same_message result.sends) (get same_view_id result.installs) [] }
+        ensures { (at : ℕ → ℕ) → Knows at result.members.items (get same_address result.lifelines) (get same_message result.sends) (get same_view_id result.installs) [] }
     {
         Known {
             members: Vec::new(alloc),
@@ -253,14 +253,15 @@ impl Known {
         }
     }
 
-    /// How the row of the next event is laid out. Refused where there are 2^32 members already.
-    pub fn row(&self, event: &Event) -> Result<Row, AllocError>
-        ensures { IfOk result (λ row. (t : List Event) → Knows self.now.members.items (get same_address self.now.lifelines) (get same_message self.now.sends) (get same_view_id self.now.installs) t → row ≡ row_of t event.now) }
+    /// How the row of the next event is laid out, at a level. Refused where there are 2^32 members already.
+    pub fn row(&self, event: &Event, level: u32) -> Result<Row, AllocError>
+        ensures { IfOk result (λ row. (at : ℕ → ℕ) (t : List Event) → level ≡ at (length t) → Knows at self.now.members.items (get same_address self.now.lifelines) (get same_message self.now.sends) (get same_view_id self.now.installs) t → row ≡ row_of at t event.now) }
     {
         let origin = origin(&self.sends, &self.installs, event);
         match self.lifelines.get(&member(event)) {
             Some(lifeline) => Ok(Row {
                 column: lifeline.column,
+                level,
                 before: Some(lifeline.last),
                 blocked: lifeline.blocked,
                 origin,
@@ -268,6 +269,7 @@ impl Known {
             None => match u32::try_from(self.members.len()) {
                 Ok(column) => Ok(Row {
                     column,
+                    level,
                     before: None,
                     blocked: false,
                     origin,
@@ -277,19 +279,19 @@ impl Known {
         }
     }
 
-    /// Keeps the next event, with the number of its row and its column.
-    pub fn note(&mut self, event: &Event, number: u32, column: u32) -> Result<(), AllocError>
-        ensures { OnOk result ((t : List Event) → number ≡ length t → column ≡ column_of (member_of event.now) t
-            → Knows self.old.members.items (get same_address self.old.lifelines) (get same_message self.old.sends) (get same_view_id self.old.installs) t
-            → Knows self.new.members.items (get same_address self.new.lifelines) (get same_message self.new.sends) (get same_view_id self.new.installs) (t ++ event.now ∷ [])) }
+    /// Keeps the next event, with its number, its column and its level.
+    pub fn note(
+        &mut self,
+        event: &Event,
+        number: u32,
+        column: u32,
+        level: u32,
+    ) -> Result<(), AllocError>
+        ensures { OnOk result ((at : ℕ → ℕ) (t : List Event) → number ≡ length t → column ≡ column_of (member_of event.now) t → level ≡ at (length t)
+            → Knows at self.old.members.items (get same_address self.old.lifelines) (get same_message self.old.sends) (get same_view_id self.old.installs) t
+            → Knows at self.new.members.items (get same_address self.new.lifelines) (get same_message self.new.sends) (get same_view_id self.new.installs) (t ++ event.now ∷ [])) }
     {
-        note_member(
-            &mut self.members,
-            &mut self.lifelines,
-            event,
-            number,
-            column,
-        )?;
+        note_member(&mut self.members, &mut self.lifelines, event, column, level)?;
         note_sent(&mut self.sends, event, number)?;
         note_installed(&mut self.installs, event, number)?;
         Ok(())
@@ -297,7 +299,7 @@ impl Known {
 
     /// The line of a member.
     pub fn line(&self, member: &Address) -> Option<Line>
-        ensures { (t : List Event) → Knows self.now.members.items (get same_address self.now.lifelines) (get same_message self.now.sends) (get same_view_id self.now.installs) t → result ≡ member_line t member.now }
+        ensures { (at : ℕ → ℕ) (t : List Event) → Knows at self.now.members.items (get same_address self.now.lifelines) (get same_message self.now.sends) (get same_view_id self.now.installs) t → result ≡ member_line at t member.now }
     {
         match self.lifelines.get(member) {
             None => None,

@@ -1,24 +1,27 @@
-ghost use Rattle.std.specs.Prelude.{◌≡◌, ◌++◌, [], List, IfOk, OnOk};
+ghost use Rattle.std.specs.Prelude.{◌≡◌, ◌<◌, ◌+◌, ◌++◌, ℕ, [], List, length, IfOk, OnOk};
 ghost use Rattle.std.specs.List.{cons_option};
 ghost use Rattle.std.specs.HashMap.{get};
 ghost use Rattle.address.specs.Ids.{same_address, same_view_id};
 ghost use Rattle.trace_props.specs.declared.event.Event.{Event};
-ghost use Rattle.trace_drawing.specs.Layout.{same_message, rows_of, member_lines};
+ghost use Rattle.trace_drawing.specs.Layout.{same_message, level_of, rows_of, member_lines, refused_rows};
 ghost use Rattle.trace_drawing.specs.Known.{Knows};
 
 use crate::known::Known;
+use crate::levels::{above, refused_rows};
+use crate::refused::{Refused, RefusedRow};
 use crate::row::{Line, Row};
 use std::alloc::{AllocError, Global};
 use trace_props::Event;
 
-/// The most events that a picture shows, 2^32 - 1.
+/// The most events and refusals that a picture shows, 2^32 - 1.
 pub const ROWS: usize = 4_294_967_295;
 
-/// The layout of a trace: a row for each event, in order, and a line for each member, by column.
+/// The layout of a trace: a row for each event, in order, a line for each member, by column, and a row for each refusal, in order.
 #[derive(Drop)]
 pub struct Layout {
     pub rows: Vec<Row>,
     pub lines: Vec<Line>,
+    pub refused: Vec<RefusedRow>,
 }
 
 // Adds a line, if there is one.
@@ -33,7 +36,7 @@ fn add(lines: &mut Vec<Line>, line: Option<Line>) -> Result<(), AllocError>
 
 // The lines of the members that are known.
 fn lines(alloc: Global, known: &Known) -> Result<Vec<Line>, AllocError>
-    ensures { IfOk result (λ lines. (t : List Event) → Knows known.now.members.items (get same_address known.now.lifelines) (get same_message known.now.sends) (get same_view_id known.now.installs) t → lines.items ≡ member_lines t) }
+    ensures { IfOk result (λ lines. (level : ℕ → ℕ) (t : List Event) → Knows level known.now.members.items (get same_address known.now.lifelines) (get same_message known.now.sends) (get same_view_id known.now.installs) t → lines.items ≡ member_lines level t) }
 {
     let mut lines = Vec::new(alloc);
     for member in known.members.iter() {
@@ -42,21 +45,43 @@ fn lines(alloc: Global, known: &Known) -> Result<Vec<Line>, AllocError>
     Ok(lines)
 }
 
-/// The layout of a trace. Refused where memory is, or where there are more than `ROWS` events.
-pub fn lay_out(alloc: Global, events: &[Event]) -> Result<Layout, AllocError>
-    ensures rows { IfOk result (λ layout. layout.rows.items ≡ rows_of events.now) }
-    ensures lines { IfOk result (λ layout. layout.lines.items ≡ member_lines events.now) }
+// The rows of a trace, and its lines.
+fn rows_and_lines(
+    alloc: Global,
+    events: &[Event],
+    refusals: &[Refused],
+) -> Result<(Vec<Row>, Vec<Line>), AllocError>
+    requires small { length events.now + length refusals.now < 4294967296 }
+    ensures rows { IfOk result (λ both. both.0.items ≡ rows_of (level_of refusals.now) events.now) }
+    ensures lines { IfOk result (λ both. both.1.items ≡ member_lines (level_of refusals.now) events.now) }
 {
-    if events.len() > ROWS {
-        return Err(AllocError);
-    }
     let mut known = Known::new(alloc);
     let mut rows: Vec<Row> = Vec::with_capacity(alloc, events.len())?;
+    let mut passed = 0;
     for (index, event) in events.iter().enumerate() {
-        let row = known.row(event)?;
-        known.note(event, index as u32, row.column)?;
+        passed = above(refusals, passed, index);
+        let row = known.row(event, (index + passed) as u32)?;
+        known.note(event, index as u32, row.column, row.level)?;
         rows.push(row)?;
     }
     let lines = lines(alloc, &known)?;
-    Ok(Layout { rows, lines })
+    Ok((rows, lines))
+}
+
+/// The layout of a trace, and of what was refused between its events. Refused where memory is, or where there are more than `ROWS` of both.
+pub fn lay_out(alloc: Global, events: &[Event], refusals: &[Refused]) -> Result<Layout, AllocError>
+    ensures rows { IfOk result (λ layout. layout.rows.items ≡ rows_of (level_of refusals.now) events.now) }
+    ensures lines { IfOk result (λ layout. layout.lines.items ≡ member_lines (level_of refusals.now) events.now) }
+    ensures refused { IfOk result (λ layout. layout.refused.items ≡ refused_rows (rows_of (level_of refusals.now) events.now) events.now refusals.now) }
+{
+    if events.len() > ROWS || refusals.len() > ROWS - events.len() {
+        return Err(AllocError);
+    }
+    let (rows, lines) = rows_and_lines(alloc, events, refusals)?;
+    let refused = refused_rows(alloc, rows.as_slice(), events, refusals)?;
+    Ok(Layout {
+        rows,
+        lines,
+        refused,
+    })
 }

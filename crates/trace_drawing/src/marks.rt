@@ -51,6 +51,10 @@ pub enum Mark {
     Leave(Place),
     /// A member crashed.
     Crash(Place),
+    /// A script's event was refused.
+    Refusal(Place),
+    /// A rule breaks.
+    Broken(Place),
 }
 
 /// Where the middle of a column is.
@@ -60,27 +64,27 @@ pub fn x_of(column: u32) -> u64
     COLUMN * u64::from(column) + 110
 }
 
-/// Where the middle of a row is.
-pub fn y_of(row: u32) -> u64
-    ensures { result ≡ y_of row }
+/// Where the middle of a row is, by its level.
+pub fn y_of(level: u32) -> u64
+    ensures { result ≡ y_of level }
 {
-    ROW * u64::from(row) + NAMES * u64::from(row / BLOCK) + 60
+    ROW * u64::from(level) + NAMES * u64::from(level / BLOCK) + 60
 }
 
 /// Where the names above a row stand.
-pub fn names_y(row: u32) -> u64
-    ensures { result ≡ names_y row }
+pub fn names_y(level: u32) -> u64
+    ensures { result ≡ names_y level }
 {
-    (ROW * u64::from(BLOCK) + NAMES) * u64::from(row / BLOCK) + 34
+    (ROW * u64::from(BLOCK) + NAMES) * u64::from(level / BLOCK) + 34
 }
 
 /// Where an event of a column is marked.
-pub fn place_of(number: u32, column: u32) -> Place
-    ensures { result ≡ place_of number column }
+pub fn place_of(level: u32, column: u32) -> Place
+    ensures { result ≡ place_of level column }
 {
     Place {
         x: x_of(column),
-        y: y_of(number),
+        y: y_of(level),
     }
 }
 
@@ -100,8 +104,8 @@ pub fn own_mark(event: &Event, place: Place) -> Mark
 }
 
 /// The stretch of its member's line in which it was blocked, up to an event.
-pub fn blocked_stretch(number: u32, row: &Row) -> Option<Mark>
-    ensures { result ≡ blocked_stretch number row.now }
+pub fn blocked_stretch(row: &Row) -> Option<Mark>
+    ensures { result ≡ blocked_stretch row.now }
 {
     if !row.blocked {
         return None;
@@ -110,14 +114,14 @@ pub fn blocked_stretch(number: u32, row: &Row) -> Option<Mark>
         None => None,
         Some(before) => Some(Mark::Hatch {
             from: place_of(before, row.column),
-            to: place_of(number, row.column),
+            to: place_of(row.level, row.column),
         }),
     }
 }
 
 // The edge of a view's mark towards a column.
-fn edge_towards(number: u32, from: u32, to: u32) -> Place
-    ensures { result ≡ edge_towards number from to }
+fn edge_towards(level: u32, from: u32, to: u32) -> Place
+    ensures { result ≡ edge_towards level from to }
 {
     Place {
         x: if to < from {
@@ -125,7 +129,7 @@ fn edge_towards(number: u32, from: u32, to: u32) -> Place
         } else {
             x_of(from) + 39
         },
-        y: y_of(number),
+        y: y_of(level),
     }
 }
 
@@ -144,19 +148,19 @@ pub fn is_delivery(event: &Event) -> bool
     }
 }
 
-// The mark by which an event is reached from a row.
-fn reach(event: &Event, origin: u32, from: u32, number: u32, to: u32) -> Mark
-    ensures { result ≡ reach event.now origin from number to }
+// The mark by which an event is reached from another.
+fn reach(event: &Event, from: &Row, to: &Row) -> Mark
+    ensures { result ≡ reach event.now from.now to.now }
 {
     if is_delivery(event) {
         Mark::Message {
-            from: place_of(origin, from),
-            to: place_of(number, to),
+            from: place_of(from.level, from.column),
+            to: place_of(to.level, to.column),
         }
     } else {
         Mark::Band {
-            from: edge_towards(origin, from, to),
-            to: place_of(number, to),
+            from: edge_towards(from.level, from.column, to.column),
+            to: place_of(to.level, to.column),
         }
     }
 }
@@ -172,15 +176,12 @@ pub fn origin_row<'a>(rows: &'a [Row], row: &Row) -> Option<&'a Row>
 }
 
 /// The mark by which an event is reached, if it is: a message's line from its send, or a view's band from its last install.
-pub fn link(rows: &[Row], number: u32, row: &Row, event: &Event) -> Option<Mark>
-    ensures { result ≡ link rows.now number row.now event.now }
+pub fn link(rows: &[Row], row: &Row, event: &Event) -> Option<Mark>
+    ensures { result ≡ link rows.now row.now event.now }
 {
-    match row.origin {
+    match origin_row(rows, row) {
         None => None,
-        Some(origin) => match rows.get(origin as usize) {
-            None => None,
-            Some(from) => Some(reach(event, origin, from.column, number, row.column)),
-        },
+        Some(from) => Some(reach(event, from, row)),
     }
 }
 

@@ -5,17 +5,20 @@ ghost use Rattle.trace_drawing.specs.Marks.{marks_of};
 ghost use Rattle.trace_drawing.specs.Spelling.{mark_text};
 ghost use Rattle.trace_drawing.specs.Picture.{colour_of, colour, group_start, event_start, event_group, event_groups, line_group, svg_start, head_text, picture_of};
 
+use crate::broken::{put_broken, room_for};
 use crate::known::member;
 use crate::layout::lay_out;
 use crate::marks::{
     Mark, blocked_stretch, is_delivery, last_stretch, line_mark, link, origin_row, own_mark,
     place_of, x_of, y_of,
 };
+use crate::refusals::put_refused;
+use crate::refused::Refused;
 use crate::row::{Line, Row};
 use crate::spelling::{put_mark, put_number, put_some_mark};
 use crate::texts::{put_line_title, put_name_above, put_row_number, put_texts};
 use std::alloc::{AllocError, Global};
-use trace_props::Event;
+use trace_props::{Event, Verdict};
 use vsync_text::{append_event, put};
 
 /// How many colours members have. With more members they come again.
@@ -82,18 +85,12 @@ fn put_group_start(out: &mut Vec<u8>, colour: u32, event: &Event) -> Result<(), 
 }
 
 // Appends the marks of an event.
-fn put_marks(
-    out: &mut Vec<u8>,
-    rows: &[Row],
-    number: u32,
-    row: &Row,
-    event: &Event,
-) -> Result<(), AllocError>
-    ensures { OnOk result (out.new.items ≡ out.old.items ++ flat_map mark_text (marks_of rows.now number row.now event.now)) }
+fn put_marks(out: &mut Vec<u8>, rows: &[Row], row: &Row, event: &Event) -> Result<(), AllocError>
+    ensures { OnOk result (out.new.items ≡ out.old.items ++ flat_map mark_text (marks_of rows.now row.now event.now)) }
 {
-    put_some_mark(out, blocked_stretch(number, row))?;
-    put_some_mark(out, link(rows, number, row, event))?;
-    put_mark(out, own_mark(event, place_of(number, row.column)))
+    put_some_mark(out, blocked_stretch(row))?;
+    put_some_mark(out, link(rows, row, event))?;
+    put_mark(out, own_mark(event, place_of(row.level, row.column)))
 }
 
 // Appends what stands before an event's marks.
@@ -107,8 +104,8 @@ fn put_event_start(
     ensures { OnOk result (out.new.items ≡ out.old.items ++ event_start rows.now number row.now event.now) }
 {
     put_group_start(out, colour(rows, row, event), event)?;
-    put_name_above(out, number, row, &member(event))?;
-    put_row_number(out, number)
+    put_name_above(out, row, &member(event))?;
+    put_row_number(out, number, row.level)
 }
 
 // Appends all that is drawn of an event.
@@ -122,8 +119,8 @@ fn put_event(
     ensures { OnOk result (out.new.items ≡ out.old.items ++ event_group rows.now number row.now event.now) }
 {
     put_event_start(out, rows, number, row, event)?;
-    put_marks(out, rows, number, row, event)?;
-    put_texts(out, event, number, row.column)?;
+    put_marks(out, rows, row, event)?;
+    put_texts(out, event, row.level, row.column)?;
     put(out, b"</g>\n")
 }
 
@@ -206,18 +203,27 @@ fn counted(number: usize) -> Result<u32, AllocError>
     }
 }
 
-/// The picture of a trace as an SVG (docs/FORMATS.md, "Pictures"). Refused where memory is, or where the trace has 2^32 events or more.
-pub fn draw(alloc: Global, events: &[Event]) -> Result<Vec<u8>, AllocError>
-    ensures { IfOk result (λ picture. picture.items ≡ picture_of events.now) }
+/// The picture of a trace as an SVG, with what was refused between its events, and with a mark where a rule breaks, if the verdict names one
+/// (docs/FORMATS.md, "Pictures"). Refused where memory is, or where there are more than `ROWS` events and refusals.
+pub fn draw(
+    alloc: Global,
+    events: &[Event],
+    refusals: &[Refused],
+    verdict: Verdict,
+) -> Result<Vec<u8>, AllocError>
+    ensures { IfOk result (λ picture. picture.items ≡ picture_of events.now refusals.now verdict) }
 {
-    let layout = lay_out(alloc, events)?;
+    let layout = lay_out(alloc, events, refusals)?;
     let count = counted(layout.rows.len())?;
     let columns = counted(layout.lines.len())?;
-    let bottom = y_of(count);
+    let levels = counted(layout.rows.len() + layout.refused.len())?;
+    let bottom = y_of(levels);
     let mut out = Vec::new(alloc);
-    put_head(&mut out, x_of(columns), bottom + 20)?;
+    put_head(&mut out, x_of(columns) + room_for(verdict), bottom + 20)?;
     put_lines(&mut out, bottom, layout.lines.as_slice())?;
     put_events(&mut out, layout.rows.as_slice(), events, count)?;
+    put_refused(&mut out, layout.refused.as_slice())?;
+    put_broken(&mut out, layout.rows.as_slice(), events, verdict)?;
     put(&mut out, b"</svg>\n")?;
     Ok(out)
 }

@@ -1,15 +1,17 @@
 use address::{Address, ViewId};
 
-/// How the row of an event is laid out. Rows count the events from 0, and columns the members from 0.
+/// How the row of an event is laid out. Columns count the members from 0, levels the events and what was refused between them.
 #[derive(Clone, Copy, Debug, PartialEq, Eq)]
 pub struct Row {
     /// The column of the event's member.
     pub column: u32,
-    /// The row of its member's last event before it.
+    /// How many events and refusals stand above it.
+    pub level: u32,
+    /// The level of its member's last event before it.
     pub before: Option<u32>,
     /// Whether its member is blocked before it.
     pub blocked: bool,
-    /// From where it is reached: a delivery from the row of its send, an install from that of the last install of its view.
+    /// From where it is reached, as a number of events from 0: a delivery from its send, an install from the last install of its view.
     pub origin: Option<u32>,
 }
 
@@ -20,9 +22,9 @@ pub struct Line {
     pub member: Address,
     /// Its column.
     pub column: u32,
-    /// The row of its first event.
+    /// The level of its first event.
     pub first: u32,
-    /// The row of its last event.
+    /// The level of its last event.
     pub last: u32,
     /// Whether it has left or crashed. Else its line goes on to the picture's bottom.
     pub ended: bool,

@@ -37,25 +37,25 @@ fn put_view_id(out: &mut Vec<u8>, view: ViewId) -> Result<(), AllocError>
 fn put_beside_start(
     out: &mut Vec<u8>,
     class: &[u8],
-    number: u32,
+    level: u32,
     column: u32,
 ) -> Result<(), AllocError>
-    ensures { OnOk result (out.new.items ≡ out.old.items ++ text_start class.now (x_of column + 11) (y_of number + 4)) }
+    ensures { OnOk result (out.new.items ≡ out.old.items ++ text_start class.now (x_of column + 11) (y_of level + 4)) }
 {
-    put_text_start(out, class, x_of(column) + 11, y_of(number) + 4)
+    put_text_start(out, class, x_of(column) + 11, y_of(level) + 4)
 }
 
 // Appends a text beside a mark.
 fn put_beside(
     out: &mut Vec<u8>,
     class: &[u8],
-    number: u32,
+    level: u32,
     column: u32,
     content: &[u8],
 ) -> Result<(), AllocError>
-    ensures { OnOk result (out.new.items ≡ out.old.items ++ beside class.now number column content.now) }
+    ensures { OnOk result (out.new.items ≡ out.old.items ++ beside class.now level column content.now) }
 {
-    put_beside_start(out, class, number, column)?;
+    put_beside_start(out, class, level, column)?;
     put(out, content)?;
     put(out, b"</text>")
 }
@@ -64,13 +64,13 @@ fn put_beside(
 fn put_payload(
     out: &mut Vec<u8>,
     class: &[u8],
-    number: u32,
+    level: u32,
     column: u32,
     payload: &[u8],
 ) -> Result<(), AllocError>
-    ensures { OnOk result (out.new.items ≡ out.old.items ++ beside class.now number column (label payload.now)) }
+    ensures { OnOk result (out.new.items ≡ out.old.items ++ beside class.now level column (label payload.now)) }
 {
-    put_beside_start(out, class, number, column)?;
+    put_beside_start(out, class, level, column)?;
     put_label(out, payload)?;
     put(out, b"</text>")
 }
@@ -79,45 +79,35 @@ fn put_payload(
 fn put_given(
     out: &mut Vec<u8>,
     given: Option<&Bytes>,
-    number: u32,
+    level: u32,
     column: u32,
 ) -> Result<(), AllocError>
-    ensures { OnOk result (out.new.items ≡ out.old.items ++ given_text (option_copied given.entry) (place_of number column)) }
+    ensures { OnOk result (out.new.items ≡ out.old.items ++ given_text (option_copied given.entry) (place_of level column)) }
 {
     match given {
         None => Ok(()),
-        Some(_) => put_path(out, b"g", place_of(number, column), b"m-54-5h10l-5 9z"),
+        Some(_) => put_path(out, b"g", place_of(level, column), b"m-54-5h10l-5 9z"),
     }
 }
 
 // Appends how many messages are handed back.
-fn put_back(
-    out: &mut Vec<u8>,
-    back: &[Numbered],
-    number: u32,
-    column: u32,
-) -> Result<(), AllocError>
-    ensures { OnOk result (out.new.items ≡ out.old.items ++ back_text back.now number column) }
+fn put_back(out: &mut Vec<u8>, back: &[Numbered], level: u32, column: u32) -> Result<(), AllocError>
+    ensures { OnOk result (out.new.items ≡ out.old.items ++ back_text back.now level column) }
 {
     if back.is_empty() {
         return Ok(());
     }
-    put_text_start(out, b"t", x_of(column) + 44, y_of(number) + 4)?;
+    put_text_start(out, b"t", x_of(column) + 44, y_of(level) + 4)?;
     put_decimal(out, back.len() as u64)?;
     put(out, b" back")?;
     put(out, b"</text>")
 }
 
 // Appends the id of a view that is installed.
-fn put_installed(
-    out: &mut Vec<u8>,
-    view: ViewId,
-    number: u32,
-    column: u32,
-) -> Result<(), AllocError>
-    ensures { OnOk result (out.new.items ≡ out.old.items ++ text_at (codes "i") (x_of column) (y_of number + 4) (text_of_view_id view)) }
+fn put_installed(out: &mut Vec<u8>, view: ViewId, level: u32, column: u32) -> Result<(), AllocError>
+    ensures { OnOk result (out.new.items ≡ out.old.items ++ text_at (codes "i") (x_of column) (y_of level + 4) (text_of_view_id view)) }
 {
-    put_text_start(out, b"i", x_of(column), y_of(number) + 4)?;
+    put_text_start(out, b"i", x_of(column), y_of(level) + 4)?;
     put_view_id(out, view)?;
     put(out, b"</text>")
 }
@@ -126,97 +116,81 @@ fn put_installed(
 fn put_install(
     out: &mut Vec<u8>,
     install: &Install,
-    number: u32,
+    level: u32,
     column: u32,
 ) -> Result<(), AllocError>
-    ensures { OnOk result (out.new.items ≡ out.old.items ++ install_text install.now number column) }
+    ensures { OnOk result (out.new.items ≡ out.old.items ++ install_text install.now level column) }
 {
-    put_installed(out, install.view.id(), number, column)?;
-    put_given(out, install.given.as_ref(), number, column)?;
-    put_back(out, install.handed_back.as_slice(), number, column)
+    put_installed(out, install.view.id(), level, column)?;
+    put_given(out, install.given.as_ref(), level, column)?;
+    put_back(out, install.handed_back.as_slice(), level, column)
 }
 
 /// Appends the texts of an event.
 pub fn put_texts(
     out: &mut Vec<u8>,
     event: &Event,
-    number: u32,
+    level: u32,
     column: u32,
 ) -> Result<(), AllocError>
-    ensures { OnOk result (out.new.items ≡ out.old.items ++ texts_of event.now number column) }
+    ensures { OnOk result (out.new.items ≡ out.old.items ++ texts_of event.now level column) }
 {
     match event {
-        Event::Started(_) => put_beside(out, b"t", number, column, b"started"),
+        Event::Started(_) => put_beside(out, b"t", level, column, b"started"),
         Event::Sent(sending) => {
-            put_payload(
-                out,
-                b"b",
-                number,
-                column,
-                sending.message.payload.as_slice(),
-            )
+            put_payload(out, b"b", level, column, sending.message.payload.as_slice())
         }
         Event::Delivered(delivery) => {
             put_payload(
                 out,
                 b"t",
-                number,
+                level,
                 column,
                 delivery.message.payload.as_slice(),
             )
         }
         Event::Blocked(_) => Ok(()),
-        Event::Installed(install) => put_install(out, install.get(), number, column),
-        Event::Left(_) => put_beside(out, b"t", number, column, b"left"),
-        Event::Crashed(_) => put_beside(out, b"t", number, column, b"crashed"),
+        Event::Installed(install) => put_install(out, install.get(), level, column),
+        Event::Left(_) => put_beside(out, b"t", level, column, b"left"),
+        Event::Crashed(_) => put_beside(out, b"t", level, column, b"crashed"),
     }
 }
 
 // Whether a row lies in the same block as another.
-fn same_block(number: u32, before: Option<u32>) -> bool
-    ensures { result ≡ same_block number before }
+fn same_block(level: u32, before: Option<u32>) -> bool
+    ensures { result ≡ same_block level before }
 {
     match before {
         None => false,
-        Some(before) => before / BLOCK == number / BLOCK,
+        Some(before) => before / BLOCK == level / BLOCK,
     }
 }
 
 // Appends the name of a member above a column.
-fn put_above(
-    out: &mut Vec<u8>,
-    number: u32,
-    column: u32,
-    member: &Address,
-) -> Result<(), AllocError>
-    ensures { OnOk result (out.new.items ≡ out.old.items ++ name_above number column member.now) }
+fn put_above(out: &mut Vec<u8>, level: u32, column: u32, member: &Address) -> Result<(), AllocError>
+    ensures { OnOk result (out.new.items ≡ out.old.items ++ name_above level column member.now) }
 {
-    put_text_start(out, b"n", x_of(column), names_y(number))?;
+    put_text_start(out, b"n", x_of(column), names_y(level))?;
     put_name(out, member)?;
     put(out, b"</text>")
 }
 
 /// Appends the name of a member above its column, at its first event in a block of rows.
-pub fn put_name_above(
-    out: &mut Vec<u8>,
-    number: u32,
-    row: &Row,
-    member: &Address,
-) -> Result<(), AllocError>
-    ensures { OnOk result (out.new.items ≡ out.old.items ++ name_text number row.now member.now) }
+pub fn put_name_above(out: &mut Vec<u8>, row: &Row, member: &Address) -> Result<(), AllocError>
+    ensures { OnOk result (out.new.items ≡ out.old.items ++ name_text row.now member.now) }
 {
-    if same_block(number, row.before) {
+    if same_block(row.level, row.before) {
         Ok(())
     } else {
-        put_above(out, number, row.column, member)
+        put_above(out, row.level, row.column, member)
     }
 }
 
 /// Appends the number of an event, from 1.
-pub fn put_row_number(out: &mut Vec<u8>, number: u32) -> Result<(), AllocError>
-    ensures { OnOk result (out.new.items ≡ out.old.items ++ number_text number) }
+pub fn put_row_number(out: &mut Vec<u8>, number: u32, level: u32) -> Result<(), AllocError>
+    ensures { OnOk result (out.new.items ≡ out.old.items ++ number_text number level) }
 {
-    put_text_start(out, b"r", 40, y_of(number) + 4)?;
+    put_text_start(out, b"r", 40, y_of(level) + 4)?;
     put_decimal(out, u64::from(number) + 1)?;
     put(out, b"</text>")
 }

@@ -6,6 +6,7 @@ use limits::{OUTSTANDING, WINDOW};
 use std::alloc::Global;
 use std::io;
 use std::io::ErrorKind;
+use std::time::Duration;
 use udp_net::{Net, Settings, SocketNet};
 
 /// The lengths of a FORWARD, an ORDER and an ACK of a payload of 16 bytes in a group with a name of five letters, in bytes.
@@ -131,7 +132,7 @@ impl Party for Bare {
         Ok(true)
     }
 
-    fn round(&mut self) -> io::Result<usize> {
+    fn round(&mut self, _rt: &HostRuntime, _rest: Duration) -> io::Result<usize> {
         let mut count = 0usize;
         for _ in 0..RECEIVES {
             match self.net.receive(self.buffer.as_mut_slice()) {

@@ -8,6 +8,7 @@ use state_transfer::Receiver;
 use std::alloc::Global;
 use std::io;
 use std::io::ErrorKind;
+use std::time::Duration;
 use trace_props::Event;
 use udp_member::Runner;
 use udp_net::{Settings, SocketNet};
@@ -45,7 +46,7 @@ impl Party for Member {
         let channel = Channel::new(alloc, Address::first_at(node), ChatLog::opening(alloc)?);
         let mut member = Member {
             alloc,
-            member: Runner::new(alloc, net, channel, u32::from(settings.silent()))?,
+            member: Runner::new(alloc, net, channel, &[], u32::from(settings.silent()))?,
             listens: 0,
         };
         match connect(member.member.channel(), settings, node) {
@@ -66,16 +67,41 @@ impl Party for Member {
         Ok(self.member.channel().send(payload).is_ok())
     }
 
-    fn round(&mut self) -> io::Result<usize> {
+    fn round(&mut self, _rt: &HostRuntime, _rest: Duration) -> io::Result<usize> {
         self.listens = self.listens.wrapping_add(1);
-        let answer = if self.listens % LISTENS == 0 {
-            self.member.round()
+        if self.listens % LISTENS == 0 {
+            self.tick()?;
         } else {
-            self.member.listen()
-        };
-        if answer.is_err() {
-            return Err(io::Error::from(ErrorKind::Other));
+            self.listen()?;
         }
+        self.delivered()
+    }
+}
+
+impl Member {
+    /// A round of its runner.
+    pub(crate) fn tick(&mut self) -> io::Result<()> {
+        match self.member.round() {
+            Ok(()) => Ok(()),
+            Err(_) => Err(io::Error::from(ErrorKind::Other)),
+        }
+    }
+
+    /// Takes the datagrams that came; answers whether there were any.
+    pub(crate) fn listen(&mut self) -> io::Result<bool> {
+        match self.member.listen() {
+            Ok(count) => Ok(count > 0),
+            Err(_) => Err(io::Error::from(ErrorKind::Other)),
+        }
+    }
+
+    /// Sleeps until a datagram comes, but no longer than so.
+    pub(crate) fn wait(&mut self, limit: Duration) {
+        self.member.wait(limit);
+    }
+
+    /// How many messages were delivered since the last time.
+    pub(crate) fn delivered(&mut self) -> io::Result<usize> {
         let mut count = 0usize;
         for _ in 0..u64::MAX {
             match self.member.channel().happened() {

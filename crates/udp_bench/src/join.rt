@@ -10,7 +10,7 @@ use std::io::{ErrorKind, Write};
 use std::time::{Clock, Duration};
 use std::{io, thread};
 use udp_member::Runner;
-use udp_net::{Settings, SocketNet};
+use udp_net::{Hosts, Settings, SocketNet};
 use vsync_text::put_decimal;
 
 /// The node that joins.
@@ -32,12 +32,12 @@ struct Party {
 // The member of a node over its socket: that of node 1 makes the group, and the others join it.
 fn member(rt: &HostRuntime, settings: &Settings, number: u16) -> io::Result<Member> {
     let node = Node::new(number).ok_or(io::Error::from(ErrorKind::InvalidInput))?;
-    let Ok(net) = SocketNet::bind(rt.alloc(), rt, settings, node) else {
+    let Ok(net) = SocketNet::bind(rt.alloc(), rt, settings, &Hosts::local(rt.alloc()), node) else {
         return Err(io::Error::from(ErrorKind::AddrInUse));
     };
     let opening = LongChat::opening(rt.alloc())?;
     let channel = Channel::new(rt.alloc(), Address::first_at(node), opening);
-    let mut member = Runner::new(rt.alloc(), net, channel, u32::from(settings.silent()))?;
+    let mut member = Runner::new(rt.alloc(), net, channel, &[], u32::from(settings.silent()))?;
     match connect(member.channel(), settings, node) {
         Ok(()) => Ok(member),
         Err(refused) => Err(refused),

@@ -1,8 +1,8 @@
 //! Four nodes over UDP, of which node 2, which is not the coordinator, sends as fast as it may: how long each message takes; and a fifth that joins four: how long it takes to be
 //! given their state. `bench/udp` runs it.
 //!
-//! Its words are KIND CONFIG COUNT [NODE]. KIND is `member`, or `bare` for sockets that exchange as many datagrams of the same lengths with no member. COUNT messages of
-//! 16 bytes are sent. With NODE the process is that node; without it all four are in it. It prints a line for each message: the nanoseconds at which it was sent,
+//! Its words are KIND CONFIG COUNT [NODE]. KIND is `member`, `live` for a member that sleeps while no datagram comes, as `vsync member` does, or `bare` for sockets that exchange as many
+//! datagrams of the same lengths with no member. COUNT messages of 16 bytes are sent, as fast as it goes; by `live-slow` and `bare-slow` one in each 10 milliseconds. With NODE the process is that node; without it all four are in it. It prints a line for each message: the nanoseconds at which it was sent,
 //! 0 where another process sent it, and at which it was delivered at each node that is in the process. Without words it does nothing.
 //!
 //! KIND `join` has five nodes, each with a round a millisecond, as `vsync member`, and `rush` has rounds with no pause, as `vsync udp`. Four of them have a long chat of COUNT lines of 512 bytes each, at most 2,000,
@@ -13,6 +13,7 @@
 mod bare;
 mod group_member;
 mod join;
+mod live_member;
 mod party;
 mod race;
 
@@ -20,13 +21,18 @@ use std::io::ErrorKind;
 use std::{env, fs, io};
 use udp_net::{Settings, settings};
 
+/// The time between two messages at a low load, in nanoseconds.
+const SLOW: u64 = 10_000_000;
+
 /// What is run.
 #[derive(Clone, Copy)]
 enum Kind {
     /// Four members, of which one sends.
     Member,
+    /// Four members that sleep while no datagram comes, of which one sends, one message in each so many nanoseconds.
+    Live(u64),
     /// Four sockets, with no member.
-    Bare,
+    Bare(u64),
     /// A fifth member joins four.
     Join(bool),
 }
@@ -43,7 +49,10 @@ struct Words {
 // The kind that a word names.
 fn kind_of(word: &str) -> Kind {
     match word {
-        "bare" => Kind::Bare,
+        "bare" => Kind::Bare(0),
+        "bare-slow" => Kind::Bare(SLOW),
+        "live" => Kind::Live(0),
+        "live-slow" => Kind::Live(SLOW),
         "join" => Kind::Join(true),
         "rush" => Kind::Join(false),
         _ => Kind::Member,
@@ -90,13 +99,17 @@ fn main(rt: HostRuntime) -> io::Result<()> {
     };
     let settings = settings_at(&rt, words.config.as_str())?;
     match words.kind {
-        Kind::Bare => {
+        Kind::Bare(every) => {
             let parties = race::parties::<bare::Bare>(&rt, &settings, words.node)?;
-            race::run(&rt, parties, words.node, words.count)
+            race::run(&rt, parties, words.node, words.count, every)
         }
         Kind::Member => {
             let parties = race::parties::<group_member::Member>(&rt, &settings, words.node)?;
-            race::run(&rt, parties, words.node, words.count)
+            race::run(&rt, parties, words.node, words.count, 0)
+        }
+        Kind::Live(every) => {
+            let parties = race::parties::<live_member::Live>(&rt, &settings, words.node)?;
+            race::run(&rt, parties, words.node, words.count, every)
         }
         Kind::Join(has_pauses) => { join::run(&rt, &settings, words.node, words.count, has_pauses) }
     }

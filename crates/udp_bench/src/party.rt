@@ -1,6 +1,7 @@
 use address::Node;
 use std::alloc::Global;
 use std::io;
+use std::time::Duration;
 use udp_net::{Settings, SocketNet};
 
 /// One of the four nodes.
@@ -14,6 +15,6 @@ pub(crate) trait Party: Drop + Sized {
     /// Sends a payload, if it may; answers whether it did.
     fn send(&mut self, payload: &[u8]) -> io::Result<bool>;
 
-    /// A round of it; answers how many messages were delivered to it.
-    fn round(&mut self) -> io::Result<usize>;
+    /// A round of it, which may sleep for so long while no datagram comes; answers how many messages were delivered to it.
+    fn round(&mut self, rt: &HostRuntime, rest: Duration) -> io::Result<usize>;
 }

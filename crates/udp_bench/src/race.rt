@@ -5,11 +5,14 @@ use address::Node;
 use std::io::{ErrorKind, Write};
 use std::time::{Clock, Duration};
 use std::{io, thread};
-use udp_net::{Settings, SocketNet};
+use udp_net::{Hosts, Settings, SocketNet};
 use vsync_text::put_decimal;
 
 /// How long the four may take to come together, and all messages to be delivered, in nanoseconds.
 pub(crate) const LONGEST: u64 = 60_000_000_000;
+
+/// The longest rest of a round.
+const REST: Duration = Duration::MAX;
 
 /// How long a process answers the others when it has all messages, in nanoseconds.
 const AFTER: u64 = 500_000_000;
@@ -30,7 +33,7 @@ pub(crate) fn now(rt: &HostRuntime) -> io::Result<u64> {
 // One party at a node.
 fn party<P: Party>(rt: &HostRuntime, settings: &Settings, number: u16) -> io::Result<Runs<P>> {
     let node = Node::new(number).ok_or(io::Error::from(ErrorKind::InvalidInput))?;
-    match SocketNet::bind(rt.alloc(), rt, settings, node) {
+    match SocketNet::bind(rt.alloc(), rt, settings, &Hosts::local(rt.alloc()), node) {
         Ok(net) => Ok(Runs {
             number,
             party: P::new(rt.alloc(), settings, node, net)?,
@@ -58,10 +61,14 @@ pub(crate) fn parties<P: Party>(
     Ok(parties)
 }
 
-// A round of each.
-fn rounds<P: Party>(rt: &HostRuntime, parties: &mut Vec<Runs<P>>) -> io::Result<()> {
+// A round of each, which may sleep for so long.
+fn rounds<P: Party>(
+    rt: &HostRuntime,
+    parties: &mut Vec<Runs<P>>,
+    rest: Duration,
+) -> io::Result<()> {
     for runs in parties.as_mut_slice() {
-        let count = runs.party.round()?;
+        let count = runs.party.round(rt, rest)?;
         if count > 0 {
             let at = now(rt)?;
             for _ in 0..count {
@@ -76,7 +83,7 @@ fn rounds<P: Party>(rt: &HostRuntime, parties: &mut Vec<Runs<P>>) -> io::Result<
 fn come_together<P: Party>(rt: &HostRuntime, parties: &mut Vec<Runs<P>>) -> io::Result<()> {
     let begun = now(rt)?;
     for _ in 0..u64::MAX {
-        rounds(rt, parties)?;
+        rounds(rt, parties, REST)?;
         if parties
             .as_mut_slice()
             .iter_mut()
@@ -91,7 +98,7 @@ fn come_together<P: Party>(rt: &HostRuntime, parties: &mut Vec<Runs<P>>) -> io::
     Err(io::Error::from(ErrorKind::TimedOut))
 }
 
-// Sends as many as may be sent now; notes when.
+// Sends as many as may be sent now, of so many in all; notes when.
 fn send<P: Party>(
     rt: &HostRuntime,
     parties: &mut Vec<Runs<P>>,
@@ -120,17 +127,32 @@ fn have_all<P: Party>(parties: &Vec<Runs<P>>, count: usize) -> bool {
         .all(|runs| runs.delivered.len() >= count)
 }
 
-// Sends and has rounds until all messages are delivered to each.
+// How many messages it is time for, one in each `every` nanoseconds, and how long it is until the next one.
+fn due(passed: u64, every: u64, count: usize) -> (usize, Duration) {
+    if every == 0 {
+        return (count, REST);
+    }
+    let turn = passed / every;
+    let rest = every - passed % every;
+    let due = usize::try_from(turn)
+        .unwrap_or(usize::MAX)
+        .saturating_add(1);
+    (due.min(count), Duration::from_nanos(rest))
+}
+
+// Sends, one message in each `every` nanoseconds or as many as it may, and has rounds until all are delivered to each.
 fn race<P: Party>(
     rt: &HostRuntime,
     parties: &mut Vec<Runs<P>>,
     sent: &mut Vec<u64>,
     count: usize,
+    every: u64,
 ) -> io::Result<()> {
     let begun = now(rt)?;
     for _ in 0..u64::MAX {
-        send(rt, parties, sent, count)?;
-        rounds(rt, parties)?;
+        let (due, rest) = due(now(rt)?.saturating_sub(begun), every, count);
+        send(rt, parties, sent, due)?;
+        rounds(rt, parties, rest)?;
         if have_all(parties, count) {
             return Ok(());
         }
@@ -145,7 +167,7 @@ fn race<P: Party>(
 fn linger<P: Party>(rt: &HostRuntime, parties: &mut Vec<Runs<P>>) -> io::Result<()> {
     let begun = now(rt)?;
     for _ in 0..u64::MAX {
-        rounds(rt, parties)?;
+        rounds(rt, parties, Duration::ZERO)?;
         if now(rt)?.saturating_sub(begun) > AFTER {
             break;
         }
@@ -170,12 +192,13 @@ fn put_line<P: Party>(
     Ok(())
 }
 
-/// Brings the parties together, has all messages sent and delivered, and prints when.
+/// Brings the parties together, has all messages sent and delivered, one in each `every` nanoseconds or as fast as it goes, and prints when.
 pub(crate) fn run<P: Party>(
     rt: &HostRuntime,
     parties: Vec<Runs<P>>,
     node: Option<u16>,
     count: usize,
+    every: u64,
 ) -> io::Result<()> {
     let mut parties = parties;
     let mut sent = Vec::new(rt.alloc());
@@ -184,7 +207,7 @@ pub(crate) fn run<P: Party>(
         // The others may not have installed the view yet.
         linger(rt, &mut parties)?;
     }
-    race(rt, &mut parties, &mut sent, count)?;
+    race(rt, &mut parties, &mut sent, count, every)?;
     if node.is_some() {
         linger(rt, &mut parties)?;
     }

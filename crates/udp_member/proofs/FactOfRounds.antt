@@ -1,13 +1,14 @@
 -- How the parts of a round go on, and come together.
-use Rattle.std.proofs.Common.{◌≡◌, ℕ, ◌+◌, ◌<◌, ◌≤◌, ◌++◌, Bool, true, false, length, take, List, [], ◌∷◌, Option, Some, None, Ok, Err, inl, inr, refl, sym, ap, ◌∙◌, subst, arith, length-append}
+use Rattle.std.proofs.Common.{◌≡◌, ℕ, ◌+◌, ◌<◌, ◌≤◌, ◌++◌, Bool, true, false, length, take, List, [], ◌∷◌, Option, Some, None, Result, Ok, Err, inl, inr, refl, sym, ap, ◌∙◌, subst, arith, length-append}
 use Rattle.address.specs.Ids.{Address}
 use Rattle.state_transfer.specs.Meanings.{Meaning}
 use Rattle.member.specs.declared.error.Error.{Error}
 use Rattle.udp_net.specs.Logs.{Log, Lists, receiving, answer_of}
 use Rattle.udp_member.specs.declared.runner.TheConstants.{RECEIVES}
 use Rattle.udp_member.specs.Offers.{Offers}
-use Rattle.udp_member.specs.Turns.{Handed, Datagram, Suspect, Tick, Driven, Takes, TakesAll, Nothing, Next, Any, IsWatched}
+use Rattle.udp_member.specs.Turns.{Handed, Datagram, Suspect, Tick, Hint, Driven, Takes, TakesAll, Nothing, Next, Any, IsWatched}
 use Rattle.udp_member.specs.Rounds.{PassesOver, HandsIn, HearsOne, Receives, Cuts, Hears, SuspectsAll, Suspects, Listens, Rounds}
+use Rattle.udp_member.specs.Seeking.{Hints}
 
 module _ {N S : Type 0} (log : N → Option Log) (failed : N → ℕ) (meaning : Meaning S) where
   -- so many datagrams were handed in
@@ -19,12 +20,12 @@ module _ {N S : Type 0} (log : N → Option Log) (failed : N → ℕ) (meaning :
   -- the datagram that a receive gave is handed in
   pub heard : (old new : Driven N S) (net : N) (buffer lent : List ℕ) (given : Option ℕ) (count : ℕ) (failure : Option Error) → given ≡ Some count → lent ≡ buffer
       → Lists (log old.net) (receiving (answer_of (Ok given) buffer)) (log net) → failed net ≡ failed old.net
-      → HandsIn log failed meaning (Datagram (take count lent)) net old.channel failure new.net new.channel → new.faults ≡ old.faults
+      → HandsIn log failed meaning (Datagram (take count lent)) net old.channel old.notes failure new.net new.channel new.notes → new.faults ≡ old.faults
       → HearsOne log failed meaning old failure new
   heard old new net buffer lent given count failure is whole lists same h faults =
       let came = subst (λ (a : Option ℕ). Lists (log old.net) (receiving (answer_of (Ok a) buffer)) (log net)) is lists in
       let comes = subst (λ (b : List ℕ). Lists (log old.net) (receiving (answer_of (Ok (Some count)) b)) (log net)) (sym whole) came in
-      record { bytes = take count lent; answer = h.answer; takes = record { net = net; comes = (comes, same); turn = h.turn; faults = faults }; why = h.why }
+      record { bytes = take count lent; answer = h.answer; takes = record { net = net; comes = (comes, same); turn = h.turn; faults = faults; notes = h.noted }; why = h.why }
 
   pub heard-none : (old : Driven N S) → HeardSoFar old 0 old
   heard-none old = record { datagrams = []; many = refl; takes = Nothing }
@@ -41,19 +42,20 @@ module _ {N S : Type 0} (log : N → Option Log) (failed : N → ℕ) (meaning :
   heard-one old mid new n false so h is = absurd (cc)
 
   pub heard-until : (old mid new : Driven N S) (n : ℕ) (came : Bool) → HeardSoFar old n mid → n < RECEIVES → Receives log failed meaning mid (Ok came) new → came ≡ false
-      → Hears log failed meaning old None new
+      → Hears log failed meaning old (Ok n) new
   heard-until old mid new n false so few h is = record {
     datagrams = so.datagrams;
+    many = so.many;
     heard = mid;
     takes = so.takes;
-    until = inr (subst (λ (k : ℕ). k < RECEIVES) (sym so.many) few, h);
+    until = inr (few, h);
   }
   heard-until old mid new n true so few h is = absurd (cc)
 
-  pub heard-full : (old new : Driven N S) (n : ℕ) → HeardSoFar old n new → RECEIVES ≤ n → n ≤ RECEIVES → Hears log failed meaning old None new
+  pub heard-full : (old new : Driven N S) (n : ℕ) → HeardSoFar old n new → RECEIVES ≤ n → n ≤ RECEIVES → Hears log failed meaning old (Ok RECEIVES) new
   heard-full old new n so most few =
       let e : n ≡ RECEIVES = omega (arith, most, few) in
-      record { datagrams = so.datagrams; heard = new; takes = so.takes; until = inl (so.many ∙ e, refl) }
+      record { datagrams = so.datagrams; many = so.many ∙ e; heard = new; takes = so.takes; until = inl (refl, refl) }
 
   -- a part that is cut short by the answer to a turn
   cut-by : {X : Type 0} (as_handed : X → Handed) (may : X → Type 0) (old mid new : Driven N S) (xs : List X) (x : X) (answer : Option Error) (e : Error)
@@ -69,7 +71,7 @@ module _ {N S : Type 0} (log : N → Option Log) (failed : N → ℕ) (meaning :
     answered = subst (λ (a : Option Error). Takes log failed meaning (as_handed x) mid a new) why.0 t;
   }
 
-  pub heard-cut : (old mid new : Driven N S) (n : ℕ) (e : Error) → HeardSoFar old n mid → Receives log failed meaning mid (Err e) new → Hears log failed meaning old (Some e) new
+  pub heard-cut : (old mid new : Driven N S) (n : ℕ) (e : Error) → HeardSoFar old n mid → Receives log failed meaning mid (Err e) new → Hears log failed meaning old (Err e) new
   heard-cut old mid new n e so h = cut-by Datagram Any old mid new so.datagrams h.bytes h.answer e so.takes tt h.takes h.why
 
   -- ---- suspicions
@@ -78,54 +80,62 @@ module _ {N S : Type 0} (log : N → Option Log) (failed : N → ℕ) (meaning :
   none-suspected old = record { suspects = []; takes = Nothing }
 
   pub suspected-one : (old mid new : Driven N S) (p : Address) → SuspectsAll log failed meaning old mid → IsWatched old.channel.stage p
-      → HandsIn log failed meaning (Suspect p) mid.net mid.channel None new.net new.channel → new.faults ≡ mid.faults → SuspectsAll log failed meaning old new
+      → HandsIn log failed meaning (Suspect p) mid.net mid.channel mid.notes None new.net new.channel new.notes → new.faults ≡ mid.faults → SuspectsAll log failed meaning old new
   suspected-one old mid new p so m h same = record {
     suspects = so.suspects ++ p ∷ [];
-    takes = Next so.suspects mid p h.answer new so.takes m (record { net = mid.net; comes = refl; turn = h.turn; faults = same }) h.why;
+    takes = Next so.suspects mid p h.answer new so.takes m (record { net = mid.net; comes = refl; turn = h.turn; faults = same; notes = h.noted }) h.why;
   }
 
   pub suspected-cut : (old mid new : Driven N S) (p : Address) (e : Error) → SuspectsAll log failed meaning old mid → IsWatched old.channel.stage p
-      → HandsIn log failed meaning (Suspect p) mid.net mid.channel (Some e) new.net new.channel → new.faults ≡ mid.faults → Suspects log failed meaning old (Some e) new
+      → HandsIn log failed meaning (Suspect p) mid.net mid.channel mid.notes (Some e) new.net new.channel new.notes → new.faults ≡ mid.faults → Suspects log failed meaning old (Some e) new
   suspected-cut old mid new p e so m h same =
-      cut-by Suspect (IsWatched old.channel.stage) old mid new so.suspects p h.answer e so.takes m (record { net = mid.net; comes = refl; turn = h.turn; faults = same }) h.why
+      cut-by Suspect (IsWatched old.channel.stage) old mid new so.suspects p h.answer e so.takes m (record { net = mid.net; comes = refl; turn = h.turn; faults = same; notes = h.noted }) h.why
 
   -- ---- a whole round
 
-  pub listened : (old begun new : Driven N S) (failure : Option Error) → Offers log failed old.net old.channel begun.net begun.channel → begun.faults ≡ old.faults
-      → Hears log failed meaning begun failure new → Listens log failed meaning old failure new
-  listened old begun new failure offers same h = record { begun = begun; offers = offers; faults = same; hears = h }
+  pub listened : (old begun new : Driven N S) (answer : Result ℕ Error) → Offers log failed old.net old.channel begun.net begun.channel → begun.faults ≡ old.faults
+      → begun.notes ≡ old.notes → Hears log failed meaning begun answer new → Listens log failed meaning old answer new
+  listened old begun new answer offers faults_same notes_same h = record { begun = begun; offers = offers; faults = faults_same; notes = notes_same; hears = h }
 
-  pub cut-while-hearing : (old new : Driven N S) (e : Error) → Listens log failed meaning old (Some e) new → Rounds log failed meaning old (Some e) new
+  pub cut-while-hearing : (old new : Driven N S) (e : Error) → Listens log failed meaning old (Err e) new → Rounds log failed meaning old (Some e) new
   cut-while-hearing old new e l = record {
-    cut = Some e;
+    heard = Err e;
     mid = new;
     listens = l;
-    then_suspects = λ n. absurd (cc);
-    stops = λ k is. (is, refl);
+    then_suspects = λ n is. absurd (cc);
+    stops = λ k is. (cc, refl);
   }
 
-  pub cut-while-suspecting : (old heard new : Driven N S) (e : Error) → Listens log failed meaning old None heard → Suspects log failed meaning heard (Some e) new
+  pub cut-while-suspecting : (old heard new : Driven N S) (count : ℕ) (e : Error) → Listens log failed meaning old (Ok count) heard → Suspects log failed meaning heard (Some e) new
       → Rounds log failed meaning old (Some e) new
-  cut-while-suspecting old heard new e l x = record {
-    cut = None;
+  cut-while-suspecting old heard new count e l x = record {
+    heard = Ok count;
     mid = heard;
     listens = l;
-    then_suspects = λ n. record { cut = Some e; mid = new; suspects = x; ticks = λ m. absurd (cc); stops = λ k is. (is, refl) };
+    then_suspects = λ n is. record { cut = Some e; mid = new; suspects = x; ticks = λ m. absurd (cc); stops = λ k is. (is, refl) };
     stops = λ k n. absurd (cc);
   }
 
-  pub ticked : (old heard mid new : Driven N S) (failure : Option Error) → Listens log failed meaning old None heard → Suspects log failed meaning heard None mid
-      → HandsIn log failed meaning Tick mid.net mid.channel failure new.net new.channel → new.faults ≡ mid.faults → Rounds log failed meaning old failure new
-  ticked old heard mid new failure l x t faults_same = record {
-    cut = None;
+  pub ticked : (old heard mid new : Driven N S) (count : ℕ) (failure : Option Error) → Listens log failed meaning old (Ok count) heard
+      → Suspects log failed meaning heard None mid → HandsIn log failed meaning Tick mid.net mid.channel mid.notes failure new.net new.channel new.notes
+      → new.faults ≡ mid.faults → Rounds log failed meaning old failure new
+  ticked old heard mid new count failure l x t faults_same = record {
+    heard = Ok count;
     mid = heard;
     listens = l;
-    then_suspects = λ n. record {
+    then_suspects = λ n is. record {
       cut = None;
       mid = mid;
       suspects = x;
-      ticks = λ m. record { answer = t.answer; takes = record { net = mid.net; comes = refl; turn = t.turn; faults = faults_same }; why = t.why };
+      ticks = λ m. record { answer = t.answer; takes = record { net = mid.net; comes = refl; turn = t.turn; faults = faults_same; notes = t.noted }; why = t.why };
       stops = λ k m. absurd (cc);
     };
     stops = λ k n. absurd (cc);
   }
+
+  -- ---- who is sought
+
+  pub hinted : (old new : Driven N S) (p : Address) (failure : Option Error)
+      → HandsIn log failed meaning (Hint p) old.net old.channel old.notes failure new.net new.channel new.notes → new.faults ≡ old.faults
+      → Hints log failed meaning p old failure new
+  hinted old new p failure h same = record { answer = h.answer; takes = record { net = old.net; comes = refl; turn = h.turn; faults = same; notes = h.noted }; why = h.why }

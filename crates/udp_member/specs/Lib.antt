@@ -1,4 +1,7 @@
 pub mod Offers
+pub mod Peers
+pub mod Notes
 pub mod Turns
 pub mod Rounds
+pub mod Seeking
 pub mod Lends

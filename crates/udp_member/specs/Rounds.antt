@@ -10,18 +10,20 @@ use Rattle.udp_net.specs.declared.net.Received.TheVariants as received
 use Rattle.udp_net.specs.Logs.{Log, Lists, receiving, one_more}
 use Rattle.udp_member.specs.declared.runner.TheConstants.{RECEIVES}
 use Rattle.udp_member.specs.Offers.{Offers}
-use Rattle.udp_member.specs.Turns.{Handed, Datagram, Suspect, Tick, Turn, Driven, Takes, TakesAll, Any, IsWatched, goes_on}
+use Rattle.udp_member.specs.Notes.{Notes}
+use Rattle.udp_member.specs.Turns.{Handed, Datagram, Suspect, Tick, Turn, Driven, Takes, TakesAll, Any, IsWatched, goes_on, noted_of}
 
 -- the answers 6 and 7 of the channel cut a round short, and nothing else does
 abbrev pub PassesOver : Option Error → Option Error → Type 0
 PassesOver answer None = goes_on answer ≡ true
 PassesOver answer (Some e) = (answer ≡ Some e) × (is_end e ≡ true)
 
--- a turn by a datagram, and whether the round goes on
-pub record HandsIn {N S : Type 0} (log : N → Option Log) (failed : N → ℕ) (meaning : Meaning S) (handed : Handed) (net : N) (channel : ChannelModel S)
-    (failure : Option Error) (new_net : N) (new_channel : ChannelModel S) : Type 0 where
+-- a turn, what is noted of it, and whether it goes on
+pub record HandsIn {N S : Type 0} (log : N → Option Log) (failed : N → ℕ) (meaning : Meaning S) (handed : Handed) (net : N) (channel : ChannelModel S) (notes : Notes)
+    (failure : Option Error) (new_net : N) (new_channel : ChannelModel S) (new_notes : Notes) : Type 0 where
   pub answer : Option Error
   pub turn : Turn log failed meaning handed net channel answer new_net new_channel
+  pub noted : new_notes ≡ noted_of handed channel answer notes
   pub why : PassesOver answer failure
 
 -- a failed receive is counted, and no other
@@ -36,6 +38,7 @@ pub record Asks {N S : Type 0} (log : N → Option Log) (failed : N → ℕ) (an
   pub failed_is : failed new.net ≡ counted answer (failed old.net)
   pub faults : new.faults ≡ counted answer old.faults
   pub channel : new.channel ≡ old.channel
+  pub notes : new.notes ≡ old.notes
 
 -- a receive that gives none, or fails
 abbrev pub ComesNone : {N S : Type 0} → (N → Option Log) → (N → ℕ) → Driven N S → Driven N S → Type 0
@@ -67,16 +70,17 @@ pub record Cuts {N S X : Type 0} (log : N → Option Log) (failed : N → ℕ) (
   pub may_be : may last
   pub answered : Takes log failed meaning (as_handed last) mid (Some e) new
 
--- the datagrams are handed in that come, up to `RECEIVES`, or until a receive gives none, or fails
-pub record HearsAll {N S : Type 0} (log : N → Option Log) (failed : N → ℕ) (meaning : Meaning S) (old new : Driven N S) : Type 0 where
+-- so many datagrams are handed in that come: `RECEIVES`, or as many until a receive gives none, or fails
+pub record HearsAll {N S : Type 0} (log : N → Option Log) (failed : N → ℕ) (meaning : Meaning S) (old : Driven N S) (count : ℕ) (new : Driven N S) : Type 0 where
   pub datagrams : List (List ℕ)
+  pub many : length datagrams ≡ count
   pub heard : Driven N S
   pub takes : TakesAll log failed meaning Datagram Any old datagrams heard
-  pub until : ((length datagrams ≡ RECEIVES) × (new ≡ heard)) ⊎ ((length datagrams < RECEIVES) × ComesNone log failed heard new)
+  pub until : ((count ≡ RECEIVES) × (new ≡ heard)) ⊎ ((count < RECEIVES) × ComesNone log failed heard new)
 
-abbrev pub Hears : {N S : Type 0} → (N → Option Log) → (N → ℕ) → Meaning S → Driven N S → Option Error → Driven N S → Type 0
-Hears log failed meaning old None new = HearsAll log failed meaning old new
-Hears log failed meaning old (Some e) new = Cuts log failed meaning Datagram Any old e new
+abbrev pub Hears : {N S : Type 0} → (N → Option Log) → (N → ℕ) → Meaning S → Driven N S → Result ℕ Error → Driven N S → Type 0
+Hears log failed meaning old (Ok count) new = HearsAll log failed meaning old count new
+Hears log failed meaning old (Err e) new = Cuts log failed meaning Datagram Any old e new
 
 -- then suspicions of addresses that the channel watches, before the first of them
 pub record SuspectsAll {N S : Type 0} (log : N → Option Log) (failed : N → ℕ) (meaning : Meaning S) (old new : Driven N S) : Type 0 where
@@ -101,17 +105,18 @@ pub record SuspectsAndTicks {N S : Type 0} (log : N → Option Log) (failed : N 
   pub ticks : cut ≡ None → Ticks log failed meaning mid failure new
   pub stops : (e : Error) → cut ≡ Some e → (failure ≡ Some e) × (new ≡ mid)
 
--- what waits is offered; then the datagrams that come are handed in
-pub record Listens {N S : Type 0} (log : N → Option Log) (failed : N → ℕ) (meaning : Meaning S) (old : Driven N S) (failure : Option Error) (new : Driven N S) : Type 0 where
+-- what waits is offered; then the datagrams that come are handed in, and it is answered how many
+pub record Listens {N S : Type 0} (log : N → Option Log) (failed : N → ℕ) (meaning : Meaning S) (old : Driven N S) (answer : Result ℕ Error) (new : Driven N S) : Type 0 where
   pub begun : Driven N S
   pub offers : Offers log failed old.net old.channel begun.net begun.channel
   pub faults : begun.faults ≡ old.faults
-  pub hears : Hears log failed meaning begun failure new
+  pub notes : begun.notes ≡ old.notes
+  pub hears : Hears log failed meaning begun answer new
 
 -- it listens; and where that is not cut short, suspicions and a tick
 pub record Rounds {N S : Type 0} (log : N → Option Log) (failed : N → ℕ) (meaning : Meaning S) (old : Driven N S) (failure : Option Error) (new : Driven N S) : Type 0 where
-  pub cut : Option Error
+  pub heard : Result ℕ Error
   pub mid : Driven N S
-  pub listens : Listens log failed meaning old cut mid
-  pub then_suspects : cut ≡ None → SuspectsAndTicks log failed meaning mid failure new
-  pub stops : (e : Error) → cut ≡ Some e → (failure ≡ Some e) × (new ≡ mid)
+  pub listens : Listens log failed meaning old heard mid
+  pub then_suspects : (count : ℕ) → heard ≡ Ok count → SuspectsAndTicks log failed meaning mid failure new
+  pub stops : (e : Error) → heard ≡ Err e → (failure ≡ Some e) × (new ≡ mid)

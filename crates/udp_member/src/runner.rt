@@ -2,19 +2,25 @@ ghost use Rattle.std.specs.Prelude.{◌≡◌, IfOk};
 ghost use Rattle.std.specs.Result.{result_err};
 ghost use Rattle.std.specs.Borrow.{sem};
 ghost use Rattle.udp_member.specs.Offers.{Offers};
-ghost use Rattle.udp_member.specs.Turns.{Datagram, Suspect, Tick, driven};
+ghost use Rattle.udp_net.specs.Logs.{Lists};
+ghost use Rattle.udp_member.specs.Notes.{nothing_noted};
+ghost use Rattle.udp_member.specs.Turns.{Datagram, Hint, Suspect, Tick, driven};
 ghost use Rattle.udp_member.specs.Rounds.{HandsIn, Receives, Hears, Suspects, Listens, Rounds};
+ghost use Rattle.udp_member.specs.Seeking.{Seeks, sought, turned};
 ghost use Rattle.udp_member.specs.Lends.{lends_channel, lends_net};
 
+use crate::notes::Notes;
 use crate::offering::offer_all;
+use crate::pace::Pace;
 use crate::silence::Silence;
-use crate::turns::{passed_over, suspect, take_in, tick};
-use address::{Address, ViewId};
+use crate::turns::{hint, passed_over, suspect, take_in, tick};
+use address::{Address, Node, ViewId};
 use channel::{Channel, Error};
 use limits::DATAGRAM;
 use state_transfer::Receiver;
 use std::alloc::{AllocError, Global};
 use std::marker::Model;
+use std::time::Duration;
 use udp_net::{Fault, Net};
 
 /// The most receives of a round.
@@ -26,6 +32,8 @@ pub struct Runner<N: Net, R: Receiver> {
     net: N,
     channel: Channel<R>,
     silence: Silence,
+    notes: Notes,
+    pace: Pace,
     buffer: Vec<u8>,
     faults: u64,
 }
@@ -35,19 +43,21 @@ impl<N: Net, R: Receiver> Model for Runner<N, R> {
 
     ghost Value = { Driven N R };
 
-    ghost view = { λ r. driven r.net r.channel r.faults };
+    ghost view = { λ r. driven r.net r.channel r.faults r.notes };
 }
 
-// Hands in a datagram; whoever sent it is not silent.
+// Hands in a datagram, and notes what came of it; whoever sent it is not silent.
 fn hand_in<N: Net, R: Receiver>(
     net: &mut N,
     channel: &mut Channel<R>,
     silence: &mut Silence,
+    notes: &mut Notes,
     bytes: &[u8],
 ) -> Result<(), Error>
-    ensures { HandsIn N.log N.failed R.meaning (Datagram bytes.now) net.old channel.old (result_err result) net.new channel.new }
+    ensures { HandsIn N.log N.failed R.meaning (Datagram bytes.now) net.old channel.old notes.old (result_err result) net.new channel.new notes.new }
 {
     let answer = take_in(net, channel, bytes);
+    notes.note(&answer);
     if let Some(Some(source)) = passed_over(answer)? {
         silence.hear(source, bytes, channel.view());
     }
@@ -55,21 +65,24 @@ fn hand_in<N: Net, R: Receiver>(
 }
 
 impl<N: Net, R: Receiver> Runner<N, R> {
-    /// The runner of a channel over a net. It suspects whom it watches after `silent` rounds without a packet. Its buffer is longer by one byte than the longest
-    /// datagram, so that a longer one is not taken for a packet.
+    /// The runner of a channel over a net. It suspects whom it watches after `silent` rounds without a packet, and seeks members of its group at these nodes.
+    /// Its buffer is longer by one byte than the longest datagram, so that a longer one is not taken for a packet.
     pub fn new(
         alloc: Global,
         net: N,
         channel: Channel<R>,
+        nodes: &[Node],
         silent: u32,
     ) -> Result<Runner<N, R>, AllocError>
-        ensures { IfOk result (λ runner. runner ≡ driven net channel 0) }
+        ensures { IfOk result (λ runner. runner ≡ driven net channel 0 (nothing_noted nodes.now)) }
     {
         let buffer = vec![in alloc; 0; DATAGRAM + 1]?;
         Ok(Runner {
             net,
             channel,
             silence: Silence::new(silent),
+            notes: Notes::new(alloc, nodes)?,
+            pace: Pace::new(),
             buffer,
             faults: 0,
         })
@@ -80,7 +93,7 @@ impl<N: Net, R: Receiver> Runner<N, R> {
     /// twice as many while the channel is blocked, the address is handed in as suspected. Last comes a tick of the channel. What the channel puts out by
     /// each of these steps is offered to the net at once, in order.
     ///
-    /// Counts begin anew with each view and after each suspicion. A JOIN of a member of the view counts as no packet from it. They take no memory; where the channel
+    /// Counts begin anew with each view and after each suspicion. A JOIN or a MERGE of a member of the view counts as no packet from it. They take no memory; where the channel
     /// is refused memory for the list of whom it watches, nothing is counted and nobody suspected in this round.
     ///
     /// The round is cut short exactly where the channel answers 6 or 7 to what is handed in, with that answer: the channel has ended then. All that the channel
@@ -88,20 +101,47 @@ impl<N: Net, R: Receiver> Runner<N, R> {
     pub fn round(&mut self) -> Result<(), Error>
         ensures { Rounds N.log N.failed R.meaning self.old (result_err result) self.new }
     {
-        self.listen()?;
+        let _count = self.listen()?;
         self.suspect_silent()?;
         self.tick()
     }
 
     /// The first part of a round, for who wants to hear more often than it has rounds: what waited in the channel is offered to the net, and datagrams are received and
-    /// handed in as in a round. Nothing is counted for the silent, and no time passes.
+    /// handed in as in a round. Nothing is counted for the silent, and no time passes. It answers how many datagrams came: where they are `RECEIVES`, more may wait.
     ///
     /// It is cut short exactly where the channel answers 6 or 7 to a datagram, with that answer.
-    pub fn listen(&mut self) -> Result<(), Error>
-        ensures { Listens N.log N.failed R.meaning self.old (result_err result) self.new }
+    pub fn listen(&mut self) -> Result<usize, Error>
+        ensures { Listens N.log N.failed R.meaning self.old result self.new }
     {
         self.offer();
         self.receive_all()
+    }
+
+    /// Waits until a datagram waits at the net, but no longer than `limit`, for who has nothing else to do. Nothing is received by it. While many datagrams come it
+    /// returns at once: the next one is soon there, and a sleep would take longer.
+    pub fn wait(&mut self, limit: Duration)
+        ensures lists { Lists (N.log self.old.net) (λ l. l) (N.log self.new.net) }
+        ensures failed { N.failed self.new.net ≡ N.failed self.old.net }
+        ensures others { self.new ≡ record self.old { net = self.new.net } }
+    {
+        if !self.pace.is_busy() {
+            self.net.wait(limit);
+        }
+    }
+
+    /// Looks for members of its group that are not in its view, as after a wrong suspicion or while a network was parted: where the channel is the coordinator of
+    /// its view, a node of those of `new` is chosen at which a packet of the group came from and of which nobody is in the view, and the channel is given its
+    /// latest address as a hint (docs/PROTOCOL.md, "Merging"). What the channel puts out by it is offered to the net. At each call it is the next such node's turn;
+    /// there is no hint where there is none. To be called between two rounds, every some rounds.
+    ///
+    /// It is answered as a round is where the channel answers 6 or 7.
+    pub fn seek(&mut self) -> Result<(), Error>
+        ensures { Seeks N.log N.failed R.meaning self.old (result_err result) self.new }
+    {
+        match self.next_sought() {
+            Some(address) => self.hint(address),
+            None => Ok(()),
+        }
     }
 
     /// How many receives failed, at most 2^64 - 1.
@@ -109,6 +149,20 @@ impl<N: Net, R: Receiver> Runner<N, R> {
         ensures { result ≡ self.now.faults }
     {
         self.faults
+    }
+
+    /// How many datagrams spelled no packet, at most 2^64 - 1.
+    pub fn garbled(&self) -> u64
+        ensures { result ≡ self.now.notes.garbled }
+    {
+        self.notes.garbled()
+    }
+
+    /// How many packets came that were not for its channel, at most 2^64 - 1: of another group, to another address, as of an earlier incarnation, or from its own.
+    pub fn foreign(&self) -> u64
+        ensures { result ≡ self.now.notes.foreign }
+    {
+        self.notes.foreign()
     }
 
     /// Its channel.
@@ -131,21 +185,22 @@ impl<N: Net, R: Receiver> Runner<N, R> {
     fn offer(&mut self)
         ensures offers { Offers N.log N.failed self.old.net self.old.channel self.new.net self.new.channel }
         ensures faults { self.new.faults ≡ self.old.faults }
+        ensures notes { self.new.notes ≡ self.old.notes }
     {
         offer_all(&mut self.net, &mut self.channel);
     }
 
-    // Receives datagrams and hands them in.
-    fn receive_all(&mut self) -> Result<(), Error>
-        ensures { Hears N.log N.failed R.meaning self.old (result_err result) self.new }
+    // Receives datagrams and hands them in; answers how many there were.
+    fn receive_all(&mut self) -> Result<usize, Error>
+        ensures { Hears N.log N.failed R.meaning self.old result self.new }
     {
-        for _turn in 0..RECEIVES {
+        for turn in 0..RECEIVES {
             let came = self.receive_one()?;
             if !came {
-                return Ok(());
+                return Ok(turn);
             }
         }
-        Ok(())
+        Ok(RECEIVES)
     }
 
     // Receives a datagram and hands it in; answers whether there was one.
@@ -155,10 +210,15 @@ impl<N: Net, R: Receiver> Runner<N, R> {
         match self.net.receive(self.buffer.as_mut_slice()) {
             Ok(Some(count)) => {
                 let bytes = &self.buffer.as_slice()[..count];
-                hand_in(&mut self.net, &mut self.channel, &mut self.silence, bytes)?;
+                self.pace.hear();
+                let (net, channel) = (&mut self.net, &mut self.channel);
+                hand_in(net, channel, &mut self.silence, &mut self.notes, bytes)?;
                 Ok(true)
             }
-            Ok(None) => Ok(false),
+            Ok(None) => {
+                self.pace.miss();
+                Ok(false)
+            }
             Err(Fault::Receive) => {
                 self.faults = self.faults.saturating_add(1);
                 Ok(false)
@@ -191,7 +251,7 @@ impl<N: Net, R: Receiver> Runner<N, R> {
 
     // Hands in an address as suspected.
     fn suspect(&mut self, address: Address) -> Result<(), Error>
-        ensures hands { HandsIn N.log N.failed R.meaning (Suspect address) self.old.net self.old.channel (result_err result) self.new.net self.new.channel }
+        ensures hands { HandsIn N.log N.failed R.meaning (Suspect address) self.old.net self.old.channel self.old.notes (result_err result) self.new.net self.new.channel self.new.notes }
         ensures faults { self.new.faults ≡ self.old.faults }
     {
         let answer = suspect(&mut self.net, &mut self.channel, address);
@@ -201,10 +261,34 @@ impl<N: Net, R: Receiver> Runner<N, R> {
 
     // Tells the channel that time passes.
     fn tick(&mut self) -> Result<(), Error>
-        ensures hands { HandsIn N.log N.failed R.meaning Tick self.old.net self.old.channel (result_err result) self.new.net self.new.channel }
+        ensures hands { HandsIn N.log N.failed R.meaning Tick self.old.net self.old.channel self.old.notes (result_err result) self.new.net self.new.channel self.new.notes }
         ensures faults { self.new.faults ≡ self.old.faults }
     {
+        self.pace.begin();
         let answer = tick(&mut self.net, &mut self.channel);
+        passed_over(answer)?;
+        Ok(())
+    }
+
+    // Whom to seek, if anybody.
+    fn next_sought(&mut self) -> Option<Address>
+        ensures answer { result ≡ sought self.old }
+        ensures after { self.new ≡ turned self.old }
+    {
+        match self.channel.view() {
+            Some(view) if view.id().creator() == self.channel.address() => {
+                self.notes.next_outside(view)
+            }
+            _ => None,
+        }
+    }
+
+    // Hands in the address of whom it seeks.
+    fn hint(&mut self, address: Address) -> Result<(), Error>
+        ensures hands { HandsIn N.log N.failed R.meaning (Hint address) self.old.net self.old.channel self.old.notes (result_err result) self.new.net self.new.channel self.new.notes }
+        ensures faults { self.new.faults ≡ self.old.faults }
+    {
+        let answer = hint(&mut self.net, &mut self.channel, address);
         passed_over(answer)?;
         Ok(())
     }

@@ -33,9 +33,15 @@ fn no_counts() -> [Option<Count>; PLACES] {
 // Where the kind stands in a packet (docs/WIRE.md, "The header").
 const KIND: usize = 3;
 
-// Whether a datagram that spells a packet spells a JOIN.
-fn is_join(bytes: &[u8]) -> bool {
-    bytes.get(KIND) == Some(&Body::Join.kind())
+// The kind of a MERGE (docs/WIRE.md, "The kinds").
+const MERGE: u8 = 13;
+
+// Whether a datagram that spells a packet spells a JOIN, or a MERGE: who sends one to a member of the view is in no view, or in another.
+fn is_from_outside(bytes: &[u8]) -> bool {
+    match bytes.get(KIND) {
+        Some(kind) => *kind == Body::Join.kind() || *kind == MERGE,
+        None => false,
+    }
 }
 
 // Whether an address is a member of the view, if there is one.
@@ -46,9 +52,9 @@ fn is_member(address: &Address, view: Option<&View>) -> bool {
     }
 }
 
-// Whether a datagram shows that the member of its source takes part: not where that is a member of the view that asks to be let in again.
+// Whether a datagram shows that the member of its source takes part: not where that is a member of the view that asks to be let in again, or has another view.
 fn is_sign_of_life(source: &Address, bytes: &[u8], view: Option<&View>) -> bool {
-    !(is_member(source, view) && is_join(bytes))
+    !(is_member(source, view) && is_from_outside(bytes))
 }
 
 impl Silence {

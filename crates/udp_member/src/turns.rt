@@ -2,7 +2,8 @@
 
 ghost use Rattle.std.specs.Prelude.{◌≡◌, IfOk};
 ghost use Rattle.std.specs.Result.{result_err, result_ok};
-ghost use Rattle.udp_member.specs.Turns.{Datagram, Suspect, Tick, Turn};
+ghost use Rattle.channel.specs.Channels.{source_at};
+ghost use Rattle.udp_member.specs.Turns.{Datagram, Hint, Suspect, Tick, Turn};
 ghost use Rattle.udp_member.specs.Rounds.{PassesOver};
 
 use crate::offering::offer_all;
@@ -18,7 +19,8 @@ pub(crate) fn take_in<N: Net, R: Receiver>(
     channel: &mut Channel<R>,
     bytes: &[u8],
 ) -> Result<Option<Address>, Error>
-    ensures { Turn N.log N.failed R.meaning (Datagram bytes.now) net.old channel.old (result_err result) net.new channel.new }
+    ensures turn { Turn N.log N.failed R.meaning (Datagram bytes.now) net.old channel.old (result_err result) net.new channel.new }
+    ensures source { IfOk result (λ source. source ≡ source_at bytes.now channel.old) }
 {
     let answer = channel.incoming(bytes);
     offer_all(net, channel);
@@ -43,6 +45,19 @@ pub(crate) fn tick<N: Net, R: Receiver>(net: &mut N, channel: &mut Channel<R>) -
     ensures { Turn N.log N.failed R.meaning Tick net.old channel.old (result_err result) net.new channel.new }
 {
     let answer = channel.tick();
+    offer_all(net, channel);
+    answer
+}
+
+// A turn by a hint of whom it seeks.
+pub(crate) fn hint<N: Net, R: Receiver>(
+    net: &mut N,
+    channel: &mut Channel<R>,
+    address: Address,
+) -> Result<(), Error>
+    ensures { Turn N.log N.failed R.meaning (Hint address) net.old channel.old (result_err result) net.new channel.new }
+{
+    let answer = channel.merge_hint(address);
     offer_all(net, channel);
     answer
 }

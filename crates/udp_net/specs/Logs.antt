@@ -43,9 +43,13 @@ abbrev pub failures_after : {A : Type 0} → ℕ → Result A Fault → ℕ
 failures_after n (Ok x) = n
 failures_after n (Err e) = one_more n
 
+-- one more datagram that could not be sent, if it could not
+abbrev pub unsent_after : Bool → ℕ → ℕ
+unsent_after is_lost n = if is_lost then one_more n else n
+
 -- ---- a net in memory
 
--- what waits, what it lists, the numbers of its calls, and which of them fail
+-- what waits, what it lists, the numbers of its calls, which of them fail, and what failed
 pub record MemoryModel : Type 0 where
   pub waiting : List (List ℕ)
   pub received : List Received
@@ -56,6 +60,7 @@ pub record MemoryModel : Type 0 where
   pub sends : ℕ
   pub failing_send : Option ℕ
   pub failures : ℕ
+  pub unsent : ℕ
 
 abbrev pub offer_of : Offered → Offer
 offer_of o = record { node = o.node; bytes = o.bytes }

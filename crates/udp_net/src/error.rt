@@ -37,13 +37,13 @@ impl SettingsError {
     }
 }
 
-/// Why a node has no socket.
+/// Why a node has no socket, or no hosts.
 #[derive(Clone, Copy, Debug, PartialEq, Eq, thiserror::Error)]
 pub enum BindError {
     /// 50: the settings do not list the node.
     #[error("the settings do not list the node")]
     Config,
-    /// 51: its socket cannot be bound, as where its port is taken.
+    /// 51: its socket cannot be bound, as where its port is taken; or a host's name has no address.
     #[error("the socket cannot be bound")]
     Bind,
     /// 7: memory was refused.

@@ -1,5 +1,5 @@
-ghost use Rattle.std.specs.Prelude.{◌≡◌, [], OnOk, OnErr, length, take};
-ghost use Rattle.udp_net.specs.Bursts.{looks_like, is_held, fits, held_after, TakesFirst};
+ghost use Rattle.std.specs.Prelude.{◌≡◌, [], OnOk, OnErr, IfOk, length, take};
+ghost use Rattle.udp_net.specs.Bursts.{looks_like, is_held, fits, may_wait, held_after, TakesFirst};
 
 use crate::{FRONT, HELD_BACK};
 use std::alloc::{AllocError, Global};
@@ -60,19 +60,23 @@ impl HeldBack {
         self.waiting.len()
     }
 
-    /// Puts a copy of a datagram behind the others. One that waits already, or for which there is no room, is dropped. An error for want of memory leaves the
-    /// others as they were.
-    pub fn hold(&mut self, datagram: &[u8]) -> Result<(), AllocError>
+    /// Puts a copy of a datagram behind the others, unless it waits already, and answers whether it waits: it is lost where there is no room. An error for want of
+    /// memory leaves the others as they were.
+    pub fn hold(&mut self, datagram: &[u8]) -> Result<bool, AllocError>
+        ensures waits { IfOk result (λ waits. waits ≡ may_wait datagram.now self.old) }
         ensures ok { OnOk result (self.new ≡ held_after datagram.now self.old) }
         ensures err { OnErr result (self.new ≡ self.old) }
     {
-        if !self.fits(datagram) || self.has(datagram) {
-            return Ok(());
+        if self.has(datagram) {
+            return Ok(true);
+        }
+        if !self.fits(datagram) {
+            return Ok(false);
         }
         self.waiting
             .push_back(Bytes::from_slice(*self.waiting.allocator(), datagram)?)?;
         self.size += datagram.len();
-        Ok(())
+        Ok(true)
     }
 
     /// Takes out the one that waits longest.

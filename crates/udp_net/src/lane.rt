@@ -1,18 +1,32 @@
-ghost use Rattle.std.specs.Prelude.{◌≡◌, [], OnErr, IfOk, OnOk, length, nat_eq};
-ghost use Rattle.udp_net.specs.Bursts.{passes, offered, after_offer, begun, GoesOn};
-ghost use Rattle.udp_net.specs.declared.TheConstants.{BURST, OFFERS};
+ghost use Rattle.std.specs.Prelude.{◌≡◌, ◌↔◌, OnErr, IfOk, OnOk, IsTrue, length, nat_eq};
+ghost use Rattle.udp_net.specs.Bursts.{opened, passage, offered, after_offer, begun, GoesOn};
+ghost use Rattle.std.specs.Net.Socket.{socket_ip, socket_port};
 
 use crate::held_back::HeldBack;
 use crate::{BURST, NodePort, OFFERS, PATIENCE};
+use address::Node;
 use std::alloc::{AllocError, Global};
 use std::marker::Model;
+use std::net::{IpAddr, SocketAddr};
 use trace_props::Bytes;
 
-/// The way to a node: its port, how many bytes may be sent there and be offered for it yet in this turn, for how many turns of the net it is waited for before its next one, and
+/// What becomes of a datagram that is offered for a node.
+#[derive(Clone, Copy, PartialEq, Eq)]
+pub(crate) enum Passage {
+    /// It goes at once, and must be sent then.
+    Goes,
+    /// It waits with those that are held back.
+    Waits,
+    /// It is lost: there is no room for it.
+    Lost,
+}
+
+/// The way to a node: its port and its host, how many bytes may be sent there and be offered for it yet in this turn, for how many turns of the net it is waited for before its next one, and
 /// what is held back.
 #[derive(Drop)]
 pub(crate) struct Lane {
     port: NodePort,
+    host: IpAddr,
     to_send: usize,
     to_offer: usize,
     patience: u32,
@@ -24,16 +38,17 @@ impl Model for Lane {
 
     ghost Value = { LaneModel };
 
-    ghost view = { λ l. record { port = l.port; to_send = l.to_send; to_offer = l.to_offer; patience = l.patience; held = l.held } };
+    ghost view = { λ l. record { port = l.port; host = l.host; to_send = l.to_send; to_offer = l.to_offer; patience = l.patience; held = l.held } };
 }
 
 impl Lane {
-    // The way to a node, on which nothing went. Takes no memory.
-    pub(crate) fn new(alloc: Global, port: NodePort) -> Lane
-        ensures { result ≡ record { port = port; to_send = BURST; to_offer = OFFERS; patience = 0; held = [] } }
+    // The way to a node at a host, on which nothing went. Takes no memory.
+    pub(crate) fn new(alloc: Global, port: NodePort, host: IpAddr) -> Lane
+        ensures { result ≡ opened port host }
     {
         Lane {
             port,
+            host,
             to_send: BURST,
             to_offer: OFFERS,
             patience: 0,
@@ -41,11 +56,26 @@ impl Lane {
         }
     }
 
-    // The node and its port.
-    pub(crate) fn port(&self) -> NodePort
-        ensures { result ≡ self.now.port }
+    // The node.
+    pub(crate) fn node(&self) -> Node
+        ensures { result ≡ self.now.port.node }
     {
-        self.port
+        self.port.node
+    }
+
+    // Where the node is reached.
+    pub(crate) fn address(&self) -> SocketAddr
+        ensures host { socket_ip result ≡ self.now.host }
+        ensures port { socket_port result ≡ self.now.port.port }
+    {
+        SocketAddr::new(self.host, self.port.port)
+    }
+
+    // Whether a datagram from an address comes from the node.
+    pub(crate) fn comes_from(&self, from: SocketAddr) -> bool
+        ensures { IsTrue result ↔ (socket_ip from ≡ self.now.host) × (socket_port from ≡ self.now.port.port) }
+    {
+        from.ip() == self.host && from.port() == self.port.port
     }
 
     // How many datagrams are held back.
@@ -55,19 +85,21 @@ impl Lane {
         self.held.len()
     }
 
-    // Whether a datagram that is offered goes at once: it must be sent then. Else it is held back; an error for want of memory drops it.
-    pub(crate) fn offer(&mut self, datagram: &[u8]) -> Result<bool, AllocError>
-        ensures ok { IfOk result (λ goes. goes ≡ passes self.old) }
+    // What becomes of a datagram that is offered; an error for want of memory drops it.
+    pub(crate) fn offer(&mut self, datagram: &[u8]) -> Result<Passage, AllocError>
+        ensures ok { IfOk result (λ p. p ≡ passage datagram.now self.old) }
         ensures after { OnOk result (self.new ≡ after_offer datagram.now (offered (length datagram.now) self.old)) }
         ensures err { OnErr result (self.new ≡ offered (length datagram.now) self.old) }
     {
         self.to_offer = self.to_offer.saturating_sub(datagram.len());
         if self.held.len() == 0 && 1 <= self.to_send {
             self.to_send = self.to_send.saturating_sub(datagram.len());
-            return Ok(true);
+            return Ok(Passage::Goes);
         }
-        self.held.hold(datagram)?;
-        Ok(false)
+        if !self.held.hold(datagram)? {
+            return Ok(Passage::Lost);
+        }
+        Ok(Passage::Waits)
     }
 
     // Whether so much was offered in this turn that it ends.

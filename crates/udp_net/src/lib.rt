@@ -1,19 +1,22 @@
-//! What carries datagrams between the nodes of a group: a socket of UDP, or a net in memory; and the settings, which say which nodes there are
-//! (docs/FORMATS.md, "Settings").
+//! What carries datagrams between the nodes of a group: a socket of UDP, or a net in memory; the settings, which say which nodes there are
+//! (docs/FORMATS.md, "Settings"); and the hosts at which they are reached.
 #![tactic(auto)]
 
 mod document;
 mod error;
 mod held_back;
+mod hosts;
 mod lane;
 mod memory_net;
 mod net;
 mod node_ports;
+mod socket;
 mod socket_net;
 
 pub use document::settings;
 pub use error::{BindError, Fault, SettingsError};
 pub use held_back::HeldBack;
+pub use hosts::Hosts;
 pub use memory_net::{MemoryNet, Offered};
 pub use net::{Net, Received};
 pub use node_ports::{MOST_NODES, MOST_SILENT, NodePort, Settings};
@@ -34,6 +37,9 @@ pub const TURN: u32 = 64;
 
 /// The most bytes of datagrams that a socket's net holds back for a node, in bytes: a state of `limits::STATE` bytes, and almost as much again.
 pub const HELD_BACK: usize = 2_097_152;
+
+/// How long a socket's net waits at most where it holds something back, in milliseconds.
+pub const HELD_WAIT: u64 = 1;
 
 /// By how many of their first bytes two datagrams of the same length for a node are told apart, in bytes. In those of a packet stands what it is about: its header, and its
 /// view or proposal, place, number or index (docs/WIRE.md).

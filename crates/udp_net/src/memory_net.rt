@@ -2,13 +2,14 @@ ghost use Rattle.std.specs.Prelude.{◌≡◌, ◌≤◌, ◌++◌, ◌∷◌, [
 ghost use Rattle.std.specs.Option.{option_map};
 ghost use Rattle.std.specs.Result.{is_err};
 ghost use Rattle.udp_net.specs.declared.net.Received.TheVariants.{Datagram};
-ghost use Rattle.udp_net.specs.Logs.{MemoryModel, log_of, Lists, offering, receiving, answer_of, one_more, failures_after, fails_next, GivesFirst};
+ghost use Rattle.udp_net.specs.Logs.{MemoryModel, log_of, Lists, offering, receiving, answer_of, one_more, failures_after, unsent_after, fails_next, GivesFirst};
 
 use crate::{Fault, Net, Received};
 use address::Node;
 use std::alloc::{AllocError, Global};
 use std::collections::VecDeque;
 use std::marker::Model;
+use std::time::Duration;
 use trace_props::Bytes;
 
 /// A datagram that a net in memory was offered.
@@ -37,6 +38,7 @@ pub struct MemoryNet {
     sends: u64,
     failing_send: Option<u64>,
     failures: u64,
+    unsent: u64,
 }
 
 impl Model for MemoryNet {
@@ -54,13 +56,14 @@ impl Model for MemoryNet {
       sends = n.sends;
       failing_send = n.failing_send;
       failures = n.failures;
+      unsent = n.unsent;
     } };
 }
 
 impl MemoryNet {
     /// A net in which nothing waits, and which fails nowhere. Takes no memory.
     pub fn new(alloc: Global) -> MemoryNet
-        ensures { result ≡ record { waiting = []; received = []; offered = []; is_listed = true; receives = 0; failing_receive = None; sends = 0; failing_send = None; failures = 0 } }
+        ensures { result ≡ record { waiting = []; received = []; offered = []; is_listed = true; receives = 0; failing_receive = None; sends = 0; failing_send = None; failures = 0; unsent = 0 } }
     {
         MemoryNet {
             alloc,
@@ -73,6 +76,7 @@ impl MemoryNet {
             sends: 0,
             failing_send: None,
             failures: 0,
+            unsent: 0,
         }
     }
 
@@ -93,7 +97,7 @@ impl MemoryNet {
         self.failing_receive = Some(number);
     }
 
-    /// Lets one send fail, the first being numbered 1. Its datagram is lost.
+    /// Lets one send fail, the first being numbered 1. Its datagram is lost, and counts as one that could not be sent.
     pub fn fail_send(&mut self, number: u64)
         ensures { self.new ≡ record self.old { failing_send = Some number } }
     {
@@ -162,6 +166,20 @@ impl MemoryNet {
         }
     }
 
+    // Counts a send, and answers whether it fails.
+    fn count_send(&mut self) -> bool
+        ensures fails { result ≡ fails_next self.old.failing_send self.old.sends }
+        ensures counts { self.new ≡ record self.old { sends = one_more self.old.sends; unsent = unsent_after result self.old.unsent } }
+        ensures unsent { self.old.unsent ≤ self.new.unsent }
+    {
+        self.sends = self.sends.saturating_add(1);
+        let is_lost = self.failing_send == Some(self.sends);
+        if is_lost {
+            self.unsent = self.unsent.saturating_add(1);
+        }
+        is_lost
+    }
+
     // Lists what was offered.
     fn list_offered(&mut self, node: Node, bytes: &[u8], is_lost: bool) -> Result<(), AllocError>
         ensures ok { OnOk result (self.new ≡ record self.old { offered = self.old.offered ++ record { node = node; bytes = bytes.now; is_lost = is_lost } ∷ [] }) }
@@ -192,15 +210,17 @@ impl Net for MemoryNet {
 
     ghost failed = { λ n. n.failures };
 
+    ghost unsent = { λ n. n.unsent };
+
     /// Lists it.
     fn send(&mut self, node: Node, bytes: &[u8])
         ensures lists { Lists (log_of self.old) (offering node bytes.now) (log_of self.new) }
         ensures failed { self.new.failures ≡ self.old.failures }
+        ensures unsent { self.old.unsent ≤ self.new.unsent }
         ensures listed { self.new.is_listed ≡ true → self.new.offered ≡ self.old.offered ++ record { node = node; bytes = bytes.now; is_lost = fails_next self.old.failing_send self.old.sends } ∷ [] }
-        ensures rest { self.new ≡ record self.old { offered = self.new.offered; is_listed = self.new.is_listed; sends = one_more self.old.sends } }
+        ensures rest { self.new ≡ record self.old { offered = self.new.offered; is_listed = self.new.is_listed; sends = one_more self.old.sends; unsent = unsent_after (fails_next self.old.failing_send self.old.sends) self.old.unsent } }
     {
-        self.sends = self.sends.saturating_add(1);
-        let is_lost = self.failing_send == Some(self.sends);
+        let is_lost = self.count_send();
         if self.list_offered(node, bytes, is_lost).is_err() {
             self.is_listed = false;
         }
@@ -211,6 +231,7 @@ impl Net for MemoryNet {
         ensures within { IfOk result (λ count. IfSome count (λ n. n ≤ length buffer.new)) }
         ensures lists { Lists (log_of self.old) (receiving (answer_of result buffer.new)) (log_of self.new) }
         ensures failed { self.new.failures ≡ failures_after self.old.failures result }
+        ensures unsent { self.old.unsent ≤ self.new.unsent }
         ensures fails { is_err result ≡ fails_next self.old.failing_receive self.old.receives }
         ensures rest { self.new ≡ record self.old {
           waiting = self.new.waiting;
@@ -236,7 +257,19 @@ impl Net for MemoryNet {
         Ok(Some(count))
     }
 
+    /// Does not wait: nothing comes meanwhile.
+    fn wait(&mut self, _limit: Duration)
+        ensures lists { Lists (log_of self.old) (λ l. l) (log_of self.new) }
+        ensures failed { self.new.failures ≡ self.old.failures }
+        ensures unsent { self.old.unsent ≤ self.new.unsent }
+        ensures same { self.new ≡ self.old }
+    {}
+
     fn failures(&self) -> u64 {
         self.failures
+    }
+
+    fn unsent(&self) -> u64 {
+        self.unsent
     }
 }

@@ -3,6 +3,7 @@ ghost use Rattle.udp_net.specs.Logs.{Log, Lists, offering, receiving, answer_of,
 
 use crate::Fault;
 use address::Node;
+use std::time::Duration;
 use trace_props::Bytes;
 
 /// What a receive answered.
@@ -24,19 +25,34 @@ pub trait Net: Drop {
     /// How many receives failed, at most 2^64 - 1.
     ghost failed: { Self → ℕ };
 
+    /// How many datagrams could not be sent, at most 2^64 - 1.
+    ghost unsent: { Self → ℕ };
+
     /// Offers a datagram for a node. Where it cannot be sent, it is lost.
     fn send(&mut self, node: Node, bytes: &[u8])
         ensures lists { Lists (log self.old) (offering node bytes.now) (log self.new) }
-        ensures failed { failed self.new ≡ failed self.old };
+        ensures failed { failed self.new ≡ failed self.old }
+        ensures unsent { unsent self.old ≤ unsent self.new };
 
     /// Takes the next datagram that came, into the front of the buffer, and answers its length; `None` where none waits. Of one that is longer than the buffer
     /// the rest is lost.
     fn receive(&mut self, buffer: &mut [u8]) -> Result<Option<usize>, Fault>
         ensures within { IfOk result (λ count. IfSome count (λ n. n ≤ length buffer.new)) }
         ensures lists { Lists (log self.old) (receiving (answer_of result buffer.new)) (log self.new) }
-        ensures failed { failed self.new ≡ failures_after (failed self.old) result };
+        ensures failed { failed self.new ≡ failures_after (failed self.old) result }
+        ensures unsent { unsent self.old ≤ unsent self.new };
+
+    /// Waits until a datagram waits here, but no longer than the limit; less where waiting fails, or something is held back.
+    fn wait(&mut self, limit: Duration)
+        ensures lists { Lists (log self.old) (λ l. l) (log self.new) }
+        ensures failed { failed self.new ≡ failed self.old }
+        ensures unsent { unsent self.old ≤ unsent self.new };
 
     /// How many receives failed, at most 2^64 - 1.
     fn failures(&self) -> u64
         ensures { result ≡ failed self.now };
+
+    /// How many datagrams could not be sent: the system refused them, or too many were held back; at most 2^64 - 1.
+    fn unsent(&self) -> u64
+        ensures { result ≡ unsent self.now };
 }

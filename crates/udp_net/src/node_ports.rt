@@ -12,7 +12,7 @@ pub const MOST_NODES: usize = 16;
 /// The most rounds without a packet that settings can let pass before a suspicion.
 pub const MOST_SILENT: u16 = 10_000;
 
-/// A node and its port at 127.0.0.1.
+/// A node and its port.
 #[derive(Clone, Copy, Debug, PartialEq, Eq)]
 pub struct NodePort {
     /// The node.

@@ -1,15 +1,19 @@
-ghost use Rattle.std.specs.Prelude.{◌≡◌, ◌≤◌, length, IfOk, IfSome};
-ghost use Rattle.udp_net.specs.Logs.{failures_after};
+ghost use Rattle.std.specs.Prelude.{◌≡◌, ◌≤◌, length, map, IfOk, IfSome};
+ghost use Rattle.udp_net.specs.Logs.{one_more, failures_after};
+ghost use Rattle.udp_net.specs.Bursts.{opened, passage};
+ghost use Rattle.udp_net.specs.Hosts.{host_of};
+ghost use Rattle.udp_net.specs.declared.lane.Passage.TheVariants.{Lost};
 
-use crate::lane::Lane;
-use crate::{BindError, Fault, Net, NodePort, Settings, TURN};
+use crate::lane::{Lane, Passage};
+use crate::socket::Socket;
+use crate::{BindError, Fault, HELD_WAIT, Hosts, Net, NodePort, Settings, TURN};
 use address::Node;
 use std::alloc::{AllocError, Global};
-use std::io;
-use std::io::ErrorKind;
-use std::net::{Ipv4Addr, UdpSocket};
+use std::net::SocketAddr;
+use std::time::Duration;
 
-/// The net of one node on this machine: a socket of UDP at 127.0.0.1 that does not wait, at the node's port by the settings.
+/// The net of one node: a socket of UDP at this node's host and at its port by the settings, which waits only in `wait`. What comes is heard as from a node where it comes
+/// from the node's host and port. Packets are neither signed nor encrypted, so the network must be one's own.
 ///
 /// A long burst goes in pieces, since the buffer of the socket that it is for would not take it: in one turn `BURST` bytes go to a node, and the datagram that
 /// goes over them. What is more is held back, for each node by itself, and goes in order, in the next turns, before what is offered then. One that waits
@@ -19,51 +23,50 @@ use std::net::{Ipv4Addr, UdpSocket};
 /// There is no clock. A turn of the net ends with a receive that finds no datagram, or fails, and with the `TURN`th receive. A node's next turn begins there, if a datagram came
 /// from it since its last one, or after `PATIENCE` turns of the net: so no more is sent to one that has rounds, as a runner, than it takes in each of them, however
 /// long they are. For one node a turn of the net is over too where `OFFERS` bytes were offered for it, as by answers to one that asks often.
+///
+/// Where something is held back, a wait has `HELD_WAIT` milliseconds at most, so that it goes on soon.
 #[derive(Drop)]
 pub struct SocketNet {
-    socket: UdpSocket,
+    socket: Socket,
     lanes: Vec<Lane>,
     // The receives of this turn.
     receives: u32,
     failures: u64,
 }
 
-// A socket at a port of this machine that does not wait.
-fn socket_at<R: std::net::Net>(network: &R, port: u16) -> io::Result<UdpSocket> {
-    let socket = UdpSocket::bind(network, (Ipv4Addr::LOCALHOST, port))?;
-    socket.set_nonblocking(true)?;
-    Ok(socket)
-}
-
-// Sends a datagram to a node. Where it cannot be sent, it is lost.
-fn send_to(socket: &UdpSocket, to: NodePort, datagram: &[u8]) {
-    let _ = socket.send_to(datagram, (Ipv4Addr::LOCALHOST, to.port));
-}
-
-// The ways to some nodes.
-fn lanes_to(alloc: Global, nodes: &[NodePort]) -> Result<Vec<Lane>, AllocError> {
+// The ways to some nodes, each at its host.
+fn lanes_to(alloc: Global, nodes: &[NodePort], hosts: &Hosts) -> Result<Vec<Lane>, AllocError>
+    ensures { IfOk result (λ l. l.items ≡ map (λ n. opened n (host_of n.node hosts.now.peers)) nodes.now) }
+{
     let mut lanes = Vec::with_capacity(alloc, nodes.len())?;
     for node in nodes {
-        lanes.push(Lane::new(alloc, *node))?;
+        lanes.push(Lane::new(alloc, *node, hosts.host_of(node.node)))?;
     }
     Ok(lanes)
 }
 
 // A turn of the net is over: what was held back on a way goes on, where the next one begins there.
-fn go_on(socket: &UdpSocket, lane: &mut Lane) {
+fn go_on(socket: &mut Socket, lane: &mut Lane)
+    ensures { socket.old.unsent ≤ socket.new.unsent }
+{
     lane.begin();
     for _ in 0..lane.held() {
         let Some(datagram) = lane.next() else {
             return;
         };
-        send_to(socket, lane.port(), datagram.as_slice());
+        socket.send(lane.address(), datagram.as_slice());
     }
 }
 
 // Sends a datagram on a way, or holds it back.
-fn send_on(socket: &UdpSocket, lane: &mut Lane, datagram: &[u8]) {
-    if let Ok(true) = lane.offer(datagram) {
-        send_to(socket, lane.port(), datagram);
+fn send_on(socket: &mut Socket, lane: &mut Lane, datagram: &[u8])
+    ensures unsent { socket.old.unsent ≤ socket.new.unsent }
+    ensures lost { passage datagram.now lane.old ≡ Lost → one_more socket.old.unsent ≤ socket.new.unsent }
+{
+    match lane.offer(datagram) {
+        Ok(Passage::Goes) => socket.send(lane.address(), datagram),
+        Ok(Passage::Waits) => {}
+        Ok(Passage::Lost) | Err(_) => socket.lose(),
     }
     if lane.is_over() {
         go_on(socket, lane);
@@ -77,11 +80,12 @@ impl SocketNet {
         alloc: Global,
         network: &R,
         settings: &Settings,
+        hosts: &Hosts,
         node: Node,
     ) -> Result<SocketNet, BindError> {
         let port = settings.port(node).ok_or(BindError::Config)?;
-        let lanes = lanes_to(alloc, settings.nodes())?;
-        match socket_at(network, port) {
+        let lanes = lanes_to(alloc, settings.nodes(), hosts)?;
+        match Socket::bind(network, SocketAddr::new(hosts.own(), port)) {
             Ok(socket) => Ok(SocketNet {
                 socket,
                 lanes,
@@ -92,12 +96,13 @@ impl SocketNet {
         }
     }
 
-    // A datagram came from a port.
-    fn hear(&mut self, port: u16)
-        ensures { self.new.failures ≡ self.old.failures }
+    // A datagram came from an address.
+    fn hear(&mut self, from: SocketAddr)
+        ensures failed { self.new.failures ≡ self.old.failures }
+        ensures unsent { self.new.socket.unsent ≡ self.old.socket.unsent }
     {
         for lane in self.lanes.as_mut_slice() {
-            if lane.port().port == port {
+            if lane.comes_from(from) {
                 lane.hear();
             }
         }
@@ -107,13 +112,14 @@ impl SocketNet {
     fn take(&mut self, buffer: &mut [u8]) -> Result<Option<usize>, Fault>
         ensures within { IfOk result (λ count. IfSome count (λ n. n ≤ length buffer.new)) }
         ensures failed { self.new.failures ≡ failures_after self.old.failures result }
+        ensures unsent { self.new.socket.unsent ≡ self.old.socket.unsent }
     {
-        match self.socket.recv_from(buffer) {
-            Ok((count, from)) => {
-                self.hear(from.port());
+        match self.socket.receive(buffer) {
+            Ok(Some((count, from))) => {
+                self.hear(from);
                 Ok(Some(count))
             }
-            Err(error) if error.kind() == ErrorKind::WouldBlock => Ok(None),
+            Ok(None) => Ok(None),
             Err(_) => {
                 self.failures = self.failures.saturating_add(1);
                 Err(Fault::Receive)
@@ -121,17 +127,24 @@ impl SocketNet {
         }
     }
 
+    // Whether a datagram is held back for some node.
+    fn holds_back(&self) -> bool {
+        self.lanes.iter().any(|lane| lane.held() > 0)
+    }
+
     // Counts a receive, which found a datagram or none; where the turn ends with it, the next one begins.
     fn count_receive(&mut self, is_found: bool)
-        ensures { self.new.failures ≡ self.old.failures }
+        ensures failed { self.new.failures ≡ self.old.failures }
+        ensures unsent { self.old.socket.unsent ≤ self.new.socket.unsent }
     {
         self.receives = self.receives.saturating_add(1);
         if is_found && self.receives < TURN {
             return;
         }
         self.receives = 0;
+        let socket = &mut self.socket;
         for lane in self.lanes.as_mut_slice() {
-            go_on(&self.socket, lane);
+            go_on(socket, lane);
         }
     }
 }
@@ -143,11 +156,14 @@ impl Net for SocketNet {
 
     ghost failed = { λ n. n.failures };
 
-    /// Sends it to the node's port, or holds it back; one for a node that the settings do not list is lost.
+    ghost unsent = { λ n. n.socket.unsent };
+
+    /// Sends it to the node's host and port, or holds it back; one for a node that the settings do not list is lost, and does not count as unsent.
     fn send(&mut self, node: Node, bytes: &[u8]) {
+        let socket = &mut self.socket;
         for lane in self.lanes.as_mut_slice() {
-            if lane.port().node == node {
-                send_on(&self.socket, lane, bytes);
+            if lane.node() == node {
+                send_on(socket, lane, bytes);
             }
         }
     }
@@ -158,7 +174,21 @@ impl Net for SocketNet {
         answer
     }
 
+    /// Where something is held back, no longer than `HELD_WAIT` milliseconds.
+    fn wait(&mut self, limit: Duration) {
+        if self.holds_back() {
+            self.socket
+                .wait(limit.min(Duration::from_millis(HELD_WAIT)));
+        } else {
+            self.socket.wait(limit);
+        }
+    }
+
     fn failures(&self) -> u64 {
         self.failures
+    }
+
+    fn unsent(&self) -> u64 {
+        self.socket.unsent()
     }
 }

@@ -3,15 +3,23 @@
 
 mod calls;
 mod ends;
+mod lines;
+mod lone;
 mod loopback;
 mod machine;
+mod manner;
 mod node_state;
 mod nodes;
 mod one_node;
+mod outbox;
 mod script;
+mod speaking;
+mod telling;
 
+pub use lines::{Lines, LinesError, NoLines};
 pub use loopback::Loopback;
 pub use machine::Machine;
+pub use manner::{Manner, Tally, Trouble};
 pub use one_node::run_member;
 pub use script::run_udp;
 pub use script_reader::MemberPlan;

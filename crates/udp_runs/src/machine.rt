@@ -1,4 +1,6 @@
+use crate::Tally;
 use address::Node;
+use std::time::Duration;
 use udp_net::{BindError, Net};
 
 /// What members over datagrams need of the machine that they run on.
@@ -10,6 +12,9 @@ pub trait Machine {
     /// is taken, and with 7 where memory was refused.
     fn net(&mut self, node: Node) -> Result<Self::Net, BindError>;
 
-    /// Lets a little time pass, between two rounds of a node that runs by itself.
-    fn pause(&mut self);
+    /// The time since some moment; it never goes back. Where there is no clock, the greatest duration, so that nothing waits.
+    fn now(&mut self) -> Duration;
+
+    /// Is told what happened at a node that ran by itself.
+    fn tell(&mut self, tally: &Tally);
 }

@@ -8,7 +8,7 @@ use limits::Refusal;
 use std::alloc::{AllocError, Global};
 use trace_props::Event;
 use udp_member::Runner;
-use udp_net::Net;
+use udp_net::{Net, Settings};
 use vsync_text::{append_chat, append_event, append_refusal};
 
 /// A node, and the member that runs there. Each call appends to a text what happened by it.
@@ -20,15 +20,20 @@ pub(crate) struct NodeState<N: Net, C: Chat> {
     member: Option<Runner<N, C>>,
 }
 
-/// The member of an address over a net, not connected yet.
+/// The member of an address over a net, not connected yet, which may seek others at the nodes of the settings.
 pub(crate) fn member_at<N: Net, C: Chat>(
     alloc: Global,
     address: Address,
     net: N,
-    silent: u16,
+    settings: &Settings,
 ) -> Result<Runner<N, C>, AllocError> {
     let channel = Channel::new(alloc, address, C::opening(alloc)?);
-    Runner::new(alloc, net, channel, u32::from(silent))
+    let mut nodes = Vec::with_capacity(alloc, settings.nodes().len())?;
+    for place in settings.nodes() {
+        nodes.push(place.node)?;
+    }
+    let silent = u32::from(settings.silent());
+    Runner::new(alloc, net, channel, nodes.as_slice(), silent)
 }
 
 /// Appends the lines of the events of a channel that were not taken yet.
@@ -85,12 +90,12 @@ impl<N: Net, C: Chat> NodeState<N, C> {
         alloc: Global,
         address: Address,
         net: N,
-        silent: u16,
+        settings: &Settings,
         text: &mut Vec<u8>,
     ) -> Result<(), AllocError> {
         self.last = Some(address);
         append_event(text, &Event::Started(address))?;
-        match member_at(alloc, address, net, silent) {
+        match member_at(alloc, address, net, settings) {
             Ok(member) => {
                 self.member = Some(member);
                 Ok(())

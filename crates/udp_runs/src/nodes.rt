@@ -133,7 +133,7 @@ impl<N: Net, C: Chat> Nodes<N, C> {
     {
         match machine.net(address.node()) {
             Ok(net) => {
-                self.node_states[index].start(self.alloc, address, net, settings.silent(), text)?;
+                self.node_states[index].start(self.alloc, address, net, settings, text)?;
                 Ok(())
             }
             Err(error) => Err(Stop::NoNet(line, error)),

@@ -5,183 +5,39 @@ ghost use Rattle.commands.specs.Outcomes.{Written};
 ghost use Rattle.udp_runs.specs.Ends.{TakesMore};
 ghost use Rattle.udp_runs.specs.Members.{IsListedText, RunsMember, StartsUp, WritesStart};
 
-use crate::Machine;
 use crate::ends::{Cut, end, end_without_net, settle};
-use crate::node_state::{append_chat_of, append_events, member_at};
+use crate::lone::Lone;
+use crate::node_state::member_at;
+use crate::{Lines, Machine, Manner};
 use address::Address;
-use channel::Error;
 use chat_log::Chat;
 use commands::Status;
-use limits::Refusal;
 use script_reader::MemberPlan;
 use std::alloc::Global;
 use std::io::Write;
 use trace_props::Event;
 use udp_member::Runner;
-use udp_net::{BindError, Net, Settings};
+use udp_net::{BindError, Settings};
 use vsync_text::append_event;
 
-/// A member that runs by itself.
-#[derive(Drop)]
-struct Lone<'a, N: Net, C: Chat> {
-    alloc: Global,
-    member: Runner<N, C>,
-    // What it has to send yet.
-    unsent: Option<&'a [u8]>,
-    // Whether it has ended.
-    has_ended: bool,
-    // What happened to it that was not written yet.
-    text: Vec<u8>,
-}
-
-// What is left of an answer of a channel to one that runs by itself: want of memory ends it, and what is refused else is passed over.
-fn unless_memory(answer: Result<(), Error>) -> Result<(), Cut> {
-    match answer {
-        Err(Error::Refused(Refusal::Memory)) => Err(Cut::Memory),
-        _ => Ok(()),
-    }
-}
-
-// Writes what a text holds, so that it is seen at once, and empties it.
-fn show<W: Write>(writer: &mut W, text: &mut Vec<u8>) -> Result<(), Cut>
-    ensures { TakesMore (W.contents writer.old) (W.contents writer.new) }
-{
-    if text.is_empty() {
-        return Ok(());
-    }
-    settle(writer, text)?;
-    if writer.flush().is_err() {
-        return Err(Cut::Failed);
-    }
-    Ok(())
-}
-
-impl<'a, N: Net, C: Chat> Lone<'a, N, C> {
-    // Makes a group, or asks the contact to be let into one.
-    fn connect(&mut self, settings: &Settings, contact: Option<Address>) -> Result<(), Cut> {
-        let group = settings.group();
-        let channel = self.member.channel();
-        unless_memory(match contact {
-            Some(contact) => channel.connect_to(group.as_slice(), contact),
-            None => channel.connect_new(group.as_slice()),
-        })
-    }
-
-    // Sends what it has to send yet, if it may.
-    fn send(&mut self) -> Result<(), Cut> {
-        let Some(payload) = self.unsent else {
-            return Ok(());
-        };
-        let payload = Vec::from_slice(self.alloc, payload)?;
-        match self.member.channel().send(payload) {
-            Ok(_) => {
-                self.unsent = None;
-                Ok(())
-            }
-            Err((_, error)) => unless_memory(Err(error)),
-        }
-    }
-
-    // A round, which begins with what it has to send yet.
-    fn round(&mut self) -> Result<(), Cut> {
-        self.send()?;
-        match self.member.round() {
-            Err(Error::Refused(Refusal::Closed)) => {
-                self.has_ended = true;
-                Ok(())
-            }
-            answer => unless_memory(answer),
-        }
-    }
-
-    // Writes what happened.
-    fn show_events<W: Write>(&mut self, writer: &mut W) -> Result<(), Cut>
-        ensures { TakesMore (W.contents writer.old) (W.contents writer.new) }
-    {
-        let appended = append_events(&mut self.text, self.member.channel());
-        show(writer, &mut self.text)?;
-        appended?;
-        Ok(())
-    }
-
-    // Writes its chat, unless it has ended.
-    fn show_chat<W: Write>(&mut self, writer: &mut W) -> Result<(), Cut>
-        ensures { TakesMore (W.contents writer.old) (W.contents writer.new) }
-    {
-        let appended = append_chat_of(&mut self.text, self.member.channel());
-        show(writer, &mut self.text)?;
-        appended?;
-        Ok(())
-    }
-
-    // One of its rounds, and what happened by it.
-    fn turn<W: Write>(&mut self, writer: &mut W) -> Result<(), Cut>
-        ensures { TakesMore (W.contents writer.old) (W.contents writer.new) }
-    {
-        let went = self.round();
-        self.show_events(writer)?;
-        went
-    }
-
-    // All of its rounds, with a pause between two.
-    fn turns<M: Machine, W: Write>(
-        &mut self,
-        rounds: u64,
-        machine: &mut M,
-        writer: &mut W,
-    ) -> Result<(), Cut>
-        ensures { TakesMore (W.contents writer.old) (W.contents writer.new) }
-    {
-        for round in 0..rounds {
-            if self.has_ended {
-                return Ok(());
-            }
-            if round > 0 {
-                machine.pause();
-            }
-            self.turn(writer)?;
-        }
-        Ok(())
-    }
-
-    // Connects it, and then has its rounds.
-    fn play<M: Machine, W: Write>(
-        &mut self,
-        settings: &Settings,
-        plan: &MemberPlan<'_>,
-        machine: &mut M,
-        writer: &mut W,
-    ) -> Result<(), Cut>
-        ensures { TakesMore (W.contents writer.old) (W.contents writer.new) }
-    {
-        let connected = self.connect(settings, plan.contact);
-        self.show_events(writer)?;
-        connected?;
-        self.turns(plan.rounds, machine, writer)?;
-        self.show_chat(writer)
-    }
-}
-
 // Does what the plan says at a member that was started.
-fn go_on<C: Chat, M: Machine, W: Write>(
+fn go_on<C: Chat, L: Lines, M: Machine, W: Write>(
     alloc: Global,
     settings: &Settings,
     plan: &MemberPlan<'_>,
+    manner: Manner,
+    lines: &mut L,
     machine: &mut M,
     net: M::Net,
     writer: &mut W,
 ) -> Result<(), Cut>
     ensures { TakesMore (W.contents writer.old) (W.contents writer.new) }
 {
-    let member: Runner<M::Net, C> = member_at(alloc, plan.address, net, settings.silent())?;
-    let mut lone = Lone {
-        alloc,
-        member,
-        unsent: plan.send,
-        has_ended: false,
-        text: Vec::new(alloc),
-    };
-    lone.play(settings, plan, machine, writer)
+    let member: Runner<M::Net, C> = member_at(alloc, plan.address, net, settings)?;
+    let mut lone = Lone::new(alloc, member, manner, plan.send);
+    let played = lone.play(settings, plan, lines, machine, writer);
+    machine.tell(&lone.tally());
+    played
 }
 
 // Writes that a member was started.
@@ -196,10 +52,12 @@ fn write_start<W: Write>(alloc: Global, member: Address, writer: &mut W) -> Resu
 }
 
 // Starts the member of the plan over a net, and does what the plan says.
-fn start<C: Chat, M: Machine, W: Write>(
+fn start<C: Chat, L: Lines, M: Machine, W: Write>(
     alloc: Global,
     settings: &Settings,
     plan: &MemberPlan<'_>,
+    manner: Manner,
+    lines: &mut L,
     machine: &mut M,
     net: M::Net,
     writer: &mut W,
@@ -207,16 +65,20 @@ fn start<C: Chat, M: Machine, W: Write>(
     ensures { StartsUp plan.now.address (W.contents writer.old) (W.contents writer.new) result }
 {
     match write_start(alloc, plan.address, writer) {
-        Ok(()) => go_on::<C, M, W>(alloc, settings, plan, machine, net, writer),
+        Ok(()) => {
+            go_on::<C, L, M, W>(alloc, settings, plan, manner, lines, machine, net, writer)
+        }
         Err(why) => Err(why),
     }
 }
 
 // Runs the member of the plan at a node that the settings list.
-fn run_listed<C: Chat, M: Machine, W: Write>(
+fn run_listed<C: Chat, L: Lines, M: Machine, W: Write>(
     alloc: Global,
     settings: &Settings,
     plan: &MemberPlan<'_>,
+    manner: Manner,
+    lines: &mut L,
     machine: &mut M,
     writer: &mut W,
 ) -> Status
@@ -224,29 +86,37 @@ fn run_listed<C: Chat, M: Machine, W: Write>(
 {
     match machine.net(plan.address.node()) {
         Ok(net) => {
-            let written = start::<C, M, W>(alloc, settings, plan, machine, net, writer);
+            let written = start::<C, L, M, W>(
+                alloc, settings, plan, manner, lines, machine, net, writer,
+            );
             end(writer, written)
         }
         Err(error) => end_without_net(alloc, writer, 0, error),
     }
 }
 
-/// Runs one node of the settings by itself, over its net, with a chat `C` as its receiver: it makes a group or joins its contact's, and has its rounds. Writes what
-/// happened to it to a writer as it happens, and its chat line at the end (docs/FORMATS.md, "Nodes over UDP"). Answers the exit status.
+/// Runs one node of the settings by itself, over its net, with a chat `C` as its receiver: it makes a group or joins its contact's, and has its rounds, between
+/// which it handles datagrams as they come. It sends the lines that come, each as soon as it may, and ends early where one is the byte 4 alone. Writes what happened to it
+/// to a writer as it happens, and its chat line at the end, or what is said as text (docs/FORMATS.md, "Nodes over UDP"). At its end the machine is told what
+/// happened in numbers. Answers the exit status.
 ///
-/// Where the settings do not list the node it writes `fault 0 50` alone, status 3; where the node can have no socket `fault 0 51` alone, status 5. Where memory is
+/// Where the lines can be read no more, or one is too long, it ends at once with status 5, and the machine is told why. Where the settings do not list the node it writes `fault 0 50` alone, status 3; where the node can have no socket `fault 0 51` alone, status 5. Where memory is
 /// refused, it writes the text so far and `# memory`.
-pub fn run_member<C: Chat, M: Machine, W: Write>(
+pub fn run_member<C: Chat, L: Lines, M: Machine, W: Write>(
     alloc: Global,
     settings: &Settings,
     plan: &MemberPlan<'_>,
+    manner: Manner,
+    lines: &mut L,
     machine: &mut M,
     writer: &mut W,
 ) -> Status
     ensures { RunsMember plan.now.address (port_of plan.now.address.node settings.now.nodes) (W.contents writer.old) (W.contents writer.new) result }
 {
     match settings.port(plan.address.node()) {
-        Some(_) => run_listed::<C, M, W>(alloc, settings, plan, machine, writer),
+        Some(_) => {
+            run_listed::<C, L, M, W>(alloc, settings, plan, manner, lines, machine, writer)
+        }
         None => end_without_net(alloc, writer, 0, BindError::Config),
     }
 }

@@ -60,7 +60,7 @@ fn put_found(told: &mut Vec<u8>, found: &Settings) -> Result<(), AllocError> {
 /// What the settings of nodes 2 and 1 say.
 pub fn found(alloc: Global, told: &mut Vec<u8>) -> Result<(), AllocError> {
     let text =
-        "group = \"chat\"\nsilent = 50\n[[node]]\nnumber = 2\nport = 47002\n[[node]]\nnumber = 1\nport = 47001\n";
+        "group = \"chat\"\nsilent = 50\n[[node]]\nnumber = 2\nport = 27002\n[[node]]\nnumber = 1\nport = 27001\n";
     match settings(alloc, text) {
         Ok(found) => put_found(told, &found),
         Err(error) => put_refusal(told, "settings", error.number()),

@@ -26,7 +26,13 @@ pub fn member<N: Net>(
     if connected.is_err() {
         return Err(AllocError);
     }
-    Runner::new(alloc, net, channel, silent)
+    let nodes = [
+        first_at(1).node(),
+        first_at(2).node(),
+        first_at(3).node(),
+        first_at(4).node(),
+    ];
+    Runner::new(alloc, net, channel, &nodes, silent)
 }
 
 /// How many members its view has; 0 without a view.
@@ -96,6 +102,29 @@ impl Lan {
             }
         }
         Ok(())
+    }
+
+    /// So many rounds of each of the members up to a node, in turn, of which no datagram is carried.
+    pub fn apart(&mut self, count: u16, last: u16) -> Result<(), AllocError> {
+        for _ in 0..count {
+            for number in 1..=last {
+                if let Some(member) = self.at(number) {
+                    let _ = member.round();
+                }
+                let sends = self.sends(number);
+                if let Some(carried) = self.carried.get_mut(usize::from(number).saturating_sub(1)) {
+                    *carried = sends;
+                }
+            }
+        }
+        Ok(())
+    }
+
+    /// The member of a node seeks whom its view lacks.
+    pub fn seek(&mut self, number: u16) {
+        if let Some(member) = self.at(number) {
+            let _ = member.seek();
+        }
     }
 
     /// Puts a datagram into the net of a node.

@@ -14,6 +14,7 @@ mod long;
 mod members;
 mod pair;
 mod scripts;
+mod seeking;
 mod silent;
 mod sockets;
 
@@ -92,7 +93,11 @@ fn print_members(rt: &HostRuntime, text: &mut Vec<u8>) -> io::Result<()> {
     let told = members::failed_receives(rt.alloc(), text);
     print(rt, "a receive of a member fails", told, text)?;
     let told = members::failed_sends(rt.alloc(), text);
-    print(rt, "a send of a member fails", told, text)
+    print(rt, "a send of a member fails", told, text)?;
+    let told = seeking::found_again(rt.alloc(), text);
+    print(rt, "two lose each other", told, text)?;
+    let told = seeking::counted(rt.alloc(), text);
+    print(rt, "datagrams of no use", told, text)
 }
 
 /// Prints the stories of who is not heard.
@@ -111,13 +116,19 @@ fn print_commands(rt: &HostRuntime, text: &mut Vec<u8>) -> io::Result<()> {
     let told = scripts::all(rt.alloc(), text, file.as_slice());
     print(rt, "scripts of nodes over datagrams", told, text)?;
     let told = scripts::members(rt.alloc(), text);
-    print(rt, "a node by itself", told, text)
+    print(rt, "a node by itself", told, text)?;
+    let told = scripts::lines(rt.alloc(), text);
+    print(rt, "a node that says lines", told, text)
 }
 
 /// Prints the stories over sockets.
 fn print_nets(rt: &HostRuntime, text: &mut Vec<u8>) -> io::Result<()> {
     let told = sockets::two(rt, text);
     print(rt, "sockets", told, text)?;
+    let told = sockets::waits(rt, text);
+    print(rt, "waits at sockets", told, text)?;
+    let told = sockets::hosts(rt, text);
+    print(rt, "hosts", told, text)?;
     let told = sockets::merge(rt, text);
     print(rt, "a partition and its merge, over sockets", told, text)?;
     let told = bursts::once(rt, text);

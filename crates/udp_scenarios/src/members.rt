@@ -178,7 +178,7 @@ fn put_round(text: &mut Vec<u8>, member: &mut Member) -> Result<(), AllocError> 
 /// A round of a member that was never connected.
 fn not_connected(alloc: Global, text: &mut Vec<u8>) -> Result<(), AllocError> {
     let channel = Channel::new(alloc, first_at(1), ChatLog::opening(alloc)?);
-    let mut member = Runner::new(alloc, MemoryNet::new(alloc), channel, 1)?;
+    let mut member = Runner::new(alloc, MemoryNet::new(alloc), channel, &[], 1)?;
     put_round(text, &mut member)
 }
 

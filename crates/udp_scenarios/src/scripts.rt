@@ -8,14 +8,15 @@ use chat_log::ChatLog;
 use commands::Status;
 use std::alloc::{AllocError, Global};
 use std::cell::RefCell;
+use std::time::Duration;
 use test_net::{FOUR, Hub, Wires, settings_of};
-use udp_runs::{MemberPlan, run_member, run_udp};
+use udp_runs::{Lines, LinesError, Manner, MemberPlan, NoLines, Tally, run_member, run_udp};
 
 /// The most scripts of a file.
 const SCRIPTS: u8 = 100;
 
 /// The settings of node 2 alone.
-const OTHERS: &str = "group = \"chat\"\nsilent = 50\n[[node]]\nnumber = 2\nport = 47402\n";
+const OTHERS: &str = "group = \"chat\"\nsilent = 50\n[[node]]\nnumber = 2\nport = 27402\n";
 
 /// Runs a script where node `taken` can have no net, and adds what it writes, and its status.
 fn put_run(
@@ -51,16 +52,39 @@ pub fn all(alloc: Global, told: &mut Vec<u8>, file: &[u8]) -> Result<(), AllocEr
     Ok(())
 }
 
-/// Adds a status, and how often there was a pause.
+/// The manner of a node that ticks every 20 milliseconds and seeks nobody.
+fn plain() -> Manner {
+    Manner {
+        tick: Duration::from_millis(20),
+        merge: 0,
+        leaves: false,
+        speaks: false,
+    }
+}
+
+/// Adds a status, how often its net waited, and what it told.
 fn put_end(told: &mut Vec<u8>, status: Status, wires: &RefCell<Wires>) -> Result<(), AllocError> {
     put_number(told, "status", u64::from(status.code()))?;
     match wires.try_borrow() {
-        Ok(wires) => put_number(told, "pauses", wires.pauses),
+        Ok(wires) => {
+            put_number(told, "waits", wires.waits)?;
+            put_tally(told, wires.tally)
+        }
         Err(_) => Ok(()),
     }
 }
 
-/// Runs node 1 by itself where node `taken` can have no net, and adds what it writes, its status, and how often it paused.
+/// Adds what a node told, if it did.
+fn put_tally(told: &mut Vec<u8>, tally: Option<Tally>) -> Result<(), AllocError> {
+    let Some(tally) = tally else {
+        return Ok(());
+    };
+    put_number(told, "sent", tally.sent)?;
+    put_number(told, "delivered", tally.delivered)?;
+    put_number(told, "installed", tally.installed)
+}
+
+/// Runs node 1 by itself where node `taken` can have no net, and adds what it writes, its status, and how often it waited.
 fn put_member(
     alloc: Global,
     told: &mut Vec<u8>,
@@ -79,8 +103,69 @@ fn put_member(
     wires.taken = taken;
     let wires = RefCell::new(wires);
     let mut hub = Hub { wires: &wires };
-    let status = run_member::<ChatLog, _, _>(alloc, &settings, &plan, &mut hub, told);
+    let status = run_member::<ChatLog, _, _, _>(
+        alloc,
+        &settings,
+        &plan,
+        plain(),
+        &mut NoLines,
+        &mut hub,
+        told,
+    );
     put_end(told, status, &wires)
+}
+
+/// Lines that all have come.
+#[derive(Drop)]
+struct Typed<'a> {
+    rest: &'a [u8],
+}
+
+impl Lines for Typed<'_> {
+    fn more(&mut self, text: &mut Vec<u8>) -> Result<(), LinesError> {
+        text.extend_from_slice(self.rest)?;
+        self.rest = &[];
+        Ok(())
+    }
+}
+
+/// Runs node 1 by itself with these lines, as text or not, and adds what it writes, its status, and what it told; it leaves at its end.
+fn put_lines(
+    alloc: Global,
+    told: &mut Vec<u8>,
+    lines: &[u8],
+    speaks: bool,
+) -> Result<(), AllocError> {
+    let plan = MemberPlan {
+        address: first_at(1),
+        rounds: 10,
+        contact: None,
+        send: None,
+    };
+    let manner = Manner {
+        leaves: true,
+        speaks,
+        ..plain()
+    };
+    let settings = settings_of(alloc, FOUR)?;
+    let wires = RefCell::new(Wires::new(alloc));
+    let mut hub = Hub { wires: &wires };
+    let mut lines = Typed { rest: lines };
+    let status = run_member::<ChatLog, _, _, _>(
+        alloc, &settings, &plan, manner, &mut lines, &mut hub, told,
+    );
+    put_end(told, status, &wires)
+}
+
+/// Node 1 by itself says lines.
+pub fn lines(alloc: Global, told: &mut Vec<u8>) -> Result<(), AllocError> {
+    told.extend_from_slice(b"# lines, of which the last one ends it, as text\n")?;
+    put_lines(alloc, told, b"one\ntwo \x01\n\xc3\xa4\n\x04\nthree\n", true)?;
+    told.extend_from_slice(b"# the same as a trace\n")?;
+    put_lines(alloc, told, b"one\n\x04\n", false)?;
+    told.extend_from_slice(b"# a line that is too long\n")?;
+    let long = vec![in alloc; b'x'; 513]?;
+    put_lines(alloc, told, long.as_slice(), false)
 }
 
 /// Node 1 by itself, which makes a group and sends `hi`.

@@ -1,12 +1,14 @@
 //! Members over sockets of this machine.
 
+use crate::channels::first_at;
 use crate::lines::{put_number, put_refusal, put_truth};
 use address::Node;
 use chat_log::{Chat, ChatLog};
 use commands::Status;
 use std::alloc::{AllocError, Global};
+use std::time::Duration;
 use test_net::{MERGE, holds, settings_of, trace_of};
-use udp_net::{BindError, Settings, SocketNet};
+use udp_net::{BindError, Hosts, Net, Settings, SocketNet};
 use udp_runs::{Loopback, run_udp};
 
 /// At how many places of ports it is tried, since others may have taken some.
@@ -25,7 +27,7 @@ fn settings_at(alloc: Global, port: u16) -> Result<Settings, AllocError> {
 
 /// The port before the five of a place.
 fn port(place: u16) -> u16 {
-    place.wrapping_mul(8).wrapping_add(47_400)
+    place.wrapping_mul(8).wrapping_add(27_400)
 }
 
 /// What a script writes over sockets, with chats of this kind, and its status.
@@ -34,7 +36,7 @@ pub fn run_with<C: Chat>(
     settings: &Settings,
     script: &[u8],
 ) -> (Vec<u8>, Status) {
-    let mut machine = Loopback::new(rt.alloc(), rt, settings);
+    let mut machine = Loopback::new(rt.alloc(), rt, settings, Hosts::local(rt.alloc()));
     let mut text = Vec::new(rt.alloc());
     let mut reader = script;
     let status = run_udp::<C, _, _, _>(rt.alloc(), settings, &mut machine, &mut reader, &mut text);
@@ -88,7 +90,10 @@ pub fn merge(rt: &HostRuntime, told: &mut Vec<u8>) -> Result<(), AllocError> {
 /// The socket of a node.
 pub fn bound(rt: &HostRuntime, settings: &Settings, number: u16) -> Result<SocketNet, BindError> {
     match Node::new(number) {
-        Some(node) => SocketNet::bind(rt.alloc(), rt, settings, node),
+        Some(node) => {
+            let hosts = Hosts::local(rt.alloc());
+            SocketNet::bind(rt.alloc(), rt, settings, &hosts, node)
+        }
         None => Err(BindError::Config),
     }
 }
@@ -118,4 +123,63 @@ pub fn two(rt: &HostRuntime, told: &mut Vec<u8>) -> Result<(), AllocError> {
     let first = bound(rt, &settings, 1);
     put_refusal(told, "a socket at a port that is free", number(&first))?;
     put_taken(rt, told, &settings)
+}
+
+/// Waits at sockets, and a datagram that no socket sends.
+pub fn waits(rt: &HostRuntime, told: &mut Vec<u8>) -> Result<(), AllocError> {
+    let settings = free_settings(rt)?;
+    let (Ok(mut one), Ok(mut two)) = (bound(rt, &settings, 1), bound(rt, &settings, 2)) else {
+        return Err(AllocError);
+    };
+    let mut buffer = [0u8; 8];
+    one.wait(Duration::from_millis(5));
+    let came = one.receive(&mut buffer);
+    put_truth(told, "none comes in a while", matches!(came, Ok(None)))?;
+    two.send(first_at(1).node(), b"x");
+    one.wait(Duration::from_secs(50));
+    let came = one.receive(&mut buffer);
+    put_truth(
+        told,
+        "one comes, and is awaited no longer",
+        matches!(came, Ok(Some(1))),
+    )?;
+    let long = vec![in rt.alloc(); 7u8; 70_000]?;
+    one.send(first_at(2).node(), long.as_slice());
+    put_number(told, "not sent", one.unsent())
+}
+
+/// The hosts of some words, or the number of the refusal.
+fn put_hosts(
+    rt: &HostRuntime,
+    told: &mut Vec<u8>,
+    own: &str,
+    peers: &[(Node, &str)],
+) -> Result<(), AllocError> {
+    let alloc = rt.alloc();
+    let line = match Hosts::resolve(alloc, rt, Some(own), peers) {
+        Ok(hosts) => {
+            let (own, second) = (hosts.own(), hosts.host_of(first_at(2).node()));
+            let third = hosts.host_of(first_at(3).node());
+            format!(in alloc; "{own} {second} {third}\n")?
+        }
+        Err(error) => {
+            let number = error.number();
+            format!(in alloc; "{number}\n")?
+        }
+    };
+    told.extend_from_slice(line.as_bytes())
+}
+
+/// Hosts by addresses and by names.
+pub fn hosts(rt: &HostRuntime, told: &mut Vec<u8>) -> Result<(), AllocError> {
+    let second = first_at(2).node();
+    put_hosts(rt, told, "localhost", &[(second, "127.0.0.2")])?;
+    put_hosts(
+        rt,
+        told,
+        "10.0.0.1",
+        &[(second, "10.0.0.2"), (second, "10.0.0.3")],
+    )?;
+    put_hosts(rt, told, "no.such.host.invalid", &[])?;
+    put_hosts(rt, told, "10.0.0.1", &[(second, "")])
 }

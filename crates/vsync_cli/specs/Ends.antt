@@ -25,7 +25,7 @@ DoesWith meaning lines_of (Chat words) left old new status = RunsChat meaning li
 DoesWith meaning lines_of (Packets words) left old new status = RunsPackets meaning left old new status
 DoesWith meaning lines_of (Check words) left old new status = ChecksTrace meaning left old new status
 DoesWith meaning lines_of (Draw path) left old new status = DrawsScript meaning left old new status
-DoesWith meaning lines_of (DrawTrace path) left old new status = DrawsTrace left old new status
+DoesWith meaning lines_of (DrawTrace path) left old new status = DrawsTrace meaning left old new status
 
 -- what the chat means that members keep: the long one, or the short one
 abbrev pub meaning_of : Bool → Meaning (List Line)

@@ -3,6 +3,7 @@ ghost use Rattle.clap.specs.Words.{fault_of, kind_of};
 ghost use Rattle.vsync_cli.specs.Ends.{Does, DoesWith, EndsBy, EndsByFault};
 ghost use Rattle.vsync_words.specs.Grammar.{program_app};
 
+use crate::output::Output;
 use crate::udp_programs::{member, udp};
 use chat_log::{Chat, ChatLog, LongChat};
 use clap::Error;
@@ -59,7 +60,7 @@ fn answer_with<C: Chat, I: Read, W: Write>(
         TextCommand::Packets(_) => run_packets::<C, I, W>(alloc, reader, writer),
         TextCommand::Check(_) => run_check::<C, I, W>(alloc, reader, writer),
         TextCommand::Draw(_) => run_draw::<C, I, W>(alloc, reader, writer),
-        TextCommand::DrawTrace(_) => run_draw_trace::<I, W>(alloc, reader, writer),
+        TextCommand::DrawTrace(_) => run_draw_trace::<C, I, W>(alloc, reader, writer),
     }
 }
 
@@ -88,12 +89,28 @@ fn is_drawing(command: TextCommand<'_>) -> bool {
     }
 }
 
+/// Says on the standard error which of both failed: the output, or else what is read.
+pub(crate) fn outside<R: Eprint>(rt: &R, is_unwritten: bool, path: &str) -> Status
+    ensures { result ≡ Status.Outside }
+{
+    if is_unwritten {
+        return complain(rt, "cannot write", "the standard output");
+    }
+    complain(rt, "a read failed:", path)
+}
+
 /// What a command's status says where it ended outside, on the standard error; and that memory was refused, where it draws: no picture has a line for that.
-fn explained<R: Eprint>(rt: &R, status: Status, drawing: bool, path: &str) -> Status
+fn explained<R: Eprint>(
+    rt: &R,
+    status: Status,
+    drawing: bool,
+    is_unwritten: bool,
+    path: &str,
+) -> Status
     ensures { result ≡ status }
 {
     if status == Status::Outside {
-        return complain(rt, "a read or a write failed:", path);
+        return outside(rt, is_unwritten, path);
     }
     if drawing && status == Status::Memory {
         let _ = eprintln!(rt; "# memory");
@@ -108,25 +125,18 @@ fn answer_at<R: Files + Input + Print + Eprint + AllocGlobal>(
 ) -> Status {
     let path = command.path();
     let drawing = is_drawing(command);
-    let mut output = io::writer(rt);
+    let mut output = Output::new(io::writer(rt));
     if path == "-" {
         let mut input = rt.reader();
-        return explained(
-            rt,
-            answer(rt.alloc(), command, &mut input, &mut output),
-            drawing,
-            "the standard input or output",
-        );
+        let status = answer(rt.alloc(), command, &mut input, &mut output);
+        let is_unwritten = output.has_failed();
+        return explained(rt, status, drawing, is_unwritten, "the standard input");
     }
     match fs::open(rt, path) {
         Ok(file) => {
             let mut file = file;
-            explained(
-                rt,
-                answer(rt.alloc(), command, &mut file, &mut output),
-                drawing,
-                path,
-            )
+            let status = answer(rt.alloc(), command, &mut file, &mut output);
+            explained(rt, status, drawing, output.has_failed(), path)
         }
         Err(error) => failed(rt, &error, "cannot open", path),
     }

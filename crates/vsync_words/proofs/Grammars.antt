@@ -1,10 +1,12 @@
 -- What clap's commands come to, argument by argument.
-use Rattle.std.proofs.Common.{◌≡◌, ◌||◌, ◌∙◌, ap, ap₂, codes, refl, true, false, Bool, Option, None, Some}
+use Rattle.std.proofs.Common.{◌≡◌, ◌||◌, ◌∙◌, ap, ap₂, codes, refl, true, false, Bool, Option, None, Some, is_none, option_map}
 use Rattle.std.proofs.lemmas.Bool.{both_ways}
 use Rattle.clap.specs.declared.builder.arg.Arg.{Arg}
 use Rattle.clap.specs.declared.builder.command.Command.{Command}
 use Rattle.clap.specs.declared.builder.command.Command.TheOpen.{Command-F}
-use Rattle.clap.specs.Words.{AddsArg, AddsSubcommand, App, Rule, Text, app_of, with_rule, with_subcommand}
+use Rattle.clap.specs.declared.parser.matches.Found.{Found}
+use Rattle.clap.specs.Words.{AddsArg, AddsSubcommand, App, Rule, Text, app_of, one_of, one_text, rows_of, with_rule, with_subcommand}
+use Rattle.clap.proofs.WalkLemmas.{one_text-rows}
 use Rattle.vsync_words.specs.Grammar.{AddsCommand, IsArg, IsCommand, IsFlag}
 
 -- one more argument
@@ -24,3 +26,15 @@ pub flag_stands : (value : Option Text) (b : Bool) → (value ≡ None → b ≡
     → IsFlag value b
 flag_stands value true gone on off = (λ e. both_ways true (off e) refl, λ e. both_ways true (gone e) refl)
 flag_stands value false gone on off = λ e. both_ways false refl (on e)
+
+-- the same in clap's matches
+pub flag_is : (f : Found) (id : Text) (b : Bool) → (one_text f id ≡ None → b ≡ false) → (one_text f id ≡ Some (codes "true") → b ≡ true)
+    → (one_text f id ≡ Some (codes "false") → b ≡ false) → IsFlag (one_of id (rows_of f)) b
+flag_is f id b gone on off =
+    let e = one_text-rows f id in
+    flag_stands (one_of id (rows_of f)) b (λ n. gone (e ∙ n)) (λ n. on (e ∙ n)) (λ n. off (e ∙ n))
+
+-- what stands nowhere has no text
+pub nothing_there : {X Y : Type 0} (g : X → Y) (o : Option X) → is_none o ≡ true → option_map g o ≡ None
+nothing_there g None e = refl
+nothing_there g (Some x) e = absurd (cc)

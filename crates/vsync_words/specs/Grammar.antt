@@ -1,17 +1,19 @@
 -- The grammar of the command line, in clap's words, and what its words ask for.
-use Rattle.std.specs.Prelude.{◌≡◌, ◌≢◌, ◌==◌, ◌||◌, ℕ, Bool, true, false, not, List, [], ◌∷◌, Option, None, Some, codes, option_map, IsSomeAnd}
+use Rattle.std.specs.Prelude.{◌≡◌, ◌≢◌, ◌==◌, ◌||◌, ℕ, Bool, true, false, not, List, [], ◌∷◌, Option, None, Some, map, unwrap_or, codes, option_map, IsSomeAnd}
 use Rattle.std.specs.Str.Parse.{digits_value, without_leading_plus}
 use Rattle.clap.specs.Walk.{is_empty}
-use Rattle.clap.specs.Words.{App, IsUnsignedIn, Row, Rule, Text, app_of, first_of, one_of, new_app, new_rule, rule_of, with_rule, with_subcommand}
+use Rattle.clap.specs.Words.{App, IsUnsignedIn, Row, Rule, Text, all_of, app_of, first_of, one_of, new_app, new_rule, rule_of, with_rule, with_subcommand}
 use Rattle.clap.specs.Simple.{new_shape}
 use Rattle.clap.specs.declared.builder.arg.Arg.{Arg}
 use Rattle.clap.specs.declared.builder.command.Command.{Command}
 use Rattle.clap.specs.declared.builder.command.Command.TheViews.{out-Command}
 use Rattle.clap.specs.declared.builder.value_parser.ValueParser.TheVariants.{Unsigned}
-use Rattle.clap.specs.declared.builder.action.ArgAction.TheVariants.{SetTrue}
+use Rattle.clap.specs.declared.builder.action.ArgAction.TheVariants.{Append, SetTrue}
 use Rattle.script_reader.specs.declared.udp_script.TheConstants.{ROUNDS}
 use Rattle.vsync_words.specs.declared.udp_words.UdpWords.{UdpWords}
 use Rattle.vsync_words.specs.declared.udp_words.MemberWords.{MemberWords}
+use Rattle.vsync_words.specs.declared.member_options.MemberOptions.{MemberOptions}
+use Rattle.vsync_words.specs.declared.member_options.TheConstants.{MOST_TICK, MOST_MERGE}
 use Rattle.vsync_words.specs.declared.words.Invocation.{Invocation}
 use Rattle.vsync_words.specs.declared.words.Invocation.TheVariants.{Text as TextOf, Udp, Member}
 use Rattle.vsync_words.specs.declared.words.TextWords.{TextWords}
@@ -28,6 +30,13 @@ number_rule argument low high = record (required_rule argument) { parser = Some 
 
 abbrev pub option_rule : Text → Rule
 option_rule name = record (new_rule name) { long = Some name; value_names = 1 }
+
+-- an option whose value is a number in a range; and one that may stand there more than once
+abbrev pub numeric_rule : Text → ℕ → ℕ → Rule
+numeric_rule name low high = record (option_rule name) { parser = Some (Unsigned low high) }
+
+abbrev pub repeated_rule : Text → Rule
+repeated_rule name = record (option_rule name) { action = Some Append }
 
 -- a flag with no value
 abbrev pub flag_rule : Text → Rule
@@ -70,8 +79,33 @@ member_numbers_app = with_rule (with_rule (with_rule (with_rule (new_app (codes 
     (number_rule (codes "INCARNATION") 1 GREATEST_INCARNATION))
     (number_rule (codes "ROUNDS") 0 ROUNDS)
 
+abbrev pub member_talk_app : App
+member_talk_app = with_rule (with_rule member_numbers_app (option_rule (codes "contact"))) (option_rule (codes "send"))
+
+-- a command with `[--tick MS] [--merge TICKS]` as well; with `[--incarnation-file FILE] [--say FILE]`; with `[--bind HOST] [--peer NODE=HOST]..`
+abbrev pub times_app : App → App
+times_app app = with_rule (with_rule app (numeric_rule (codes "tick") 1 MOST_TICK)) (numeric_rule (codes "merge") 0 MOST_MERGE)
+
+abbrev pub files_app : App → App
+files_app app = with_rule (with_rule app (option_rule (codes "incarnation-file"))) (option_rule (codes "say"))
+
+abbrev pub hosts_app : App → App
+hosts_app app = with_rule (with_rule app (option_rule (codes "bind"))) (repeated_rule (codes "peer"))
+
+-- with all of them and `[--forever] [--leave] [--text] [--stats] [--long]`
+abbrev pub flags_app : App → App
+flags_app app = with_rule (with_rule (with_rule (with_rule (with_rule app
+    (flag_rule (codes "forever")))
+    (flag_rule (codes "leave")))
+    (flag_rule (codes "text")))
+    (flag_rule (codes "stats")))
+    (flag_rule (codes "long"))
+
+abbrev pub options_app : App → App
+options_app app = flags_app (hosts_app (files_app (times_app app)))
+
 abbrev pub member_app : App
-member_app = with_rule (with_rule member_numbers_app (option_rule (codes "contact"))) (option_rule (codes "send"))
+member_app = options_app member_talk_app
 
 -- `vsync world [--long] SCRIPT`, `vsync chat [--long] SCRIPT`, `vsync packets [--long] SCRIPT`, `vsync check [--long] TRACE`, `vsync draw [--trace] INPUT`, `vsync udp CONFIG SCRIPT` and `vsync member ..`
 abbrev pub program_app : App
@@ -94,6 +128,30 @@ abbrev pub IsNumberIn : ℕ → ℕ → Option Text → ℕ → Type 0
 IsNumberIn low high value n =
     IsSomeAnd value (λ t. IsUnsignedIn low high t × (digits_value 10 (without_leading_plus t) ≡ n))
 
+-- the value of a flag says whether it stands
+abbrev pub IsFlag : Option Text → Bool → Type 0
+IsFlag value true = (value ≢ Some (codes "false")) × (value ≢ None)
+IsFlag value false = value ≢ Some (codes "true")
+
+-- an option stands there with this number, or does not
+abbrev pub IsOptionalIn : ℕ → ℕ → Text → List Row → Option ℕ → Type 0
+IsOptionalIn low high name rows None = first_of name rows ≡ None
+IsOptionalIn low high name rows (Some n) = IsNumberIn low high (one_of name rows) n
+
+-- how a member runs by its options
+pub record AreMemberOptions (rows : List Row) (options : MemberOptions) : Type 0 where
+  pub tick : IsOptionalIn 1 MOST_TICK (codes "tick") rows options.tick
+  pub merge : IsOptionalIn 0 MOST_MERGE (codes "merge") rows options.merge
+  pub incarnation_file : first_of (codes "incarnation-file") rows ≡ option_map (λ s. s.now) options.incarnation_file
+  pub say : first_of (codes "say") rows ≡ option_map (λ s. s.now) options.say
+  pub bind : first_of (codes "bind") rows ≡ option_map (λ s. s.now) options.bind
+  pub peers : map (λ s. s.now) options.peers.items ≡ unwrap_or (all_of (codes "peer") rows) []
+  pub forever : IsFlag (one_of (codes "forever") rows) options.forever
+  pub leave : IsFlag (one_of (codes "leave") rows) options.leave
+  pub text : IsFlag (one_of (codes "text") rows) options.text
+  pub stats : IsFlag (one_of (codes "stats") rows) options.stats
+  pub long : IsFlag (one_of (codes "long") rows) options.long
+
 -- the words of `member` are the first values of its arguments and options: its numbers in their ranges
 pub record AreMemberWords (rows : List Row) (words : MemberWords) : Type 0 where
   pub config : first_of (codes "CONFIG") rows ≡ Some words.config.now
@@ -102,11 +160,7 @@ pub record AreMemberWords (rows : List Row) (words : MemberWords) : Type 0 where
   pub rounds : IsNumberIn 0 ROUNDS (one_of (codes "ROUNDS") rows) words.rounds
   pub contact : first_of (codes "contact") rows ≡ option_map (λ s. s.now) words.contact
   pub send : first_of (codes "send") rows ≡ option_map (λ s. s.now) words.send
-
--- the value of a flag says whether it stands
-abbrev pub IsFlag : Option Text → Bool → Type 0
-IsFlag value true = (value ≢ Some (codes "false")) × (value ≢ None)
-IsFlag value false = value ≢ Some (codes "true")
+  pub options : AreMemberOptions rows words.options
 
 -- the words of a subcommand with `--long` are the first value of its argument, and whether the flag stands
 pub record AreTextWords (argument : Text) (rows : List Row) (words : TextWords) : Type 0 where

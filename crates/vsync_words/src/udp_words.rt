@@ -3,10 +3,11 @@
 ghost use Rattle.std.specs.Prelude.{◌≡◌, codes, IfOk, IfSome, MatchResult, Ok, Err};
 ghost use Rattle.clap.specs.Words.{found_of, one_of, rows_of};
 ghost use Rattle.script_reader.specs.declared.udp_script.TheConstants.{ROUNDS};
-ghost use Rattle.vsync_words.specs.Grammar.{required_rule, number_rule, option_rule, udp_app, member_numbers_app, member_app, AddsCommand, AreUdpWords, AreMemberWords, IsArg, IsCommand, IsNumberIn};
+ghost use Rattle.vsync_words.specs.Grammar.{required_rule, number_rule, option_rule, udp_app, member_numbers_app, member_talk_app, member_app, AddsCommand, AreUdpWords, AreMemberWords, IsArg, IsCommand, IsNumberIn};
 ghost use Rattle.vsync_words.specs.Plans.{contact_of, payload_of, text_of, IsMistaken, IsPlan};
 ghost use Rattle.limits.specs.declared.TheConstants.{GREATEST_NODE, GREATEST_INCARNATION};
 
+use crate::member_options::{MemberOptions, member_options, with_options};
 use address::{Address, Node};
 use clap::builder::ValueParser;
 use clap::{Arg, ArgMatches};
@@ -24,8 +25,8 @@ pub struct UdpWords<'a> {
     pub script: &'a str,
 }
 
-/// The words of `member CONFIG NODE INCARNATION ROUNDS [--contact ADDR] [--send TEXT]`, as clap matches them.
-#[derive(Clone, Copy, Debug)]
+/// The words of `member CONFIG NODE INCARNATION ROUNDS` and of its options, as clap matches them.
+#[derive(Debug, Drop)]
 pub struct MemberWords<'a> {
     /// The path of the settings.
     pub config: &'a str,
@@ -37,6 +38,8 @@ pub struct MemberWords<'a> {
     pub contact: Option<&'a str>,
     /// TEXT, if it stands there.
     pub send: Option<&'a str>,
+    /// How it runs.
+    pub options: MemberOptions<'a>,
 }
 
 /// What is wrong with the words of `member` that clap takes.
@@ -106,8 +109,8 @@ fn number<'a>(alloc: Global, name: &'a str, low: u64, high: u64, help: &'a str) 
     required(alloc, name, help).value_parser(ValueParser::unsigned(low, high))
 }
 
-// An option with a value.
-fn option<'a>(alloc: Global, name: &'a str, value: &'a str, help: &'a str) -> Arg<'a>
+/// An option with a value.
+pub(crate) fn option<'a>(alloc: Global, name: &'a str, value: &'a str, help: &'a str) -> Arg<'a>
     ensures { IsArg (option_rule name.now) result }
 {
     Arg::new(alloc, name)
@@ -162,7 +165,7 @@ fn member_numbers<'a>(alloc: Global) -> Result<clap::Command<'a>, AllocError>
     clap::Command::new(alloc, "member")
         .about("Runs one node over UDP by itself, and prints its trace as it happens and its chat")
         .after_help(
-            "It joins the group of the contact's member, or makes a group of itself alone. A round takes a millisecond or more.\n\nExample, in two terminals:\n  vsync member examples/four.toml 1 1 20000 --send hello\n  vsync member examples/four.toml 2 1 20000 --contact 1.1",
+            "It joins the group of the contact's member, or makes a group of itself alone. It handles datagrams as they come, and has a round each tick.\n\nExample, in two terminals:\n  vsync member examples/four.toml 1 1 1000 --send hello\n  vsync member examples/four.toml 2 1 1000 --contact 1.1",
         )
         .arg(config(alloc))?
         .arg(number(
@@ -182,9 +185,9 @@ fn member_numbers<'a>(alloc: Global) -> Result<clap::Command<'a>, AllocError>
         .arg(number(alloc, "ROUNDS", 0, ROUNDS, "How many rounds it runs"))
 }
 
-// The subcommand `member`.
-fn member_command<'a>(alloc: Global) -> Result<clap::Command<'a>, AllocError>
-    ensures { IfOk result (IsCommand member_app) }
+// The subcommand `member` with what it sends, and whom it asks.
+fn member_talk<'a>(alloc: Global) -> Result<clap::Command<'a>, AllocError>
+    ensures { IfOk result (IsCommand member_talk_app) }
 {
     member_numbers(alloc)?
         .arg(option(
@@ -201,7 +204,15 @@ fn member_command<'a>(alloc: Global) -> Result<clap::Command<'a>, AllocError>
         ))
 }
 
-/// The program with `member CONFIG NODE INCARNATION ROUNDS [--contact ADDR] [--send TEXT]` as well.
+// The subcommand `member`.
+fn member_command<'a>(alloc: Global) -> Result<clap::Command<'a>, AllocError>
+    ensures { IfOk result (IsCommand member_app) }
+{
+    let command = member_talk(alloc)?;
+    with_options(alloc, command)
+}
+
+/// The program with `member CONFIG NODE INCARNATION ROUNDS` and its options as well.
 pub(crate) fn with_member<'a>(
     alloc: Global,
     program: clap::Command<'a>,
@@ -243,7 +254,7 @@ fn rounds_of(matches: &ArgMatches<'_>) -> Option<u64>
 }
 
 /// The words of `member` in its matches.
-pub(crate) fn member_words<'a>(matches: &ArgMatches<'a>) -> Option<MemberWords<'a>>
+pub(crate) fn member_words<'a>(alloc: Global, matches: &ArgMatches<'a>) -> Option<MemberWords<'a>>
     ensures { IfSome result (AreMemberWords (rows_of (found_of matches.now))) }
 {
     let config = matches.get_str("CONFIG")?;
@@ -255,5 +266,6 @@ pub(crate) fn member_words<'a>(matches: &ArgMatches<'a>) -> Option<MemberWords<'
         rounds,
         contact: matches.get_str("contact"),
         send: matches.get_str("send"),
+        options: member_options(alloc, matches)?,
     })
 }

@@ -66,7 +66,7 @@ impl<'a> TextCommand<'a> {
 }
 
 /// What the words of a command line ask for.
-#[derive(Clone, Copy, Debug)]
+#[derive(Debug, Drop)]
 pub enum Invocation<'a> {
     /// `world SCRIPT`, `chat SCRIPT`, `packets SCRIPT` or `check TRACE`, each perhaps with `--long`; `draw SCRIPT` or `draw --trace TRACE`.
     Text(TextCommand<'a>),
@@ -300,14 +300,14 @@ fn text_command<'a>(name: &str, matches: &ArgMatches<'a>) -> Option<TextCommand<
 }
 
 /// The command that a subcommand's matches name.
-fn named<'a>(name: &str, matches: &ArgMatches<'a>) -> Option<Invocation<'a>>
+fn named<'a>(alloc: Global, name: &str, matches: &ArgMatches<'a>) -> Option<Invocation<'a>>
     ensures { IfSome result (IsSaid (name.now, rows_of (found_of matches.now))) }
 {
     if name == "udp" {
         return Some(Invocation::Udp(udp_words(matches)?));
     }
     if name == "member" {
-        return match member_words(matches) {
+        return match member_words(alloc, matches) {
             Some(words) => Some(Invocation::Member(words)),
             None => None,
         };
@@ -316,11 +316,11 @@ fn named<'a>(name: &str, matches: &ArgMatches<'a>) -> Option<Invocation<'a>>
 }
 
 /// What matches of the whole command line ask for.
-fn asked<'a>(matches: &ArgMatches<'a>) -> Option<Invocation<'a>>
+fn asked<'a>(alloc: Global, matches: &ArgMatches<'a>) -> Option<Invocation<'a>>
     ensures { IfSome result (λ i. IsSomeAnd (subcommand_rows_of matches.now) (λ said. IsSaid said i)) }
 {
     let (name, inner) = matches.subcommand()?;
-    named(name, inner)
+    named(alloc, name, inner)
 }
 
 /// The command that words ask for by the grammar.
@@ -330,7 +330,7 @@ fn parsed<'a>(alloc: Global, words: &'a [String]) -> Result<Invocation<'a>, Erro
     ensures refused { FailsBy (fault_of program_app (map string_bytes words.now)) result }
 {
     let matches = grammar(alloc)?.try_get_matches_from(words)?;
-    match asked(&matches) {
+    match asked(alloc, &matches) {
         Some(command) => Ok(command),
         None => Err(Error::from(AllocError)),
     }

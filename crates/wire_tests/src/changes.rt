@@ -85,7 +85,8 @@ fn changed(alloc: Global, index: usize, value: u8) -> u8 {
 fn a_changed_join_is_refused(rt: HostRuntime) {
     let alloc = rt.alloc();
     assert_eq!(rt; changed(alloc, 0, 87), 21, "another protocol");
-    assert_eq!(rt; changed(alloc, 2, 1), 22, "the version before");
+    assert_eq!(rt; changed(alloc, 2, 1), 22, "the first version");
+    assert_eq!(rt; changed(alloc, 2, 2), 22, "the second version");
     assert_eq!(rt; changed(alloc, 2, 9), 22, "another version");
     assert_eq!(rt; changed(alloc, 3, 0), 23, "no kind");
     assert_eq!(rt; changed(alloc, 3, 15), 23, "an unknown kind");

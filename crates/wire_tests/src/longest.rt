@@ -41,10 +41,10 @@ fn put(value: u64, has_place: bool, out: &mut Vec<u8>) -> Option<()> {
     put_entry(place, &entry, out).ok()
 }
 
-/// The 32 longest entries, from the number 1, with their places or without.
+/// The 64 longest entries, from the number 1, with their places or without.
 fn entries(alloc: Global, have_places: bool) -> Option<Vec<u8>> {
     let mut text = Vec::new(alloc);
-    for value in 1..=32 {
+    for value in 1..=64 {
         put(value, have_places, &mut text)?;
     }
     Some(text)
@@ -52,24 +52,24 @@ fn entries(alloc: Global, have_places: bool) -> Option<Vec<u8>> {
 
 /// The report of these entries, with so many delivered.
 fn report(text: &[u8], delivered: u64) -> Option<Report<'_>> {
-    let held = Held::new(32, text)?;
+    let held = Held::new(64, text)?;
     Report::new(second_view(), Count::zero(), Count::new(delivered)?, held)
 }
 
 #[test]
-fn the_longest_report_has_17247_bytes(rt: HostRuntime) {
+fn the_longest_report_has_34399_bytes(rt: HostRuntime) {
     let text = entries(rt.alloc(), true).expect(&rt, "the entries");
     let body = Body::Report {
         proposal: second_view(),
-        report: report(&text, 32).expect(&rt, "the report of 32 delivered"),
+        report: report(&text, 64).expect(&rt, "the report of 64 delivered"),
     };
-    assert!(rt; has_length(rt.alloc(), body, 11, 17_247));
+    assert!(rt; has_length(rt.alloc(), body, 11, 34_399));
 }
 
 #[test]
 fn a_report_of_more_delivered_than_it_has_entries_is_none(rt: HostRuntime) {
     let text = entries(rt.alloc(), true).expect(&rt, "the entries");
-    assert!(rt; report(&text, 33).is_none());
+    assert!(rt; report(&text, 65).is_none());
 }
 
 /// The first addresses of the nodes 1 to 16.
@@ -85,7 +85,7 @@ fn sixteen(alloc: Global) -> Option<Vec<Address>> {
 fn install<'a>(members: &[Address], text: &'a [u8], state: &'a [u8]) -> Option<Install<'a>> {
     let view = Roster::new(second_view(), members)?;
     let together = Members::from_slice(members)?;
-    let items = Items::new(32, text)?;
+    let items = Items::new(64, text)?;
     let given = GivenState::Whole(State::new(state)?);
     Install::new(view, together, Count::zero(), items, given)
 }
@@ -93,13 +93,13 @@ fn install<'a>(members: &[Address], text: &'a [u8], state: &'a [u8]) -> Option<I
 /// Whether these entries, with 16 members and the longest state that an INSTALL carries, make the longest install.
 fn is_longest_install(alloc: Global, members: &[Address], text: &[u8]) -> bool {
     match install(members, text, &[9; 4_096]) {
-        Some(install) => has_length(alloc, Body::Install(install), 12, 21_263),
+        Some(install) => has_length(alloc, Body::Install(install), 12, 38_159),
         None => false,
     }
 }
 
 #[test]
-fn the_longest_install_has_21263_bytes(rt: HostRuntime) {
+fn the_longest_install_has_38159_bytes(rt: HostRuntime) {
     let members = sixteen(rt.alloc()).expect(&rt, "the members");
     let text = entries(rt.alloc(), false).expect(&rt, "the entries");
     assert!(rt; is_longest_install(rt.alloc(), &members, &text));
@@ -108,7 +108,7 @@ fn the_longest_install_has_21263_bytes(rt: HostRuntime) {
 #[test]
 fn entries_are_as_many_as_is_said(rt: HostRuntime) {
     let text = entries(rt.alloc(), false).expect(&rt, "the entries");
-    assert!(rt; Items::new(31, &text).is_none());
+    assert!(rt; Items::new(63, &text).is_none());
 }
 
 /// Whether a chunk of 32,768 bytes, the last of the longest state, makes the longest STATE.

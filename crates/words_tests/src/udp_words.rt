@@ -94,6 +94,87 @@ fn member_takes_numbers_and_options(rt: HostRuntime) {
     );
 }
 
+/// How a member runs by its options, as text; `-` for other words.
+fn options_of(alloc: Global, line: &[&str]) -> String {
+    let Ok(words) = words_of(alloc, line) else {
+        return String::new(alloc);
+    };
+    let Ok(Invocation::Member(member)) = command(alloc, words.as_slice()) else {
+        return String::new(alloc);
+    };
+    let options = &member.options;
+    let (tick, merge) = (options.tick.unwrap_or(0), options.merge.unwrap_or(9_999));
+    let (file, say) = (
+        options.incarnation_file.unwrap_or("-"),
+        options.say.unwrap_or("-"),
+    );
+    let (bind, peers) = (options.bind.unwrap_or("-"), options.peers.len());
+    let (forever, leave, text) = (options.forever, options.leave, options.text);
+    let (stats, long) = (options.stats, options.long);
+    match format!(in alloc;
+        "{tick} {merge} {file} {say} {bind} {peers} {forever} {leave} {text} {stats} {long}"
+    ) {
+        Ok(text) => text,
+        Err(_) => String::new(alloc),
+    }
+}
+
+#[test]
+fn member_takes_how_it_runs(rt: HostRuntime) {
+    let alloc = rt.alloc();
+    assert!(rt;
+        options_of(alloc, &["vsync", "member", "a.toml", "1", "1", "0"]).as_str()
+            == "0 9999 - - - 0 false false false false false",
+        "none"
+    );
+    let line = [
+        "vsync",
+        "member",
+        "a.toml",
+        "1",
+        "1",
+        "0",
+        "--tick",
+        "1000",
+        "--merge",
+        "0",
+        "--incarnation-file",
+        "i",
+        "--say",
+        "s",
+        "--bind",
+        "10.0.0.1",
+        "--peer",
+        "2=b",
+        "--peer",
+        "3=c",
+        "--forever",
+        "--leave",
+        "--text",
+        "--stats",
+        "--long",
+    ];
+    assert!(rt;
+        options_of(alloc, &line).as_str() == "1000 0 i s 10.0.0.1 2 true true true true true",
+        "all"
+    );
+}
+
+#[test]
+fn an_option_out_of_range_is_a_usage_fault(rt: HostRuntime) {
+    let alloc = rt.alloc();
+    for (option, value) in [
+        ("--tick", "0"),
+        ("--tick", "1001"),
+        ("--tick", "x"),
+        ("--merge", "10001"),
+        ("--merge", "-1"),
+    ] {
+        let line = ["vsync", "member", "a.toml", "1", "1", "1", option, value];
+        assert!(rt; refusal(alloc, &line).is_some(), "{option} {value}");
+    }
+}
+
 #[test]
 fn a_number_out_of_range_is_a_usage_fault(rt: HostRuntime) {
     let alloc = rt.alloc();

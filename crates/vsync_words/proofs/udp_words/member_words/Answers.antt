@@ -11,4 +11,5 @@ returns c = record {
   rounds = c.in_ok-rounds.ensures;
   contact = sym (first_value-rows (found_of c.args.matches.now) (codes "contact")) ∙ sym c.get_str-2.ensures;
   send = sym (first_value-rows (found_of c.args.matches.now) (codes "send")) ∙ sym c.get_str-3.ensures;
+  options = c.in_ok-member_options.ensures;
 }

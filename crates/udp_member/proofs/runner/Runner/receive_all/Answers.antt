@@ -20,4 +20,4 @@ returns-then-not-came g c =
 
 pub returns : goal.returns
 returns g c =
-    heard-full g.N.Net.log g.N.Net.failed g.R.Receiver.meaning _ _ _ c.loop-turn.invariant c.loop-turn-test.false c.loop-turn.auto._turn-end
+    heard-full g.N.Net.log g.N.Net.failed g.R.Receiver.meaning _ _ _ c.loop-turn.invariant c.loop-turn-test.false c.loop-turn.auto.turn-end

@@ -1,0 +1,119 @@
+-- What an acquisition and a release make of the locks in their places.
+use Rattle.std.proofs.Common.{◌≡◌, ℕ, zero, suc, ◌+◌, ◌<◌, ◌≤◌, Bool, true, false, cond, leb, not, List, [], ◌∷◌, ◌++◌, length, set, Option, Some, None, refl, sym, ap, ◌∙◌, arith}
+use Rattle.std.specs.List.{slice_get, insert, remove}
+use Rattle.std.proofs.lemmas.Bool.{leb-true, le-leb, cond-true}
+use Rattle.std.proofs.lemmas.List.{length-append}
+use Rattle.std.proofs.lemmas.List.Sums.{sum_by-insert}
+use Rattle.limits.specs.declared.TheConstants.{STATE}
+use Rattle.address.specs.Ids.{Address, ViewId, same_address}
+use Rattle.view.specs.Members.{stands_in}
+use Rattle.keyed_entries.specs.declared.Entry.{Entry}
+use Rattle.keyed_entries.specs.Entries.{entry_of, value_of, put, IsHeldAt, IsFreeAt}
+use Rattle.lock_table.specs.declared.token.Token.{Token}
+use Rattle.lock_table.specs.Locks.{Lock, Table, queue, granted, joined_by, left_to, others, with_lock, table_of, lock_size, table_size, acquired, asked, gone_from, released, within, next_token, IsLeft}
+use Rattle.lock_table.specs.StepLaws.{size-put}
+
+remove-set : {X : Type 0} (xs : List X) (i : ℕ) (y : X) → remove (set xs i y) i ≡ remove xs i
+remove-set [] i y = refl
+remove-set (x ∷ xs) zero y = refl
+remove-set (x ∷ xs) (suc i) y = ap (λ (l : List _). x ∷ l) (remove-set xs i y)
+
+-- ---- a release
+
+pub gone-freed : (p : Address) (view : ViewId) (k : List ℕ) (last : Token) (locks : List (Entry Lock)) (i : ℕ) (x : Entry Lock) (l : Lock) (token : Token) → IsHeldAt k locks i → slice_get locks i ≡ Some x
+    → IsLeft (others p) (left_to (others p) view last x.value) l token → same_address p l.holder ≡ true → table_of token (remove (set locks i (entry_of x.key l)) i) ≡ released p view k (table_of last locks)
+gone-freed p view k last locks i x l token held stands left is =
+    let at : value_of k locks ≡ Some x.value = held.value x stands in
+    let o = left_to (others p) view last x.value in
+    let free : o.lock ≡ None = left.lock ∙ ap (λ (b : Bool). cond (not b) (Some l) None) is in
+    let locks-are : remove (set locks i (entry_of x.key l)) i ≡ with_lock k o.lock locks = remove-set locks i (entry_of x.key l) ∙ sym held.takes ∙ ap (λ (m : Option Lock). with_lock k m locks) (sym free) in
+    ap (table_of token) locks-are ∙ ap (λ (t : Token). table_of t (with_lock k o.lock locks)) (sym left.last) ∙ ap (gone_from p view k (table_of last locks)) (sym at)
+
+pub gone-kept : (p : Address) (view : ViewId) (k : List ℕ) (last : Token) (locks : List (Entry Lock)) (i : ℕ) (x : Entry Lock) (l : Lock) (token : Token) → IsHeldAt k locks i → slice_get locks i ≡ Some x
+    → IsLeft (others p) (left_to (others p) view last x.value) l token → same_address p l.holder ≡ false → table_of token (set locks i (entry_of x.key l)) ≡ released p view k (table_of last locks)
+gone-kept p view k last locks i x l token held stands left is =
+    let at : value_of k locks ≡ Some x.value = held.value x stands in
+    let o = left_to (others p) view last x.value in
+    let kept : o.lock ≡ Some l = left.lock ∙ ap (λ (b : Bool). cond (not b) (Some l) None) is in
+    let locks-are : set locks i (entry_of x.key l) ≡ with_lock k o.lock locks = sym (held.puts x l stands) ∙ ap (λ (m : Option Lock). with_lock k m locks) (sym kept) in
+    ap (table_of token) locks-are ∙ ap (λ (t : Token). table_of t (with_lock k o.lock locks)) (sym left.last) ∙ ap (gone_from p view k (table_of last locks)) (sym at)
+
+-- ---- an acquisition
+
+stays-away : (s new : Table) → STATE < table_size new.locks → s ≡ within s new
+stays-away s new more = by (leb (table_size new.locks) STATE) refl where
+  by : (b : Bool) → leb (table_size new.locks) STATE ≡ b → s ≡ cond b new s
+  by true test = let small : table_size new.locks ≤ STATE = leb-true _ _ test in absurd (omega (arith, small, more))
+  by false test = refl
+
+comes-in : (s new : Table) → table_size new.locks ≤ STATE → new ≡ within s new
+comes-in s new few = sym (cond-true (leb (table_size new.locks) STATE) new s (le-leb _ _ few))
+
+either-way : (s new : Table) → new ≡ s → s ≡ within s new
+either-way s new same = by (leb (table_size new.locks) STATE) where
+  by : (b : Bool) → s ≡ cond b new s
+  by true = sym same
+  by false = refl
+
+-- what is asked for where a lock is held
+asked-held : (p : Address) (view : ViewId) (k : List ℕ) (last : Token) (locks : List (Entry Lock)) (l : Lock) → value_of k locks ≡ Some l → acquired p view k (table_of last locks) ≡ table_of last (put k (joined_by p l) locks)
+asked-held p view k last locks l at = ap (asked p view k (table_of last locks)) at
+
+pub set-same : (xs : List (Entry Lock)) (i : ℕ) (x : Entry Lock) → slice_get xs i ≡ Some x → set xs i x ≡ xs
+set-same [] i x e = refl
+set-same (y ∷ xs) zero x e = let same : y ≡ x = cc in ap (λ (z : Entry Lock). z ∷ xs) (sym same)
+set-same (y ∷ xs) (suc i) x e = ap (λ (l : List (Entry Lock)). y ∷ l) (set-same xs i x e)
+
+joined-there : (p : Address) (l : Lock) → stands_in p (queue l) ≡ true → joined_by p l ≡ l
+joined-there p l e = ap (λ (b : Bool). cond b l (record { holder = l.holder; token = l.token; waiters = l.waiters ++ p ∷ [] })) e
+
+joined-new : (p : Address) (l : Lock) → stands_in p (queue l) ≡ false → length (joined_by p l).waiters ≡ length l.waiters + 1
+joined-new p l e = ap (λ (b : Bool). length (cond b l (record { holder = l.holder; token = l.token; waiters = l.waiters ++ p ∷ [] })).waiters) e ∙ length-append l.waiters (p ∷ [])
+
+-- one stands there already
+pub stands-already : (p : Address) (view : ViewId) (k : List ℕ) (last : Token) (locks : List (Entry Lock)) (i : ℕ) (x : Entry Lock) → IsHeldAt k locks i → slice_get locks i ≡ Some x → stands_in p (queue x.value) ≡ true
+    → table_of last locks ≡ within (table_of last locks) (acquired p view k (table_of last locks))
+stands-already p view k last locks i x held stands e =
+    either-way (table_of last locks) (acquired p view k (table_of last locks))
+    (asked-held p view k last locks x.value (held.value x stands) ∙ ap (λ (l : Lock). table_of last (put k l locks)) (joined-there p x.value e) ∙ ap (table_of last) (held.puts x x.value stands ∙ set-same locks i x stands))
+
+-- one waits
+pub joins : (p : Address) (view : ViewId) (k : List ℕ) (last : Token) (locks : List (Entry Lock)) (i : ℕ) (x : Entry Lock) (l : Lock) → IsHeldAt k locks i → slice_get locks i ≡ Some x → stands_in p (queue x.value) ≡ false → l ≡ joined_by p x.value → table_size locks + 6 ≤ STATE
+    → table_of last (set locks i (entry_of x.key l)) ≡ within (table_of last locks) (acquired p view k (table_of last locks))
+joins p view k last locks i x l held stands e is few =
+    let at = held.value x stands in
+    let new = asked-held p view k last locks x.value at in
+    let size = size-put k locks x.value (joined_by p x.value) at in
+    let puts : set locks i (entry_of x.key l) ≡ put k (joined_by p x.value) locks = ap (λ (m : Lock). set locks i (entry_of x.key m)) is ∙ sym (held.puts x (joined_by p x.value) stands) in
+    let sizes : table_size (acquired p view k (table_of last locks)).locks ≡ table_size (put k (joined_by p x.value) locks) = ap (λ (t : Table). table_size t.locks) new in
+    ap (table_of last) puts ∙ sym new ∙ comes-in (table_of last locks) (acquired p view k (table_of last locks)) (omega (arith, sizes, size, joined-new p x.value e, few))
+
+-- one may not wait, since the state would be too long
+pub joins-not : (p : Address) (view : ViewId) (k : List ℕ) (last : Token) (locks : List (Entry Lock)) (i : ℕ) (x : Entry Lock) → IsHeldAt k locks i → slice_get locks i ≡ Some x → stands_in p (queue x.value) ≡ false → STATE < table_size locks + 6
+    → table_of last locks ≡ within (table_of last locks) (acquired p view k (table_of last locks))
+joins-not p view k last locks i x held stands e more =
+    let at = held.value x stands in
+    let new = asked-held p view k last locks x.value at in
+    let size = size-put k locks x.value (joined_by p x.value) at in
+    let sizes : table_size (acquired p view k (table_of last locks)).locks ≡ table_size (put k (joined_by p x.value) locks) = ap (λ (t : Table). table_size t.locks) new in
+    stays-away (table_of last locks) (acquired p view k (table_of last locks)) (omega (arith, sizes, size, joined-new p x.value e, more))
+
+-- a lock that is free
+asked-free : (p : Address) (view : ViewId) (k : List ℕ) (last : Token) (locks : List (Entry Lock)) (i : ℕ) → IsFreeAt k locks i
+    → acquired p view k (table_of last locks) ≡ table_of (next_token view last) (insert locks i (entry_of k (granted p (next_token view last))))
+asked-free p view k last locks i free = ap (asked p view k (table_of last locks)) free.value ∙ ap (table_of (next_token view last)) (free.puts (granted p (next_token view last)))
+
+size-free : (p : Address) (view : ViewId) (k : List ℕ) (last : Token) (locks : List (Entry Lock)) (i : ℕ) → IsFreeAt k locks i → table_size (acquired p view k (table_of last locks)).locks ≡ table_size locks + 33 + length k
+size-free p view k last locks i free =
+    let sums = sum_by-insert lock_size locks i (entry_of k (granted p (next_token view last))) in
+    let sizes : table_size (acquired p view k (table_of last locks)).locks ≡ table_size (insert locks i (entry_of k (granted p (next_token view last)))) = ap (λ (t : Table). table_size t.locks) (asked-free p view k last locks i free) in
+    omega (arith, sums, sizes)
+
+pub grants : (p : Address) (view : ViewId) (k : List ℕ) (last : Token) (locks : List (Entry Lock)) (i : ℕ) → IsFreeAt k locks i → table_size locks + 33 + length k ≤ STATE
+    → table_of (next_token view last) (insert locks i (entry_of k (granted p (next_token view last)))) ≡ within (table_of last locks) (acquired p view k (table_of last locks))
+grants p view k last locks i free few =
+    sym (asked-free p view k last locks i free) ∙ comes-in (table_of last locks) (acquired p view k (table_of last locks)) (omega (arith, size-free p view k last locks i free, few))
+
+pub grants-not : (p : Address) (view : ViewId) (k : List ℕ) (last : Token) (locks : List (Entry Lock)) (i : ℕ) → IsFreeAt k locks i → STATE < table_size locks + 33 + length k
+    → table_of last locks ≡ within (table_of last locks) (acquired p view k (table_of last locks))
+grants-not p view k last locks i free more = stays-away (table_of last locks) (acquired p view k (table_of last locks)) (omega (arith, size-free p view k last locks i free, more))

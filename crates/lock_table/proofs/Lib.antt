@@ -1,0 +1,10 @@
+pub mod FactOfLocks
+pub mod FactOfAppends
+pub mod FactOfRolls
+pub mod FactOfTurns
+pub mod FactOfSteps
+pub mod FactOfHolders
+pub mod FactOfQueues
+pub mod FactOfTokens
+pub mod FactOfReleases
+pub mod FactOfOneMessage

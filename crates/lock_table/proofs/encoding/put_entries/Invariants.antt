@@ -1,0 +1,16 @@
+use Rattle.std.proofs.Common.{◌≡◌, ◌≤◌, ◌+◌, ◌++◌, take, drop, vec_len, vec_capacity}
+use Rattle.std.specs.List.{flat_map, sum_by, AllByRecursion}
+use Rattle.limits.specs.declared.TheConstants.{STATE}
+use Rattle.lock_table.specs.Locks.{IsEntry, lock_size}
+use Rattle.lock_table.specs.Encoding.{entry_bytes}
+use Rattle.lock_table.proofs.encoding.put_entries.Given as goal
+
+-- the locks so far are put, and there is room for the others, which are short
+abbrev pub invariant-loop-entry : goal.invariant-loop-entry
+invariant-loop-entry l = record {
+  put : l.out.items ≡ l.fn.out.items ++ flat_map entry_bytes (take l.entry-index l.entries);
+  room : vec_len l.out + sum_by lock_size (drop l.entry-index l.entries) ≤ vec_capacity l.out;
+  grown : vec_capacity l.fn.out ≤ vec_capacity l.out;
+  short : sum_by lock_size (drop l.entry-index l.entries) ≤ STATE;
+  left : AllByRecursion IsEntry (drop l.entry-index l.entries);
+}

@@ -1,0 +1,83 @@
+-- How payloads spell commands, and what a message makes of the table.
+use Rattle.std.specs.Prelude.{◌≡◌, ℕ, List, ◌++◌, length, Option, Some, None, ◌==◌, if◌then◌else◌}
+use Rattle.std.specs.Option.{is_none}
+use Rattle.std.specs.List.{flat_map, AllByRecursion}
+use Rattle.byteorder.specs.Endian.{big_bytes}
+use Rattle.address.specs.Ids.{Address, IsAddress}
+use Rattle.view.specs.Members.{View}
+use Rattle.view.specs.View.{view_refusal}
+use Rattle.limits.specs.declared.TheConstants.{MEMBERS}
+use Rattle.big_endian.specs.Spelled.{address_bytes}
+use Rattle.reading.specs.Reading.{Read, ◌>>=◌, number_at, address_at, list_at}
+use Rattle.keyed_entries.specs.Keys.{IsKey, key_bytes, key_at}
+use Rattle.lock_table.specs.declared.command.Command.{Command}
+use Rattle.lock_table.specs.declared.command.Command.TheVariants.{Acquire, Release, Roll}
+use Rattle.lock_table.specs.Locks.{Table, IsViewId, carried_out}
+use Rattle.lock_table.specs.Encoding.{view_id_bytes, view_id_at}
+
+-- ---- a view: its id, the number of its members in a byte, and they
+
+pub record IsView (v : View) : Type 0 where
+  pub id : IsViewId v.id
+  pub members : AllByRecursion IsAddress v.members
+  pub sound : view_refusal v.id v.members ≡ None
+
+abbrev pub view_bytes : View → List ℕ
+view_bytes v = view_id_bytes v.id ++ (big_bytes 1 (length v.members) ++ flat_map address_bytes v.members)
+
+unfoldable pub view_at : List ℕ → Read View
+view_at bytes = do
+  id ← view_id_at bytes
+  count ← number_at 1 1 MEMBERS id.1
+  members ← list_at address_at count.0 count.1
+  if is_none (view_refusal id.0 members.0) then Some (record { id = id.0; members = members.0 }, members.1) else None
+
+-- ---- a command: its kind in a byte, and its parts
+
+abbrev pub command_bytes : Command → List ℕ
+command_bytes (Acquire view name) = big_bytes 1 1 ++ (view_id_bytes view ++ key_bytes name)
+command_bytes (Release view name) = big_bytes 1 2 ++ (view_id_bytes view ++ key_bytes name)
+command_bytes (Roll view) = big_bytes 1 3 ++ view_bytes view
+
+unfoldable pub acquire_at : List ℕ → Read Command
+acquire_at bytes = do
+  view ← view_id_at bytes
+  name ← key_at view.1
+  Some (Acquire view.0 name.0, name.1)
+
+unfoldable pub release_at : List ℕ → Read Command
+release_at bytes = do
+  view ← view_id_at bytes
+  name ← key_at view.1
+  Some (Release view.0 name.0, name.1)
+
+unfoldable pub roll_at : List ℕ → Read Command
+roll_at bytes = do
+  view ← view_at bytes
+  Some (Roll view.0, view.1)
+
+unfoldable pub command_at : List ℕ → Read Command
+command_at bytes = do
+  kind ← number_at 1 1 3 bytes
+  if kind.0 == 1 then acquire_at kind.1 else if kind.0 == 2 then release_at kind.1 else roll_at kind.1
+
+-- the command that a payload is: nothing follows it
+unfoldable pub command_of : List ℕ → Option Command
+command_of payload = do
+  command ← command_at payload
+  if length command.1 == 0 then Some command.0 else None
+
+-- the commands that can be spelled
+abbrev pub IsCommand : Command → Type 0
+IsCommand (Acquire view name) = IsViewId view × IsKey name
+IsCommand (Release view name) = IsViewId view × IsKey name
+IsCommand (Roll view) = IsView view
+
+-- a payload that is no command changes nothing
+abbrev pub after_command : Address → Table → Option Command → Table
+after_command from s None = s
+after_command from s (Some c) = carried_out from c s
+
+-- what a message makes of the table
+abbrev pub table_apply : Table → Address → List ℕ → Table
+table_apply s from payload = after_command from s (command_of payload)

@@ -1,0 +1,143 @@
+-- What each part of a table and of a command is read from is its spelling, and its spelling is read as it, whatever follows.
+use Rattle.std.proofs.Common.{◌≡◌, ℕ, ◌≤◌, List, ◌++◌, length, Some, refl, sym, ap, subst, ◌∙◌, append_assoc, arith}
+use Rattle.std.specs.List.{flat_map, AllByRecursion}
+use Rattle.byteorder.specs.Endian.{big_bytes}
+use Rattle.big_endian.proofs.Bytes.{wide4, wide8}
+use Rattle.big_endian.specs.Spelled.{address_bytes}
+use Rattle.address.specs.Ids.{Address, ViewId, IsAddress}
+use Rattle.limits.specs.declared.TheConstants.{GREATEST_NUMBER}
+use Rattle.reading.specs.Reading.{number_at, address_at, list_at, ◌>>=◌}
+use Rattle.reading.specs.PartLaws.{bind_some, some_is, joined, IsPart, IsWithin, number_part, address_part, list_takes, list_again}
+use Rattle.keyed_entries.specs.declared.Entry.{Entry}
+use Rattle.keyed_entries.specs.Entries.{entry_of}
+use Rattle.keyed_entries.specs.Keys.{IsKey, key_bytes, key_at}
+use Rattle.keyed_entries.specs.KeyLaws.{key_takes, key_again}
+use Rattle.lock_table.specs.declared.token.Token.{Token}
+use Rattle.lock_table.specs.Locks.{Lock, IsViewId, IsToken, IsLock}
+use Rattle.lock_table.specs.Encoding.{view_id_bytes, view_id_at, token_bytes, token_at, waiters_bytes, waiters_at, lock_bytes, lock_at, entry_bytes, entry_at}
+
+-- ---- view ids
+
+abbrev counter_part : IsPart (number_at 8 1 GREATEST_NUMBER) (big_bytes 8) (IsWithin 1 GREATEST_NUMBER)
+counter_part = number_part 8 1 GREATEST_NUMBER wide8 (omega arith)
+
+view_id_takes : (bytes : List ℕ) (v : ViewId) (rest : List ℕ) → view_id_at bytes ≡ Some (v, rest) → (bytes ≡ view_id_bytes v ++ rest) × IsViewId v
+unfolding view_id_at
+view_id_takes bytes v rest e =
+    let a = bind_some (number_at 8 1 GREATEST_NUMBER bytes) (λ counter. address_at counter.1 >>= λ creator. Some (record { counter = counter.0; creator = creator.0 }, creator.1)) (v, rest) e in
+    let b = bind_some (address_at a.0.1) (λ creator. Some (record { counter = a.0.0; creator = creator.0 }, creator.1)) (v, rest) a.2 in
+    let t = counter_part.takes bytes a.0.0 a.0.1 a.1 in
+    let u = address_part.takes a.0.1 b.0.0 b.0.1 b.1 in
+    let made : ViewId = record { counter = a.0.0; creator = b.0.0 } in
+    subst (λ (p : ViewId × List ℕ). (bytes ≡ view_id_bytes p.0 ++ p.1) × IsViewId p.0) (some_is (made, b.0.1) (v, rest) b.2)
+    (joined bytes (big_bytes 8 a.0.0) a.0.1 (address_bytes b.0.0) b.0.1 t.0 u.0, record { counter = t.1.0; counter_fits = t.1.1; creator = u.1 })
+
+view_id_again : (v : ViewId) (rest : List ℕ) → IsViewId v → view_id_at (view_id_bytes v ++ rest) ≡ Some (v, rest)
+unfolding view_id_at
+view_id_again v rest is =
+    ap view_id_at (append_assoc (big_bytes 8 v.counter) (address_bytes v.creator) rest)
+    ∙ rw (counter_part.again v.counter (address_bytes v.creator ++ rest) (is.counter, is.counter_fits), address_part.again v.creator rest is.creator) refl
+
+pub view_id_part : IsPart view_id_at view_id_bytes IsViewId
+view_id_part = record { takes = view_id_takes; again = view_id_again }
+
+-- ---- tokens
+
+abbrev count_part : IsPart (number_at 8 0 GREATEST_NUMBER) (big_bytes 8) (IsWithin 0 GREATEST_NUMBER)
+count_part = number_part 8 0 GREATEST_NUMBER wide8 (omega arith)
+
+token_takes : (bytes : List ℕ) (t : Token) (rest : List ℕ) → token_at bytes ≡ Some (t, rest) → (bytes ≡ token_bytes t ++ rest) × IsToken t
+unfolding token_at
+token_takes bytes v rest e =
+    let a = bind_some (view_id_at bytes) (λ view. number_at 8 0 GREATEST_NUMBER view.1 >>= λ count. Some (record { view = view.0; count = count.0 }, count.1)) (v, rest) e in
+    let b = bind_some (number_at 8 0 GREATEST_NUMBER a.0.1) (λ count. Some (record { view = a.0.0; count = count.0 }, count.1)) (v, rest) a.2 in
+    let t = view_id_takes bytes a.0.0 a.0.1 a.1 in
+    let u = count_part.takes a.0.1 b.0.0 b.0.1 b.1 in
+    let made : Token = record { view = a.0.0; count = b.0.0 } in
+    subst (λ (p : Token × List ℕ). (bytes ≡ token_bytes p.0 ++ p.1) × IsToken p.0) (some_is (made, b.0.1) (v, rest) b.2)
+    (joined bytes (view_id_bytes a.0.0) a.0.1 (big_bytes 8 b.0.0) b.0.1 t.0 u.0, record { view = t.1; count = u.1.1 })
+
+token_again : (t : Token) (rest : List ℕ) → IsToken t → token_at (token_bytes t ++ rest) ≡ Some (t, rest)
+unfolding token_at
+token_again t rest is =
+    ap token_at (append_assoc (view_id_bytes t.view) (big_bytes 8 t.count) rest)
+    ∙ rw (view_id_again t.view (big_bytes 8 t.count ++ rest) is.view, count_part.again t.count rest (omega arith, is.count)) refl
+
+pub token_part : IsPart token_at token_bytes IsToken
+token_part = record { takes = token_takes; again = token_again }
+
+-- ---- those who wait
+
+pub record AreWaiters (ps : List Address) : Type 0 where
+  pub each : AllByRecursion IsAddress ps
+  pub few : length ps ≤ 4294967295
+
+abbrev number_of_part : IsPart (number_at 4 0 4294967295) (big_bytes 4) (IsWithin 0 4294967295)
+number_of_part = number_part 4 0 4294967295 wide4 (omega arith)
+
+waiters_takes : (bytes : List ℕ) (ps : List Address) (rest : List ℕ) → waiters_at bytes ≡ Some (ps, rest) → (bytes ≡ waiters_bytes ps ++ rest) × AreWaiters ps
+unfolding waiters_at
+waiters_takes bytes ps rest e =
+    let a = bind_some (number_at 4 0 4294967295 bytes) (λ count. list_at address_at count.0 count.1) (ps, rest) e in
+    let t = number_of_part.takes bytes a.0.0 a.0.1 a.1 in
+    let u = list_takes address_at address_bytes IsAddress address_part a.0.0 a.0.1 ps rest a.2 in
+    let both : bytes ≡ (big_bytes 4 a.0.0 ++ flat_map address_bytes ps) ++ rest = joined bytes (big_bytes 4 a.0.0) a.0.1 (flat_map address_bytes ps) rest t.0 u.0 in
+    (subst (λ (n : ℕ). bytes ≡ (big_bytes 4 n ++ flat_map address_bytes ps) ++ rest) (sym u.1) both, record { each = u.2; few = omega (arith, u.1, t.1.1) })
+
+waiters_again : (ps : List Address) (rest : List ℕ) → AreWaiters ps → waiters_at (waiters_bytes ps ++ rest) ≡ Some (ps, rest)
+unfolding waiters_at
+waiters_again ps rest are =
+    ap waiters_at (append_assoc (big_bytes 4 (length ps)) (flat_map address_bytes ps) rest)
+    ∙ rw (number_of_part.again (length ps) (flat_map address_bytes ps ++ rest) (omega arith, are.few), list_again address_at address_bytes IsAddress address_part ps rest are.each) refl
+
+-- ---- locks
+
+-- the locks that can be spelled
+pub record IsShort (l : Lock) : Type 0 where
+  pub is : IsLock l
+  pub few : length l.waiters ≤ 4294967295
+
+lock_takes : (bytes : List ℕ) (l : Lock) (rest : List ℕ) → lock_at bytes ≡ Some (l, rest) → (bytes ≡ lock_bytes l ++ rest) × IsShort l
+unfolding lock_at
+lock_takes bytes l rest e =
+    let a = bind_some (address_at bytes) (λ holder. token_at holder.1 >>= λ token. waiters_at token.1 >>= λ waiters. Some (record { holder = holder.0; token = token.0; waiters = waiters.0 }, waiters.1)) (l, rest) e in
+    let b = bind_some (token_at a.0.1) (λ token. waiters_at token.1 >>= λ waiters. Some (record { holder = a.0.0; token = token.0; waiters = waiters.0 }, waiters.1)) (l, rest) a.2 in
+    let c = bind_some (waiters_at b.0.1) (λ waiters. Some (record { holder = a.0.0; token = b.0.0; waiters = waiters.0 }, waiters.1)) (l, rest) b.2 in
+    let t = address_part.takes bytes a.0.0 a.0.1 a.1 in
+    let u = token_takes a.0.1 b.0.0 b.0.1 b.1 in
+    let v = waiters_takes b.0.1 c.0.0 c.0.1 c.1 in
+    let made : Lock = record { holder = a.0.0; token = b.0.0; waiters = c.0.0 } in
+    let parts = joined a.0.1 (token_bytes b.0.0) b.0.1 (waiters_bytes c.0.0) c.0.1 u.0 v.0 in
+    subst (λ (p : Lock × List ℕ). (bytes ≡ lock_bytes p.0 ++ p.1) × IsShort p.0) (some_is (made, c.0.1) (l, rest) c.2)
+    (joined bytes (address_bytes a.0.0) a.0.1 (token_bytes b.0.0 ++ waiters_bytes c.0.0) c.0.1 t.0 parts, record { is = record { holder = t.1; token = u.1; waiters = v.1.each }; few = v.1.few })
+
+lock_again : (l : Lock) (rest : List ℕ) → IsShort l → lock_at (lock_bytes l ++ rest) ≡ Some (l, rest)
+unfolding lock_at
+lock_again l rest short =
+    ap lock_at (append_assoc (address_bytes l.holder) (token_bytes l.token ++ waiters_bytes l.waiters) rest ∙ ap (λ (t : List ℕ). address_bytes l.holder ++ t) (append_assoc (token_bytes l.token) (waiters_bytes l.waiters) rest))
+    ∙ rw (address_part.again l.holder (token_bytes l.token ++ (waiters_bytes l.waiters ++ rest)) short.is.holder, token_again l.token (waiters_bytes l.waiters ++ rest) short.is.token, waiters_again l.waiters rest (record { each = short.is.waiters; few = short.few })) refl
+
+-- ---- entries
+
+pub record IsShortEntry (e : Entry Lock) : Type 0 where
+  pub name : IsKey e.key
+  pub lock : IsShort e.value
+
+entry_takes : (bytes : List ℕ) (x : Entry Lock) (rest : List ℕ) → entry_at bytes ≡ Some (x, rest) → (bytes ≡ entry_bytes x ++ rest) × IsShortEntry x
+unfolding entry_at
+entry_takes bytes x rest e =
+    let a = bind_some (key_at bytes) (λ name. lock_at name.1 >>= λ lock. Some (entry_of name.0 lock.0, lock.1)) (x, rest) e in
+    let b = bind_some (lock_at a.0.1) (λ lock. Some (entry_of a.0.0 lock.0, lock.1)) (x, rest) a.2 in
+    let t = key_takes bytes a.0.0 a.0.1 a.1 in
+    let u = lock_takes a.0.1 b.0.0 b.0.1 b.1 in
+    subst (λ (p : Entry Lock × List ℕ). (bytes ≡ entry_bytes p.0 ++ p.1) × IsShortEntry p.0) (some_is (entry_of a.0.0 b.0.0, b.0.1) (x, rest) b.2)
+    (joined bytes (key_bytes a.0.0) a.0.1 (lock_bytes b.0.0) b.0.1 t.0 u.0, record { name = t.1; lock = u.1 })
+
+entry_again : (x : Entry Lock) (rest : List ℕ) → IsShortEntry x → entry_at (entry_bytes x ++ rest) ≡ Some (x, rest)
+unfolding entry_at
+entry_again x rest is =
+    ap entry_at (append_assoc (key_bytes x.key) (lock_bytes x.value) rest)
+    ∙ rw (key_again x.key (lock_bytes x.value ++ rest) is.name, lock_again x.value rest is.lock) refl
+
+pub entry_part : IsPart entry_at entry_bytes IsShortEntry
+entry_part = record { takes = entry_takes; again = entry_again }

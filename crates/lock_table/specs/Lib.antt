@@ -1,0 +1,10 @@
+pub mod Locks
+pub mod Encoding
+pub mod Commands
+pub mod Meanings
+pub mod Turns
+pub mod TokenLaws
+pub mod EncodingLaws
+pub mod TableLaws
+pub mod StepLaws
+pub mod CommandLaws

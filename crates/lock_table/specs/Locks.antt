@@ -1,0 +1,216 @@
+-- The table of locks, and what each command makes of it.
+use Rattle.std.specs.Prelude.{◌≡◌, ℕ, ◌+◌, ◌*◌, ◌≤◌, Bool, true, false, List, [], ◌∷◌, ◌++◌, length, Option, Some, None, not, nat_le, nat_lt, if◌then◌else◌}
+use Rattle.std.specs.List.{AllByRecursion, filter, sum_by}
+use Rattle.std.specs.Option.{option_map}
+use Rattle.std.specs.Borrow.{Bor}
+use Rattle.std.specs.Ordering.{nat_cmp, ordering_then, is_lt, is_le}
+use Rattle.std.specs.declared.cmp.Ordering.{Ordering}
+use Rattle.address.specs.Ids.{Address, ViewId, view_id_cmp, same_address, IsAddress}
+use Rattle.view.specs.Members.{View, stands_in}
+use Rattle.limits.specs.declared.TheConstants.{STATE, GREATEST_NUMBER}
+use Rattle.keyed_entries.specs.declared.Entry.{Entry}
+use Rattle.keyed_entries.specs.Entries.{entry_of, value_of, put, without, Rises}
+use Rattle.keyed_entries.specs.Keys.{IsKey}
+use Rattle.lock_table.specs.declared.token.Token.{Token}
+use Rattle.lock_table.specs.declared.command.Command.{Command}
+use Rattle.lock_table.specs.declared.command.Command.TheVariants.{Acquire, Release, Roll}
+
+-- ---- tokens
+
+-- the order of tokens: by their views, then by their counts
+abbrev pub token_cmp : Token → Token → Ordering
+token_cmp a b = ordering_then (view_id_cmp a.view b.view) (nat_cmp a.count b.count)
+
+abbrev pub IsBelow : Token → Token → Type 0
+IsBelow a b = is_lt (token_cmp a b) ≡ true
+
+-- whether a token is another one or below it
+abbrev pub is_up_to : Token → Token → Bool
+is_up_to a b = is_le (token_cmp a b)
+
+-- the least token, which none is granted
+abbrev pub least_token : Token
+least_token = record { view = record { counter = 1; creator = record { node = 1; incarnation = 1 } }; count = 0 }
+
+-- the token of the next grant, by a command of a view: the view's first where it is above that of the last token, or else the one after the last
+abbrev pub next_token : ViewId → Token → Token
+next_token view last = if is_lt (view_id_cmp last.view view) then record { view = view; count = 1 } else record { view = last.view; count = last.count + 1 }
+
+-- ---- locks
+
+-- a lock that is held: by whom, with which token, and who waits for it, in the order of their requests
+pub record Lock : Type 0 where
+  pub holder : Address
+  pub token : Token
+  pub waiters : List Address
+
+-- who stand at a lock: its holder, and behind it those who wait
+abbrev pub queue : Lock → List Address
+queue l = l.holder ∷ l.waiters
+
+-- a lock that nobody waits for
+abbrev pub granted : Address → Token → Lock
+granted p token = record { holder = p; token = token; waiters = [] }
+
+-- who asks for a lock that is held waits behind the others, if it does not stand there already
+abbrev pub joined_by : Address → Lock → Lock
+joined_by p l = if stands_in p (queue l) then l else record { holder = l.holder; token = l.token; waiters = l.waiters ++ p ∷ [] }
+
+-- what becomes of a lock, and the last token that was granted
+pub record Outcome : Type 0 where
+  pub lock : Option Lock
+  pub last : Token
+
+-- the first of those who wait holds the lock, with the next token; where none waits it is free
+abbrev pub passed_on : Token → Token → List Address → Outcome
+passed_on last next [] = record { lock = None; last = last }
+passed_on last next (p ∷ ps) = record { lock = Some (record { holder = p; token = next; waiters = ps }); last = next }
+
+-- only some stay at a lock: its holder, if it stays, holds on, with its token; else the lock is passed on
+abbrev pub left_to : (Address → Bool) → ViewId → Token → Lock → Outcome
+left_to stays view last l =
+    if stays l.holder
+    then record { lock = Some (record { holder = l.holder; token = l.token; waiters = filter stays l.waiters }); last = last }
+    else passed_on last (next_token view last) (filter stays l.waiters)
+
+abbrev pub passed_to : Token → Token → Lock → List Address → Lock × Token
+passed_to last next l [] = (l, last)
+passed_to last next l (p ∷ ps) = (record { holder = p; token = next; waiters = ps }, next)
+
+-- a lock that is passed on in its place if its holder does not stay, and the last token; where none waits it stays as it was
+abbrev pub passed : Bool → ViewId → Token → Lock → Lock × Token
+passed true view last l = (l, last)
+passed false view last l = passed_to last (next_token view last) l l.waiters
+
+-- a lock as it was left in its place: it is held where its holder stays, and otherwise free
+pub record IsLeft (stays : Address → Bool) (o : Outcome) (left : Lock) (token : Token) : Type 0 where
+  pub lock : o.lock ≡ (if stays left.holder then Some left else None)
+  pub last : o.last ≡ token
+
+-- ---- the table
+
+-- whether a lock's holder stays
+abbrev pub holder_in : (Address → Bool) → Entry Lock → Bool
+holder_in stays e = stays e.value.holder
+
+-- the last token that was granted, and the locks that are held, by their names
+pub record Table : Type 0 where
+  pub last : Token
+  pub locks : List (Entry Lock)
+
+abbrev pub table_of : Token → List (Entry Lock) → Table
+table_of last locks = record { last = last; locks = locks }
+
+-- how many bytes a lock is encoded in: the length of its name in one, its holder in 6, its token in 22, the number of those who wait in 4, each of them in 6
+abbrev pub lock_size : Entry Lock → ℕ
+lock_size e = 33 + length e.key + 6 * length e.value.waiters
+
+-- how many bytes a table with these locks is encoded in: the last token in 22, the number of locks in 4
+abbrev pub table_size : List (Entry Lock) → ℕ
+table_size locks = 26 + sum_by lock_size locks
+
+-- one asks for a lock
+abbrev pub asked : Address → ViewId → List ℕ → Table → Option Lock → Table
+asked p view name s None = record { last = next_token view s.last; locks = put name (granted p (next_token view s.last)) s.locks }
+asked p view name s (Some l) = record { last = s.last; locks = put name (joined_by p l) s.locks }
+
+abbrev pub acquired : Address → ViewId → List ℕ → Table → Table
+acquired p view name s = asked p view name s (value_of name s.locks)
+
+-- the locks with what became of a name's
+abbrev pub with_lock : List ℕ → Option Lock → List (Entry Lock) → List (Entry Lock)
+with_lock name None locks = without name locks
+with_lock name (Some l) locks = put name l locks
+
+-- all but one stay
+abbrev pub others : Address → Address → Bool
+others p q = not (same_address p q)
+
+-- one leaves a lock, which it holds or waits for
+abbrev pub gone_from : Address → ViewId → List ℕ → Table → Option Lock → Table
+gone_from p view name s None = s
+gone_from p view name s (Some l) = record { last = (left_to (others p) view s.last l).last; locks = with_lock name (left_to (others p) view s.last l).lock s.locks }
+
+abbrev pub released : Address → ViewId → List ℕ → Table → Table
+released p view name s = gone_from p view name s (value_of name s.locks)
+
+-- a lock, if it is held, before others
+abbrev pub before : List ℕ → Option Lock → Table → Table
+before name None rest = rest
+before name (Some l) rest = record { last = rest.last; locks = entry_of name l ∷ rest.locks }
+
+-- only some stay, at each lock, in the order of the names
+abbrev pub rolled : (Address → Bool) → ViewId → Token → List (Entry Lock) → Table
+rolled stays view last [] = record { last = last; locks = [] }
+rolled stays view last (e ∷ es) = before e.key (left_to stays view last e.value).lock (rolled stays view (left_to stays view last e.value).last es)
+
+-- a table by which the state would no longer fit stays away
+abbrev pub within : Table → Table → Table
+within s new = if nat_le (table_size new.locks) STATE then new else s
+
+-- the lock of a name
+abbrev pub lock_of : List ℕ → Table → Option Lock
+lock_of name s = value_of name s.locks
+
+-- ---- what is lent of it
+
+abbrev pub lock_lent : Option (Bor Lock) → Option Lock
+lock_lent found = option_map (λ l. l.now) found
+
+abbrev pub entry_lent : Option (Bor (List ℕ) × Bor Lock) → Option (Entry Lock)
+entry_lent found = option_map (λ e. entry_of e.0.now e.1.now) found
+
+-- ---- the commands
+
+abbrev pub view_of : Command → ViewId
+view_of (Acquire view name) = view
+view_of (Release view name) = view
+view_of (Roll view) = view.id
+
+-- whether so few numbers are left that not each lock could be granted once more, and one beside them
+abbrev pub is_used_up : ViewId → Table → Bool
+is_used_up view s = nat_lt GREATEST_NUMBER ((next_token view s.last).count + length s.locks)
+
+-- what a command makes of the table
+abbrev pub members : View → Address → Bool
+members view p = stands_in p view.members
+
+abbrev pub obeyed : Address → Command → Table → Table
+obeyed from (Acquire view name) s = within s (acquired from view name s)
+obeyed from (Release view name) s = released from view name s
+obeyed from (Roll view) s = if same_address from view.id.creator then rolled (members view) view.id s.last s.locks else s
+
+abbrev pub carried_out : Address → Command → Table → Table
+carried_out from c s = if is_used_up (view_of c) s then s else obeyed from c s
+
+-- ---- the tables that there are
+
+pub record IsViewId (v : ViewId) : Type 0 where
+  pub counter : 1 ≤ v.counter
+  pub counter_fits : v.counter ≤ GREATEST_NUMBER
+  pub creator : IsAddress v.creator
+
+pub record IsToken (t : Token) : Type 0 where
+  pub view : IsViewId t.view
+  pub count : t.count ≤ GREATEST_NUMBER
+
+pub record IsLock (l : Lock) : Type 0 where
+  pub holder : IsAddress l.holder
+  pub token : IsToken l.token
+  pub waiters : AllByRecursion IsAddress l.waiters
+
+pub record IsEntry (e : Entry Lock) : Type 0 where
+  pub name : IsKey e.key
+  pub lock : IsLock e.value
+
+-- no lock has a token above the last
+abbrev pub AreUpTo : Token → List (Entry Lock) → Type 0
+AreUpTo last locks = AllByRecursion (λ e. is_up_to e.value.token last ≡ true) locks
+
+-- the states of a table: the names rise, no token is above the last, and the encoding fits into a state
+pub record IsTable (s : Table) : Type 0 where
+  pub last : IsToken s.last
+  pub locks : AllByRecursion IsEntry s.locks
+  pub tokens : AreUpTo s.last s.locks
+  pub rises : Rises s.locks
+  pub fits : table_size s.locks ≤ STATE

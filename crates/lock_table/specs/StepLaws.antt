@@ -1,0 +1,297 @@
+-- Each step of the table leaves it a table.
+use Rattle.std.proofs.Common.{◌≡◌, ℕ, suc, ◌+◌, ◌*◌, ◌≤◌, Bool, true, false, cond, leb, List, [], ◌∷◌, ◌++◌, length, Option, Some, None, refl, ap, subst, ◌∙◌, arith}
+use Rattle.std.specs.List.{AllByRecursion, filter, sum_by}
+use Rattle.std.specs.Ordering.{match_ordering}
+use Rattle.std.specs.declared.cmp.Ordering.{Ordering}
+use Rattle.std.specs.declared.cmp.Ordering.TheVariants.{Less, Equal, Greater}
+use Rattle.std.proofs.lemmas.Bool.{leb-true}
+use Rattle.std.proofs.lemmas.List.Sums.{sum_by-cons}
+use Rattle.address.specs.Ids.{Address, ViewId, IsAddress}
+use Rattle.view.specs.Members.{stands_in}
+use Rattle.limits.specs.declared.TheConstants.{STATE, GREATEST_NUMBER}
+use Rattle.keyed_entries.specs.declared.Entry.{Entry}
+use Rattle.keyed_entries.specs.Entries.{key_cmp, entry_of, value_of, put, without, Rises}
+use Rattle.keyed_entries.specs.EntryLaws.{all-put, all-without, rises-put, rises-without, IsBelowAll}
+use Rattle.keyed_entries.specs.Keys.{IsKey}
+use Rattle.lock_table.specs.declared.token.Token.{Token}
+use Rattle.lock_table.specs.Locks.{Lock, Outcome, Table, queue, granted, joined_by, passed_on, left_to, table_of, lock_size, table_size, next_token, acquired, asked, with_lock, others, gone_from, released, before, rolled, within, is_up_to, IsViewId, IsToken, IsLock, IsEntry, AreUpTo, IsTable}
+use Rattle.lock_table.specs.TokenLaws.{up-trans, up-refl, below-is-up, next-above, next-next, next-is-token}
+
+-- ---- lists
+
+pub all-by : {X : Type 0} (P Q : X → Type 0) → ((x : X) → P x → Q x) → (xs : List X) → AllByRecursion P xs → AllByRecursion Q xs
+all-by P Q f [] all = tt
+all-by P Q f (x ∷ xs) all = (f x all.0, all-by P Q f xs all.1)
+
+all-filter : {X : Type 0} (P : X → Type 0) (test : X → Bool) (xs : List X) → AllByRecursion P xs → AllByRecursion P (filter test xs)
+all-filter P test [] all = tt
+all-filter P test (x ∷ xs) all = by (test x) (all-filter P test xs all.1) where
+  by : (b : Bool) → AllByRecursion P (filter test xs) → AllByRecursion P (cond b (x ∷ filter test xs) (filter test xs))
+  by true rest = (all.0, rest)
+  by false rest = rest
+
+all-push : {X : Type 0} (P : X → Type 0) (xs : List X) (x : X) → AllByRecursion P xs → P x → AllByRecursion P (xs ++ x ∷ [])
+all-push P [] x all one = (one, tt)
+all-push P (y ∷ xs) x all one = (all.0, all-push P xs x all.1 one)
+
+few-filter : {X : Type 0} (test : X → Bool) (xs : List X) → length (filter test xs) ≤ length xs
+few-filter test [] = omega arith
+few-filter test (x ∷ xs) = by (test x) (few-filter test xs) where
+  by : (b : Bool) → length (filter test xs) ≤ length xs → length (cond b (x ∷ filter test xs) (filter test xs)) ≤ suc (length xs)
+  by true rest = omega (arith, rest)
+  by false rest = omega (arith, rest)
+
+-- what holds of each entry's lock holds of a name's
+pub holds-of : (Q : Lock → Type 0) (name : List ℕ) (es : List (Entry Lock)) (l : Lock) → AllByRecursion (λ e. Q e.value) es → value_of name es ≡ Some l → Q l
+holds-of Q name [] l all at = absurd cc
+holds-of Q name (e ∷ es) l all at = by (key_cmp name e.key) (holds-of Q name es l all.1) at where
+  by : (o : Ordering) → (value_of name es ≡ Some l → Q l) → match_ordering o None (Some e.value) (value_of name es) ≡ Some l → Q l
+  by Less rest at = absurd cc
+  by Equal rest at = let same : e.value ≡ l = cc in subst Q same all.0
+  by Greater rest at = rest at
+
+-- ---- tokens
+
+pub all-up : (a b : Token) (es : List (Entry Lock)) → AreUpTo a es → is_up_to a b ≡ true → AreUpTo b es
+all-up a b es up more = all-by (λ e. is_up_to e.value.token a ≡ true) (λ e. is_up_to e.value.token b ≡ true) (λ e one. up-trans e.value.token a b one more) es up
+
+pub next-up : (view : ViewId) (last : Token) → is_up_to last (next_token view last) ≡ true
+next-up view last = below-is-up last (next_token view last) (next-above view last)
+
+-- ---- sizes
+
+pub size-put : (name : List ℕ) (es : List (Entry Lock)) (l k : Lock) → value_of name es ≡ Some l → sum_by lock_size (put name k es) + 6 * length l.waiters ≡ sum_by lock_size es + 6 * length k.waiters
+size-put name [] l k at = absurd cc
+size-put name (e ∷ es) l k at = by (key_cmp name e.key) (size-put name es l k) at where
+  by : (o : Ordering) → (value_of name es ≡ Some l → sum_by lock_size (put name k es) + 6 * length l.waiters ≡ sum_by lock_size es + 6 * length k.waiters) → match_ordering o None (Some e.value) (value_of name es) ≡ Some l
+      → sum_by lock_size (match_ordering o (entry_of name k ∷ e ∷ es) (entry_of e.key k ∷ es) (e ∷ put name k es)) + 6 * length l.waiters ≡ sum_by lock_size (e ∷ es) + 6 * length k.waiters
+  by Less rest at = absurd cc
+  by Equal rest at =
+      let same : e.value ≡ l = cc in
+      let many : length e.value.waiters ≡ length l.waiters = ap (λ (x : Lock). length x.waiters) same in
+      omega (arith, many, sum_by-cons lock_size (entry_of e.key k) es, sum_by-cons lock_size e es)
+  by Greater rest at = let less = rest at in omega (arith, less, sum_by-cons lock_size e (put name k es), sum_by-cons lock_size e es)
+
+size-without : (name : List ℕ) (es : List (Entry Lock)) → sum_by lock_size (without name es) ≤ sum_by lock_size es
+size-without name [] = omega arith
+size-without name (e ∷ es) = by (key_cmp name e.key) (size-without name es) where
+  by : (o : Ordering) → sum_by lock_size (without name es) ≤ sum_by lock_size es → sum_by lock_size (match_ordering o (e ∷ es) es (e ∷ without name es)) ≤ sum_by lock_size (e ∷ es)
+  by Less rest = omega arith
+  by Equal rest = omega (arith, sum_by-cons lock_size e es)
+  by Greater rest = omega (arith, rest, sum_by-cons lock_size e es, sum_by-cons lock_size e (without name es))
+
+-- ---- a lock that some leave
+
+-- what holds of a lock that is left by some, and of the last token
+pub record IsKept (l : Lock) (last : Token) (o : Outcome) (k : Lock) : Type 0 where
+  pub is : IsLock k
+  pub up : is_up_to k.token o.last ≡ true
+  pub few : length k.waiters ≤ length l.waiters
+
+pub record IsSound (view : ViewId) (l : Lock) (before : Token) (o : Outcome) : Type 0 where
+  pub token : IsToken o.last
+  pub up : is_up_to before o.last ≡ true
+  pub next : (next_token view o.last).count ≤ (next_token view before).count + 1
+  pub lock : (k : Lock) → o.lock ≡ Some k → IsKept l before o k
+
+pub left-sound : (stays : Address → Bool) (view : ViewId) (last : Token) (l : Lock) → IsLock l → is_up_to l.token last ≡ true → IsToken last → IsViewId view → (next_token view last).count ≤ GREATEST_NUMBER → IsSound view l last (left_to stays view last l)
+left-sound stays view last l is up token id few = by (stays l.holder) where
+  next : Token
+  next = next_token view last
+
+  unchanged : (o : Option Lock) → ((k : Lock) → o ≡ Some k → IsKept l last (record { lock = o; last = last }) k) → IsSound view l last (record { lock = o; last = last })
+  unchanged o lock = record { token = token; up = up-refl last; next = omega arith; lock = lock }
+
+  waiting : AllByRecursion IsAddress (filter stays l.waiters)
+  waiting = all-filter IsAddress stays l.waiters is.waiters
+
+  by-first : (ps : List Address) → AllByRecursion IsAddress ps → length ps ≤ length l.waiters → IsSound view l last (passed_on last (next_token view last) ps)
+  by-first [] all less = unchanged None (λ k e. absurd cc)
+  by-first (p ∷ ps) all less = record {
+    token = next-is-token view last id token few;
+    up = next-up view last;
+    next = omega (arith, next-next view last);
+    lock = λ k e. subst (λ (x : Lock). IsKept l last (record { lock = Some (record { holder = p; token = next_token view last; waiters = ps }); last = next_token view last }) x) (some-is (record { holder = p; token = next_token view last; waiters = ps }) k e) (record {
+      is = record { holder = all.0; token = next-is-token view last id token few; waiters = all.1 };
+      up = up-refl (next_token view last);
+      few = omega (arith, less);
+    });
+  } where
+    some-is : (x y : Lock) → Some x ≡ Some y → x ≡ y
+    some-is x y e = cc
+
+  by : (b : Bool) → IsSound view l last (cond b (record { lock = Some (record { holder = l.holder; token = l.token; waiters = filter stays l.waiters }); last = last }) (passed_on last (next_token view last) (filter stays l.waiters)))
+  by true = unchanged (Some (record { holder = l.holder; token = l.token; waiters = filter stays l.waiters })) (λ k e. held k e) where
+    held : (k : Lock) → Some (record { holder = l.holder; token = l.token; waiters = filter stays l.waiters }) ≡ Some k → IsKept l last (record { lock = Some (record { holder = l.holder; token = l.token; waiters = filter stays l.waiters }); last = last }) k
+    held k e =
+        let same : record { holder = l.holder; token = l.token; waiters = filter stays l.waiters } ≡ k = cc in
+        subst (λ (x : Lock). IsKept l last (record { lock = Some (record { holder = l.holder; token = l.token; waiters = filter stays l.waiters }); last = last }) x) same (record { is = record { holder = is.holder; token = is.token; waiters = waiting }; up = up; few = few-filter stays l.waiters })
+  by false = by-first (filter stays l.waiters) waiting (few-filter stays l.waiters)
+
+-- ---- a roll
+
+-- what holds of the locks, and of the last token, after a roll
+pub record IsRolled (last : Token) (es : List (Entry Lock)) (s : Table) : Type 0 where
+  pub token : IsToken s.last
+  pub up : is_up_to last s.last ≡ true
+  pub locks : AllByRecursion IsEntry s.locks
+  pub tokens : AreUpTo s.last s.locks
+  pub below : (k : List ℕ) → IsBelowAll k es → IsBelowAll k s.locks
+  pub rises : Rises s.locks
+  pub size : sum_by lock_size s.locks ≤ sum_by lock_size es
+
+-- what is needed of them before it
+pub record MayRoll (view : ViewId) (last : Token) (es : List (Entry Lock)) : Type 0 where
+  pub id : IsViewId view
+  pub token : IsToken last
+  pub locks : AllByRecursion IsEntry es
+  pub tokens : AreUpTo last es
+  pub rises : Rises es
+  pub few : (next_token view last).count + length es ≤ GREATEST_NUMBER
+
+pub roll-goes-on : (view : ViewId) (last : Token) (e : Entry Lock) (es : List (Entry Lock)) (o : Outcome) → MayRoll view last (e ∷ es) → IsSound view e.value last o → MayRoll view o.last es
+roll-goes-on view last e es o may sound = record {
+  id = may.id;
+  token = sound.token;
+  locks = may.locks.1;
+  tokens = all-up last o.last es may.tokens.1 sound.up;
+  rises = may.rises.1;
+  few = let few : (next_token view last).count + suc (length es) ≤ GREATEST_NUMBER = may.few in omega (arith, few, sound.next);
+}
+
+pub first-sound : (stays : Address → Bool) (view : ViewId) (last : Token) (e : Entry Lock) (es : List (Entry Lock)) → MayRoll view last (e ∷ es) → IsSound view e.value last (left_to stays view last e.value)
+first-sound stays view last e es may =
+    let few : (next_token view last).count + suc (length es) ≤ GREATEST_NUMBER = may.few in
+    left-sound stays view last e.value may.locks.0.lock may.tokens.0 may.token may.id (omega (arith, few))
+
+pub rolled-is : (stays : Address → Bool) (view : ViewId) (last : Token) (es : List (Entry Lock)) → MayRoll view last es → IsRolled last es (rolled stays view last es)
+rolled-is stays view last [] may = record { token = may.token; up = up-refl last; locks = tt; tokens = tt; below = λ k all. tt; rises = tt; size = omega arith }
+rolled-is stays view last (e ∷ es) may =
+    let o = left_to stays view last e.value in
+    let sound = first-sound stays view last e es may in
+    by o.lock sound.lock sound.up (rolled-is stays view o.last es (roll-goes-on view last e es o may sound))
+  where
+    by : (k : Option Lock) → ((l : Lock) → k ≡ Some l → IsKept e.value last (left_to stays view last e.value) l) → is_up_to last (left_to stays view last e.value).last ≡ true
+        → IsRolled (left_to stays view last e.value).last es (rolled stays view (left_to stays view last e.value).last es)
+        → IsRolled last (e ∷ es) (before e.key k (rolled stays view (left_to stays view last e.value).last es))
+    by None lock up rest = record {
+      token = rest.token;
+      up = up-trans last _ _ up rest.up;
+      locks = rest.locks;
+      tokens = rest.tokens;
+      below = λ k all. rest.below k all.1;
+      rises = rest.rises;
+      size = omega (arith, rest.size, sum_by-cons lock_size e es);
+    }
+    by (Some l) lock up rest =
+        let kept = lock l refl in
+        record {
+          token = rest.token;
+          up = up-trans last _ _ up rest.up;
+          locks = (record { name = may.locks.0.name; lock = kept.is }, rest.locks);
+          tokens = (up-trans l.token _ _ kept.up rest.up, rest.tokens);
+          below = λ k all. (all.0, rest.below k all.1);
+          rises = (rest.below e.key may.rises.0, rest.rises);
+          size = omega (arith, rest.size, kept.few, sum_by-cons lock_size e es, sum_by-cons lock_size (entry_of e.key l) (rolled stays view (left_to stays view last e.value).last es).locks);
+        }
+
+pub rolled-is-table : (stays : Address → Bool) (view : ViewId) (s : Table) → IsViewId view → IsTable s → (next_token view s.last).count + length s.locks ≤ GREATEST_NUMBER → IsTable (rolled stays view s.last s.locks)
+rolled-is-table stays view s id is few =
+    let r = rolled-is stays view s.last s.locks (record { id = id; token = is.last; locks = is.locks; tokens = is.tokens; rises = is.rises; few = few }) in
+    let fits : table_size s.locks ≤ STATE = is.fits in
+    record { last = r.token; locks = r.locks; tokens = r.tokens; rises = r.rises; fits = omega (arith, fits, r.size) }
+
+-- ---- a release
+
+released-by : (p : Address) (view : ViewId) (name : List ℕ) (s : Table) (l : Lock) → IsTable s → IsViewId view → IsKey name → value_of name s.locks ≡ Some l → (next_token view s.last).count ≤ GREATEST_NUMBER → IsTable (gone_from p view name s (Some l))
+released-by p view name s l is id key at few = by o.lock sound.lock where
+  o : Outcome
+  o = left_to (others p) view s.last l
+
+  of-lock : IsLock l
+  of-lock = holds-of IsLock name s.locks l (all-by IsEntry (λ e. IsLock e.value) (λ e one. one.lock) s.locks is.locks) at
+
+  of-token : is_up_to l.token s.last ≡ true
+  of-token = holds-of (λ x. is_up_to x.token s.last ≡ true) name s.locks l is.tokens at
+
+  sound : IsSound view l s.last o
+  sound = left-sound (others p) view s.last l of-lock of-token is.last id few
+
+  tokens : AreUpTo o.last s.locks
+  tokens = all-up s.last o.last s.locks is.tokens sound.up
+
+  by : (k : Option Lock) → ((x : Lock) → k ≡ Some x → IsKept l s.last o x) → IsTable (table_of o.last (with_lock name k s.locks))
+  by None lock =
+      let fits : table_size s.locks ≤ STATE = is.fits in
+      record {
+        last = sound.token;
+        locks = all-without IsEntry name s.locks is.locks;
+        tokens = all-without (λ e. is_up_to e.value.token o.last ≡ true) name s.locks tokens;
+        rises = rises-without name s.locks is.rises;
+        fits = omega (arith, fits, size-without name s.locks);
+      }
+  by (Some x) lock =
+      let fits : table_size s.locks ≤ STATE = is.fits in
+      let kept = lock x refl in
+      record {
+        last = sound.token;
+        locks = all-put IsEntry name x s.locks is.locks (record { name = key; lock = kept.is }) (λ e one. record { name = one.name; lock = kept.is });
+        tokens = all-put (λ e. is_up_to e.value.token o.last ≡ true) name x s.locks tokens kept.up (λ e one. kept.up);
+        rises = rises-put name x s.locks is.rises;
+        fits = omega (arith, fits, kept.few, size-put name s.locks l x at);
+      }
+
+pub released-is-table : (p : Address) (view : ViewId) (name : List ℕ) (s : Table) → IsTable s → IsViewId view → IsKey name → (next_token view s.last).count ≤ GREATEST_NUMBER → IsTable (released p view name s)
+released-is-table p view name s is id key few = by (value_of name s.locks) refl where
+  by : (o : Option Lock) → value_of name s.locks ≡ o → IsTable (gone_from p view name s o)
+  by None at = is
+  by (Some l) at = released-by p view name s l is id key at few
+
+-- ---- an acquisition
+
+-- what holds of a table but that it fits
+pub record IsTableBut (s : Table) : Type 0 where
+  pub last : IsToken s.last
+  pub locks : AllByRecursion IsEntry s.locks
+  pub tokens : AreUpTo s.last s.locks
+  pub rises : Rises s.locks
+
+pub within-is-table : (s new : Table) → IsTable s → IsTableBut new → IsTable (within s new)
+within-is-table s new is but = by (leb (table_size new.locks) STATE) refl where
+  by : (b : Bool) → leb (table_size new.locks) STATE ≡ b → IsTable (cond b new s)
+  by true e = record { last = but.last; locks = but.locks; tokens = but.tokens; rises = but.rises; fits = leb-true _ _ e }
+  by false e = is
+
+joined-is-lock : (p : Address) (l : Lock) → IsAddress p → IsLock l → IsLock (joined_by p l)
+joined-is-lock p l address is = by (stands_in p (queue l)) where
+  by : (b : Bool) → IsLock (cond b l (record { holder = l.holder; token = l.token; waiters = l.waiters ++ p ∷ [] }))
+  by true = is
+  by false = record { holder = is.holder; token = is.token; waiters = all-push IsAddress l.waiters p is.waiters address }
+
+joined-token : (p : Address) (l : Lock) → (joined_by p l).token ≡ l.token
+joined-token p l = by (stands_in p (queue l)) where
+  by : (b : Bool) → (cond b l (record { holder = l.holder; token = l.token; waiters = l.waiters ++ p ∷ [] })).token ≡ l.token
+  by true = refl
+  by false = refl
+
+pub acquired-is-table : (p : Address) (view : ViewId) (name : List ℕ) (s : Table) → IsTable s → IsAddress p → IsViewId view → IsKey name → (next_token view s.last).count ≤ GREATEST_NUMBER → IsTable (within s (acquired p view name s))
+acquired-is-table p view name s is address id key few = within-is-table s (acquired p view name s) is (by (value_of name s.locks) refl) where
+  by : (o : Option Lock) → value_of name s.locks ≡ o → IsTableBut (asked p view name s o)
+  by None at =
+      let next = next_token view s.last in
+      let token = next-is-token view s.last id is.last few in
+      record {
+        last = token;
+        locks = all-put IsEntry name (granted p next) s.locks is.locks (record { name = key; lock = record { holder = address; token = token; waiters = tt } }) (λ e one. record { name = one.name; lock = record { holder = address; token = token; waiters = tt } });
+        tokens = all-put (λ e. is_up_to e.value.token next ≡ true) name (granted p next) s.locks (all-up s.last next s.locks is.tokens (next-up view s.last)) (up-refl next) (λ e one. up-refl next);
+        rises = rises-put name (granted p next) s.locks is.rises;
+      }
+  by (Some l) at =
+      let lock = joined-is-lock p l address (holds-of IsLock name s.locks l (all-by IsEntry (λ e. IsLock e.value) (λ e one. one.lock) s.locks is.locks) at) in
+      let up : is_up_to (joined_by p l).token s.last ≡ true = ap (λ (t : Token). is_up_to t s.last) (joined-token p l) ∙ holds-of (λ x. is_up_to x.token s.last ≡ true) name s.locks l is.tokens at in
+      record {
+        last = is.last;
+        locks = all-put IsEntry name (joined_by p l) s.locks is.locks (record { name = key; lock = lock }) (λ e one. record { name = one.name; lock = lock });
+        tokens = all-put (λ e. is_up_to e.value.token s.last ≡ true) name (joined_by p l) s.locks is.tokens up (λ e one. up);
+        rises = rises-put name (joined_by p l) s.locks is.rises;
+      }

@@ -1,0 +1,221 @@
+//! Commands and tables from bytes, in one pass.
+
+ghost use Rattle.std.specs.Prelude.{◌≡◌, IfOk};
+ghost use Rattle.reading.specs.Reading.{IsReadOrNone, list_at, address_at};
+ghost use Rattle.lock_table.specs.Encoding.{view_id_at, token_at, waiters_at, lock_at, entry_at, table_at, table_decode, are_up_to};
+ghost use Rattle.lock_table.specs.Commands.{view_at, acquire_at, release_at, roll_at, command_at};
+ghost use Rattle.lock_table.specs.Locks.{table_of};
+
+use crate::held::Held;
+use crate::{Command, Lock, Token};
+use address::{Address, ViewId};
+use keyed_entries::{Entry, is_rising, key_from};
+use limits::{GREATEST_NUMBER, MEMBERS, STATE};
+use reading::Reader;
+use std::alloc::{AllocError, Global};
+use std::cmp::Ordering;
+use trace_props::Bytes;
+use view::{Addresses, View};
+
+#[tactic(auto, unfolding(crate::specs::Encoding::view_id_at))]
+fn view_id_from(from: &mut Reader<'_>) -> Option<ViewId>
+    ensures { IsReadOrNone (λ x. (x, from.new)) result (view_id_at from.old) }
+{
+    let counter = from.u64(1, GREATEST_NUMBER)?;
+    let creator = from.address()?;
+    ViewId::new(counter, creator)
+}
+
+#[tactic(auto, unfolding(crate::specs::Encoding::token_at))]
+fn token_from(from: &mut Reader<'_>) -> Option<Token>
+    ensures { IsReadOrNone (λ x. (x, from.new)) result (token_at from.old) }
+{
+    let view = view_id_from(from)?;
+    let count = from.u64(0, GREATEST_NUMBER)?;
+    Some(Token { view, count })
+}
+
+fn some_addresses(
+    alloc: Global,
+    count: u32,
+    from: &mut Reader<'_>,
+) -> Result<Option<Vec<Address>>, AllocError>
+    ensures { IfOk result (λ list. IsReadOrNone (λ l. (l.items, from.new)) list (list_at address_at count from.old)) }
+{
+    let mut list = Vec::new(alloc);
+    for _ in 0..count {
+        let Some(address) = from.address() else {
+            return Ok(None);
+        };
+        list.push(address)?;
+    }
+    Ok(Some(list))
+}
+
+#[tactic(auto, unfolding(crate::specs::Encoding::waiters_at))]
+fn waiters_from(alloc: Global, from: &mut Reader<'_>) -> Result<Option<Vec<Address>>, AllocError>
+    ensures { IfOk result (λ list. IsReadOrNone (λ l. (l.items, from.new)) list (waiters_at from.old)) }
+{
+    let Some(count) = from.u32(0, u32::MAX) else {
+        return Ok(None);
+    };
+    some_addresses(alloc, count, from)
+}
+
+#[tactic(auto, unfolding(crate::specs::Encoding::lock_at))]
+fn lock_from(alloc: Global, from: &mut Reader<'_>) -> Result<Option<Lock>, AllocError>
+    ensures { IfOk result (λ l. IsReadOrNone (λ x. (x, from.new)) l (lock_at from.old)) }
+{
+    let Some(holder) = from.address() else {
+        return Ok(None);
+    };
+    let Some(token) = token_from(from) else {
+        return Ok(None);
+    };
+    let Some(waiters) = waiters_from(alloc, from)? else {
+        return Ok(None);
+    };
+    Ok(Some(Lock::new(holder, token, waiters)))
+}
+
+#[tactic(auto, unfolding(crate::specs::Encoding::entry_at))]
+fn entry_from(alloc: Global, from: &mut Reader<'_>) -> Result<Option<Entry<Lock>>, AllocError>
+    ensures { IfOk result (λ e. IsReadOrNone (λ x. (x, from.new)) e (entry_at from.old)) }
+{
+    let Some(name) = key_from(from) else {
+        return Ok(None);
+    };
+    let Some(value) = lock_from(alloc, from)? else {
+        return Ok(None);
+    };
+    let key = Bytes::from_slice(alloc, name.as_slice())?;
+    Ok(Some(Entry { key, value }))
+}
+
+fn some_entries(
+    alloc: Global,
+    count: u32,
+    from: &mut Reader<'_>,
+) -> Result<Option<Vec<Entry<Lock>>>, AllocError>
+    ensures { IfOk result (λ entries. IsReadOrNone (λ l. (l.items, from.new)) entries (list_at entry_at count from.old)) }
+{
+    let mut entries = Vec::new(alloc);
+    for _ in 0..count {
+        let Some(entry) = entry_from(alloc, from)? else {
+            return Ok(None);
+        };
+        entries.push(entry)?;
+    }
+    Ok(Some(entries))
+}
+
+#[tactic(auto, unfolding(crate::specs::Encoding::table_at))]
+fn held_from(alloc: Global, from: &mut Reader<'_>) -> Result<Option<Held>, AllocError>
+    ensures { IfOk result (λ held. IsReadOrNone (λ h. (table_of h.last h.locks.items, from.new)) held (table_at from.old)) }
+{
+    let Some(last) = token_from(from) else {
+        return Ok(None);
+    };
+    let Some(count) = from.u32(0, u32::MAX) else {
+        return Ok(None);
+    };
+    let Some(locks) = some_entries(alloc, count, from)? else {
+        return Ok(None);
+    };
+    Ok(Some(Held { last, locks }))
+}
+
+// Whether no lock has a token above the last.
+fn are_up_to(last: Token, locks: &[Entry<Lock>]) -> bool
+    ensures { result ≡ are_up_to last locks.now }
+{
+    locks.iter().all(|entry| entry.value.token().cmp(&last) != Ordering::Greater)
+}
+
+// The last token and the locks of the table that bytes stand for.
+#[tactic(auto, unfolding(crate::specs::Encoding::table_decode))]
+pub(crate) fn held_of(alloc: Global, bytes: &[u8]) -> Result<Option<Held>, AllocError>
+    ensures { IfOk result (λ held. IsReadOrNone (λ h. table_of h.last h.locks.items) held (table_decode bytes.now)) }
+{
+    let mut from = Reader::new(bytes);
+    let Some(held) = held_from(alloc, &mut from)? else {
+        return Ok(None);
+    };
+    if !from.is_empty() {
+        return Ok(None);
+    }
+    if bytes.len() > STATE {
+        return Ok(None);
+    }
+    if !is_rising(held.locks.as_slice()) {
+        return Ok(None);
+    }
+    if !are_up_to(held.last, held.locks.as_slice()) {
+        return Ok(None);
+    }
+    Ok(Some(held))
+}
+
+#[tactic(auto, unfolding(crate::specs::Commands::view_at))]
+fn view_from(alloc: Global, from: &mut Reader<'_>) -> Result<Option<View>, AllocError>
+    ensures { IfOk result (λ v. IsReadOrNone (λ x. (x, from.new)) v (view_at from.old)) }
+{
+    let Some(id) = view_id_from(from) else {
+        return Ok(None);
+    };
+    let Some(count) = from.u8(1, MEMBERS as u8) else {
+        return Ok(None);
+    };
+    let Some(members) = some_addresses(alloc, u32::from(count), from)? else {
+        return Ok(None);
+    };
+    Ok(View::new(id, Addresses::from_vec(members)).ok())
+}
+
+#[tactic(auto, unfolding(crate::specs::Commands::acquire_at))]
+fn acquire_from<'a>(from: &mut Reader<'a>) -> Option<Command<'a>>
+    ensures { IsReadOrNone (λ x. (x, from.new)) result (acquire_at from.old) }
+{
+    let view = view_id_from(from)?;
+    let name = key_from(from)?;
+    Some(Command::Acquire { view, name })
+}
+
+#[tactic(auto, unfolding(crate::specs::Commands::release_at))]
+fn release_from<'a>(from: &mut Reader<'a>) -> Option<Command<'a>>
+    ensures { IsReadOrNone (λ x. (x, from.new)) result (release_at from.old) }
+{
+    let view = view_id_from(from)?;
+    let name = key_from(from)?;
+    Some(Command::Release { view, name })
+}
+
+#[tactic(auto, unfolding(crate::specs::Commands::roll_at))]
+fn roll_from<'a>(alloc: Global, from: &mut Reader<'a>) -> Result<Option<Command<'a>>, AllocError>
+    ensures { IfOk result (λ c. IsReadOrNone (λ x. (x, from.new)) c (roll_at from.old)) }
+{
+    let Some(view) = view_from(alloc, from)? else {
+        return Ok(None);
+    };
+    Ok(Some(Command::Roll(view)))
+}
+
+// The command that bytes begin with.
+#[tactic(auto, unfolding(crate::specs::Commands::command_at))]
+pub(crate) fn command_from<'a>(
+    alloc: Global,
+    from: &mut Reader<'a>,
+) -> Result<Option<Command<'a>>, AllocError>
+    ensures { IfOk result (λ c. IsReadOrNone (λ x. (x, from.new)) c (command_at from.old)) }
+{
+    let Some(kind) = from.u8(1, 3) else {
+        return Ok(None);
+    };
+    if kind == 1 {
+        return Ok(acquire_from(from));
+    }
+    if kind == 2 {
+        return Ok(release_from(from));
+    }
+    roll_from(alloc, from)
+}

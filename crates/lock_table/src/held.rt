@@ -1,0 +1,140 @@
+//! What is held, and how commands change it.
+
+ghost use Rattle.std.specs.Prelude.{◌≡◌, false, length, IfOk, OnOk, OnErr};
+ghost use Rattle.address.specs.Ids.{IsAddress};
+ghost use Rattle.keyed_entries.specs.Entries.{entry_of};
+ghost use Rattle.lock_table.specs.Locks.{IsTable, IsViewId, within, acquired, released, rolled, members, is_used_up, table_of, granted, holder_in};
+ghost use Rattle.lock_table.specs.StepLaws.{MayRoll};
+ghost use Rattle.std.specs.List.{filter};
+
+use crate::size::size_of_all;
+use crate::{Lock, Token};
+use address::{Address, ViewId};
+use keyed_entries::{Entry, KeyBytes, Place, find};
+use limits::STATE;
+use std::alloc::{AllocError, Global};
+use trace_props::Bytes;
+use view::View;
+
+// The last token that was granted, and the locks that are held, their names rising.
+#[derive(Debug, Drop)]
+pub(crate) struct Held {
+    pub(crate) last: Token,
+    pub(crate) locks: Vec<Entry<Lock>>,
+}
+
+// What a program holds as an address is one. It does nothing; its clause is a fact for proofs.
+fn known_address(address: Address)
+    ensures { IsAddress address }
+{
+    let _node = address.node().number();
+    let _incarnation = address.incarnation();
+}
+
+// What a program holds as a view id is one. It does nothing; its clause is a fact for proofs.
+fn known_view_id(view: ViewId)
+    ensures { IsViewId view }
+{
+    let _counter = view.counter();
+    known_address(view.creator());
+}
+
+// The entry of a lock that is granted, and that nobody waits for.
+fn granted(
+    alloc: Global,
+    name: &KeyBytes<'_>,
+    holder: Address,
+    token: &Token,
+) -> Result<Entry<Lock>, AllocError>
+    ensures { IfOk result (λ e. e ≡ entry_of name.now (granted holder token.now)) }
+{
+    let key = Bytes::from_slice(alloc, name.as_slice())?;
+    Ok(Entry {
+        key,
+        value: Lock::new(holder, *token, Vec::new(alloc)),
+    })
+}
+
+// Lets all go, at each lock, who are no members of a view. A lock that became free names its former holder still. Gives the last token.
+fn roll_each(locks: &mut [Entry<Lock>], view: &View, last: Token) -> Token
+    requires { MayRoll view.now.id last locks.old }
+    ensures len { length locks.new ≡ length locks.old }
+    ensures rolls { table_of result (filter (holder_in (members view.now)) locks.new) ≡ rolled (members view.now) view.now.id last locks.old }
+{
+    let mut last = last;
+    for entry in locks.iter_mut() {
+        last = entry.value.roll(view, last);
+    }
+    last
+}
+
+impl Held {
+    // Has one hold a lock or wait for it. Where memory is refused, all is as before.
+    pub(crate) fn acquire(
+        &mut self,
+        from: Address,
+        view: ViewId,
+        name: &KeyBytes<'_>,
+    ) -> Result<(), AllocError>
+        requires table { IsTable (table_of self.old.last self.old.locks.items) }
+        requires numbers { is_used_up view (table_of self.old.last self.old.locks.items) ≡ false }
+        ensures ok { OnOk result (table_of self.new.last self.new.locks.items ≡ within (table_of self.old.last self.old.locks.items) (acquired from view name.now (table_of self.old.last self.old.locks.items))) }
+        ensures err { OnErr result (table_of self.new.last self.new.locks.items ≡ table_of self.old.last self.old.locks.items) }
+        ensures kept { IsTable (table_of self.new.last self.new.locks.items) }
+    {
+        known_address(from);
+        known_view_id(view);
+        let size = size_of_all(self.locks.as_slice());
+        match find(self.locks.as_slice(), name.as_slice()) {
+            Place::Held(i) => {
+                let lock = &mut self.locks[i].value;
+                if lock.has(&from) {
+                    return Ok(());
+                }
+                if size + 6 <= STATE {
+                    lock.join(from)?;
+                }
+                Ok(())
+            }
+            Place::Free(i) => {
+                if size + 33 + name.as_slice().len() <= STATE {
+                    let token = self.last.next(view);
+                    let entry = granted(*self.locks.allocator(), name, from, &token)?;
+                    self.locks.insert(i, entry)?;
+                    self.last = token;
+                }
+                Ok(())
+            }
+        }
+    }
+
+    // Has one hold a lock no more, and not wait for it.
+    pub(crate) fn release(&mut self, from: Address, view: ViewId, name: &KeyBytes<'_>)
+        requires table { IsTable (table_of self.old.last self.old.locks.items) }
+        requires numbers { is_used_up view (table_of self.old.last self.old.locks.items) ≡ false }
+        ensures kept { IsTable (table_of self.new.last self.new.locks.items) }
+        ensures makes { table_of self.new.last self.new.locks.items ≡ released from view name.now (table_of self.old.last self.old.locks.items) }
+    {
+        known_view_id(view);
+        if let Place::Held(i) = find(self.locks.as_slice(), name.as_slice()) {
+            let lock = &mut self.locks[i].value;
+            self.last = lock.release(from, view, self.last);
+            if lock.holder() == from {
+                self.locks.remove(i);
+            }
+        }
+    }
+
+    // Has only members of a view hold locks and wait for them.
+    pub(crate) fn roll(&mut self, view: &View)
+        requires table { IsTable (table_of self.old.last self.old.locks.items) }
+        requires numbers { is_used_up view.now.id (table_of self.old.last self.old.locks.items) ≡ false }
+        ensures kept { IsTable (table_of self.new.last self.new.locks.items) }
+        ensures makes { table_of self.new.last self.new.locks.items ≡ rolled (members view.now) view.now.id self.old.last self.old.locks.items }
+    {
+        known_view_id(view.id());
+        self.last = roll_each(self.locks.as_mut_slice(), view, self.last);
+        self.locks
+            .retain(|entry| view.contains(&entry.value.holder()));
+    }
+}

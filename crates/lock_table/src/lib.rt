@@ -1,0 +1,25 @@
+//! A table of locks: all copies that were given the same commands agree on who holds each lock, who waits for it, and with which token it was granted
+//! (docs/FORMATS.md, "The table of locks").
+#![tactic(auto)]
+
+mod command;
+mod decoding;
+mod encoding;
+mod held;
+mod law;
+mod lock;
+mod size;
+mod table;
+mod token;
+
+pub use command::Command;
+pub use law::{
+    in_turn, one_encoding, one_holder, one_spelling, release_by_another, roll_again, tokens_rise,
+};
+use limits::MEMBERS;
+pub use lock::Lock;
+pub use table::LockTable;
+pub use token::Token;
+
+/// The most bytes that a command is spelled in: a roll's kind and number of members in one each, its view's id in 14, and each member in six.
+pub const LONGEST_COMMAND: usize = 1 + 14 + 1 + 6 * MEMBERS;

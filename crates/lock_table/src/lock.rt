@@ -1,0 +1,117 @@
+//! A lock that is held: who holds it, with which token, and who waits.
+
+ghost use Rattle.std.specs.Prelude.{◌≡◌, ◌<◌, ◌^◌, false, OnOk, OnErr};
+ghost use Rattle.view.specs.Members.{stands_in};
+ghost use Rattle.lock_table.specs.Locks.{IsLeft, queue, granted, joined_by, passed, left_to, others, members};
+
+use crate::Token;
+use address::{Address, ViewId};
+use std::alloc::{AllocError, Global};
+use std::marker::Model;
+use view::View;
+
+/// A lock that is held: who holds it, the token with which it was granted, and who waits for it, in the order of their requests.
+#[derive(Debug, Drop)]
+pub struct Lock {
+    holder: Address,
+    token: Token,
+    waiters: Vec<Address>,
+}
+
+impl Model for Lock {
+    ghost use Rattle.lock_table.specs.Locks.{Lock};
+
+    ghost Value = { Lock };
+
+    ghost view = { λ l. record { holder = l.holder; token = l.token; waiters = l.waiters.items } };
+}
+
+fn stands_in(address: &Address, list: &[Address]) -> bool
+    ensures { result ≡ stands_in address.now list.now }
+{
+    list.iter().any(|member| *address == *member)
+}
+
+impl Lock {
+    // A lock of this holder and token, for which those wait.
+    pub(crate) fn new(holder: Address, token: Token, waiters: Vec<Address>) -> Lock
+        ensures { result ≡ record { holder = holder; token = token; waiters = waiters.items } }
+    {
+        Lock {
+            holder,
+            token,
+            waiters,
+        }
+    }
+
+    /// Who holds it.
+    pub fn holder(&self) -> Address
+        ensures { result ≡ self.now.holder }
+    {
+        self.holder
+    }
+
+    /// The token with which it was granted.
+    pub fn token(&self) -> Token
+        ensures { result ≡ self.now.token }
+    {
+        self.token
+    }
+
+    /// Who waits for it, in the order of their requests.
+    pub fn waiters(&self) -> &[Address]
+        ensures { result.now ≡ self.now.waiters }
+    {
+        self.waiters.as_slice()
+    }
+
+    /// Whether one holds it or waits for it.
+    pub fn has(&self, address: &Address) -> bool
+        ensures { result ≡ stands_in address.now (queue self.now) }
+    {
+        *address == self.holder || stands_in(address, self.waiters.as_slice())
+    }
+
+    // Has one wait behind the others, who does not stand there. Where memory is refused, the lock is as before.
+    pub(crate) fn join(&mut self, address: Address) -> Result<(), AllocError>
+        requires { stands_in address (queue self.old) ≡ false }
+        ensures ok { OnOk result (self.new ≡ joined_by address self.old) }
+        ensures err { OnErr result (self.new ≡ self.old) }
+    {
+        self.waiters.push(address)?;
+        Ok(())
+    }
+
+    // Passes it on to the first who waits, with the next token after the last one, if its holder does not stay. Gives the last token.
+    fn pass_on(&mut self, stays: bool, view: ViewId, last: Token) -> Token
+        requires { last.count < 2 ^ 63 }
+        ensures { (self.new, result) ≡ passed stays view last self.old }
+    {
+        if stays || self.waiters.is_empty() {
+            return last;
+        }
+        self.holder = self.waiters.remove(0);
+        self.token = last.next(view);
+        self.token
+    }
+
+    // Lets one go. The lock is free afterwards where that one is its holder still. Gives the last token.
+    pub(crate) fn release(&mut self, address: Address, view: ViewId, last: Token) -> Token
+        requires { last.count < 2 ^ 63 }
+        ensures { IsLeft (others address) (left_to (others address) view last self.old) self.new result }
+    {
+        self.waiters.retain(|waiter| address != *waiter);
+        let stays = address != self.holder;
+        self.pass_on(stays, view, last)
+    }
+
+    // Lets all go who are no members of a view. The lock is free afterwards where its holder is none. Gives the last token.
+    pub(crate) fn roll(&mut self, view: &View, last: Token) -> Token
+        requires { last.count < 2 ^ 63 }
+        ensures { IsLeft (members view.now) (left_to (members view.now) view.now.id last self.old) self.new result }
+    {
+        self.waiters.retain(|waiter| view.contains(waiter));
+        let stays = view.contains(&self.holder);
+        self.pass_on(stays, view.id(), last)
+    }
+}

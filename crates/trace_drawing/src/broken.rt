@@ -1,0 +1,147 @@
+//! The mark of a broken rule: where it breaks, and which it is, in words.
+
+ghost use Rattle.std.specs.Prelude.{◌≡◌, ◌++◌, ◌∷◌, List, codes, slice_get, OnOk};
+ghost use Rattle.trace_drawing.specs.Broken.{words_of, broken_start, broken_words, broken_group, broken_in, broken_text, room_for};
+ghost use Rattle.std.specs.Option.{option_copied};
+
+use crate::marks::{Mark, place_of, x_of, y_of};
+use crate::row::Row;
+use crate::spelling::{put_mark, put_text_start};
+use std::alloc::AllocError;
+use trace_props::{Event, Rule, Verdict};
+use vsync_text::{append_event, put};
+
+/// How the mark of a broken rule looks, and its words: in print and on a light ground, and on a dark one.
+pub const BROKEN_STYLE: &[u8] = b"<style>\
+.f{stroke:#d01c1c;stroke-width:2;stroke-dasharray:6 2}\
+.q{font-weight:bold;fill:#d01c1c;paint-order:stroke;stroke:#fff;stroke-width:3px}\
+@media screen and (prefers-color-scheme:dark){\
+.f{stroke:#ff7070}.q{fill:#ff7070;stroke:#16181c}}\
+</style>";
+
+/// How much wider a picture is for the words of a broken rule.
+pub const WORDS: u64 = 260;
+
+/// What is wrong where a rule breaks.
+fn words_of(rule: Rule) -> &'static [u8]
+    ensures { result.now ≡ words_of rule }
+{
+    match rule {
+        Rule::WellPlaced => b"happens out of place",
+        Rule::RisingViews => b"not a view that it may install",
+        Rule::SoundMessages => b"not its sender's next message",
+        Rule::OneOrder => b"delivered in another order",
+        Rule::SameNext => b"other messages delivered before",
+        Rule::Together => b"others came together with it",
+        Rule::HandedBack => b"other messages to be handed back",
+        Rule::StateOfEntry => b"enters with another state",
+    }
+}
+
+/// How much wider a picture is for a verdict.
+pub fn room_for(verdict: Verdict) -> u64
+    ensures { result ≡ room_for verdict }
+{
+    match verdict {
+        Verdict::Holds => 0,
+        Verdict::Breaks { rule: _, place: _ } => WORDS,
+    }
+}
+
+// Appends the beginning of a broken rule's group.
+fn put_broken_start(out: &mut Vec<u8>, rule: Rule, event: &Event) -> Result<(), AllocError>
+    ensures { OnOk result (out.new.items ≡ out.old.items ++ broken_start rule event.now) }
+{
+    put(out, b"<g><title>")?;
+    put(out, words_of(rule))?;
+    put(out, b"\n")?;
+    append_event(out, event)?;
+    put(out, b"</title>")
+}
+
+// Appends the words beside the mark of a broken rule.
+fn put_broken_words(
+    out: &mut Vec<u8>,
+    rule: Rule,
+    level: u32,
+    column: u32,
+) -> Result<(), AllocError>
+    ensures { OnOk result (out.new.items ≡ out.old.items ++ broken_words rule level column) }
+{
+    put_text_start(out, b"q", x_of(column) + 112, y_of(level) + 4)?;
+    put(out, words_of(rule))?;
+    put(out, b"</text>")
+}
+
+// Appends all that is drawn of a rule that an event breaks.
+fn put_broken_group(
+    out: &mut Vec<u8>,
+    rule: Rule,
+    row: &Row,
+    event: &Event,
+) -> Result<(), AllocError>
+    ensures { OnOk result (out.new.items ≡ out.old.items ++ broken_group rule row.now event.now) }
+{
+    put_broken_start(out, rule, event)?;
+    put_mark(out, Mark::Broken(place_of(row.level, row.column)))?;
+    put_broken_words(out, rule, row.level, row.column)?;
+    put(out, b"</g>\n")
+}
+
+// Appends what is drawn of a rule that breaks in a row, where there is one.
+fn put_broken_in(
+    out: &mut Vec<u8>,
+    rule: Rule,
+    row: Option<&Row>,
+    event: Option<&Event>,
+) -> Result<(), AllocError>
+    ensures { OnOk result (out.new.items ≡ out.old.items ++ broken_in rule (option_copied row.entry) (option_copied event.entry)) }
+{
+    match row {
+        None => Ok(()),
+        Some(row) => match event {
+            None => Ok(()),
+            Some(event) => {
+                put(out, BROKEN_STYLE)?;
+                put_broken_group(out, rule, row, event)
+            }
+        },
+    }
+}
+
+// Appends what is drawn of a rule that breaks at a place, from 1.
+fn put_broken_at(
+    out: &mut Vec<u8>,
+    rows: &[Row],
+    events: &[Event],
+    rule: Rule,
+    place: u64,
+) -> Result<(), AllocError>
+    ensures { OnOk result (out.new.items ≡ out.old.items ++ broken_text rows.now events.now (Verdict.Breaks rule place)) }
+{
+    if place == 0 {
+        return Ok(());
+    }
+    match u32::try_from(place - 1) {
+        Err(_) => Err(AllocError),
+        Ok(number) => {
+            let index = number as usize;
+            put_broken_in(out, rule, rows.get(index), events.get(index))
+        }
+    }
+}
+
+/// Appends what is drawn of a verdict.
+pub fn put_broken(
+    out: &mut Vec<u8>,
+    rows: &[Row],
+    events: &[Event],
+    verdict: Verdict,
+) -> Result<(), AllocError>
+    ensures { OnOk result (out.new.items ≡ out.old.items ++ broken_text rows.now events.now verdict) }
+{
+    match verdict {
+        Verdict::Holds => Ok(()),
+        Verdict::Breaks { rule, place } => put_broken_at(out, rows, events, rule, place),
+    }
+}

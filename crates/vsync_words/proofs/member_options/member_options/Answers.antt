@@ -1,0 +1,22 @@
+use Rattle.std.proofs.Common.{◌∙◌, sym, codes}
+use Rattle.clap.specs.Words.{found_of}
+use Rattle.clap.proofs.WalkLemmas.{first_value-rows}
+use Rattle.vsync_words.proofs.Grammars.{flag_is}
+use Rattle.vsync_words.proofs.member_options.member_options.Goals as goal
+
+pub returns : goal.returns
+returns c =
+    let f = found_of c.args.matches.now in
+    record {
+      tick = c.in_ok-tick.ensures;
+      merge = c.in_ok-merge.ensures;
+      incarnation_file = sym (first_value-rows f (codes "incarnation-file")) ∙ sym c.get_str.ensures;
+      say = sym (first_value-rows f (codes "say")) ∙ sym c.get_str-2.ensures;
+      bind = sym (first_value-rows f (codes "bind")) ∙ sym c.get_str-3.ensures;
+      peers = c.in-Ok.ensures;
+      forever = flag_is f (codes "forever") c.get_flag.result c.get_flag.ensures.none c.get_flag.ensures.value c.get_flag.ensures.other;
+      leave = flag_is f (codes "leave") c.get_flag-2.result c.get_flag-2.ensures.none c.get_flag-2.ensures.value c.get_flag-2.ensures.other;
+      text = flag_is f (codes "text") c.get_flag-3.result c.get_flag-3.ensures.none c.get_flag-3.ensures.value c.get_flag-3.ensures.other;
+      stats = flag_is f (codes "stats") c.get_flag-4.result c.get_flag-4.ensures.none c.get_flag-4.ensures.value c.get_flag-4.ensures.other;
+      long = flag_is f (codes "long") c.get_flag-5.result c.get_flag-5.ensures.none c.get_flag-5.ensures.value c.get_flag-5.ensures.other;
+    }

@@ -1,0 +1,240 @@
+//! The options of `member`.
+
+ghost use Rattle.std.specs.Prelude.{◌≡◌, ◌≤◌, [], codes, map, unwrap_or, IfOk, IfSome};
+ghost use Rattle.clap.specs.Words.{App, all_of, found_of, rows_of};
+ghost use Rattle.vsync_words.specs.Grammar.{flag_rule, numeric_rule, repeated_rule, times_app, files_app, hosts_app, flags_app, options_app, AreMemberOptions, IsArg, IsCommand, IsOptionalIn};
+
+use crate::udp_words::option;
+use clap::builder::ValueParser;
+use clap::{Arg, ArgAction, ArgMatches};
+use std::alloc::{AllocError, Global};
+
+/// The longest time between two rounds, in milliseconds.
+pub const MOST_TICK: u64 = 1_000;
+
+/// The most rounds between two searches for members outside of the view.
+pub const MOST_MERGE: u64 = 10_000;
+
+/// How a member runs, by its options.
+#[derive(Debug, Drop)]
+pub struct MemberOptions<'a> {
+    /// `--tick MS`: the time between two rounds, 1 to `MOST_TICK` milliseconds.
+    pub tick: Option<u16>,
+    /// `--merge TICKS`: after how many rounds it seeks members that are not in its view, 0 to `MOST_MERGE`; 0 for never.
+    pub merge: Option<u16>,
+    /// `--incarnation-file FILE`: where its last incarnation is kept.
+    pub incarnation_file: Option<&'a str>,
+    /// `--say FILE`: where the lines are appended that it sends.
+    pub say: Option<&'a str>,
+    /// `--bind HOST`: the host whose address it binds.
+    pub bind: Option<&'a str>,
+    /// `--peer NODE=HOST`, for each time that it stands there.
+    pub peers: Vec<&'a str>,
+    /// `--forever`: it has rounds without end, not ROUNDS of them.
+    pub forever: bool,
+    /// `--leave`: it leaves its group at its end.
+    pub leave: bool,
+    /// `--text`: it prints what is said as text.
+    pub text: bool,
+    /// `--stats`: it prints at its end what happened, in numbers.
+    pub stats: bool,
+    /// `--long`: it keeps the long chat.
+    pub long: bool,
+}
+
+// An option whose value is a number in a range.
+fn numeric<'a>(
+    alloc: Global,
+    name: &'a str,
+    value: &'a str,
+    low: u64,
+    high: u64,
+    help: &'a str,
+) -> Arg<'a>
+    ensures { IsArg (numeric_rule name.now low high) result }
+{
+    option(alloc, name, value, help).value_parser(ValueParser::unsigned(low, high))
+}
+
+// An option that may stand there more than once.
+fn repeated<'a>(alloc: Global, name: &'a str, value: &'a str, help: &'a str) -> Arg<'a>
+    ensures { IsArg (repeated_rule name.now) result }
+{
+    option(alloc, name, value, help).action(ArgAction::Append)
+}
+
+// A flag.
+fn flag<'a>(alloc: Global, name: &'a str, help: &'a str) -> Arg<'a>
+    ensures { IsArg (flag_rule name.now) result }
+{
+    Arg::new(alloc, name)
+        .long(name)
+        .action(ArgAction::SetTrue)
+        .help(help)
+}
+
+// A command with the options of times as well.
+fn with_times<'a>(
+    alloc: Global,
+    command: clap::Command<'a>,
+) -> Result<clap::Command<'a>, AllocError>
+    ensures { (app : App) → IsCommand app command.entry → IfOk result (IsCommand (times_app app)) }
+{
+    command
+        .arg(numeric(
+            alloc,
+            "tick",
+            "MS",
+            1,
+            MOST_TICK,
+            "The milliseconds between two rounds, 1 to 1000; 20 where it is not given",
+        ))?
+        .arg(numeric(
+            alloc,
+            "merge",
+            "TICKS",
+            0,
+            MOST_MERGE,
+            "After how many rounds it seeks members that are not in its view, 0 for never; 50 where it is not given",
+        ))
+}
+
+// A command with the options that name files as well.
+fn with_files<'a>(
+    alloc: Global,
+    command: clap::Command<'a>,
+) -> Result<clap::Command<'a>, AllocError>
+    ensures { (app : App) → IsCommand app command.entry → IfOk result (IsCommand (files_app app)) }
+{
+    command
+        .arg(option(
+            alloc,
+            "incarnation-file",
+            "FILE",
+            "Where its last incarnation is kept: it starts with the next one, and with INCARNATION at the first time",
+        ))?
+        .arg(option(
+            alloc,
+            "say",
+            "FILE",
+            "It sends each line that is appended to this file; a line of the byte 4 alone ends it",
+        ))
+}
+
+// A command with the options that name hosts as well.
+fn with_hosts<'a>(
+    alloc: Global,
+    command: clap::Command<'a>,
+) -> Result<clap::Command<'a>, AllocError>
+    ensures { (app : App) → IsCommand app command.entry → IfOk result (IsCommand (hosts_app app)) }
+{
+    command
+        .arg(option(
+            alloc,
+            "bind",
+            "HOST",
+            "The address, or a name of it, of this host at which it receives; 127.0.0.1 where it is not given",
+        ))?
+        .arg(repeated(
+            alloc,
+            "peer",
+            "NODE=HOST",
+            "Where a node is reached, once for each that is not at 127.0.0.1",
+        ))
+}
+
+/// A command with all options of `member` that say how it runs as well.
+pub(crate) fn with_options<'a>(
+    alloc: Global,
+    command: clap::Command<'a>,
+) -> Result<clap::Command<'a>, AllocError>
+    ensures { (app : App) → IsCommand app command.entry → IfOk result (IsCommand (options_app app)) }
+{
+    let command = with_times(alloc, command)?;
+    let command = with_files(alloc, command)?;
+    let command = with_hosts(alloc, command)?;
+    with_flags(alloc, command)
+}
+
+// A command with the flags as well.
+fn with_flags<'a>(
+    alloc: Global,
+    command: clap::Command<'a>,
+) -> Result<clap::Command<'a>, AllocError>
+    ensures { (app : App) → IsCommand app command.entry → IfOk result (IsCommand (flags_app app)) }
+{
+    command
+        .arg(flag(
+            alloc,
+            "forever",
+            "It has rounds without end, whatever ROUNDS says",
+        ))?
+        .arg(flag(alloc, "leave", "It leaves its group at its end"))?
+        .arg(flag(
+            alloc,
+            "text",
+            "It prints what is said as text, and who comes and goes, in place of its trace and its chat",
+        ))?
+        .arg(flag(
+            alloc,
+            "stats",
+            "It prints on the standard error at its end what happened, in numbers",
+        ))?
+        .arg(flag(
+            alloc,
+            "long",
+            "It keeps the last 2000 lines of the chat, not the last 24; all of the group must",
+        ))
+}
+
+// The number of an option, if it stands there.
+fn number_of(matches: &ArgMatches<'_>, name: &str, low: u64, high: u64) -> Option<Option<u16>>
+    requires { high ≤ 65535 }
+    ensures { IfSome result (IsOptionalIn low high name.now (rows_of (found_of matches.now))) }
+{
+    if matches.get_str(name).is_none() {
+        return Some(None);
+    }
+    let number: u16 = matches.get_one(name)?;
+    if u64::from(number) < low || u64::from(number) > high {
+        return None;
+    }
+    Some(Some(number))
+}
+
+// The values of `--peer`.
+fn peers_of<'a>(alloc: Global, matches: &ArgMatches<'a>) -> Result<Vec<&'a str>, AllocError>
+    ensures { IfOk result (λ peers. map (λ s. s.now) peers.items ≡ unwrap_or (all_of (codes "peer") (rows_of (found_of matches.now))) []) }
+{
+    match matches.get_strs("peer") {
+        Some(peers) => Vec::from_slice(alloc, peers),
+        None => Ok(Vec::new(alloc)),
+    }
+}
+
+/// The options of `member` in its matches.
+pub(crate) fn member_options<'a>(
+    alloc: Global,
+    matches: &ArgMatches<'a>,
+) -> Option<MemberOptions<'a>>
+    ensures { IfSome result (AreMemberOptions (rows_of (found_of matches.now))) }
+{
+    let tick = number_of(matches, "tick", 1, MOST_TICK)?;
+    let merge = number_of(matches, "merge", 0, MOST_MERGE)?;
+    let Ok(peers) = peers_of(alloc, matches) else {
+        return None;
+    };
+    Some(MemberOptions {
+        tick,
+        merge,
+        incarnation_file: matches.get_str("incarnation-file"),
+        say: matches.get_str("say"),
+        bind: matches.get_str("bind"),
+        peers,
+        forever: matches.get_flag("forever"),
+        leave: matches.get_flag("leave"),
+        text: matches.get_flag("text"),
+        stats: matches.get_flag("stats"),
+        long: matches.get_flag("long"),
+    })
+}
