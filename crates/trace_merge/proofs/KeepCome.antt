@@ -189,9 +189,18 @@ module _ (processes left : List (List Event)) (awaited : Fact → Bool) (t : Lis
       let at : length (xs ++ ys) - length ys ≡ length xs = omega arith in
       ap (λ (n : ℕ). is_some (slice_get (xs ++ ys) n)) at ∙ ap is_some (seam-first xs ys) ∙ there
 
-  pub unordered : has_next (events_at left k) ≡ true → (n : ℕ) → n ≡ length (events_at processes k) - length (events_at left k) → AreUnordered processes k n
+  pub unordered : has_next (events_at left k) ≡ true → (n : ℕ) → n ≡ length (events_at processes k) - length (events_at left k) → AreUnordered processes (k + 1) (n + 1)
   unordered there n is = record {
     have_none = let first : (x : Event) × (slice_get (events_at left k) 0 ≡ Some x) = some-first (events_at left k) there in have-no-order processes left awaited t h none k first.0 first.1;
+    k = k;
+    n = n;
+    process_is = refl;
+    event_is = refl;
     there = subst (λ (j : ℕ). is_some (slice_get (events_at processes k) j) ≡ true) (sym is)
         (subst (λ (l : List Event). is_some (slice_get l (length l - length (events_at left k))) ≡ true) (h.own_events k) (at-seam (own k h.came) (events_at left k) there));
   }
+
+-- a slice that is there
+pub slice-at : (items there : List (Bor (List Event))) (k : ℕ) (b : Bor (List Event)) → there ≡ items → k < length there → b ≡ slice_index_or there k b → events_at (slices items) k ≡ b.now
+slice-at items there k b same within at =
+    ap (λ (l : List (Bor (List Event))). events_at (slices l) k) (sym same) ∙ get_or-map slice_of there k b [] within ∙ ap slice_of (sym at)

@@ -18,7 +18,7 @@ use trace_props::{Event, Trace};
 /// Why traces are not put together.
 #[derive(Clone, Copy, Debug, PartialEq, Eq, Error)]
 pub enum MergeError {
-    /// They have no such order: where all have come that can, this event of this process waits for one that can only come behind it; both are counted from 0.
+    /// They have no such order: where all have come that can, the event of this number, of the process of this number, waits for one that can only come behind it; both count from 1.
     #[error("the events of the processes have no order")]
     Unordered { process: usize, event: usize },
     /// Memory was refused (7).
@@ -102,21 +102,13 @@ fn first_waiting(left: &[&[Event]]) -> Option<usize>
     left.iter().position(|events| events.first().is_some())
 }
 
-// How many events a process has, and how many of them are left.
+// How many events a process has.
 fn count_of(traces: &[Trace], process: usize) -> usize
-    ensures { result ≡ length (events_at (lists_of traces.now) process) }
+    ensures is { result ≡ length (events_at (lists_of traces.now) process) }
+    ensures small { result < 9223372036854775808 }
 {
     match traces.get(process) {
         Some(trace) => trace.events().len(),
-        None => 0,
-    }
-}
-
-fn count_left(left: &[&[Event]], process: usize) -> usize
-    ensures { result ≡ length (events_at (slices left.now) process) }
-{
-    match left.get(process) {
-        Some(events) => events.len(),
         None => 0,
     }
 }
@@ -192,12 +184,13 @@ impl<'a> Merging<'a> {
         ensures { HaveCome (lists_of traces.now) (slices self.now.left.items) (contains same_fact self.now.awaited) self.now.merged.events
             → NoneIsFree (slices self.now.left.items) (contains same_fact self.now.awaited) → has_next (events_at (slices self.now.left.items) process) ≡ true → IsWhy (lists_of traces.now) result }
     {
+        let Some(left) = self.left.get(process) else {
+            return MergeError::Memory;
+        };
+        let came = count_of(traces, process).saturating_sub(left.len());
         MergeError::Unordered {
-            process,
-            event: count_of(traces, process).saturating_sub(count_left(
-                self.left.as_slice(),
-                process,
-            )),
+            process: process + 1,
+            event: came + 1,
         }
     }
 }
