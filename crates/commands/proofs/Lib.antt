@@ -3,3 +3,4 @@ pub mod FactOfRuns
 pub mod FactOfChatLines
 pub mod FactOfVerdicts
 pub mod FactOfDrawings
+pub mod FactOfProcesses

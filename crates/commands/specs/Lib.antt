@@ -4,3 +4,4 @@ pub mod Chats
 pub mod Packets
 pub mod Refusals
 pub mod Draws
+pub mod Processes

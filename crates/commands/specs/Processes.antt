@@ -1,8 +1,8 @@
 -- What the check of the texts of several processes writes.
-use Rattle.std.specs.Prelude.{◌≡◌, ℕ, zero, suc, ◌+◌, List, [], ◌∷◌, ◌++◌, Option, None, Some, Ok, Err, codes, map, take, slice_get}
+use Rattle.std.specs.Prelude.{◌≡◌, ⊤, ℕ, zero, suc, ◌+◌, List, [], ◌∷◌, ◌++◌, Option, None, Some, Ok, Err, codes, map, take, slice_get}
 use Rattle.std.specs.List.{AllZip}
 use Rattle.std.specs.Fmt.{decimal}
-use Rattle.std.specs.Vec.{Vec}
+use Rattle.std.specs.Global.{Vec}
 use Rattle.state_transfer.specs.Meanings.{Meaning}
 use Rattle.trace_props.specs.declared.event.Event.{Event}
 use Rattle.trace_props.specs.declared.verdict.Rule.{Rule}
@@ -15,16 +15,18 @@ use Rattle.script_reader.specs.declared.fault.Fault.{Fault}
 use Rattle.script_reader.specs.Script.{fault_number}
 use Rattle.vsync_text.specs.TraceText.{line_of}
 use Rattle.trace_reader.specs.Traces.{trace_of}
+use Rattle.commands.specs.declared.processes.UnreadIn.{UnreadIn}
+use Rattle.commands.specs.declared.processes.UnreadIn.TheVariants as unread
 use Rattle.commands.specs.declared.status.Status.{Status}
 use Rattle.commands.specs.declared.status.Status.TheVariants.{Done, Broken, Refused, Memory}
 use Rattle.commands.specs.Outcomes.{Written, memory_line}
 use Rattle.commands.specs.Checks.{broken_line}
 
 -- the bytes of texts, and the trace that one says
-abbrev pub bytes_in : {A : Type 0} → Vec ℕ A → List ℕ
+abbrev pub bytes_in : Vec ℕ → List ℕ
 bytes_in v = v.items
 
-abbrev pub texts_of : {A : Type 0} → List (Vec ℕ A) → List (List ℕ)
+abbrev pub texts_of : List (Vec ℕ) → List (List ℕ)
 texts_of texts = map bytes_in texts
 
 abbrev pub IsTraceOf : List ℕ → List Event → Type 0
@@ -53,19 +55,44 @@ unordered_line text event = codes "unordered " ++ (decimal text ++ 32 ∷ (decim
 abbrev pub faulty_line : ℕ → ℕ → ℕ → List ℕ
 faulty_line text line number = codes "fault " ++ (decimal text ++ 32 ∷ (decimal line ++ 32 ∷ (decimal number ++ 10 ∷ [])))
 
+-- the texts of both: the line; or `# memory`
+pub data IsUnorderedText (process event : ℕ) : Status → List ℕ → Type 0 where
+  Told : IsUnorderedText process event Broken (unordered_line process event)
+  Untold : IsUnorderedText process event Memory memory_line
+
+pub data IsFaultyText (text line number : ℕ) : Status → List ℕ → Type 0 where
+  Told : IsFaultyText text line number Refused (faulty_line text line number)
+  Untold : IsFaultyText text line number Memory memory_line
+
 -- the texts of what the processes say that happened: of the verdict on it in an order; that it has none; or `# memory`
 pub data IsJoinedText {S : Type 0} (meaning : Meaning S) (processes : List (List Event)) : Status → List ℕ → Type 0 where
   Judged : (t : List Event) (v : Verdict) (status : Status) (text : List ℕ) → IsOrderedMerge processes t → IsVerdict meaning t v → IsPlacedText t v status text
       → IsJoinedText meaning processes status text
-  Unordered : (process event : ℕ) → AreUnordered processes process event → IsJoinedText meaning processes Broken (unordered_line (process + 1) (event + 1))
+  Unordered : (process event : ℕ) (status : Status) (text : List ℕ) → AreUnordered processes process event → IsUnorderedText process event status text
+      → IsJoinedText meaning processes status text
   Unjudged : IsJoinedText meaning processes Memory memory_line
+
+-- the text of this number, from 1, has this first fault, and those before it have none
+pub record HasFault (texts : List (List ℕ)) (number line : ℕ) (fault : Fault) : Type 0 where
+  pub before : List (List Event)
+  pub k : ℕ
+  pub bytes : List ℕ
+  pub number_is : number ≡ k + 1
+  pub reads : AllZip IsTraceOf (take k texts) before
+  pub there : slice_get texts k ≡ Some bytes
+  pub faulty : trace_of bytes ≡ Err (record { line = line; fault = fault })
+
+-- why texts are not read
+abbrev pub IsUnreadIn : List (List ℕ) → UnreadIn → Type 0
+IsUnreadIn texts (unread.Fault number line fault) = HasFault texts number line fault
+IsUnreadIn texts unread.Memory = ⊤
 
 -- the texts of the bytes of several texts: of what they say happened; of the first fault of the first that has one; or `# memory`
 pub data IsProcessesText {S : Type 0} (meaning : Meaning S) (texts : List (List ℕ)) : Status → List ℕ → Type 0 where
   Reads : (processes : List (List Event)) (status : Status) (text : List ℕ) → AllZip IsTraceOf texts processes → IsJoinedText meaning processes status text
       → IsProcessesText meaning texts status text
-  Faulty : (before : List (List Event)) (k line : ℕ) (bytes : List ℕ) (fault : Fault) → AllZip IsTraceOf (take k texts) before → slice_get texts k ≡ Some bytes
-      → trace_of bytes ≡ Err (record { line = line; fault = fault }) → IsProcessesText meaning texts Refused (faulty_line (k + 1) line (fault_number fault))
+  Faulty : (number line : ℕ) (fault : Fault) (status : Status) (text : List ℕ) → HasFault texts number line fault → IsFaultyText number line (fault_number fault) status text
+      → IsProcessesText meaning texts status text
   Unread : IsProcessesText meaning texts Memory memory_line
 
 -- the texts of several processes are checked, to a writer

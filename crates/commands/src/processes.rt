@@ -4,9 +4,10 @@ ghost use Rattle.std.specs.Prelude.{◌≡◌, ◌++◌, IfOk, MatchResult};
 ghost use Rattle.std.specs.List.{AllZip};
 ghost use Rattle.std.specs.Option.{option_copied};
 ghost use Rattle.trace_merge.specs.Merges.{lists_of};
+ghost use Rattle.script_reader.specs.Script.{fault_number};
 ghost use Rattle.commands.specs.Outcomes.{Written};
 ghost use Rattle.commands.specs.Checks.{broken_line};
-ghost use Rattle.commands.specs.Processes.{texts_of, IsTraceOf, IsPlacedText, event_at, line_with, IsJoinedText, IsUnreadIn, IsProcessesText, ChecksProcesses};
+ghost use Rattle.commands.specs.Processes.{texts_of, IsTraceOf, IsPlacedText, event_at, line_with, IsUnorderedText, IsFaultyText, IsJoinedText, IsUnreadIn, IsProcessesText, ChecksProcesses};
 
 use crate::Status;
 use crate::checks::code_of;
@@ -24,7 +25,7 @@ use vsync_text::append_event;
 /// Why texts are not read.
 #[derive(Clone, Copy, Debug)]
 pub enum UnreadIn {
-    /// The first of them with a fault, from 0, and its first one, with the number of its line.
+    /// The number of the first of them with a fault, from 1, and its first one, with the number of its line.
     Fault {
         text: usize,
         line: u64,
@@ -42,7 +43,7 @@ fn read_traces(alloc: Global, texts: &[Vec<u8>]) -> Result<Vec<Trace>, UnreadIn>
     for (text, bytes) in texts.iter().enumerate() {
         let trace = match read_trace(alloc, bytes.as_slice()) {
             Ok(trace) => trace,
-            Err(Unread::Fault { line, fault }) => return Err(UnreadIn::Fault { text, line, fault }),
+            Err(Unread::Fault { line, fault }) => return Err(UnreadIn::Fault { text: text + 1, line, fault }),
             Err(Unread::Memory) => return Err(UnreadIn::Memory),
         };
         if traces.push(trace).is_err() {
@@ -97,11 +98,28 @@ fn print_placed<W: Write>(
 }
 
 // Writes that events have no order.
-fn end_unordered<W: Write>(alloc: Global, process: usize, event: usize, writer: &mut W) -> Status {
-    let text = process + 1;
-    let event = event + 1;
-    match format!(in alloc; "unordered {text} {event}\n") {
+fn end_unordered<W: Write>(alloc: Global, process: usize, event: usize, writer: &mut W) -> Status
+    ensures { Written (IsUnorderedText process event) (W.contents writer.old) (W.contents writer.new) result }
+{
+    match format!(in alloc; "unordered {process} {event}\n") {
         Ok(text) => end_with(writer, text.as_bytes(), Status::Broken),
+        Err(_) => end_in_memory(writer),
+    }
+}
+
+// Writes the first fault of a text.
+fn end_faulty<W: Write>(
+    alloc: Global,
+    text: usize,
+    line: u64,
+    fault: Fault,
+    writer: &mut W,
+) -> Status
+    ensures { Written (IsFaultyText text line (fault_number fault)) (W.contents writer.old) (W.contents writer.new) result }
+{
+    let number = fault.number();
+    match format!(in alloc; "fault {text} {line} {number}\n") {
+        Ok(text) => end_with(writer, text.as_bytes(), Status::Refused),
         Err(_) => end_in_memory(writer),
     }
 }
@@ -139,21 +157,5 @@ pub fn run_check_processes<R: Receiver, W: Write>(
             end_faulty(alloc, text, line, fault, writer)
         }
         Err(UnreadIn::Memory) => end_in_memory(writer),
-    }
-}
-
-// Writes the first fault of a text.
-fn end_faulty<W: Write>(
-    alloc: Global,
-    text: usize,
-    line: u64,
-    fault: Fault,
-    writer: &mut W,
-) -> Status {
-    let number = fault.number();
-    let text = text + 1;
-    match format!(in alloc; "fault {text} {line} {number}\n") {
-        Ok(text) => end_with(writer, text.as_bytes(), Status::Refused),
-        Err(_) => end_in_memory(writer),
     }
 }

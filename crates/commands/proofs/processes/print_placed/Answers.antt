@@ -1,0 +1,27 @@
+use Rattle.std.proofs.Common.{◌≡◌, ◌∙◌, sym, subst, List, ℕ, codes, ◌++◌}
+use Rattle.trace_props.specs.declared.verdict.Verdict.{Verdict}
+use Rattle.trace_props.specs.declared.verdict.Verdict.TheVariants.{Breaks}
+use Rattle.commands.specs.declared.status.Status.TheVariants.{Done, Broken, Memory}
+use Rattle.commands.specs.Outcomes.{memory_line}
+use Rattle.commands.specs.Checks.{broken_line}
+use Rattle.commands.specs.Processes.{IsPlacedText, event_at, line_with}
+use Rattle.commands.specs.Processes.IsPlacedText.{Held, Broke, Unprinted}
+use Rattle.commands.proofs.processes.print_placed.Goals as goal
+
+pub returns-in-Holds : goal.returns-in-Holds
+returns-in-Holds g c =
+    record { meant = Done; text = codes "holds\n"; says = subst (λ (v : Verdict). IsPlacedText c.args.events.now v Done (codes "holds\n")) (sym c.in-Holds.is) Held; ends = c.end_with.ensures }
+
+pub returns-in-Ok : goal.returns-in-Ok
+returns-in-Ok g c =
+    let text : c.as_slice.result.now ≡ broken_line c.in-Breaks.rule c.in-Breaks.place ++ line_with (event_at c.args.events.now c.in-Breaks.place) = c.as_slice.ensures.value ∙ c.in-Ok.ensures in
+    record {
+      meant = Broken;
+      text = c.as_slice.result.now;
+      says = subst (λ (v : Verdict). IsPlacedText c.args.events.now v Broken c.as_slice.result.now) (sym c.in-Breaks.is)
+          (subst (λ (x : List ℕ). IsPlacedText c.args.events.now (Breaks c.in-Breaks.rule c.in-Breaks.place) Broken x) (sym text) (Broke c.in-Breaks.rule c.in-Breaks.place));
+      ends = c.end_with-in-Ok.ensures;
+    }
+
+pub returns-in-Err : goal.returns-in-Err
+returns-in-Err g c = record { meant = Memory; text = memory_line; says = Unprinted c.args.verdict; ends = c.end_in_memory.ensures }
