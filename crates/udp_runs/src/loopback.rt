@@ -1,6 +1,6 @@
-ghost use Rattle.std.specs.Prelude.{◌≡◌, false};
+ghost use Rattle.std.specs.Prelude.{◌≡◌, Some};
 ghost use Rattle.std.specs.Result.{result_err};
-ghost use Rattle.udp_runs.specs.Loopbacks.{unbound_after};
+ghost use Rattle.udp_runs.specs.Loopbacks.{nothing_asked, unbound_after};
 
 use crate::{Machine, Tally};
 use address::Node;
@@ -9,7 +9,7 @@ use std::marker::Model;
 use std::time::{Clock, Duration};
 use udp_net::{BindError, Hosts, Settings, SocketNet};
 
-/// This machine: each node has a socket of UDP, at its port by the settings. Contracts see whether a socket could not be bound.
+/// This machine: each node has a socket of UDP, at its port by the settings. Contracts see whether a socket could not be bound, and what was told.
 #[derive(Drop)]
 pub struct Loopback<'a, R> {
     alloc: Global,
@@ -21,11 +21,11 @@ pub struct Loopback<'a, R> {
 }
 
 impl<'a, R> Model for Loopback<'a, R> {
-    ghost use Rattle.std.specs.Prelude.{Bool};
+    ghost use Rattle.udp_runs.specs.Loopbacks.{LoopbackModel};
 
-    ghost Value = { Bool };
+    ghost Value = { LoopbackModel };
 
-    ghost view = { λ l. l.is_unbound };
+    ghost view = { λ l. record { is_unbound = l.is_unbound; told = l.tally } };
 }
 
 impl<'a, R> Loopback<'a, R> {
@@ -36,7 +36,7 @@ impl<'a, R> Loopback<'a, R> {
         settings: &'a Settings,
         hosts: Hosts,
     ) -> Loopback<'a, R>
-        ensures { result ≡ false }
+        ensures { result ≡ nothing_asked }
     {
         Loopback {
             alloc,
@@ -49,13 +49,15 @@ impl<'a, R> Loopback<'a, R> {
     }
 
     /// What happened at a node that ran by itself and has ended; `None` where none has.
-    pub fn tally(&self) -> Option<Tally> {
+    pub fn tally(&self) -> Option<Tally>
+        ensures { result ≡ self.now.told }
+    {
         self.tally
     }
 
     /// Whether a socket could not be bound.
     pub fn is_unbound(&self) -> bool
-        ensures { result ≡ self.now }
+        ensures { result ≡ self.now.is_unbound }
     {
         self.is_unbound
     }
@@ -65,7 +67,7 @@ impl<'a, R: std::net::Net + Clock> Machine for Loopback<'a, R> {
     type Net = SocketNet;
 
     fn net(&mut self, node: Node) -> Result<SocketNet, BindError>
-        ensures { self.new ≡ unbound_after self.old (result_err result) }
+        ensures { self.new ≡ record self.old { is_unbound = unbound_after self.old.is_unbound (result_err result) } }
     {
         let bound = SocketNet::bind(self.alloc, self.runtime, self.settings, &self.hosts, node);
         if matches!(&bound, Err(BindError::Bind)) {
@@ -84,7 +86,7 @@ impl<'a, R: std::net::Net + Clock> Machine for Loopback<'a, R> {
     }
 
     fn tell(&mut self, tally: &Tally)
-        ensures { self.new ≡ self.old }
+        ensures { self.new ≡ record self.old { told = Some tally.now } }
     {
         self.tally = Some(*tally);
     }

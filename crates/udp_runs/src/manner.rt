@@ -1,3 +1,6 @@
+ghost use Rattle.std.specs.Prelude.{◌≡◌};
+ghost use Rattle.udp_runs.specs.Tallies.{nothing_happened};
+
 use std::time::Duration;
 
 /// How a node that runs by itself goes about it.
@@ -47,7 +50,9 @@ pub struct Tally {
 
 impl Tally {
     /// Nothing happened yet.
-    pub fn new() -> Tally {
+    pub fn new() -> Tally
+        ensures { result ≡ nothing_happened }
+    {
         Tally {
             sent: 0,
             delivered: 0,
