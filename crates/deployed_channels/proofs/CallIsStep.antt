@@ -223,9 +223,11 @@ module _ {S : Type 0} (meaning : Meaning S) where
     starting : (s : S) → s ≡ meaning.opening → (failure : Option Error) → StartsWith meaning input group s old failure new → LeftBy failure old new
         → (m : MemberModel S) × IsNew meaning group old.address m × IsOne group input m old new
     starting s opening failure c is =
-        let core = subst (λ (r : S). core_of c.member ≡ Some (idle r old.address)) opening c.started.core_is in
-        (c.member, record { real = real; address = c.started.address_is; group_is = c.started.group_is; core = core },
-        one-step group input c.member old new was failure (connect-leaves c.member core) c.steps is)
+        let core = subst (λ (r : S). core_of c.member ≡ Some (idle r old.address)) opening c.started.core_is in (
+          c.member,
+          record { real = real; address = c.started.address_is; group_is = c.started.group_is; core = core },
+          one-step group input c.member old new was failure (connect-leaves c.member core) c.steps is,
+        )
 
     plays-two : (s : S) → old.stage ≡ Apart s → (m : MemberModel S) → IsNew meaning group old.address m → (x : IsOne group input m old new)
         → Plays meaning group (Start old.address m ∷ x.step ∷ []) old new

@@ -1,5 +1,5 @@
 -- Steps of many processes in one order do what the contracts say where each process does.
-use Rattle.std.proofs.Common.{◌≡◌, ℕ, Bool, true, false, cond, Option, List, [], ◌∷◌, refl, subst}
+use Rattle.std.proofs.Common.{◌≡◌, ℕ, Bool, true, false, cond, Option, List, [], ◌∷◌, refl}
 use Rattle.address.specs.Ids.{Address, same_address}
 use Rattle.state_transfer.specs.Meanings.{Meaning}
 use Rattle.address.proofs.SameIds.{same_address-refl}

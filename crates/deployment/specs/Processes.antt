@@ -1,5 +1,5 @@
 -- What one process does, alone; and steps of many in one order.
-use Rattle.std.specs.Prelude.{◌≡◌, ⊤, ℕ, List, [], ◌∷◌, flat_map, Option, None, true, is_some, if◌then◌else◌}
+use Rattle.std.specs.Prelude.{◌≡◌, ⊤, ℕ, List, [], ◌∷◌, flat_map, Option, true, is_some, if◌then◌else◌}
 use Rattle.address.specs.Ids.{Address, same_address}
 use Rattle.state_transfer.specs.Meanings.{Meaning}
 use Rattle.member.specs.Members.{MemberModel}
