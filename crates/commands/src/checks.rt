@@ -13,7 +13,7 @@ use trace_props::{Rule, Trace, Verdict};
 use trace_reader::read_trace;
 
 /// The code under which a broken rule is printed (docs/GUARANTEES.md, "What check prints").
-fn code_of(rule: Rule) -> &'static str
+pub fn code_of(rule: Rule) -> &'static str
     ensures { result.now ≡ rule_code rule }
 {
     match rule {

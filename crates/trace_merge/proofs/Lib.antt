@@ -1,0 +1,4 @@
+pub mod FactOfOwn
+pub mod KeepCome
+pub mod KeepShown
+pub mod LawOfMerges

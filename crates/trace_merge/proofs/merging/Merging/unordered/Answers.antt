@@ -1,0 +1,15 @@
+use Rattle.std.proofs.Common.{ℕ, List, ◌-◌, length, sym, ap, ◌∙◌}
+use Rattle.std.specs.HashSet.{contains}
+use Rattle.trace_props.specs.declared.event.Event.{Event}
+use Rattle.trace_merge.specs.Facts.{same_fact}
+use Rattle.trace_merge.specs.Merges.{lists_of, events_at}
+use Rattle.trace_merge.specs.Outcomes.{slices}
+use Rattle.trace_merge.proofs.KeepCome.{unordered, slice-at}
+use Rattle.trace_merge.proofs.merging.Merging.unordered.Goals as goal
+
+pub returns : goal.returns
+returns c = λ h none there. unordered (lists_of c.args.traces.now) (slices c.args.self.now.left.items) (contains same_fact c.args.self.now.awaited) c.args.self.now.merged.events c.args.process h none there
+    c.saturating_sub-came.result
+    (c.saturating_sub-came.ensures ∙ ap (λ (n : ℕ). n - length c.in-Some.left.now.now) c.count_of.ensures.is
+    ∙ ap (λ (l : List Event). length (events_at (lists_of c.args.traces.now) c.args.process) - length l)
+    (sym (slice-at c.args.self.now.left.items c.deref.result.now c.args.process c.in-Some.left.now c.deref.ensures.value (c.in-Some.ensures.lookup.3.0) c.in-Some.ensures.lookup.1)))
