@@ -1,3 +1,3 @@
 mod FactOfQueues
-mod FactOfSteps
+pub mod FactOfSteps
 mod FactOfConnects

@@ -32,14 +32,14 @@ pub fn play(rt: &HostRuntime) -> io::Result<()> {
         nodes.push(CountingNode::new(alloc, &settings, net, own, contact)?)?;
     }
     for tick in 0..40u8 {
-        for place in 0..nodes.len() {
+        for (place, node) in nodes.iter_mut().enumerate() {
             if tick == 20 || (place == 1 && tick > 20 && tick < 23) {
-                nodes[place].count(alloc);
+                node.count(alloc);
             }
-            if !nodes[place].tick() {
+            if !node.tick() {
                 return Err(io::Error::from(ErrorKind::Other));
             }
-            nodes[place].show(rt)?;
+            node.show(rt)?;
         }
     }
     Ok(())

@@ -3,6 +3,7 @@
 use address::{Address, Node};
 use limits::Refusal;
 use std::alloc::Global;
+use std::process::Abort;
 use trace_drawing::{Layout, Line, Refused, RefusedRow, Row, lay_out};
 use trace_reader::read_trace;
 
@@ -16,7 +17,7 @@ fn has_rows(alloc: Global, text: &[u8], wanted: &[Row]) -> bool {
     };
     for (level, row) in wanted.iter().enumerate() {
         let wanted = Row {
-            level: level as u32,
+            level: u32::try_from(level).unwrap_or(u32::MAX),
             ..*row
         };
         if layout.rows.get(level) != Some(&wanted) {
@@ -154,10 +155,10 @@ fn a_line_goes_from_the_first_event_to_the_last(rt: HostRuntime) {
 }
 
 /// What a node refused at a place.
-fn refused(place: usize, number: u16, line: u64) -> Refused {
+fn refused(rt: &impl Abort, place: usize, number: u16, line: u64) -> Refused {
     Refused {
         place,
-        node: Node::new(number).unwrap(),
+        node: Node::new(number).expect(rt, "a node"),
         line,
         refusal: Refusal::Busy,
     }
@@ -186,18 +187,18 @@ fn has_levels(layout: &Layout, levels: &[u32]) -> bool {
 #[test]
 fn refusals_stand_between_events(rt: HostRuntime) {
     let text = b"started 4.1\nstarted 2.1\ncrashed 4.1\nstarted 4.2\n";
-    let trace = read_trace(rt.alloc(), text).unwrap();
+    let trace = read_trace(rt.alloc(), text).expect(&rt, "a trace");
     let refusals = [
-        refused(0, 4, 1),
-        refused(1, 4, 3),
-        refused(1, 2, 4),
-        refused(3, 4, 7),
-        refused(4, 4, 9),
+        refused(&rt, 0, 4, 1),
+        refused(&rt, 1, 4, 3),
+        refused(&rt, 1, 2, 4),
+        refused(&rt, 3, 4, 7),
+        refused(&rt, 4, 4, 9),
     ];
-    let layout = lay_out(rt.alloc(), trace.events(), &refusals).unwrap();
+    let layout = lay_out(rt.alloc(), trace.events(), &refusals).expect(&rt, "a layout");
     assert!(rt; has_levels(&layout, &[1, 4, 5, 7]), "events");
     assert!(rt;
-        layout.rows[2].before == Some(1),
+        layout.rows.get(2).is_some_and(|row| row.before == Some(1)),
         "the crash is below the start"
     );
     let wanted = [
@@ -209,7 +210,10 @@ fn refusals_stand_between_events(rt: HostRuntime) {
     ];
     assert!(rt; layout.refused.as_slice() == wanted.as_slice(), "refusals");
     assert!(rt;
-        layout.lines[0].first == 1 && layout.lines[0].last == 5,
+        layout
+            .lines
+            .first()
+            .is_some_and(|line| line.first == 1 && line.last == 5),
         "the line of 4.1"
     );
 }

@@ -212,22 +212,22 @@ fn a_place_outside_of_the_trace_has_no_mark(rt: HostRuntime) {
 
 #[test]
 fn a_refusal_is_grey_between_the_events(rt: HostRuntime) {
-    let trace = read_trace(rt.alloc(), b"started 5.1\nleft 5.1\n").unwrap();
+    let trace = read_trace(rt.alloc(), b"started 5.1\nleft 5.1\n").expect(&rt, "drawn");
     let refusals = [
         Refused {
             place: 1,
-            node: Node::new(5).unwrap(),
+            node: Node::new(5).expect(&rt, "drawn"),
             line: 2,
             refusal: Refusal::NotConnected,
         },
         Refused {
             place: 2,
-            node: Node::new(6).unwrap(),
+            node: Node::new(6).expect(&rt, "drawn"),
             line: 40,
             refusal: Refusal::TooLong,
         },
     ];
-    let picture = draw(rt.alloc(), trace.events(), &refusals, Verdict::Holds).unwrap();
+    let picture = draw(rt.alloc(), trace.events(), &refusals, Verdict::Holds).expect(&rt, "drawn");
     let front = b"<svg xmlns='http://www.w3.org/2000/svg' width='230' height='168'><style>";
     let back = b"<g class='c0'><title>left 5.1\n</title><text class='r' x='40' y='108'>2</text>\
         <path class='o' d='M110 104m-6 0a6 6 0 1 0 12 0a6 6 0 1 0-12 0'/><text class='t' x='121' y='108'>left</text></g>\n\

@@ -1,3 +1,2 @@
 pub mod KeepHosts
-pub mod KeepLog
 pub mod FactOfTables

@@ -1,33 +1,43 @@
 -- What a net lists of itself, and how that goes on.
-use Rattle.std.specs.Prelude.{◌≡◌, ⊤, ℕ, ◌+◌, Bool, false, nat_eq, List, [], ◌∷◌, ◌++◌, length, take, min, Option, None, Some, Result, Ok, Err, if◌then◌else◌}
+use Rattle.std.specs.Prelude.{◌≡◌, ⊤, ℕ, ◌+◌, Bool, false, nat_eq, List, [], ◌∷◌, ◌++◌, length, take, map, min, Option, None, Some, Result, Ok, Err, if◌then◌else◌}
 use Rattle.std.specs.Option.{IsSomeAnd}
 use Rattle.udp_net.specs.declared.error.Fault.{Fault}
 use Rattle.udp_net.specs.declared.net.Received.{Received}
 use Rattle.udp_net.specs.declared.net.Received.TheVariants.{Datagram, Nothing, Failed}
-use Rattle.udp_net.specs.declared.memory_net.Offered.{Offered}
+use Rattle.udp_net.specs.declared.memory_net.Offered as memory
+use Rattle.udp_net.specs.declared.memory_net.Listed.{Listed}
+use Rattle.udp_net.specs.declared.memory_net.Listed.TheVariants as listed
 
 -- a datagram that a net was offered: for which node, and its bytes
 pub record Offer : Type 0 where
   pub node : ℕ
   pub bytes : List ℕ
 
--- what each receive of a net answered, and the datagrams that it was offered, each in order
-pub record Log : Type 0 where
-  pub received : List Received
-  pub offered : List Offer
+-- what happens at a net: a receive is answered, or it is offered a datagram
+pub data NetEvent : Type 0 where
+  Answered : Received → NetEvent
+  Offered : Offer → NetEvent
+
+-- what happened at a net since it was made, in the order in which it did
+abbrev pub Log : Type 0
+Log = List NetEvent
 
 -- a net lists nothing, or what it listed before and this more
 abbrev pub Lists : Option Log → (Log → Log) → Option Log → Type 0
 Lists old more None = ⊤
 Lists old more (Some l) = IsSomeAnd old (λ o. l ≡ more o)
 
+-- this happened too
+abbrev pub listing : NetEvent → Log → Log
+listing event l = l ++ event ∷ []
+
 -- it was offered one more
 abbrev pub offering : ℕ → List ℕ → Log → Log
-offering node bytes l = record { received = l.received; offered = l.offered ++ record { node = node; bytes = bytes } ∷ [] }
+offering node bytes l = listing (Offered (record { node = node; bytes = bytes })) l
 
 -- one more receive was answered
 abbrev pub receiving : Received → Log → Log
-receiving answer l = record { received = l.received ++ answer ∷ []; offered = l.offered }
+receiving answer l = listing (Answered answer) l
 
 -- what a receive is listed as, by its answer: its datagram lies at the front of the buffer
 abbrev pub answer_of : Result (Option ℕ) Fault → List ℕ → Received
@@ -52,8 +62,7 @@ unsent_after is_lost n = if is_lost then one_more n else n
 -- what waits, what it lists, the numbers of its calls, which of them fail, and what failed
 pub record MemoryModel : Type 0 where
   pub waiting : List (List ℕ)
-  pub received : List Received
-  pub offered : List Offered
+  pub listed : List Listed
   pub is_listed : Bool
   pub receives : ℕ
   pub failing_receive : Option ℕ
@@ -62,15 +71,18 @@ pub record MemoryModel : Type 0 where
   pub failures : ℕ
   pub unsent : ℕ
 
-abbrev pub offer_of : Offered → Offer
-offer_of o = record { node = o.node; bytes = o.bytes }
+-- what it lists, as an event of a net: whether a send failed is left out
+abbrev pub event_of : Listed → NetEvent
+event_of (listed.Answered answer) = Answered answer
+event_of (listed.Offered o) = Offered (record { node = o.node; bytes = o.bytes })
 
-abbrev pub offers_of : List Offered → List Offer
-offers_of [] = []
-offers_of (o ∷ rest) = offer_of o ∷ offers_of rest
+-- the datagram that it was offered, if it was
+abbrev pub offered_in : Listed → Option memory.Offered
+offered_in (listed.Answered answer) = None
+offered_in (listed.Offered o) = Some o
 
 abbrev pub log_of : MemoryModel → Option Log
-log_of n = if n.is_listed then Some (record { received = n.received; offered = offers_of n.offered }) else None
+log_of n = if n.is_listed then Some (map event_of n.listed) else None
 
 -- whether the next call is the one that is to fail
 abbrev pub fails_next : Option ℕ → ℕ → Bool

@@ -17,7 +17,7 @@ pub use document::settings;
 pub use error::{BindError, Fault, SettingsError};
 pub use held_back::HeldBack;
 pub use hosts::Hosts;
-pub use memory_net::{MemoryNet, Offered};
+pub use memory_net::{Listed, MemoryNet, Offered};
 pub use net::{Net, Received};
 pub use node_ports::{MOST_NODES, MOST_SILENT, NodePort, Settings};
 pub use socket_net::SocketNet;

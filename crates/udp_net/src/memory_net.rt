@@ -1,8 +1,9 @@
 ghost use Rattle.std.specs.Prelude.{◌≡◌, ◌≤◌, ◌++◌, ◌∷◌, [], true, false, None, Some, length, take, min, OnOk, OnErr, IfOk, IfSome, if◌then◌else◌};
-ghost use Rattle.std.specs.Option.{option_map};
+ghost use Rattle.std.specs.Option.{option_copied, option_map};
 ghost use Rattle.std.specs.Result.{is_err};
 ghost use Rattle.udp_net.specs.declared.net.Received.TheVariants.{Datagram};
-ghost use Rattle.udp_net.specs.Logs.{MemoryModel, log_of, Lists, offering, receiving, answer_of, one_more, failures_after, unsent_after, fails_next, GivesFirst};
+ghost use Rattle.udp_net.specs.declared.memory_net.Listed.TheVariants as listed;
+ghost use Rattle.udp_net.specs.Logs.{MemoryModel, event_of, offered_in, log_of, Lists, listing, offering, receiving, answer_of, one_more, failures_after, unsent_after, fails_next, GivesFirst};
 
 use crate::{Fault, Net, Received};
 use address::Node;
@@ -23,15 +24,35 @@ pub struct Offered {
     pub is_lost: bool,
 }
 
-/// A net in memory: it gives the datagrams that are put into it, and lists what its receives answered and what it was offered. It carries nothing by itself. A receive and
-/// a send of it can be made to fail.
+/// What a net in memory lists: one thing that happened at it.
+#[derive(Debug, Drop)]
+pub enum Listed {
+    /// A receive was answered.
+    Answered(Received),
+    /// It was offered a datagram.
+    Offered(Offered),
+}
+
+impl Listed {
+    /// The datagram that it was offered, if it was.
+    pub fn offered(&self) -> Option<&Offered>
+        ensures { option_copied result ≡ offered_in self.now }
+    {
+        match self {
+            Listed::Offered(offered) => Some(offered),
+            Listed::Answered(_) => None,
+        }
+    }
+}
+
+/// A net in memory: it gives the datagrams that are put into it, and lists what its receives answered and what it was offered, in the order in which that happened. It carries
+/// nothing by itself. A receive and a send of it can be made to fail.
 #[derive(Drop)]
 pub struct MemoryNet {
     alloc: Global,
     waiting: VecDeque<Bytes>,
-    received: Vec<Received>,
-    offered: Vec<Offered>,
-    // Whether the lists have all that was received and offered.
+    listed: Vec<Listed>,
+    // Whether the list has all that happened.
     is_listed: bool,
     receives: u64,
     failing_receive: Option<u64>,
@@ -48,8 +69,7 @@ impl Model for MemoryNet {
 
     ghost view = { λ n. record {
       waiting = n.waiting.items;
-      received = n.received.items;
-      offered = n.offered.items;
+      listed = n.listed.items;
       is_listed = n.is_listed;
       receives = n.receives;
       failing_receive = n.failing_receive;
@@ -63,13 +83,12 @@ impl Model for MemoryNet {
 impl MemoryNet {
     /// A net in which nothing waits, and which fails nowhere. Takes no memory.
     pub fn new(alloc: Global) -> MemoryNet
-        ensures { result ≡ record { waiting = []; received = []; offered = []; is_listed = true; receives = 0; failing_receive = None; sends = 0; failing_send = None; failures = 0; unsent = 0 } }
+        ensures { result ≡ record { waiting = []; listed = []; is_listed = true; receives = 0; failing_receive = None; sends = 0; failing_send = None; failures = 0; unsent = 0 } }
     {
         MemoryNet {
             alloc,
             waiting: VecDeque::new(alloc),
-            received: Vec::new(alloc),
-            offered: Vec::new(alloc),
+            listed: Vec::new(alloc),
             is_listed: true,
             receives: 0,
             failing_receive: None,
@@ -125,43 +144,34 @@ impl MemoryNet {
         self.waiting.len()
     }
 
-    /// What its receives answered, in order; `None` once memory was refused for a list.
-    pub fn received(&self) -> Option<&[Received]>
-        ensures { option_map (λ l. l.now) result ≡ (if self.now.is_listed then Some self.now.received else None) }
+    /// What its receives answered and what it was offered, in the order in which that happened; `None` once memory was refused for the list.
+    pub fn listed(&self) -> Option<&[Listed]>
+        ensures { option_map (λ l. l.now) result ≡ (if self.now.is_listed then Some self.now.listed else None) }
     {
         if !self.is_listed {
             return None;
         }
-        Some(self.received.as_slice())
+        Some(self.listed.as_slice())
     }
 
-    /// What it was offered, in order; `None` once memory was refused for a list.
-    pub fn offered(&self) -> Option<&[Offered]>
-        ensures { option_map (λ l. l.now) result ≡ (if self.now.is_listed then Some self.now.offered else None) }
+    // Lists what happened, where there is memory for it.
+    fn list(&mut self, event: Listed)
+        ensures lists { Lists (log_of self.old) (listing (event_of event)) (log_of self.new) }
+        ensures listed { self.new.is_listed ≡ true → self.new.listed ≡ self.old.listed ++ event ∷ [] }
+        ensures rest { self.new ≡ record self.old { listed = self.new.listed; is_listed = self.new.is_listed } }
     {
-        if !self.is_listed {
-            return None;
-        }
-        Some(self.offered.as_slice())
-    }
-
-    // Lists what a receive answered, where there is memory for it.
-    fn list_received(&mut self, answer: Received)
-        ensures lists { Lists (log_of self.old) (receiving answer) (log_of self.new) }
-        ensures rest { self.new ≡ record self.old { received = self.new.received; is_listed = self.new.is_listed } }
-    {
-        if self.received.push(answer).is_err() {
+        if self.listed.push(event).is_err() {
             self.is_listed = false;
         }
     }
 
     // Lists a datagram that was given, where there is memory for it.
-    fn list_datagram(&mut self, bytes: &[u8])
+    fn list_given(&mut self, bytes: &[u8])
         ensures lists { Lists (log_of self.old) (receiving (Datagram bytes.now)) (log_of self.new) }
-        ensures rest { self.new ≡ record self.old { received = self.new.received; is_listed = self.new.is_listed } }
+        ensures rest { self.new ≡ record self.old { listed = self.new.listed; is_listed = self.new.is_listed } }
     {
         match Bytes::from_slice(self.alloc, bytes) {
-            Ok(bytes) => self.list_received(Received::Datagram(bytes)),
+            Ok(bytes) => self.list(Listed::Answered(Received::Datagram(bytes))),
             Err(_) => self.is_listed = false,
         }
     }
@@ -180,18 +190,20 @@ impl MemoryNet {
         is_lost
     }
 
-    // Lists what was offered.
-    fn list_offered(&mut self, node: Node, bytes: &[u8], is_lost: bool) -> Result<(), AllocError>
-        ensures ok { OnOk result (self.new ≡ record self.old { offered = self.old.offered ++ record { node = node; bytes = bytes.now; is_lost = is_lost } ∷ [] }) }
-        ensures err { OnErr result (self.new ≡ self.old) }
+    // Lists a datagram that it was offered, where there is memory for it.
+    fn list_offered(&mut self, node: Node, bytes: &[u8], is_lost: bool)
+        ensures lists { Lists (log_of self.old) (offering node bytes.now) (log_of self.new) }
+        ensures listed { self.new.is_listed ≡ true → self.new.listed ≡ self.old.listed ++ listed.Offered (record { node = node; bytes = bytes.now; is_lost = is_lost }) ∷ [] }
+        ensures rest { self.new ≡ record self.old { listed = self.new.listed; is_listed = self.new.is_listed } }
     {
-        let bytes = Bytes::from_slice(self.alloc, bytes)?;
-        self.offered.push(Offered {
-            node,
-            bytes,
-            is_lost,
-        })?;
-        Ok(())
+        match Bytes::from_slice(self.alloc, bytes) {
+            Ok(bytes) => self.list(Listed::Offered(Offered {
+                node,
+                bytes,
+                is_lost,
+            })),
+            Err(_) => self.is_listed = false,
+        }
     }
 }
 
@@ -217,13 +229,11 @@ impl Net for MemoryNet {
         ensures lists { Lists (log_of self.old) (offering node bytes.now) (log_of self.new) }
         ensures failed { self.new.failures ≡ self.old.failures }
         ensures unsent { self.old.unsent ≤ self.new.unsent }
-        ensures listed { self.new.is_listed ≡ true → self.new.offered ≡ self.old.offered ++ record { node = node; bytes = bytes.now; is_lost = fails_next self.old.failing_send self.old.sends } ∷ [] }
-        ensures rest { self.new ≡ record self.old { offered = self.new.offered; is_listed = self.new.is_listed; sends = one_more self.old.sends; unsent = unsent_after (fails_next self.old.failing_send self.old.sends) self.old.unsent } }
+        ensures listed { self.new.is_listed ≡ true → self.new.listed ≡ self.old.listed ++ listed.Offered (record { node = node; bytes = bytes.now; is_lost = fails_next self.old.failing_send self.old.sends }) ∷ [] }
+        ensures rest { self.new ≡ record self.old { listed = self.new.listed; is_listed = self.new.is_listed; sends = one_more self.old.sends; unsent = unsent_after (fails_next self.old.failing_send self.old.sends) self.old.unsent } }
     {
         let is_lost = self.count_send();
-        if self.list_offered(node, bytes, is_lost).is_err() {
-            self.is_listed = false;
-        }
+        self.list_offered(node, bytes, is_lost);
     }
 
     /// Gives the one that was put in first of those that wait.
@@ -235,7 +245,7 @@ impl Net for MemoryNet {
         ensures fails { is_err result ≡ fails_next self.old.failing_receive self.old.receives }
         ensures rest { self.new ≡ record self.old {
           waiting = self.new.waiting;
-          received = self.new.received;
+          listed = self.new.listed;
           is_listed = self.new.is_listed;
           receives = one_more self.old.receives;
           failures = self.new.failures;
@@ -245,15 +255,15 @@ impl Net for MemoryNet {
         self.receives = self.receives.saturating_add(1);
         if self.failing_receive == Some(self.receives) {
             self.failures = self.failures.saturating_add(1);
-            self.list_received(Received::Failed);
+            self.list(Listed::Answered(Received::Failed));
             return Err(Fault::Receive);
         }
         let Some(datagram) = self.waiting.pop_front() else {
-            self.list_received(Received::Nothing);
+            self.list(Listed::Answered(Received::Nothing));
             return Ok(None);
         };
         let count = copy_front(datagram.as_slice(), buffer);
-        self.list_datagram(&buffer[..count]);
+        self.list_given(&buffer[..count]);
         Ok(Some(count))
     }
 

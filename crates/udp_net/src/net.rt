@@ -19,7 +19,8 @@ pub enum Received {
 
 /// What carries datagrams between nodes: each may be lost, repeated, late, or come out of order (docs/PROTOCOL.md, "Rounds").
 pub trait Net: Drop {
-    /// What it lists of itself: what its receives answered and what it was offered since it was made; none, where it lists nothing, as a socket does, or does so no longer.
+    /// What it lists of itself: what its receives answered and what it was offered since it was made, in the order in which that happened; none, where it lists nothing, as a
+    /// socket does, or does so no longer.
     ghost log: { Self → Option Log };
 
     /// How many receives failed, at most 2^64 - 1.

@@ -5,7 +5,7 @@ use chat_log::ChatLog;
 use std::alloc::{AllocError, Global};
 use trace_props::Bytes;
 use udp_member::{Error, Runner};
-use udp_net::{MemoryNet, Net};
+use udp_net::{Listed, MemoryNet, Net, Offered};
 
 /// A member over a net in memory.
 pub type Member = Runner<MemoryNet, ChatLog>;
@@ -41,6 +41,11 @@ pub fn members(member: &mut Member) -> usize {
         Some(view) => view.members().len(),
         None => 0,
     }
+}
+
+/// Of what a net lists the datagram of this index that it was offered.
+fn nth_offered(listed: &[Listed], index: usize) -> Option<&Offered> {
+    listed.iter().filter_map(|event| event.offered()).nth(index)
 }
 
 /// Members 1.1, 2.1 and so on, and how many datagrams of each were carried.
@@ -141,7 +146,7 @@ impl Lan {
         let Some(member) = self.at(number) else {
             return Err(AllocError);
         };
-        match member.net().offered().ok_or(AllocError)?.get(index) {
+        match nth_offered(member.net().listed().ok_or(AllocError)?, index) {
             Some(offered) => offered.bytes.copied(alloc),
             None => Err(AllocError),
         }
@@ -150,8 +155,8 @@ impl Lan {
     /// How many datagrams the member of a node offered.
     pub fn sends(&mut self, number: u16) -> usize {
         match self.at(number) {
-            Some(member) => match member.net().offered() {
-                Some(offered) => offered.len(),
+            Some(member) => match member.net().listed() {
+                Some(listed) => listed.iter().filter_map(|event| event.offered()).count(),
                 None => 0,
             },
             None => 0,
@@ -214,7 +219,8 @@ impl Lan {
         let Some(member) = self.members.get_mut(usize::from(number).saturating_sub(1)) else {
             return Ok(false);
         };
-        let Some(offered) = member.net().offered().ok_or(AllocError)?.get(index) else {
+        let listed = member.net().listed().ok_or(AllocError)?;
+        let Some(offered) = nth_offered(listed, index) else {
             return Ok(false);
         };
         *carried = index.saturating_add(1);

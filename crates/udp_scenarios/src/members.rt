@@ -8,7 +8,7 @@ use chat_log::ChatLog;
 use state_transfer::Receiver;
 use std::alloc::{AllocError, Global};
 use udp_member::{Error, Runner};
-use udp_net::{MemoryNet, Received};
+use udp_net::{Listed, MemoryNet, Received};
 
 /// The chats' lines and the views' lengths of the members up to a node.
 fn put_chats(text: &mut Vec<u8>, lan: &mut Lan, last: u16) -> Result<(), AllocError> {
@@ -64,8 +64,8 @@ fn number(answer: Result<(), Error>) -> u8 {
 fn given_to(member: &mut Member) -> Result<(u64, usize), AllocError> {
     let mut count = 0u64;
     let mut first = 0usize;
-    for answer in member.net().received().ok_or(AllocError)? {
-        if let Received::Datagram(bytes) = answer {
+    for event in member.net().listed().ok_or(AllocError)? {
+        if let Listed::Answered(Received::Datagram(bytes)) = event {
             if count == 0 {
                 first = bytes.as_slice().len();
             }
@@ -259,10 +259,12 @@ pub fn failed_receives(alloc: Global, text: &mut Vec<u8>) -> Result<(), AllocErr
 fn lost_of(member: &mut Member) -> Result<u64, AllocError> {
     let mut lost = 0u64;
     let mut count = 0u64;
-    for offered in member.net().offered().ok_or(AllocError)? {
-        count = count.wrapping_add(1);
-        if offered.is_lost {
-            lost = lost.wrapping_add(count);
+    for event in member.net().listed().ok_or(AllocError)? {
+        if let Listed::Offered(offered) = event {
+            count = count.wrapping_add(1);
+            if offered.is_lost {
+                lost = lost.wrapping_add(count);
+            }
         }
     }
     Ok(lost)

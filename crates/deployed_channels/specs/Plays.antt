@@ -1,0 +1,85 @@
+-- What a call of a channel is in a deployment.
+use Rattle.std.specs.Prelude.{◌≡◌, ⊤, ℕ, true, List, [], ◌∷◌, ◌++◌, map, Option, None, Some, IfSome, is_some, MatchBool}
+use Rattle.std.specs.Borrow.{Bor}
+use Rattle.address.specs.Ids.{Address, IsAddress}
+use Rattle.wire_values.specs.Names.{is_group_name}
+use Rattle.state_transfer.specs.Meanings.{Meaning}
+use Rattle.member.specs.declared.error.Error.{Error}
+use Rattle.member.specs.declared.input.Input.{Input}
+use Rattle.member.specs.declared.input.Input.TheVariants as input
+use Rattle.member.specs.Members.{MemberModel}
+use Rattle.channel.specs.declared.stage.Stage.{Stage}
+use Rattle.channel.specs.declared.stage.Stage.TheVariants.{Apart, Connected, Ended}
+use Rattle.channel.specs.Channels.{ChannelModel, member_in, is_in, left_by}
+use Rattle.channel.specs.Calls.{Calls, CallsLent, Connects, Reconnects}
+use Rattle.deployment.specs.Deployments.{Step, Start, Call, Crash, bytes_of}
+use Rattle.deployment.specs.Processes.{RunsFrom, member_after, all_put_out, all_told}
+
+-- before a connect its receiver is in its opening state, and a member that it has runs
+abbrev pub IsReady : {S : Type 0} → Meaning S → Stage S → Type 0
+IsReady meaning (Apart s) = s ≡ meaning.opening
+IsReady meaning (Connected m) = is_some m.member_state ≡ true
+IsReady meaning Ended = ⊤
+
+-- these steps of its process lead from one channel to the other: what they put out waits behind what waited, and so does what they tell
+pub record Plays {S : Type 0} (meaning : Meaning S) (group : List ℕ) (own : List (Step S)) (old new : ChannelModel S) : Type 0 where
+  pub runs : RunsFrom meaning group (member_in old.stage) own
+  pub left : member_after (member_in old.stage) own ≡ member_in new.stage
+  pub puts : map bytes_of new.outgoing ≡ map bytes_of old.outgoing ++ all_put_out own
+  pub tells : new.happened ≡ old.happened ++ all_told own
+  pub address : new.address ≡ old.address
+  pub ready : IsReady meaning new.stage
+
+-- ---- which steps these are
+
+-- the member of the address is called with this input; or, where room is refused for what that put out, the process ends
+abbrev pub IsStepBy : {S : Type 0} → Address → Input → Step S → Type 0
+IsStepBy p input (Start q m) = ⊥
+IsStepBy p input (Call q other result left) = (q ≡ p) × (other ≡ input)
+IsStepBy p input (Crash q) = q ≡ p
+
+-- one such step, where a member runs; else none
+abbrev pub AreByCall : {S : Type 0} → Address → Input → Option (MemberModel S) → List (Step S) → Type 0
+AreByCall p input None own = own ≡ []
+AreByCall {S} p input (Some m) own = (x : Step S) × (own ≡ x ∷ []) × IsStepBy p input x
+
+-- a start of its process and then one such step, where it was not connected yet and the name is one of a group; else none
+abbrev pub AreByConnect : {S : Type 0} → Address → Input → List ℕ → Stage S → List (Step S) → Type 0
+AreByConnect {S} p input name (Apart s) own =
+    MatchBool (is_group_name name) ((m : MemberModel S) × (x : Step S) × (own ≡ Start p m ∷ x ∷ []) × IsStepBy p input x) (own ≡ [])
+AreByConnect p input name (Connected m) own = own ≡ []
+AreByConnect p input name Ended own = own ≡ []
+
+-- under the name that it is connected by, the member is asked again
+abbrev pub AreByReconnect : {S : Type 0} → Address → Input → List ℕ → Stage S → List (Step S) → Type 0
+AreByReconnect p input name stage own = MatchBool (is_in name stage) (AreByCall p input (member_in stage) own) (AreByConnect p input name stage own)
+
+-- ---- the laws
+
+-- steps that are so, and play
+abbrev pub PlaysBy : {S : Type 0} → Meaning S → List ℕ → (List (Step S) → Type 0) → ChannelModel S → ChannelModel S → Type 0
+PlaysBy {S} meaning group AreSo old new = (own : List (Step S)) × AreSo own × Plays meaning group own old new
+
+-- where an error leaves the channel, by the contract of each call
+abbrev pub LeftBy : {S : Type 0} → Option Error → ChannelModel S → ChannelModel S → Type 0
+LeftBy failure old new = IfSome failure (λ e. new ≡ left_by e old)
+
+abbrev pub CallsAreSteps : {S : Type 0} → Meaning S → Type 0
+CallsAreSteps {S} meaning = (group : List ℕ) (input : Input) (old new : ChannelModel S) (failure : Option Error) → IsReady meaning old.stage → Calls meaning input old failure new
+    → LeftBy failure old new → PlaysBy meaning group (AreByCall old.address input (member_in old.stage)) old new
+
+-- the same of a call whose input has bytes that are lent
+abbrev pub LentCallsAreSteps : {S : Type 0} → Meaning S → Type 0
+LentCallsAreSteps {S} meaning = (group : List ℕ) (input : Bor (List ℕ) → Input) (bytes : List ℕ) (old new : ChannelModel S) (failure : Option Error) → IsReady meaning old.stage
+    → CallsLent meaning input bytes old failure new → LeftBy failure old new
+    → (lent : Bor (List ℕ)) × (lent.now ≡ bytes) × PlaysBy meaning group (AreByCall old.address (input lent) (member_in old.stage)) old new
+
+-- a connect under a name: the process is one of the group of this name
+abbrev pub CreatesAreSteps : {S : Type 0} → Meaning S → Type 0
+CreatesAreSteps {S} meaning = (name : List ℕ) (old new : ChannelModel S) (failure : Option Error) → IsAddress old.address → IsReady meaning old.stage
+    → Connects meaning input.Create name old failure new → LeftBy failure old new → PlaysBy meaning name (AreByConnect old.address input.Create name old.stage) old new
+
+abbrev pub JoinsAreSteps : {S : Type 0} → Meaning S → Type 0
+JoinsAreSteps {S} meaning = (name : List ℕ) (contact : Address) (old new : ChannelModel S) (failure : Option Error) → IsAddress old.address → IsReady meaning old.stage
+    → Reconnects meaning (input.Join contact) name old failure new → LeftBy failure old new
+    → PlaysBy meaning name (AreByReconnect old.address (input.Join contact) name old.stage) old new

@@ -1,0 +1,4 @@
+pub mod FactOfItems
+pub mod FactOfMerged
+pub mod ItemsOfRounds
+pub mod ItemsOfCalls

@@ -1,0 +1,12 @@
+use Rattle.deployed_runners.proofs.ItemsOfCalls.{calls-add, runs-are}
+use Rattle.deployed_runners.proofs.FactOfMerged.{runners-are}
+use Rattle.deployed_runners.proofs.law.runners_are_synchronous.Goals as goal
+
+pub returns-clause-calls : goal.returns-clause-calls
+returns-clause-calls g c = calls-add g.N.Net.log g.N.Net.failed g.R.Receiver.meaning
+
+pub returns-clause-runs : goal.returns-clause-runs
+returns-clause-runs g c = runs-are g.N.Net.log g.N.Net.failed g.R.Receiver.meaning
+
+pub returns-clause-merged : goal.returns-clause-merged
+returns-clause-merged g c = runners-are g.R.Receiver.meaning c.deployments_are_synchronous.ensures.histories

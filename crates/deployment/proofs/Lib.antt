@@ -1,0 +1,4 @@
+pub mod FactOfPosts
+pub mod FactOfCame
+pub mod KeepBySteps
+pub mod FactOfProcesses

@@ -1,0 +1,3 @@
+pub mod Deployments
+pub mod Processes
+pub mod Law
