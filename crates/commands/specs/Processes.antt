@@ -1,6 +1,5 @@
 -- What the check of the texts of several processes writes.
 use Rattle.std.specs.Prelude.{◌≡◌, ⊤, ℕ, zero, suc, ◌+◌, List, [], ◌∷◌, ◌++◌, Option, None, Some, Ok, Err, codes, map, take, slice_get}
-use Rattle.std.specs.List.{AllZip}
 use Rattle.std.specs.Fmt.{decimal}
 use Rattle.std.specs.Global.{Vec}
 use Rattle.state_transfer.specs.Meanings.{Meaning}
@@ -12,6 +11,8 @@ use Rattle.trace_props.specs.Verdicts.{IsVerdict}
 use Rattle.trace_merge.specs.Merges.{IsOrderedMerge}
 use Rattle.trace_merge.specs.Outcomes.{AreUnordered}
 use Rattle.script_reader.specs.declared.fault.Fault.{Fault}
+use Rattle.script_reader.specs.declared.fault.Unread.{Unread}
+use Rattle.script_reader.specs.declared.fault.Unread.TheVariants as one
 use Rattle.script_reader.specs.Script.{fault_number}
 use Rattle.vsync_text.specs.TraceText.{line_of}
 use Rattle.trace_reader.specs.Traces.{trace_of}
@@ -31,6 +32,13 @@ texts_of texts = map bytes_in texts
 
 abbrev pub IsTraceOf : List ℕ → List Event → Type 0
 IsTraceOf bytes t = trace_of bytes ≡ Ok t
+
+-- texts one by one
+abbrev pub AreTracesOf : List (List ℕ) → List (List Event) → Type 0
+AreTracesOf [] [] = ⊤
+AreTracesOf [] (t ∷ traces) = ⊥
+AreTracesOf (bytes ∷ texts) [] = ⊥
+AreTracesOf (bytes ∷ texts) (t ∷ traces) = IsTraceOf bytes t × AreTracesOf texts traces
 
 -- the event at a place, from 1, and its line; none at a place outside
 abbrev pub event_at : List Event → ℕ → Option Event
@@ -78,22 +86,26 @@ pub record HasFault (texts : List (List ℕ)) (number line : ℕ) (fault : Fault
   pub k : ℕ
   pub bytes : List ℕ
   pub number_is : number ≡ k + 1
-  pub reads : AllZip IsTraceOf (take k texts) before
+  pub reads : AreTracesOf (take k texts) before
   pub there : slice_get texts k ≡ Some bytes
   pub faulty : trace_of bytes ≡ Err (record { line = line; fault = fault })
 
--- why texts are not read
+-- why the text of a number is not read, and why texts are not
+abbrev pub unread_at : ℕ → Unread → UnreadIn
+unread_at text (one.Fault line fault) = unread.Fault text line fault
+unread_at text one.Memory = unread.Memory
+
 abbrev pub IsUnreadIn : List (List ℕ) → UnreadIn → Type 0
 IsUnreadIn texts (unread.Fault number line fault) = HasFault texts number line fault
 IsUnreadIn texts unread.Memory = ⊤
 
 -- the texts of the bytes of several texts: of what they say happened; of the first fault of the first that has one; or `# memory`
 pub data IsProcessesText {S : Type 0} (meaning : Meaning S) (texts : List (List ℕ)) : Status → List ℕ → Type 0 where
-  Reads : (processes : List (List Event)) (status : Status) (text : List ℕ) → AllZip IsTraceOf texts processes → IsJoinedText meaning processes status text
+  Reads : (processes : List (List Event)) (status : Status) (text : List ℕ) → AreTracesOf texts processes → IsJoinedText meaning processes status text
       → IsProcessesText meaning texts status text
   Faulty : (number line : ℕ) (fault : Fault) (status : Status) (text : List ℕ) → HasFault texts number line fault → IsFaultyText number line (fault_number fault) status text
       → IsProcessesText meaning texts status text
-  Unread : IsProcessesText meaning texts Memory memory_line
+  Lacking : IsProcessesText meaning texts Memory memory_line
 
 -- the texts of several processes are checked, to a writer
 abbrev pub ChecksProcesses : {S : Type 0} → Meaning S → List (List ℕ) → Option (List ℕ) → Option (List ℕ) → Status → Type 0

@@ -1,13 +1,12 @@
 //! The check of the texts of several processes.
 
 ghost use Rattle.std.specs.Prelude.{◌≡◌, ◌++◌, IfOk, MatchResult};
-ghost use Rattle.std.specs.List.{AllZip};
 ghost use Rattle.std.specs.Option.{option_copied};
 ghost use Rattle.trace_merge.specs.Merges.{lists_of};
 ghost use Rattle.script_reader.specs.Script.{fault_number};
 ghost use Rattle.commands.specs.Outcomes.{Written};
 ghost use Rattle.commands.specs.Checks.{broken_line};
-ghost use Rattle.commands.specs.Processes.{texts_of, IsTraceOf, IsPlacedText, event_at, line_with, IsUnorderedText, IsFaultyText, IsJoinedText, IsUnreadIn, IsProcessesText, ChecksProcesses};
+ghost use Rattle.commands.specs.Processes.{texts_of, AreTracesOf, unread_at, IsPlacedText, event_at, line_with, IsUnorderedText, IsFaultyText, IsJoinedText, IsUnreadIn, IsProcessesText, ChecksProcesses};
 
 use crate::Status;
 use crate::checks::code_of;
@@ -35,20 +34,29 @@ pub enum UnreadIn {
     Memory,
 }
 
+// Why the text of a number is not read.
+fn unread_at(text: usize, unread: Unread) -> UnreadIn
+    ensures { result ≡ unread_at text unread }
+{
+    match unread {
+        Unread::Fault { line, fault } => UnreadIn::Fault { text, line, fault },
+        Unread::Memory => UnreadIn::Memory,
+    }
+}
+
 /// Reads the traces of texts.
 fn read_traces(alloc: Global, texts: &[Vec<u8>]) -> Result<Vec<Trace>, UnreadIn>
-    ensures { MatchResult result (λ traces. AllZip IsTraceOf (texts_of texts.now) (lists_of traces.items)) (IsUnreadIn (texts_of texts.now)) }
+    ensures { MatchResult result (λ traces. AreTracesOf (texts_of texts.now) (lists_of traces.items)) (IsUnreadIn (texts_of texts.now)) }
 {
     let mut traces = Vec::new(alloc);
     for (text, bytes) in texts.iter().enumerate() {
         let trace = match read_trace(alloc, bytes.as_slice()) {
             Ok(trace) => trace,
-            Err(Unread::Fault { line, fault }) => return Err(UnreadIn::Fault { text: text + 1, line, fault }),
-            Err(Unread::Memory) => return Err(UnreadIn::Memory),
+            Err(unread) => return Err(unread_at(text + 1, unread)),
         };
-        if traces.push(trace).is_err() {
+        let Ok(()) = traces.push(trace) else {
             return Err(UnreadIn::Memory);
-        }
+        };
     }
     Ok(traces)
 }
