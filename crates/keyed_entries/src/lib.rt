@@ -7,10 +7,12 @@ ghost use Rattle.keyed_entries.specs.declared.Entry.{Entry as EntryValue};
 ghost use Rattle.keyed_entries.specs.Entries.{IsPlace, Rises, rises, key_cmp, value_of, put, without};
 
 mod keys;
+mod words;
 
 pub use keys::{KeyBytes, key_from, put_key};
 use std::cmp::Ordering;
 use trace_props::Bytes;
+pub use words::{key_field, last_key};
 
 /// The longest key, in bytes; the shortest has one.
 pub const KEY: usize = 64;
