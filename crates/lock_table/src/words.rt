@@ -3,8 +3,10 @@
 ghost use Rattle.std.specs.Prelude.{◌≡◌, Ok, Err, IfOk, MatchResult};
 ghost use Rattle.std.specs.Option.{option_copied};
 ghost use Rattle.script_reader.specs.Texts.{IsReadUnlessRefused};
-ghost use Rattle.script_reader.specs.Fields.{last};
-ghost use Rattle.lock_table.specs.Words.{view_id_field, named, members_field, rolled, acquire_said, release_said, roll_said, command_said};
+ghost use Rattle.script_reader.specs.Fields.{made, last};
+ghost use Rattle.keyed_entries.specs.Words.{key_field};
+ghost use Rattle.lock_table.specs.declared.command.Command.TheVariants.{Acquire, Release};
+ghost use Rattle.lock_table.specs.Words.{view_id_field, named, members_field, acquire_said, release_said, roll_said, command_said, command_said_in};
 
 use crate::Command;
 use address::ViewId;
@@ -82,6 +84,26 @@ fn release_said(rest: Option<&[u8]>) -> Result<Command<'_>, Unheard>
     }
 }
 
+// The command `acquire NAME`, sent in the view of an id.
+fn acquired_in(view: ViewId, rest: Option<&[u8]>) -> Result<Command<'_>, Unheard>
+    ensures { IsReadUnlessRefused (λ x. x) result (made (Acquire view) (last (key_field (option_copied rest.entry)))) }
+{
+    match last_key(rest) {
+        Err(fault) => Err(Unheard::Fault(fault)),
+        Ok(name) => Ok(Command::Acquire { view, name }),
+    }
+}
+
+// The command `release NAME`, sent in the view of an id.
+fn released_in(view: ViewId, rest: Option<&[u8]>) -> Result<Command<'_>, Unheard>
+    ensures { IsReadUnlessRefused (λ x. x) result (made (Release view) (last (key_field (option_copied rest.entry)))) }
+{
+    match last_key(rest) {
+        Err(fault) => Err(Unheard::Fault(fault)),
+        Ok(name) => Ok(Command::Release { view, name }),
+    }
+}
+
 // The command `roll VIEW MEMBERS`.
 fn roll_said<'a>(alloc: Global, rest: Option<&'a [u8]>) -> Result<Command<'a>, Unheard>
     ensures { IsReadUnlessRefused (λ x. x) result (roll_said (option_copied rest.entry)) }
@@ -104,6 +126,26 @@ pub(crate) fn command_said(alloc: Global, text: &[u8]) -> Result<Command<'_>, Un
         acquire_said(rest)
     } else if word == b"release".as_slice() {
         release_said(rest)
+    } else if word == b"roll".as_slice() {
+        roll_said(alloc, rest)
+    } else {
+        Err(Unheard::Fault(Fault::BadNumber))
+    }
+}
+
+// The command that a text says in the view of an id: `acquire NAME` or `release NAME`, sent in this view, or `roll VIEW MEMBERS`.
+pub(crate) fn command_said_in(
+    alloc: Global,
+    view: ViewId,
+    text: &[u8],
+) -> Result<Command<'_>, Unheard>
+    ensures { IsReadUnlessRefused (λ x. x) result (command_said_in view text.now) }
+{
+    let (word, rest) = first_field(text);
+    if word == b"acquire".as_slice() {
+        acquired_in(view, rest)
+    } else if word == b"release".as_slice() {
+        released_in(view, rest)
     } else if word == b"roll".as_slice() {
         roll_said(alloc, rest)
     } else {

@@ -6,11 +6,12 @@ ghost use Rattle.replicated_map.specs.Commands.{command_bytes};
 use crate::lines::put_map_line;
 use crate::words::command_said;
 use crate::{Command, ReplicatedMap};
-use address::Address;
+use address::{Address, ViewId};
 use application::Application;
 use script_reader::{Payloads, Unheard};
 use std::alloc::{AllocError, Global};
 use trace_props::Bytes;
+use view::View;
 
 // The spelling of a command.
 fn spelled(alloc: Global, command: &Command<'_>) -> Result<Bytes, AllocError>
@@ -36,11 +37,26 @@ impl Payloads for ReplicatedMap {
 }
 
 impl Application for ReplicatedMap {
+    ghost use Rattle.std.specs.Prelude.{None};
+    ghost use Rattle.replicated_map.specs.Words.{map_payload};
     ghost use Rattle.replicated_map.specs.MapText.{map_line};
 
     ghost line_of = { map_line };
 
+    ghost payload_within = { λ view. map_payload };
+
+    ghost first_said = { λ view. None };
+
     fn put_line(&self, member: &Address, out: &mut Vec<u8>) -> Result<(), AllocError> {
         put_map_line(out, member, self.entries())
+    }
+
+    /// The spelling of the same words in each view.
+    fn payload_in_view(alloc: Global, _view: ViewId, text: &[u8]) -> Result<Bytes, Unheard> {
+        ReplicatedMap::payload(alloc, text)
+    }
+
+    fn first_message(_alloc: Global, _view: &View) -> Result<Option<Bytes>, AllocError> {
+        Ok(None)
     }
 }

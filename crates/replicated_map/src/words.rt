@@ -76,7 +76,7 @@ fn remove_said(rest: Option<&[u8]>) -> Result<Command<'_>, Fault>
 
 // What `replace KEY OLD NEW` says behind its key.
 fn replaced<'a>(key: KeyBytes<'a>, rest: Option<&'a [u8]>) -> Result<Command<'a>, Fault>
-    ensures { MatchResult result (λ c. replaced key (option_copied rest.entry) ≡ Ok c) (λ f. replaced key (option_copied rest.entry) ≡ Err f) }
+    ensures { MatchResult result (λ c. replaced key.entry (option_copied rest.entry) ≡ Ok c) (λ f. replaced key.entry (option_copied rest.entry) ≡ Err f) }
 {
     match expected_field(rest) {
         Err(fault) => Err(fault),

@@ -3,13 +3,13 @@
 ghost use Rattle.udp_runs.specs.Ends.{TakesMore};
 
 use crate::ends::{Cut, settle};
-use crate::node_state::append_chat_of;
+use crate::node_state::append_state_of;
 use crate::outbox::{Outbox, OutboxError};
 use crate::telling::Teller;
 use crate::{Lines, LinesError, Machine, Manner, Tally, Trouble};
 use address::Address;
+use application::Application;
 use channel::Error;
-use chat_log::Chat;
 use limits::Refusal;
 use script_reader::MemberPlan;
 use std::alloc::Global;
@@ -26,7 +26,7 @@ const SENDS: u32 = 1_024;
 
 /// A member that runs by itself.
 #[derive(Drop)]
-pub(crate) struct Lone<'a, N: Net, C: Chat> {
+pub(crate) struct Lone<'a, N: Net, C: Application> {
     alloc: Global,
     member: Runner<N, C>,
     manner: Manner,
@@ -62,7 +62,7 @@ fn show<W: Write>(writer: &mut W, text: &mut Vec<u8>) -> Result<(), Cut>
     Ok(())
 }
 
-impl<'a, N: Net, C: Chat> Lone<'a, N, C> {
+impl<'a, N: Net, C: Application> Lone<'a, N, C> {
     /// A member that was started, and is not connected yet; what it sends once.
     pub(crate) fn new(
         alloc: Global,
@@ -210,7 +210,7 @@ impl<'a, N: Net, C: Chat> Lone<'a, N, C> {
         if self.manner.speaks {
             return Ok(());
         }
-        let appended = append_chat_of(&mut self.text, self.member.channel());
+        let appended = append_state_of(&mut self.text, self.member.channel());
         show(writer, &mut self.text)?;
         appended?;
         Ok(())

@@ -12,7 +12,8 @@ use crate::output::Output;
 use crate::programs::{complain, failed, outside, without_memory};
 use crate::said::Appended;
 use address::{Address, Node};
-use chat_log::{Chat, ChatLog, LongChat};
+use application::Application;
+use chat_log::{ChatLog, LongChat};
 use commands::{Status, Unreadable, read_all};
 use std::io::Read;
 use std::net::Net;
@@ -213,8 +214,8 @@ fn report<R: Eprint>(rt: &R, tally: &Tally, stats: bool) {
     }
 }
 
-// Runs the node with a chat, and says what is to be said of it on the standard error.
-fn run_with<C: Chat, L: Lines, R: Net + Clock + Print + Eprint + AllocGlobal>(
+// Runs the node with what it keeps, and says what is to be said of it on the standard error.
+fn run_with<A: Application, L: Lines, R: Net + Clock + Print + Eprint + AllocGlobal>(
     rt: &R,
     settings: &Settings,
     plan: &MemberPlan<'_>,
@@ -224,7 +225,7 @@ fn run_with<C: Chat, L: Lines, R: Net + Clock + Print + Eprint + AllocGlobal>(
 ) -> Status {
     let mut machine = Loopback::new(rt.alloc(), rt, settings, hosts);
     let mut output = Output::new(io::writer(rt));
-    let status = run_member::<C, L, _, _>(
+    let status = run_member::<A, L, _, _>(
         rt.alloc(),
         settings,
         plan,
