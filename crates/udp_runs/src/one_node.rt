@@ -95,12 +95,12 @@ fn run_listed<C: Application, L: Lines, M: Machine, W: Write>(
     }
 }
 
-/// Runs one node of the settings by itself, over its net, with a chat `C` as its receiver: it makes a group or joins its contact's, and has its rounds, between
-/// which it handles datagrams as they come. It sends the lines that come, each as soon as it may, and ends early where one is the byte 4 alone. Writes what happened to it
-/// to a writer as it happens, and its chat line at the end, or what is said as text (docs/FORMATS.md, "Nodes over UDP"). At its end the machine is told what
+/// Runs one node of the settings by itself, over its net, with `C` as its receiver: it makes a group or joins its contact's, and has its rounds, between
+/// which it handles datagrams as they come. It sends what the lines say that come, each as soon as it may, and as the coordinator of a view what that sends first in it. It ends early where one is the byte 4 alone. Writes what happened to it
+/// to a writer as it happens, and the line of its state at the end, or what is said as text (docs/FORMATS.md, "Nodes over UDP"). At its end the machine is told what
 /// happened in numbers. Answers the exit status.
 ///
-/// Where the lines can be read no more, or one is too long, it ends at once with status 5, and the machine is told why. Where the settings do not list the node it writes `fault 0 50` alone, status 3; where the node can have no socket `fault 0 51` alone, status 5. Where memory is
+/// Where the lines can be read no more, one is too long, or one says no payload, it ends at once with status 5, and the machine is told why. Where the settings do not list the node it writes `fault 0 50` alone, status 3; where the node can have no socket `fault 0 51` alone, status 5. Where memory is
 /// refused, it writes the text so far and `# memory`.
 pub fn run_member<C: Application, L: Lines, M: Machine, W: Write>(
     alloc: Global,

@@ -15,6 +15,8 @@ use address::{Address, Node};
 use application::Application;
 use chat_log::{ChatLog, LongChat};
 use commands::{Status, Unreadable, read_all};
+use lock_table::LockTable;
+use replicated_map::ReplicatedMap;
 use std::io::Read;
 use std::net::Net;
 use std::rt::Files;
@@ -22,7 +24,7 @@ use std::time::{Clock, Duration};
 use std::{fs, io};
 use udp_net::{BindError, Hosts, Settings, SettingsError, settings};
 use udp_runs::{Lines, Loopback, Manner, MemberPlan, NoLines, Tally, Trouble, run_member, run_udp};
-use vsync_words::{MemberOptions, MemberWords, UdpWords};
+use vsync_words::{Kept, MemberOptions, MemberWords, UdpWords};
 
 // Says that the input is refused as a whole.
 fn refuse<R: Print>(rt: &R, number: u8) -> Status
@@ -196,6 +198,10 @@ fn report<R: Eprint>(rt: &R, tally: &Tally, stats: bool) {
         Some(Trouble::NoLines) => {
             let _ = eprintln!(rt; "vsync: the lines to send cannot be read any more");
         }
+        Some(Trouble::NoPayload(fault)) => {
+            let number = fault.number();
+            let _ = eprintln!(rt; "vsync: what is to be sent says no command: {number}");
+        }
         None => (),
     }
     if tally.has_ended {
@@ -248,7 +254,7 @@ fn run_with<A: Application, L: Lines, R: Net + Clock + Print + Eprint + AllocGlo
     )
 }
 
-// Runs the node with the chat of its options.
+// Runs the node with what its options say that it keeps.
 fn run_lines<L: Lines, R: Net + Clock + Print + Eprint + AllocGlobal>(
     rt: &R,
     settings: &Settings,
@@ -257,10 +263,11 @@ fn run_lines<L: Lines, R: Net + Clock + Print + Eprint + AllocGlobal>(
     hosts: Hosts,
     lines: &mut L,
 ) -> Status {
-    if options.long {
-        run_with::<LongChat, L, R>(rt, settings, plan, options, hosts, lines)
-    } else {
-        run_with::<ChatLog, L, R>(rt, settings, plan, options, hosts, lines)
+    match options.kept() {
+        Kept::Chat => run_with::<ChatLog, L, R>(rt, settings, plan, options, hosts, lines),
+        Kept::LongChat => run_with::<LongChat, L, R>(rt, settings, plan, options, hosts, lines),
+        Kept::Map => run_with::<ReplicatedMap, L, R>(rt, settings, plan, options, hosts, lines),
+        Kept::Locks => run_with::<LockTable, L, R>(rt, settings, plan, options, hosts, lines),
     }
 }
 

@@ -96,14 +96,16 @@ files_app app = with_rule (with_rule app (option_rule (codes "incarnation-file")
 abbrev pub hosts_app : App → App
 hosts_app app = with_rule (with_rule app (option_rule (codes "bind"))) (repeated_rule (codes "peer"))
 
--- with all of them and `[--forever] [--leave] [--text] [--stats] [--long]`
+-- with all of them and `[--forever] [--leave] [--text] [--stats] [--long] [--map] [--locks]`
 abbrev pub flags_app : App → App
-flags_app app = with_rule (with_rule (with_rule (with_rule (with_rule app
+flags_app app = with_rule (with_rule (with_rule (with_rule (with_rule (with_rule (with_rule app
     (flag_rule (codes "forever")))
     (flag_rule (codes "leave")))
     (flag_rule (codes "text")))
     (flag_rule (codes "stats")))
-    (flag_rule (codes "long"))
+    (flag_rule (codes "long")))
+    (flag_rule (codes "map")))
+    (flag_rule (codes "locks"))
 
 abbrev pub options_app : App → App
 options_app app = flags_app (hosts_app (files_app (times_app app)))
@@ -157,6 +159,8 @@ pub record AreMemberOptions (rows : List Row) (options : MemberOptions) : Type 0
   pub text : IsFlag (one_of (codes "text") rows) options.text
   pub stats : IsFlag (one_of (codes "stats") rows) options.stats
   pub long : IsFlag (one_of (codes "long") rows) options.long
+  pub map : IsFlag (one_of (codes "map") rows) options.map
+  pub locks : IsFlag (one_of (codes "locks") rows) options.locks
 
 -- the words of `member` are the first values of its arguments and options: its numbers in their ranges
 pub record AreMemberWords (rows : List Row) (words : MemberWords) : Type 0 where

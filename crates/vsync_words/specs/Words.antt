@@ -1,5 +1,5 @@
 -- What a command names.
-use Rattle.std.specs.Prelude.{◌≡◌, ℕ, Bool, true, false, List, Result, MatchResult, codes}
+use Rattle.std.specs.Prelude.{◌≡◌, ℕ, Bool, true, false, List, Result, MatchResult, codes, if◌then◌else◌}
 use Rattle.clap.specs.Words.{kind_of}
 use Rattle.clap.specs.declared.error.Error.{Error}
 use Rattle.clap.specs.declared.error.kind.ErrorKind.TheVariants.{OutOfMemory}
@@ -165,6 +165,10 @@ kept_of (Draw path) = kept.Chat
 kept_of (DrawTrace path) = kept.Chat
 kept_of (Map path) = kept.Map
 kept_of (Locks path) = kept.Locks
+
+-- what a node's member keeps by its flags `--locks`, `--map` and `--long`
+abbrev pub kept_by : Bool → Bool → Bool → Kept
+kept_by locks map long = if locks then kept.Locks else if map then kept.Map else if long then kept.LongChat else kept.Chat
 
 -- this command, or an error that says that memory was refused
 abbrev pub IsOrNoMemory : (Invocation → Type 0) → Result Invocation Error → Type 0
