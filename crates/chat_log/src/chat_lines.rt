@@ -55,7 +55,11 @@ fn put_lines<C: Chat>(out: &mut Vec<u8>, chat: &C) -> Result<(), AllocError>
 
 /// Appends the chat line of a member with its line feed, as `chat 1.1 1.1:6869`: the lines that its chat holds, the oldest first, `-` for none.
 #[tactic(auto, using(vsync_text::proofs::KeepFront::goes_on))]
-pub(crate) fn put_chat<C: Chat>(out: &mut Vec<u8>, member: &Address, chat: &C) -> Result<(), AllocError>
+pub(crate) fn put_chat<C: Chat>(
+    out: &mut Vec<u8>,
+    member: &Address,
+    chat: &C,
+) -> Result<(), AllocError>
     ensures text { OnOk result (out.new.items ≡ out.old.items ++ chat_line member.now (C.lines_of chat.now)) }
     ensures kept { GoesOnFrom out.old.items out.new.items }
 {

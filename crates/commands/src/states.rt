@@ -38,10 +38,7 @@ fn append_state_at<A: Application>(
 }
 
 /// Appends the lines of all members that run, by node; the first few of them where memory is refused.
-fn append_states<A: Application>(
-    out: &mut Vec<u8>,
-    world: &World<A>,
-) -> Result<(), AllocError>
+fn append_states<A: Application>(out: &mut Vec<u8>, world: &World<A>) -> Result<(), AllocError>
     ensures ok { OnOk result (out.new.items ≡ out.old.items ++ concat (state_lines_of A.meaning A.line_of world.now.history.trace)) }
     ensures err { OnErr result ((count : ℕ) × (out.new.items ≡ out.old.items ++ concat (take count (state_lines_of A.meaning A.line_of world.now.history.trace)))) }
 {
@@ -52,11 +49,7 @@ fn append_states<A: Application>(
 }
 
 /// Writes the states of a world.
-fn print_states<A: Application, W: Write>(
-    alloc: Global,
-    world: &World<A>,
-    writer: &mut W,
-) -> Status
+fn print_states<A: Application, W: Write>(alloc: Global, world: &World<A>, writer: &mut W) -> Status
     ensures { Written (IsLinesText (state_lines_of A.meaning A.line_of world.now.history.trace) true) (W.contents writer.old) (W.contents writer.new) result }
 {
     let mut text = Vec::new(alloc);

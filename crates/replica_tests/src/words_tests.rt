@@ -52,11 +52,13 @@ fn the_words_of_the_map_are_spelled(rt: HostRuntime) {
 
 #[test]
 fn the_words_of_the_locks_are_spelled(rt: HostRuntime) {
-    assert!(rt; says::<LockTable>(
-        rt.alloc(),
-        b"acquire 2@1.1 a",
-        b"\x01\x00\x00\x00\x00\x00\x00\x00\x02\x00\x01\x00\x00\x00\x01\x01a",
-    ));
+    assert!(rt;
+        says::<LockTable>(
+            rt.alloc(),
+            b"acquire 2@1.1 a",
+            b"\x01\x00\x00\x00\x00\x00\x00\x00\x02\x00\x01\x00\x00\x00\x01\x01a",
+        )
+    );
 }
 
 #[test]

@@ -13,7 +13,11 @@ fn run_with<A: Application>(alloc: Global, command: &[u8], text: &[u8]) -> (Vec<
     let mut reader = text;
     let status = match command {
         b"world" => run_script::<A, &[u8], Vec<u8>>(alloc, &mut reader, &mut output),
-        b"chat" | b"map" | b"locks" => run_states::<A, &[u8], Vec<u8>>(alloc, &mut reader, &mut output),
+        b"chat" | b"map" | b"locks" => run_states::<A, &[u8], Vec<u8>>(
+            alloc,
+            &mut reader,
+            &mut output,
+        ),
         b"packets" => run_packets::<A, &[u8], Vec<u8>>(alloc, &mut reader, &mut output),
         b"check" => run_check::<A, &[u8], Vec<u8>>(alloc, &mut reader, &mut output),
         _ => Status::Usage,

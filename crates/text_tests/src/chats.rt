@@ -1,5 +1,5 @@
-use application::append_line;
 use crate::fixtures::{address, is};
+use application::append_line;
 use chat_log::ChatLog;
 use state_transfer::Receiver;
 use std::alloc::{AllocError, Global};

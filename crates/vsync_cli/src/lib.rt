@@ -18,6 +18,6 @@ pub use programs::program;
 pub use replicated_map::ReplicatedMap;
 pub use udp_runs::{Lines, Manner, run_member, run_udp};
 pub use vsync_words::{
-    Invocation, Kept, MemberMistake, MemberOptions, MemberPlan, MemberWords, TextCommand, TextWords,
-    UdpWords, command,
+    Invocation, Kept, MemberMistake, MemberOptions, MemberPlan, MemberWords, TextCommand,
+    TextWords, UdpWords, command,
 };

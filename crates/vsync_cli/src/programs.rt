@@ -9,9 +9,7 @@ use application::Application;
 use chat_log::{ChatLog, LongChat};
 use clap::Error;
 use clap::error::ErrorKind;
-use commands::{
-    Status, run_check, run_draw, run_draw_trace, run_packets, run_script, run_states,
-};
+use commands::{Status, run_check, run_draw, run_draw_trace, run_packets, run_script, run_states};
 use lock_table::LockTable;
 use replicated_map::ReplicatedMap;
 use std::alloc::Global;

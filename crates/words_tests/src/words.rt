@@ -156,14 +156,26 @@ fn each_subcommand_takes_the_standard_input(rt: HostRuntime) {
 #[test]
 fn what_the_members_keep_is_told_by_the_command(rt: HostRuntime) {
     let alloc = rt.alloc();
-    assert!(rt; kept(alloc, &["vsync", "map", "a"]) == Some(Kept::Map), "map");
-    assert!(rt; kept(alloc, &["vsync", "locks", "a"]) == Some(Kept::Locks), "locks");
-    assert!(rt; kept(alloc, &["vsync", "world", "a"]) == Some(Kept::Chat), "world");
+    assert!(rt;
+        kept(alloc, &["vsync", "map", "a"]) == Some(Kept::Map),
+        "map"
+    );
+    assert!(rt;
+        kept(alloc, &["vsync", "locks", "a"]) == Some(Kept::Locks),
+        "locks"
+    );
+    assert!(rt;
+        kept(alloc, &["vsync", "world", "a"]) == Some(Kept::Chat),
+        "world"
+    );
     assert!(rt;
         kept(alloc, &["vsync", "chat", "--long", "a"]) == Some(Kept::LongChat),
         "chat --long"
     );
-    assert!(rt; kept(alloc, &["vsync", "draw", "a"]) == Some(Kept::Chat), "draw");
+    assert!(rt;
+        kept(alloc, &["vsync", "draw", "a"]) == Some(Kept::Chat),
+        "draw"
+    );
 }
 
 #[test]
