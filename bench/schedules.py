@@ -1,9 +1,11 @@
 #!/usr/bin/env python3
-"""Prints a script for `vsync world`; a seed always gives the same one:
+"""Prints a script for `vsync world` or `vsync map`; a seed always gives the same one:
 
     schedules.py random SEED LINES NODES     the nodes 1 to NODES start, create, join, send, tick, suspect, leave, crash and start again, get hints of
                                              each other and merge; packets are delivered late, out of order, twice, or never
     schedules.py changes SEED LINES NODES    the same with few messages and many changes of views
+    schedules.py maps SEED LINES NODES       the first kind for `vsync map`, whose sends are commands of the map; then all that is outstanding is delivered
+    schedules.py puts LINES                  the last kind with puts over 1,000 keys for `vsync map`
     schedules.py steady LINES                five members in one view; one that is not the coordinator sends, and everything is delivered in order
 
 A line `deliver K` names a packet by its number, so whoever writes a script must know which packets are put out. The classes below follow the rules of
@@ -415,9 +417,28 @@ RANDOM = {"send": 100, "tick": 40, "suspect": 5, "split": 1, "hint": 15, "leave"
 CHANGES = {"send": 30, "tick": 50, "suspect": 15, "split": 3, "hint": 40, "leave": 2, "crash": 4, "again": 20, "refused": 6}
 
 
-def schedule(seed, lines, nodes, often):
+def letters(chance):
+    """What a member of a chat says."""
+    return chance.choice("abcdefgh") * chance.randint(0, 5)
+
+
+def command(chance):
+    """What a member says that keeps a map: puts mostly, over a few keys, so that replacements and removals find some."""
+    key, value = f"k{chance.randrange(40)}", chance.choice("abc") * chance.randrange(4)
+    kind = chance.choices(["put", "remove", "replace", "clear"], [60, 15, 22, 3])[0]
+    if kind == "put":
+        return f"put {key} {value}"
+    if kind == "remove":
+        return f"remove {key}"
+    if kind == "replace":
+        return f"replace {key} {chance.choice(['-', 'a', 'b', 'cc', 'aaa', ''])} {value}"
+    return "clear"
+
+
+def schedule(seed, lines, nodes, often, says=letters):
     chance = random.Random(seed)
     world = World()
+    world.says = says
     nodes = range(1, nodes + 1)
     tried, weights = [*often, "deliver"], [*often.values(), 1000 - sum(often.values())]
     while len(world.lines) < lines:
@@ -426,7 +447,23 @@ def schedule(seed, lines, nodes, often):
             world.say("start", chance.choice(down))
         else:
             try_one(world, chance, nodes, chance.choices(tried, weights)[0])
-    return world.lines[:lines]
+    return world
+
+
+def settle(world):
+    """Whoever has ended is suspected, time passes, and all that is in flight is delivered, in order: so often that what is outstanding is delivered and every flush ends."""
+    for _ in range(40):
+        for member in list(world.running.values()):
+            for other in {**dict.fromkeys(member.members), **dict.fromkeys(member.promised_list)}:
+                if not world.runs(other) and other not in member.suspects:
+                    world.say("suspect", member.me[0], other)
+            if world.runs(member.me):
+                world.say("tick", member.me[0])
+        flight, world.flight = world.flight, []
+        while flight:
+            for packet in flight:
+                world.deliver(packet)
+            flight, world.flight = world.flight, []
 
 
 def try_one(world, chance, nodes, what):
@@ -441,7 +478,7 @@ def try_one(world, chance, nodes, what):
             world.say("create", node)
     elif what == "send":
         able = [member for member in in_views if not member.blocked()] if chance.random() < 0.9 else in_views
-        world.say("send", chance.choice(able or running).me[0], chance.choice("abcdefgh") * chance.randint(0, 5))
+        world.say("send", chance.choice(able or running).me[0], world.says(chance))
     elif what == "suspect":
         world.say("suspect", node, suspected(world, chance, member))
     elif what == "split":
@@ -455,7 +492,8 @@ def try_one(world, chance, nodes, what):
         if event == "deliver":
             world.line("deliver", world.put_out + 1000)
         else:
-            world.say(event, chance.choice(nodes), *[""] * (event == "send"))
+            nobody = "" if world.says is letters else "remove none"
+            world.say(event, chance.choice(nodes), *[nobody] * (event == "send"))
     elif what in ("tick", "leave", "crash"):
         world.say(what, node)
     else:
@@ -498,7 +536,7 @@ def deliver_some(world, chance, member):
         world.deliver(packet)
 
 
-def steady(lines):
+def steady(lines, says=lambda k: f"message {k}"):
     world = World()
 
     def settle():
@@ -512,7 +550,7 @@ def steady(lines):
         world.say("join", node, (1, 1))
         settle()
     while len(world.lines) < lines:
-        world.say("send", 2, f"message {len(world.lines)}")
+        world.say("send", 2, says(len(world.lines)))
         settle()
     return world.lines[:lines]
 
@@ -520,7 +558,14 @@ def steady(lines):
 def main(words):
     if len(words) == 4 and words[0] in ("random", "changes"):
         seed, lines, nodes = map(int, words[1:])
-        made = schedule(seed, lines, nodes, RANDOM if words[0] == "random" else CHANGES)
+        made = schedule(seed, lines, nodes, RANDOM if words[0] == "random" else CHANGES).lines[:lines]
+    elif len(words) == 4 and words[0] == "maps":
+        seed, lines, nodes = map(int, words[1:])
+        world = schedule(seed, lines, nodes, RANDOM, command)
+        settle(world)
+        made = world.lines
+    elif len(words) == 2 and words[0] == "puts":
+        made = steady(int(words[1]), lambda k: f"put key{k % 1000:03} message {k}")
     elif len(words) == 2 and words[0] == "steady":
         made = steady(int(words[1]))
     else:

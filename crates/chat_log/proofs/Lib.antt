@@ -1,1 +1,2 @@
 mod FactOfHalves
+pub mod FactOfLinesLeft

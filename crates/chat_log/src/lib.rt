@@ -2,7 +2,9 @@
 //! same lines (docs/FORMATS.md, "The chat's state").
 #![tactic(auto)]
 
+mod application;
 mod chat;
+mod chat_lines;
 mod decoding;
 mod law;
 mod lines;

@@ -3,6 +3,7 @@ use Rattle.std.proofs.Common.{◌≡◌, ℕ, List, take, Bool, true, false, Res
 use Rattle.state_transfer.specs.Meanings.{Meaning}
 use Rattle.trace_props.specs.Places.{EachPlace}
 use Rattle.trace_props.specs.Synchrony.{IsWellOrdered, IsVirtuallySynchronous}
+use Rattle.replicas.specs.Replicas.{ReplicasAgree}
 use Rattle.world_model.specs.declared.WorldEvent.{WorldEvent}
 use Rattle.world_step.specs.Worlds.{WorldModel, no_world, Runs as WorldRuns}
 use Rattle.world_model.specs.Faithful.{IsFaithful}
@@ -31,10 +32,11 @@ module _ {S : Type 0} (meaning : Meaning S) where
     pub faithful : IsFaithful w.history
     pub ordered : EachPlace IsWellOrdered w.history.trace
     pub synchronous : IsVirtuallySynchronous meaning w.history.trace
+    pub agreeing : EachPlace (ReplicasAgree meaning) w.history.trace
 
   -- it ran these events from the beginning
   abbrev ran-these : (events : List WorldEvent) (w : WorldModel S) → OwnedReport w → RunsFrom no_world events w → Ran meaning events w
-  ran-these events w k ran = record { ran = ran; faithful = k.faithful; ordered = k.ordered; synchronous = k.synchronous }
+  ran-these events w k ran = record { ran = ran; faithful = k.faithful; ordered = k.ordered; synchronous = k.synchronous; agreeing = k.agreeing }
 
   -- what was run in a new world was run from nothing
   from-nothing : (given events : List WorldEvent) (old w : WorldModel S) → given ≡ events → old ≡ no_world → RunsFrom old given w → RunsFrom no_world events w

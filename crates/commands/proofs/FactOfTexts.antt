@@ -11,7 +11,7 @@ use Rattle.script_reader.specs.declared.script.Script.{Script}
 use Rattle.trace_props.specs.declared.event.Event.{Event}
 use Rattle.world_model.specs.declared.Reply.{Reply}
 use Rattle.script_reader.specs.declared.fault.Fault.{Fault}
-use Rattle.script_reader.specs.Script.{script_of, fault_number}
+use Rattle.script_reader.specs.Script.{script_by, fault_number}
 use Rattle.vsync_text.specs.Runs.{lines_of_run}
 use Rattle.commands.specs.Outcomes.{Ends, IsLinesText, IsFaultText, IsUnreadText, IsScriptText, IsAnswer, Written, ReadsScript, memory_line}
 use Rattle.commands.specs.Outcomes.IsUnreadText.{Faulty, Unread}
@@ -150,27 +150,27 @@ printed-as lines ran replies replies' trace trace' a b status r t w =
     (subst (λ (y : List Reply). Written (IsLinesText (lines_of_run lines y trace) ran) a b status) r w)
 
 -- memory was refused before the script was read
-pub unread-text : (left a b : Option (List ℕ)) (status : Status) → Ends a b memory_line Memory status → IsAnswer IsUnreadText left a b status
-unread-text left a b status e = Answers (unwrap_or left []) status (left-of left) (record { meant = Memory; text = memory_line; says = Unread; ends = e })
+pub unread-text : (payload_of : List ℕ → Result (List ℕ) Fault) (left a b : Option (List ℕ)) (status : Status) → Ends a b memory_line Memory status → IsAnswer (IsUnreadText payload_of) left a b status
+unread-text payload_of left a b status e = Answers (unwrap_or left []) status (left-of left) (record { meant = Memory; text = memory_line; says = Unread; ends = e })
 
 -- the script was read and has a fault
-pub fault-text : (left a b : Option (List ℕ)) (bytes : List ℕ) (line : ℕ) (fault : Fault) (status : Status) → IfSome left (λ all. bytes ≡ all) → script_of bytes ≡ Err (record { line = line; fault = fault })
-    → Written (IsFaultText line (fault_number fault)) a b status → IsAnswer IsUnreadText left a b status
-fault-text left a b bytes line fault status is read w =
-    Answers bytes status is (written-as (IsFaultText line (fault_number fault)) (IsUnreadText bytes) a b status (λ s t says. Faulty line fault s t read says) w)
+pub fault-text : (payload_of : List ℕ → Result (List ℕ) Fault) (left a b : Option (List ℕ)) (bytes : List ℕ) (line : ℕ) (fault : Fault) (status : Status) → IfSome left (λ all. bytes ≡ all) → script_by payload_of bytes ≡ Err (record { line = line; fault = fault })
+    → Written (IsFaultText line (fault_number fault)) a b status → IsAnswer (IsUnreadText payload_of) left a b status
+fault-text payload_of left a b bytes line fault status is read w =
+    Answers bytes status is (written-as (IsFaultText line (fault_number fault)) (IsUnreadText payload_of bytes) a b status (λ s t says. Faulty line fault s t read says) w)
 
 -- what was written after nothing
 pub after-none : (P : Status → List ℕ → Type 0) (a b c : Option (List ℕ)) (status : Status) → Appends a b [] → Written P b c status → Written P a c status
 after-none P a b c status none w = record { meant = w.meant; text = w.text; says = w.says; ends = ends-then a b c [] w.text w.meant status none w.ends }
 
 -- the script was read, and what it comes to was printed
-pub ran-text : (Prints : Script → Status → List ℕ → Type 0) (left a b c : Option (List ℕ)) (script : Script) (status : Status) → ReadsScript left a b (Ok script) → Written (Prints script) b c status
-    → IsAnswer (IsScriptText Prints) left a c status
-ran-text Prints left a b c script status read w =
+pub ran-text : (payload_of : List ℕ → Result (List ℕ) Fault) (Prints : Script → Status → List ℕ → Type 0) (left a b c : Option (List ℕ)) (script : Script) (status : Status) → ReadsScript payload_of left a b (Ok script) → Written (Prints script) b c status
+    → IsAnswer (IsScriptText payload_of Prints) left a c status
+ran-text payload_of Prints left a b c script status read w =
     let bytes : List ℕ = read.0 in
     Answers bytes status read.1
-    (written-as (Prints script) (IsScriptText Prints bytes) a c status (λ s t says. Runs script s t read.2 says) (after-none (Prints script) a b c status read.3 w))
+    (written-as (Prints script) (IsScriptText payload_of Prints bytes) a c status (λ s t says. Runs script s t read.2 says) (after-none (Prints script) a b c status read.3 w))
 
 -- it was not read, and why was printed
-pub unrun-text : (Prints : Script → Status → List ℕ → Type 0) (left a b : Option (List ℕ)) (status : Status) → IsAnswer IsUnreadText left a b status → IsAnswer (IsScriptText Prints) left a b status
-unrun-text Prints left a b status w = answer-as IsUnreadText (IsScriptText Prints) left a b status (λ bytes s t says. Unrun s t says) w
+pub unrun-text : (payload_of : List ℕ → Result (List ℕ) Fault) (Prints : Script → Status → List ℕ → Type 0) (left a b : Option (List ℕ)) (status : Status) → IsAnswer (IsUnreadText payload_of) left a b status → IsAnswer (IsScriptText payload_of Prints) left a b status
+unrun-text payload_of Prints left a b status w = answer-as (IsUnreadText payload_of) (IsScriptText payload_of Prints) left a b status (λ bytes s t says. Unrun s t says) w

@@ -1,6 +1,6 @@
 pub mod FactOfTexts
 pub mod FactOfRuns
-pub mod FactOfChatLines
+pub mod FactOfStateLines
 pub mod FactOfVerdicts
 pub mod FactOfDrawings
 pub mod FactOfProcesses

@@ -1,6 +1,6 @@
 pub mod Outcomes
 pub mod Checks
-pub mod Chats
+pub mod States
 pub mod Packets
 pub mod Refusals
 pub mod Draws

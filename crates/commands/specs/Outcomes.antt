@@ -6,13 +6,14 @@ use Rattle.std.specs.Io.KnownBytes.{Appends}
 use Rattle.state_transfer.specs.Meanings.{Meaning}
 use Rattle.trace_props.specs.Places.{EachPlace}
 use Rattle.trace_props.specs.Synchrony.{IsWellOrdered, IsVirtuallySynchronous}
+use Rattle.replicas.specs.Replicas.{ReplicasAgree}
 use Rattle.world_model.specs.declared.WorldEvent.{WorldEvent}
 use Rattle.world_model.specs.Faithful.{IsFaithful}
 use Rattle.world_model.specs.Histories.{History}
 use Rattle.world_step.specs.Worlds.{WorldModel, no_world, Runs as WorldRuns}
 use Rattle.script_reader.specs.declared.script.Script.{Script}
 use Rattle.script_reader.specs.declared.fault.Fault.{Fault}
-use Rattle.script_reader.specs.Script.{script_of, fault_number}
+use Rattle.script_reader.specs.Script.{as_written, script_by, fault_number}
 use Rattle.vsync_text.specs.Runs.{lines_of_run, text_of_run}
 use Rattle.commands.specs.declared.status.Status.{Status}
 use Rattle.commands.specs.declared.status.Status.TheVariants.{Done, Broken, Usage, Refused, Memory, Outside}
@@ -39,12 +40,13 @@ pub data Ends (old new : Option (List ℕ)) (text : List ℕ) (status : Status) 
   Cut : (count : ℕ) → Appends old new (take count text) → Ends old new text status Outside
 
 -- a world came from nothing by exactly these events, each a world step: its history is faithful, and its trace is virtually synchronous,
--- well ordered at every place
+-- well ordered at every place, where its members' copies of the state agree
 pub record Ran {S : Type 0} (meaning : Meaning S) (events : List WorldEvent) (w : WorldModel S) : Type 0 where
   pub ran : WorldRuns meaning no_world events w
   pub faithful : IsFaithful w.history
   pub ordered : EachPlace IsWellOrdered w.history.trace
   pub synchronous : IsVirtuallySynchronous meaning w.history.trace
+  pub agreeing : EachPlace (ReplicasAgree meaning) w.history.trace
 
 -- the texts of some lines: all of them, where there is nothing more to say; or the first few and `# memory`
 pub data IsLinesText (lines : List (List ℕ)) (whole : Bool) : Status → List ℕ → Type 0 where
@@ -70,16 +72,16 @@ pub data IsFaultText (line number : ℕ) : Status → List ℕ → Type 0 where
   Printed : IsFaultText line number Refused (fault_line line number)
   Unprinted : IsFaultText line number Memory memory_line
 
--- the texts of a script's bytes that are not run: their first fault; or `# memory`, before they are read whole
-pub data IsUnreadText (bytes : List ℕ) : Status → List ℕ → Type 0 where
-  Faulty : (line : ℕ) (fault : Fault) (status : Status) (text : List ℕ) → script_of bytes ≡ Err (record { line = line; fault = fault })
-      → IsFaultText line (fault_number fault) status text → IsUnreadText bytes status text
-  Unread : IsUnreadText bytes Memory memory_line
+-- the texts of a script's bytes that are not run: their first fault; or `# memory`, before they are read whole. `payload_of` is how a text of the script says a payload
+pub data IsUnreadText (payload_of : List ℕ → Result (List ℕ) Fault) (bytes : List ℕ) : Status → List ℕ → Type 0 where
+  Faulty : (line : ℕ) (fault : Fault) (status : Status) (text : List ℕ) → script_by payload_of bytes ≡ Err (record { line = line; fault = fault })
+      → IsFaultText line (fault_number fault) status text → IsUnreadText payload_of bytes status text
+  Unread : IsUnreadText payload_of bytes Memory memory_line
 
 -- the texts of a script's bytes: what they say of the script; or why it is not run
-pub data IsScriptText (Prints : Script → Status → List ℕ → Type 0) (bytes : List ℕ) : Status → List ℕ → Type 0 where
-  Runs : (script : Script) (status : Status) (text : List ℕ) → script_of bytes ≡ Ok script → Prints script status text → IsScriptText Prints bytes status text
-  Unrun : (status : Status) (text : List ℕ) → IsUnreadText bytes status text → IsScriptText Prints bytes status text
+pub data IsScriptText (payload_of : List ℕ → Result (List ℕ) Fault) (Prints : Script → Status → List ℕ → Type 0) (bytes : List ℕ) : Status → List ℕ → Type 0 where
+  Runs : (script : Script) (status : Status) (text : List ℕ) → script_by payload_of bytes ≡ Ok script → Prints script status text → IsScriptText payload_of Prints bytes status text
+  Unrun : (status : Status) (text : List ℕ) → IsUnreadText payload_of bytes status text → IsScriptText payload_of Prints bytes status text
 
 -- how writing the text of something ends: with that text and its status; or the writer failed and took a beginning of it
 pub record Written (Says : Status → List ℕ → Type 0) (old new : Option (List ℕ)) (status : Status) : Type 0 where
@@ -95,10 +97,10 @@ pub data IsAnswer (Says : List ℕ → Status → List ℕ → Type 0) (left old
   Answers : (bytes : List ℕ) (status : Status) → IfSome left (λ all. bytes ≡ all) → Written (Says bytes) old new status → IsAnswer Says left old new status
 
 -- a script is read from a reader; or the command ends, for it is not run
-abbrev pub ReadsScript : Option (List ℕ) → Option (List ℕ) → Option (List ℕ) → Result Script Status → Type 0
-ReadsScript left old new (Ok script) = (bytes : List ℕ) × IfSome left (λ all. bytes ≡ all) × (script_of bytes ≡ Ok script) × Appends old new []
-ReadsScript left old new (Err status) = IsAnswer IsUnreadText left old new status
+abbrev pub ReadsScript : (List ℕ → Result (List ℕ) Fault) → Option (List ℕ) → Option (List ℕ) → Option (List ℕ) → Result Script Status → Type 0
+ReadsScript payload_of left old new (Ok script) = (bytes : List ℕ) × IfSome left (λ all. bytes ≡ all) × (script_by payload_of bytes ≡ Ok script) × Appends old new []
+ReadsScript payload_of left old new (Err status) = IsAnswer (IsUnreadText payload_of) left old new status
 
 -- a script is run from a reader to a writer
 abbrev pub RunsScript : {S : Type 0} → Meaning S → Option (List ℕ) → Option (List ℕ) → Option (List ℕ) → Status → Type 0
-RunsScript meaning left old new status = IsAnswer (IsScriptText (IsRunText meaning)) left old new status
+RunsScript meaning left old new status = IsAnswer (IsScriptText as_written (IsRunText meaning)) left old new status

@@ -4,6 +4,7 @@ use Rattle.state_transfer.specs.Meanings.{Meaning}
 use Rattle.vsync_text.specs.PacketText.{packet_lines}
 use Rattle.script_reader.specs.declared.script.Script.{Script}
 use Rattle.commands.specs.declared.status.Status.{Status}
+use Rattle.script_reader.specs.Script.{as_written}
 use Rattle.commands.specs.Outcomes.{IsEndText, IsScriptText, IsAnswer}
 
 -- the texts of the packets that were put out in a script's run, in order
@@ -12,4 +13,4 @@ IsPacketText meaning = IsEndText meaning (λ h. packet_lines h.pool)
 
 -- a script is run from a reader, and the packets are written to a writer
 abbrev pub RunsPackets : {S : Type 0} → Meaning S → Option (List ℕ) → Option (List ℕ) → Option (List ℕ) → Status → Type 0
-RunsPackets meaning left old new status = IsAnswer (IsScriptText (IsPacketText meaning)) left old new status
+RunsPackets meaning left old new status = IsAnswer (IsScriptText as_written (IsPacketText meaning)) left old new status

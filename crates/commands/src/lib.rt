@@ -1,7 +1,6 @@
 //! What the commands of the program do, as functions over a reader and a writer.
 #![tactic(auto)]
 
-mod chats;
 mod checks;
 mod draws;
 mod ends;
@@ -9,13 +8,14 @@ mod packets;
 mod processes;
 mod refusals;
 mod scripts;
+mod states;
 mod status;
 
-pub use chats::run_chat;
 pub use checks::run_check;
 pub use draws::{run_draw, run_draw_trace};
 pub use ends::{Unreadable, end_in_fault, end_in_memory, end_with, read_all};
 pub use packets::run_packets;
 pub use processes::run_check_processes;
 pub use scripts::run_script;
+pub use states::run_states;
 pub use status::Status;

@@ -6,7 +6,7 @@ ghost use Rattle.commands.specs.Packets.{IsPacketText, RunsPackets};
 use crate::Status;
 use crate::ends::{end_in_memory, end_with_lines};
 use crate::scripts::script_from;
-use script_reader::Script;
+use script_reader::{AsWritten, Script};
 use state_transfer::Receiver;
 use std::alloc::Global;
 use std::io::{Read, Write};
@@ -45,7 +45,7 @@ pub fn run_packets<R: Receiver, I: Read, W: Write>(
 ) -> Status
     ensures { RunsPackets R.meaning (I.remaining reader.old) (W.contents writer.old) (W.contents writer.new) result }
 {
-    match script_from(alloc, reader, writer) {
+    match script_from::<AsWritten, I, W>(alloc, reader, writer) {
         Ok(script) => play_packets::<R, W>(alloc, &script, writer),
         Err(status) => status,
     }

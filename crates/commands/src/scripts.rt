@@ -3,27 +3,27 @@ ghost use Rattle.commands.specs.Outcomes.{Written, IsLinesText, IsRunText, Reads
 
 use crate::Status;
 use crate::ends::{Unreadable, end_in_fault, end_in_memory, end_with, read_all};
-use script_reader::{Script, Unread, read_script};
+use script_reader::{AsWritten, Payloads, Script, Unread, read_script_by};
 use state_transfer::Receiver;
 use std::alloc::Global;
 use std::io::{Read, Write};
 use vsync_text::{Printed, write_run};
 use world::World;
 
-/// Reads a script; or ends the command, where it is none or is not read.
-pub fn script_from<I: Read, W: Write>(
+/// Reads a script, its texts as payloads of `P`; or ends the command, where it is none or is not read.
+pub fn script_from<P: Payloads, I: Read, W: Write>(
     alloc: Global,
     reader: &mut I,
     writer: &mut W,
 ) -> Result<Script, Status>
-    ensures { ReadsScript (I.remaining reader.old) (W.contents writer.old) (W.contents writer.new) result }
+    ensures { ReadsScript P.payload_of (I.remaining reader.old) (W.contents writer.old) (W.contents writer.new) result }
 {
     let bytes = match read_all(alloc, reader) {
         Ok(bytes) => bytes,
         Err(Unreadable::Memory) => return Err(end_in_memory(writer)),
         Err(Unreadable::Failed) => return Err(Status::Outside),
     };
-    match read_script(alloc, bytes.as_slice()) {
+    match read_script_by::<P>(alloc, bytes.as_slice()) {
         Ok(script) => Ok(script),
         Err(Unread::Fault { line, fault }) => Err(end_in_fault(alloc, writer, line, fault)),
         Err(Unread::Memory) => Err(end_in_memory(writer)),
@@ -73,7 +73,7 @@ pub fn run_script<R: Receiver, I: Read, W: Write>(
 ) -> Status
     ensures { RunsScript R.meaning (I.remaining reader.old) (W.contents writer.old) (W.contents writer.new) result }
 {
-    match script_from(alloc, reader, writer) {
+    match script_from::<AsWritten, I, W>(alloc, reader, writer) {
         Ok(script) => play::<R, W>(alloc, &script, writer),
         Err(status) => status,
     }

@@ -2,3 +2,4 @@ pub mod Keys
 pub mod Entries
 pub mod KeyLaws
 pub mod EntryLaws
+pub mod Words

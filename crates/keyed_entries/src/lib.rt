@@ -7,10 +7,12 @@ ghost use Rattle.keyed_entries.specs.declared.Entry.{Entry as EntryValue};
 ghost use Rattle.keyed_entries.specs.Entries.{IsPlace, Rises, rises, key_cmp, value_of, put, without};
 
 mod keys;
+mod words;
 
 pub use keys::{KeyBytes, key_from, put_key};
 use std::cmp::Ordering;
 use trace_props::Bytes;
+pub use words::{key_field, last_key};
 
 /// The longest key, in bytes; the shortest has one.
 pub const KEY: usize = 64;
@@ -33,6 +35,32 @@ pub enum Place {
     Free(usize),
 }
 
+// The order of two keys, byte by byte: keys are short, and most of those that are compared differ early.
+fn key_order(key: &[u8], other: &[u8]) -> Ordering
+    ensures { result ≡ key_cmp key.now other.now }
+{
+    let mut key = key;
+    let mut other = other;
+    while let Some((first, rest)) = key.split_first() {
+        let Some((other_first, other_rest)) = other.split_first() else {
+            return Ordering::Greater;
+        };
+        match first.cmp(other_first) {
+            Ordering::Less => return Ordering::Less,
+            Ordering::Greater => return Ordering::Greater,
+            Ordering::Equal => {
+                key = rest;
+                other = other_rest;
+            }
+        }
+    }
+    if other.is_empty() {
+        Ordering::Equal
+    } else {
+        Ordering::Less
+    }
+}
+
 /// The place of a key among entries whose keys rise. It halves them until it has found it.
 pub fn find<V: Drop>(entries: &[Entry<V>], key: &[u8]) -> Place
     requires { Rises entries.now }
@@ -42,7 +70,7 @@ pub fn find<V: Drop>(entries: &[Entry<V>], key: &[u8]) -> Place
     let mut high = entries.len();
     while low < high {
         let middle = low + (high - low) / 2;
-        match key.cmp(entries[middle].key.as_slice()) {
+        match key_order(key, entries[middle].key.as_slice()) {
             Ordering::Less => high = middle,
             Ordering::Equal => return Place::Held(middle),
             Ordering::Greater => low = middle + 1,

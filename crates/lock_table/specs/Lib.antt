@@ -8,3 +8,5 @@ pub mod EncodingLaws
 pub mod TableLaws
 pub mod StepLaws
 pub mod CommandLaws
+pub mod Words
+pub mod TableText

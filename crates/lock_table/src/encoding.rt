@@ -10,6 +10,7 @@ ghost use Rattle.lock_table.specs.Locks.{IsEntry, IsViewId, IsTable, table_of, t
 ghost use Rattle.lock_table.specs.Encoding.{view_id_bytes, token_bytes, waiters_bytes, lock_bytes, entry_bytes, table_encode};
 ghost use Rattle.lock_table.specs.Commands.{IsCommand, IsView, view_bytes, command_bytes};
 ghost use Rattle.lock_table.specs.declared.TheConstants.{LONGEST_COMMAND};
+ghost use Rattle.lock_table.specs.declared.command.Command.TheVariants.{Roll};
 
 use crate::size::size_of_all;
 use crate::{Command, Lock, Token};
@@ -131,6 +132,16 @@ pub(crate) fn put_table(
     Ok(())
 }
 
+// Appends a roll to a view.
+pub(crate) fn put_roll(view: &View, out: &mut Vec<u8>)
+    requires { vec_len out.old + LONGEST_COMMAND ≤ vec_capacity out.old }
+    ensures items { out.new.items ≡ out.old.items ++ command_bytes (Roll view.now) }
+    ensures fits { IsView view.now }
+{
+    put_u8(3, out);
+    put_view(view, out);
+}
+
 // Appends a command.
 pub(crate) fn put_command(command: &Command<'_>, out: &mut Vec<u8>)
     requires { vec_len out.old + LONGEST_COMMAND ≤ vec_capacity out.old }
@@ -148,9 +159,6 @@ pub(crate) fn put_command(command: &Command<'_>, out: &mut Vec<u8>)
             put_view_id(*view, out);
             put_key(name.as_slice(), out);
         }
-        Command::Roll(view) => {
-            put_u8(3, out);
-            put_view(view, out);
-        }
+        Command::Roll(view) => put_roll(view, out),
     }
 }

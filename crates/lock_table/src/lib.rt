@@ -2,15 +2,18 @@
 //! (docs/FORMATS.md, "The table of locks").
 #![tactic(auto)]
 
+mod application;
 mod command;
 mod decoding;
 mod encoding;
 mod held;
 mod law;
+mod lines;
 mod lock;
 mod size;
 mod table;
 mod token;
+mod words;
 
 pub use command::Command;
 pub use law::{

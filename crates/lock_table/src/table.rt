@@ -9,7 +9,7 @@ use crate::encoding::put_table;
 use crate::held::Held;
 use crate::{Command, Lock, Token};
 use address::{Address, ViewId};
-use keyed_entries::{Place, find};
+use keyed_entries::{Entry, Place, find};
 use limits::GREATEST_NUMBER;
 use state_transfer::Receiver;
 use std::alloc::{AllocError, Global};
@@ -71,6 +71,13 @@ impl LockTable {
         ensures { result ≡ self.now.last }
     {
         self.held.last
+    }
+
+    // The locks that are held, their names rising.
+    pub(crate) fn locks(&self) -> &[Entry<Lock>]
+        ensures { result.now ≡ self.now.locks }
+    {
+        self.held.locks.as_slice()
     }
 
     // Whether so few numbers are left that not each lock could be granted once more, and one beside them.

@@ -9,3 +9,5 @@ mod lock_tests;
 mod map_tests;
 #[cfg(test)]
 mod reading_tests;
+#[cfg(test)]
+mod words_tests;

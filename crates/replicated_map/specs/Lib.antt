@@ -5,3 +5,5 @@ pub mod Meanings
 pub mod EncodingLaws
 pub mod MapLaws
 pub mod CommandLaws
+pub mod Words
+pub mod MapText

@@ -2,13 +2,16 @@
 //! (docs/FORMATS.md, "The map's state").
 #![tactic(auto)]
 
+mod application;
 mod command;
 mod decoding;
 mod encoding;
 mod entries;
 mod law;
+mod lines;
 mod map;
 mod values;
+mod words;
 
 pub use command::Command;
 use keyed_entries::KEY;

@@ -80,6 +80,13 @@ impl ReplicatedMap {
         value(self.entries.as_slice(), key)
     }
 
+    // Its entries, their keys rising.
+    pub(crate) fn entries(&self) -> &[Entry<Bytes>]
+        ensures { result.now ≡ self.now }
+    {
+        self.entries.as_slice()
+    }
+
     // Gives a key a value, if the state stays within `STATE` bytes. Where memory is refused, the entries are as before.
     fn put(&mut self, key: &KeyBytes<'_>, value: &ValueBytes<'_>) -> Result<(), AllocError>
         ensures ok { OnOk result (self.new ≡ put_within key.now value.now self.old) }

@@ -1,28 +1,36 @@
 //! The commands, on a text.
 
-use chat_log::{Chat, ChatLog, LongChat};
-use commands::{Status, run_chat, run_check, run_packets, run_script};
+use application::Application;
+use chat_log::{ChatLog, LongChat};
+use commands::{Status, run_check, run_packets, run_script, run_states};
+use lock_table::LockTable;
+use replicated_map::ReplicatedMap;
 use std::alloc::Global;
 
-// What a command writes of a text where members keep the chat `C`, and its exit status.
-fn run_with<C: Chat>(alloc: Global, command: &[u8], text: &[u8]) -> (Vec<u8>, u8) {
+// What a command writes of a text where members keep `A`, and its exit status.
+fn run_with<A: Application>(alloc: Global, command: &[u8], text: &[u8]) -> (Vec<u8>, u8) {
     let mut output = Vec::new(alloc);
     let mut reader = text;
     let status = match command {
-        b"world" => run_script::<C, &[u8], Vec<u8>>(alloc, &mut reader, &mut output),
-        b"chat" => run_chat::<C, &[u8], Vec<u8>>(alloc, &mut reader, &mut output),
-        b"packets" => run_packets::<C, &[u8], Vec<u8>>(alloc, &mut reader, &mut output),
-        b"check" => run_check::<C, &[u8], Vec<u8>>(alloc, &mut reader, &mut output),
+        b"world" => run_script::<A, &[u8], Vec<u8>>(alloc, &mut reader, &mut output),
+        b"chat" | b"map" | b"locks" => run_states::<A, &[u8], Vec<u8>>(
+            alloc,
+            &mut reader,
+            &mut output,
+        ),
+        b"packets" => run_packets::<A, &[u8], Vec<u8>>(alloc, &mut reader, &mut output),
+        b"check" => run_check::<A, &[u8], Vec<u8>>(alloc, &mut reader, &mut output),
         _ => Status::Usage,
     };
     (output, status.code())
 }
 
-/// What a command writes of a text, and its exit status; members keep the long chat or the short one.
+/// What a command writes of a text, and its exit status; members keep a map, a table of locks, the long chat or the short one.
 pub fn run(alloc: Global, command: &[u8], long: bool, text: &[u8]) -> (Vec<u8>, u8) {
-    if long {
-        run_with::<LongChat>(alloc, command, text)
-    } else {
-        run_with::<ChatLog>(alloc, command, text)
+    match (command, long) {
+        (b"map", _) => run_with::<ReplicatedMap>(alloc, command, text),
+        (b"locks", _) => run_with::<LockTable>(alloc, command, text),
+        (_, true) => run_with::<LongChat>(alloc, command, text),
+        (_, false) => run_with::<ChatLog>(alloc, command, text),
     }
 }

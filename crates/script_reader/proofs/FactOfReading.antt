@@ -5,9 +5,10 @@ use Rattle.std.specs.Prelude.{position, MatchOption}
 use Rattle.std.specs.List.{position_or_len}
 use Rattle.std.proofs.lemmas.List.Sums.{prefix_len-le-length}
 use Rattle.world_model.specs.declared.WorldEvent.{WorldEvent}
+use Rattle.script_reader.specs.declared.fault.Fault.{Fault}
 use Rattle.script_reader.specs.Lines.{lines_of, in_front}
 use Rattle.script_reader.specs.Numbers.{value_of, value_after}
-use Rattle.script_reader.specs.Script.{Script, script_of, as_script, event_in_line, with_event}
+use Rattle.script_reader.specs.Script.{Script, script_by, as_script, event_in_line, with_event}
 use Rattle.script_reader.specs.UdpScript.{udp_script_of, udp_said, numbered}
 use Rattle.script_reader.specs.Texts.{FaultAt, said_by, and_then}
 use Rattle.script_reader.proofs.FactOfTexts.{AddsAll, with_more, going_on, going_on_is, text_is_going_on}
@@ -78,9 +79,11 @@ nothing_first (Ok said) = refl
 nothing_first (Err f) = refl
 
 -- a script is read line by line, each on to the script before it
-pub script_is_going_on : (text : List ℕ) → script_of text ≡ going_on event_in_line with_event (record { events = []; lines = [] }) 1 (lines_of text)
-script_is_going_on text =
-    nothing_first (said_by event_in_line (λ k e. (k, e)) text) ∙ sym (going_on_is event_in_line (λ k e. (k, e)) with_event with_events adds_events _ 1 (lines_of text))
+pub script_is_going_on : (payload_of : List ℕ → Result (List ℕ) Fault) (text : List ℕ)
+    → script_by payload_of text ≡ going_on (event_in_line payload_of) with_event (record { events = []; lines = [] }) 1 (lines_of text)
+script_is_going_on payload_of text =
+    nothing_first (said_by (event_in_line payload_of) (λ k e. (k, e)) text)
+    ∙ sym (going_on_is (event_in_line payload_of) (λ k e. (k, e)) with_event with_events adds_events _ 1 (lines_of text))
 
 -- and one for nodes over UDP is
 pub udp_script_is_going_on : (text : List ℕ) → udp_script_of text ≡ going_on udp_said (and_then numbered) [] 1 (lines_of text)

@@ -30,11 +30,25 @@ node_and_address rest = do
 abbrev pub of_other : (ℕ → Address → WorldEvent) → Result (ℕ × Address) Fault → Result WorldEvent Fault
 of_other event read = made (λ r. event r.0 r.1) read
 
--- the rest of the line, whatever it holds, is the payload
-abbrev pub sent : Result (ℕ × Option (List ℕ)) Fault → Result WorldEvent Fault
-sent (Ok (n, None)) = Err MissingField
-sent (Ok (n, Some text)) = Ok (event.Send n text)
-sent (Err f) = Err f
+-- PAYLOADS
+
+-- the payload that the rest of a line says, where `payload_of` is how a text says one
+abbrev pub payload_in : (List ℕ → Result (List ℕ) Fault) → Option (List ℕ) → Result (List ℕ) Fault
+payload_in payload_of None = Err MissingField
+payload_in payload_of (Some text) = payload_of text
+
+-- the text itself, whatever it holds
+abbrev pub as_written : List ℕ → Result (List ℕ) Fault
+as_written text = Ok text
+
+-- LINES
+
+-- a node, and a payload with which its line ends
+abbrev pub sent : (List ℕ → Result (List ℕ) Fault) → Result (ℕ × Option (List ℕ)) Fault → Result WorldEvent Fault
+sent payload_of read = do
+  node ← read
+  payload ← payload_in payload_of node.1
+  Ok (event.Send node.0 payload)
 
 abbrev pub word_of : List ℕ → Option Word
 word_of name =
@@ -52,25 +66,25 @@ word_of name =
 
 -- the event of a word and of what is left behind it: `start N`, `create N`, `join N ADDR`, `send N TEXT`, `deliver K`,
 -- `tick N`, `suspect N ADDR`, `hint N ADDR`, `leave N`, `crash N`
-abbrev pub event_of : Word → Option (List ℕ) → Result WorldEvent Fault
-event_of Start rest = made event.Start (last (node_field rest))
-event_of Create rest = made event.Create (last (node_field rest))
-event_of Join rest = of_other event.Join (node_and_address rest)
-event_of Send rest = sent (node_field rest)
-event_of Deliver rest = made event.Deliver (last (packet_field rest))
-event_of Tick rest = made event.Tick (last (node_field rest))
-event_of Suspect rest = of_other event.Suspect (node_and_address rest)
-event_of Hint rest = of_other event.MergeHint (node_and_address rest)
-event_of Leave rest = made event.Leave (last (node_field rest))
-event_of Crash rest = made event.Crash (last (node_field rest))
+abbrev pub event_of : (List ℕ → Result (List ℕ) Fault) → Word → Option (List ℕ) → Result WorldEvent Fault
+event_of payload_of Start rest = made event.Start (last (node_field rest))
+event_of payload_of Create rest = made event.Create (last (node_field rest))
+event_of payload_of Join rest = of_other event.Join (node_and_address rest)
+event_of payload_of Send rest = sent payload_of (node_field rest)
+event_of payload_of Deliver rest = made event.Deliver (last (packet_field rest))
+event_of payload_of Tick rest = made event.Tick (last (node_field rest))
+event_of payload_of Suspect rest = of_other event.Suspect (node_and_address rest)
+event_of payload_of Hint rest = of_other event.MergeHint (node_and_address rest)
+event_of payload_of Leave rest = made event.Leave (last (node_field rest))
+event_of payload_of Crash rest = made event.Crash (last (node_field rest))
 
-abbrev pub spoken : Option Word → Option (List ℕ) → Result WorldEvent Fault
-spoken None rest = Err UnknownWord
-spoken (Some word) rest = event_of word rest
+abbrev pub spoken : (List ℕ → Result (List ℕ) Fault) → Option Word → Option (List ℕ) → Result WorldEvent Fault
+spoken payload_of None rest = Err UnknownWord
+spoken payload_of (Some word) rest = event_of payload_of word rest
 
 -- a line that is not skipped: its length is tested first
-abbrev pub event_in_line : List ℕ → Result WorldEvent Fault
-event_in_line line = if nat_lt SCRIPT_LINE (length line) then Err LineTooLong else spoken (word_of (field_of line)) (behind_field line)
+abbrev pub event_in_line : (List ℕ → Result (List ℕ) Fault) → List ℕ → Result WorldEvent Fault
+event_in_line payload_of line = if nat_lt SCRIPT_LINE (length line) then Err LineTooLong else spoken payload_of (word_of (field_of line)) (behind_field line)
 
 -- SCRIPTS
 
@@ -85,8 +99,12 @@ as_script (Ok said) = Ok (record { events = map (λ e. e.1) said; lines = map (�
 as_script (Err f) = Err f
 
 -- what a script says: the first line that is a fault decides, and else its events are those of its lines
+abbrev pub script_by : (List ℕ → Result (List ℕ) Fault) → List ℕ → Result Script FaultAt
+script_by payload_of text = as_script (said_by (event_in_line payload_of) (λ k e. (k, e)) text)
+
+-- what it says where each text is its payload
 abbrev pub script_of : List ℕ → Result Script FaultAt
-script_of text = as_script (said_by event_in_line (λ k e. (k, e)) text)
+script_of = script_by as_written
 
 -- a script and one event more
 abbrev pub with_event : Script → ℕ → WorldEvent → Script

@@ -14,7 +14,7 @@ use Rattle.limits.specs.declared.TheConstants.{SCRIPT_LINE}
 use Rattle.script_reader.specs.Lines.{field_of, behind_field}
 use Rattle.script_reader.specs.Numbers.{number_in}
 use Rattle.script_reader.specs.Fields.{Read, made, spelled_at, last}
-use Rattle.script_reader.specs.Script.{word_of, event_of}
+use Rattle.script_reader.specs.Script.{as_written, word_of, event_of}
 use Rattle.script_reader.specs.Texts.{FaultAt, said_by}
 
 -- the next field as a number of rounds, 0 to `ROUNDS`
@@ -26,7 +26,7 @@ abbrev pub of_node : Option Word → Option (List ℕ) → Result WorldEvent Fau
 of_node None rest = Err UnknownWord
 of_node (Some word.Deliver) rest = Err UnknownWord
 of_node (Some word.Tick) rest = Err UnknownWord
-of_node (Some w) rest = event_of w rest
+of_node (Some w) rest = event_of as_written w rest
 
 abbrev pub node_event : List ℕ → Option (List ℕ) → Result WorldEvent Fault
 node_event name rest = of_node (word_of name) rest

@@ -1,14 +1,12 @@
-ghost use Rattle.std.specs.Prelude.{◌≡◌, Some, MatchOption, MatchResult};
+ghost use Rattle.std.specs.Prelude.{◌≡◌};
 ghost use Rattle.std.specs.Option.{option_copied};
 ghost use Rattle.world_model.specs.declared.WorldEvent.TheVariants as event;
-ghost use Rattle.script_reader.specs.declared.fault.Unheard.TheVariants as unheard;
-ghost use Rattle.script_reader.specs.declared.fault.Fault.TheVariants.{MissingField};
 ghost use Rattle.script_reader.specs.Fields.{last, node_field, packet_field, address_field};
-ghost use Rattle.script_reader.specs.Script.{node_and_address, of_other, sent, word_of, event_of, event_in_line};
+ghost use Rattle.script_reader.specs.Script.{node_and_address, of_other, payload_in, sent, word_of, event_of, event_in_line};
 ghost use Rattle.script_reader.specs.Texts.{is_skipped, reading_by, IsReadUnlessRefused};
 
 use crate::field::{address_field, first_field, node_field, packet_field};
-use crate::{Fault, Unheard};
+use crate::{Fault, Payloads, Unheard};
 use address::{Address, Node};
 use limits::SCRIPT_LINE;
 use std::alloc::Global;
@@ -131,45 +129,42 @@ fn hinted(rest: Option<&[u8]>) -> Result<WorldEvent, Unheard>
     Ok(WorldEvent::MergeHint(node, address))
 }
 
-/// The payload of an event: the rest of its line.
-fn payload(alloc: Global, rest: Option<&[u8]>) -> Result<Bytes, Unheard>
-    ensures { MatchResult result (λ bytes. option_copied rest.entry ≡ Some bytes) (λ u. MatchOption (option_copied rest.entry) (u ≡ unheard.Fault MissingField) (λ text. u ≡ unheard.Memory)) }
+/// The payload that the rest of a line says.
+fn payload<P: Payloads>(alloc: Global, rest: Option<&[u8]>) -> Result<Bytes, Unheard>
+    ensures { IsReadUnlessRefused (λ x. x) result (payload_in P.payload_of (option_copied rest.entry)) }
 {
     let Some(text) = rest else {
         return Err(Unheard::Fault(Fault::MissingField));
     };
-    match Bytes::from_slice(alloc, text) {
-        Err(_) => Err(Unheard::Memory),
-        Ok(bytes) => Ok(bytes),
-    }
+    P::payload(alloc, text)
 }
 
 /// The event of `send N TEXT`.
-fn sent(alloc: Global, rest: Option<&[u8]>) -> Result<WorldEvent, Unheard>
-    ensures { IsReadUnlessRefused (λ x. x) result (sent (node_field (option_copied rest.entry))) }
+fn sent<P: Payloads>(alloc: Global, rest: Option<&[u8]>) -> Result<WorldEvent, Unheard>
+    ensures { IsReadUnlessRefused (λ x. x) result (sent P.payload_of (node_field (option_copied rest.entry))) }
 {
     match node_field(rest) {
         Err(fault) => Err(Unheard::Fault(fault)),
         Ok((node, behind)) => {
-            let bytes = payload(alloc, behind)?;
+            let bytes = payload::<P>(alloc, behind)?;
             Ok(WorldEvent::Send(node, bytes))
         }
     }
 }
 
 /// The event of a word and of what is left behind it.
-pub(crate) fn event_of(
+pub(crate) fn event_of<P: Payloads>(
     alloc: Global,
     word: Word,
     rest: Option<&[u8]>,
 ) -> Result<WorldEvent, Unheard>
-    ensures { IsReadUnlessRefused (λ x. x) result (event_of word (option_copied rest.entry)) }
+    ensures { IsReadUnlessRefused (λ x. x) result (event_of P.payload_of word (option_copied rest.entry)) }
 {
     match word {
         Word::Start => Ok(WorldEvent::Start(lone_node(rest)?)),
         Word::Create => Ok(WorldEvent::Create(lone_node(rest)?)),
         Word::Join => asked(rest),
-        Word::Send => sent(alloc, rest),
+        Word::Send => sent::<P>(alloc, rest),
         Word::Deliver => Ok(WorldEvent::Deliver(lone_packet(rest)?)),
         Word::Tick => Ok(WorldEvent::Tick(lone_node(rest)?)),
         Word::Suspect => suspected(rest),
@@ -190,8 +185,8 @@ pub fn is_skipped(line: &[u8]) -> bool
 }
 
 /// The event of a line that is not skipped.
-fn event_in_line(alloc: Global, line: &[u8]) -> Result<WorldEvent, Unheard>
-    ensures { IsReadUnlessRefused (λ x. x) result (event_in_line line.now) }
+fn event_in_line<P: Payloads>(alloc: Global, line: &[u8]) -> Result<WorldEvent, Unheard>
+    ensures { IsReadUnlessRefused (λ x. x) result (event_in_line P.payload_of line.now) }
 {
     if line.len() > SCRIPT_LINE {
         return Err(Unheard::Fault(Fault::LineTooLong));
@@ -199,16 +194,19 @@ fn event_in_line(alloc: Global, line: &[u8]) -> Result<WorldEvent, Unheard>
     let (name, rest) = first_field(line);
     match word_of(name) {
         None => Err(Unheard::Fault(Fault::UnknownWord)),
-        Some(word) => event_of(alloc, word, rest),
+        Some(word) => event_of::<P>(alloc, word, rest),
     }
 }
 
 /// What a line says: nothing, or an event.
-pub(crate) fn read_line(alloc: Global, line: &[u8]) -> Result<Option<WorldEvent>, Unheard>
-    ensures { IsReadUnlessRefused (λ x. x) result (reading_by event_in_line line.now) }
+pub(crate) fn read_line<P: Payloads>(
+    alloc: Global,
+    line: &[u8],
+) -> Result<Option<WorldEvent>, Unheard>
+    ensures { IsReadUnlessRefused (λ x. x) result (reading_by (event_in_line P.payload_of) line.now) }
 {
     if is_skipped(line) {
         return Ok(None);
     }
-    Ok(Some(event_in_line(alloc, line)?))
+    Ok(Some(event_in_line::<P>(alloc, line)?))
 }

@@ -1,8 +1,8 @@
 ghost use Rattle.std.specs.Prelude.{◌≡◌, [], OnOk, MatchResult};
-ghost use Rattle.script_reader.specs.Script.{script_of, event_in_line, with_event};
+ghost use Rattle.script_reader.specs.Script.{script_by, script_of, event_in_line, with_event};
 ghost use Rattle.script_reader.specs.Texts.{reading_by, HasRead, IsUnread};
 
-use crate::Unread;
+use crate::{AsWritten, Payloads, Unread};
 use crate::field::first_line;
 use crate::line::read_line;
 use std::alloc::{AllocError, Global};
@@ -50,10 +50,15 @@ impl Script {
     }
 
     /// Goes on with one line.
-    fn read_on(&mut self, alloc: Global, number: u64, line: &[u8]) -> Result<(), Unread>
-        ensures { HasRead with_event self.old number (reading_by event_in_line line.now) result self.new }
+    fn read_on<P: Payloads>(
+        &mut self,
+        alloc: Global,
+        number: u64,
+        line: &[u8],
+    ) -> Result<(), Unread>
+        ensures { HasRead with_event self.old number (reading_by (event_in_line P.payload_of) line.now) result self.new }
     {
-        match read_line(alloc, line) {
+        match read_line::<P>(alloc, line) {
             Err(unheard) => Err(unheard.at(number)),
             Ok(None) => Ok(()),
             Ok(Some(event)) => match self.add(number, event) {
@@ -74,18 +79,19 @@ impl Script {
 }
 
 /// Reads a script, in one pass. It is exactly what its lines say: `start N`, `create N`, `join N ADDR`, `send N TEXT`,
-/// `deliver K`, `tick N`, `leave N` and `crash N` are events, N a node from 1 to 65535, ADDR an address such as `3.1`, K a packet's
-/// number from 1 to `GREATEST_NUMBER`, and lines that are empty or begin with `#` say nothing. A line ends with a line feed, which the last may
-/// lack.
+/// `deliver K`, `tick N`, `leave N` and `crash N` are events, N a node from 1 to 65535, ADDR an address such as `3.1`, TEXT the rest of the line,
+/// whose payload `P` knows, K a packet's number from 1 to `GREATEST_NUMBER`, and lines that are empty or begin with `#` say nothing. A line ends
+/// with a line feed, which the last may lack (docs/FORMATS.md, "Script text").
 ///
 /// # Errors
 ///
 /// `Unread::Fault` has the first line that is none of these and what is wrong with it: it has more than `SCRIPT_LINE` bytes (43),
-/// begins with no known word (40), lacks a field (42), or has a field that is no such number or one field too many (41).
+/// begins with no known word (40), lacks a field (42), or has a field that is no such number or one field too many (41); or the text of a
+/// send says no payload (41 or 42).
 /// `Unread::Memory` where memory was refused.
 #[tactic(auto, using(crate::proofs::FactOfReading::script_is_going_on))]
-pub fn read_script(alloc: Global, text: &[u8]) -> Result<Script, Unread>
-    ensures { MatchResult result (λ script. script_of text.now ≡ Ok script) (IsUnread (script_of text.now)) }
+pub fn read_script_by<P: Payloads>(alloc: Global, text: &[u8]) -> Result<Script, Unread>
+    ensures { MatchResult result (λ script. script_by P.payload_of text.now ≡ Ok script) (IsUnread (script_by P.payload_of text.now)) }
 {
     let mut script = Script::nothing(alloc);
     let mut rest = text;
@@ -93,8 +99,19 @@ pub fn read_script(alloc: Global, text: &[u8]) -> Result<Script, Unread>
     while !rest.is_empty() {
         let (line, behind) = first_line(rest);
         number += 1;
-        script.read_on(alloc, number, line)?;
+        script.read_on::<P>(alloc, number, line)?;
         rest = behind;
     }
     Ok(script)
+}
+
+/// Reads a script whose payloads are its texts as they stand, any bytes and perhaps none, by `read_script_by`.
+///
+/// # Errors
+///
+/// Those of `read_script_by`; each text is a payload.
+pub fn read_script(alloc: Global, text: &[u8]) -> Result<Script, Unread>
+    ensures { MatchResult result (λ script. script_of text.now ≡ Ok script) (IsUnread (script_of text.now)) }
+{
+    read_script_by::<AsWritten>(alloc, text)
 }

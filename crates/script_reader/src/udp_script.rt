@@ -6,7 +6,7 @@ ghost use Rattle.script_reader.specs.Texts.{and_then, reading_by, HasRead, IsRea
 
 use crate::field::{first_field, first_line, rounds_field};
 use crate::line::{Word, event_of, is_skipped, word_of};
-use crate::{Fault, Unheard, Unread};
+use crate::{AsWritten, Fault, Unheard, Unread};
 use limits::SCRIPT_LINE;
 use std::alloc::{AllocError, Global};
 use world_model::WorldEvent;
@@ -50,7 +50,7 @@ fn node_event(alloc: Global, name: &[u8], rest: Option<&[u8]>) -> Result<WorldEv
 {
     match word_of(name) {
         None | Some(Word::Deliver) | Some(Word::Tick) => Err(Unheard::Fault(Fault::UnknownWord)),
-        Some(word) => event_of(alloc, word, rest),
+        Some(word) => event_of::<AsWritten>(alloc, word, rest),
     }
 }
 

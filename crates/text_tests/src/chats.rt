@@ -1,8 +1,9 @@
 use crate::fixtures::{address, is};
+use application::append_line;
 use chat_log::ChatLog;
 use state_transfer::Receiver;
 use std::alloc::{AllocError, Global};
-use vsync_text::{append_chat, put, put_address, put_hex};
+use vsync_text::{put, put_address, put_hex};
 
 /// The line of a chat of two lines, as a member of node 2 holds it.
 fn two_said(alloc: Global) -> Result<Vec<u8>, AllocError> {
@@ -10,7 +11,7 @@ fn two_said(alloc: Global) -> Result<Vec<u8>, AllocError> {
     chat.receive(address(1, 1), b"hi")?;
     chat.receive(address(2, 7), b"")?;
     let mut line = Vec::new(alloc);
-    append_chat(&mut line, &address(2, 7), &chat)?;
+    append_line(&mut line, &address(2, 7), &chat)?;
     Ok(line)
 }
 

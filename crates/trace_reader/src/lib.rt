@@ -9,4 +9,5 @@ mod spelling;
 mod text;
 
 pub use law::reads_what_is_written;
+pub use spelling::{view_id_in, view_in};
 pub use text::read_trace;

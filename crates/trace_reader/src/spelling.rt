@@ -20,9 +20,10 @@ pub(crate) fn message_number_in(field: &[u8]) -> Option<u64>
     number_in(1, GREATEST_NUMBER, field)
 }
 
-/// `C@N.I`.
+/// The view id that a field spells: `C@N.I`, a counter from 1 to `GREATEST_NUMBER` and an address; `None` where it is anything else (docs/FORMATS.md,
+/// "Trace text").
 #[tactic(auto, unfolding(crate::specs::Spelling::view_id_of_text))]
-pub(crate) fn view_id_in(field: &[u8]) -> Option<ViewId>
+pub fn view_id_in(field: &[u8]) -> Option<ViewId>
     ensures { result ≡ view_id_of_text field.now }
 {
     let (counter, behind) = split_at_first(b'@', field);
@@ -75,9 +76,10 @@ pub(crate) fn payload_in(alloc: Global, field: &[u8]) -> Result<Option<Bytes>, A
     short_in(alloc, field)
 }
 
-/// The view of an id that has the members of a field.
+/// The view of an id that has the members of a field: addresses joined by commas; `None` where they are none, or are no members of such a view
+/// (docs/FORMATS.md, "Trace text").
 #[tactic(auto, unfolding(crate::specs::Spelling::view_of_text))]
-pub(crate) fn view_in(alloc: Global, id: ViewId, field: &[u8]) -> Result<Option<View>, AllocError>
+pub fn view_in(alloc: Global, id: ViewId, field: &[u8]) -> Result<Option<View>, AllocError>
     ensures { IfOk result (λ read. read ≡ view_of_text id field.now) }
 {
     match addresses_in(alloc, field)? {

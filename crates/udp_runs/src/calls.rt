@@ -1,8 +1,8 @@
 //! The calls of a channel that a script asks for.
 
 use address::{Address, Node};
+use application::Application;
 use channel::{Channel, Error};
-use chat_log::Chat;
 use std::alloc::{AllocError, Global};
 use trace_props::Bytes;
 use world_model::WorldEvent;
@@ -41,7 +41,7 @@ pub(crate) fn call_of(event: &WorldEvent) -> Option<(Node, Call<'_>)> {
 }
 
 // Sends a payload by a channel. The outer error says that memory was refused before that.
-fn send<C: Chat>(
+fn send<C: Application>(
     alloc: Global,
     channel: &mut Channel<C>,
     payload: &Bytes,
@@ -54,7 +54,7 @@ fn send<C: Chat>(
 }
 
 // Does a call of a channel, in the group of this name. The outer error says that memory was refused before that.
-pub(crate) fn do_call<C: Chat>(
+pub(crate) fn do_call<C: Application>(
     alloc: Global,
     channel: &mut Channel<C>,
     group: &[u8],

@@ -3,15 +3,15 @@
 ghost use Rattle.udp_runs.specs.Ends.{TakesMore};
 
 use crate::ends::{Cut, settle};
-use crate::node_state::append_chat_of;
+use crate::node_state::append_state_of;
 use crate::outbox::{Outbox, OutboxError};
 use crate::telling::Teller;
 use crate::{Lines, LinesError, Machine, Manner, Tally, Trouble};
-use address::Address;
+use address::{Address, ViewId};
+use application::Application;
 use channel::Error;
-use chat_log::Chat;
 use limits::Refusal;
-use script_reader::MemberPlan;
+use script_reader::{MemberPlan, Unheard};
 use std::alloc::Global;
 use std::io::Write;
 use std::time::Duration;
@@ -26,12 +26,14 @@ const SENDS: u32 = 1_024;
 
 /// A member that runs by itself.
 #[derive(Drop)]
-pub(crate) struct Lone<'a, N: Net, C: Chat> {
+pub(crate) struct Lone<'a, N: Net, C: Application> {
     alloc: Global,
     member: Runner<N, C>,
     manner: Manner,
     // What it has to send yet.
     unsent: Option<&'a [u8]>,
+    // The view for which it has said what its coordinator says first.
+    opened: Option<ViewId>,
     outbox: Outbox,
     teller: Teller,
     // Whether it has ended.
@@ -62,7 +64,7 @@ fn show<W: Write>(writer: &mut W, text: &mut Vec<u8>) -> Result<(), Cut>
     Ok(())
 }
 
-impl<'a, N: Net, C: Chat> Lone<'a, N, C> {
+impl<'a, N: Net, C: Application> Lone<'a, N, C> {
     /// A member that was started, and is not connected yet; what it sends once.
     pub(crate) fn new(
         alloc: Global,
@@ -75,6 +77,7 @@ impl<'a, N: Net, C: Chat> Lone<'a, N, C> {
             member,
             manner,
             unsent,
+            opened: None,
             outbox: Outbox::new(alloc),
             teller: Teller::new(alloc, manner.speaks),
             has_ended: false,
@@ -103,15 +106,49 @@ impl<'a, N: Net, C: Chat> Lone<'a, N, C> {
         })
     }
 
-    // Sends what it has to send once, if it may.
-    fn send_once(&mut self) -> Result<(), Cut> {
-        let Some(payload) = self.unsent else {
+    // Sends, as the coordinator of its view, what that sends first in the view, if it may.
+    fn send_first(&mut self) -> Result<(), Cut> {
+        let channel = self.member.channel();
+        let Some(view) = channel.view() else {
             return Ok(());
         };
-        if self.sends(payload)? {
+        let id = view.id();
+        if view.first() != channel.address() || self.opened == Some(id) {
+            return Ok(());
+        }
+        if let Some(payload) = C::first_message(self.alloc, view)? {
+            if !self.sends(payload.as_slice())? {
+                return Ok(());
+            }
+        }
+        self.opened = Some(id);
+        Ok(())
+    }
+
+    // Sends what it has to send once, if it may.
+    fn send_once(&mut self) -> Result<(), Cut> {
+        let Some(text) = self.unsent else {
+            return Ok(());
+        };
+        if self.says(text)? {
             self.unsent = None;
         }
         Ok(())
+    }
+
+    // Sends what a text says in its view, and answers whether it was taken.
+    fn says(&mut self, text: &[u8]) -> Result<bool, Cut> {
+        let Some(view) = self.member.channel().view() else {
+            return Ok(false);
+        };
+        match C::payload_in_view(self.alloc, view.id(), text) {
+            Ok(payload) => self.sends(payload.as_slice()),
+            Err(Unheard::Memory) => Err(Cut::Memory),
+            Err(Unheard::Fault(fault)) => {
+                self.teller.tally.trouble = Some(Trouble::NoPayload(fault));
+                Err(Cut::Failed)
+            }
+        }
     }
 
     // Sends a payload, and answers whether it was taken.
@@ -128,6 +165,7 @@ impl<'a, N: Net, C: Chat> Lone<'a, N, C> {
 
     // Sends the lines that wait, as many as it may; answers whether it sent any.
     fn send_lines(&mut self) -> Result<bool, Cut> {
+        self.send_first()?;
         for sent in 0..SENDS {
             let line = match self.outbox.next() {
                 Ok(Some(line)) => Vec::from_slice(self.alloc, line)?,
@@ -137,7 +175,7 @@ impl<'a, N: Net, C: Chat> Lone<'a, N, C> {
                     return Err(Cut::Failed);
                 }
             };
-            if !self.sends(line.as_slice())? {
+            if !self.says(line.as_slice())? {
                 return Ok(sent > 0);
             }
             self.outbox.take();
@@ -168,6 +206,7 @@ impl<'a, N: Net, C: Chat> Lone<'a, N, C> {
 
     // A round; it seeks whom its view lacks, where it is time to.
     fn round(&mut self, round: u64) -> Result<(), Cut> {
+        self.send_first()?;
         self.send_once()?;
         self.send_lines()?;
         let answer = self.member.round();
@@ -210,7 +249,7 @@ impl<'a, N: Net, C: Chat> Lone<'a, N, C> {
         if self.manner.speaks {
             return Ok(());
         }
-        let appended = append_chat_of(&mut self.text, self.member.channel());
+        let appended = append_state_of(&mut self.text, self.member.channel());
         show(writer, &mut self.text)?;
         appended?;
         Ok(())

@@ -1,6 +1,7 @@
 ghost use Rattle.std.specs.Prelude.{◌≡◌};
 ghost use Rattle.udp_runs.specs.Tallies.{nothing_happened};
 
+use script_reader::Fault;
 use std::time::Duration;
 
 /// How a node that runs by itself goes about it.
@@ -23,6 +24,8 @@ pub enum Trouble {
     LongLine,
     /// The lines could not be read any more.
     NoLines,
+    /// A line, or what was to be sent once, says no payload: this is wrong with it (`script_reader::Fault`).
+    NoPayload(Fault),
 }
 
 /// What happened at a node that ran by itself, in numbers; each is at most 2^64 - 1.

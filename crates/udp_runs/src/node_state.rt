@@ -2,18 +2,18 @@
 
 use crate::calls::{Call, do_call};
 use address::{Address, Node};
+use application::{Application, append_line};
 use channel::{Channel, Error};
-use chat_log::Chat;
 use limits::Refusal;
 use std::alloc::{AllocError, Global};
 use trace_props::Event;
 use udp_member::Runner;
 use udp_net::{Net, Settings};
-use vsync_text::{append_chat, append_event, append_refusal};
+use vsync_text::{append_event, append_refusal};
 
 /// A node, and the member that runs there. Each call appends to a text what happened by it.
 #[derive(Drop)]
-pub(crate) struct NodeState<N: Net, C: Chat> {
+pub(crate) struct NodeState<N: Net, C: Application> {
     node: Node,
     // The address of the member that was started there last.
     last: Option<Address>,
@@ -21,7 +21,7 @@ pub(crate) struct NodeState<N: Net, C: Chat> {
 }
 
 /// The member of an address over a net, not connected yet, which may seek others at the nodes of the settings.
-pub(crate) fn member_at<N: Net, C: Chat>(
+pub(crate) fn member_at<N: Net, C: Application>(
     alloc: Global,
     address: Address,
     net: N,
@@ -37,7 +37,7 @@ pub(crate) fn member_at<N: Net, C: Chat>(
 }
 
 /// Appends the lines of the events of a channel that were not taken yet.
-pub(crate) fn append_events<C: Chat>(
+pub(crate) fn append_events<C: Application>(
     text: &mut Vec<u8>,
     channel: &mut Channel<C>,
 ) -> Result<(), AllocError> {
@@ -47,18 +47,18 @@ pub(crate) fn append_events<C: Chat>(
     Ok(())
 }
 
-/// Appends the chat line of a channel's member, unless it has ended.
-pub(crate) fn append_chat_of<C: Chat>(
+/// Appends the line of a channel's member, which shows its state, unless it has ended.
+pub(crate) fn append_state_of<C: Application>(
     text: &mut Vec<u8>,
     channel: &Channel<C>,
 ) -> Result<(), AllocError> {
     match channel.receiver() {
-        Some(chat) => append_chat(text, &channel.address(), chat),
+        Some(state) => append_line(text, &channel.address(), state),
         None => Ok(()),
     }
 }
 
-impl<N: Net, C: Chat> NodeState<N, C> {
+impl<N: Net, C: Application> NodeState<N, C> {
     // A node where no member was started yet.
     pub(crate) fn new(node: Node) -> NodeState<N, C> {
         NodeState {
@@ -150,10 +150,10 @@ impl<N: Net, C: Chat> NodeState<N, C> {
         }
     }
 
-    // Appends the chat line of the member, if one runs.
-    pub(crate) fn append_chat(&mut self, text: &mut Vec<u8>) -> Result<(), AllocError> {
+    // Appends the line of the member, if one runs.
+    pub(crate) fn append_state(&mut self, text: &mut Vec<u8>) -> Result<(), AllocError> {
         match self.member.as_mut() {
-            Some(member) => append_chat_of(text, member.channel()),
+            Some(member) => append_state_of(text, member.channel()),
             None => Ok(()),
         }
     }

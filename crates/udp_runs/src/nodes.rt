@@ -8,7 +8,7 @@ use crate::calls::{Call, call_of};
 use crate::ends::Stop;
 use crate::node_state::NodeState;
 use address::{Address, Node};
-use chat_log::Chat;
+use application::Application;
 use limits::Refusal;
 use script_reader::{UdpEvent, UdpLine};
 use std::alloc::{AllocError, Global};
@@ -18,7 +18,7 @@ use world_model::WorldEvent;
 
 /// The nodes of the settings, by number.
 #[derive(Drop)]
-pub(crate) struct Nodes<N: Net, C: Chat> {
+pub(crate) struct Nodes<N: Net, C: Application> {
     alloc: Global,
     node_states: Vec<NodeState<N, C>>,
 }
@@ -33,7 +33,7 @@ fn sorted(alloc: Global, settings: &Settings) -> Result<Vec<Node>, AllocError> {
     Ok(nodes)
 }
 
-impl<N: Net, C: Chat> Nodes<N, C> {
+impl<N: Net, C: Application> Nodes<N, C> {
     // The nodes that settings list; no member runs.
     pub(crate) fn new(alloc: Global, settings: &Settings) -> Result<Nodes<N, C>, AllocError> {
         let mut node_states = Vec::with_capacity(alloc, settings.nodes().len())?;
@@ -65,9 +65,9 @@ impl<N: Net, C: Chat> Nodes<N, C> {
     }
 
     // Appends the chat line of each member that runs, by node.
-    pub(crate) fn append_chats(&mut self, text: &mut Vec<u8>) -> Result<(), AllocError> {
+    pub(crate) fn append_states(&mut self, text: &mut Vec<u8>) -> Result<(), AllocError> {
         for node_state in self.node_states.as_mut_slice() {
-            node_state.append_chat(text)?;
+            node_state.append_state(text)?;
         }
         Ok(())
     }

@@ -10,7 +10,7 @@ use crate::lone::Lone;
 use crate::node_state::member_at;
 use crate::{Lines, Machine, Manner};
 use address::Address;
-use chat_log::Chat;
+use application::Application;
 use commands::Status;
 use script_reader::MemberPlan;
 use std::alloc::Global;
@@ -21,7 +21,7 @@ use udp_net::{BindError, Settings};
 use vsync_text::append_event;
 
 // Does what the plan says at a member that was started.
-fn go_on<C: Chat, L: Lines, M: Machine, W: Write>(
+fn go_on<C: Application, L: Lines, M: Machine, W: Write>(
     alloc: Global,
     settings: &Settings,
     plan: &MemberPlan<'_>,
@@ -52,7 +52,7 @@ fn write_start<W: Write>(alloc: Global, member: Address, writer: &mut W) -> Resu
 }
 
 // Starts the member of the plan over a net, and does what the plan says.
-fn start<C: Chat, L: Lines, M: Machine, W: Write>(
+fn start<C: Application, L: Lines, M: Machine, W: Write>(
     alloc: Global,
     settings: &Settings,
     plan: &MemberPlan<'_>,
@@ -73,7 +73,7 @@ fn start<C: Chat, L: Lines, M: Machine, W: Write>(
 }
 
 // Runs the member of the plan at a node that the settings list.
-fn run_listed<C: Chat, L: Lines, M: Machine, W: Write>(
+fn run_listed<C: Application, L: Lines, M: Machine, W: Write>(
     alloc: Global,
     settings: &Settings,
     plan: &MemberPlan<'_>,
@@ -95,14 +95,14 @@ fn run_listed<C: Chat, L: Lines, M: Machine, W: Write>(
     }
 }
 
-/// Runs one node of the settings by itself, over its net, with a chat `C` as its receiver: it makes a group or joins its contact's, and has its rounds, between
-/// which it handles datagrams as they come. It sends the lines that come, each as soon as it may, and ends early where one is the byte 4 alone. Writes what happened to it
-/// to a writer as it happens, and its chat line at the end, or what is said as text (docs/FORMATS.md, "Nodes over UDP"). At its end the machine is told what
+/// Runs one node of the settings by itself, over its net, with `C` as its receiver: it makes a group or joins its contact's, and has its rounds, between
+/// which it handles datagrams as they come. It sends what the lines say that come, each as soon as it may, and as the coordinator of a view what that sends first in it. It ends early where one is the byte 4 alone. Writes what happened to it
+/// to a writer as it happens, and the line of its state at the end, or what is said as text (docs/FORMATS.md, "Nodes over UDP"). At its end the machine is told what
 /// happened in numbers. Answers the exit status.
 ///
-/// Where the lines can be read no more, or one is too long, it ends at once with status 5, and the machine is told why. Where the settings do not list the node it writes `fault 0 50` alone, status 3; where the node can have no socket `fault 0 51` alone, status 5. Where memory is
+/// Where the lines can be read no more, one is too long, or one says no payload, it ends at once with status 5, and the machine is told why. Where the settings do not list the node it writes `fault 0 50` alone, status 3; where the node can have no socket `fault 0 51` alone, status 5. Where memory is
 /// refused, it writes the text so far and `# memory`.
-pub fn run_member<C: Chat, L: Lines, M: Machine, W: Write>(
+pub fn run_member<C: Application, L: Lines, M: Machine, W: Write>(
     alloc: Global,
     settings: &Settings,
     plan: &MemberPlan<'_>,

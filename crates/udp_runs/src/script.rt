@@ -8,7 +8,7 @@ ghost use Rattle.udp_runs.specs.Scripts.{IsUnreadText, ReadsLines, RunsUdp, Stop
 use crate::Machine;
 use crate::ends::{Cut, Stop, end, end_without_net, settle};
 use crate::nodes::Nodes;
-use chat_log::Chat;
+use application::Application;
 use commands::{Status, Unreadable, end_in_fault, end_in_memory, read_all};
 use script_reader::{UdpLine, Unread, read_udp_script};
 use std::alloc::Global;
@@ -37,7 +37,7 @@ fn lines_from<I: Read, W: Write>(
 }
 
 // Does what a line says, and writes what happened.
-fn play_line<N: Net, C: Chat, M: Machine<Net = N>, W: Write>(
+fn play_line<N: Net, C: Application, M: Machine<Net = N>, W: Write>(
     nodes: &mut Nodes<N, C>,
     settings: &Settings,
     machine: &mut M,
@@ -54,21 +54,21 @@ fn play_line<N: Net, C: Chat, M: Machine<Net = N>, W: Write>(
 }
 
 // Writes the chats.
-fn write_chats<N: Net, C: Chat, W: Write>(
+fn write_chats<N: Net, C: Application, W: Write>(
     nodes: &mut Nodes<N, C>,
     text: &mut Vec<u8>,
     writer: &mut W,
 ) -> Result<(), Cut>
     ensures { TakesMore (W.contents writer.old) (W.contents writer.new) }
 {
-    let appended = nodes.append_chats(text);
+    let appended = nodes.append_states(text);
     settle(writer, text)?;
     appended?;
     Ok(())
 }
 
 // Does what lines say, and writes what happened.
-fn play_lines<N: Net, C: Chat, M: Machine<Net = N>, W: Write>(
+fn play_lines<N: Net, C: Application, M: Machine<Net = N>, W: Write>(
     nodes: &mut Nodes<N, C>,
     settings: &Settings,
     machine: &mut M,
@@ -89,7 +89,7 @@ fn play_lines<N: Net, C: Chat, M: Machine<Net = N>, W: Write>(
 }
 
 // Does what lines say at nodes where no member runs yet.
-fn play<C: Chat, M: Machine, W: Write>(
+fn play<C: Application, M: Machine, W: Write>(
     alloc: Global,
     settings: &Settings,
     machine: &mut M,
@@ -110,7 +110,7 @@ fn play<C: Chat, M: Machine, W: Write>(
 ///
 /// Where a node that starts can have no socket, it writes the text so far and `fault LINE 51`, status 5. A member that is refused memory has crashed; where memory
 /// is refused elsewhere, it writes the text so far and `# memory`.
-pub fn run_udp<C: Chat, M: Machine, I: Read, W: Write>(
+pub fn run_udp<C: Application, M: Machine, I: Read, W: Write>(
     alloc: Global,
     settings: &Settings,
     machine: &mut M,

@@ -2,8 +2,8 @@
 
 use crate::Tally;
 use crate::speaking::Speaker;
+use application::Application;
 use channel::Channel;
-use chat_log::Chat;
 use std::alloc::{AllocError, Global};
 use trace_props::Event;
 use vsync_text::append_event;
@@ -48,7 +48,7 @@ impl Teller {
     }
 
     /// Appends what is to be told of the events of a channel that were not taken yet, and counts them.
-    pub(crate) fn tell<C: Chat>(
+    pub(crate) fn tell<C: Application>(
         &mut self,
         text: &mut Vec<u8>,
         channel: &mut Channel<C>,

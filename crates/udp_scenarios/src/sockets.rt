@@ -3,7 +3,8 @@
 use crate::channels::first_at;
 use crate::lines::{put_number, put_refusal, put_truth};
 use address::Node;
-use chat_log::{Chat, ChatLog};
+use application::Application;
+use chat_log::ChatLog;
 use commands::Status;
 use std::alloc::{AllocError, Global};
 use std::time::Duration;
@@ -31,7 +32,7 @@ fn port(place: u16) -> u16 {
 }
 
 /// What a script writes over sockets, with chats of this kind, and its status.
-pub fn run_with<C: Chat>(
+pub fn run_with<C: Application>(
     rt: &HostRuntime,
     settings: &Settings,
     script: &[u8],

@@ -1,40 +1,55 @@
 -- What a command does, and how the program ends where there is none.
-use Rattle.std.specs.Prelude.{◌≡◌, ◌⊎◌, ℕ, Bool, true, false, List, Option}
+use Rattle.std.specs.Prelude.{◌≡◌, ◌⊎◌, ℕ, List, Option, Result}
 use Rattle.clap.specs.Words.{IsAmong, Kinds}
 use Rattle.clap.specs.declared.error.kind.ErrorKind.{ErrorKind}
 use Rattle.clap.specs.declared.error.kind.ErrorKind.TheVariants.{DisplayHelp, DisplayVersion, OutOfMemory}
 use Rattle.state_transfer.specs.Meanings.{Meaning}
-use Rattle.chat_log.specs.declared.lines.Line.{Line}
+use Rattle.address.specs.Ids.{Address}
+use Rattle.script_reader.specs.declared.fault.Fault.{Fault}
+use Rattle.script_reader.specs.Script.{as_written}
+use Rattle.chat_log.specs.ChatText.{chat_line}
+use Rattle.replicated_map.specs.Meanings.{map_meaning}
+use Rattle.replicated_map.specs.Words.{map_payload}
+use Rattle.replicated_map.specs.MapText.{map_line}
+use Rattle.lock_table.specs.Meanings.{table_meaning}
+use Rattle.lock_table.specs.Words.{lock_payload}
+use Rattle.lock_table.specs.TableText.{table_line}
 use Rattle.chat_log.specs.Meanings.{chat_meaning, long_meaning}
 use Rattle.commands.specs.Outcomes.{RunsScript}
-use Rattle.commands.specs.Chats.{RunsChat}
+use Rattle.commands.specs.States.{RunsStates}
 use Rattle.commands.specs.Packets.{RunsPackets}
 use Rattle.commands.specs.Checks.{ChecksTrace}
 use Rattle.commands.specs.Draws.{DrawsScript, DrawsTrace}
 use Rattle.commands.specs.declared.status.Status.{Status}
 use Rattle.commands.specs.declared.status.Status.TheVariants.{Done, Memory, Outside, Usage}
-use Rattle.vsync_words.specs.Words.{is_long}
+use Rattle.vsync_words.specs.Words.{kept_of}
+use Rattle.vsync_words.specs.declared.words.Kept.{Kept}
+use Rattle.vsync_words.specs.declared.words.Kept.TheVariants as kept
 use Rattle.vsync_words.specs.declared.words.TextCommand.{TextCommand}
-use Rattle.vsync_words.specs.declared.words.TextCommand.TheVariants.{World, Chat, Packets, Check, Draw, DrawTrace}
+use Rattle.vsync_words.specs.declared.words.TextCommand.TheVariants.{World, Chat, Packets, Check, Draw, DrawTrace, Map, Locks}
 
--- the command is done, from a reader with these bytes left to a writer: a script is run; or it is run and the chats, or the packets, are
--- printed; or a trace is checked; or a picture is drawn of a script's run, or of a trace. Its members keep a chat of this meaning
-abbrev pub DoesWith : {S : Type 0} → Meaning S → (S → List Line) → TextCommand → Option (List ℕ) → Option (List ℕ) → Option (List ℕ) → Status → Type 0
-DoesWith meaning lines_of (World words) left old new status = RunsScript meaning left old new status
-DoesWith meaning lines_of (Chat words) left old new status = RunsChat meaning lines_of left old new status
-DoesWith meaning lines_of (Packets words) left old new status = RunsPackets meaning left old new status
-DoesWith meaning lines_of (Check words) left old new status = ChecksTrace meaning left old new status
-DoesWith meaning lines_of (Draw path) left old new status = DrawsScript meaning left old new status
-DoesWith meaning lines_of (DrawTrace path) left old new status = DrawsTrace meaning left old new status
+-- the command is done, from a reader with these bytes left to a writer: a script is run; or it is run and the states, or the packets, are
+-- printed; or a trace is checked; or a picture is drawn of a script's run, or of a trace. Its members keep what has this meaning, these words and this line
+abbrev pub DoesWith : {S : Type 0} → Meaning S → (List ℕ → Result (List ℕ) Fault) → (Address → S → List ℕ) → TextCommand → Option (List ℕ) → Option (List ℕ) → Option (List ℕ) → Status → Type 0
+DoesWith meaning payload_of line_of (World words) left old new status = RunsScript meaning left old new status
+DoesWith meaning payload_of line_of (Chat words) left old new status = RunsStates meaning payload_of line_of left old new status
+DoesWith meaning payload_of line_of (Packets words) left old new status = RunsPackets meaning left old new status
+DoesWith meaning payload_of line_of (Check words) left old new status = ChecksTrace meaning left old new status
+DoesWith meaning payload_of line_of (Draw path) left old new status = DrawsScript meaning left old new status
+DoesWith meaning payload_of line_of (DrawTrace path) left old new status = DrawsTrace meaning left old new status
+DoesWith meaning payload_of line_of (Map path) left old new status = RunsStates meaning payload_of line_of left old new status
+DoesWith meaning payload_of line_of (Locks path) left old new status = RunsStates meaning payload_of line_of left old new status
 
--- what the chat means that members keep: the long one, or the short one
-abbrev pub meaning_of : Bool → Meaning (List Line)
-meaning_of true = long_meaning
-meaning_of false = chat_meaning
+-- the command is done, and its members keep the chat, the long chat, the map or the table of locks
+abbrev pub DoesBy : Kept → TextCommand → Option (List ℕ) → Option (List ℕ) → Option (List ℕ) → Status → Type 0
+DoesBy kept.Chat = DoesWith chat_meaning as_written chat_line
+DoesBy kept.LongChat = DoesWith long_meaning as_written chat_line
+DoesBy kept.Map = DoesWith map_meaning map_payload map_line
+DoesBy kept.Locks = DoesWith table_meaning lock_payload table_line
 
--- the command is done, and its members keep the long chat where it says so
+-- the command is done, and its members keep what it says
 abbrev pub Does : TextCommand → Option (List ℕ) → Option (List ℕ) → Option (List ℕ) → Status → Type 0
-Does command = DoesWith (meaning_of (is_long command)) (λ s. s) command
+Does command = DoesBy (kept_of command) command
 
 -- it ends with this status, or with 5 where the output failed
 abbrev pub EndsBy : Status → Status → Type 0

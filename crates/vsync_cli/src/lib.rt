@@ -8,13 +8,16 @@ mod programs;
 mod said;
 mod udp_programs;
 
-pub use chat_log::{Chat, ChatLog, LongChat};
+pub use application::Application;
+pub use chat_log::{ChatLog, LongChat};
 pub use commands::{
-    Status, run_chat, run_check, run_draw, run_draw_trace, run_packets, run_script,
+    Status, run_check, run_draw, run_draw_trace, run_packets, run_script, run_states,
 };
+pub use lock_table::LockTable;
 pub use programs::program;
+pub use replicated_map::ReplicatedMap;
 pub use udp_runs::{Lines, Manner, run_member, run_udp};
 pub use vsync_words::{
-    Invocation, MemberMistake, MemberOptions, MemberPlan, MemberWords, TextCommand, TextWords,
-    UdpWords, command,
+    Invocation, Kept, MemberMistake, MemberOptions, MemberPlan, MemberWords, TextCommand,
+    TextWords, UdpWords, command,
 };

@@ -5,17 +5,20 @@ ghost use Rattle.vsync_words.specs.Grammar.{program_app};
 
 use crate::output::Output;
 use crate::udp_programs::{member, udp};
-use chat_log::{Chat, ChatLog, LongChat};
+use application::Application;
+use chat_log::{ChatLog, LongChat};
 use clap::Error;
 use clap::error::ErrorKind;
-use commands::{Status, run_chat, run_check, run_draw, run_draw_trace, run_packets, run_script};
+use commands::{Status, run_check, run_draw, run_draw_trace, run_packets, run_script, run_states};
+use lock_table::LockTable;
+use replicated_map::ReplicatedMap;
 use std::alloc::Global;
 use std::io::{Read, Write};
 use std::net::Net;
 use std::rt::{Env, Files};
 use std::time::Clock;
 use std::{env, fs, io};
-use vsync_words::{Invocation, TextCommand, command};
+use vsync_words::{Invocation, Kept, TextCommand, command};
 
 /// Says on the standard error why the program ends with status 5.
 pub(crate) fn complain<R: Eprint>(rt: &R, what: &str, path: &str) -> Status
@@ -45,26 +48,28 @@ pub(crate) fn failed<R: Print + Eprint>(rt: &R, error: &io::Error, what: &str, p
     complain(rt, what, path)
 }
 
-/// Does a command on its input, to a writer, where members keep the chat `C`.
-fn answer_with<C: Chat, I: Read, W: Write>(
+/// Does a command on its input, to a writer, where members keep `A`.
+fn answer_with<A: Application, I: Read, W: Write>(
     alloc: Global,
     command: TextCommand<'_>,
     reader: &mut I,
     writer: &mut W,
 ) -> Status
-    ensures { DoesWith C.meaning C.lines_of command.entry (I.remaining reader.old) (W.contents writer.old) (W.contents writer.new) result }
+    ensures { DoesWith A.meaning A.payload_of A.line_of command.entry (I.remaining reader.old) (W.contents writer.old) (W.contents writer.new) result }
 {
     match command {
-        TextCommand::World(_) => run_script::<C, I, W>(alloc, reader, writer),
-        TextCommand::Chat(_) => run_chat::<C, I, W>(alloc, reader, writer),
-        TextCommand::Packets(_) => run_packets::<C, I, W>(alloc, reader, writer),
-        TextCommand::Check(_) => run_check::<C, I, W>(alloc, reader, writer),
-        TextCommand::Draw(_) => run_draw::<C, I, W>(alloc, reader, writer),
-        TextCommand::DrawTrace(_) => run_draw_trace::<C, I, W>(alloc, reader, writer),
+        TextCommand::World(_) => run_script::<A, I, W>(alloc, reader, writer),
+        TextCommand::Chat(_) => run_states::<A, I, W>(alloc, reader, writer),
+        TextCommand::Packets(_) => run_packets::<A, I, W>(alloc, reader, writer),
+        TextCommand::Check(_) => run_check::<A, I, W>(alloc, reader, writer),
+        TextCommand::Draw(_) => run_draw::<A, I, W>(alloc, reader, writer),
+        TextCommand::DrawTrace(_) => run_draw_trace::<A, I, W>(alloc, reader, writer),
+        TextCommand::Map(_) => run_states::<A, I, W>(alloc, reader, writer),
+        TextCommand::Locks(_) => run_states::<A, I, W>(alloc, reader, writer),
     }
 }
 
-/// Does a command on its input, to a writer: members keep the long chat where the command says so.
+/// Does a command on its input, to a writer: what members keep, the command says.
 fn answer<I: Read, W: Write>(
     alloc: Global,
     command: TextCommand<'_>,
@@ -73,10 +78,11 @@ fn answer<I: Read, W: Write>(
 ) -> Status
     ensures { Does command.entry (I.remaining reader.old) (W.contents writer.old) (W.contents writer.new) result }
 {
-    if command.is_long() {
-        answer_with::<LongChat, I, W>(alloc, command, reader, writer)
-    } else {
-        answer_with::<ChatLog, I, W>(alloc, command, reader, writer)
+    match command.kept() {
+        Kept::Chat => answer_with::<ChatLog, I, W>(alloc, command, reader, writer),
+        Kept::LongChat => answer_with::<LongChat, I, W>(alloc, command, reader, writer),
+        Kept::Map => answer_with::<ReplicatedMap, I, W>(alloc, command, reader, writer),
+        Kept::Locks => answer_with::<LockTable, I, W>(alloc, command, reader, writer),
     }
 }
 

@@ -12,8 +12,11 @@ use crate::output::Output;
 use crate::programs::{complain, failed, outside, without_memory};
 use crate::said::Appended;
 use address::{Address, Node};
-use chat_log::{Chat, ChatLog, LongChat};
+use application::Application;
+use chat_log::{ChatLog, LongChat};
 use commands::{Status, Unreadable, read_all};
+use lock_table::LockTable;
+use replicated_map::ReplicatedMap;
 use std::io::Read;
 use std::net::Net;
 use std::rt::Files;
@@ -21,7 +24,7 @@ use std::time::{Clock, Duration};
 use std::{fs, io};
 use udp_net::{BindError, Hosts, Settings, SettingsError, settings};
 use udp_runs::{Lines, Loopback, Manner, MemberPlan, NoLines, Tally, Trouble, run_member, run_udp};
-use vsync_words::{MemberOptions, MemberWords, UdpWords};
+use vsync_words::{Kept, MemberOptions, MemberWords, UdpWords};
 
 // Says that the input is refused as a whole.
 fn refuse<R: Print>(rt: &R, number: u8) -> Status
@@ -195,6 +198,10 @@ fn report<R: Eprint>(rt: &R, tally: &Tally, stats: bool) {
         Some(Trouble::NoLines) => {
             let _ = eprintln!(rt; "vsync: the lines to send cannot be read any more");
         }
+        Some(Trouble::NoPayload(fault)) => {
+            let number = fault.number();
+            let _ = eprintln!(rt; "vsync: what is to be sent says no command: {number}");
+        }
         None => (),
     }
     if tally.has_ended {
@@ -213,8 +220,8 @@ fn report<R: Eprint>(rt: &R, tally: &Tally, stats: bool) {
     }
 }
 
-// Runs the node with a chat, and says what is to be said of it on the standard error.
-fn run_with<C: Chat, L: Lines, R: Net + Clock + Print + Eprint + AllocGlobal>(
+// Runs the node with what it keeps, and says what is to be said of it on the standard error.
+fn run_with<A: Application, L: Lines, R: Net + Clock + Print + Eprint + AllocGlobal>(
     rt: &R,
     settings: &Settings,
     plan: &MemberPlan<'_>,
@@ -224,7 +231,7 @@ fn run_with<C: Chat, L: Lines, R: Net + Clock + Print + Eprint + AllocGlobal>(
 ) -> Status {
     let mut machine = Loopback::new(rt.alloc(), rt, settings, hosts);
     let mut output = Output::new(io::writer(rt));
-    let status = run_member::<C, L, _, _>(
+    let status = run_member::<A, L, _, _>(
         rt.alloc(),
         settings,
         plan,
@@ -247,7 +254,7 @@ fn run_with<C: Chat, L: Lines, R: Net + Clock + Print + Eprint + AllocGlobal>(
     )
 }
 
-// Runs the node with the chat of its options.
+// Runs the node with what its options say that it keeps.
 fn run_lines<L: Lines, R: Net + Clock + Print + Eprint + AllocGlobal>(
     rt: &R,
     settings: &Settings,
@@ -256,10 +263,11 @@ fn run_lines<L: Lines, R: Net + Clock + Print + Eprint + AllocGlobal>(
     hosts: Hosts,
     lines: &mut L,
 ) -> Status {
-    if options.long {
-        run_with::<LongChat, L, R>(rt, settings, plan, options, hosts, lines)
-    } else {
-        run_with::<ChatLog, L, R>(rt, settings, plan, options, hosts, lines)
+    match options.kept() {
+        Kept::Chat => run_with::<ChatLog, L, R>(rt, settings, plan, options, hosts, lines),
+        Kept::LongChat => run_with::<LongChat, L, R>(rt, settings, plan, options, hosts, lines),
+        Kept::Map => run_with::<ReplicatedMap, L, R>(rt, settings, plan, options, hosts, lines),
+        Kept::Locks => run_with::<LockTable, L, R>(rt, settings, plan, options, hosts, lines),
     }
 }
 

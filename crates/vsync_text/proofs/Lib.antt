@@ -1,4 +1,3 @@
 pub mod KeepFront
 pub mod FactOfWriting
-pub mod FactOfLinesLeft
 pub mod FactOfPacketLines

@@ -1,5 +1,4 @@
 pub mod TraceText
 pub mod Runs
 pub mod Writing
-pub mod ChatText
 pub mod PacketText

@@ -31,9 +31,9 @@ pub fn put_decimal(out: &mut Vec<u8>, number: u64) -> Result<(), AllocError>
     put(out, buffer.format(number).as_bytes())
 }
 
-/// Appends a number.
+/// Appends a number in decimal, behind one byte. Where memory is refused, what stood before is kept, and a part may have been appended.
 #[tactic(auto, using(crate::proofs::KeepFront::goes_on))]
-pub(crate) fn put_number(out: &mut Vec<u8>, before: u8, number: u64) -> Result<(), AllocError>
+pub fn put_number(out: &mut Vec<u8>, before: u8, number: u64) -> Result<(), AllocError>
     ensures text { OnOk result (out.new.items ≡ out.old.items ++ before ∷ decimal number) }
     ensures kept { GoesOnFrom out.old.items out.new.items }
 {
@@ -51,9 +51,9 @@ pub fn put_address(out: &mut Vec<u8>, before: u8, address: &Address) -> Result<(
     put_number(out, b'.', u64::from(address.incarnation()))
 }
 
-/// Appends a view id.
+/// Appends a view id as `7@3.1`, behind one byte. Where memory is refused, what stood before is kept, and a part may have been appended.
 #[tactic(auto, using(crate::proofs::KeepFront::goes_on))]
-pub(crate) fn put_view_id(out: &mut Vec<u8>, before: u8, view: &ViewId) -> Result<(), AllocError>
+pub fn put_view_id(out: &mut Vec<u8>, before: u8, view: &ViewId) -> Result<(), AllocError>
     ensures text { OnOk result (out.new.items ≡ out.old.items ++ before ∷ text_of_view_id view.now) }
     ensures kept { GoesOnFrom out.old.items out.new.items }
 {
@@ -156,9 +156,9 @@ fn put_more_addresses(out: &mut Vec<u8>, members: &[Address]) -> Result<(), Allo
     Ok(())
 }
 
-/// Appends addresses, joined by commas.
+/// Appends addresses behind one byte, joined by commas. Where memory is refused, what stood before is kept, and a part may have been appended.
 #[tactic(auto, using(crate::proofs::KeepFront::goes_on))]
-pub(crate) fn put_addresses(
+pub fn put_addresses(
     out: &mut Vec<u8>,
     before: u8,
     members: &[Address],

@@ -1,16 +1,16 @@
-//! The text of a world: runs, chats and packets are printed line by line (docs/FORMATS.md).
+//! The text of a world: runs and packets are printed line by line (docs/FORMATS.md).
 #![tactic(auto)]
 
 mod append;
 mod buffered;
-mod chat_lines;
 mod packet_lines;
 mod run;
 mod trace_line;
 
-pub use append::{put, put_address, put_decimal, put_hex};
+pub use append::{
+    put, put_address, put_addresses, put_decimal, put_hex, put_number, put_view_id,
+};
 pub use buffered::put_all;
-pub use chat_lines::append_chat;
 pub use packet_lines::{append_packet, append_packets};
 pub use run::{Printed, write_run};
 pub use trace_line::{append_event, append_refusal};

@@ -13,9 +13,9 @@ use Rattle.clap.specs.Walk.{is_empty}
 use Rattle.clap.proofs.OnLiterals.{clap_on_literals}
 use Rattle.vsync_words.specs.declared.words.Invocation.{Invocation}
 use Rattle.vsync_words.specs.declared.words.Invocation.TheVariants.{Text as TextOf, Udp, Member}
-use Rattle.vsync_words.specs.declared.words.TextCommand.TheVariants.{World, Chat, Packets, Check, Draw, DrawTrace}
+use Rattle.vsync_words.specs.declared.words.TextCommand.TheVariants.{World, Chat, Packets, Check, Draw, DrawTrace, Map, Locks}
 use Rattle.vsync_words.specs.Grammar.{IsFlag, IsSaid, is_path, program_app, with_long}
-use Rattle.vsync_words.specs.Words.{IsChatOn, IsCheckOn, IsDrawOn, IsDrawTraceOn, IsOrNoMemory, IsPacketsOn, IsUdpOn, IsWorldOn}
+use Rattle.vsync_words.specs.Words.{IsChatOn, IsCheckOn, IsDrawOn, IsDrawTraceOn, IsLocksOn, IsMapOn, IsOrNoMemory, IsPacketsOn, IsUdpOn, IsWorldOn}
 
 pub simple : is_simple_and_free program_app ≡ true
 unfolding clap_on_literals
@@ -173,6 +173,8 @@ said_world (Some said) long path (TextOf (Packets p)) e h = absurd (other_name s
 said_world (Some said) long path (TextOf (Check p)) e h = absurd (other_name said (codes "world") (codes "check") (name_in (codes "SCRIPT") said (codes "world") path (flag_value long) e) h.0 refl)
 said_world (Some said) long path (TextOf (Draw p)) e h = absurd (other_name said (codes "world") (codes "draw") (name_in (codes "SCRIPT") said (codes "world") path (flag_value long) e) h.0 refl)
 said_world (Some said) long path (TextOf (DrawTrace p)) e h = absurd (other_name said (codes "world") (codes "draw") (name_in (codes "SCRIPT") said (codes "world") path (flag_value long) e) h.0 refl)
+said_world (Some said) long path (TextOf (Map p)) e h = absurd (other_name said (codes "world") (codes "map") (name_in (codes "SCRIPT") said (codes "world") path (flag_value long) e) h.0 refl)
+said_world (Some said) long path (TextOf (Locks p)) e h = absurd (other_name said (codes "world") (codes "locks") (name_in (codes "SCRIPT") said (codes "world") path (flag_value long) e) h.0 refl)
 said_world (Some said) long path (Udp w) e h = absurd (other_name said (codes "world") (codes "udp") (name_in (codes "SCRIPT") said (codes "world") path (flag_value long) e) h.0 refl)
 said_world (Some said) long path (Member w) e h = absurd (other_name said (codes "world") (codes "member") (name_in (codes "SCRIPT") said (codes "world") path (flag_value long) e) h.0 refl)
 
@@ -188,6 +190,8 @@ said_chat (Some said) long path (TextOf (Packets p)) e h = absurd (other_name sa
 said_chat (Some said) long path (TextOf (Check p)) e h = absurd (other_name said (codes "chat") (codes "check") (name_in (codes "SCRIPT") said (codes "chat") path (flag_value long) e) h.0 refl)
 said_chat (Some said) long path (TextOf (Draw p)) e h = absurd (other_name said (codes "chat") (codes "draw") (name_in (codes "SCRIPT") said (codes "chat") path (flag_value long) e) h.0 refl)
 said_chat (Some said) long path (TextOf (DrawTrace p)) e h = absurd (other_name said (codes "chat") (codes "draw") (name_in (codes "SCRIPT") said (codes "chat") path (flag_value long) e) h.0 refl)
+said_chat (Some said) long path (TextOf (Map p)) e h = absurd (other_name said (codes "chat") (codes "map") (name_in (codes "SCRIPT") said (codes "chat") path (flag_value long) e) h.0 refl)
+said_chat (Some said) long path (TextOf (Locks p)) e h = absurd (other_name said (codes "chat") (codes "locks") (name_in (codes "SCRIPT") said (codes "chat") path (flag_value long) e) h.0 refl)
 said_chat (Some said) long path (Udp w) e h = absurd (other_name said (codes "chat") (codes "udp") (name_in (codes "SCRIPT") said (codes "chat") path (flag_value long) e) h.0 refl)
 said_chat (Some said) long path (Member w) e h = absurd (other_name said (codes "chat") (codes "member") (name_in (codes "SCRIPT") said (codes "chat") path (flag_value long) e) h.0 refl)
 
@@ -203,6 +207,8 @@ said_packets (Some said) long path (TextOf (Packets p)) e h = (
 said_packets (Some said) long path (TextOf (Check p)) e h = absurd (other_name said (codes "packets") (codes "check") (name_in (codes "SCRIPT") said (codes "packets") path (flag_value long) e) h.0 refl)
 said_packets (Some said) long path (TextOf (Draw p)) e h = absurd (other_name said (codes "packets") (codes "draw") (name_in (codes "SCRIPT") said (codes "packets") path (flag_value long) e) h.0 refl)
 said_packets (Some said) long path (TextOf (DrawTrace p)) e h = absurd (other_name said (codes "packets") (codes "draw") (name_in (codes "SCRIPT") said (codes "packets") path (flag_value long) e) h.0 refl)
+said_packets (Some said) long path (TextOf (Map p)) e h = absurd (other_name said (codes "packets") (codes "map") (name_in (codes "SCRIPT") said (codes "packets") path (flag_value long) e) h.0 refl)
+said_packets (Some said) long path (TextOf (Locks p)) e h = absurd (other_name said (codes "packets") (codes "locks") (name_in (codes "SCRIPT") said (codes "packets") path (flag_value long) e) h.0 refl)
 said_packets (Some said) long path (Udp w) e h = absurd (other_name said (codes "packets") (codes "udp") (name_in (codes "SCRIPT") said (codes "packets") path (flag_value long) e) h.0 refl)
 said_packets (Some said) long path (Member w) e h = absurd (other_name said (codes "packets") (codes "member") (name_in (codes "SCRIPT") said (codes "packets") path (flag_value long) e) h.0 refl)
 
@@ -218,6 +224,8 @@ said_check (Some said) long path (TextOf (Check p)) e h = (
 )
 said_check (Some said) long path (TextOf (Draw p)) e h = absurd (other_name said (codes "check") (codes "draw") (name_in (codes "TRACE") said (codes "check") path (flag_value long) e) h.0 refl)
 said_check (Some said) long path (TextOf (DrawTrace p)) e h = absurd (other_name said (codes "check") (codes "draw") (name_in (codes "TRACE") said (codes "check") path (flag_value long) e) h.0 refl)
+said_check (Some said) long path (TextOf (Map p)) e h = absurd (other_name said (codes "check") (codes "map") (name_in (codes "TRACE") said (codes "check") path (flag_value long) e) h.0 refl)
+said_check (Some said) long path (TextOf (Locks p)) e h = absurd (other_name said (codes "check") (codes "locks") (name_in (codes "TRACE") said (codes "check") path (flag_value long) e) h.0 refl)
 said_check (Some said) long path (Udp w) e h = absurd (other_name said (codes "check") (codes "udp") (name_in (codes "TRACE") said (codes "check") path (flag_value long) e) h.0 refl)
 said_check (Some said) long path (Member w) e h = absurd (other_name said (codes "check") (codes "member") (name_in (codes "TRACE") said (codes "check") path (flag_value long) e) h.0 refl)
 
@@ -291,6 +299,8 @@ said_udp (Some said) config script (TextOf (Packets p)) e h = absurd (other_name
 said_udp (Some said) config script (TextOf (Check p)) e h = absurd (other_name said (codes "udp") (codes "check") (udp_name said config script e) h.0 refl)
 said_udp (Some said) config script (TextOf (Draw p)) e h = absurd (other_name said (codes "udp") (codes "draw") (udp_name said config script e) h.0 refl)
 said_udp (Some said) config script (TextOf (DrawTrace p)) e h = absurd (other_name said (codes "udp") (codes "draw") (udp_name said config script e) h.0 refl)
+said_udp (Some said) config script (TextOf (Map p)) e h = absurd (other_name said (codes "udp") (codes "map") (udp_name said config script e) h.0 refl)
+said_udp (Some said) config script (TextOf (Locks p)) e h = absurd (other_name said (codes "udp") (codes "locks") (udp_name said config script e) h.0 refl)
 said_udp (Some said) config script (Member w) e h = absurd (other_name said (codes "udp") (codes "member") (udp_name said config script e) h.0 refl)
 said_udp (Some said) config script (Udp w) e h = (
   same_path config w.config.now _ (ap (λ (o : Option (Text × Option Text × Option Text)). option_map_or (λ q. q.1) o None) e) h.1.config,
@@ -359,6 +369,8 @@ said_draw (Some said) path (TextOf (Packets p)) e h = absurd (other_name said (c
 said_draw (Some said) path (TextOf (Check p)) e h = absurd (other_name said (codes "draw") (codes "check") (drawing_name said path (codes "false") e) h.0 refl)
 said_draw (Some said) path (TextOf (Draw p)) e h = same_path path p.now _ (drawing_path said path (codes "false") e) h.1.0
 said_draw (Some said) path (TextOf (DrawTrace p)) e h = absurd (h.1.1.0 (drawing_flag said path (codes "false") e))
+said_draw (Some said) path (TextOf (Map p)) e h = absurd (other_name said (codes "draw") (codes "map") (drawing_name said path (codes "false") e) h.0 refl)
+said_draw (Some said) path (TextOf (Locks p)) e h = absurd (other_name said (codes "draw") (codes "locks") (drawing_name said path (codes "false") e) h.0 refl)
 said_draw (Some said) path (Udp w) e h = absurd (other_name said (codes "draw") (codes "udp") (drawing_name said path (codes "false") e) h.0 refl)
 said_draw (Some said) path (Member w) e h = absurd (other_name said (codes "draw") (codes "member") (drawing_name said path (codes "false") e) h.0 refl)
 
@@ -370,8 +382,86 @@ said_trace (Some said) path (TextOf (Packets p)) e h = absurd (other_name said (
 said_trace (Some said) path (TextOf (Check p)) e h = absurd (other_name said (codes "draw") (codes "check") (drawing_name said path (codes "true") e) h.0 refl)
 said_trace (Some said) path (TextOf (Draw p)) e h = absurd (h.1.1 (drawing_flag said path (codes "true") e))
 said_trace (Some said) path (TextOf (DrawTrace p)) e h = same_path path p.now _ (drawing_path said path (codes "true") e) h.1.0
+said_trace (Some said) path (TextOf (Map p)) e h = absurd (other_name said (codes "draw") (codes "map") (drawing_name said path (codes "true") e) h.0 refl)
+said_trace (Some said) path (TextOf (Locks p)) e h = absurd (other_name said (codes "draw") (codes "locks") (drawing_name said path (codes "true") e) h.0 refl)
 said_trace (Some said) path (Udp w) e h = absurd (other_name said (codes "draw") (codes "udp") (drawing_name said path (codes "true") e) h.0 refl)
 said_trace (Some said) path (Member w) e h = absurd (other_name said (codes "draw") (codes "member") (drawing_name said path (codes "true") e) h.0 refl)
+
+-- `map` or `locks` with a path
+abbrev words_of_script : Text → Text → Text → List Text
+words_of_script subcommand name path = name ∷ subcommand ∷ path ∷ []
+
+-- the subcommand, with the first value of its argument
+abbrev pub script_in : Option (Text × List Row) → Option (Text × Option Text)
+script_in = option_map (λ said. (said.0, first_of (codes "SCRIPT") said.1))
+
+-- the words pass, and are this subcommand with this path
+abbrev ReadsScript : Text → Text → Text → Type 0
+ReadsScript subcommand name path =
+    (fault_of program_app (words_of_script subcommand name path) ≡ [])
+    × (script_in (subcommand_of program_app (words_of_script subcommand name path)) ≡ Some (subcommand, Some path))
+
+empty_map : (name : Text) → ReadsScript (codes "map") name []
+unfolding clap_on_literals
+empty_map name = (refl, refl)
+
+dash_map : (name : Text) → ReadsScript (codes "map") name (45 ∷ [])
+unfolding clap_on_literals
+dash_map name = (refl, refl)
+
+other_map : (name : Text) (x : ℕ) (xs : Text) → (x == 45) ≡ false → ReadsScript (codes "map") name (x ∷ xs)
+unfolding clap_on_literals
+other_map name x xs e = (simp e refl, simp e refl)
+
+pub reads_map : (name path : Text) → is_path path ≡ true → ReadsScript (codes "map") name path
+reads_map name = by_first (ReadsScript (codes "map") name) (empty_map name) (dash_map name) (other_map name)
+
+empty_locks : (name : Text) → ReadsScript (codes "locks") name []
+unfolding clap_on_literals
+empty_locks name = (refl, refl)
+
+dash_locks : (name : Text) → ReadsScript (codes "locks") name (45 ∷ [])
+unfolding clap_on_literals
+dash_locks name = (refl, refl)
+
+other_locks : (name : Text) (x : ℕ) (xs : Text) → (x == 45) ≡ false → ReadsScript (codes "locks") name (x ∷ xs)
+unfolding clap_on_literals
+other_locks name x xs e = (simp e refl, simp e refl)
+
+pub reads_locks : (name path : Text) → is_path path ≡ true → ReadsScript (codes "locks") name path
+reads_locks name = by_first (ReadsScript (codes "locks") name) (empty_locks name) (dash_locks name) (other_locks name)
+
+script_name : (said : Text × List Row) (name path : Text) → script_in (Some said) ≡ Some (name, Some path) → said.0 ≡ name
+script_name said name path e = ap (λ (o : Option (Text × Option Text)). option_map_or (λ q. q.0) o []) e
+
+script_path : (said : Text × List Row) (name path : Text) → script_in (Some said) ≡ Some (name, Some path) → first_of (codes "SCRIPT") said.1 ≡ Some path
+script_path said name path e = ap (λ (o : Option (Text × Option Text)). option_map_or (λ q. q.1) o None) e
+
+said_map : (o : Option (Text × List Row)) (path : Text) (i : Invocation) → script_in o ≡ Some (codes "map", Some path) → IsSomeAnd o (λ said. IsSaid said i) → IsMapOn path i
+said_map None path i e h = absurd h
+said_map (Some said) path (TextOf (World p)) e h = absurd (other_name said (codes "map") (codes "world") (script_name said (codes "map") path e) h.0 refl)
+said_map (Some said) path (TextOf (Chat p)) e h = absurd (other_name said (codes "map") (codes "chat") (script_name said (codes "map") path e) h.0 refl)
+said_map (Some said) path (TextOf (Packets p)) e h = absurd (other_name said (codes "map") (codes "packets") (script_name said (codes "map") path e) h.0 refl)
+said_map (Some said) path (TextOf (Check p)) e h = absurd (other_name said (codes "map") (codes "check") (script_name said (codes "map") path e) h.0 refl)
+said_map (Some said) path (TextOf (Draw p)) e h = absurd (other_name said (codes "map") (codes "draw") (script_name said (codes "map") path e) h.0 refl)
+said_map (Some said) path (TextOf (DrawTrace p)) e h = absurd (other_name said (codes "map") (codes "draw") (script_name said (codes "map") path e) h.0 refl)
+said_map (Some said) path (TextOf (Map p)) e h = same_path path p.now _ (script_path said (codes "map") path e) h.1
+said_map (Some said) path (TextOf (Locks p)) e h = absurd (other_name said (codes "map") (codes "locks") (script_name said (codes "map") path e) h.0 refl)
+said_map (Some said) path (Udp w) e h = absurd (other_name said (codes "map") (codes "udp") (script_name said (codes "map") path e) h.0 refl)
+said_map (Some said) path (Member w) e h = absurd (other_name said (codes "map") (codes "member") (script_name said (codes "map") path e) h.0 refl)
+
+said_locks : (o : Option (Text × List Row)) (path : Text) (i : Invocation) → script_in o ≡ Some (codes "locks", Some path) → IsSomeAnd o (λ said. IsSaid said i) → IsLocksOn path i
+said_locks None path i e h = absurd h
+said_locks (Some said) path (TextOf (World p)) e h = absurd (other_name said (codes "locks") (codes "world") (script_name said (codes "locks") path e) h.0 refl)
+said_locks (Some said) path (TextOf (Chat p)) e h = absurd (other_name said (codes "locks") (codes "chat") (script_name said (codes "locks") path e) h.0 refl)
+said_locks (Some said) path (TextOf (Packets p)) e h = absurd (other_name said (codes "locks") (codes "packets") (script_name said (codes "locks") path e) h.0 refl)
+said_locks (Some said) path (TextOf (Check p)) e h = absurd (other_name said (codes "locks") (codes "check") (script_name said (codes "locks") path e) h.0 refl)
+said_locks (Some said) path (TextOf (Draw p)) e h = absurd (other_name said (codes "locks") (codes "draw") (script_name said (codes "locks") path e) h.0 refl)
+said_locks (Some said) path (TextOf (DrawTrace p)) e h = absurd (other_name said (codes "locks") (codes "draw") (script_name said (codes "locks") path e) h.0 refl)
+said_locks (Some said) path (TextOf (Map p)) e h = absurd (other_name said (codes "locks") (codes "map") (script_name said (codes "locks") path e) h.0 refl)
+said_locks (Some said) path (TextOf (Locks p)) e h = same_path path p.now _ (script_path said (codes "locks") path e) h.1
+said_locks (Some said) path (Udp w) e h = absurd (other_name said (codes "locks") (codes "udp") (script_name said (codes "locks") path e) h.0 refl)
+said_locks (Some said) path (Member w) e h = absurd (other_name said (codes "locks") (codes "member") (script_name said (codes "locks") path e) h.0 refl)
 
 -- an error that is handed on keeps its kind
 pub fails_as : (kinds : Kinds) (r : Result Invocation Error) (e : Error) → IsErrAnd r (λ x. x ≡ e) → HasKind kinds e → FailsBy kinds r
@@ -429,3 +519,15 @@ pub trace_or_no_memory : (r : Result Invocation Error) (o : Option (Text × List
     → IsOrNoMemory (IsDrawTraceOn path) r
 trace_or_no_memory r o kinds path none value is fails =
     is_or_no_memory (IsDrawTraceOn path) r kinds none (IfOk-weaker r _ _ (λ i said. said_trace o path i value said) is) fails
+
+pub map_or_no_memory : (r : Result Invocation Error) (o : Option (Text × List Row)) (kinds : Kinds) (path : Text) → kinds ≡ []
+    → script_in o ≡ Some (codes "map", Some path) → IfOk r (λ i. IsSomeAnd o (λ said. IsSaid said i)) → FailsBy kinds r
+    → IsOrNoMemory (IsMapOn path) r
+map_or_no_memory r o kinds path none value is fails =
+    is_or_no_memory (IsMapOn path) r kinds none (IfOk-weaker r _ _ (λ i said. said_map o path i value said) is) fails
+
+pub locks_or_no_memory : (r : Result Invocation Error) (o : Option (Text × List Row)) (kinds : Kinds) (path : Text) → kinds ≡ []
+    → script_in o ≡ Some (codes "locks", Some path) → IfOk r (λ i. IsSomeAnd o (λ said. IsSaid said i)) → FailsBy kinds r
+    → IsOrNoMemory (IsLocksOn path) r
+locks_or_no_memory r o kinds path none value is fails =
+    is_or_no_memory (IsLocksOn path) r kinds none (IfOk-weaker r _ _ (λ i said. said_locks o path i value said) is) fails

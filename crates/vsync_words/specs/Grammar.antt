@@ -18,7 +18,7 @@ use Rattle.vsync_words.specs.declared.words.Invocation.{Invocation}
 use Rattle.vsync_words.specs.declared.words.Invocation.TheVariants.{Text as TextOf, Udp, Member}
 use Rattle.vsync_words.specs.declared.words.TextWords.{TextWords}
 use Rattle.vsync_words.specs.declared.words.TextCommand.{TextCommand}
-use Rattle.vsync_words.specs.declared.words.TextCommand.TheVariants.{World, Chat, Packets, Check, Draw, DrawTrace}
+use Rattle.vsync_words.specs.declared.words.TextCommand.TheVariants.{World, Chat, Packets, Check, Draw, DrawTrace, Map, Locks}
 use Rattle.limits.specs.declared.TheConstants.{GREATEST_INCARNATION, GREATEST_NODE}
 
 -- an argument that is required; one that is a number in a range; and an option with a value
@@ -67,6 +67,10 @@ program_of_subcommands name =
 abbrev pub draw_app : App
 draw_app = with_rule (with_rule (new_app (codes "draw")) (flag_rule (codes "trace"))) (required_rule (codes "INPUT"))
 
+-- a subcommand with one argument, the path of a script, which is required
+abbrev pub script_app : Text → App
+script_app name = with_rule (new_app name) (required_rule (codes "SCRIPT"))
+
 -- `udp CONFIG SCRIPT`
 abbrev pub udp_app : App
 udp_app = with_rule (with_rule (new_app (codes "udp")) (required_rule (codes "CONFIG"))) (required_rule (codes "SCRIPT"))
@@ -92,14 +96,16 @@ files_app app = with_rule (with_rule app (option_rule (codes "incarnation-file")
 abbrev pub hosts_app : App → App
 hosts_app app = with_rule (with_rule app (option_rule (codes "bind"))) (repeated_rule (codes "peer"))
 
--- with all of them and `[--forever] [--leave] [--text] [--stats] [--long]`
+-- with all of them and `[--forever] [--leave] [--text] [--stats] [--long] [--map] [--locks]`
 abbrev pub flags_app : App → App
-flags_app app = with_rule (with_rule (with_rule (with_rule (with_rule app
+flags_app app = with_rule (with_rule (with_rule (with_rule (with_rule (with_rule (with_rule app
     (flag_rule (codes "forever")))
     (flag_rule (codes "leave")))
     (flag_rule (codes "text")))
     (flag_rule (codes "stats")))
-    (flag_rule (codes "long"))
+    (flag_rule (codes "long")))
+    (flag_rule (codes "map")))
+    (flag_rule (codes "locks"))
 
 abbrev pub options_app : App → App
 options_app app = flags_app (hosts_app (files_app (times_app app)))
@@ -107,14 +113,16 @@ options_app app = flags_app (hosts_app (files_app (times_app app)))
 abbrev pub member_app : App
 member_app = options_app member_talk_app
 
--- `vsync world [--long] SCRIPT`, `vsync chat [--long] SCRIPT`, `vsync packets [--long] SCRIPT`, `vsync check [--long] TRACE`, `vsync draw [--trace] INPUT`, `vsync udp CONFIG SCRIPT` and `vsync member ..`
+-- `vsync world [--long] SCRIPT`, `vsync chat [--long] SCRIPT`, `vsync packets [--long] SCRIPT`, `vsync check [--long] TRACE`, `vsync draw [--trace] INPUT`, `vsync map SCRIPT`, `vsync locks SCRIPT`, `vsync udp CONFIG SCRIPT` and `vsync member ..`
 abbrev pub program_app : App
-program_app = with_subcommand (with_subcommand (with_subcommand (with_subcommand (with_subcommand (with_subcommand (with_subcommand (program_of_subcommands (codes "vsync"))
+program_app = with_subcommand (with_subcommand (with_subcommand (with_subcommand (with_subcommand (with_subcommand (with_subcommand (with_subcommand (with_subcommand (program_of_subcommands (codes "vsync"))
     (path_app (codes "world") (codes "SCRIPT")).top)
     (path_app (codes "chat") (codes "SCRIPT")).top)
     (path_app (codes "packets") (codes "SCRIPT")).top)
     (path_app (codes "check") (codes "TRACE")).top)
     draw_app.top)
+    (script_app (codes "map")).top)
+    (script_app (codes "locks")).top)
     udp_app.top)
     member_app.top
 
@@ -151,6 +159,8 @@ pub record AreMemberOptions (rows : List Row) (options : MemberOptions) : Type 0
   pub text : IsFlag (one_of (codes "text") rows) options.text
   pub stats : IsFlag (one_of (codes "stats") rows) options.stats
   pub long : IsFlag (one_of (codes "long") rows) options.long
+  pub map : IsFlag (one_of (codes "map") rows) options.map
+  pub locks : IsFlag (one_of (codes "locks") rows) options.locks
 
 -- the words of `member` are the first values of its arguments and options: its numbers in their ranges
 pub record AreMemberWords (rows : List Row) (words : MemberWords) : Type 0 where
@@ -173,6 +183,8 @@ IsDrawSaid rows (World words) = ⊥
 IsDrawSaid rows (Chat words) = ⊥
 IsDrawSaid rows (Packets words) = ⊥
 IsDrawSaid rows (Check words) = ⊥
+IsDrawSaid rows (Map path) = ⊥
+IsDrawSaid rows (Locks path) = ⊥
 IsDrawSaid rows (Draw path) = (first_of (codes "INPUT") rows ≡ Some path.now) × IsFlag (one_of (codes "trace") rows) false
 IsDrawSaid rows (DrawTrace path) = (first_of (codes "INPUT") rows ≡ Some path.now) × IsFlag (one_of (codes "trace") rows) true
 
@@ -184,6 +196,8 @@ IsTextSaid said (Packets words) = (said.0 ≡ codes "packets") × AreTextWords (
 IsTextSaid said (Check words) = (said.0 ≡ codes "check") × AreTextWords (codes "TRACE") said.1 words
 IsTextSaid said (Draw path) = (said.0 ≡ codes "draw") × IsDrawSaid said.1 (Draw path)
 IsTextSaid said (DrawTrace path) = (said.0 ≡ codes "draw") × IsDrawSaid said.1 (DrawTrace path)
+IsTextSaid said (Map path) = (said.0 ≡ codes "map") × (first_of (codes "SCRIPT") said.1 ≡ Some path.now)
+IsTextSaid said (Locks path) = (said.0 ≡ codes "locks") × (first_of (codes "SCRIPT") said.1 ≡ Some path.now)
 
 -- a subcommand that was said, with its matches, is this command
 abbrev pub IsSaid : Text × List Row → Invocation → Type 0

@@ -1,13 +1,15 @@
 -- What a command names.
-use Rattle.std.specs.Prelude.{◌≡◌, ℕ, Bool, false, List, Result, MatchResult, codes}
+use Rattle.std.specs.Prelude.{◌≡◌, ℕ, Bool, true, false, List, Result, MatchResult, codes, if◌then◌else◌}
 use Rattle.clap.specs.Words.{kind_of}
 use Rattle.clap.specs.declared.error.Error.{Error}
 use Rattle.clap.specs.declared.error.kind.ErrorKind.TheVariants.{OutOfMemory}
 use Rattle.vsync_words.specs.declared.words.Invocation.{Invocation}
 use Rattle.vsync_words.specs.declared.words.Invocation.TheVariants.{Text, Udp, Member}
+use Rattle.vsync_words.specs.declared.words.Kept.{Kept}
+use Rattle.vsync_words.specs.declared.words.Kept.TheVariants as kept
 use Rattle.vsync_words.specs.declared.words.TextWords.{TextWords}
 use Rattle.vsync_words.specs.declared.words.TextCommand.{TextCommand}
-use Rattle.vsync_words.specs.declared.words.TextCommand.TheVariants.{World, Chat, Packets, Check, Draw, DrawTrace}
+use Rattle.vsync_words.specs.declared.words.TextCommand.TheVariants.{World, Chat, Packets, Check, Draw, DrawTrace, Map, Locks}
 
 -- the words name this path, and the long chat or the short one
 abbrev pub AreOn : Bool → List ℕ → TextWords → Type 0
@@ -21,6 +23,8 @@ IsWorldOn long path (Text (Packets words)) = ⊥
 IsWorldOn long path (Text (Check words)) = ⊥
 IsWorldOn long path (Text (Draw input)) = ⊥
 IsWorldOn long path (Text (DrawTrace input)) = ⊥
+IsWorldOn long path (Text (Map input)) = ⊥
+IsWorldOn long path (Text (Locks input)) = ⊥
 IsWorldOn long path (Udp words) = ⊥
 IsWorldOn long path (Member words) = ⊥
 
@@ -32,6 +36,8 @@ IsChatOn long path (Text (Packets words)) = ⊥
 IsChatOn long path (Text (Check words)) = ⊥
 IsChatOn long path (Text (Draw input)) = ⊥
 IsChatOn long path (Text (DrawTrace input)) = ⊥
+IsChatOn long path (Text (Map input)) = ⊥
+IsChatOn long path (Text (Locks input)) = ⊥
 IsChatOn long path (Udp words) = ⊥
 IsChatOn long path (Member words) = ⊥
 
@@ -43,6 +49,8 @@ IsPacketsOn long path (Text (Packets words)) = AreOn long path words
 IsPacketsOn long path (Text (Check words)) = ⊥
 IsPacketsOn long path (Text (Draw input)) = ⊥
 IsPacketsOn long path (Text (DrawTrace input)) = ⊥
+IsPacketsOn long path (Text (Map input)) = ⊥
+IsPacketsOn long path (Text (Locks input)) = ⊥
 IsPacketsOn long path (Udp words) = ⊥
 IsPacketsOn long path (Member words) = ⊥
 
@@ -54,6 +62,8 @@ IsCheckOn long path (Text (Packets words)) = ⊥
 IsCheckOn long path (Text (Check words)) = AreOn long path words
 IsCheckOn long path (Text (Draw input)) = ⊥
 IsCheckOn long path (Text (DrawTrace input)) = ⊥
+IsCheckOn long path (Text (Map input)) = ⊥
+IsCheckOn long path (Text (Locks input)) = ⊥
 IsCheckOn long path (Udp words) = ⊥
 IsCheckOn long path (Member words) = ⊥
 
@@ -65,6 +75,8 @@ IsDrawOn path (Text (Packets words)) = ⊥
 IsDrawOn path (Text (Check words)) = ⊥
 IsDrawOn path (Text (Draw input)) = input.now ≡ path
 IsDrawOn path (Text (DrawTrace input)) = ⊥
+IsDrawOn path (Text (Map input)) = ⊥
+IsDrawOn path (Text (Locks input)) = ⊥
 IsDrawOn path (Udp words) = ⊥
 IsDrawOn path (Member words) = ⊥
 
@@ -76,8 +88,36 @@ IsDrawTraceOn path (Text (Packets words)) = ⊥
 IsDrawTraceOn path (Text (Check words)) = ⊥
 IsDrawTraceOn path (Text (Draw input)) = ⊥
 IsDrawTraceOn path (Text (DrawTrace input)) = input.now ≡ path
+IsDrawTraceOn path (Text (Map input)) = ⊥
+IsDrawTraceOn path (Text (Locks input)) = ⊥
 IsDrawTraceOn path (Udp words) = ⊥
 IsDrawTraceOn path (Member words) = ⊥
+
+-- the script of this path is run, and the maps are printed
+abbrev pub IsMapOn : List ℕ → Invocation → Type 0
+IsMapOn path (Text (World words)) = ⊥
+IsMapOn path (Text (Chat words)) = ⊥
+IsMapOn path (Text (Packets words)) = ⊥
+IsMapOn path (Text (Check words)) = ⊥
+IsMapOn path (Text (Draw input)) = ⊥
+IsMapOn path (Text (DrawTrace input)) = ⊥
+IsMapOn path (Text (Map input)) = input.now ≡ path
+IsMapOn path (Text (Locks input)) = ⊥
+IsMapOn path (Udp words) = ⊥
+IsMapOn path (Member words) = ⊥
+
+-- the script of this path is run, and the tables of locks are printed
+abbrev pub IsLocksOn : List ℕ → Invocation → Type 0
+IsLocksOn path (Text (World words)) = ⊥
+IsLocksOn path (Text (Chat words)) = ⊥
+IsLocksOn path (Text (Packets words)) = ⊥
+IsLocksOn path (Text (Check words)) = ⊥
+IsLocksOn path (Text (Draw input)) = ⊥
+IsLocksOn path (Text (DrawTrace input)) = ⊥
+IsLocksOn path (Text (Map input)) = ⊥
+IsLocksOn path (Text (Locks input)) = input.now ≡ path
+IsLocksOn path (Udp words) = ⊥
+IsLocksOn path (Member words) = ⊥
 
 -- nodes run over datagrams by the settings and the script of these paths
 abbrev pub IsUdpOn : List ℕ → List ℕ → Invocation → Type 0
@@ -97,6 +137,8 @@ input_of (Packets words) = words.path.now
 input_of (Check words) = words.path.now
 input_of (Draw path) = path.now
 input_of (DrawTrace path) = path.now
+input_of (Map path) = path.now
+input_of (Locks path) = path.now
 
 -- whether a command's members keep the long chat
 abbrev pub is_long : TextCommand → Bool
@@ -106,6 +148,27 @@ is_long (Packets words) = words.long
 is_long (Check words) = words.long
 is_long (Draw path) = false
 is_long (DrawTrace path) = false
+is_long (Map path) = false
+is_long (Locks path) = false
+
+-- what a command's members keep
+abbrev pub chat_kept : Bool → Kept
+chat_kept true = kept.LongChat
+chat_kept false = kept.Chat
+
+abbrev pub kept_of : TextCommand → Kept
+kept_of (World words) = chat_kept words.long
+kept_of (Chat words) = chat_kept words.long
+kept_of (Packets words) = chat_kept words.long
+kept_of (Check words) = chat_kept words.long
+kept_of (Draw path) = kept.Chat
+kept_of (DrawTrace path) = kept.Chat
+kept_of (Map path) = kept.Map
+kept_of (Locks path) = kept.Locks
+
+-- what a node's member keeps by its flags `--locks`, `--map` and `--long`
+abbrev pub kept_by : Bool → Bool → Bool → Kept
+kept_by locks map long = if locks then kept.Locks else if map then kept.Map else if long then kept.LongChat else kept.Chat
 
 -- this command, or an error that says that memory was refused
 abbrev pub IsOrNoMemory : (Invocation → Type 0) → Result Invocation Error → Type 0

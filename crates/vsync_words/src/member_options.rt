@@ -2,8 +2,10 @@
 
 ghost use Rattle.std.specs.Prelude.{◌≡◌, ◌≤◌, [], codes, map, unwrap_or, IfOk, IfSome};
 ghost use Rattle.clap.specs.Words.{App, all_of, found_of, rows_of};
+ghost use Rattle.vsync_words.specs.Words.{kept_by};
 ghost use Rattle.vsync_words.specs.Grammar.{flag_rule, numeric_rule, repeated_rule, times_app, files_app, hosts_app, flags_app, options_app, AreMemberOptions, IsArg, IsCommand, IsOptionalIn};
 
+use crate::Kept;
 use crate::udp_words::option;
 use clap::builder::ValueParser;
 use clap::{Arg, ArgAction, ArgMatches};
@@ -40,6 +42,27 @@ pub struct MemberOptions<'a> {
     pub stats: bool,
     /// `--long`: it keeps the long chat.
     pub long: bool,
+    /// `--map`: it keeps the map.
+    pub map: bool,
+    /// `--locks`: it keeps the table of locks.
+    pub locks: bool,
+}
+
+impl MemberOptions<'_> {
+    /// What it keeps: the table of locks, the map, the long chat, the first of these whose flag stands, and the chat where none does.
+    pub fn kept(&self) -> Kept
+        ensures { result ≡ kept_by self.now.locks self.now.map self.now.long }
+    {
+        if self.locks {
+            Kept::Locks
+        } else if self.map {
+            Kept::Map
+        } else if self.long {
+            Kept::LongChat
+        } else {
+            Kept::Chat
+        }
+    }
 }
 
 // An option whose value is a number in a range.
@@ -184,6 +207,16 @@ fn with_flags<'a>(
             alloc,
             "long",
             "It keeps the last 2000 lines of the chat, not the last 24; all of the group must",
+        ))?
+        .arg(flag(
+            alloc,
+            "map",
+            "It keeps a map; all of the group must. TEXT and the lines of --say are put KEY VALUE, remove KEY, replace KEY OLD NEW or clear",
+        ))?
+        .arg(flag(
+            alloc,
+            "locks",
+            "It keeps a table of locks; all of the group must. TEXT and the lines of --say are acquire NAME or release NAME",
         ))
 }
 
@@ -236,5 +269,7 @@ pub(crate) fn member_options<'a>(
         text: matches.get_flag("text"),
         stats: matches.get_flag("stats"),
         long: matches.get_flag("long"),
+        map: matches.get_flag("map"),
+        locks: matches.get_flag("locks"),
     })
 }

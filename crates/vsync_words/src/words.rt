@@ -1,7 +1,7 @@
-ghost use Rattle.std.specs.Prelude.{◌≡◌, ◌≤◌, ◌<◌, ◌∷◌, [], Bool, true, length, map, codes, string_bytes, IfOk, IfSome, IsOkAnd, IsSomeAnd};
-ghost use Rattle.clap.specs.Words.{app_of, fault_of, found_of, rows_of, subcommand_of, subcommand_rows_of, FailsBy, Text};
-ghost use Rattle.vsync_words.specs.Words.{input_of, is_long, IsWorldOn, IsChatOn, IsPacketsOn, IsCheckOn, IsDrawOn, IsDrawTraceOn, IsUdpOn, IsOrNoMemory, RunsStandardInput};
-ghost use Rattle.vsync_words.specs.Grammar.{is_path, with_long, draw_app, flag_rule, required_rule, program_app, program_of_subcommands, path_app, AddsCommand, AreTextWords, IsArg, IsCommand, IsDrawSaid, IsSaid, IsTextSaid};
+ghost use Rattle.std.specs.Prelude.{◌≡◌, ◌≤◌, ◌<◌, ◌∷◌, [], Bool, true, Some, length, map, codes, string_bytes, IfOk, IfSome, IsOkAnd, IsSomeAnd};
+ghost use Rattle.clap.specs.Words.{app_of, fault_of, first_of, found_of, rows_of, subcommand_of, subcommand_rows_of, FailsBy, Text};
+ghost use Rattle.vsync_words.specs.Words.{input_of, is_long, kept_of, IsWorldOn, IsChatOn, IsPacketsOn, IsCheckOn, IsDrawOn, IsDrawTraceOn, IsMapOn, IsLocksOn, IsUdpOn, IsOrNoMemory, RunsStandardInput};
+ghost use Rattle.vsync_words.specs.Grammar.{is_path, with_long, draw_app, flag_rule, required_rule, program_app, program_of_subcommands, path_app, script_app, AddsCommand, AreTextWords, IsArg, IsCommand, IsDrawSaid, IsSaid, IsTextSaid};
 
 use crate::udp_words::{
     MemberWords, UdpWords, member_words, required, udp_words, with_member, with_udp,
@@ -33,6 +33,23 @@ pub enum TextCommand<'a> {
     Draw(&'a str),
     /// `draw --trace TRACE`: a picture of the trace is drawn.
     DrawTrace(&'a str),
+    /// `map SCRIPT`: the script is run, and the maps of the running members are printed.
+    Map(&'a str),
+    /// `locks SCRIPT`: the script is run, and the tables of locks of the running members are printed.
+    Locks(&'a str),
+}
+
+/// What the members keep that a command runs, each one line of the program.
+#[derive(Clone, Copy, Debug, PartialEq, Eq)]
+pub enum Kept {
+    /// The last 24 lines of a chat.
+    Chat,
+    /// The last 2000 lines of a chat.
+    LongChat,
+    /// A map.
+    Map,
+    /// A table of locks.
+    Locks,
 }
 
 impl<'a> TextCommand<'a> {
@@ -47,6 +64,8 @@ impl<'a> TextCommand<'a> {
             TextCommand::Check(words) => words.path,
             TextCommand::Draw(path) => path,
             TextCommand::DrawTrace(path) => path,
+            TextCommand::Map(path) => path,
+            TextCommand::Locks(path) => path,
         }
     }
 
@@ -61,6 +80,25 @@ impl<'a> TextCommand<'a> {
             TextCommand::Check(words) => words.long,
             TextCommand::Draw(_) => false,
             TextCommand::DrawTrace(_) => false,
+            TextCommand::Map(_) => false,
+            TextCommand::Locks(_) => false,
+        }
+    }
+
+    /// What its members keep.
+    pub fn kept(&self) -> Kept
+        ensures { result ≡ kept_of self.now }
+    {
+        match self {
+            TextCommand::Map(_) => Kept::Map,
+            TextCommand::Locks(_) => Kept::Locks,
+            _ => {
+                if self.is_long() {
+                    Kept::LongChat
+                } else {
+                    Kept::Chat
+                }
+            }
         }
     }
 }
@@ -68,7 +106,8 @@ impl<'a> TextCommand<'a> {
 /// What the words of a command line ask for.
 #[derive(Debug, Drop)]
 pub enum Invocation<'a> {
-    /// `world SCRIPT`, `chat SCRIPT`, `packets SCRIPT` or `check TRACE`, each perhaps with `--long`; `draw SCRIPT` or `draw --trace TRACE`.
+    /// `world SCRIPT`, `chat SCRIPT`, `packets SCRIPT` or `check TRACE`, each perhaps with `--long`; `draw SCRIPT` or `draw --trace TRACE`; `map SCRIPT` or
+    /// `locks SCRIPT`.
     Text(TextCommand<'a>),
     /// `udp CONFIG SCRIPT`: nodes run over datagrams in one process.
     Udp(UdpWords<'a>),
@@ -226,6 +265,54 @@ fn with_draw<'a>(alloc: Global, program: clap::Command<'a>) -> Result<clap::Comm
     program.subcommand(command)
 }
 
+/// A subcommand with one argument, the path of a script, as clap reads it.
+fn script_command<'a>(
+    alloc: Global,
+    name: &'a str,
+    about: &'a str,
+    after_help: &'a str,
+) -> Result<clap::Command<'a>, AllocError>
+    ensures { IfOk result (IsCommand (script_app name.now)) }
+{
+    clap::Command::new(alloc, name)
+        .about(about)
+        .after_help(after_help)
+        .arg(required(
+            alloc,
+            "SCRIPT",
+            "The script's path, or - for the standard input",
+        ))
+}
+
+/// The program with `map SCRIPT` as well.
+fn with_map<'a>(alloc: Global, program: clap::Command<'a>) -> Result<clap::Command<'a>, AllocError>
+    ensures { IfOk result (AddsCommand program.entry (script_app (codes "map"))) }
+{
+    let command = script_command(
+        alloc,
+        "map",
+        "Runs a script as `world` does, whose members keep a map, and prints the map of each running member",
+        "What is sent is put KEY VALUE, remove KEY, replace KEY OLD NEW (OLD is - where no value is expected) or clear.\nIt prints `map ADDR ENTRIES` for each member that runs at the end. ENTRIES is `-`, or `hex:hex` joined by commas, keys and values, the keys rising.\n\nExample:\n  vsync map examples/map/newcomer.script",
+    )?;
+    program.subcommand(command)
+}
+
+/// The program with `locks SCRIPT` as well.
+fn with_locks<'a>(
+    alloc: Global,
+    program: clap::Command<'a>,
+) -> Result<clap::Command<'a>, AllocError>
+    ensures { IfOk result (AddsCommand program.entry (script_app (codes "locks"))) }
+{
+    let command = script_command(
+        alloc,
+        "locks",
+        "Runs a script as `world` does, whose members keep a table of locks, and prints the table of each running member",
+        "What is sent is acquire VIEW NAME, release VIEW NAME or roll VIEW MEMBERS.\nIt prints `locks ADDR TOKEN LOCK ..` for each member that runs at the end: the last token, and NAME:HOLDER:TOKEN:WAITERS for each lock that is held, NAME in hexadecimal.\n\nExample:\n  vsync locks examples/locks/killed.script",
+    )?;
+    program.subcommand(command)
+}
+
 /// The program, which requires a subcommand, with none yet, as clap reads it.
 fn program_grammar<'a>(alloc: Global) -> Result<clap::Command<'a>, AllocError>
     ensures { IfOk result (λ c. app_of c ≡ program_of_subcommands (codes "vsync")) }
@@ -252,6 +339,8 @@ fn grammar<'a>(alloc: Global) -> Result<clap::Command<'a>, AllocError>
     let program = with_packets(alloc, program)?;
     let program = with_check(alloc, program)?;
     let program = with_draw(alloc, program)?;
+    let program = with_map(alloc, program)?;
+    let program = with_locks(alloc, program)?;
     let program = with_udp(alloc, program)?;
     with_member(alloc, program)
 }
@@ -277,6 +366,14 @@ fn draw_words<'a>(matches: &ArgMatches<'a>) -> Option<TextCommand<'a>>
     }
 }
 
+// The path of the script of `map` and `locks`.
+fn script_path<'a>(matches: &ArgMatches<'a>) -> Option<&'a str>
+    ensures { IfSome result (λ path. first_of (codes "SCRIPT") (rows_of (found_of matches.now)) ≡ Some path.now) }
+{
+    let path = matches.get_str("SCRIPT")?;
+    Some(path)
+}
+
 /// The command over a text that a subcommand's matches name.
 fn text_command<'a>(name: &str, matches: &ArgMatches<'a>) -> Option<TextCommand<'a>>
     ensures { IfSome result (IsTextSaid (name.now, rows_of (found_of matches.now))) }
@@ -295,6 +392,12 @@ fn text_command<'a>(name: &str, matches: &ArgMatches<'a>) -> Option<TextCommand<
     }
     if name == "draw" {
         return draw_words(matches);
+    }
+    if name == "map" {
+        return Some(TextCommand::Map(script_path(matches)?));
+    }
+    if name == "locks" {
+        return Some(TextCommand::Locks(script_path(matches)?));
     }
     None
 }
@@ -337,7 +440,8 @@ fn parsed<'a>(alloc: Global, words: &'a [String]) -> Result<Invocation<'a>, Erro
 }
 
 /// The command that the words of a command line ask for, the program's name first: `world [--long] SCRIPT`, `chat [--long] SCRIPT`,
-/// `packets [--long] SCRIPT`, `check [--long] TRACE`, `draw [--trace] INPUT`, `udp CONFIG SCRIPT` or `member CONFIG NODE INCARNATION ROUNDS` with its options.
+/// `packets [--long] SCRIPT`, `check [--long] TRACE`, `draw [--trace] INPUT`, `map SCRIPT`, `locks SCRIPT`, `udp CONFIG SCRIPT` or
+/// `member CONFIG NODE INCARNATION ROUNDS` with its options.
 /// No words after the name are `world -`. A path that begins with `-` and is more than that stands behind `--`.
 ///
 /// Words that are no command give clap's error, whose text says what is wrong (`error.kind()` says which kind of
@@ -367,6 +471,12 @@ pub fn command<'a>(alloc: Global, words: &'a [String]) -> Result<Invocation<'a>,
     ensures draw_trace { (name path : Text) → is_path path ≡ true
         → map string_bytes words.now ≡ name ∷ codes "draw" ∷ codes "--trace" ∷ path ∷ []
         → IsOrNoMemory (IsDrawTraceOn path) result }
+    ensures map { (name path : Text) → is_path path ≡ true
+        → map string_bytes words.now ≡ name ∷ codes "map" ∷ path ∷ []
+        → IsOrNoMemory (IsMapOn path) result }
+    ensures locks { (name path : Text) → is_path path ≡ true
+        → map string_bytes words.now ≡ name ∷ codes "locks" ∷ path ∷ []
+        → IsOrNoMemory (IsLocksOn path) result }
     ensures udp { (name config script : Text) → is_path config ≡ true → is_path script ≡ true
         → map string_bytes words.now ≡ name ∷ codes "udp" ∷ config ∷ script ∷ []
         → IsOrNoMemory (IsUdpOn config script) result }

@@ -1,7 +1,7 @@
 use crate::words::{refusal, words_of};
 use clap::error::ErrorKind;
 use std::alloc::Global;
-use vsync_words::{Invocation, MemberMistake, MemberPlan, command};
+use vsync_words::{Invocation, Kept, MemberMistake, MemberPlan, command};
 
 /// Whether the words ask for the script of this path with the settings of that.
 fn is_udp(alloc: Global, line: &[&str], config: &str, script: &str) -> bool {
@@ -158,6 +158,25 @@ fn member_takes_how_it_runs(rt: HostRuntime) {
         options_of(alloc, &line).as_str() == "1000 0 i s 10.0.0.1 2 true true true true true",
         "all"
     );
+}
+
+/// What the member keeps by a flag; `None` for words that run no member.
+fn kept_by(alloc: Global, flag: &str) -> Option<Kept> {
+    let line = ["vsync", "member", "a.toml", "1", "1", "0", "--text", flag];
+    let words = words_of(alloc, &line).ok()?;
+    match command(alloc, words.as_slice()) {
+        Ok(Invocation::Member(member)) => Some(member.options.kept()),
+        _ => None,
+    }
+}
+
+#[test]
+fn what_a_member_keeps_is_told_by_a_flag(rt: HostRuntime) {
+    let alloc = rt.alloc();
+    assert!(rt; kept_by(alloc, "--map") == Some(Kept::Map), "--map");
+    assert!(rt; kept_by(alloc, "--locks") == Some(Kept::Locks), "--locks");
+    assert!(rt; kept_by(alloc, "--long") == Some(Kept::LongChat), "--long");
+    assert!(rt; kept_by(alloc, "--stats") == Some(Kept::Chat), "none");
 }
 
 #[test]

@@ -1,6 +1,6 @@
 use clap::error::ErrorKind;
 use std::alloc::{AllocError, Global};
-use vsync_words::{Invocation, TextCommand, command};
+use vsync_words::{Invocation, Kept, TextCommand, command};
 
 /// The words of a command line, as the environment gives them.
 pub(crate) fn words_of(alloc: Global, line: &[&str]) -> Result<Vec<String>, AllocError> {
@@ -20,6 +20,8 @@ fn name_of(command: TextCommand<'_>) -> &'static str {
         TextCommand::Check(_) => "check",
         TextCommand::Draw(_) => "draw",
         TextCommand::DrawTrace(_) => "draw --trace",
+        TextCommand::Map(_) => "map",
+        TextCommand::Locks(_) => "locks",
     }
 }
 
@@ -49,6 +51,15 @@ fn long_asked(alloc: Global, line: &[&str]) -> Option<bool> {
                 None
             }
         }
+        _ => None,
+    }
+}
+
+/// What the members keep of the command that the words ask for; `None` where they ask for no such command.
+fn kept(alloc: Global, line: &[&str]) -> Option<Kept> {
+    let words = words_of(alloc, line).ok()?;
+    match command(alloc, words.as_slice()) {
+        Ok(Invocation::Text(command)) => Some(command.kept()),
         _ => None,
     }
 }
@@ -99,6 +110,14 @@ fn each_subcommand_takes_a_path(rt: HostRuntime) {
         asked(alloc, &["vsync", "draw", "--trace", "a.trace"], "a.trace") == Some("draw --trace"),
         "draw --trace"
     );
+    assert!(rt;
+        asked(alloc, &["vsync", "map", "a.script"], "a.script") == Some("map"),
+        "map"
+    );
+    assert!(rt;
+        asked(alloc, &["vsync", "locks", "a.script"], "a.script") == Some("locks"),
+        "locks"
+    );
 }
 
 #[test]
@@ -122,6 +141,39 @@ fn each_subcommand_takes_the_standard_input(rt: HostRuntime) {
     );
     assert!(rt;
         asked(alloc, &["vsync", "draw", "-"], "-") == Some("draw"),
+        "draw"
+    );
+    assert!(rt;
+        asked(alloc, &["vsync", "map", "-"], "-") == Some("map"),
+        "map"
+    );
+    assert!(rt;
+        asked(alloc, &["vsync", "locks", "-"], "-") == Some("locks"),
+        "locks"
+    );
+}
+
+#[test]
+fn what_the_members_keep_is_told_by_the_command(rt: HostRuntime) {
+    let alloc = rt.alloc();
+    assert!(rt;
+        kept(alloc, &["vsync", "map", "a"]) == Some(Kept::Map),
+        "map"
+    );
+    assert!(rt;
+        kept(alloc, &["vsync", "locks", "a"]) == Some(Kept::Locks),
+        "locks"
+    );
+    assert!(rt;
+        kept(alloc, &["vsync", "world", "a"]) == Some(Kept::Chat),
+        "world"
+    );
+    assert!(rt;
+        kept(alloc, &["vsync", "chat", "--long", "a"]) == Some(Kept::LongChat),
+        "chat --long"
+    );
+    assert!(rt;
+        kept(alloc, &["vsync", "draw", "a"]) == Some(Kept::Chat),
         "draw"
     );
 }

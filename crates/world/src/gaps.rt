@@ -6,6 +6,7 @@ ghost use Rattle.std.specs.Ordering.{nat_cmp};
 ghost use Rattle.std.specs.BTreeMap.{get};
 ghost use Rattle.trace_props.specs.Places.{EachPlace};
 ghost use Rattle.trace_props.specs.Synchrony.{IsWellOrdered, IsVirtuallySynchronous};
+ghost use Rattle.replicas.specs.Replicas.{ReplicasAgree};
 ghost use Rattle.world_model.specs.Faithful.{IsFaithful};
 ghost use Rattle.world_model.specs.declared.WorldEvent.TheVariants.{Deliver};
 ghost use Rattle.world_step.specs.NodeStates.{node_states_in};
@@ -180,11 +181,12 @@ impl<R: Receiver> World<R> {
         // or a beginning of them, and then one of the two has crashed for want of memory, or a step was not begun and both run.
         ensures stops { OnErr result (IsSomeAnd (pair_at (shown self.old).node_states node) (λ pair. Stops R.meaning pair (shown self.old) (shown self.new))) }
         ensures ends { OnErr result (IsSomeAnd (pair_at (shown self.old).node_states node) (λ pair. EndsSo pair (shown self.new))) }
-        // What was there is the beginning of what is there, and all rules hold, as after `run`.
+        // What was there is the beginning of what is there, all rules hold, and copies agree, as after `run`.
         ensures longer { IsLonger self.old.history self.new.history }
         ensures faithful { IsFaithful self.new.history }
         ensures ordered { EachPlace IsWellOrdered self.new.history.trace }
         ensures synchronous { IsVirtuallySynchronous R.meaning self.new.history.trace }
+        ensures agreeing { EachPlace (ReplicasAgree R.meaning) self.new.history.trace }
     {
         let Some(pair) = pair_at(&self.node_states, node) else {
             self.kept();

@@ -6,6 +6,7 @@ ghost use Rattle.std.specs.BTreeMap.{get};
 ghost use Rattle.trace_props.specs.Places.{EachPlace};
 ghost use Rattle.trace_props.specs.Synchrony.{IsWellOrdered, IsVirtuallySynchronous};
 ghost use Rattle.trace_props.specs.State.{state_of};
+ghost use Rattle.replicas.specs.Replicas.{ReplicasAgree};
 ghost use Rattle.std.specs.Option.{option_copied, option_map};
 ghost use Rattle.world_model.specs.Histories.{running};
 ghost use Rattle.world_step.specs.Worlds.{shown, no_world, IsLonger, WorldStep, Runs};
@@ -17,6 +18,7 @@ mod gaps;
 
 use address::{Address, Node};
 use limits::{Refusal, STEP_EVENTS};
+use replicas::replicas_agree;
 use state_transfer::Receiver;
 use std::alloc::{AllocError, Global};
 use std::collections::BTreeMap;
@@ -110,8 +112,10 @@ impl<R: Receiver> World<R> {
         ensures faithful { IsFaithful self.now.history }
         ensures ordered { EachPlace IsWellOrdered self.now.history.trace }
         ensures synchronous { IsVirtuallySynchronous R.meaning self.now.history.trace }
+        ensures agreeing { EachPlace (ReplicasAgree R.meaning) self.now.history.trace }
     {
         let _ = &self.trace;
+        replicas_agree::<R>();
     }
 
     /// Carries out events in order, from where the world stands. Answers an error (7) where the places of a step are
@@ -123,10 +127,12 @@ impl<R: Receiver> World<R> {
         ensures fewer { OnErr result ((k : ℕ) × (k < length events.now) × Runs R.meaning (shown self.old) (take k events.now) (shown self.new)) }
         // so what was there is the beginning of what is there,
         ensures longer { IsLonger self.old.history self.new.history }
-        // each event is answered as the table says, and all rules hold at every place.
+        // each event is answered as the table says, and all rules hold at every place;
         ensures faithful { IsFaithful self.new.history }
         ensures ordered { EachPlace IsWellOrdered self.new.history.trace }
         ensures synchronous { IsVirtuallySynchronous R.meaning self.new.history.trace }
+        // and so the copies of the state agree there: who has delivered as much of a view is in the same state.
+        ensures agreeing { EachPlace (ReplicasAgree R.meaning) self.new.history.trace }
     {
         for event in events {
             if let Err(refused) = self.step(event) {

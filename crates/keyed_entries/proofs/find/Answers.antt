@@ -16,7 +16,7 @@ returns-in-Equal g c =
     let e = c.index-entries-middle.result in
     let within : m < length es = omega arith in
     let s = slice_get_read es (length es) m e refl within c.index-entries-middle.is in
-    let same : key_cmp k e.key ≡ Equal = same-order k e _ Equal c.index-entries-middle.is (ap (key_cmp k) (sym c.as_slice.ensures) ∙ sym c.cmp.ensures ∙ c.in-Equal.is) in
+    let same : key_cmp k e.key ≡ Equal = same-order k e _ Equal c.index-entries-middle.is (ap (key_cmp k) (sym c.as_slice.ensures) ∙ sym c.key_order.ensures ∙ c.in-Equal.is) in
     let back : key_cmp e.key k ≡ Equal = nat_list_cmp_total.antisymm e.key k ∙ ap ordering_reverse same in
     held-at k es m e s (below-before k es m e c.requires s (inr back)) same
 
@@ -28,7 +28,7 @@ loop-low-preserved g c =
     let e = c.index-entries-middle.result in
     let within : m < length es = omega arith in
     let s = slice_get_read es (length es) m e refl within c.index-entries-middle.is in
-    let above : key_cmp k e.key ≡ Greater = same-order k e _ Greater c.index-entries-middle.is (ap (key_cmp k) (sym c.as_slice.ensures) ∙ sym c.cmp.ensures ∙ c.in-Greater.is) in
+    let above : key_cmp k e.key ≡ Greater = same-order k e _ Greater c.index-entries-middle.is (ap (key_cmp k) (sym c.as_slice.ensures) ∙ sym c.key_order.ensures ∙ c.in-Greater.is) in
     record {
       within = c.loop-low.invariant.within;
       order = omega arith;

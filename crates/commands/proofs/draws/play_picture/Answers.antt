@@ -14,7 +14,7 @@ returns-in-Ok g c =
     (record {
       world = shown c.run.new.self;
       ran = ran-all g.R.Receiver.meaning c.events.result.now c.args.script.now.events (shown c.new-world.result) (shown c.run.new.self) c.events.ensures c.new-world.ensures
-          (record { faithful = c.run.ensures.faithful; ordered = c.run.ensures.ordered; synchronous = c.run.ensures.synchronous }) c.in-Ok.ensures.all;
+          (record { faithful = c.run.ensures.faithful; ordered = c.run.ensures.ordered; synchronous = c.run.ensures.synchronous; agreeing = c.run.ensures.agreeing }) c.in-Ok.ensures.all;
       is = refl;
       refused = refl;
       holds = refl;

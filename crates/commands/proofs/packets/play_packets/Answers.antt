@@ -7,7 +7,7 @@ pub returns-in-Ok : goal.returns-in-Ok
 returns-in-Ok g c =
     ran-to-end g.R.Receiver.meaning (λ h. packet_lines h.pool) c.args.script.now _ (shown c.new-world.result) (shown c.run.new.self) _ _ _
     c.events.ensures c.new-world.ensures
-    (record { faithful = c.run.ensures.faithful; ordered = c.run.ensures.ordered; synchronous = c.run.ensures.synchronous })
+    (record { faithful = c.run.ensures.faithful; ordered = c.run.ensures.ordered; synchronous = c.run.ensures.synchronous; agreeing = c.run.ensures.agreeing })
     c.in-Ok.ensures.all c.print_packets.ensures
 
 pub returns : goal.returns

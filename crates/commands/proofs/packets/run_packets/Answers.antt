@@ -1,10 +1,11 @@
+use Rattle.script_reader.specs.Script.{as_written}
 use Rattle.commands.specs.Packets.{IsPacketText}
 use Rattle.commands.proofs.FactOfTexts.{ran-text, unrun-text}
 use Rattle.commands.proofs.packets.run_packets.Goals as goal
 
 pub returns-in-Ok : goal.returns-in-Ok
 returns-in-Ok g c =
-    ran-text (IsPacketText g.R.Receiver.meaning) _ _ _ _ c.in-Ok.script _ c.in-Ok.ensures c.play_packets.ensures
+    ran-text as_written (IsPacketText g.R.Receiver.meaning) _ _ _ _ c.in-Ok.script _ c.in-Ok.ensures c.play_packets.ensures
 
 pub returns-in-Err : goal.returns-in-Err
-returns-in-Err g c = unrun-text (IsPacketText g.R.Receiver.meaning) _ _ _ _ c.in-Err.ensures
+returns-in-Err g c = unrun-text as_written (IsPacketText g.R.Receiver.meaning) _ _ _ _ c.in-Err.ensures

@@ -1,9 +1,10 @@
+use Rattle.script_reader.specs.Script.{as_written}
 use Rattle.commands.specs.Outcomes.{IsRunText}
 use Rattle.commands.proofs.FactOfTexts.{ran-text, unrun-text}
 use Rattle.commands.proofs.scripts.run_script.Goals as goal
 
 pub returns-in-Ok : goal.returns-in-Ok
-returns-in-Ok g c = ran-text (IsRunText g.R.Receiver.meaning) _ _ _ _ c.in-Ok.script _ c.in-Ok.ensures c.play.ensures
+returns-in-Ok g c = ran-text as_written (IsRunText g.R.Receiver.meaning) _ _ _ _ c.in-Ok.script _ c.in-Ok.ensures c.play.ensures
 
 pub returns-in-Err : goal.returns-in-Err
-returns-in-Err g c = unrun-text (IsRunText g.R.Receiver.meaning) _ _ _ _ c.in-Err.ensures
+returns-in-Err g c = unrun-text as_written (IsRunText g.R.Receiver.meaning) _ _ _ _ c.in-Err.ensures

@@ -1,8 +1,7 @@
 use Rattle.byteorder.specs.Endian.{big_bytes}
 use Rattle.keyed_entries.specs.Keys.{key_bytes}
 use Rattle.lock_table.specs.Encoding.{view_id_bytes}
-use Rattle.lock_table.specs.Commands.{view_bytes}
-use Rattle.lock_table.proofs.FactOfAppends.{two-parts, three-parts}
+use Rattle.lock_table.proofs.FactOfAppends.{three-parts}
 use Rattle.lock_table.proofs.encoding.put_command.Goals as goal
 
 pub returns-in-Acquire-clause-items : goal.returns-in-Acquire-clause-items
@@ -18,6 +17,4 @@ returns-in-Release-clause-items c =
     c.put_u8-in-Release.ensures.items c.put_view_id-in-Release.ensures.items (rw c.as_slice-in-Release.ensures.bytes at c.put_key-in-Release.ensures.items))
 
 pub returns-in-Roll-clause-items : goal.returns-in-Roll-clause-items
-returns-in-Roll-clause-items c =
-    rw c.in-Roll.is
-    (two-parts c.args.out.now.items (big_bytes 1 3) (view_bytes c.in-Roll.view) c.put_u8-in-Roll.new.out.items c.put_view.new.out.items c.put_u8-in-Roll.ensures.items c.put_view.ensures.items)
+returns-in-Roll-clause-items c = rw c.in-Roll.is c.put_roll.ensures.items

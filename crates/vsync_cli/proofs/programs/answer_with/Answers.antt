@@ -18,3 +18,9 @@ returns-in-Draw g c = search rules
 
 pub returns-in-DrawTrace : goal.returns-in-DrawTrace
 returns-in-DrawTrace g c = search rules
+
+pub returns-in-Map : goal.returns-in-Map
+returns-in-Map g c = search rules
+
+pub returns-in-Locks : goal.returns-in-Locks
+returns-in-Locks g c = search rules

@@ -1,7 +1,7 @@
 use Rattle.std.proofs.Common.{◌∙◌, ap, codes, List, map, string_bytes}
 use Rattle.clap.specs.Words.{Text, fault_of, subcommand_of}
 use Rattle.vsync_words.specs.Grammar.{program_app}
-use Rattle.vsync_words.proofs.Computing.{chat_or_no_memory, draw_or_no_memory, trace_or_no_memory, drawing_in, reads_draw, reads_trace, check_or_no_memory, packets_or_no_memory, reads_chat, reads_check, paths_in, reads_packets, reads_udp, reads_world, udp_or_no_memory, value_in, world_or_no_memory}
+use Rattle.vsync_words.proofs.Computing.{chat_or_no_memory, draw_or_no_memory, map_or_no_memory, locks_or_no_memory, script_in, reads_map, reads_locks, trace_or_no_memory, drawing_in, reads_draw, reads_trace, check_or_no_memory, packets_or_no_memory, reads_chat, reads_check, paths_in, reads_packets, reads_udp, reads_world, udp_or_no_memory, value_in, world_or_no_memory}
 use Rattle.vsync_words.proofs.words.command.Goals as goal
 
 pub returns-clause-world : goal.returns-clause-world
@@ -65,4 +65,22 @@ returns-clause-draw_trace c = λ name path is words.
     (fault_of program_app (map string_bytes c.args.words.now)) path
     (ap (fault_of program_app) words ∙ reads.0)
     (ap (λ (w : List Text). drawing_in (subcommand_of program_app w)) words ∙ reads.1)
+    c.parsed.ensures.said c.parsed.ensures.refused
+
+pub returns-clause-map : goal.returns-clause-map
+returns-clause-map c = λ name path is words.
+    let reads = reads_map name path is in
+    map_or_no_memory c.parsed.result (subcommand_of program_app (map string_bytes c.args.words.now))
+    (fault_of program_app (map string_bytes c.args.words.now)) path
+    (ap (fault_of program_app) words ∙ reads.0)
+    (ap (λ (w : List Text). script_in (subcommand_of program_app w)) words ∙ reads.1)
+    c.parsed.ensures.said c.parsed.ensures.refused
+
+pub returns-clause-locks : goal.returns-clause-locks
+returns-clause-locks c = λ name path is words.
+    let reads = reads_locks name path is in
+    locks_or_no_memory c.parsed.result (subcommand_of program_app (map string_bytes c.args.words.now))
+    (fault_of program_app (map string_bytes c.args.words.now)) path
+    (ap (fault_of program_app) words ∙ reads.0)
+    (ap (λ (w : List Text). script_in (subcommand_of program_app w)) words ∙ reads.1)
     c.parsed.ensures.said c.parsed.ensures.refused

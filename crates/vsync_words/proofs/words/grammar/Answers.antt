@@ -1,7 +1,7 @@
 use Rattle.std.proofs.Common.{◌∙◌, ap, codes}
 use Rattle.std.proofs.lemmas.Result.{IfOk-weaker}
 use Rattle.clap.specs.Words.{App, with_subcommand}
-use Rattle.vsync_words.specs.Grammar.{draw_app, member_app, path_app, udp_app}
+use Rattle.vsync_words.specs.Grammar.{draw_app, member_app, path_app, script_app, udp_app}
 use Rattle.vsync_words.proofs.words.grammar.Goals as goal
 
 -- the program with this subcommand as well
@@ -15,5 +15,7 @@ returns c =
     let packets_is = c.in_ok-program-4.ensures ∙ ap (adding (path_app (codes "packets") (codes "SCRIPT"))) chat_is in
     let check_is = c.in_ok-program-5.ensures ∙ ap (adding (path_app (codes "check") (codes "TRACE"))) packets_is in
     let draw_is = c.in_ok-program-6.ensures ∙ ap (adding draw_app) check_is in
-    let udp_is = c.in_ok-program-7.ensures ∙ ap (adding udp_app) draw_is in
+    let map_is = c.in_ok-program-7.ensures ∙ ap (adding (script_app (codes "map"))) draw_is in
+    let locks_is = c.in_ok-program-8.ensures ∙ ap (adding (script_app (codes "locks"))) map_is in
+    let udp_is = c.in_ok-program-9.ensures ∙ ap (adding udp_app) locks_is in
     IfOk-weaker c.with_member.result _ _ (λ program member_is. member_is ∙ ap (adding member_app) udp_is) c.with_member.ensures

@@ -1,0 +1,47 @@
+//! The chat in the program: what is said is a text as it stands, and its lines are printed.
+
+ghost use Rattle.std.specs.Prelude.{◌≡◌};
+
+use crate::chat_lines::put_chat;
+use crate::{ChatSize, LastLines};
+use address::{Address, ViewId};
+use application::Application;
+use script_reader::{AsWritten, Payloads, Unheard};
+use std::alloc::{AllocError, Global};
+use trace_props::Bytes;
+use view::View;
+
+impl<L: ChatSize> Payloads for LastLines<L> {
+    ghost use Rattle.script_reader.specs.Script.{as_written};
+
+    ghost payload_of = { as_written };
+
+    fn payload(alloc: Global, text: &[u8]) -> Result<Bytes, Unheard> {
+        AsWritten::payload(alloc, text)
+    }
+}
+
+impl<L: ChatSize> Application for LastLines<L> {
+    ghost use Rattle.std.specs.Prelude.{None};
+    ghost use Rattle.script_reader.specs.Script.{as_written};
+    ghost use Rattle.chat_log.specs.ChatText.{chat_line};
+
+    ghost line_of = { chat_line };
+
+    ghost payload_within = { λ view. as_written };
+
+    ghost first_said = { λ view. None };
+
+    fn put_line(&self, member: &Address, out: &mut Vec<u8>) -> Result<(), AllocError> {
+        put_chat(out, member, self)
+    }
+
+    /// The text itself, in each view.
+    fn payload_in_view(alloc: Global, _view: ViewId, text: &[u8]) -> Result<Bytes, Unheard> {
+        AsWritten::payload(alloc, text)
+    }
+
+    fn first_message(_alloc: Global, _view: &View) -> Result<Option<Bytes>, AllocError> {
+        Ok(None)
+    }
+}

@@ -1,0 +1,33 @@
+-- The line of a table of locks.
+use Rattle.std.specs.Prelude.{ℕ, ◌∷◌, [], ◌++◌, List, codes, flat_map}
+use Rattle.std.specs.Fmt.{decimal}
+use Rattle.address.specs.Ids.{Address, text_of_address, text_of_view_id}
+use Rattle.keyed_entries.specs.declared.Entry.{Entry}
+use Rattle.vsync_text.specs.TraceText.{hex_of, dash, field, line_with, text_of_addresses}
+use Rattle.lock_table.specs.declared.token.Token.{Token}
+use Rattle.lock_table.specs.Locks.{Lock, Table}
+
+-- a token: `VIEW/COUNT`
+abbrev pub text_of_token : Token → List ℕ
+text_of_token t = text_of_view_id t.view ++ 47 ∷ decimal t.count
+
+-- who holds a lock, with which token, and who waits, joined by commas: `:HOLDER:TOKEN:WAITERS`
+abbrev pub text_of_queue : Lock → List ℕ
+text_of_queue l = 58 ∷ text_of_address l.holder ++ 58 ∷ text_of_token l.token ++ 58 ∷ text_of_addresses l.waiters
+
+-- a lock: its name in hexadecimal, and who stand at it
+abbrev pub text_of_lock : Entry Lock → List ℕ
+text_of_lock e = hex_of e.key ++ text_of_queue e.value
+
+-- locks, each behind a space
+abbrev pub text_of_more : List (Entry Lock) → List ℕ
+text_of_more locks = flat_map (λ e. field (text_of_lock e)) locks
+
+-- locks, the names rising, each a field; ` -` for none
+abbrev pub text_of_locks : List (Entry Lock) → List ℕ
+text_of_locks [] = field dash
+text_of_locks (e ∷ locks) = text_of_more (e ∷ locks)
+
+-- the line of a member whose table this is: `locks P LAST LOCK ..`, with its line feed
+abbrev pub table_line : Address → Table → List ℕ
+table_line member s = line_with (codes "locks") (field (text_of_address member) ++ field (text_of_token s.last) ++ text_of_locks s.locks)

@@ -1,0 +1,80 @@
+//! The table of locks in the program: its commands have words, and its locks are printed.
+
+ghost use Rattle.std.specs.Prelude.{◌≡◌, IfOk};
+ghost use Rattle.lock_table.specs.Commands.{command_bytes};
+ghost use Rattle.lock_table.specs.declared.command.Command.TheVariants.{Roll};
+
+use crate::encoding::put_roll;
+use crate::lines::put_table_line;
+use crate::words::{command_said, command_said_in};
+use crate::{Command, LONGEST_COMMAND, LockTable};
+use address::{Address, ViewId};
+use application::Application;
+use script_reader::{Payloads, Unheard};
+use std::alloc::{AllocError, Global};
+use trace_props::Bytes;
+use view::View;
+
+// The spelling of a command.
+fn spelled(alloc: Global, command: &Command<'_>) -> Result<Bytes, AllocError>
+    ensures { IfOk result (λ bytes. bytes ≡ command_bytes command.now) }
+{
+    let mut bytes = Vec::new(alloc);
+    command.encode(&mut bytes)?;
+    Bytes::from_slice(alloc, bytes.as_slice())
+}
+
+// The spelling of a roll to a view.
+fn spelled_roll(alloc: Global, view: &View) -> Result<Bytes, AllocError>
+    ensures { IfOk result (λ bytes. bytes ≡ command_bytes (Roll view.now)) }
+{
+    let mut bytes = Vec::with_capacity(alloc, LONGEST_COMMAND)?;
+    put_roll(view, &mut bytes);
+    Ok(Bytes::from_vec(bytes))
+}
+
+impl Payloads for LockTable {
+    ghost use Rattle.lock_table.specs.Words.{lock_payload};
+
+    ghost payload_of = { lock_payload };
+
+    /// The spelling of `acquire VIEW NAME`, `release VIEW NAME` or `roll VIEW MEMBERS`.
+    fn payload(alloc: Global, text: &[u8]) -> Result<Bytes, Unheard> {
+        match command_said(alloc, text) {
+            Err(unheard) => Err(unheard),
+            Ok(command) => Ok(spelled(alloc, &command)?),
+        }
+    }
+}
+
+impl Application for LockTable {
+    ghost use Rattle.std.specs.Prelude.{Some};
+    ghost use Rattle.lock_table.specs.declared.command.Command.TheVariants.{Roll};
+    ghost use Rattle.lock_table.specs.Commands.{command_bytes};
+    ghost use Rattle.lock_table.specs.Words.{lock_payload_within};
+    ghost use Rattle.lock_table.specs.TableText.{table_line};
+
+    ghost line_of = { table_line };
+
+    ghost payload_within = { lock_payload_within };
+
+    ghost first_said = { λ view. Some (command_bytes (Roll view)) };
+
+    fn put_line(&self, member: &Address, out: &mut Vec<u8>) -> Result<(), AllocError> {
+        put_table_line(out, member, &self.last(), self.locks())
+    }
+
+    /// The spelling of `acquire NAME` and `release NAME`, sent in this view, or of `roll VIEW MEMBERS`.
+    fn payload_in_view(alloc: Global, view: ViewId, text: &[u8]) -> Result<Bytes, Unheard> {
+        match command_said_in(alloc, view, text) {
+            Err(unheard) => Err(unheard),
+            Ok(command) => Ok(spelled(alloc, &command)?),
+        }
+    }
+
+    /// The roll to this view.
+    fn first_message(alloc: Global, view: &View) -> Result<Option<Bytes>, AllocError> {
+        let payload = spelled_roll(alloc, view)?;
+        Ok(Some(payload))
+    }
+}

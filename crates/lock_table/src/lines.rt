@@ -1,0 +1,85 @@
+//! The line of a table of locks (docs/FORMATS.md, "The locks' lines").
+
+ghost use Rattle.std.specs.Prelude.{◌≡◌, ◌++◌, ◌∷◌, OnOk};
+ghost use Rattle.vsync_text.specs.TraceText.{GoesOnFrom, field};
+ghost use Rattle.lock_table.specs.Locks.{table_of};
+ghost use Rattle.lock_table.specs.TableText.{text_of_token, text_of_queue, text_of_lock, text_of_more, text_of_locks, table_line};
+
+use crate::{Lock, Token};
+use address::Address;
+use keyed_entries::Entry;
+use std::alloc::AllocError;
+use vsync_text::{put, put_address, put_addresses, put_hex, put_number, put_view_id};
+
+// Appends a token behind one byte.
+#[tactic(auto, using(vsync_text::proofs::KeepFront::goes_on))]
+fn put_token(out: &mut Vec<u8>, before: u8, token: &Token) -> Result<(), AllocError>
+    ensures text { OnOk result (out.new.items ≡ out.old.items ++ before ∷ text_of_token token.now) }
+    ensures kept { GoesOnFrom out.old.items out.new.items }
+{
+    put_view_id(out, before, &token.view)?;
+    put_number(out, b'/', token.count)
+}
+
+// Appends who holds a lock, with which token, and who waits.
+#[tactic(auto, using(vsync_text::proofs::KeepFront::goes_on))]
+fn put_queue(out: &mut Vec<u8>, lock: &Lock) -> Result<(), AllocError>
+    ensures text { OnOk result (out.new.items ≡ out.old.items ++ text_of_queue lock.now) }
+    ensures kept { GoesOnFrom out.old.items out.new.items }
+{
+    put_address(out, b':', &lock.holder())?;
+    put_token(out, b':', &lock.token())?;
+    put_addresses(out, b':', lock.waiters())
+}
+
+// Appends a lock behind a space.
+#[tactic(auto, using(vsync_text::proofs::KeepFront::goes_on))]
+fn put_lock(out: &mut Vec<u8>, entry: &Entry<Lock>) -> Result<(), AllocError>
+    ensures text { OnOk result (out.new.items ≡ out.old.items ++ field (text_of_lock entry.now)) }
+    ensures kept { GoesOnFrom out.old.items out.new.items }
+{
+    put(out, b" ")?;
+    put_hex(out, entry.key.as_slice())?;
+    put_queue(out, &entry.value)
+}
+
+// Appends locks, each behind a space.
+#[tactic(auto, using(vsync_text::proofs::KeepFront::goes_on, vsync_text::proofs::KeepFront::stays))]
+fn put_more(out: &mut Vec<u8>, locks: &[Entry<Lock>]) -> Result<(), AllocError>
+    ensures text { OnOk result (out.new.items ≡ out.old.items ++ text_of_more locks.now) }
+    ensures kept { GoesOnFrom out.old.items out.new.items }
+{
+    for lock in locks {
+        put_lock(out, lock)?;
+    }
+    Ok(())
+}
+
+// Appends locks, each behind a space, ` -` for none.
+fn put_locks(out: &mut Vec<u8>, locks: &[Entry<Lock>]) -> Result<(), AllocError>
+    ensures text { OnOk result (out.new.items ≡ out.old.items ++ text_of_locks locks.now) }
+    ensures kept { GoesOnFrom out.old.items out.new.items }
+{
+    match locks {
+        [] => put(out, b" -"),
+        [_, ..] => put_more(out, locks),
+    }
+}
+
+// Appends the line of a member whose table has this last token and these locks.
+#[tactic(auto, using(vsync_text::proofs::KeepFront::goes_on))]
+pub(crate) fn put_table_line(
+    out: &mut Vec<u8>,
+    member: &Address,
+    last: &Token,
+    locks: &[Entry<Lock>],
+) -> Result<(), AllocError>
+    ensures text { OnOk result (out.new.items ≡ out.old.items ++ table_line member.now (table_of last.now locks.now)) }
+    ensures kept { GoesOnFrom out.old.items out.new.items }
+{
+    put(out, b"locks")?;
+    put_address(out, b' ', member)?;
+    put_token(out, b' ', last)?;
+    put_locks(out, locks)?;
+    put(out, b"\n")
+}

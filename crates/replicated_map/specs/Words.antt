@@ -1,0 +1,74 @@
+-- The words of the map's commands in a script: `put KEY VALUE`, `remove KEY`, `replace KEY OLD NEW` and `clear`.
+use Rattle.std.specs.Prelude.{ℕ, List, Option, None, Some, Result, Ok, Err, length, codes, nat_le, if◌then◌else◌}
+use Rattle.std.specs.Str.{bytes_eq}
+use Rattle.script_reader.specs.declared.fault.Fault.{Fault}
+use Rattle.script_reader.specs.declared.fault.Fault.TheVariants.{BadNumber, MissingField}
+use Rattle.script_reader.specs.Lines.{field_of, behind_field}
+use Rattle.script_reader.specs.Fields.{Read, ◌>>=◌, made, spelled_at, last, end_at}
+use Rattle.keyed_entries.specs.Words.{key_field}
+use Rattle.replicated_map.specs.declared.TheConstants.{VALUE}
+use Rattle.replicated_map.specs.declared.command.Command.{Command}
+use Rattle.replicated_map.specs.declared.command.Command.TheVariants.{Put, Remove, Replace, Clear}
+use Rattle.replicated_map.specs.Commands.{command_bytes}
+
+-- a value: at most 400 bytes
+abbrev pub value_of_text : List ℕ → Option (List ℕ)
+value_of_text text = if nat_le (length text) VALUE then Some text else None
+
+-- the value that OLD says: a field, `-` for none
+abbrev pub some_expected : Option (List ℕ) → Option (Option (List ℕ))
+some_expected None = None
+some_expected (Some value) = Some (Some value)
+
+abbrev pub expected_of : List ℕ → Option (Option (List ℕ))
+expected_of field = if bytes_eq field (codes "-") then Some None else some_expected (value_of_text field)
+
+abbrev pub expected_field : Option (List ℕ) → Read (Option (List ℕ))
+expected_field rest = spelled_at expected_of rest
+
+-- the value that VALUE and NEW say: all that is left of the line
+abbrev pub whole_value : Option (List ℕ) → Result (List ℕ) Fault
+whole_value None = Err BadNumber
+whole_value (Some value) = Ok value
+
+abbrev pub last_value : Option (List ℕ) → Result (List ℕ) Fault
+last_value None = Err MissingField
+last_value (Some text) = whole_value (value_of_text text)
+
+-- ---- the commands, by what stands behind their words
+
+abbrev pub put_said : Option (List ℕ) → Result Command Fault
+put_said rest = do
+  key ← key_field rest
+  value ← last_value key.1
+  Ok (Put key.0 value)
+
+abbrev pub remove_said : Option (List ℕ) → Result Command Fault
+remove_said rest = made Remove (last (key_field rest))
+
+abbrev pub replaced : List ℕ → Option (List ℕ) → Result Command Fault
+replaced key rest = do
+  expected ← expected_field rest
+  value ← last_value expected.1
+  Ok (Replace expected.0 key value)
+
+abbrev pub replace_said : Option (List ℕ) → Result Command Fault
+replace_said rest = do
+  key ← key_field rest
+  replaced key.0 key.1
+
+abbrev pub clear_said : Option (List ℕ) → Result Command Fault
+clear_said rest = made (λ end. Clear) (end_at rest)
+
+-- the command that a text says
+abbrev pub command_said : List ℕ → Result Command Fault
+command_said text =
+    if bytes_eq (field_of text) (codes "put") then put_said (behind_field text)
+    else if bytes_eq (field_of text) (codes "remove") then remove_said (behind_field text)
+    else if bytes_eq (field_of text) (codes "replace") then replace_said (behind_field text)
+    else if bytes_eq (field_of text) (codes "clear") then clear_said (behind_field text)
+    else Err BadNumber
+
+-- the payload of a text: the spelling of the command that it says
+abbrev pub map_payload : List ℕ → Result (List ℕ) Fault
+map_payload text = made command_bytes (command_said text)

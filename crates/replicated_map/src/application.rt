@@ -1,0 +1,62 @@
+//! The map in the program: its commands have words, and its entries are printed.
+
+ghost use Rattle.std.specs.Prelude.{◌≡◌, IfOk};
+ghost use Rattle.replicated_map.specs.Commands.{command_bytes};
+
+use crate::lines::put_map_line;
+use crate::words::command_said;
+use crate::{Command, ReplicatedMap};
+use address::{Address, ViewId};
+use application::Application;
+use script_reader::{Payloads, Unheard};
+use std::alloc::{AllocError, Global};
+use trace_props::Bytes;
+use view::View;
+
+// The spelling of a command.
+fn spelled(alloc: Global, command: &Command<'_>) -> Result<Bytes, AllocError>
+    ensures { IfOk result (λ bytes. bytes ≡ command_bytes command.now) }
+{
+    let mut bytes = Vec::new(alloc);
+    command.encode(&mut bytes)?;
+    Bytes::from_slice(alloc, bytes.as_slice())
+}
+
+impl Payloads for ReplicatedMap {
+    ghost use Rattle.replicated_map.specs.Words.{map_payload};
+
+    ghost payload_of = { map_payload };
+
+    /// The spelling of `put KEY VALUE`, `remove KEY`, `replace KEY OLD NEW` or `clear`.
+    fn payload(alloc: Global, text: &[u8]) -> Result<Bytes, Unheard> {
+        match command_said(text) {
+            Err(fault) => Err(Unheard::Fault(fault)),
+            Ok(command) => Ok(spelled(alloc, &command)?),
+        }
+    }
+}
+
+impl Application for ReplicatedMap {
+    ghost use Rattle.std.specs.Prelude.{None};
+    ghost use Rattle.replicated_map.specs.Words.{map_payload};
+    ghost use Rattle.replicated_map.specs.MapText.{map_line};
+
+    ghost line_of = { map_line };
+
+    ghost payload_within = { λ view. map_payload };
+
+    ghost first_said = { λ view. None };
+
+    fn put_line(&self, member: &Address, out: &mut Vec<u8>) -> Result<(), AllocError> {
+        put_map_line(out, member, self.entries())
+    }
+
+    /// The spelling of the same words in each view.
+    fn payload_in_view(alloc: Global, _view: ViewId, text: &[u8]) -> Result<Bytes, Unheard> {
+        ReplicatedMap::payload(alloc, text)
+    }
+
+    fn first_message(_alloc: Global, _view: &View) -> Result<Option<Bytes>, AllocError> {
+        Ok(None)
+    }
+}

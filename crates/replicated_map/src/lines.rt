@@ -1,0 +1,66 @@
+//! The line of a map (docs/FORMATS.md, "The map's lines").
+
+ghost use Rattle.std.specs.Prelude.{◌≡◌, ◌++◌, ◌∷◌, OnOk};
+ghost use Rattle.vsync_text.specs.TraceText.{GoesOnFrom};
+ghost use Rattle.replicated_map.specs.MapText.{text_of_entry, text_of_more, text_of_entries, map_line};
+
+use address::Address;
+use keyed_entries::Entry;
+use std::alloc::AllocError;
+use trace_props::Bytes;
+use vsync_text::{put, put_address, put_hex};
+
+// Appends an entry behind one byte.
+#[tactic(auto, using(vsync_text::proofs::KeepFront::goes_on))]
+fn put_entry(out: &mut Vec<u8>, before: u8, entry: &Entry<Bytes>) -> Result<(), AllocError>
+    ensures text { OnOk result (out.new.items ≡ out.old.items ++ before ∷ text_of_entry entry.now) }
+    ensures kept { GoesOnFrom out.old.items out.new.items }
+{
+    put(out, &[before])?;
+    put_hex(out, entry.key.as_slice())?;
+    put(out, b":")?;
+    put_hex(out, entry.value.as_slice())
+}
+
+// Appends entries, each behind a comma.
+#[tactic(auto, using(vsync_text::proofs::KeepFront::goes_on, vsync_text::proofs::KeepFront::stays))]
+fn put_more(out: &mut Vec<u8>, entries: &[Entry<Bytes>]) -> Result<(), AllocError>
+    ensures text { OnOk result (out.new.items ≡ out.old.items ++ text_of_more entries.now) }
+    ensures kept { GoesOnFrom out.old.items out.new.items }
+{
+    for entry in entries {
+        put_entry(out, b',', entry)?;
+    }
+    Ok(())
+}
+
+// Appends entries behind a space, joined by commas, `-` for none.
+#[tactic(auto, using(vsync_text::proofs::KeepFront::goes_on))]
+fn put_entries(out: &mut Vec<u8>, entries: &[Entry<Bytes>]) -> Result<(), AllocError>
+    ensures text { OnOk result (out.new.items ≡ out.old.items ++ 32 ∷ text_of_entries entries.now) }
+    ensures kept { GoesOnFrom out.old.items out.new.items }
+{
+    match entries.split_first() {
+        None => put(out, b" -"),
+        Some((first, more)) => {
+            put_entry(out, b' ', first)?;
+            put_more(out, more)
+        }
+    }
+}
+
+// Appends the line of a member whose map has these entries.
+#[tactic(auto, using(vsync_text::proofs::KeepFront::goes_on))]
+pub(crate) fn put_map_line(
+    out: &mut Vec<u8>,
+    member: &Address,
+    entries: &[Entry<Bytes>],
+) -> Result<(), AllocError>
+    ensures text { OnOk result (out.new.items ≡ out.old.items ++ map_line member.now entries.now) }
+    ensures kept { GoesOnFrom out.old.items out.new.items }
+{
+    put(out, b"map")?;
+    put_address(out, b' ', member)?;
+    put_entries(out, entries)?;
+    put(out, b"\n")
+}
