@@ -13,12 +13,12 @@ use Rattle.member.specs.Members.{MemberModel}
 use Rattle.udp_net.specs.declared.net.Received.{Received}
 use Rattle.udp_net.specs.declared.net.Received.TheVariants as received
 use Rattle.udp_net.specs.Logs.{NetEvent, Answered, Offered, Offer}
-use Rattle.deployment.specs.Deployments.{Step, Start, Call, Crash, Deployment, nothing_yet, whose, left_with, puts_of, after, EachStep, DoesSo, WasPutOut, MayCome, MayBeHanded, HandsOver}
+use Rattle.deployment.specs.Deployments.{Step, Start, Call, Crash, Deployment, nothing_yet, whose, left_with, puts_of, after, EachStep, DoesSo, WasPutOut, MayCome, MayBeHanded, HandsOver, IsHistory}
 use Rattle.deployment.specs.Processes.{StepsSo}
-use Rattle.deployment.specs.Law.{AreSynchronous}
+use Rattle.deployment.specs.Law.{AreSynchronous, TellAll}
 use Rattle.deployment.proofs.FactOfProcesses.{does-so}
 use Rattle.deployed_runners.specs.Items.{Item, OfNet, OfMember, Standing, not_begun, given_by, then_stands, datagram_in, datagram_of, MayFollow, Follow, net_events, steps_in}
-use Rattle.deployed_runners.specs.Merged.{Done, own_items, items_of, all_offered, RunnersAreSynchronous}
+use Rattle.deployed_runners.specs.Merged.{Done, own_items, items_of, all_offered, AreMerged, RunnersAreSynchronous, RunnersTellAll}
 
 -- ---- what was put out before
 
@@ -223,7 +223,14 @@ module _ {S : Type 0} (meaning : Meaning S) (group : List ℕ) where
   }
 
 module _ {S : Type 0} (meaning : Meaning S) where
-  pub runners-are : AreSynchronous meaning → RunnersAreSynchronous meaning
-  runners-are law group all m =
+  -- in one order they are a history
+  history : (group : List ℕ) (all : List (Done S)) → AreMerged meaning group all → IsHistory meaning group (steps_in (items_of all))
+  history group all m =
       let g = merged-goes meaning group all (λ p. not_begun) nothing_yet [] (nothing-stands meaning group) m.processes m.network in
-      law group (steps_in (items_of all)) (record { does = g.0; once = m.once; network = g.1 })
+      record { does = g.0; once = m.once; network = g.1 }
+
+  pub runners-are : AreSynchronous meaning → RunnersAreSynchronous meaning
+  runners-are law group all m = law group (steps_in (items_of all)) (history group all m)
+
+  pub runners-tell : TellAll meaning → RunnersTellAll meaning
+  runners-tell law group all m = law group (steps_in (items_of all)) (history group all m).does

@@ -6,6 +6,8 @@ use Rattle.trace_props.specs.Synchrony.{IsVirtuallySynchronous}
 use Rattle.udp_net.specs.declared.net.Received.TheVariants as received
 use Rattle.udp_net.specs.Logs.{NetEvent, Answered, Offered}
 use Rattle.deployment.specs.Deployments.{EachStep, MayCome, StartsOnce, nothing_yet, trace_of}
+use Rattle.deployment.specs.Processes.{all_told}
+use Rattle.deployment.specs.Law.{but_starts_and_crashes}
 use Rattle.deployed_runners.specs.Items.{Item, IsProcess, net_events, steps_in}
 
 -- an item, and the address whose process did it
@@ -45,3 +47,8 @@ pub record AreMerged {S : Type 0} (meaning : Meaning S) (group : List ℕ) (all 
 -- in every such order what happened is virtually synchronous
 abbrev pub RunnersAreSynchronous : {S : Type 0} → Meaning S → Type 0
 RunnersAreSynchronous {S} meaning = (group : List ℕ) (all : List (Done S)) → AreMerged meaning group all → IsVirtuallySynchronous meaning (trace_of (steps_in (items_of all)))
+
+-- and what the channels told is what happened, but starts and crashes, in its order
+abbrev pub RunnersTellAll : {S : Type 0} → Meaning S → Type 0
+RunnersTellAll {S} meaning = (group : List ℕ) (all : List (Done S)) → AreMerged meaning group all
+    → but_starts_and_crashes (trace_of (steps_in (items_of all))) ≡ all_told (steps_in (items_of all))

@@ -31,7 +31,7 @@ abbrev pub with_channel : {N S : Type 0} → Driven N S → ChannelModel S → D
 with_channel r channel = record { net = r.net; channel = channel; faults = r.faults; notes = r.notes }
 
 -- one call of a runner, by its contract, or of the channel or the net that it lends; and what is taken by it of what the channel tells. A connect is under the name of the
--- group; a datagram comes from the net alone; and of the net only what it lists nothing of is called, as a wait.
+-- group; a datagram comes from the net alone, and packets go to it alone; and of the net only what it lists nothing of is called, as a wait.
 pub data Makes {N S : Type 0} (log : N → Option Log) (failed : N → ℕ) (meaning : Meaning S) (group : List ℕ) (old : Driven N S) : List Event → Driven N S → Type 0 where
   Listen : (answer : Result ℕ Error) (new : Driven N S) → Listens log failed meaning old answer new → Makes log failed meaning group old [] new
   Round : (failure : Option Error) (new : Driven N S) → Rounds log failed meaning old failure new → Makes log failed meaning group old [] new
@@ -48,7 +48,7 @@ pub data Makes {N S : Type 0} (log : N → Option Log) (failed : N → ℕ) (mea
   Take : (event : Option Event) (channel : ChannelModel S) → TakesFirst event old.channel.happened channel.happened
       → channel ≡ record old.channel { happened = channel.happened } → Makes log failed meaning group old (listed event) (with_channel old channel)
 
--- any number of calls
+-- any number of calls; those of a channel before its runner was made are calls of the channel that this lends
 pub data Drives {N S : Type 0} (log : N → Option Log) (failed : N → ℕ) (meaning : Meaning S) (group : List ℕ) (first : Driven N S) : List Event → Driven N S → Type 0 where
   Begun : Drives log failed meaning group first [] first
   Further : (taken more : List Event) (mid new : Driven N S) → Drives log failed meaning group first taken mid → Makes log failed meaning group mid more new

@@ -1,5 +1,5 @@
 use Rattle.deployed_runners.proofs.ItemsOfCalls.{calls-add, runs-are}
-use Rattle.deployed_runners.proofs.FactOfMerged.{runners-are}
+use Rattle.deployed_runners.proofs.FactOfMerged.{runners-are, runners-tell}
 use Rattle.deployed_runners.proofs.law.runners_are_synchronous.Goals as goal
 
 pub returns-clause-calls : goal.returns-clause-calls
@@ -10,3 +10,6 @@ returns-clause-runs g c = runs-are g.N.Net.log g.N.Net.failed g.R.Receiver.meani
 
 pub returns-clause-merged : goal.returns-clause-merged
 returns-clause-merged g c = runners-are g.R.Receiver.meaning c.deployments_are_synchronous.ensures.histories
+
+pub returns-clause-told : goal.returns-clause-told
+returns-clause-told g c = runners-tell g.R.Receiver.meaning c.deployments_are_synchronous.ensures.told

@@ -1,5 +1,6 @@
 use Rattle.deployment.proofs.KeepBySteps.{are-synchronous}
 use Rattle.deployment.proofs.FactOfProcesses.{merged-are}
+use Rattle.deployment.proofs.FactOfTold.{tell-all}
 use Rattle.deployment.proofs.law.deployments_are_synchronous.Goals as goal
 
 pub returns-clause-histories : goal.returns-clause-histories
@@ -11,3 +12,6 @@ pub returns-clause-processes : goal.returns-clause-processes
 returns-clause-processes g c =
     merged-are g.R.Receiver.meaning
     (record { opens = g.met.R.Receiver.opens; applies = g.met.R.Receiver.applies; decodes = g.met.R.Receiver.decodes; reads_back = g.met.R.Receiver.reads_back })
+
+pub returns-clause-told : goal.returns-clause-told
+returns-clause-told g c = tell-all g.R.Receiver.meaning
