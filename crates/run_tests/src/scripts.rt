@@ -1,6 +1,8 @@
 use address::{Address, Node};
 use chat_log::ChatLog;
-use commands::{Status, run_packets, run_script};
+use commands::{Status, run_packets, run_script, run_states};
+use lock_table::LockTable;
+use replicated_map::ReplicatedMap;
 use std::alloc::Global;
 use std::io::{self, Read, Write};
 use world::World;
@@ -176,5 +178,37 @@ impl Write for Full {
 fn a_failing_writer_ends_outside(rt: HostRuntime) {
     let mut reader = b"start 1\ncreate 1\n".as_slice();
     let status = run_script::<ChatLog, &[u8], Full>(rt.alloc(), &mut reader, &mut Full(20));
+    assert!(rt; status == Status::Outside);
+}
+
+/// What the maps of a script are printed as, and the status.
+fn maps_of(alloc: Global, script: &[u8]) -> (Vec<u8>, Status) {
+    let mut reader = script;
+    let mut output = Vec::new(alloc);
+    let status = run_states::<ReplicatedMap, &[u8], Vec<u8>>(alloc, &mut reader, &mut output);
+    (output, status)
+}
+
+#[test]
+fn the_maps_of_those_that_run_are_printed(rt: HostRuntime) {
+    let (text, status) = maps_of(
+        rt.alloc(),
+        b"start 3\nstart 1\ncreate 1\nsend 1 put a x\nsend 1 put b \n",
+    );
+    assert!(rt; text.as_slice() == b"map 1.1 61:78,62:\nmap 3.1 -\n".as_slice());
+    assert!(rt; status == Status::Done, "the status");
+}
+
+#[test]
+fn a_text_that_is_no_command_is_a_fault(rt: HostRuntime) {
+    let (text, status) = maps_of(rt.alloc(), b"start 1\nsend 1 put a\nfly 1\n");
+    assert!(rt; text.as_slice() == b"fault 2 42\n".as_slice(), "the fault");
+    assert!(rt; status == Status::Refused, "the status");
+}
+
+#[test]
+fn a_writer_that_is_full_ends_the_states_outside(rt: HostRuntime) {
+    let mut reader = b"start 1\n".as_slice();
+    let status = run_states::<LockTable, &[u8], Full>(rt.alloc(), &mut reader, &mut Full(5));
     assert!(rt; status == Status::Outside);
 }
