@@ -3,3 +3,5 @@ pub mod FactOfRuns
 pub mod FactOfChatLines
 pub mod FactOfVerdicts
 pub mod FactOfDrawings
+pub mod FactOfAsides
+pub mod LawOfAsides

@@ -2,5 +2,5 @@ pub mod Outcomes
 pub mod Checks
 pub mod Chats
 pub mod Packets
-pub mod Refusals
+pub mod Asides
 pub mod Draws

@@ -24,7 +24,7 @@ DoesWith meaning lines_of (World words) left old new status = RunsScript meaning
 DoesWith meaning lines_of (Chat words) left old new status = RunsChat meaning lines_of left old new status
 DoesWith meaning lines_of (Packets words) left old new status = RunsPackets meaning left old new status
 DoesWith meaning lines_of (Check words) left old new status = ChecksTrace meaning left old new status
-DoesWith meaning lines_of (Draw path) left old new status = DrawsScript meaning left old new status
+DoesWith meaning lines_of (Draw words) left old new status = DrawsScript meaning words.packets left old new status
 DoesWith meaning lines_of (DrawTrace path) left old new status = DrawsTrace meaning left old new status
 
 -- what the chat means that members keep: the long one, or the short one

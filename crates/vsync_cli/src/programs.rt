@@ -59,7 +59,7 @@ fn answer_with<C: Chat, I: Read, W: Write>(
         TextCommand::Chat(_) => run_chat::<C, I, W>(alloc, reader, writer),
         TextCommand::Packets(_) => run_packets::<C, I, W>(alloc, reader, writer),
         TextCommand::Check(_) => run_check::<C, I, W>(alloc, reader, writer),
-        TextCommand::Draw(_) => run_draw::<C, I, W>(alloc, reader, writer),
+        TextCommand::Draw(words) => run_draw::<C, I, W>(alloc, words.packets, reader, writer),
         TextCommand::DrawTrace(_) => run_draw_trace::<C, I, W>(alloc, reader, writer),
     }
 }

@@ -11,6 +11,6 @@ mod trace_line;
 pub use append::{put, put_address, put_decimal, put_hex};
 pub use buffered::put_all;
 pub use chat_lines::append_chat;
-pub use packet_lines::{append_packet, append_packets};
+pub use packet_lines::{append_kind, append_packet, append_packets};
 pub use run::{Printed, write_run};
 pub use trace_line::{append_event, append_refusal};
