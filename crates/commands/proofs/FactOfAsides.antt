@@ -1,5 +1,5 @@
 -- What stands beside a run's events, one event further.
-use Rattle.std.proofs.Common.{◌≡◌, ℕ, ◌+◌, ◌<◌, Bool, List, [], ◌∷◌, ◌++◌, length, take, take_all, length-take, get_or, Option, Some, None, sym, ap, ◌∙◌, subst, refl, arith, append_assoc, true, false}
+use Rattle.std.proofs.Common.{◌≡◌, ℕ, ◌+◌, ◌<◌, Bool, List, [], ◌∷◌, ◌++◌, length, take, length-take, drop, get_or, Option, Some, None, sym, ap, ◌∙◌, subst, refl, arith, append_assoc}
 use Rattle.std.proofs.lemmas.List.{take_more, same_from_push}
 use Rattle.std.specs.List.{cons_option}
 use Rattle.state_transfer.specs.Meanings.{Meaning}
@@ -10,7 +10,7 @@ use Rattle.world_step.specs.Worlds.Runs.{Still, Next}
 use Rattle.script_reader.specs.declared.script.Script.{Script}
 use Rattle.trace_props.specs.declared.verdict.Verdict.TheVariants.{Holds}
 use Rattle.trace_drawing.specs.declared.aside.Aside.{Aside}
-use Rattle.commands.specs.Asides.{asides_between, line_at, HasAsides}
+use Rattle.commands.specs.Asides.{put_out_at, asides_between, line_at, HasAsides}
 use Rattle.commands.specs.Asides.HasAsides.{Nothing, Next as OneMore}
 use Rattle.commands.specs.Draws.{TellsRun}
 use Rattle.commands.proofs.FactOfRuns.{OwnedReport}
@@ -23,6 +23,13 @@ added-all a b c d None None zs e f g = g ∙ ap (λ u. u ++ zs) (f ∙ ap (λ u.
 added-all a b c d None (Some y) zs e f g = g ∙ ap (λ u. u ++ zs) (f ∙ ap (λ u. u ++ y ∷ []) e ∙ append_assoc a [] (y ∷ [])) ∙ append_assoc a (y ∷ []) zs
 added-all a b c d (Some x) None zs e f g = g ∙ ap (λ u. u ++ zs) (f ∙ ap (λ u. u ++ []) e ∙ append_assoc a (x ∷ []) []) ∙ append_assoc a (x ∷ []) zs
 added-all a b c d (Some x) (Some y) zs e f g = g ∙ ap (λ u. u ++ zs) (f ∙ ap (λ u. u ++ y ∷ []) e ∙ append_assoc a (x ∷ []) (y ∷ [])) ∙ append_assoc a (x ∷ y ∷ []) zs
+
+-- the same packets, put out at the same place and node
+pub put-out-same : (place end past count : ℕ) (site node : Option ℕ) (pool packets : List (List ℕ)) → place ≡ end → site ≡ node → past ≡ count → pool ≡ packets
+    → put_out_at place site past (drop past pool) ≡ put_out_at end node count (drop count packets)
+put-out-same place end past count site node pool packets e f g h =
+    ap (λ n. put_out_at n site past (drop past pool)) e ∙ ap (λ s. put_out_at end s past (drop past pool)) f
+    ∙ ap (λ n. put_out_at end node n (drop n pool)) g ∙ ap (λ p. put_out_at end node count (drop count p)) h
 
 -- RUNS
 

@@ -189,7 +189,7 @@ handed-number (Packet k) h a is = handed-none k h (recipient k h) a is
 
 behind-numbers : (place node past : ℕ) (packets : List (List ℕ)) → filter_map put_out_number (put_out_behind place node past packets) ≡ range_with_len (past + 1) (length packets)
 behind-numbers place node past [] = refl
-behind-numbers place node past (x ∷ xs) = ap (λ ns. past + 1 ∷ ns) (behind-numbers place node (past + 1) xs)
+behind-numbers place node past (x ∷ xs) = ap (λ (ns : List ℕ). (past + 1) ∷ ns) (behind-numbers place node (past + 1) xs)
 
 some-none : {X : Type 0} (x : X) → Some x ≡ None → ⊥
 some-none x e = none-some x (sym e)

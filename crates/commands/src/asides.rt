@@ -1,6 +1,6 @@
 //! What stands between the events of a script's run, for its picture: what was refused, and the packets.
 
-ghost use Rattle.std.specs.Prelude.{◌≡◌, ◌++◌, [], ℕ, List, length, drop, option_and_then, option_map, OnOk, IfOk};
+ghost use Rattle.std.specs.Prelude.{◌≡◌, ◌++◌, [], true, false, length, drop, option_and_then, OnOk};
 ghost use Rattle.std.specs.Option.{option_copied};
 ghost use Rattle.std.specs.List.{cons_option};
 ghost use Rattle.trace_props.specs.Places.{EachPlace};

@@ -235,10 +235,8 @@ fn a_refusal_is_grey_between_the_events(rt: HostRuntime) {
     let picture = draw(rt.alloc(), trace.events(), &refusals, &[], Verdict::Holds).unwrap();
     let front = b"<svg xmlns='http://www.w3.org/2000/svg' width='230' height='168'><style>";
     let back =
-        b"<g><title># refused 2 1\n</title><path class='u' d='M110 82m-5 0a5 5 0 1 0 10 0a5 5 0 1 0-10 0m2 0h6'/>\
-        <text class='e' x='121' y='86'>not connected</text></g>\n\
-        <g><title># refused 40 4\n</title><path class='u' d='M60 126m-5 0a5 5 0 1 0 10 0a5 5 0 1 0-10 0m2 0h6'/>\
-        <text class='e' x='71' y='130'>too long</text></g>\n</svg>\n";
+        b"<text class='e' x='105' y='86'><title># refused 2 1\n</title>&#8856; not connected</text>\n\
+        <text class='e' x='55' y='130'><title># refused 40 4\n</title>&#8856; too long</text>\n</svg>\n";
     assert!(rt; picture.as_slice().starts_with(front), "its size");
     assert!(rt; picture.as_slice().ends_with(back), "its marks");
 }

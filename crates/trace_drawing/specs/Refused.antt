@@ -1,13 +1,12 @@
 -- The marks of what was refused: where it was, and the script's line.
-use Rattle.std.specs.Prelude.{ℕ, ◌+◌, List, ◌++◌, codes}
+use Rattle.std.specs.Prelude.{ℕ, ◌+◌, ◌-◌, List, ◌++◌, codes}
 use Rattle.limits.specs.declared.refusal.Refusal.{Refusal}
 use Rattle.limits.specs.declared.refusal.Refusal.TheVariants.{NotConnected, Blocked, Busy, TooLong, AlreadyConnected, Closed, Memory, Exhausted, BadName}
 use Rattle.limits.specs.Refusals.{number_of}
 use Rattle.vsync_text.specs.Runs.{refusal_line}
 use Rattle.trace_drawing.specs.declared.aside.AsideRow.{AsideRow}
-use Rattle.trace_drawing.specs.declared.marks.Mark.TheVariants as marks
-use Rattle.trace_drawing.specs.Marks.{x_in, y_of, aside_place}
-use Rattle.trace_drawing.specs.Spelling.{text_at, mark_text, group_end}
+use Rattle.trace_drawing.specs.Marks.{x_in, y_of}
+use Rattle.trace_drawing.specs.Spelling.{number_behind}
 
 -- why it was refused
 abbrev pub reason_of : Refusal → List ℕ
@@ -21,14 +20,12 @@ reason_of Memory = codes "memory"
 reason_of Exhausted = codes "exhausted"
 reason_of BadName = codes "bad name"
 
--- how the group of a refusal begins: its title, the line that `world` prints of it
-abbrev pub refused_start : ℕ → Refusal → List ℕ
-refused_start line r = codes "<g><title>" ++ refusal_line line (number_of r) ++ codes "</title>"
+-- how the mark of a refusal begins: in the middle of its column, with a title, the line that `world` prints of it
+abbrev pub refused_start : AsideRow → ℕ → Refusal → List ℕ
+refused_start row line r =
+    number_behind (codes "<text class='e' x='") (x_in row.column - 5) ++ number_behind (codes "' y='") (y_of row.level + 4) ++ codes "'><title>"
+    ++ refusal_line line (number_of r) ++ codes "</title>&#8856; "
 
--- why it was refused, beside its mark
-abbrev pub refused_reason : AsideRow → Refusal → List ℕ
-refused_reason row r = text_at (codes "e") (x_in row.column + 11) (y_of row.level + 4) (reason_of r)
-
--- all that is drawn of the refusal of a line's event
+-- all that is drawn of the refusal of a line's event: a crossed ring, and why it was refused
 abbrev pub refused_group : AsideRow → ℕ → Refusal → List ℕ
-refused_group row line r = refused_start line r ++ mark_text (marks.Refusal (aside_place row)) ++ refused_reason row r ++ group_end
+refused_group row line r = refused_start row line r ++ reason_of r ++ codes "</text>\n"

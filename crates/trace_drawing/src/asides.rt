@@ -15,18 +15,17 @@ use vsync_text::put;
 
 /// How the marks of refusals and of packets look, and their words: in print and on a light ground, and on a dark one.
 pub const ASIDE_STYLE: &[u8] = b"<style>\
-.u{fill:#fff;stroke:#999;stroke-width:1.5}\
 .e,.j{font-size:10px;fill:#999;paint-order:stroke;stroke:#fff;stroke-width:3px}\
 .j{fill:#7a6a4a}\
 .y{fill:#fff;stroke:#a08a5a}\
 .a{stroke:#a08a5a;stroke-width:.8;marker-end:url(#z)}\
 .l{stroke:#a08a5a;stroke-width:.8;stroke-dasharray:3 2;marker-end:url(#l)}\
 .z{fill:#a08a5a}\
-.q1{stroke:#d01c1c;stroke-width:1.5}\
+.c{stroke:#d01c1c;stroke-width:1.5}\
 @media screen and (prefers-color-scheme:dark){\
-.u,.y{fill:#16181c}.u{stroke:#777}.e{fill:#777}.e,.j{stroke:#16181c}.j{fill:#b8a888}.y,.a,.l{stroke:#a89468}.z{fill:#a89468}.q1{stroke:#ff7070}}\
+.y{fill:#16181c}.e{fill:#777}.e,.j{stroke:#16181c}.j{fill:#b8a888}.y,.a,.l{stroke:#a89468}.z{fill:#a89468}.c{stroke:#ff7070}}\
 </style><defs><marker id='z' markerWidth='9' markerHeight='6' refX='9' refY='3' orient='auto' markerUnits='userSpaceOnUse'><path class='z' d='M0 0L9 3L0 6z'/></marker>\
-<marker id='l' markerWidth='8' markerHeight='8' refX='4' refY='4' orient='auto' markerUnits='userSpaceOnUse'><path class='q1' d='M1 1L7 7M7 1L1 7'/></marker></defs>";
+<marker id='l' markerWidth='8' markerHeight='8' refX='4' refY='4' orient='auto' markerUnits='userSpaceOnUse'><path class='c' d='M1 1L7 7M7 1L1 7'/></marker></defs>";
 
 // Appends all that is drawn of an aside.
 fn put_aside_group(

@@ -55,8 +55,6 @@ pub enum Mark {
     Leave(Place),
     /// A member crashed.
     Crash(Place),
-    /// A script's event was refused.
-    Refusal(Place),
     /// A packet was put out.
     Packet(Place),
     /// The way of a packet that is lost.

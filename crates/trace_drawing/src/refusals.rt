@@ -1,11 +1,11 @@
 //! The marks of what was refused.
 
 ghost use Rattle.std.specs.Prelude.{◌≡◌, ◌++◌, OnOk};
-ghost use Rattle.trace_drawing.specs.Refused.{reason_of, refused_start, refused_reason, refused_group};
+ghost use Rattle.trace_drawing.specs.Refused.{reason_of, refused_start, refused_group};
 
 use crate::aside::AsideRow;
-use crate::marks::{Mark, aside_place, x_in, y_of};
-use crate::spelling::{put_mark, put_text_start};
+use crate::marks::{x_in, y_of};
+use crate::spelling::put_number;
 use limits::Refusal;
 use std::alloc::AllocError;
 use vsync_text::{append_refusal, put};
@@ -27,26 +27,21 @@ fn reason_of(refusal: Refusal) -> &'static [u8]
     }
 }
 
-// Appends the beginning of a refusal's group.
-fn put_refused_start(out: &mut Vec<u8>, line: u64, refusal: Refusal) -> Result<(), AllocError>
-    ensures { OnOk result (out.new.items ≡ out.old.items ++ refused_start line refusal) }
-{
-    put(out, b"<g><title>")?;
-    append_refusal(out, line, refusal.number())?;
-    put(out, b"</title>")
-}
-
-// Appends why it was refused.
-fn put_refused_reason(
+// Appends the beginning of a refusal's mark.
+fn put_refused_start(
     out: &mut Vec<u8>,
     row: &AsideRow,
+    line: u64,
     refusal: Refusal,
 ) -> Result<(), AllocError>
-    ensures { OnOk result (out.new.items ≡ out.old.items ++ refused_reason row.now refusal) }
+    ensures { OnOk result (out.new.items ≡ out.old.items ++ refused_start row.now line refusal) }
 {
-    put_text_start(out, b"e", x_in(row.column) + 11, y_of(row.level) + 4)?;
-    put(out, reason_of(refusal))?;
-    put(out, b"</text>")
+    let x = x_in(row.column).saturating_sub(5);
+    put_number(out, b"<text class='e' x='", x)?;
+    put_number(out, b"' y='", y_of(row.level) + 4)?;
+    put(out, b"'><title>")?;
+    append_refusal(out, line, refusal.number())?;
+    put(out, b"</title>&#8856; ")
 }
 
 /// Appends all that is drawn of the refusal of a line's event.
@@ -58,8 +53,7 @@ pub fn put_refused_group(
 ) -> Result<(), AllocError>
     ensures { OnOk result (out.new.items ≡ out.old.items ++ refused_group row.now line refusal) }
 {
-    put_refused_start(out, line, refusal)?;
-    put_mark(out, Mark::Refusal(aside_place(row)))?;
-    put_refused_reason(out, row, refusal)?;
-    put(out, b"</g>\n")
+    put_refused_start(out, row, line, refusal)?;
+    put(out, reason_of(refusal))?;
+    put(out, b"</text>\n")
 }
