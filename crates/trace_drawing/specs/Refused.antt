@@ -20,12 +20,14 @@ reason_of Memory = codes "memory"
 reason_of Exhausted = codes "exhausted"
 reason_of BadName = codes "bad name"
 
--- how the mark of a refusal begins: in the middle of its column, with a title, the line that `world` prints of it
-abbrev pub refused_start : AsideRow → ℕ → Refusal → List ℕ
-refused_start row line r =
-    number_behind (codes "<text class='e' x='") (x_in row.column - 5) ++ number_behind (codes "' y='") (y_of row.level + 4) ++ codes "'><title>"
-    ++ refusal_line line (number_of r) ++ codes "</title>&#8856; "
+-- where the mark of a refusal stands: in the middle of its column
+abbrev pub refused_place : AsideRow → List ℕ
+refused_place row = number_behind (codes "<text class='e' x='") (x_in row.column - 5) ++ number_behind (codes "' y='") (y_of row.level + 4) ++ codes "'>"
 
--- all that is drawn of the refusal of a line's event: a crossed ring, and why it was refused
+-- its title, the line that `world` prints of it, and a crossed ring
+abbrev pub refused_title : ℕ → Refusal → List ℕ
+refused_title line r = codes "<title>" ++ refusal_line line (number_of r) ++ codes "</title>&#8856; "
+
+-- all that is drawn of the refusal of a line's event: the ring, and why it was refused
 abbrev pub refused_group : AsideRow → ℕ → Refusal → List ℕ
-refused_group row line r = refused_start row line r ++ reason_of r ++ codes "</text>\n"
+refused_group row line r = refused_place row ++ refused_title line r ++ reason_of r ++ codes "</text>\n"

@@ -1,7 +1,7 @@
 //! The marks of what was refused.
 
 ghost use Rattle.std.specs.Prelude.{◌≡◌, ◌++◌, OnOk};
-ghost use Rattle.trace_drawing.specs.Refused.{reason_of, refused_start, refused_group};
+ghost use Rattle.trace_drawing.specs.Refused.{reason_of, refused_place, refused_title, refused_group};
 
 use crate::aside::AsideRow;
 use crate::marks::{x_in, y_of};
@@ -27,19 +27,21 @@ fn reason_of(refusal: Refusal) -> &'static [u8]
     }
 }
 
-// Appends the beginning of a refusal's mark.
-fn put_refused_start(
-    out: &mut Vec<u8>,
-    row: &AsideRow,
-    line: u64,
-    refusal: Refusal,
-) -> Result<(), AllocError>
-    ensures { OnOk result (out.new.items ≡ out.old.items ++ refused_start row.now line refusal) }
+// Appends the place of a refusal's mark.
+fn put_refused_place(out: &mut Vec<u8>, row: &AsideRow) -> Result<(), AllocError>
+    ensures { OnOk result (out.new.items ≡ out.old.items ++ refused_place row.now) }
 {
     let x = x_in(row.column).saturating_sub(5);
     put_number(out, b"<text class='e' x='", x)?;
     put_number(out, b"' y='", y_of(row.level) + 4)?;
-    put(out, b"'><title>")?;
+    put(out, b"'>")
+}
+
+// Appends the title of a refusal's mark, and a crossed ring.
+fn put_refused_title(out: &mut Vec<u8>, line: u64, refusal: Refusal) -> Result<(), AllocError>
+    ensures { OnOk result (out.new.items ≡ out.old.items ++ refused_title line refusal) }
+{
+    put(out, b"<title>")?;
     append_refusal(out, line, refusal.number())?;
     put(out, b"</title>&#8856; ")
 }
@@ -53,7 +55,8 @@ pub fn put_refused_group(
 ) -> Result<(), AllocError>
     ensures { OnOk result (out.new.items ≡ out.old.items ++ refused_group row.now line refusal) }
 {
-    put_refused_start(out, row, line, refusal)?;
+    put_refused_place(out, row)?;
+    put_refused_title(out, line, refusal)?;
     put(out, reason_of(refusal))?;
     put(out, b"</text>\n")
 }
