@@ -14,7 +14,7 @@ range-next : (a n : ℕ) → range_with_len a (suc n) ≡ range_with_len a n ++ 
 range-next a zero = let e : a ≡ a + 0 = omega arith in ap (λ x. x ∷ []) e
 range-next a (suc n) = let e : a + 1 + n ≡ a + suc n = omega arith in ap (λ l. a ∷ l) (range-next (a + 1) n ∙ ap (λ x. range_with_len (a + 1) n ++ x ∷ []) e)
 
-range-split : (a n m : ℕ) → range_with_len a (n + m) ≡ range_with_len a n ++ range_with_len (a + n) m
+pub range-split : (a n m : ℕ) → range_with_len a (n + m) ≡ range_with_len a n ++ range_with_len (a + n) m
 range-split a zero m = ap (λ x. range_with_len a x) (let e : 0 + m ≡ m = omega arith in e) ∙ ap (λ x. range_with_len x m) (let e : a ≡ a + 0 = omega arith in e)
 range-split a (suc n) m =
     ap (range_with_len a) (let e : suc n + m ≡ suc (n + m) = omega arith in e) ∙ ap (λ l. a ∷ l) (range-split (a + 1) n m

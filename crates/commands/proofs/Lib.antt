@@ -4,3 +4,5 @@ pub mod FactOfStateLines
 pub mod FactOfVerdicts
 pub mod FactOfDrawings
 pub mod FactOfProcesses
+pub mod FactOfAsides
+pub mod LawOfAsides

@@ -2,6 +2,6 @@ pub mod Outcomes
 pub mod Checks
 pub mod States
 pub mod Packets
-pub mod Refusals
+pub mod Asides
 pub mod Draws
 pub mod Processes

@@ -3,19 +3,18 @@
 ghost use Rattle.std.specs.Prelude.{[]};
 ghost use Rattle.script_reader.specs.Script.{fault_number};
 ghost use Rattle.commands.specs.Outcomes.{Ends, Written};
-ghost use Rattle.commands.specs.Refusals.{refusals_of};
 ghost use Rattle.commands.specs.Draws.{IsPictureText, IsRefusalText, IsDrawingText, TellsRun, IsJudgedAs, DrawsScript, DrawsTrace};
 
 use crate::Status;
+use crate::asides::play_events;
 use crate::ends::{Unreadable, end_with, read_all};
-use crate::refusals::refusals_of;
 use script_reader::{Fault, Script, Unread, read_script};
 use state_transfer::Receiver;
 use std::alloc::Global;
 use std::io::{Read, Write};
 use trace_checker::check;
-use trace_drawing::{Refused, draw};
-use trace_props::{Event, Trace, Verdict};
+use trace_drawing::{Aside, draw};
+use trace_props::{Bytes, Event, Trace, Verdict};
 use trace_reader::read_trace;
 use world::World;
 
@@ -26,17 +25,18 @@ fn end_undrawn<W: Write>(writer: &mut W) -> Status
     end_with(writer, b"", Status::Memory)
 }
 
-/// Writes the picture of what happened, with what was refused, and with a mark where a rule breaks.
+/// Writes the picture of what happened, with what stands beside it, and with a mark where a rule breaks.
 fn print_picture<W: Write>(
     alloc: Global,
     events: &[Event],
-    refusals: &[Refused],
+    asides: &[Aside],
+    packets: &[Bytes],
     verdict: Verdict,
     writer: &mut W,
 ) -> Status
-    ensures { Written (IsPictureText events.now refusals.now verdict) (W.contents writer.old) (W.contents writer.new) result }
+    ensures { Written (IsPictureText events.now asides.now packets.now verdict) (W.contents writer.old) (W.contents writer.new) result }
 {
-    match draw(alloc, events, refusals, verdict) {
+    match draw(alloc, events, asides, packets, verdict) {
         Ok(picture) => end_with(writer, picture.as_slice(), Status::Done),
         Err(_) => end_undrawn(writer),
     }
@@ -53,31 +53,38 @@ fn refuse<W: Write>(alloc: Global, writer: &mut W, line: u64, fault: Fault) -> S
     }
 }
 
-/// Writes the picture of a world that ran a script's events.
+/// Writes the picture of a world that ran a script's events, with what stands beside them.
 fn print_world<R: Receiver, W: Write>(
     alloc: Global,
     world: &World<R>,
+    asides: &[Aside],
+    writer: &mut W,
+) -> Status
+    ensures { Written (IsPictureText world.now.history.trace asides.now world.now.history.pool Verdict.Holds) (W.contents writer.old) (W.contents writer.new) result }
+{
+    let events = world.trace().events();
+    print_picture(alloc, events, asides, world.packets(), Verdict::Holds, writer)
+}
+
+/// Runs a script's events in a world, and writes the picture of what happened, with packets or without.
+fn play_picture<R: Receiver, W: Write>(
+    alloc: Global,
+    packets: bool,
     script: &Script,
     writer: &mut W,
 ) -> Status
-    ensures { Written (IsPictureText world.now.history.trace (refusals_of script.now.lines script.now.events world.now.history.replies) Verdict.Holds) (W.contents writer.old) (W.contents writer.new) result }
-{
-    let events = world.trace().events();
-    match refusals_of(alloc, script.lines(), script.events(), world.replies()) {
-        Ok(refusals) => {
-            print_picture(alloc, events, refusals.as_slice(), Verdict::Holds, writer)
-        }
-        Err(_) => end_undrawn(writer),
-    }
-}
-
-/// Runs a script's events in a world, and writes the picture of what happened.
-fn play_picture<R: Receiver, W: Write>(alloc: Global, script: &Script, writer: &mut W) -> Status
-    ensures { Written (IsDrawingText (TellsRun R.meaning script.now) (λ line fault. ⊥)) (W.contents writer.old) (W.contents writer.new) result }
+    ensures { Written (IsDrawingText (TellsRun R.meaning packets script.now) (λ line fault. ⊥)) (W.contents writer.old) (W.contents writer.new) result }
 {
     let mut world = World::<R>::new(alloc);
-    match world.run(script.events()) {
-        Ok(()) => print_world(alloc, &world, script, writer),
+    let mut asides = Vec::new(alloc);
+    match play_events(
+        &mut world,
+        &mut asides,
+        packets,
+        script.lines(),
+        script.events(),
+    ) {
+        Ok(()) => print_world(alloc, &world, asides.as_slice(), writer),
         Err(_) => end_undrawn(writer),
     }
 }
@@ -87,21 +94,23 @@ fn judge_picture<R: Receiver, W: Write>(alloc: Global, trace: &Trace, writer: &m
     ensures { Written (IsDrawingText (IsJudgedAs R.meaning trace.now.events) (λ line fault. ⊥)) (W.contents writer.old) (W.contents writer.new) result }
 {
     match check::<R>(alloc, trace) {
-        Ok(verdict) => print_picture(alloc, trace.events(), &[], verdict, writer),
+        Ok(verdict) => print_picture(alloc, trace.events(), &[], &[], verdict, writer),
         Err(_) => end_undrawn(writer),
     }
 }
 
 /// Runs a script from a reader in a world whose receivers are `R`, and writes to a writer the picture of what happened, and of what was
-/// refused, as an SVG (docs/FORMATS.md, "Pictures"); or the script's first fault. Answers the exit status.
+/// refused, as an SVG (docs/FORMATS.md, "Pictures"), with each packet where they are asked for; or the script's first fault. Answers the
+/// exit status.
 ///
 /// Where memory is refused outside a member's step, it writes nothing, and answers `Status::Memory`.
 pub fn run_draw<R: Receiver, I: Read, W: Write>(
     alloc: Global,
+    packets: bool,
     reader: &mut I,
     writer: &mut W,
 ) -> Status
-    ensures { DrawsScript R.meaning (I.remaining reader.old) (W.contents writer.old) (W.contents writer.new) result }
+    ensures { DrawsScript R.meaning packets (I.remaining reader.old) (W.contents writer.old) (W.contents writer.new) result }
 {
     let bytes = match read_all(alloc, reader) {
         Ok(bytes) => bytes,
@@ -109,7 +118,7 @@ pub fn run_draw<R: Receiver, I: Read, W: Write>(
         Err(Unreadable::Failed) => return Status::Outside,
     };
     match read_script(alloc, bytes.as_slice()) {
-        Ok(script) => play_picture::<R, W>(alloc, &script, writer),
+        Ok(script) => play_picture::<R, W>(alloc, packets, &script, writer),
         Err(Unread::Fault { line, fault }) => refuse(alloc, writer, line, fault),
         Err(Unread::Memory) => end_undrawn(writer),
     }

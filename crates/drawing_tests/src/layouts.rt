@@ -4,7 +4,7 @@ use address::{Address, Node};
 use limits::Refusal;
 use std::alloc::Global;
 use std::process::Abort;
-use trace_drawing::{Layout, Line, Refused, RefusedRow, Row, lay_out};
+use trace_drawing::{Aside, AsideKind, AsideRow, Layout, Line, Row, lay_out};
 use trace_reader::read_trace;
 
 /// Whether a trace in which nothing was refused has these rows, each at the next level.
@@ -154,23 +154,36 @@ fn a_line_goes_from_the_first_event_to_the_last(rt: HostRuntime) {
     assert!(rt; has_lines(rt.alloc(), text, &wanted));
 }
 
-/// What a node refused at a place.
-fn refused(rt: &impl Abort, place: usize, number: u16, line: u64) -> Refused {
-    Refused {
-        place,
-        node: Node::new(number).expect(rt, "a node"),
+/// That a line's event was refused.
+fn busy(line: u64) -> AsideKind {
+    AsideKind::Refused {
         line,
         refusal: Refusal::Busy,
     }
 }
 
+/// What was at a node at a place, and goes towards another node.
+fn aside(rt: &impl Abort, place: usize, number: u16, other: u16, kind: AsideKind) -> Aside {
+    Aside {
+        place,
+        node: Node::new(number).expect(rt, "a node"),
+        towards: Node::new(other).expect(rt, "a node"),
+        kind,
+    }
+}
+
+/// What a node refused at a place.
+fn refused(rt: &impl Abort, place: usize, number: u16, line: u64) -> Aside {
+    aside(rt, place, number, number, busy(line))
+}
+
 /// Where it is drawn.
-fn drawn(column: Option<u32>, level: u32, line: u64) -> RefusedRow {
-    RefusedRow {
+fn drawn(column: Option<u32>, level: u32, line: u64) -> AsideRow {
+    AsideRow {
         column,
+        towards: column,
         level,
-        line,
-        refusal: Refusal::Busy,
+        kind: busy(line),
     }
 }
 
@@ -208,7 +221,7 @@ fn refusals_stand_between_events(rt: HostRuntime) {
         drawn(Some(0), 6, 7),
         drawn(Some(2), 8, 9),
     ];
-    assert!(rt; layout.refused.as_slice() == wanted.as_slice(), "refusals");
+    assert!(rt; layout.asides.as_slice() == wanted.as_slice(), "refusals");
     assert!(rt;
         layout
             .lines

@@ -3,8 +3,9 @@
 use address::Node;
 use limits::Refusal;
 use std::alloc::Global;
-use trace_drawing::{Refused, draw};
-use trace_props::{Rule, Verdict};
+use std::process::Abort;
+use trace_drawing::{Aside, AsideKind, draw};
+use trace_props::{Bytes, Rule, Verdict};
 use trace_reader::read_trace;
 
 /// Whether the picture of a trace that keeps all rules begins and ends so.
@@ -17,7 +18,7 @@ fn draws_with(alloc: Global, text: &[u8], verdict: Verdict, front: &[u8], back: 
     let Ok(trace) = read_trace(alloc, text) else {
         return false;
     };
-    match draw(alloc, trace.events(), &[], verdict) {
+    match draw(alloc, trace.events(), &[], &[], verdict) {
         Ok(picture) => picture.as_slice().starts_with(front) && picture.as_slice().ends_with(back),
         Err(_) => false,
     }
@@ -210,33 +211,71 @@ fn a_place_outside_of_the_trace_has_no_mark(rt: HostRuntime) {
     }
 }
 
+/// What was at a node at a place, and goes towards another node.
+fn aside(rt: &impl Abort, place: usize, number: u16, other: u16, kind: AsideKind) -> Aside {
+    Aside {
+        place,
+        node: Node::new(number).expect(rt, "a node"),
+        towards: Node::new(other).expect(rt, "a node"),
+        kind,
+    }
+}
+
+/// That a line's event was refused.
+fn refused(line: u64, refusal: Refusal) -> AsideKind {
+    AsideKind::Refused { line, refusal }
+}
+
 #[test]
 fn a_refusal_is_grey_between_the_events(rt: HostRuntime) {
     let trace = read_trace(rt.alloc(), b"started 5.1\nleft 5.1\n").expect(&rt, "drawn");
     let refusals = [
-        Refused {
-            place: 1,
-            node: Node::new(5).expect(&rt, "drawn"),
-            line: 2,
-            refusal: Refusal::NotConnected,
-        },
-        Refused {
-            place: 2,
-            node: Node::new(6).expect(&rt, "drawn"),
-            line: 40,
-            refusal: Refusal::TooLong,
-        },
+        aside(&rt, 1, 5, 5, refused(2, Refusal::NotConnected)),
+        aside(&rt, 2, 6, 6, refused(40, Refusal::TooLong)),
     ];
-    let picture = draw(rt.alloc(), trace.events(), &refusals, Verdict::Holds).expect(&rt, "drawn");
+    let picture = draw(rt.alloc(), trace.events(), &refusals, &[], Verdict::Holds)
+        .expect(&rt, "a picture");
     let front = b"<svg xmlns='http://www.w3.org/2000/svg' width='230' height='168'><style>";
-    let back = b"<g class='c0'><title>left 5.1\n</title><text class='r' x='40' y='108'>2</text>\
-        <path class='o' d='M110 104m-6 0a6 6 0 1 0 12 0a6 6 0 1 0-12 0'/><text class='t' x='121' y='108'>left</text></g>\n\
-        <style>.u{fill:#fff;stroke:#999;stroke-width:1.5}.e{font-size:10px;fill:#999;paint-order:stroke;stroke:#fff;stroke-width:3px}\
-        @media screen and (prefers-color-scheme:dark){.u{fill:#16181c;stroke:#777}.e{fill:#777;stroke:#16181c}}</style>\
-        <g><title># refused 2 1\n</title><path class='u' d='M110 82m-5 0a5 5 0 1 0 10 0a5 5 0 1 0-10 0m2 0h6'/>\
-        <text class='e' x='121' y='86'>not connected</text></g>\n\
-        <g><title># refused 40 4\n</title><path class='u' d='M60 126m-5 0a5 5 0 1 0 10 0a5 5 0 1 0-10 0m2 0h6'/>\
-        <text class='e' x='71' y='130'>too long</text></g>\n</svg>\n";
+    let back =
+        b"<text class='e' x='105' y='86'><title># refused 2 1\n</title>&#8856; not connected</text>\n\
+        <text class='e' x='55' y='130'><title># refused 40 4\n</title>&#8856; too long</text>\n</svg>\n";
+    assert!(rt; picture.as_slice().starts_with(front), "its size");
+    assert!(rt; picture.as_slice().ends_with(back), "its marks");
+}
+
+/// The pictures' packets: one of one byte, and one of two.
+fn two_packets(alloc: Global) -> Option<Vec<Bytes>> {
+    let mut packets = Vec::new(alloc);
+    packets.push(Bytes::from_slice(alloc, &[0xab]).ok()?).ok()?;
+    packets
+        .push(Bytes::from_slice(alloc, &[0xcd, 0xef]).ok()?)
+        .ok()?;
+    Some(packets)
+}
+
+#[test]
+fn a_packet_has_an_arrow_and_a_lost_one_ends_in_the_air(rt: HostRuntime) {
+    let trace = read_trace(rt.alloc(), b"started 1.1\nstarted 2.1\n").expect(&rt, "a trace");
+    let asides = [
+        aside(&rt, 2, 2, 1, AsideKind::PutOut(1)),
+        aside(&rt, 2, 1, 1, AsideKind::HandedOver(1)),
+        aside(&rt, 2, 1, 2, AsideKind::PutOut(2)),
+    ];
+    let packets = two_packets(rt.alloc()).expect(&rt, "packets");
+    let picture = draw(
+        rt.alloc(),
+        trace.events(),
+        &asides,
+        packets.as_slice(),
+        Verdict::Holds,
+    )
+    .expect(&rt, "a picture");
+    let front = b"<svg xmlns='http://www.w3.org/2000/svg' width='350' height='190'><style>";
+    let back =
+        b"<g><title>1 - - - ab\n</title><path class='y' d='M230 104m-4-4h8v8h-8z'/><text class='j' x='241' y='108'>1 -</text></g>\n\
+        <g><title>deliver 1\n</title><path class='a' d='M230 104L110 126'/><text class='j' x='121' y='130'>1</text></g>\n\
+        <g><title>2 - - - cdef\n</title><path class='y' d='M110 148m-4-4h8v8h-8z'/><path class='l' d='M110 148L144 164'/>\
+        <text class='j' x='121' y='152'>2 -</text></g>\n</svg>\n";
     assert!(rt; picture.as_slice().starts_with(front), "its size");
     assert!(rt; picture.as_slice().ends_with(back), "its marks");
 }

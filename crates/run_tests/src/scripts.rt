@@ -1,6 +1,6 @@
 use address::{Address, Node};
 use chat_log::ChatLog;
-use commands::{Status, run_packets, run_script, run_states};
+use commands::{Status, run_draw, run_packets, run_script, run_states};
 use lock_table::LockTable;
 use replicated_map::ReplicatedMap;
 use std::alloc::Global;
@@ -119,6 +119,31 @@ impl Read for Failing {
         buf[0] = b'\n';
         Ok(1)
     }
+}
+
+/// What is drawn of a script, with packets or without, and the status.
+fn drawing_of(alloc: Global, packets: bool, script: &[u8]) -> (Vec<u8>, Status) {
+    let mut reader = script;
+    let mut output = Vec::new(alloc);
+    let status = run_draw::<ChatLog, &[u8], Vec<u8>>(alloc, packets, &mut reader, &mut output);
+    (output, status)
+}
+
+#[test]
+fn packets_are_drawn_where_they_are_asked_for(rt: HostRuntime) {
+    let script = b"start 2\njoin 2 9.1\ntick 2\n";
+    let (bare, status) = drawing_of(rt.alloc(), false, script);
+    assert!(rt; status == Status::Done, "the status without packets");
+    let end = b"<text class='t' x='121' y='64'>started</text></g>\n</svg>\n";
+    assert!(rt; bare.as_slice().ends_with(end), "without packets");
+    let (full, status) = drawing_of(rt.alloc(), true, script);
+    assert!(rt; status == Status::Done, "the status with packets");
+    let end = b"\
+        <g><title>1 JOIN 2.1 9.1 5653030105776f726c64000200000001000900000001\n</title><path class='y' d='M110 82m-4-4h8v8h-8z'/>\
+        <path class='l' d='M110 82L76 98'/><text class='j' x='121' y='86'>1 JOIN</text></g>\n\
+        <g><title>2 JOIN 2.1 9.1 5653030105776f726c64000200000001000900000001\n</title><path class='y' d='M110 104m-4-4h8v8h-8z'/>\
+        <path class='l' d='M110 104L76 120'/><text class='j' x='121' y='108'>2 JOIN</text></g>\n</svg>\n";
+    assert!(rt; full.as_slice().ends_with(end), "with packets");
 }
 
 /// What the packets of a script are printed as, and the status.

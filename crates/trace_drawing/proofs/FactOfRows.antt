@@ -54,6 +54,11 @@ next-take xs i x at inside =
     let e : i + 1 ≡ suc i = omega arith in
     ap (λ n. take n xs) e ∙ take-suc xs i x inside ∙ ap (λ y. take i xs ++ y ∷ []) (sym at)
 
+pub next-take-at : {X : Type 0} (xs : List X) (i : ℕ) (x d : X) → x ≡ get_or xs i d → i < length xs → take (i + 1) xs ≡ take i xs ++ x ∷ []
+next-take-at xs i x d at inside =
+    let e : i + 1 ≡ suc i = omega arith in
+    ap (λ n. take n xs) e ∙ take-suc xs i d inside ∙ ap (λ y. take i xs ++ y ∷ []) (sym at)
+
 pub length-front : {X : Type 0} (xs : List X) (i : ℕ) → i < length xs → i ≡ length (take i xs)
 length-front xs i inside = omega (arith, length-take i xs)
 

@@ -5,9 +5,9 @@ use Rattle.std.specs.Prelude.{flat_map}
 use Rattle.std.proofs.lemmas.Grind.{flat_map-append}
 use Rattle.trace_props.specs.declared.event.Event.{Event}
 use Rattle.trace_drawing.specs.declared.row.Row.{Row}
-use Rattle.trace_drawing.specs.declared.refusals.TheConstants.{REFUSED_STYLE}
-use Rattle.trace_drawing.specs.declared.refused.RefusedRow.{RefusedRow}
-use Rattle.trace_drawing.specs.Refused.{refused_group, refused_text}
+use Rattle.trace_drawing.specs.declared.asides.TheConstants.{ASIDE_STYLE}
+use Rattle.trace_drawing.specs.declared.aside.AsideRow.{AsideRow}
+use Rattle.trace_drawing.specs.Asides.{aside_group, asides_text}
 use Rattle.trace_drawing.specs.Layout.{rows_from, rows_of}
 use Rattle.trace_drawing.specs.Picture.{event_group, event_groups}
 
@@ -41,10 +41,10 @@ groups-next rows events k r d e out new whole at_row at_event in_rows in_events 
     ∙ ap (λ t. out ++ t) (sym (ap (λ xs. event_groups rows k xs (drop k events)) rest_of_rows ∙ ap (λ xs. event_groups rows k (r ∷ drop (k + 1) rows) xs) rest_of_events))
     ∙ so_far
 
--- what is drawn of refusals, where there are some
-pub refused-all : (rows : List RefusedRow) → (length rows == 0) ≡ false → REFUSED_STYLE.now ++ flat_map refused_group rows ≡ refused_text rows
-refused-all [] e = absurd (let n : true ≡ false = e in cc)
-refused-all (r ∷ rs) e = refl
+-- what is drawn of asides, where there are some
+pub asides-all : (rows : List AsideRow) (packets : List (List ℕ)) → (length rows == 0) ≡ false → ASIDE_STYLE.now ++ flat_map (aside_group rows packets) rows ≡ asides_text rows packets
+asides-all [] packets e = absurd (let n : true ≡ false = e in cc)
+asides-all (r ∷ rs) packets e = refl
 
 rows_from-length : (at : ℕ → ℕ) (past t : List Event) → length (rows_from at past t) ≡ length t
 rows_from-length at past [] = refl

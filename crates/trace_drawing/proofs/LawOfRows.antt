@@ -12,7 +12,7 @@ use Rattle.trace_props.specs.declared.verdict.Rule.{Rule}
 use Rattle.trace_props.specs.declared.verdict.Verdict.TheVariants.{Breaks}
 use Rattle.trace_props.specs.Observed.{member_of}
 use Rattle.trace_props.proofs.FactOfPlaces.{slice_get-take}
-use Rattle.trace_drawing.specs.declared.refused.Refused.{Refused}
+use Rattle.trace_drawing.specs.declared.aside.Aside.{Aside}
 use Rattle.trace_drawing.specs.Layout.{last_from, last_place, rank_in, members_in, column_of, sends, installs, origin_of, above, level_of, row_of, rows_from, rows_of}
 use Rattle.trace_drawing.specs.declared.broken.TheConstants.{BROKEN_STYLE}
 use Rattle.trace_drawing.specs.Broken.{broken_group, broken_in, broken_text}
@@ -35,19 +35,19 @@ row-each level t k e at = each-from level [] t k e at
 pub level-each : (level : ℕ → ℕ) (t : List Event) (k : ℕ) (e : Event) → slice_get t k ≡ Some e → (row_of level (take k t) e).level ≡ level k
 level-each level t k e at = let whole : length (take k t) ≡ k = omega (arith, length-take k t, slice_get_within t k e at) in ap level whole
 
-more-at : (r : Refused) (rs : List Refused) (j k : ℕ) (b c : Bool) → nat_le r.place j ≡ b → nat_le r.place k ≡ c → j < k → above rs j ≤ above rs k → cond b (above rs j + 1) 0 ≤ cond c (above rs k + 1) 0
+more-at : (r : Aside) (rs : List Aside) (j k : ℕ) (b c : Bool) → nat_le r.place j ≡ b → nat_le r.place k ≡ c → j < k → above rs j ≤ above rs k → cond b (above rs j + 1) 0 ≤ cond c (above rs k + 1) 0
 more-at r rs j k true true e f less rest = omega (arith, rest)
 more-at r rs j k true false e f less rest = absurd (omega (arith, leb-true r.place j e, leb-false r.place k f, less))
 more-at r rs j k false c e f less rest = omega arith
 
 -- more stands above a later event
-above-later : (refusals : List Refused) (j k : ℕ) → j < k → above refusals j ≤ above refusals k
+above-later : (asides : List Aside) (j k : ℕ) → j < k → above asides j ≤ above asides k
 above-later [] j k less = omega arith
 above-later (r ∷ rs) j k less = more-at r rs j k (nat_le r.place j) (nat_le r.place k) refl refl less (above-later rs j k less)
 
 -- later events have greater levels
-pub level-order : (refusals : List Refused) (j k : ℕ) → j < k → level_of refusals j < level_of refusals k
-level-order refusals j k less = omega (arith, less, above-later refusals j k less)
+pub level-order : (asides : List Aside) (j k : ℕ) → j < k → level_of asides j < level_of asides k
+level-order asides j k less = omega (arith, less, above-later asides j k less)
 
 -- COLUMNS
 
@@ -128,7 +128,7 @@ found-at test k x xs n (Some m) is e rest =
     let later = rest m is in
     record { place = suc later.place; is = omega (arith, same_Some m n e, later.is); found = later.found; there = later.there; passes = later.passes }
 
-last-found : {X : Type 0} (test : X → Bool) (k : ℕ) (xs : List X) (n : ℕ) → last_from test k xs ≡ Some n → IsFound test k xs n
+pub last-found : {X : Type 0} (test : X → Bool) (k : ℕ) (xs : List X) (n : ℕ) → last_from test k xs ≡ Some n → IsFound test k xs n
 last-found test k [] n e = absurd (none-some n e)
 last-found test k (x ∷ xs) n e = found-at test k x xs n (last_from test (k + 1) xs) refl e (last-found test (k + 1) xs)
 

@@ -1,5 +1,5 @@
 -- Labels have no bracket, and titles have no byte that means anything but itself.
-use Rattle.std.proofs.Common.{◌≡◌, ℕ, ◌+◌, ◌/◌, ◌%◌, Bool, true, false, ◌&&◌, ◌||◌, ◌==◌, not, cond, nat_eq, nat_lt, List, [], ◌∷◌, ◌++◌, length, take, codes, suc, zero, Option, Some, None, refl, ap, ◌∙◌, arith}
+use Rattle.std.proofs.Common.{◌≡◌, ℕ, ◌+◌, ◌/◌, ◌%◌, Bool, true, false, ◌&&◌, ◌||◌, ◌==◌, not, cond, nat_eq, nat_lt, List, [], ◌∷◌, ◌++◌, length, take, codes, suc, zero, Option, Some, None, Result, Ok, Err, refl, ap, ◌∙◌, arith}
 use Rattle.std.specs.Prelude.{flat_map}
 use Rattle.std.specs.List.{list_all, join_by}
 use Rattle.std.specs.Fmt.{digits_onto, digits, decimal}
@@ -11,6 +11,12 @@ use Rattle.trace_props.specs.declared.event.Event.TheVariants.{Started, Sent, De
 use Rattle.trace_props.specs.declared.event.Numbered.{Numbered}
 use Rattle.trace_props.specs.declared.verdict.Rule.{Rule}
 use Rattle.trace_props.specs.declared.verdict.Rule.TheVariants.{WellPlaced, RisingViews, SoundMessages, OneOrder, SameNext, Together, HandedBack, StateOfEntry}
+use Rattle.wire_values.specs.declared.error.WireError.{WireError}
+use Rattle.wire_values.specs.declared.packet.Body.{Body}
+use Rattle.wire_values.specs.declared.packet.Body.TheVariants as bodies
+use Rattle.wire_values.specs.declared.packet.Packet.{Packet}
+use Rattle.wire.specs.Packets.{packet_of}
+use Rattle.vsync_text.specs.PacketText.{kind_name, kind_of, kind_in, packet_fields, packet_line}
 use Rattle.vsync_text.specs.TraceText.{hex_digit, hex_of_byte, hex_of, text_of_payload, text_of_previous, text_of_addresses, text_of_numbered, text_of_handed_back, text_of_given, field, line_with, install_view, install_rest, event_word, fields_of, line_of}
 use Rattle.trace_drawing.specs.declared.labels.TheConstants.{LETTERS, BYTES}
 use Rattle.trace_drawing.specs.Labels.{escaped_byte, escaped, is_text, dots, label}
@@ -174,6 +180,41 @@ word-plain (Crashed p) = refl
 -- a title is plain
 pub title-plain : (e : Event) → list_all is_plain (line_of e) ≡ true
 title-plain e = line-plain (event_word e) (fields_of e) (word-plain e) (fields-plain e)
+
+-- the name of what a packet says is plain
+name-plain : (body : Body) → list_all is_plain (kind_name body) ≡ true
+name-plain bodies.Join = refl
+name-plain (bodies.Redirect coordinator) = refl
+name-plain bodies.Leave = refl
+name-plain (bodies.Forward view number payload) = refl
+name-plain (bodies.Order view place entry) = refl
+name-plain (bodies.Nak view missing) = refl
+name-plain (bodies.Ack view delivered) = refl
+name-plain (bodies.Status view progress) = refl
+name-plain (bodies.Flush proposal) = refl
+name-plain (bodies.Behind proposal counter) = refl
+name-plain (bodies.Report proposal report) = refl
+name-plain (bodies.Install install) = refl
+name-plain (bodies.Merge view) = refl
+name-plain (bodies.State proposal chunk) = refl
+
+kind-at : (packet : Result Packet WireError) → list_all is_plain (kind_of packet) ≡ true
+kind-at (Ok p) = name-plain p.body
+kind-at (Err e) = refl
+
+-- the kind of a packet is plain
+pub kind-plain : (bytes : List ℕ) → list_all is_plain (kind_in bytes) ≡ true
+kind-plain bytes = kind-at (packet_of bytes)
+
+packet_fields-plain : (packet : Result Packet WireError) → list_all is_plain (packet_fields packet) ≡ true
+packet_fields-plain (Ok p) = two (field (kind_name p.body) ++ field (text_of_address p.source)) (text_of_address p.destination)
+    (two (field (kind_name p.body)) (text_of_address p.source) (behind 32 (kind_name p.body) refl (name-plain p.body)) (address-plain p.source)) (address-plain p.destination)
+packet_fields-plain (Err e) = refl
+
+-- the title of a packet is plain
+pub packet-plain : (n : ℕ) (bytes : List ℕ) → list_all is_plain (packet_line n bytes) ≡ true
+packet-plain n bytes = line-plain (decimal n) (packet_fields (packet_of bytes) ++ field (hex_of bytes)) (decimal-plain n)
+    (two (packet_fields (packet_of bytes)) (hex_of bytes) (packet_fields-plain (packet_of bytes)) (hex-plain bytes))
 
 -- the words of a broken rule are plain
 pub words-plain : (rule : Rule) → list_all is_plain (words_of rule) ≡ true

@@ -3,6 +3,7 @@ pub mod KeepKnown
 pub mod FactOfRows
 pub mod FactOfLevels
 pub mod FactOfTexts
+pub mod FactOfWays
 pub mod LawOfRows
-pub mod LawOfRefusals
+pub mod LawOfAsides
 pub mod LawOfTexts

@@ -1,4 +1,4 @@
--- Where a trace's events, and what was refused between them, stand in a picture: a row for each, a column for each member, and from where an event is reached.
+-- Where a trace's events, and the asides between them, stand in a picture: a row for each, a column for each member, and from where an event is reached.
 use Rattle.std.specs.Prelude.{ℕ, ◌+◌, Bool, false, ◌&&◌, cond, Option, None, Some, List, [], ◌∷◌, ◌++◌, length, take, slice_get, nat_eq, nat_le, option_and_then, fold, filter_map, is_some, unwrap_or, option_map}
 use Rattle.std.specs.Option.{option_or, option_map_or}
 use Rattle.std.specs.List.{position_from}
@@ -9,8 +9,8 @@ use Rattle.trace_props.specs.Observed.{member_of, install_of, is_blocked, has_en
 use Rattle.trace_drawing.specs.declared.row.Row.{Row}
 use Rattle.trace_drawing.specs.declared.row.Line.{Line}
 use Rattle.trace_drawing.specs.declared.row.MessageKey.{MessageKey}
-use Rattle.trace_drawing.specs.declared.refused.Refused.{Refused}
-use Rattle.trace_drawing.specs.declared.refused.RefusedRow.{RefusedRow}
+use Rattle.trace_drawing.specs.declared.aside.Aside.{Aside}
+use Rattle.trace_drawing.specs.declared.aside.AsideRow.{AsideRow}
 
 -- PLACES
 
@@ -47,14 +47,14 @@ column_of p t = unwrap_or (rank_in p (members_in t)) (length (members_in t))
 
 -- ROWS
 
--- how many refusals stand above an event: the first ones that have no later place
-abbrev pub above : List Refused → ℕ → ℕ
+-- how many asides stand above an event: the first ones that have no later place
+abbrev pub above : List Aside → ℕ → ℕ
 above [] k = 0
 above (r ∷ rs) k = cond (nat_le r.place k) (above rs k + 1) 0
 
--- the level of an event: how many events and refusals stand above it
-abbrev pub level_of : List Refused → ℕ → ℕ
-level_of refusals k = k + above refusals k
+-- the level of an event: how many events and asides stand above it
+abbrev pub level_of : List Aside → ℕ → ℕ
+level_of asides k = k + above asides k
 
 abbrev pub happens_to : Address → Event → Bool
 happens_to p e = same_address (member_of e) p
@@ -133,9 +133,9 @@ member_line level t p = option_map (λ column. record {
 abbrev pub member_lines : (ℕ → ℕ) → List Event → List Line
 member_lines level t = filter_map (member_line level t) (members_in t)
 
--- REFUSALS
+-- ASIDES
 
--- the place up to which events stand before a refusal, where others before it stand at a place
+-- the place up to which events stand before an aside, where others before it stand at a place
 abbrev pub later : ℕ → ℕ → ℕ
 later front place = cond (nat_le place front) front place
 
@@ -146,20 +146,20 @@ happens_at node e = nat_eq (member_of e).node node
 abbrev pub column_in : List Row → Option ℕ → Option ℕ
 column_in rows event = option_and_then (λ k. option_map (λ r. r.column) (slice_get rows k)) event
 
--- where a refusal is drawn: in the column of the last event of its node so far, below all that stands before it
-abbrev pub refused_row : List Row → List Event → ℕ → ℕ → Refused → RefusedRow
-refused_row rows t count front r = record {
+-- where an aside is drawn: in the column of the last event of its node so far, below all that stands before it, and towards which column it goes
+abbrev pub aside_row : List Row → List Event → ℕ → ℕ → Aside → AsideRow
+aside_row rows t count front r = record {
   column = column_in rows (last_place (happens_at r.node) (take front t));
+  towards = column_in rows (last_place (happens_at r.towards) (take front t));
   level = count + front;
-  line = r.line;
-  refusal = r.refusal;
+  kind = r.kind;
 }
 
--- where refusals are drawn, behind so many others and so many events
-abbrev pub refused_from : List Row → List Event → ℕ → ℕ → List Refused → List RefusedRow
-refused_from rows t count front [] = []
-refused_from rows t count front (r ∷ rs) = refused_row rows t count (later front r.place) r ∷ refused_from rows t (count + 1) (later front r.place) rs
+-- where asides are drawn, behind so many others and so many events
+abbrev pub asides_from : List Row → List Event → ℕ → ℕ → List Aside → List AsideRow
+asides_from rows t count front [] = []
+asides_from rows t count front (r ∷ rs) = aside_row rows t count (later front r.place) r ∷ asides_from rows t (count + 1) (later front r.place) rs
 
--- where refusals are drawn
-abbrev pub refused_rows : List Row → List Event → List Refused → List RefusedRow
-refused_rows rows t refusals = refused_from rows t 0 0 refusals
+-- where asides are drawn
+abbrev pub aside_rows : List Row → List Event → List Aside → List AsideRow
+aside_rows rows t asides = asides_from rows t 0 0 asides

@@ -4,6 +4,8 @@ pub mod Marks
 pub mod Labels
 pub mod Spelling
 pub mod Refused
+pub mod Packets
+pub mod Asides
 pub mod Broken
 pub mod Picture
 pub mod Promises

@@ -2,7 +2,8 @@
 use Rattle.std.specs.Prelude.{ℕ, Bool, true, false, ◌+◌, ◌-◌, ◌*◌, ◌/◌, cond, nat_lt, Option, None, Some, List, [], ◌∷◌, ◌++◌, slice_get, option_map, option_and_then, option_to_list}
 use Rattle.trace_props.specs.declared.event.Event.{Event}
 use Rattle.trace_props.specs.declared.event.Event.TheVariants.{Started, Sent, Delivered, Blocked, Installed, Left, Crashed}
-use Rattle.trace_drawing.specs.declared.marks.TheConstants.{BLOCK, COLUMN, ROW, NAMES}
+use Rattle.trace_drawing.specs.declared.marks.TheConstants.{BLOCK, COLUMN, ROW, NAMES, MARGIN}
+use Rattle.trace_drawing.specs.declared.aside.AsideRow.{AsideRow}
 use Rattle.trace_drawing.specs.declared.row.Row.{Row}
 use Rattle.trace_drawing.specs.declared.row.Line.{Line}
 use Rattle.trace_drawing.specs.declared.marks.Place.{Place}
@@ -26,6 +27,15 @@ names_y level = (ROW * BLOCK + NAMES) * (level / BLOCK) + 34
 -- where an event of a column is marked
 abbrev pub place_of : ℕ → ℕ → Place
 place_of level column = record { x = x_of column; y = y_of level }
+
+-- the middle of a column; the margin, where nothing happened at a node before
+abbrev pub x_in : Option ℕ → ℕ
+x_in None = MARGIN
+x_in (Some column) = x_of column
+
+-- where an aside is marked
+abbrev pub aside_place : AsideRow → Place
+aside_place r = record { x = x_in r.column; y = y_of r.level }
 
 -- MARKS OF AN EVENT
 

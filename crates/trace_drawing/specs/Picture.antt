@@ -13,13 +13,13 @@ use Rattle.trace_drawing.specs.declared.marks.TheConstants.{BLOCK}
 use Rattle.trace_drawing.specs.declared.picture.TheConstants.{COLOURS, STYLE}
 use Rattle.trace_drawing.specs.declared.row.Row.{Row}
 use Rattle.trace_drawing.specs.declared.row.Line.{Line}
-use Rattle.trace_drawing.specs.declared.refused.Refused.{Refused}
-use Rattle.trace_drawing.specs.declared.refused.RefusedRow.{RefusedRow}
+use Rattle.trace_drawing.specs.declared.aside.Aside.{Aside}
+use Rattle.trace_drawing.specs.declared.aside.AsideRow.{AsideRow}
 use Rattle.trace_drawing.specs.declared.marks.Place.{Place}
-use Rattle.trace_drawing.specs.Layout.{level_of, rows_of, member_lines, refused_rows}
+use Rattle.trace_drawing.specs.Layout.{level_of, rows_of, member_lines, aside_rows}
 use Rattle.trace_drawing.specs.Marks.{x_of, y_of, names_y, place_of, is_delivery, origin_row, marks_of, line_mark, last_stretch}
 use Rattle.trace_drawing.specs.Labels.{label}
-use Rattle.trace_drawing.specs.Refused.{refused_text}
+use Rattle.trace_drawing.specs.Asides.{asides_text}
 use Rattle.trace_drawing.specs.Broken.{broken_text, room_for}
 use Rattle.trace_drawing.specs.Spelling.{path, text_at, mark_text, number_behind, group_end}
 
@@ -126,13 +126,13 @@ head_text width height = svg_start width height ++ STYLE.now ++ paper
 abbrev pub svg_end : List ℕ
 svg_end = codes "</svg>" ++ 10 ∷ []
 
--- the picture of rows and lines, of their events, of what was refused between them, and of a broken rule
-abbrev pub picture_with : List Row → List Line → List RefusedRow → List Event → Verdict → List ℕ
-picture_with rows lines refused events verdict =
-    head_text (x_of (length lines) + room_for verdict) (y_of (length rows + length refused) + 20) ++ flat_map (line_group (y_of (length rows + length refused))) lines
-    ++ event_groups rows 0 rows events ++ refused_text refused ++ broken_text rows events verdict ++ svg_end
+-- the picture of rows and lines, of their events, of the asides between them with their packets, and of a broken rule
+abbrev pub picture_with : List Row → List Line → List AsideRow → List Event → List (List ℕ) → Verdict → List ℕ
+picture_with rows lines beside events packets verdict =
+    head_text (x_of (length lines) + room_for verdict) (y_of (length rows + length beside) + 20) ++ flat_map (line_group (y_of (length rows + length beside))) lines
+    ++ event_groups rows 0 rows events ++ asides_text beside packets ++ broken_text rows events verdict ++ svg_end
 
--- the picture of a trace, with what was refused between its events, and the mark of a broken rule where the verdict has one
-abbrev pub picture_of : List Event → List Refused → Verdict → List ℕ
-picture_of t refusals verdict =
-    picture_with (rows_of (level_of refusals) t) (member_lines (level_of refusals) t) (refused_rows (rows_of (level_of refusals) t) t refusals) t verdict
+-- the picture of a trace, with the asides between its events and the packets of which they speak, and the mark of a broken rule where the verdict has one
+abbrev pub picture_of : List Event → List Aside → List (List ℕ) → Verdict → List ℕ
+picture_of t asides packets verdict =
+    picture_with (rows_of (level_of asides) t) (member_lines (level_of asides) t) (aside_rows (rows_of (level_of asides) t) t asides) t packets verdict

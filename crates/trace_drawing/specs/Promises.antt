@@ -2,7 +2,7 @@
 use Rattle.std.specs.Prelude.{◌≡◌, ◌≤◌, ℕ, List, [], ◌∷◌, Bool, true, ◌&&◌, ◌||◌, not, nat_eq}
 use Rattle.trace_props.specs.declared.event.Event.{Event}
 use Rattle.trace_props.specs.declared.event.Event.TheVariants.{Started, Sent, Delivered, Blocked, Installed, Left, Crashed}
-use Rattle.trace_drawing.specs.declared.refused.Refused.{Refused}
+use Rattle.trace_drawing.specs.declared.aside.Aside.{Aside}
 use Rattle.trace_drawing.specs.Layout.{sends, installs}
 
 -- an event is reached from another: a delivery from a send of its message, an install from an install of its view
@@ -23,7 +23,7 @@ is_no_bracket b = not (nat_eq b 60 || nat_eq b 62)
 abbrev pub is_plain : ℕ → Bool
 is_plain b = is_no_bracket b && not (nat_eq b 38)
 
--- refusals stand in the order of their places, none of which is before a place
-abbrev pub AreInOrder : ℕ → List Refused → Type 0
+-- asides stand in the order of their places, none of which is before a place
+abbrev pub AreInOrder : ℕ → List Aside → Type 0
 AreInOrder front [] = Unit {0}
 AreInOrder front (r ∷ rs) = (front ≤ r.place) × AreInOrder r.place rs

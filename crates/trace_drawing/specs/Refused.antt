@@ -1,15 +1,12 @@
 -- The marks of what was refused: where it was, and the script's line.
-use Rattle.std.specs.Prelude.{ℕ, ◌+◌, Option, None, Some, List, [], ◌∷◌, ◌++◌, codes, flat_map}
+use Rattle.std.specs.Prelude.{ℕ, ◌+◌, ◌-◌, List, ◌++◌, codes}
 use Rattle.limits.specs.declared.refusal.Refusal.{Refusal}
 use Rattle.limits.specs.declared.refusal.Refusal.TheVariants.{NotConnected, Blocked, Busy, TooLong, AlreadyConnected, Closed, Memory, Exhausted, BadName}
 use Rattle.limits.specs.Refusals.{number_of}
 use Rattle.vsync_text.specs.Runs.{refusal_line}
-use Rattle.trace_drawing.specs.declared.refusals.TheConstants.{REFUSED_STYLE, MARGIN}
-use Rattle.trace_drawing.specs.declared.refused.RefusedRow.{RefusedRow}
-use Rattle.trace_drawing.specs.declared.marks.Place.{Place}
-use Rattle.trace_drawing.specs.declared.marks.Mark.TheVariants as marks
-use Rattle.trace_drawing.specs.Marks.{x_of, y_of}
-use Rattle.trace_drawing.specs.Spelling.{text_at, mark_text, group_end}
+use Rattle.trace_drawing.specs.declared.aside.AsideRow.{AsideRow}
+use Rattle.trace_drawing.specs.Marks.{x_in, y_of}
+use Rattle.trace_drawing.specs.Spelling.{number_behind}
 
 -- why it was refused
 abbrev pub reason_of : Refusal → List ℕ
@@ -23,28 +20,14 @@ reason_of Memory = codes "memory"
 reason_of Exhausted = codes "exhausted"
 reason_of BadName = codes "bad name"
 
--- the middle of a column; the margin, where nothing happened at the node before
-abbrev pub x_in : Option ℕ → ℕ
-x_in None = MARGIN
-x_in (Some column) = x_of column
+-- where the mark of a refusal stands: in the middle of its column
+abbrev pub refused_place : AsideRow → List ℕ
+refused_place row = number_behind (codes "<text class='e' x='") (x_in row.column - 5) ++ number_behind (codes "' y='") (y_of row.level + 4) ++ codes "'>"
 
--- where a refusal is marked
-abbrev pub refused_place : RefusedRow → Place
-refused_place r = record { x = x_in r.column; y = y_of r.level }
+-- its title, the line that `world` prints of it, and a crossed ring
+abbrev pub refused_title : ℕ → Refusal → List ℕ
+refused_title line r = codes "<title>" ++ refusal_line line (number_of r) ++ codes "</title>&#8856; "
 
--- how the group of a refusal begins: its title, the line that `world` prints of it
-abbrev pub refused_start : RefusedRow → List ℕ
-refused_start r = codes "<g><title>" ++ refusal_line r.line (number_of r.refusal) ++ codes "</title>"
-
--- why it was refused, beside its mark
-abbrev pub refused_reason : RefusedRow → List ℕ
-refused_reason r = text_at (codes "e") (x_in r.column + 11) (y_of r.level + 4) (reason_of r.refusal)
-
--- all that is drawn of a refusal
-abbrev pub refused_group : RefusedRow → List ℕ
-refused_group r = refused_start r ++ mark_text (marks.Refusal (refused_place r)) ++ refused_reason r ++ group_end
-
--- all that is drawn of refusals, where there are any
-abbrev pub refused_text : List RefusedRow → List ℕ
-refused_text [] = []
-refused_text (r ∷ rs) = REFUSED_STYLE.now ++ flat_map refused_group (r ∷ rs)
+-- all that is drawn of the refusal of a line's event: the ring, and why it was refused
+abbrev pub refused_group : AsideRow → ℕ → Refusal → List ℕ
+refused_group row line r = refused_place row ++ refused_title line r ++ reason_of r ++ codes "</text>\n"

@@ -3,7 +3,7 @@ use Rattle.std.specs.Prelude.{ℕ, ◌-◌, cond, List, [], ◌∷◌, ◌++◌,
 use Rattle.std.specs.Fmt.{decimal}
 use Rattle.trace_drawing.specs.declared.marks.Place.{Place}
 use Rattle.trace_drawing.specs.declared.marks.Mark.{Mark}
-use Rattle.trace_drawing.specs.declared.marks.Mark.TheVariants.{Lifeline, Hatch, Message, Band, Start, Send, Delivery, Block, View, Leave, Crash, Refusal, Broken}
+use Rattle.trace_drawing.specs.declared.marks.Mark.TheVariants.{Lifeline, Hatch, Message, Band, Start, Send, Delivery, Block, View, Leave, Crash, Packet, Lost, Way, Broken}
 
 -- a place of a path, behind a letter or more
 abbrev pub point : List ℕ → ℕ → ℕ → List ℕ
@@ -32,7 +32,9 @@ mark_text (Delivery at) = path (codes "d") at (codes "m-4 0a4 4 0 1 0 8 0a4 4 0 
 mark_text (Block at) = path (codes "k") at (codes "m-6-2h12m0 4h-12")
 mark_text (View at) = path (codes "p") at (codes "m-30-9h60a9 9 0 0 1 0 18h-60a9 9 0 0 1 0-18z")
 mark_text (Leave at) = path (codes "o") at (codes "m-6 0a6 6 0 1 0 12 0a6 6 0 1 0-12 0")
-mark_text (Refusal at) = path (codes "u") at (codes "m-5 0a5 5 0 1 0 10 0a5 5 0 1 0-10 0m2 0h6")
+mark_text (Packet at) = path (codes "y") at (codes "m-4-4h8v8h-8z")
+mark_text (Lost from to) = straight (codes "l") from to
+mark_text (Way from to) = straight (codes "a") from to
 mark_text (Broken at) = path (codes "f") at (codes "m-60-10h165v20h-165z")
 mark_text (Crash at) = path (codes "x") at (codes "m-7-7l14 14m0-14l-14 14")
 

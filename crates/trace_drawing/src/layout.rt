@@ -3,25 +3,25 @@ ghost use Rattle.std.specs.List.{cons_option};
 ghost use Rattle.std.specs.HashMap.{get};
 ghost use Rattle.address.specs.Ids.{same_address, same_view_id};
 ghost use Rattle.trace_props.specs.declared.event.Event.{Event};
-ghost use Rattle.trace_drawing.specs.Layout.{same_message, level_of, rows_of, member_lines, refused_rows};
+ghost use Rattle.trace_drawing.specs.Layout.{same_message, level_of, rows_of, member_lines, aside_rows};
 ghost use Rattle.trace_drawing.specs.Known.{Knows};
 
 use crate::known::Known;
-use crate::levels::{above, refused_rows};
-use crate::refused::{Refused, RefusedRow};
+use crate::levels::{above, aside_rows};
+use crate::aside::{Aside, AsideRow};
 use crate::row::{Line, Row};
 use std::alloc::{AllocError, Global};
 use trace_props::Event;
 
-/// The most events and refusals that a picture shows, 2^32 - 1.
+/// The most events and asides that a picture shows, 2^32 - 1.
 pub const ROWS: usize = 4_294_967_295;
 
-/// The layout of a trace: a row for each event, in order, a line for each member, by column, and a row for each refusal, in order.
+/// The layout of a trace: a row for each event, in order, a line for each member, by column, and a row for each aside, in order.
 #[derive(Drop)]
 pub struct Layout {
     pub rows: Vec<Row>,
     pub lines: Vec<Line>,
-    pub refused: Vec<RefusedRow>,
+    pub asides: Vec<AsideRow>,
 }
 
 // Adds a line, if there is one.
@@ -49,17 +49,17 @@ fn lines(alloc: Global, known: &Known) -> Result<Vec<Line>, AllocError>
 fn rows_and_lines(
     alloc: Global,
     events: &[Event],
-    refusals: &[Refused],
+    asides: &[Aside],
 ) -> Result<(Vec<Row>, Vec<Line>), AllocError>
-    requires small { length events.now + length refusals.now < 4294967296 }
-    ensures rows { IfOk result (λ both. both.0.items ≡ rows_of (level_of refusals.now) events.now) }
-    ensures lines { IfOk result (λ both. both.1.items ≡ member_lines (level_of refusals.now) events.now) }
+    requires small { length events.now + length asides.now < 4294967296 }
+    ensures rows { IfOk result (λ both. both.0.items ≡ rows_of (level_of asides.now) events.now) }
+    ensures lines { IfOk result (λ both. both.1.items ≡ member_lines (level_of asides.now) events.now) }
 {
     let mut known = Known::new(alloc);
     let mut rows: Vec<Row> = Vec::with_capacity(alloc, events.len())?;
     let mut passed = 0;
     for (index, event) in events.iter().enumerate() {
-        passed = above(refusals, passed, index);
+        passed = above(asides, passed, index);
         let row = known.row(event, (index + passed) as u32)?;
         known.note(event, index as u32, row.column, row.level)?;
         rows.push(row)?;
@@ -68,20 +68,20 @@ fn rows_and_lines(
     Ok((rows, lines))
 }
 
-/// The layout of a trace, and of what was refused between its events. Refused where memory is, or where there are more than `ROWS` of both.
-pub fn lay_out(alloc: Global, events: &[Event], refusals: &[Refused]) -> Result<Layout, AllocError>
-    ensures rows { IfOk result (λ layout. layout.rows.items ≡ rows_of (level_of refusals.now) events.now) }
-    ensures lines { IfOk result (λ layout. layout.lines.items ≡ member_lines (level_of refusals.now) events.now) }
-    ensures refused { IfOk result (λ layout. layout.refused.items ≡ refused_rows (rows_of (level_of refusals.now) events.now) events.now refusals.now) }
+/// The layout of a trace, and of the asides between its events. Refused where memory is, or where there are more than `ROWS` of both.
+pub fn lay_out(alloc: Global, events: &[Event], asides: &[Aside]) -> Result<Layout, AllocError>
+    ensures rows { IfOk result (λ layout. layout.rows.items ≡ rows_of (level_of asides.now) events.now) }
+    ensures lines { IfOk result (λ layout. layout.lines.items ≡ member_lines (level_of asides.now) events.now) }
+    ensures asides { IfOk result (λ layout. layout.asides.items ≡ aside_rows (rows_of (level_of asides.now) events.now) events.now asides.now) }
 {
-    if events.len() > ROWS || refusals.len() > ROWS - events.len() {
+    if events.len() > ROWS || asides.len() > ROWS - events.len() {
         return Err(AllocError);
     }
-    let (rows, lines) = rows_and_lines(alloc, events, refusals)?;
-    let refused = refused_rows(alloc, rows.as_slice(), events, refusals)?;
+    let (rows, lines) = rows_and_lines(alloc, events, asides)?;
+    let beside = aside_rows(alloc, rows.as_slice(), events, asides)?;
     Ok(Layout {
         rows,
         lines,
-        refused,
+        asides: beside,
     })
 }

@@ -1,35 +1,35 @@
-//! Where refusals stand between events.
+//! Where asides stand between events.
 
 ghost use Rattle.std.specs.Prelude.{◌≡◌, ◌≤◌, ◌<◌, ◌+◌, ◌++◌, ◌∷◌, [], List, length, nat_eq, take, IfOk, OnOk};
 ghost use Rattle.std.specs.Option.{option_copied};
 ghost use Rattle.std.specs.HashMap.{get};
 ghost use Rattle.trace_props.specs.declared.event.Event.{Event};
-ghost use Rattle.trace_drawing.specs.Layout.{above, later, column_in, refused_row, refused_rows};
+ghost use Rattle.trace_drawing.specs.Layout.{above, later, column_in, aside_row, aside_rows};
 ghost use Rattle.trace_drawing.specs.Known.{KnowsNodes};
 
 use crate::known::{member, put_row};
-use crate::refused::{Refused, RefusedRow};
+use crate::aside::{Aside, AsideRow};
 use crate::row::Row;
 use address::Node;
 use std::alloc::{AllocError, Global};
 use std::collections::HashMap;
 use trace_props::Event;
 
-/// How many refusals stand above an event, where so many do at least.
-pub fn above(refusals: &[Refused], known: usize, number: usize) -> usize
-    requires known { known ≤ above refusals.now number }
-    ensures is { result ≡ above refusals.now number }
-    ensures within { result ≤ length refusals.now }
+/// How many asides stand above an event, where so many do at least.
+pub fn above(asides: &[Aside], known: usize, number: usize) -> usize
+    requires known { known ≤ above asides.now number }
+    ensures is { result ≡ above asides.now number }
+    ensures within { result ≤ length asides.now }
 {
-    for count in known..refusals.len() {
-        if number < refusals[count].place {
+    for count in known..asides.len() {
+        if number < asides[count].place {
             return count;
         }
     }
-    refusals.len()
+    asides.len()
 }
 
-// The place up to which events stand before a refusal.
+// The place up to which events stand before an aside.
 fn later(front: usize, place: usize) -> usize
     ensures { result ≡ later front place }
 {
@@ -74,7 +74,7 @@ fn column_in(rows: &[Row], event: Option<&u32>) -> Option<u32>
     }
 }
 
-// The level of a refusal behind others, and behind events.
+// The level of an aside behind others, and behind events.
 fn level(count: usize, front: usize) -> Result<u32, AllocError>
     ensures { IfOk result (λ level. level ≡ count + front) }
 {
@@ -87,44 +87,45 @@ fn level(count: usize, front: usize) -> Result<u32, AllocError>
     }
 }
 
-// Where a refusal is drawn.
-fn refused_row(
+// Where an aside is drawn.
+fn aside_row(
     rows: &[Row],
     nodes: &HashMap<Node, u32>,
     count: usize,
     front: usize,
-    refused: &Refused,
-) -> Result<RefusedRow, AllocError>
-    ensures { IfOk result (λ row. (t : List Event) → KnowsNodes (get nat_eq nodes.now) (take front t) → row ≡ refused_row rows.now t count front refused.now) }
+    aside: &Aside,
+) -> Result<AsideRow, AllocError>
+    ensures { IfOk result (λ row. (t : List Event) → KnowsNodes (get nat_eq nodes.now) (take front t) → row ≡ aside_row rows.now t count front aside.now) }
 {
     let level = level(count, front)?;
-    let column = column_in(rows, nodes.get(&refused.node));
-    Ok(RefusedRow {
+    let column = column_in(rows, nodes.get(&aside.node));
+    let towards = column_in(rows, nodes.get(&aside.towards));
+    Ok(AsideRow {
         column,
+        towards,
         level,
-        line: refused.line,
-        refusal: refused.refusal,
+        kind: aside.kind,
     })
 }
 
-/// Where refusals are drawn between events that have these rows.
-pub fn refused_rows(
+/// Where asides are drawn between events that have these rows.
+pub fn aside_rows(
     alloc: Global,
     rows: &[Row],
     events: &[Event],
-    refusals: &[Refused],
-) -> Result<Vec<RefusedRow>, AllocError>
+    asides: &[Aside],
+) -> Result<Vec<AsideRow>, AllocError>
     requires small { length events.now < 4294967296 }
-    ensures { IfOk result (λ refused. refused.items ≡ refused_rows rows.now events.now refusals.now) }
+    ensures { IfOk result (λ out. out.items ≡ aside_rows rows.now events.now asides.now) }
 {
     let mut nodes = HashMap::new(alloc);
-    let mut refused: Vec<RefusedRow> = Vec::with_capacity(alloc, refusals.len())?;
+    let mut out: Vec<AsideRow> = Vec::with_capacity(alloc, asides.len())?;
     let mut front = 0;
-    for (count, one) in refusals.iter().enumerate() {
+    for (count, one) in asides.iter().enumerate() {
         let next = later(front, one.place);
         note_nodes(&mut nodes, events, front, next)?;
-        refused.push(refused_row(rows, &nodes, count, next, one)?)?;
+        out.push(aside_row(rows, &nodes, count, next, one)?)?;
         front = next;
     }
-    Ok(refused)
+    Ok(out)
 }

@@ -2,8 +2,9 @@
 
 ghost use Rattle.std.specs.Prelude.{◌≡◌, ◌+◌, ◌*◌, ◌/◌};
 ghost use Rattle.std.specs.Option.{option_copied};
-ghost use Rattle.trace_drawing.specs.Marks.{x_of, y_of, names_y, place_of, own_mark, blocked_stretch, edge_towards, is_delivery, reach, origin_row, link, line_mark, last_stretch};
+ghost use Rattle.trace_drawing.specs.Marks.{x_of, y_of, names_y, place_of, x_in, aside_place, own_mark, blocked_stretch, edge_towards, is_delivery, reach, origin_row, link, line_mark, last_stretch};
 
+use crate::aside::AsideRow;
 use crate::row::{Line, Row};
 use trace_props::Event;
 
@@ -19,6 +20,9 @@ pub const ROW: u64 = 22;
 /// How high a line of names is.
 pub const NAMES: u64 = 40;
 
+/// Where an aside stands at whose node nothing happened before, from the left.
+pub const MARGIN: u64 = 60;
+
 /// A place of the picture, in points from the left and from the top.
 #[derive(Clone, Copy, Debug, PartialEq, Eq)]
 pub struct Place {
@@ -26,7 +30,7 @@ pub struct Place {
     pub y: u64,
 }
 
-/// A mark. Lines and stretches have two ends; each other mark stands at a place, and is one event's own.
+/// A mark. Lines, stretches and ways have two ends; each other mark stands at a place, and is the own one of an event or of an aside.
 #[derive(Clone, Copy, Debug, PartialEq, Eq)]
 pub enum Mark {
     /// A member's line.
@@ -51,8 +55,12 @@ pub enum Mark {
     Leave(Place),
     /// A member crashed.
     Crash(Place),
-    /// A script's event was refused.
-    Refusal(Place),
+    /// A packet was put out.
+    Packet(Place),
+    /// The way of a packet that is lost.
+    Lost { from: Place, to: Place },
+    /// The way of a packet, from where it was put out to where it is handed over.
+    Way { from: Place, to: Place },
     /// A rule breaks.
     Broken(Place),
 }
@@ -85,6 +93,26 @@ pub fn place_of(level: u32, column: u32) -> Place
     Place {
         x: x_of(column),
         y: y_of(level),
+    }
+}
+
+/// The middle of a column, or the margin.
+pub fn x_in(column: Option<u32>) -> u64
+    ensures { result ≡ x_in column }
+{
+    match column {
+        None => MARGIN,
+        Some(column) => x_of(column),
+    }
+}
+
+/// Where an aside is marked.
+pub fn aside_place(row: &AsideRow) -> Place
+    ensures { result ≡ aside_place row.now }
+{
+    Place {
+        x: x_in(row.column),
+        y: y_of(row.level),
     }
 }
 

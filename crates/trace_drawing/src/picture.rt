@@ -12,13 +12,13 @@ use crate::marks::{
     Mark, blocked_stretch, is_delivery, last_stretch, line_mark, link, origin_row, own_mark,
     place_of, x_of, y_of,
 };
-use crate::refusals::put_refused;
-use crate::refused::Refused;
+use crate::aside::Aside;
+use crate::asides::put_asides;
 use crate::row::{Line, Row};
 use crate::spelling::{put_mark, put_number, put_some_mark};
 use crate::texts::{put_line_title, put_name_above, put_row_number, put_texts};
 use std::alloc::{AllocError, Global};
-use trace_props::{Event, Verdict};
+use trace_props::{Bytes, Event, Verdict};
 use vsync_text::{append_event, put};
 
 /// How many colours members have. With more members they come again.
@@ -203,26 +203,27 @@ fn counted(number: usize) -> Result<u32, AllocError>
     }
 }
 
-/// The picture of a trace as an SVG, with what was refused between its events, and with a mark where a rule breaks, if the verdict names one
-/// (docs/FORMATS.md, "Pictures"). Refused where memory is, or where there are more than `ROWS` events and refusals.
+/// The picture of a trace as an SVG, with the asides between its events and the packets of which they speak, and with a mark where a rule
+/// breaks, if the verdict names one (docs/FORMATS.md, "Pictures"). Packets are numbered from 1. Refused where memory is, or where there are more than `ROWS` events and asides.
 pub fn draw(
     alloc: Global,
     events: &[Event],
-    refusals: &[Refused],
+    asides: &[Aside],
+    packets: &[Bytes],
     verdict: Verdict,
 ) -> Result<Vec<u8>, AllocError>
-    ensures { IfOk result (λ picture. picture.items ≡ picture_of events.now refusals.now verdict) }
+    ensures { IfOk result (λ picture. picture.items ≡ picture_of events.now asides.now packets.now verdict) }
 {
-    let layout = lay_out(alloc, events, refusals)?;
+    let layout = lay_out(alloc, events, asides)?;
     let count = counted(layout.rows.len())?;
     let columns = counted(layout.lines.len())?;
-    let levels = counted(layout.rows.len() + layout.refused.len())?;
+    let levels = counted(layout.rows.len() + layout.asides.len())?;
     let bottom = y_of(levels);
     let mut out = Vec::new(alloc);
     put_head(&mut out, x_of(columns) + room_for(verdict), bottom + 20)?;
     put_lines(&mut out, bottom, layout.lines.as_slice())?;
     put_events(&mut out, layout.rows.as_slice(), events, count)?;
-    put_refused(&mut out, layout.refused.as_slice())?;
+    put_asides(alloc, &mut out, layout.asides.as_slice(), packets)?;
     put_broken(&mut out, layout.rows.as_slice(), events, verdict)?;
     put(&mut out, b"</svg>\n")?;
     Ok(out)

@@ -89,7 +89,9 @@ pub fn put_mark(out: &mut Vec<u8>, mark: Mark) -> Result<(), AllocError>
         ),
         Mark::Leave(at) => put_path(out, b"o", at, b"m-6 0a6 6 0 1 0 12 0a6 6 0 1 0-12 0"),
         Mark::Crash(at) => put_path(out, b"x", at, b"m-7-7l14 14m0-14l-14 14"),
-        Mark::Refusal(at) => put_path(out, b"u", at, b"m-5 0a5 5 0 1 0 10 0a5 5 0 1 0-10 0m2 0h6"),
+        Mark::Packet(at) => put_path(out, b"y", at, b"m-4-4h8v8h-8z"),
+        Mark::Lost { from, to } => put_straight(out, b"l", from, to),
+        Mark::Way { from, to } => put_straight(out, b"a", from, to),
         Mark::Broken(at) => put_path(out, b"f", at, b"m-60-10h165v20h-165z"),
     }
 }

@@ -62,7 +62,7 @@ fn answer_with<A: Application, I: Read, W: Write>(
         TextCommand::Chat(_) => run_states::<A, I, W>(alloc, reader, writer),
         TextCommand::Packets(_) => run_packets::<A, I, W>(alloc, reader, writer),
         TextCommand::Check(_) => run_check::<A, I, W>(alloc, reader, writer),
-        TextCommand::Draw(_) => run_draw::<A, I, W>(alloc, reader, writer),
+        TextCommand::Draw(words) => run_draw::<A, I, W>(alloc, words.packets, reader, writer),
         TextCommand::DrawTrace(_) => run_draw_trace::<A, I, W>(alloc, reader, writer),
         TextCommand::Map(_) => run_states::<A, I, W>(alloc, reader, writer),
         TextCommand::Locks(_) => run_states::<A, I, W>(alloc, reader, writer),

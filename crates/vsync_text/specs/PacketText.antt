@@ -26,6 +26,15 @@ kind_name (bodies.Install install) = codes "INSTALL"
 kind_name (bodies.Merge view) = codes "MERGE"
 kind_name (bodies.State proposal chunk) = codes "STATE"
 
+-- the name of what a packet says; `-` where bytes spell no packet
+abbrev pub kind_of : Result Packet WireError → List ℕ
+kind_of (Ok p) = kind_name p.body
+kind_of (Err e) = dash
+
+-- the name of what the packet says that bytes spell
+abbrev pub kind_in : List ℕ → List ℕ
+kind_in bytes = kind_of (packet_of bytes)
+
 -- what a packet says, who sent it and to whom; `-` for each where bytes spell no packet
 abbrev pub packet_fields : Result Packet WireError → List ℕ
 packet_fields (Ok p) = field (kind_name p.body) ++ field (text_of_address p.source) ++ field (text_of_address p.destination)

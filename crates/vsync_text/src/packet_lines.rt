@@ -4,7 +4,7 @@ ghost use Rattle.std.specs.Prelude.{◌≡◌, ◌++◌, ◌∷◌, [], ℕ, Ok,
 ghost use Rattle.std.specs.List.{concat};
 ghost use Rattle.wire.specs.Packets.{packet_of};
 ghost use Rattle.vsync_text.specs.TraceText.{GoesOnFrom, field, hex_of};
-ghost use Rattle.vsync_text.specs.PacketText.{kind_name, packet_fields, packet_line, packet_lines};
+ghost use Rattle.vsync_text.specs.PacketText.{kind_name, kind_in, packet_fields, packet_line, packet_lines};
 
 use crate::{put, put_address, put_decimal, put_hex};
 use std::alloc::AllocError;
@@ -95,6 +95,18 @@ pub fn append_packet(out: &mut Vec<u8>, number: u64, bytes: &[u8]) -> Result<(),
         out.truncate(before);
     }
     result
+}
+
+/// Appends the name of what the packet says that bytes spell, behind a space; `-` where they spell none. Where memory is refused, a part may
+/// have been appended.
+pub fn append_kind(out: &mut Vec<u8>, bytes: &[u8]) -> Result<(), AllocError>
+    ensures { OnOk result (out.new.items ≡ out.old.items ++ field (kind_in bytes.now)) }
+{
+    put(out, b" ")?;
+    match decode(bytes) {
+        Ok(packet) => put(out, kind_name(&packet.body)),
+        Err(_) => put(out, b"-"),
+    }
 }
 
 /// Appends the lines of packets, numbered from 1.

@@ -14,7 +14,7 @@ use Rattle.clap.proofs.OnLiterals.{clap_on_literals}
 use Rattle.vsync_words.specs.declared.words.Invocation.{Invocation}
 use Rattle.vsync_words.specs.declared.words.Invocation.TheVariants.{Text as TextOf, Udp, Member}
 use Rattle.vsync_words.specs.declared.words.TextCommand.TheVariants.{World, Chat, Packets, Check, Draw, DrawTrace, Map, Locks}
-use Rattle.vsync_words.specs.Grammar.{IsFlag, IsSaid, is_path, program_app, with_long}
+use Rattle.vsync_words.specs.Grammar.{IsFlag, IsSaid, is_path, program_app, with_long, with_packets}
 use Rattle.vsync_words.specs.Words.{IsChatOn, IsCheckOn, IsDrawOn, IsDrawTraceOn, IsLocksOn, IsMapOn, IsOrNoMemory, IsPacketsOn, IsUdpOn, IsWorldOn}
 
 pub simple : is_simple_and_free program_app ≡ true
@@ -307,85 +307,98 @@ said_udp (Some said) config script (Udp w) e h = (
   same_path script w.script.now _ (ap (λ (o : Option (Text × Option Text × Option Text)). option_map_or (λ q. q.2) o None) e) h.1.script,
 )
 
--- `draw` with a path, and with the flag and a path
-abbrev words_of_draw : Text → Text → List Text
-words_of_draw name path = name ∷ codes "draw" ∷ path ∷ []
+-- `draw` with a path, and with a flag and a path
+abbrev words_of_draw : Bool → Text → Text → List Text
+words_of_draw packets name path = name ∷ codes "draw" ∷ with_packets packets path
 
 abbrev words_of_trace : Text → Text → List Text
 words_of_trace name path = name ∷ codes "draw" ∷ codes "--trace" ∷ path ∷ []
 
--- the subcommand, with the first value of its argument and what its flag is
-abbrev pub drawing_in : Option (Text × List Row) → Option (Text × Option Text × Option Text)
-drawing_in = option_map (λ said. (said.0, first_of (codes "INPUT") said.1, one_of (codes "trace") said.1))
+-- the subcommand, with the first value of its argument and what its flags are
+abbrev pub drawing_in : Option (Text × List Row) → Option (Text × Option Text × Option Text × Option Text)
+drawing_in = option_map (λ said. (said.0, first_of (codes "INPUT") said.1, one_of (codes "trace") said.1, one_of (codes "packets") said.1))
 
--- the words pass, and are `draw` with this path and this flag
-abbrev ReadsDrawing : Text → List Text → Text → Type 0
-ReadsDrawing path words flag = (fault_of program_app words ≡ []) × (drawing_in (subcommand_of program_app words) ≡ Some (codes "draw", Some path, Some flag))
+-- the words pass, and are `draw` with this path and these flags
+abbrev ReadsDrawing : Text → List Text → Text → Text → Type 0
+ReadsDrawing path words flag packets = (fault_of program_app words ≡ []) × (drawing_in (subcommand_of program_app words) ≡ Some (codes "draw", Some path, Some flag, Some packets))
 
-empty_draw : (name : Text) → ReadsDrawing [] (words_of_draw name []) (codes "false")
+empty_draw : (packets : Bool) (name : Text) → ReadsDrawing [] (words_of_draw packets name []) (codes "false") (flag_value packets)
 unfolding clap_on_literals
-empty_draw name = (refl, refl)
+empty_draw true name = (refl, refl)
+empty_draw false name = (refl, refl)
 
-dash_draw : (name : Text) → ReadsDrawing (45 ∷ []) (words_of_draw name (45 ∷ [])) (codes "false")
+dash_draw : (packets : Bool) (name : Text) → ReadsDrawing (45 ∷ []) (words_of_draw packets name (45 ∷ [])) (codes "false") (flag_value packets)
 unfolding clap_on_literals
-dash_draw name = (refl, refl)
+dash_draw true name = (refl, refl)
+dash_draw false name = (refl, refl)
 
-other_draw : (name : Text) (x : ℕ) (xs : Text) → (x == 45) ≡ false → ReadsDrawing (x ∷ xs) (words_of_draw name (x ∷ xs)) (codes "false")
+other_draw : (packets : Bool) (name : Text) (x : ℕ) (xs : Text) → (x == 45) ≡ false → ReadsDrawing (x ∷ xs) (words_of_draw packets name (x ∷ xs)) (codes "false") (flag_value packets)
 unfolding clap_on_literals
-other_draw name x xs e = (simp e refl, simp e refl)
+other_draw true name x xs e = (simp e refl, simp e refl)
+other_draw false name x xs e = (simp e refl, simp e refl)
 
-pub reads_draw : (name path : Text) → is_path path ≡ true → ReadsDrawing path (words_of_draw name path) (codes "false")
-reads_draw name = by_first (λ path. ReadsDrawing path (words_of_draw name path) (codes "false")) (empty_draw name) (dash_draw name) (other_draw name)
+pub reads_draw : (packets : Bool) (name path : Text) → is_path path ≡ true → ReadsDrawing path (words_of_draw packets name path) (codes "false") (flag_value packets)
+reads_draw packets name = by_first (λ path. ReadsDrawing path (words_of_draw packets name path) (codes "false") (flag_value packets)) (empty_draw packets name) (dash_draw packets name) (other_draw packets name)
 
-empty_trace : (name : Text) → ReadsDrawing [] (words_of_trace name []) (codes "true")
+empty_trace : (name : Text) → ReadsDrawing [] (words_of_trace name []) (codes "true") (codes "false")
 unfolding clap_on_literals
 empty_trace name = (refl, refl)
 
-dash_trace : (name : Text) → ReadsDrawing (45 ∷ []) (words_of_trace name (45 ∷ [])) (codes "true")
+dash_trace : (name : Text) → ReadsDrawing (45 ∷ []) (words_of_trace name (45 ∷ [])) (codes "true") (codes "false")
 unfolding clap_on_literals
 dash_trace name = (refl, refl)
 
-other_trace : (name : Text) (x : ℕ) (xs : Text) → (x == 45) ≡ false → ReadsDrawing (x ∷ xs) (words_of_trace name (x ∷ xs)) (codes "true")
+other_trace : (name : Text) (x : ℕ) (xs : Text) → (x == 45) ≡ false → ReadsDrawing (x ∷ xs) (words_of_trace name (x ∷ xs)) (codes "true") (codes "false")
 unfolding clap_on_literals
 other_trace name x xs e = (simp e refl, simp e refl)
 
-pub reads_trace : (name path : Text) → is_path path ≡ true → ReadsDrawing path (words_of_trace name path) (codes "true")
-reads_trace name = by_first (λ path. ReadsDrawing path (words_of_trace name path) (codes "true")) (empty_trace name) (dash_trace name) (other_trace name)
+pub reads_trace : (name path : Text) → is_path path ≡ true → ReadsDrawing path (words_of_trace name path) (codes "true") (codes "false")
+reads_trace name = by_first (λ path. ReadsDrawing path (words_of_trace name path) (codes "true") (codes "false")) (empty_trace name) (dash_trace name) (other_trace name)
 
-drawing_name : (said : Text × List Row) (path flag : Text) → drawing_in (Some said) ≡ Some (codes "draw", Some path, Some flag) → said.0 ≡ codes "draw"
-drawing_name said path flag e = ap (λ (o : Option (Text × Option Text × Option Text)). option_map_or (λ q. q.0) o []) e
+-- what is said of a drawing
+abbrev Drawing : Type 0
+Drawing = Text × Option Text × Option Text × Option Text
 
-drawing_path : (said : Text × List Row) (path flag : Text) → drawing_in (Some said) ≡ Some (codes "draw", Some path, Some flag) → first_of (codes "INPUT") said.1 ≡ Some path
-drawing_path said path flag e = ap (λ (o : Option (Text × Option Text × Option Text)). option_map_or (λ q. q.1) o None) e
+drawing_name : (said : Text × List Row) (path flag packets : Text) → drawing_in (Some said) ≡ Some (codes "draw", Some path, Some flag, Some packets) → said.0 ≡ codes "draw"
+drawing_name said path flag packets e = ap (λ (o : Option Drawing). option_map_or (λ q. q.0) o []) e
 
-drawing_flag : (said : Text × List Row) (path flag : Text) → drawing_in (Some said) ≡ Some (codes "draw", Some path, Some flag) → one_of (codes "trace") said.1 ≡ Some flag
-drawing_flag said path flag e = ap (λ (o : Option (Text × Option Text × Option Text)). option_map_or (λ q. q.2) o None) e
+drawing_path : (said : Text × List Row) (path flag packets : Text) → drawing_in (Some said) ≡ Some (codes "draw", Some path, Some flag, Some packets) → first_of (codes "INPUT") said.1 ≡ Some path
+drawing_path said path flag packets e = ap (λ (o : Option Drawing). option_map_or (λ q. q.1) o None) e
 
-said_draw : (o : Option (Text × List Row)) (path : Text) (i : Invocation) → drawing_in o ≡ Some (codes "draw", Some path, Some (codes "false")) → IsSomeAnd o (λ said. IsSaid said i) → IsDrawOn path i
-said_draw None path i e h = absurd h
-said_draw (Some said) path (TextOf (World p)) e h = absurd (other_name said (codes "draw") (codes "world") (drawing_name said path (codes "false") e) h.0 refl)
-said_draw (Some said) path (TextOf (Chat p)) e h = absurd (other_name said (codes "draw") (codes "chat") (drawing_name said path (codes "false") e) h.0 refl)
-said_draw (Some said) path (TextOf (Packets p)) e h = absurd (other_name said (codes "draw") (codes "packets") (drawing_name said path (codes "false") e) h.0 refl)
-said_draw (Some said) path (TextOf (Check p)) e h = absurd (other_name said (codes "draw") (codes "check") (drawing_name said path (codes "false") e) h.0 refl)
-said_draw (Some said) path (TextOf (Draw p)) e h = same_path path p.now _ (drawing_path said path (codes "false") e) h.1.0
-said_draw (Some said) path (TextOf (DrawTrace p)) e h = absurd (h.1.1.0 (drawing_flag said path (codes "false") e))
-said_draw (Some said) path (TextOf (Map p)) e h = absurd (other_name said (codes "draw") (codes "map") (drawing_name said path (codes "false") e) h.0 refl)
-said_draw (Some said) path (TextOf (Locks p)) e h = absurd (other_name said (codes "draw") (codes "locks") (drawing_name said path (codes "false") e) h.0 refl)
-said_draw (Some said) path (Udp w) e h = absurd (other_name said (codes "draw") (codes "udp") (drawing_name said path (codes "false") e) h.0 refl)
-said_draw (Some said) path (Member w) e h = absurd (other_name said (codes "draw") (codes "member") (drawing_name said path (codes "false") e) h.0 refl)
+drawing_flag : (said : Text × List Row) (path flag packets : Text) → drawing_in (Some said) ≡ Some (codes "draw", Some path, Some flag, Some packets) → one_of (codes "trace") said.1 ≡ Some flag
+drawing_flag said path flag packets e = ap (λ (o : Option Drawing). option_map_or (λ q. q.2) o None) e
 
-said_trace : (o : Option (Text × List Row)) (path : Text) (i : Invocation) → drawing_in o ≡ Some (codes "draw", Some path, Some (codes "true")) → IsSomeAnd o (λ said. IsSaid said i) → IsDrawTraceOn path i
+drawing_packets : (said : Text × List Row) (path flag packets : Text) → drawing_in (Some said) ≡ Some (codes "draw", Some path, Some flag, Some packets) → one_of (codes "packets") said.1 ≡ Some packets
+drawing_packets said path flag packets e = ap (λ (o : Option Drawing). option_map_or (λ q. q.3) o None) e
+
+said_draw : (o : Option (Text × List Row)) (packets : Bool) (path : Text) (i : Invocation) → drawing_in o ≡ Some (codes "draw", Some path, Some (codes "false"), Some (flag_value packets)) → IsSomeAnd o (λ said. IsSaid said i) → IsDrawOn packets path i
+said_draw None packets path i e h = absurd h
+said_draw (Some said) packets path (TextOf (World p)) e h = absurd (other_name said (codes "draw") (codes "world") (drawing_name said path (codes "false") (flag_value packets) e) h.0 refl)
+said_draw (Some said) packets path (TextOf (Chat p)) e h = absurd (other_name said (codes "draw") (codes "chat") (drawing_name said path (codes "false") (flag_value packets) e) h.0 refl)
+said_draw (Some said) packets path (TextOf (Packets p)) e h = absurd (other_name said (codes "draw") (codes "packets") (drawing_name said path (codes "false") (flag_value packets) e) h.0 refl)
+said_draw (Some said) packets path (TextOf (Check p)) e h = absurd (other_name said (codes "draw") (codes "check") (drawing_name said path (codes "false") (flag_value packets) e) h.0 refl)
+said_draw (Some said) packets path (TextOf (Draw p)) e h = (
+  same_path path p.path.now _ (drawing_path said path (codes "false") (flag_value packets) e) h.1.0,
+  same_flag _ p.packets packets (drawing_packets said path (codes "false") (flag_value packets) e) h.1.2,
+)
+said_draw (Some said) packets path (TextOf (DrawTrace p)) e h = absurd (h.1.1.0 (drawing_flag said path (codes "false") (flag_value packets) e))
+said_draw (Some said) packets path (TextOf (Map p)) e h = absurd (other_name said (codes "draw") (codes "map") (drawing_name said path (codes "false") (flag_value packets) e) h.0 refl)
+said_draw (Some said) packets path (TextOf (Locks p)) e h = absurd (other_name said (codes "draw") (codes "locks") (drawing_name said path (codes "false") (flag_value packets) e) h.0 refl)
+said_draw (Some said) packets path (Udp w) e h = absurd (other_name said (codes "draw") (codes "udp") (drawing_name said path (codes "false") (flag_value packets) e) h.0 refl)
+said_draw (Some said) packets path (Member w) e h = absurd (other_name said (codes "draw") (codes "member") (drawing_name said path (codes "false") (flag_value packets) e) h.0 refl)
+
+said_trace : (o : Option (Text × List Row)) (path : Text) (i : Invocation) → drawing_in o ≡ Some (codes "draw", Some path, Some (codes "true"), Some (codes "false")) → IsSomeAnd o (λ said. IsSaid said i) → IsDrawTraceOn path i
 said_trace None path i e h = absurd h
-said_trace (Some said) path (TextOf (World p)) e h = absurd (other_name said (codes "draw") (codes "world") (drawing_name said path (codes "true") e) h.0 refl)
-said_trace (Some said) path (TextOf (Chat p)) e h = absurd (other_name said (codes "draw") (codes "chat") (drawing_name said path (codes "true") e) h.0 refl)
-said_trace (Some said) path (TextOf (Packets p)) e h = absurd (other_name said (codes "draw") (codes "packets") (drawing_name said path (codes "true") e) h.0 refl)
-said_trace (Some said) path (TextOf (Check p)) e h = absurd (other_name said (codes "draw") (codes "check") (drawing_name said path (codes "true") e) h.0 refl)
-said_trace (Some said) path (TextOf (Draw p)) e h = absurd (h.1.1 (drawing_flag said path (codes "true") e))
-said_trace (Some said) path (TextOf (DrawTrace p)) e h = same_path path p.now _ (drawing_path said path (codes "true") e) h.1.0
-said_trace (Some said) path (TextOf (Map p)) e h = absurd (other_name said (codes "draw") (codes "map") (drawing_name said path (codes "true") e) h.0 refl)
-said_trace (Some said) path (TextOf (Locks p)) e h = absurd (other_name said (codes "draw") (codes "locks") (drawing_name said path (codes "true") e) h.0 refl)
-said_trace (Some said) path (Udp w) e h = absurd (other_name said (codes "draw") (codes "udp") (drawing_name said path (codes "true") e) h.0 refl)
-said_trace (Some said) path (Member w) e h = absurd (other_name said (codes "draw") (codes "member") (drawing_name said path (codes "true") e) h.0 refl)
+said_trace (Some said) path (TextOf (World p)) e h = absurd (other_name said (codes "draw") (codes "world") (drawing_name said path (codes "true") (codes "false") e) h.0 refl)
+said_trace (Some said) path (TextOf (Chat p)) e h = absurd (other_name said (codes "draw") (codes "chat") (drawing_name said path (codes "true") (codes "false") e) h.0 refl)
+said_trace (Some said) path (TextOf (Packets p)) e h = absurd (other_name said (codes "draw") (codes "packets") (drawing_name said path (codes "true") (codes "false") e) h.0 refl)
+said_trace (Some said) path (TextOf (Check p)) e h = absurd (other_name said (codes "draw") (codes "check") (drawing_name said path (codes "true") (codes "false") e) h.0 refl)
+said_trace (Some said) path (TextOf (Draw p)) e h = absurd (h.1.1 (drawing_flag said path (codes "true") (codes "false") e))
+said_trace (Some said) path (TextOf (DrawTrace p)) e h = same_path path p.now _ (drawing_path said path (codes "true") (codes "false") e) h.1.0
+said_trace (Some said) path (TextOf (Map p)) e h = absurd (other_name said (codes "draw") (codes "map") (drawing_name said path (codes "true") (codes "false") e) h.0 refl)
+said_trace (Some said) path (TextOf (Locks p)) e h = absurd (other_name said (codes "draw") (codes "locks") (drawing_name said path (codes "true") (codes "false") e) h.0 refl)
+said_trace (Some said) path (Udp w) e h = absurd (other_name said (codes "draw") (codes "udp") (drawing_name said path (codes "true") (codes "false") e) h.0 refl)
+said_trace (Some said) path (Member w) e h = absurd (other_name said (codes "draw") (codes "member") (drawing_name said path (codes "true") (codes "false") e) h.0 refl)
 
 -- `map` or `locks` with a path
 abbrev words_of_script : Text → Text → Text → List Text
@@ -508,14 +521,14 @@ pub udp_or_no_memory : (r : Result Invocation Error) (o : Option (Text × List R
 udp_or_no_memory r o kinds config script none value is fails =
     is_or_no_memory (IsUdpOn config script) r kinds none (IfOk-weaker r _ _ (λ i said. said_udp o config script i value said) is) fails
 
-pub draw_or_no_memory : (r : Result Invocation Error) (o : Option (Text × List Row)) (kinds : Kinds) (path : Text) → kinds ≡ []
-    → drawing_in o ≡ Some (codes "draw", Some path, Some (codes "false")) → IfOk r (λ i. IsSomeAnd o (λ said. IsSaid said i)) → FailsBy kinds r
-    → IsOrNoMemory (IsDrawOn path) r
-draw_or_no_memory r o kinds path none value is fails =
-    is_or_no_memory (IsDrawOn path) r kinds none (IfOk-weaker r _ _ (λ i said. said_draw o path i value said) is) fails
+pub draw_or_no_memory : (r : Result Invocation Error) (o : Option (Text × List Row)) (kinds : Kinds) (packets : Bool) (path : Text) → kinds ≡ []
+    → drawing_in o ≡ Some (codes "draw", Some path, Some (codes "false"), Some (flag_value packets)) → IfOk r (λ i. IsSomeAnd o (λ said. IsSaid said i)) → FailsBy kinds r
+    → IsOrNoMemory (IsDrawOn packets path) r
+draw_or_no_memory r o kinds packets path none value is fails =
+    is_or_no_memory (IsDrawOn packets path) r kinds none (IfOk-weaker r _ _ (λ i said. said_draw o packets path i value said) is) fails
 
 pub trace_or_no_memory : (r : Result Invocation Error) (o : Option (Text × List Row)) (kinds : Kinds) (path : Text) → kinds ≡ []
-    → drawing_in o ≡ Some (codes "draw", Some path, Some (codes "true")) → IfOk r (λ i. IsSomeAnd o (λ said. IsSaid said i)) → FailsBy kinds r
+    → drawing_in o ≡ Some (codes "draw", Some path, Some (codes "true"), Some (codes "false")) → IfOk r (λ i. IsSomeAnd o (λ said. IsSaid said i)) → FailsBy kinds r
     → IsOrNoMemory (IsDrawTraceOn path) r
 trace_or_no_memory r o kinds path none value is fails =
     is_or_no_memory (IsDrawTraceOn path) r kinds none (IfOk-weaker r _ _ (λ i said. said_trace o path i value said) is) fails

@@ -63,9 +63,9 @@ abbrev pub program_of_subcommands : Text → App
 program_of_subcommands name =
     record { top = record (new_shape name) { subcommand_required = true }; subs = [] }
 
--- `draw [--trace] INPUT`
+-- `draw [--trace] [--packets] INPUT`
 abbrev pub draw_app : App
-draw_app = with_rule (with_rule (new_app (codes "draw")) (flag_rule (codes "trace"))) (required_rule (codes "INPUT"))
+draw_app = with_rule (with_rule (with_rule (new_app (codes "draw")) (flag_rule (codes "trace"))) (flag_rule (codes "packets"))) (required_rule (codes "INPUT"))
 
 -- a subcommand with one argument, the path of a script, which is required
 abbrev pub script_app : Text → App
@@ -113,7 +113,7 @@ options_app app = flags_app (hosts_app (files_app (times_app app)))
 abbrev pub member_app : App
 member_app = options_app member_talk_app
 
--- `vsync world [--long] SCRIPT`, `vsync chat [--long] SCRIPT`, `vsync packets [--long] SCRIPT`, `vsync check [--long] TRACE`, `vsync draw [--trace] INPUT`, `vsync map SCRIPT`, `vsync locks SCRIPT`, `vsync udp CONFIG SCRIPT` and `vsync member ..`
+-- `vsync world [--long] SCRIPT`, `vsync chat [--long] SCRIPT`, `vsync packets [--long] SCRIPT`, `vsync check [--long] TRACE`, `vsync draw [--trace] [--packets] INPUT`, `vsync map SCRIPT`, `vsync locks SCRIPT`, `vsync udp CONFIG SCRIPT` and `vsync member ..`
 abbrev pub program_app : App
 program_app = with_subcommand (with_subcommand (with_subcommand (with_subcommand (with_subcommand (with_subcommand (with_subcommand (with_subcommand (with_subcommand (program_of_subcommands (codes "vsync"))
     (path_app (codes "world") (codes "SCRIPT")).top)
@@ -177,7 +177,8 @@ pub record AreTextWords (argument : Text) (rows : List Row) (words : TextWords) 
   pub path : first_of argument rows ≡ Some words.path.now
   pub long : IsFlag (one_of (codes "long") rows) words.long
 
--- the words of `draw` in its matches: the path is the first value of its argument, and a trace is drawn exactly where the flag stands
+-- the words of `draw` in its matches: the path is the first value of its argument, a trace is drawn exactly where `--trace` stands, and packets are drawn exactly where
+-- `--packets` does
 abbrev pub IsDrawSaid : List Row → TextCommand → Type 0
 IsDrawSaid rows (World words) = ⊥
 IsDrawSaid rows (Chat words) = ⊥
@@ -185,7 +186,7 @@ IsDrawSaid rows (Packets words) = ⊥
 IsDrawSaid rows (Check words) = ⊥
 IsDrawSaid rows (Map path) = ⊥
 IsDrawSaid rows (Locks path) = ⊥
-IsDrawSaid rows (Draw path) = (first_of (codes "INPUT") rows ≡ Some path.now) × IsFlag (one_of (codes "trace") rows) false
+IsDrawSaid rows (Draw words) = (first_of (codes "INPUT") rows ≡ Some words.path.now) × IsFlag (one_of (codes "trace") rows) false × IsFlag (one_of (codes "packets") rows) words.packets
 IsDrawSaid rows (DrawTrace path) = (first_of (codes "INPUT") rows ≡ Some path.now) × IsFlag (one_of (codes "trace") rows) true
 
 -- a subcommand over a text that was said, with its matches, is this command: it has that name, and these words
@@ -194,7 +195,7 @@ IsTextSaid said (World words) = (said.0 ≡ codes "world") × AreTextWords (code
 IsTextSaid said (Chat words) = (said.0 ≡ codes "chat") × AreTextWords (codes "SCRIPT") said.1 words
 IsTextSaid said (Packets words) = (said.0 ≡ codes "packets") × AreTextWords (codes "SCRIPT") said.1 words
 IsTextSaid said (Check words) = (said.0 ≡ codes "check") × AreTextWords (codes "TRACE") said.1 words
-IsTextSaid said (Draw path) = (said.0 ≡ codes "draw") × IsDrawSaid said.1 (Draw path)
+IsTextSaid said (Draw words) = (said.0 ≡ codes "draw") × IsDrawSaid said.1 (Draw words)
 IsTextSaid said (DrawTrace path) = (said.0 ≡ codes "draw") × IsDrawSaid said.1 (DrawTrace path)
 IsTextSaid said (Map path) = (said.0 ≡ codes "map") × (first_of (codes "SCRIPT") said.1 ≡ Some path.now)
 IsTextSaid said (Locks path) = (said.0 ≡ codes "locks") × (first_of (codes "SCRIPT") said.1 ≡ Some path.now)
@@ -209,6 +210,11 @@ IsSaid said (Member words) = (said.0 ≡ codes "member") × AreMemberWords said.
 abbrev pub is_path : Text → Bool
 is_path [] = true
 is_path (first ∷ rest) = not (first == 45) || is_empty rest
+
+-- the words of a path, behind `--packets` or alone
+abbrev pub with_packets : Bool → Text → List Text
+with_packets true path = codes "--packets" ∷ path ∷ []
+with_packets false path = path ∷ []
 
 -- the words of a path, behind `--long` or alone
 abbrev pub with_long : Bool → Text → List Text

@@ -67,18 +67,18 @@ IsCheckOn long path (Text (Locks input)) = ⊥
 IsCheckOn long path (Udp words) = ⊥
 IsCheckOn long path (Member words) = ⊥
 
--- the script of this path is run, and a picture of it is drawn
-abbrev pub IsDrawOn : List ℕ → Invocation → Type 0
-IsDrawOn path (Text (World words)) = ⊥
-IsDrawOn path (Text (Chat words)) = ⊥
-IsDrawOn path (Text (Packets words)) = ⊥
-IsDrawOn path (Text (Check words)) = ⊥
-IsDrawOn path (Text (Draw input)) = input.now ≡ path
-IsDrawOn path (Text (DrawTrace input)) = ⊥
-IsDrawOn path (Text (Map input)) = ⊥
-IsDrawOn path (Text (Locks input)) = ⊥
-IsDrawOn path (Udp words) = ⊥
-IsDrawOn path (Member words) = ⊥
+-- the script of this path is run, and a picture of it is drawn, with its packets or without
+abbrev pub IsDrawOn : Bool → List ℕ → Invocation → Type 0
+IsDrawOn packets path (Text (World words)) = ⊥
+IsDrawOn packets path (Text (Chat words)) = ⊥
+IsDrawOn packets path (Text (Packets words)) = ⊥
+IsDrawOn packets path (Text (Check words)) = ⊥
+IsDrawOn packets path (Text (Draw words)) = (words.path.now ≡ path) × (words.packets ≡ packets)
+IsDrawOn packets path (Text (DrawTrace input)) = ⊥
+IsDrawOn packets path (Text (Map input)) = ⊥
+IsDrawOn packets path (Text (Locks input)) = ⊥
+IsDrawOn packets path (Udp words) = ⊥
+IsDrawOn packets path (Member words) = ⊥
 
 -- a picture of the trace of this path is drawn
 abbrev pub IsDrawTraceOn : List ℕ → Invocation → Type 0
@@ -135,7 +135,7 @@ input_of (World words) = words.path.now
 input_of (Chat words) = words.path.now
 input_of (Packets words) = words.path.now
 input_of (Check words) = words.path.now
-input_of (Draw path) = path.now
+input_of (Draw words) = words.path.now
 input_of (DrawTrace path) = path.now
 input_of (Map path) = path.now
 input_of (Locks path) = path.now
@@ -146,7 +146,7 @@ is_long (World words) = words.long
 is_long (Chat words) = words.long
 is_long (Packets words) = words.long
 is_long (Check words) = words.long
-is_long (Draw path) = false
+is_long (Draw words) = false
 is_long (DrawTrace path) = false
 is_long (Map path) = false
 is_long (Locks path) = false

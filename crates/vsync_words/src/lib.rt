@@ -8,4 +8,4 @@ mod words;
 pub use member_options::{MOST_MERGE, MOST_TICK, MemberOptions};
 pub use script_reader::MemberPlan;
 pub use udp_words::{MemberMistake, MemberWords, UdpWords};
-pub use words::{Invocation, Kept, TextCommand, TextWords, command};
+pub use words::{DrawWords, Invocation, Kept, TextCommand, TextWords, command};

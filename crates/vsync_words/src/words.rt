@@ -1,7 +1,7 @@
 ghost use Rattle.std.specs.Prelude.{◌≡◌, ◌≤◌, ◌<◌, ◌∷◌, [], Bool, true, Some, length, map, codes, string_bytes, IfOk, IfSome, IsOkAnd, IsSomeAnd};
 ghost use Rattle.clap.specs.Words.{app_of, fault_of, first_of, found_of, rows_of, subcommand_of, subcommand_rows_of, FailsBy, Text};
 ghost use Rattle.vsync_words.specs.Words.{input_of, is_long, kept_of, IsWorldOn, IsChatOn, IsPacketsOn, IsCheckOn, IsDrawOn, IsDrawTraceOn, IsMapOn, IsLocksOn, IsUdpOn, IsOrNoMemory, RunsStandardInput};
-ghost use Rattle.vsync_words.specs.Grammar.{is_path, with_long, draw_app, flag_rule, required_rule, program_app, program_of_subcommands, path_app, script_app, AddsCommand, AreTextWords, IsArg, IsCommand, IsDrawSaid, IsSaid, IsTextSaid};
+ghost use Rattle.vsync_words.specs.Grammar.{is_path, with_long, with_packets, draw_app, flag_rule, required_rule, program_app, program_of_subcommands, path_app, script_app, AddsCommand, AreTextWords, IsArg, IsCommand, IsDrawSaid, IsSaid, IsTextSaid};
 
 use crate::udp_words::{
     MemberWords, UdpWords, member_words, required, udp_words, with_member, with_udp,
@@ -18,6 +18,15 @@ pub struct TextWords<'a> {
     pub long: bool,
 }
 
+/// The words of `draw` for a script: a path, and perhaps `--packets`.
+#[derive(Clone, Copy, Debug)]
+pub struct DrawWords<'a> {
+    /// The path of the script; `-` is the standard input.
+    pub path: &'a str,
+    /// Whether `--packets` stands there: each packet is drawn as well.
+    pub packets: bool,
+}
+
 /// A command over one text, a script or a trace, which it reads at a path; `-` is the standard input.
 #[derive(Clone, Copy, Debug)]
 pub enum TextCommand<'a> {
@@ -29,8 +38,8 @@ pub enum TextCommand<'a> {
     Packets(TextWords<'a>),
     /// `check [--long] TRACE`: the trace is checked.
     Check(TextWords<'a>),
-    /// `draw SCRIPT`: the script is run, and a picture of it is drawn.
-    Draw(&'a str),
+    /// `draw [--packets] SCRIPT`: the script is run, and a picture of it is drawn.
+    Draw(DrawWords<'a>),
     /// `draw --trace TRACE`: a picture of the trace is drawn.
     DrawTrace(&'a str),
     /// `map SCRIPT`: the script is run, and the maps of the running members are printed.
@@ -62,7 +71,7 @@ impl<'a> TextCommand<'a> {
             TextCommand::Chat(words) => words.path,
             TextCommand::Packets(words) => words.path,
             TextCommand::Check(words) => words.path,
-            TextCommand::Draw(path) => path,
+            TextCommand::Draw(words) => words.path,
             TextCommand::DrawTrace(path) => path,
             TextCommand::Map(path) => path,
             TextCommand::Locks(path) => path,
@@ -106,8 +115,8 @@ impl<'a> TextCommand<'a> {
 /// What the words of a command line ask for.
 #[derive(Debug, Drop)]
 pub enum Invocation<'a> {
-    /// `world SCRIPT`, `chat SCRIPT`, `packets SCRIPT` or `check TRACE`, each perhaps with `--long`; `draw SCRIPT` or `draw --trace TRACE`; `map SCRIPT` or
-    /// `locks SCRIPT`.
+    /// `world SCRIPT`, `chat SCRIPT`, `packets SCRIPT` or `check TRACE`, each perhaps with `--long`; `draw SCRIPT`, perhaps with `--packets`, or `draw --trace TRACE`;
+    /// `map SCRIPT` or `locks SCRIPT`.
     Text(TextCommand<'a>),
     /// `udp CONFIG SCRIPT`: nodes run over datagrams in one process.
     Udp(UdpWords<'a>),
@@ -235,6 +244,16 @@ fn trace_flag<'a>(alloc: Global) -> Arg<'a>
         .help("The input is a trace, as `vsync world` prints it")
 }
 
+// The flag `--packets`.
+fn packets_flag<'a>(alloc: Global) -> Arg<'a>
+    ensures { IsArg (flag_rule (codes "packets")) result }
+{
+    Arg::new(alloc, "packets")
+        .long("packets")
+        .action(ArgAction::SetTrue)
+        .help("Each packet of the script's run is drawn as well; a trace has none")
+}
+
 // The argument of `draw`.
 fn draw_input<'a>(alloc: Global) -> Arg<'a>
     ensures { IsArg (required_rule (codes "INPUT")) result }
@@ -251,13 +270,14 @@ fn draw_command<'a>(alloc: Global) -> Result<clap::Command<'a>, AllocError>
     clap::Command::new(alloc, "draw")
         .about("Draws what happens in a script's run, or what a trace says, as an SVG")
         .after_help(
-            "Time goes down: a row for each event, a column for each member.\n\nExamples:\n  vsync draw examples/merge.script\n  vsync draw --trace examples/merge.trace",
+            "Time goes down: a row for each event, a column for each member.\n\nExamples:\n  vsync draw examples/merge.script\n  vsync draw --packets examples/lost.script\n  vsync draw --trace examples/merge.trace",
         )
         .arg(trace_flag(alloc))?
+        .arg(packets_flag(alloc))?
         .arg(draw_input(alloc))
 }
 
-/// The program with `draw [--trace] INPUT` as well.
+/// The program with `draw [--trace] [--packets] INPUT` as well.
 fn with_draw<'a>(alloc: Global, program: clap::Command<'a>) -> Result<clap::Command<'a>, AllocError>
     ensures { IfOk result (AddsCommand program.entry draw_app) }
 {
@@ -362,7 +382,8 @@ fn draw_words<'a>(matches: &ArgMatches<'a>) -> Option<TextCommand<'a>>
     if matches.get_flag("trace") {
         Some(TextCommand::DrawTrace(path))
     } else {
-        Some(TextCommand::Draw(path))
+        let packets = matches.get_flag("packets");
+        Some(TextCommand::Draw(DrawWords { path, packets }))
     }
 }
 
@@ -440,7 +461,7 @@ fn parsed<'a>(alloc: Global, words: &'a [String]) -> Result<Invocation<'a>, Erro
 }
 
 /// The command that the words of a command line ask for, the program's name first: `world [--long] SCRIPT`, `chat [--long] SCRIPT`,
-/// `packets [--long] SCRIPT`, `check [--long] TRACE`, `draw [--trace] INPUT`, `map SCRIPT`, `locks SCRIPT`, `udp CONFIG SCRIPT` or
+/// `packets [--long] SCRIPT`, `check [--long] TRACE`, `draw [--packets] SCRIPT`, `draw --trace TRACE`, `map SCRIPT`, `locks SCRIPT`, `udp CONFIG SCRIPT` or
 /// `member CONFIG NODE INCARNATION ROUNDS` with its options.
 /// No words after the name are `world -`. A path that begins with `-` and is more than that stands behind `--`.
 ///
@@ -465,9 +486,9 @@ pub fn command<'a>(alloc: Global, words: &'a [String]) -> Result<Invocation<'a>,
     ensures check { (long : Bool) (name path : Text) → is_path path ≡ true
         → map string_bytes words.now ≡ name ∷ codes "check" ∷ with_long long path
         → IsOrNoMemory (IsCheckOn long path) result }
-    ensures draw { (name path : Text) → is_path path ≡ true
-        → map string_bytes words.now ≡ name ∷ codes "draw" ∷ path ∷ []
-        → IsOrNoMemory (IsDrawOn path) result }
+    ensures draw { (packets : Bool) (name path : Text) → is_path path ≡ true
+        → map string_bytes words.now ≡ name ∷ codes "draw" ∷ with_packets packets path
+        → IsOrNoMemory (IsDrawOn packets path) result }
     ensures draw_trace { (name path : Text) → is_path path ≡ true
         → map string_bytes words.now ≡ name ∷ codes "draw" ∷ codes "--trace" ∷ path ∷ []
         → IsOrNoMemory (IsDrawTraceOn path) result }

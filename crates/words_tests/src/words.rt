@@ -18,7 +18,13 @@ fn name_of(command: TextCommand<'_>) -> &'static str {
         TextCommand::Chat(_) => "chat",
         TextCommand::Packets(_) => "packets",
         TextCommand::Check(_) => "check",
-        TextCommand::Draw(_) => "draw",
+        TextCommand::Draw(words) => {
+            if words.packets {
+                "draw --packets"
+            } else {
+                "draw"
+            }
+        }
         TextCommand::DrawTrace(_) => "draw --trace",
         TextCommand::Map(_) => "map",
         TextCommand::Locks(_) => "locks",
@@ -117,6 +123,11 @@ fn each_subcommand_takes_a_path(rt: HostRuntime) {
     assert!(rt;
         asked(alloc, &["vsync", "locks", "a.script"], "a.script") == Some("locks"),
         "locks"
+    );
+    assert!(rt;
+        asked(alloc, &["vsync", "draw", "--packets", "a.script"], "a.script")
+            == Some("draw --packets"),
+        "draw --packets"
     );
 }
 

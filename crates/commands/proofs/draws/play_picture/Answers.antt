@@ -1,25 +1,21 @@
-use Rattle.std.proofs.Common.{◌∙◌, refl}
+use Rattle.std.proofs.Common.{◌≡◌, ◌∙◌, refl, sym, ap, subst, List, ℕ}
 use Rattle.trace_props.specs.declared.verdict.Verdict.TheVariants.{Holds}
+use Rattle.world_model.specs.declared.WorldEvent.{WorldEvent}
+use Rattle.trace_drawing.specs.declared.aside.Aside.{Aside}
 use Rattle.world_step.specs.Worlds.{shown}
-use Rattle.commands.specs.Refusals.{refusals_of}
+use Rattle.commands.specs.Asides.{HasAsides}
 use Rattle.commands.specs.Draws.{TellsRun}
-use Rattle.commands.proofs.FactOfRuns.{ran-all}
+use Rattle.commands.proofs.FactOfAsides.{ran-beside}
 use Rattle.commands.proofs.FactOfDrawings.{drawn-as, unread-as}
 use Rattle.commands.proofs.draws.play_picture.Goals as goal
 
 pub returns-in-Ok : goal.returns-in-Ok
 returns-in-Ok g c =
-    drawn-as (TellsRun g.R.Receiver.meaning c.args.script.now) (λ line fault. ⊥) (shown c.run.new.self).history.trace
-    (refusals_of c.args.script.now.lines c.args.script.now.events (shown c.run.new.self).history.replies) Holds _ _ _
-    (record {
-      world = shown c.run.new.self;
-      ran = ran-all g.R.Receiver.meaning c.events.result.now c.args.script.now.events (shown c.new-world.result) (shown c.run.new.self) c.events.ensures c.new-world.ensures
-          (record { faithful = c.run.ensures.faithful; ordered = c.run.ensures.ordered; synchronous = c.run.ensures.synchronous; agreeing = c.run.ensures.agreeing }) c.in-Ok.ensures.all;
-      is = refl;
-      refused = refl;
-      holds = refl;
-    })
+    drawn-as (TellsRun g.R.Receiver.meaning c.args.packets c.args.script.now) (λ line fault. ⊥) (shown c.play_events.new.world).history.trace c.as_slice.result.now (shown c.play_events.new.world).history.pool Holds _ _ _
+    (ran-beside g.R.Receiver.meaning c.args.packets c.args.script.now c.lines.result.now c.events.result.now (shown c.play_events.new.world) c.play_events.new.asides.items c.as_slice.result.now
+        c.lines.ensures c.events.ensures c.as_slice.ensures.value
+        (record { faithful = c.in-Ok.ensures.faithful; ordered = c.in-Ok.ensures.ordered; synchronous = c.in-Ok.ensures.synchronous; agreeing = c.in-Ok.ensures.agreeing }) c.in-Ok.ensures.asides)
     c.print_world.ensures
 
 pub returns : goal.returns
-returns g c = unread-as (TellsRun g.R.Receiver.meaning c.args.script.now) (λ line fault. ⊥) _ _ _ c.end_undrawn.ensures
+returns g c = unread-as (TellsRun g.R.Receiver.meaning c.args.packets c.args.script.now) (λ line fault. ⊥) _ _ _ c.end_undrawn.ensures

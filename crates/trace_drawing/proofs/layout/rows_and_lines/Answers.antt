@@ -7,21 +7,21 @@ use Rattle.trace_drawing.proofs.FactOfRows.{rows-next, known-next, row-column, r
 use Rattle.trace_drawing.proofs.FactOfLevels.{level-here, above-next}
 use Rattle.trace_drawing.proofs.layout.rows_and_lines.Goals as goal
 
--- nothing is laid out, and no refusal is passed
+-- nothing is laid out, and no aside is passed
 pub loop-index-init : goal.loop-index-init
-loop-index-init c = (c.in_ok-rows.ensures.items, c.new-known.ensures (level_of c.args.refusals.now), omega arith)
+loop-index-init c = (c.in_ok-rows.ensures.items, c.new-known.ensures (level_of c.args.asides.now), omega arith)
 
 -- one row more
 pub loop-index-preserved : goal.loop-index-preserved
 loop-index-preserved c =
-    let at = level_of c.args.refusals.now in
+    let at = level_of c.args.asides.now in
     let past = take c.loop-index.index c.args.events.now in
-    let here = level-here c.args.refusals.now c.args.events.now c.loop-index.index c.above-passed.result c.loop-index-test.true c.above-passed.ensures.is in
+    let here = level-here c.args.asides.now c.args.events.now c.loop-index.index c.above-passed.result c.loop-index-test.true c.above-passed.ensures.is in
     let is = c.in_ok-row.ensures at past here c.loop-index.invariant.1 in (
       rows-next at c.args.events.now c.loop-index.index c.index-events-index.result c.loop-index.rows.items c.push.new.self.items c.in_ok-row.row c.index-events-index.is c.loop-index-test.true c.loop-index.invariant.0 is c.in_ok-push.ensures.items,
       known-next c.args.events.now c.loop-index.index c.index-events-index.result
           (λ t. Knows at c.note.new.self.members.items (get same_address c.note.new.self.lifelines) (get same_message c.note.new.self.sends) (get same_view_id c.note.new.self.installs) t)
           c.index-events-index.is c.loop-index-test.true
           (λ number. c.in_ok-note.ensures at past number (row-column at c.in_ok-row.row past c.index-events-index.result is) (row-level at c.in_ok-row.row past c.index-events-index.result is) c.loop-index.invariant.1),
-      above-next c.args.refusals.now c.loop-index.index c.above-passed.result c.above-passed.ensures.is,
+      above-next c.args.asides.now c.loop-index.index c.above-passed.result c.above-passed.ensures.is,
     )

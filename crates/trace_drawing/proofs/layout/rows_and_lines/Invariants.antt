@@ -5,9 +5,9 @@ use Rattle.trace_drawing.specs.Layout.{same_message, above, level_of, rows_of}
 use Rattle.trace_drawing.specs.Known.{Knows}
 use Rattle.trace_drawing.proofs.layout.rows_and_lines.Given as goal
 
--- so far the rows are those of the events, what is kept is of them, and no more refusals are passed than stand above the next event
+-- so far the rows are those of the events, what is kept is of them, and no more asides are passed than stand above the next event
 abbrev pub invariant-loop-index : goal.invariant-loop-index
 invariant-loop-index l =
-    (l.rows.items ≡ rows_of (level_of l.refusals) (take l.index l.events))
-    × Knows (level_of l.refusals) l.known.members.items (get same_address l.known.lifelines) (get same_message l.known.sends) (get same_view_id l.known.installs) (take l.index l.events)
-    × l.passed ≤ above l.refusals l.index
+    (l.rows.items ≡ rows_of (level_of l.asides) (take l.index l.events))
+    × Knows (level_of l.asides) l.known.members.items (get same_address l.known.lifelines) (get same_message l.known.sends) (get same_view_id l.known.installs) (take l.index l.events)
+    × l.passed ≤ above l.asides l.index

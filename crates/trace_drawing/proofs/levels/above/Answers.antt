@@ -4,24 +4,24 @@ use Rattle.trace_drawing.proofs.FactOfLevels.{above-within, above-stops, above-g
 use Rattle.trace_drawing.proofs.levels.above.Goals as goal
 
 -- the next one has a later place
-pub returns-then-number-refusals-clause-is : goal.returns-then-number-refusals-clause-is
-returns-then-number-refusals-clause-is c =
-    let so_far : c.loop-count.count ≤ above c.args.refusals.now c.args.number = c.loop-count.invariant in
+pub returns-then-number-asides-clause-is : goal.returns-then-number-asides-clause-is
+returns-then-number-asides-clause-is c =
+    let so_far : c.loop-count.count ≤ above c.args.asides.now c.args.number = c.loop-count.invariant in
     omega (
       arith,
       so_far,
-      above-stops c.args.refusals.now c.args.number c.loop-count.count c.index-refusals-count.result c.index-refusals-count.is c.loop-count-test.true
-          (omega (arith, c.if-number-refusals.true, ap (λ x. x.place) c.index-refusals-count.is)),
+      above-stops c.args.asides.now c.args.number c.loop-count.count c.index-asides-count.result c.index-asides-count.is c.loop-count-test.true
+          (omega (arith, c.if-number-asides.true, ap (λ x. x.place) c.index-asides-count.is)),
     )
 
 -- the next one has none
 pub loop-count-preserved : goal.loop-count-preserved
 loop-count-preserved c =
-    above-goes c.args.refusals.now c.args.number c.loop-count.count c.index-refusals-count.result c.index-refusals-count.is c.loop-count-test.true
-    (omega (arith, c.if-number-refusals.false, ap (λ x. x.place) c.index-refusals-count.is)) c.loop-count.invariant
+    above-goes c.args.asides.now c.args.number c.loop-count.count c.index-asides-count.result c.index-asides-count.is c.loop-count-test.true
+    (omega (arith, c.if-number-asides.false, ap (λ x. x.place) c.index-asides-count.is)) c.loop-count.invariant
 
 -- there is no other
 pub returns-clause-is : goal.returns-clause-is
 returns-clause-is c =
-    let so_far : c.loop-count.count ≤ above c.args.refusals.now c.args.number = c.loop-count.invariant in
-    omega (arith, so_far, c.loop-count-test.false, above-within c.args.refusals.now c.args.number)
+    let so_far : c.loop-count.count ≤ above c.args.asides.now c.args.number = c.loop-count.invariant in
+    omega (arith, so_far, c.loop-count-test.false, above-within c.args.asides.now c.args.number)

@@ -50,10 +50,10 @@ returns-clause-udp c = λ name config script one two words.
     c.parsed.ensures.said c.parsed.ensures.refused
 
 pub returns-clause-draw : goal.returns-clause-draw
-returns-clause-draw c = λ name path is words.
-    let reads = reads_draw name path is in
+returns-clause-draw c = λ packets name path is words.
+    let reads = reads_draw packets name path is in
     draw_or_no_memory c.parsed.result (subcommand_of program_app (map string_bytes c.args.words.now))
-    (fault_of program_app (map string_bytes c.args.words.now)) path
+    (fault_of program_app (map string_bytes c.args.words.now)) packets path
     (ap (fault_of program_app) words ∙ reads.0)
     (ap (λ (w : List Text). drawing_in (subcommand_of program_app w)) words ∙ reads.1)
     c.parsed.ensures.said c.parsed.ensures.refused

@@ -1,0 +1,10 @@
+use Rattle.std.proofs.Common.{subst, List}
+use Rattle.world_model.specs.declared.WorldEvent.{WorldEvent}
+use Rattle.world_step.specs.Worlds.{Runs, shown}
+use Rattle.commands.proofs.FactOfAsides.{one-ran}
+use Rattle.commands.proofs.asides.step.Goals as goal
+
+-- a run of one event
+pub returns-clause-step : goal.returns-clause-step
+returns-clause-step g c = one-ran g.R.Receiver.meaning _ _ c.args.event.now
+    (subst (λ (l : List WorldEvent). Runs g.R.Receiver.meaning (shown c.args.world.now) l (shown c.run.new.self)) c.from_ref.ensures.value c.in_ok-run.ensures.all)

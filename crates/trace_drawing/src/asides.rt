@@ -1,0 +1,87 @@
+//! The marks of what stands between events.
+
+ghost use Rattle.std.specs.Prelude.{◌≡◌, ◌++◌, flat_map, nat_eq, OnOk};
+ghost use Rattle.std.specs.HashMap.{get};
+ghost use Rattle.trace_drawing.specs.Packets.{KnowsWays};
+ghost use Rattle.trace_drawing.specs.Asides.{aside_group, asides_text};
+
+use crate::aside::{AsideKind, AsideRow};
+use crate::packets::{bytes_numbered, put_handed_group, put_packet_group};
+use crate::refusals::put_refused_group;
+use crate::ways::Ways;
+use std::alloc::{AllocError, Global};
+use trace_props::Bytes;
+use vsync_text::put;
+
+/// How the marks of refusals and of packets look, and their words: in print and on a light ground, and on a dark one.
+pub const ASIDE_STYLE: &[u8] = b"<style>\
+.e,.j{font-size:10px;fill:#999;paint-order:stroke;stroke:#fff;stroke-width:3px}\
+.j{fill:#7a6a4a}\
+.y{fill:#fff;stroke:#a08a5a}\
+.a{stroke:#a08a5a;stroke-width:.8;marker-end:url(#z)}\
+.l{stroke:#a08a5a;stroke-width:.8;stroke-dasharray:3 2;marker-end:url(#l)}\
+.z{fill:#a08a5a}\
+.c{stroke:#d01c1c;stroke-width:1.5}\
+@media screen and (prefers-color-scheme:dark){\
+.y{fill:#16181c}.e{fill:#777}.e,.j{stroke:#16181c}.j{fill:#b8a888}.y,.a,.l{stroke:#a89468}.z{fill:#a89468}.c{stroke:#ff7070}}\
+</style><defs><marker id='z' markerWidth='9' markerHeight='6' refX='9' refY='3' orient='auto' markerUnits='userSpaceOnUse'><path class='z' d='M0 0L9 3L0 6z'/></marker>\
+<marker id='l' markerWidth='8' markerHeight='8' refX='4' refY='4' orient='auto' markerUnits='userSpaceOnUse'><path class='c' d='M1 1L7 7M7 1L1 7'/></marker></defs>";
+
+// Appends all that is drawn of an aside.
+fn put_aside_group(
+    out: &mut Vec<u8>,
+    ways: &Ways,
+    rows: &[AsideRow],
+    packets: &[Bytes],
+    row: &AsideRow,
+) -> Result<(), AllocError>
+    ensures { OnOk result (KnowsWays (get nat_eq ways.now.sources) (get nat_eq ways.now.ends) rows.now → out.new.items ≡ out.old.items ++ aside_group rows.now packets.now row.now) }
+{
+    match row.kind {
+        AsideKind::Refused { line, refusal } => {
+            put_refused_group(out, row, line, refusal)?;
+            Ok(())
+        }
+        AsideKind::PutOut(number) => {
+            put_packet_group(out, ways, row, number, bytes_numbered(packets, number))?;
+            Ok(())
+        }
+        AsideKind::HandedOver(number) => {
+            put_handed_group(out, ways, rows, row, number)?;
+            Ok(())
+        }
+    }
+}
+
+// Appends all that is drawn of some asides.
+fn put_aside_groups(
+    out: &mut Vec<u8>,
+    ways: &Ways,
+    rows: &[AsideRow],
+    packets: &[Bytes],
+) -> Result<(), AllocError>
+    ensures { OnOk result (KnowsWays (get nat_eq ways.now.sources) (get nat_eq ways.now.ends) rows.now → out.new.items ≡ out.old.items ++ flat_map (aside_group rows.now packets.now) rows.now) }
+{
+    for row in rows {
+        put_aside_group(out, ways, rows, packets, row)?;
+    }
+    Ok(())
+}
+
+/// Appends all that is drawn of asides and of the packets of which they speak, where there are any.
+pub fn put_asides(
+    alloc: Global,
+    out: &mut Vec<u8>,
+    rows: &[AsideRow],
+    packets: &[Bytes],
+) -> Result<(), AllocError>
+    ensures { OnOk result (out.new.items ≡ out.old.items ++ asides_text rows.now packets.now) }
+{
+    if rows.is_empty() {
+        return Ok(());
+    }
+    let ways = Ways::new(alloc, rows)?;
+    put(out, ASIDE_STYLE)?;
+    put_aside_groups(out, &ways, rows, packets)?;
+    Ok(())
+}

@@ -1,0 +1,112 @@
+//! The marks of packets.
+
+ghost use Rattle.std.specs.Prelude.{◌≡◌, ◌++◌, List, nat_eq, flat_map, option_to_list, OnOk};
+ghost use Rattle.std.specs.HashMap.{get};
+ghost use Rattle.trace_drawing.specs.declared.aside.AsideRow.{AsideRow};
+ghost use Rattle.trace_drawing.specs.Spelling.{mark_text};
+ghost use Rattle.trace_drawing.specs.Packets.{bytes_numbered, packet_start, packet_name, packet_group, handed_start, handed_name, handed_group, KnowsWays};
+
+use crate::aside::AsideRow;
+use crate::marks::{Mark, Place, aside_place, x_in, y_of};
+use crate::spelling::{put_mark, put_number, put_some_mark, put_text_start};
+use crate::ways::Ways;
+use std::alloc::AllocError;
+use trace_props::Bytes;
+use vsync_text::{append_kind, append_packet, put, put_decimal};
+
+/// The bytes of the packet of a number, from 1; none where there is none.
+pub fn bytes_numbered(packets: &[Bytes], number: u64) -> &[u8]
+    ensures { result.now ≡ bytes_numbered number packets.now }
+{
+    if number == 0 {
+        return b"";
+    }
+    match usize::try_from(number - 1) {
+        Err(_) => b"",
+        Ok(index) => match packets.get(index) {
+            None => b"",
+            Some(packet) => packet.as_slice(),
+        },
+    }
+}
+
+// Appends the beginning of a packet's group.
+fn put_packet_start(out: &mut Vec<u8>, number: u64, bytes: &[u8]) -> Result<(), AllocError>
+    ensures { OnOk result (out.new.items ≡ out.old.items ++ packet_start number bytes.now) }
+{
+    put(out, b"<g><title>")?;
+    append_packet(out, number, bytes)?;
+    put(out, b"</title>")
+}
+
+// Appends the number of a packet and its kind.
+fn put_packet_name(
+    out: &mut Vec<u8>,
+    row: &AsideRow,
+    number: u64,
+    bytes: &[u8],
+) -> Result<(), AllocError>
+    ensures { OnOk result (out.new.items ≡ out.old.items ++ packet_name row.now number bytes.now) }
+{
+    put_text_start(out, b"j", x_in(row.column) + 11, y_of(row.level) + 4)?;
+    put_decimal(out, number)?;
+    append_kind(out, bytes)?;
+    put(out, b"</text>")
+}
+
+// Appends the mark of a packet, and its way if it is lost.
+fn put_packet_marks(out: &mut Vec<u8>, at: Place, lost: Option<Mark>) -> Result<(), AllocError>
+    ensures { OnOk result (out.new.items ≡ out.old.items ++ (mark_text (Mark.Packet at) ++ flat_map mark_text (option_to_list lost))) }
+{
+    put_mark(out, Mark::Packet(at))?;
+    put_some_mark(out, lost)
+}
+
+/// Appends all that is drawn of a packet in the row in which it is put out.
+pub fn put_packet_group(
+    out: &mut Vec<u8>,
+    ways: &Ways,
+    row: &AsideRow,
+    number: u64,
+    bytes: &[u8],
+) -> Result<(), AllocError>
+    ensures { OnOk result ((rows : List AsideRow) → KnowsWays (get nat_eq ways.now.sources) (get nat_eq ways.now.ends) rows → out.new.items ≡ out.old.items ++ packet_group rows row.now number bytes.now) }
+{
+    put_packet_start(out, number, bytes)?;
+    put_packet_marks(out, aside_place(row), ways.lost(row, number))?;
+    put_packet_name(out, row, number, bytes)?;
+    put(out, b"</g>\n")
+}
+
+// Appends the beginning of the group of a packet that is handed over.
+fn put_handed_start(out: &mut Vec<u8>, number: u64) -> Result<(), AllocError>
+    ensures { OnOk result (out.new.items ≡ out.old.items ++ handed_start number) }
+{
+    put_number(out, b"<g><title>deliver ", number)?;
+    put(out, b"\n</title>")
+}
+
+// Appends the number of a packet.
+fn put_handed_name(out: &mut Vec<u8>, row: &AsideRow, number: u64) -> Result<(), AllocError>
+    ensures { OnOk result (out.new.items ≡ out.old.items ++ handed_name row.now number) }
+{
+    put_text_start(out, b"j", x_in(row.column) + 11, y_of(row.level) + 4)?;
+    put_decimal(out, number)?;
+    put(out, b"</text>")
+}
+
+/// Appends all that is drawn of a packet in a row in which it is handed over.
+pub fn put_handed_group(
+    out: &mut Vec<u8>,
+    ways: &Ways,
+    rows: &[AsideRow],
+    row: &AsideRow,
+    number: u64,
+) -> Result<(), AllocError>
+    ensures { OnOk result (KnowsWays (get nat_eq ways.now.sources) (get nat_eq ways.now.ends) rows.now → out.new.items ≡ out.old.items ++ handed_group rows.now row.now number) }
+{
+    put_handed_start(out, number)?;
+    put_some_mark(out, ways.to(rows, row, number))?;
+    put_handed_name(out, row, number)?;
+    put(out, b"</g>\n")
+}
