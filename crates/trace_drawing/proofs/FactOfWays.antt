@@ -71,7 +71,7 @@ way-of rows r n k mark at is =
     let same : last.place ≡ k = omega (arith, last.is) in
     let stands : slice_get rows k ≡ Some last.found = ap (λ i. slice_get rows i) (sym same) ∙ last.there in
     subst (λ o. IsSomeAnd o (λ from. (is_put_out n from.kind ≡ true) × (mark ≡ Way (aside_place from) (aside_place r)))) (sym stands)
-        (last.passes, sym (same_Some _ _ (sym (ap (option_map (λ from. Way (aside_place from) (aside_place r))) stands) ∙ is)))
+    (last.passes, sym (same_Some _ _ (sym (ap (option_map (λ from. Way (aside_place from) (aside_place r))) stands) ∙ is)))
 
 way-at : (rows : List AsideRow) (r : AsideRow) (n : ℕ) (mark : Mark) (o : Option ℕ) → put_out_in rows n ≡ o → option_map (λ from. Way (aside_place from) (aside_place r)) (option_and_then (slice_get rows) o) ≡ Some mark
     → (k : ℕ) × IsSomeAnd (slice_get rows k) (λ from. (is_put_out n from.kind ≡ true) × (mark ≡ Way (aside_place from) (aside_place r)))
