@@ -4,7 +4,6 @@ use Rattle.std.proofs.lemmas.List.{take_more, same_from_push}
 use Rattle.std.specs.List.{cons_option}
 use Rattle.state_transfer.specs.Meanings.{Meaning}
 use Rattle.world_model.specs.declared.WorldEvent.{WorldEvent}
-use Rattle.world_model.specs.Histories.{History}
 use Rattle.world_step.specs.Worlds.{WorldModel, no_world, WorldStep, Runs}
 use Rattle.world_step.specs.Worlds.Runs.{Still, Next}
 use Rattle.script_reader.specs.declared.script.Script.{Script}

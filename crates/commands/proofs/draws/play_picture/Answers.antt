@@ -1,9 +1,5 @@
-use Rattle.std.proofs.Common.{◌≡◌, ◌∙◌, refl, sym, ap, subst, List, ℕ}
 use Rattle.trace_props.specs.declared.verdict.Verdict.TheVariants.{Holds}
-use Rattle.world_model.specs.declared.WorldEvent.{WorldEvent}
-use Rattle.trace_drawing.specs.declared.aside.Aside.{Aside}
 use Rattle.world_step.specs.Worlds.{shown}
-use Rattle.commands.specs.Asides.{HasAsides}
 use Rattle.commands.specs.Draws.{TellsRun}
 use Rattle.commands.proofs.FactOfAsides.{ran-beside}
 use Rattle.commands.proofs.FactOfDrawings.{drawn-as, unread-as}
