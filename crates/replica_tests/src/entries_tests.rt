@@ -1,5 +1,5 @@
 use keyed_entries::{
-    Entry, KeyBytes, Place, find, is_rising, key_field, key_from, last_key, look_ups, put_key,
+    Entry, KeyBytes, is_rising, key_field, key_from, last_key, look_ups, put_key,
 };
 use reading::Reader;
 use std::alloc::{AllocError, Global};
@@ -47,38 +47,6 @@ fn a_key_is_written_and_read(rt: HostRuntime) {
         Some(read) => assert!(rt; read.as_slice() == b"ab".as_slice()),
         None => assert!(rt; false, "the key is read"),
     }
-}
-
-// Where a key stands among entries of the keys b, d and f, or would: `Ok` the index of its entry, `Err` the index where it would stand.
-fn place_of(alloc: Global, key: &[u8]) -> Option<Result<usize, usize>> {
-    let entries = entries_of(alloc, &[b"b", b"d", b"f"]).ok()?;
-    if !is_rising(entries.as_slice()) {
-        return None;
-    }
-    match find(entries.as_slice(), key) {
-        Place::Held(index) => Some(Ok(index)),
-        Place::Free(index) => Some(Err(index)),
-    }
-}
-
-#[test]
-fn a_key_is_found_where_it_stands(rt: HostRuntime) {
-    let alloc = rt.alloc();
-    assert!(rt; place_of(alloc, b"b") == Some(Ok(0)), "the first");
-    assert!(rt; place_of(alloc, b"d") == Some(Ok(1)), "the middle");
-    assert!(rt; place_of(alloc, b"f") == Some(Ok(2)), "the last");
-}
-
-#[test]
-fn another_key_is_placed_where_it_would_stand(rt: HostRuntime) {
-    let alloc = rt.alloc();
-    assert!(rt; place_of(alloc, b"a") == Some(Err(0)), "before all");
-    assert!(rt;
-        place_of(alloc, b"bb") == Some(Err(1)),
-        "behind its beginning"
-    );
-    assert!(rt; place_of(alloc, b"e") == Some(Err(2)), "between two");
-    assert!(rt; place_of(alloc, b"g") == Some(Err(3)), "behind all");
 }
 
 #[test]
