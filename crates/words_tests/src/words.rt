@@ -125,8 +125,11 @@ fn each_subcommand_takes_a_path(rt: HostRuntime) {
         "locks"
     );
     assert!(rt;
-        asked(alloc, &["vsync", "draw", "--packets", "a.script"], "a.script")
-            == Some("draw --packets"),
+        asked(
+            alloc,
+            &["vsync", "draw", "--packets", "a.script"],
+            "a.script"
+        ) == Some("draw --packets"),
         "draw --packets"
     );
 }
