@@ -4,7 +4,6 @@ use Rattle.std.proofs.lemmas.List.{take_more, same_from_push}
 use Rattle.std.specs.List.{cons_option}
 use Rattle.state_transfer.specs.Meanings.{Meaning}
 use Rattle.world_model.specs.declared.WorldEvent.{WorldEvent}
-use Rattle.world_model.specs.Histories.{History}
 use Rattle.world_step.specs.Worlds.{WorldModel, no_world, WorldStep, Runs}
 use Rattle.world_step.specs.Worlds.Runs.{Still, Next}
 use Rattle.script_reader.specs.declared.script.Script.{Script}
@@ -76,9 +75,9 @@ module _ {S : Type 0} (meaning : Meaning S) where
       let whole : i ≡ length (take i events) = omega (arith, length-take i events, inside) in
       let all : take i events ++ e ∷ [] ≡ take (i + 1) events = ap (λ (d : WorldEvent). take i events ++ d ∷ []) is ∙ sym (take_more events i e inside) in
       subst (λ (x : List Aside). HasAsides meaning packets lines (take (i + 1) events) new x)
-          (sym (adds ∙ ap (λ n. asides ++ asides_between packets n e mid.history new.history) (at ∙ ap (line_at lines) whole)))
-          (subst (λ (l : List WorldEvent). HasAsides meaning packets lines l new (asides ++ asides_between packets (line_at lines (length (take i events))) e mid.history new.history)) all
-          (OneMore (take i events) mid asides e new so step))
+      (sym (adds ∙ ap (λ n. asides ++ asides_between packets n e mid.history new.history) (at ∙ ap (line_at lines) whole)))
+      (subst (λ (l : List WorldEvent). HasAsides meaning packets lines l new (asides ++ asides_between packets (line_at lines (length (take i events))) e mid.history new.history)) all
+      (OneMore (take i events) mid asides e new so step))
 
   -- all events
   pub all-beside : (packets : Bool) (lines : List ℕ) (events : List WorldEvent) (i : ℕ) (w : WorldModel S) (asides : List Aside) → take i events ≡ events

@@ -1,6 +1,6 @@
 -- The order of what stands beside a run's events, and its packets.
 use Rattle.std.proofs.Common.{◌≡◌, ◌≤◌, ℕ, ◌+◌, Bool, true, false, cond, nat_eq, List, [], ◌∷◌, ◌++◌, length, length-append, drop, slice_get, Option, Some, None, option_map, option_and_then, filter_map, refl, sym, ap, ◌∙◌, subst, arith, append-nil}
-use Rattle.std.proofs.Math.Seq.{drop-append_seam, drop-length}
+use Rattle.std.proofs.Math.Seq.{drop-append_seam}
 use Rattle.std.proofs.lemmas.Option.{none-some, same_Some}
 use Rattle.std.proofs.lemmas.List.Elements.{filter_map-append}
 use Rattle.std.specs.List.{cons_option, range_with_len}
@@ -20,13 +20,13 @@ use Rattle.world_model.specs.Histories.{History, after, target_of}
 use Rattle.world_model.specs.Packets.{destination_of, packet_numbered, recipient}
 use Rattle.world_step.specs.declared.node_state.NodeState.{NodeState}
 use Rattle.world_step.specs.Turns.{About, about, Carries, Delivers, HandsOver}
-use Rattle.world_step.specs.Worlds.{WorldModel, no_world, WorldStep}
+use Rattle.world_step.specs.Worlds.{WorldModel}
 use Rattle.trace_drawing.specs.declared.aside.Aside.{Aside}
 use Rattle.trace_drawing.specs.declared.aside.AsideKind.TheVariants.{HandedOver}
 use Rattle.trace_drawing.specs.Promises.{AreInOrder}
-use Rattle.commands.specs.Asides.{aside_at, refused_by, refused_at, refused_of, destination_in, site_of, handed_over, put_out_number, put_out_behind, put_out_at, refused_between, put_out_between, asides_between, line_at, HasAsides}
+use Rattle.commands.specs.Asides.{aside_at, refused_by, refused_at, refused_of, site_of, handed_over, put_out_number, put_out_behind, put_out_at, refused_between, put_out_between, asides_between, line_at, HasAsides}
 use Rattle.commands.specs.Asides.HasAsides.{Nothing, Next}
-use Rattle.commands.proofs.FactOfChatLines.{range-split}
+use Rattle.commands.proofs.FactOfStateLines.{range-split}
 
 -- LISTS IN ORDER
 

@@ -40,11 +40,7 @@ fn refused_by(line: u64, place: usize, refusal: Refusal, target: Target) -> Opti
 {
     match target {
         Target::Packet(_) => None,
-        Target::Member(node) => Some(aside_at(
-            place,
-            node,
-            AsideKind::Refused { line, refusal },
-        )),
+        Target::Member(node) => Some(aside_at(place, node, AsideKind::Refused { line, refusal })),
     }
 }
 
@@ -235,7 +231,10 @@ fn play_alone<R: Receiver>(
 {
     let replied = world.replies().len();
     step(world, event)?;
-    add(asides, refused_of(line, event, world.replies().get(replied)))?;
+    add(
+        asides,
+        refused_of(line, event, world.replies().get(replied)),
+    )?;
     Ok(())
 }
 

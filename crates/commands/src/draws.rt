@@ -63,7 +63,14 @@ fn print_world<R: Receiver, W: Write>(
     ensures { Written (IsPictureText world.now.history.trace asides.now world.now.history.pool Verdict.Holds) (W.contents writer.old) (W.contents writer.new) result }
 {
     let events = world.trace().events();
-    print_picture(alloc, events, asides, world.packets(), Verdict::Holds, writer)
+    print_picture(
+        alloc,
+        events,
+        asides,
+        world.packets(),
+        Verdict::Holds,
+        writer,
+    )
 }
 
 /// Runs a script's events in a world, and writes the picture of what happened, with packets or without.

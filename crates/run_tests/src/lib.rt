@@ -9,6 +9,8 @@ mod gaps;
 #[cfg(test)]
 mod last;
 #[cfg(test)]
+mod processes;
+#[cfg(test)]
 mod receiver_calls;
 #[cfg(test)]
 mod scripts;

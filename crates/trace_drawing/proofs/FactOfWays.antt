@@ -1,5 +1,5 @@
 -- The ways of packets, one row further, and what they come from.
-use Rattle.std.proofs.Common.{◌≡◌, ℕ, ◌+◌, Bool, true, false, ◌||◌, not, cond, List, [], ◌∷◌, ◌++◌, length, take, Option, Some, None, is_some, nat_eq, slice_get, option_map, option_and_then, IsSomeAnd, sym, refl, ap, ◌∙◌, subst, arith}
+use Rattle.std.proofs.Common.{◌≡◌, ℕ, ◌+◌, Bool, true, false, ◌||◌, not, cond, List, [], ◌∷◌, ◌++◌, length, Option, Some, None, is_some, nat_eq, slice_get, option_map, option_and_then, IsSomeAnd, sym, refl, ap, ◌∙◌, subst, arith}
 use Rattle.std.specs.Option.{option_or}
 use Rattle.std.specs.List.{list_any}
 use Rattle.std.proofs.lemmas.List.Folds.{list_any-append}
@@ -10,11 +10,11 @@ use Rattle.trace_drawing.specs.declared.aside.AsideKind.TheVariants.{Refused, Pu
 use Rattle.trace_drawing.specs.declared.aside.AsideRow.{AsideRow}
 use Rattle.trace_drawing.specs.declared.marks.Mark.{Mark}
 use Rattle.trace_drawing.specs.declared.marks.Mark.TheVariants.{Way, Lost}
-use Rattle.trace_drawing.specs.Layout.{last_from, last_place}
+use Rattle.trace_drawing.specs.Layout.{last_from}
 use Rattle.trace_drawing.specs.Marks.{aside_place}
 use Rattle.trace_drawing.specs.Packets.{is_put_out, is_handed_over, put_out_in, arrives, in_the_air, lost_way, way_to, KnowsWays}
 use Rattle.trace_drawing.proofs.FactOfPlaces.{last_place-push, last-miss}
-use Rattle.trace_drawing.proofs.LawOfRows.{IsFound, last-found}
+use Rattle.trace_drawing.proofs.LawOfRows.{last-found}
 
 -- ONE ROW FURTHER
 
@@ -71,7 +71,7 @@ way-of rows r n k mark at is =
     let same : last.place ≡ k = omega (arith, last.is) in
     let stands : slice_get rows k ≡ Some last.found = ap (λ i. slice_get rows i) (sym same) ∙ last.there in
     subst (λ o. IsSomeAnd o (λ from. (is_put_out n from.kind ≡ true) × (mark ≡ Way (aside_place from) (aside_place r)))) (sym stands)
-        (last.passes, sym (same_Some _ _ (sym (ap (option_map (λ from. Way (aside_place from) (aside_place r))) stands) ∙ is)))
+    (last.passes, sym (same_Some _ _ (sym (ap (option_map (λ from. Way (aside_place from) (aside_place r))) stands) ∙ is)))
 
 way-at : (rows : List AsideRow) (r : AsideRow) (n : ℕ) (mark : Mark) (o : Option ℕ) → put_out_in rows n ≡ o → option_map (λ from. Way (aside_place from) (aside_place r)) (option_and_then (slice_get rows) o) ≡ Some mark
     → (k : ℕ) × IsSomeAnd (slice_get rows k) (λ from. (is_put_out n from.kind ≡ true) × (mark ≡ Way (aside_place from) (aside_place r)))

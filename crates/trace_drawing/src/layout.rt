@@ -6,9 +6,9 @@ ghost use Rattle.trace_props.specs.declared.event.Event.{Event};
 ghost use Rattle.trace_drawing.specs.Layout.{same_message, level_of, rows_of, member_lines, aside_rows};
 ghost use Rattle.trace_drawing.specs.Known.{Knows};
 
+use crate::aside::{Aside, AsideRow};
 use crate::known::Known;
 use crate::levels::{above, aside_rows};
-use crate::aside::{Aside, AsideRow};
 use crate::row::{Line, Row};
 use std::alloc::{AllocError, Global};
 use trace_props::Event;

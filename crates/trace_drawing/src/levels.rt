@@ -7,8 +7,8 @@ ghost use Rattle.trace_props.specs.declared.event.Event.{Event};
 ghost use Rattle.trace_drawing.specs.Layout.{above, later, column_in, aside_row, aside_rows};
 ghost use Rattle.trace_drawing.specs.Known.{KnowsNodes};
 
-use crate::known::{member, put_row};
 use crate::aside::{Aside, AsideRow};
+use crate::known::{member, put_row};
 use crate::row::Row;
 use address::Node;
 use std::alloc::{AllocError, Global};

@@ -5,6 +5,8 @@ ghost use Rattle.trace_drawing.specs.Marks.{marks_of};
 ghost use Rattle.trace_drawing.specs.Spelling.{mark_text};
 ghost use Rattle.trace_drawing.specs.Picture.{colour_of, colour, group_start, event_start, event_group, event_groups, line_group, svg_start, head_text, picture_of};
 
+use crate::aside::Aside;
+use crate::asides::put_asides;
 use crate::broken::{put_broken, room_for};
 use crate::known::member;
 use crate::layout::lay_out;
@@ -12,8 +14,6 @@ use crate::marks::{
     Mark, blocked_stretch, is_delivery, last_stretch, line_mark, link, origin_row, own_mark,
     place_of, x_of, y_of,
 };
-use crate::aside::Aside;
-use crate::asides::put_asides;
 use crate::row::{Line, Row};
 use crate::spelling::{put_mark, put_number, put_some_mark};
 use crate::texts::{put_line_title, put_name_above, put_row_number, put_texts};

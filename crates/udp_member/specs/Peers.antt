@@ -1,5 +1,5 @@
 -- The nodes at which members may be sought, and who was heard there.
-use Rattle.std.specs.Prelude.{ℕ, ◌+◌, Bool, true, false, not, ◌&&◌, nat_eq, nat_le, List, ◌++◌, drop, take, position, slice_get, Option, None, Some, if◌then◌else◌}
+use Rattle.std.specs.Prelude.{ℕ, ◌+◌, Bool, false, not, ◌&&◌, nat_eq, nat_le, List, ◌++◌, drop, take, position, slice_get, Option, None, Some, if◌then◌else◌}
 use Rattle.std.specs.List.{list_any}
 use Rattle.std.specs.Option.{option_and_then, option_map_or, is_some}
 use Rattle.address.specs.Ids.{Address}

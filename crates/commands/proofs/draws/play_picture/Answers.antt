@@ -1,9 +1,5 @@
-use Rattle.std.proofs.Common.{◌≡◌, ◌∙◌, refl, sym, ap, subst, List, ℕ}
 use Rattle.trace_props.specs.declared.verdict.Verdict.TheVariants.{Holds}
-use Rattle.world_model.specs.declared.WorldEvent.{WorldEvent}
-use Rattle.trace_drawing.specs.declared.aside.Aside.{Aside}
 use Rattle.world_step.specs.Worlds.{shown}
-use Rattle.commands.specs.Asides.{HasAsides}
 use Rattle.commands.specs.Draws.{TellsRun}
 use Rattle.commands.proofs.FactOfAsides.{ran-beside}
 use Rattle.commands.proofs.FactOfDrawings.{drawn-as, unread-as}
@@ -13,8 +9,8 @@ pub returns-in-Ok : goal.returns-in-Ok
 returns-in-Ok g c =
     drawn-as (TellsRun g.R.Receiver.meaning c.args.packets c.args.script.now) (λ line fault. ⊥) (shown c.play_events.new.world).history.trace c.as_slice.result.now (shown c.play_events.new.world).history.pool Holds _ _ _
     (ran-beside g.R.Receiver.meaning c.args.packets c.args.script.now c.lines.result.now c.events.result.now (shown c.play_events.new.world) c.play_events.new.asides.items c.as_slice.result.now
-        c.lines.ensures c.events.ensures c.as_slice.ensures.value
-        (record { faithful = c.in-Ok.ensures.faithful; ordered = c.in-Ok.ensures.ordered; synchronous = c.in-Ok.ensures.synchronous; agreeing = c.in-Ok.ensures.agreeing }) c.in-Ok.ensures.asides)
+    c.lines.ensures c.events.ensures c.as_slice.ensures.value
+    (record { faithful = c.in-Ok.ensures.faithful; ordered = c.in-Ok.ensures.ordered; synchronous = c.in-Ok.ensures.synchronous; agreeing = c.in-Ok.ensures.agreeing }) c.in-Ok.ensures.asides)
     c.print_world.ensures
 
 pub returns : goal.returns
