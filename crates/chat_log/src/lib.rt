@@ -2,10 +2,10 @@
 //! same lines (docs/FORMATS.md, "The chat's state").
 #![tactic(auto)]
 
-mod application;
 mod chat;
 mod chat_lines;
 mod decoding;
+mod in_program;
 mod law;
 mod lines;
 mod log;

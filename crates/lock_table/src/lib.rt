@@ -2,11 +2,11 @@
 //! (docs/FORMATS.md, "The table of locks").
 #![tactic(auto)]
 
-mod application;
 mod command;
 mod decoding;
 mod encoding;
 mod held;
+mod in_program;
 mod law;
 mod lines;
 mod lock;

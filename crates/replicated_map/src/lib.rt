@@ -2,11 +2,11 @@
 //! (docs/FORMATS.md, "The map's state").
 #![tactic(auto)]
 
-mod application;
 mod command;
 mod decoding;
 mod encoding;
 mod entries;
+mod in_program;
 mod law;
 mod lines;
 mod map;
