@@ -1,7 +1,5 @@
 //! The chat in the program: what is said is a text as it stands, and its lines are printed.
 
-ghost use Rattle.std.specs.Prelude.{◌≡◌};
-
 use crate::chat_lines::put_chat;
 use crate::{ChatSize, LastLines};
 use address::{Address, ViewId};

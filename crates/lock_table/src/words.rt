@@ -1,6 +1,6 @@
 //! The words of the commands of the table of locks in a script (docs/FORMATS.md, "The locks' lines").
 
-ghost use Rattle.std.specs.Prelude.{◌≡◌, Ok, Err, IfOk, MatchResult};
+ghost use Rattle.std.specs.Prelude.{◌≡◌, Ok, Err, MatchResult};
 ghost use Rattle.std.specs.Option.{option_copied};
 ghost use Rattle.script_reader.specs.Texts.{IsReadUnlessRefused};
 ghost use Rattle.script_reader.specs.Fields.{made, last};

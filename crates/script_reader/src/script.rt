@@ -2,9 +2,9 @@ ghost use Rattle.std.specs.Prelude.{◌≡◌, [], OnOk, MatchResult};
 ghost use Rattle.script_reader.specs.Script.{script_by, script_of, event_in_line, with_event};
 ghost use Rattle.script_reader.specs.Texts.{reading_by, HasRead, IsUnread};
 
-use crate::{AsWritten, Payloads, Unread};
 use crate::field::first_line;
 use crate::line::read_line;
+use crate::{AsWritten, Payloads, Unread};
 use std::alloc::{AllocError, Global};
 use std::marker::Model;
 use world_model::WorldEvent;

@@ -158,11 +158,7 @@ fn put_more_addresses(out: &mut Vec<u8>, members: &[Address]) -> Result<(), Allo
 
 /// Appends addresses behind one byte, joined by commas. Where memory is refused, what stood before is kept, and a part may have been appended.
 #[tactic(auto, using(crate::proofs::KeepFront::goes_on))]
-pub fn put_addresses(
-    out: &mut Vec<u8>,
-    before: u8,
-    members: &[Address],
-) -> Result<(), AllocError>
+pub fn put_addresses(out: &mut Vec<u8>, before: u8, members: &[Address]) -> Result<(), AllocError>
     ensures text { OnOk result (out.new.items ≡ out.old.items ++ before ∷ text_of_addresses members.now) }
     ensures kept { GoesOnFrom out.old.items out.new.items }
 {

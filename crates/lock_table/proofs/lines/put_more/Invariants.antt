@@ -1,4 +1,4 @@
-use Rattle.std.proofs.Common.{◌≡◌, ◌++◌, ◌∷◌, take}
+use Rattle.std.proofs.Common.{◌≡◌, ◌++◌, take}
 use Rattle.lock_table.specs.TableText.{text_of_more}
 use Rattle.vsync_text.specs.TraceText.{GoesOnFrom}
 use Rattle.lock_table.proofs.lines.put_more.Given as goal

@@ -1,4 +1,4 @@
-use Rattle.std.proofs.Common.{◌≡◌, ◌++◌, ◌∷◌, take}
+use Rattle.std.proofs.Common.{◌≡◌, ◌++◌, take}
 use Rattle.replicated_map.specs.MapText.{text_of_more}
 use Rattle.vsync_text.specs.TraceText.{GoesOnFrom}
 use Rattle.replicated_map.proofs.lines.put_more.Given as goal
