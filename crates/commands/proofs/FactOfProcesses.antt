@@ -67,7 +67,7 @@ module _ (texts : List (Vec ℕ)) (k : ℕ) (v : Vec ℕ) (within : k < length t
   one-more-read traces t so is =
       subst (λ (l : List (List Event)). AreTracesOf (take (k + 1) (texts_of texts)) l) (sym (map-append events_in traces (t ∷ [])))
       (subst (λ (l : List (List ℕ)). AreTracesOf l (lists_of traces ++ t.events ∷ [])) (sym (ap (λ (n : ℕ). take n (texts_of texts)) (add-one k) ∙ take-suc (texts_of texts) k [] inside ∙ ap (λ (b : List ℕ). take k (texts_of texts) ++ b ∷ []) bytes-at))
-          (are-push (take k (texts_of texts)) (lists_of traces) v.items t.events so is))
+      (are-push (take k (texts_of texts)) (lists_of traces) v.items t.events so is))
 
   pub is-unread : (traces : List Recorded) (why : Unread) → AreTracesOf (take k (texts_of texts)) (lists_of traces) → IsUnread (trace_of v.items) why
       → IsUnreadIn (texts_of texts) (unread_at (k + 1) why)

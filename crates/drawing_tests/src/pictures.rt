@@ -233,8 +233,10 @@ fn a_refusal_is_grey_between_the_events(rt: HostRuntime) {
         aside(&rt, 1, 5, 5, refused(2, Refusal::NotConnected)),
         aside(&rt, 2, 6, 6, refused(40, Refusal::TooLong)),
     ];
-    let picture = draw(rt.alloc(), trace.events(), &refusals, &[], Verdict::Holds)
-        .expect(&rt, "a picture");
+    let picture = draw(rt.alloc(), trace.events(), &refusals, &[], Verdict::Holds).expect(
+        &rt,
+        "a picture",
+    );
     let front = b"<svg xmlns='http://www.w3.org/2000/svg' width='230' height='168'><style>";
     let back =
         b"<text class='e' x='105' y='86'><title># refused 2 1\n</title>&#8856; not connected</text>\n\

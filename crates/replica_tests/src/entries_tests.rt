@@ -1,6 +1,4 @@
-use keyed_entries::{
-    Entry, KeyBytes, is_rising, key_field, key_from, last_key, look_ups, put_key,
-};
+use keyed_entries::{Entry, KeyBytes, is_rising, key_field, key_from, last_key, look_ups, put_key};
 use reading::Reader;
 use std::alloc::{AllocError, Global};
 use trace_props::Bytes;
