@@ -121,13 +121,17 @@ fn handed_at<R: Receiver>(world: &World<R>, number: u64, node: Option<Node>) -> 
     }
 }
 
-// The packet that an event hands over, where a member runs to whom it goes.
-fn handed_over<R: Receiver>(world: &World<R>, target: Target) -> Option<Aside>
-    ensures { result ≡ handed_over target world.now.history }
+// The packet that an event hands over that is carried out at a node, where a member runs there.
+fn handed_over<R: Receiver>(
+    world: &World<R>,
+    target: Target,
+    site: Option<Node>,
+) -> Option<Aside>
+    ensures { site ≡ site_of target world.now.history.pool → result ≡ handed_over target world.now.history }
 {
     match target {
         Target::Member(_) => None,
-        Target::Packet(number) => handed_at(world, number, destination_in(world, number)),
+        Target::Packet(number) => handed_at(world, number, site),
     }
 }
 
@@ -254,7 +258,7 @@ fn play_with_packets<R: Receiver>(
 {
     let past = world.packets().len();
     let site = site_of(world, event.target());
-    add(asides, handed_over(world, event.target()))?;
+    add(asides, handed_over(world, event.target(), site))?;
     play_alone(world, asides, line, event)?;
     add_put_out_at(
         asides,

@@ -45,7 +45,7 @@ fn a_member_that_started_has_a_line_to_the_bottom(rt: HostRuntime) {
 fn a_payload_adds_no_mark(rt: HostRuntime) {
     let text = b"sent 1.1 1@1.1 1 3c2f673e26\n";
     let back =
-        b"<path class='d' d='M110 60m-7 0a7 7 0 1 0 14 0a7 7 0 1 0-14 0'/><text class='b' x='121' y='64'>&lt;/g&gt;&amp;</text></g>\n</svg>\n";
+        b"<path class='u' d='M110 60h0'/><text class='b' x='121' y='64'>&lt;/g&gt;&amp;</text></g>\n</svg>\n";
     assert!(rt; draws(rt.alloc(), text, b"<svg ", back));
 }
 
@@ -102,7 +102,7 @@ fn a_message_has_a_line_from_its_send(rt: HostRuntime) {
     let text = b"sent 2.1 1@2.1 1 -\ndelivered 1.1 1@2.1 2.1 1 -\n";
     let back =
         b"<g class='c0'><title>delivered 1.1 1@2.1 2.1 1 -\n</title><text class='n' x='230' y='34'>1.1</text><text class='r' x='40' y='86'>2</text>\
-        <path class='m' d='M110 60L230 82'/><path class='d' d='M230 82m-4 0a4 4 0 1 0 8 0a4 4 0 1 0-8 0'/><text class='t' x='241' y='86'></text></g>\n</svg>\n";
+        <path class='m' d='M110 60L230 82'/><path class='d' d='M230 82h0'/><text class='t' x='241' y='86'></text></g>\n</svg>\n";
     assert!(rt; draws(rt.alloc(), text, b"<svg ", back));
 }
 
@@ -111,7 +111,7 @@ fn a_message_to_its_sender_is_bowed(rt: HostRuntime) {
     let text = b"sent 2.1 1@2.1 1 -\ndelivered 2.1 1@2.1 2.1 1 -\n";
     let back =
         b"<g class='c0'><title>delivered 2.1 1@2.1 2.1 1 -\n</title><text class='r' x='40' y='86'>2</text>\
-        <path class='m' d='M110 60C80 60 80 82 110 82'/><path class='d' d='M110 82m-4 0a4 4 0 1 0 8 0a4 4 0 1 0-8 0'/><text class='t' x='121' y='86'></text></g>\n</svg>\n";
+        <path class='m' d='M110 60c-30 0-30 22 0 22'/><path class='d' d='M110 82h0'/><text class='t' x='121' y='86'></text></g>\n</svg>\n";
     assert!(rt; draws(rt.alloc(), text, b"<svg ", back));
 }
 

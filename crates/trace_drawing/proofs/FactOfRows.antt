@@ -11,8 +11,8 @@ use Rattle.trace_drawing.specs.declared.row.Row.{Row}
 use Rattle.trace_drawing.specs.declared.row.Line.{Line}
 use Rattle.trace_drawing.specs.declared.row.MessageKey.{MessageKey}
 use Rattle.trace_drawing.specs.declared.known.Lifeline.{Lifeline}
-use Rattle.trace_drawing.specs.Layout.{last_place, members_in, column_of, happens_to, reached_by, origin_of, row_of, rows_from, rows_of, member_line}
-use Rattle.trace_drawing.specs.Known.{KnowsSends, KnowsInstalls, Knows}
+use Rattle.trace_drawing.specs.Layout.{last_place, rank_in, members_in, column_of, happens_to, reached_by, origin_of, row_of, rows_from, rows_of, member_line}
+use Rattle.trace_drawing.specs.Known.{row_after, KnowsMembers, KnowsSends, KnowsInstalls, Knows}
 
 -- ROWS
 
@@ -31,17 +31,19 @@ row c n b k o = record { column = c; level = n; before = b; blocked = k; origin 
 row-same : (c d n m : ℕ) (a b : Option ℕ) (k l : Bool) (o q : Option ℕ) → c ≡ d → n ≡ m → a ≡ b → k ≡ l → o ≡ q → row c n a k o ≡ row d m b l q
 row-same c d n m a b k l o q e i f g h = ap (λ x. row x n a k o) e ∙ ap (λ x. row d x a k o) i ∙ ap (λ x. row d m x k o) f ∙ ap (λ x. row d m b x o) g ∙ ap (λ x. row d m b l x) h
 
--- the row of an event of a member that is known
-pub row-known : (at : ℕ → ℕ) (ms : List Address) (m : Address → Option Lifeline) (s : MessageKey → Option ℕ) (v : ViewId → Option ℕ) (t : List Event) (e : Event) (l : Lifeline) (o : Option ℕ) (n : ℕ)
-    → Some l ≡ m (member_of e) → o ≡ reached_by s v e → n ≡ at (length t) → Knows at ms m s v t
-    → row l.column n (Some l.last) l.blocked o ≡ row_of at t e
-row-known at ms m s v t e l o n is reached here knows =
+-- what is kept of the member of the next event has its column
+pub column-kept : (at : ℕ → ℕ) (ms : List Address) (m : Address → Option Lifeline) (t : List Event) (e : Event) → KnowsMembers at ms m t
+    → unwrap_or (option_map (λ l. l.column) (m (member_of e))) (length ms) ≡ column_of (member_of e) t
+column-kept at ms m t e knows = ap (λ o. unwrap_or o (length ms)) (knows.columns (member_of e)) ∙ ap (λ xs. unwrap_or (rank_in (member_of e) (members_in t)) (length xs)) knows.come_up
+
+-- the row of the next event, by what is kept
+pub row-kept : (at : ℕ → ℕ) (ms : List Address) (m : Address → Option Lifeline) (s : MessageKey → Option ℕ) (v : ViewId → Option ℕ) (t : List Event) (e : Event) (o : Option ℕ) (n : ℕ)
+    → o ≡ reached_by s v e → n ≡ at (length t) → Knows at ms m s v t → row_after (m (member_of e)) (length ms) n o ≡ row_of at t e
+row-kept at ms m s v t e o n reached here knows =
     let p = member_of e in
-    row-same l.column (column_of p t) n (at (length t)) (Some l.last) (option_map at (last_place (happens_to p) t)) l.blocked (is_blocked p t) o (origin_of t e)
-    (ap (λ k. unwrap_or (option_map (λ x. x.column) k) (length (members_in t))) is ∙ ap (λ r. unwrap_or r (length (members_in t))) (knows.of_members.columns p))
-    here
-    (ap (λ k. option_map (λ x. x.last) k) is ∙ knows.of_members.lasts p)
-    (ap (λ k. unwrap_or (option_map (λ x. x.blocked) k) false) is ∙ knows.of_members.blocked p)
+    row-same (unwrap_or (option_map (λ l. l.column) (m p)) (length ms)) (column_of p t) n (at (length t)) (option_map (λ l. l.last) (m p)) (option_map at (last_place (happens_to p) t))
+    (unwrap_or (option_map (λ l. l.blocked) (m p)) false) (is_blocked p t) o (origin_of t e)
+    (column-kept at ms m t e knows.of_members) here (knows.of_members.lasts p) (knows.of_members.blocked p)
     (reached ∙ origin-known s v t e knows.of_sends knows.of_installs)
 
 -- the rows of a trace, one event further
@@ -82,9 +84,3 @@ lines-next at t members items i p lines same stands inside so_far o is =
     ap (λ ls. ls ++ cons_option o []) so_far ∙ ap (λ xs. filter_map (member_line at t) (take i xs) ++ cons_option o []) (sym same) ∙ ap (λ x. filter_map (member_line at t) (take i items) ++ cons_option x []) is
     ∙ sym (ap (filter_map (member_line at t)) (next-take items i p stands inside) ∙ filter_map-append (member_line at t) (take i items) (p ∷ []))
     ∙ ap (λ xs. filter_map (member_line at t) (take (i + 1) xs)) same
-
-pub row-column : (at : ℕ → ℕ) (r : Row) (t : List Event) (e : Event) → r ≡ row_of at t e → r.column ≡ column_of (member_of e) t
-row-column at r t e is = ap (λ x. x.column) is
-
-pub row-level : (at : ℕ → ℕ) (r : Row) (t : List Event) (e : Event) → r ≡ row_of at t e → r.level ≡ at (length t)
-row-level at r t e is = ap (λ x. x.level) is

@@ -122,3 +122,12 @@ members-noted at ms ns m n t e level column here stands comes updates was =
           (ap (λ b. cond (is_end e) true b) (was.ended p) ∙ ended-at t e (is_end e) refl)
           (λ q. has_ended-other q t e);
     }
+
+-- what is kept of a member of which something was kept before
+pub noted-again : (m n : Address → Option Lifeline) (e : Event) (p : Address) (kept : Lifeline) (level column : ℕ) → p ≡ member_of e → Some kept ≡ m p → kept.column ≡ column
+    → ((q : Address) → n q ≡ cond (same_address p q) (Some (lifeline_after (Some kept) kept.column level e)) (m q))
+    → (q : Address) → n q ≡ cond (same_address (member_of e) q) (Some (lifeline_after (m (member_of e)) column level e)) (m q)
+noted-again m n e p kept level column of is stands updates q =
+    updates q ∙ ap (λ o. cond (same_address p q) (Some (lifeline_after o kept.column level e)) (m q)) is
+    ∙ ap (λ r. cond (same_address r q) (Some (lifeline_after (m r) kept.column level e)) (m q)) of
+    ∙ ap (λ k. cond (same_address (member_of e) q) (Some (lifeline_after (m (member_of e)) k level e)) (m q)) stands

@@ -43,6 +43,19 @@ escaped-at b false false false e f = ap (λ u. not (u || nat_eq b 62) && true) e
 escaped-no_bracket : (b : ℕ) → list_all is_no_bracket (escaped_byte b) ≡ true
 escaped-no_bracket b = escaped-at b (nat_eq b 60) (nat_eq b 62) (nat_eq b 38) refl refl
 
+itself-at : (b : ℕ) (x y z : Bool) → (not (x || y) && not z) ≡ true → cond x (codes "&lt;") (cond y (codes "&gt;") (cond z (codes "&amp;") (b ∷ []))) ≡ b ∷ []
+itself-at b true y z e = absurd (let bad : false ≡ true = e in cc)
+itself-at b false true z e = absurd (let bad : false ≡ true = e in cc)
+itself-at b false false true e = absurd (let bad : false ≡ true = e in cc)
+itself-at b false false false e = refl
+
+-- a text of bytes that mean themselves is not escaped
+pub escaped-plain : (bytes : List ℕ) → list_all is_plain bytes ≡ true → escaped bytes ≡ bytes
+escaped-plain [] plain = refl
+escaped-plain (b ∷ bs) plain =
+    let parts = and_parts (is_plain b) (list_all is_plain bs) plain in
+    ap (λ t. t ++ escaped bs) (itself-at b (nat_eq b 60) (nat_eq b 62) (nat_eq b 38) parts.0) ∙ ap (λ t. b ∷ t) (escaped-plain bs parts.1)
+
 plain-from : (n : ℕ) → (n ≡ 60 → ⊥) → (n ≡ 62 → ⊥) → (n ≡ 38 → ⊥) → is_plain n ≡ true
 plain-from n a b c =
     ap (λ u. not (u || nat_eq n 62) && not (nat_eq n 38)) (ne_eqb n 60 a) ∙ ap (λ u. not (false || u) && not (nat_eq n 38)) (ne_eqb n 62 b) ∙ ap (λ u. true && not u) (ne_eqb n 38 c)

@@ -5,6 +5,7 @@ use Rattle.trace_props.specs.declared.event.Event.{Event}
 use Rattle.trace_props.specs.declared.event.Event.TheVariants.{Started, Sent, Delivered, Blocked, Installed, Left, Crashed}
 use Rattle.trace_props.specs.Observed.{is_blocked, has_ended, is_end}
 use Rattle.trace_drawing.specs.declared.row.MessageKey.{MessageKey}
+use Rattle.trace_drawing.specs.declared.row.Row.{Row}
 use Rattle.trace_drawing.specs.declared.known.Lifeline.{Lifeline}
 use Rattle.trace_drawing.specs.Layout.{first_place, last_place, rank_in, members_in, happens_to, happens_at, sends, installs}
 
@@ -26,6 +27,16 @@ lifeline_after kept column level e = record {
   last = level;
   blocked = blocked_after (unwrap_or (option_map (λ l. l.blocked) kept) false) e;
   ended = cond (is_end e) true (unwrap_or (option_map (λ l. l.ended) kept) false);
+}
+
+-- how the row of a member's next event is laid out at a level, by what is kept of it: in the next column, where nothing is
+abbrev pub row_after : Option Lifeline → ℕ → ℕ → Option ℕ → Row
+row_after kept next level origin = record {
+  column = unwrap_or (option_map (λ l. l.column) kept) next;
+  level = level;
+  before = option_map (λ l. l.last) kept;
+  blocked = unwrap_or (option_map (λ l. l.blocked) kept) false;
+  origin = origin;
 }
 
 -- what is kept of members is what the trace says of them

@@ -2,12 +2,14 @@
 use Rattle.std.specs.Prelude.{◌≡◌, ℕ, ◌+◌, ◌-◌, Bool, false, cond, nat_eq, nat_lt, is_some, List, [], ◌++◌, codes, Option, None, Some, slice_get, unwrap_or, option_map, option_and_then, option_to_list, flat_map}
 use Rattle.std.specs.List.{list_any}
 use Rattle.std.specs.Fmt.{decimal}
+use Rattle.std.specs.HashMap.{get}
 use Rattle.world_model.specs.Packets.{packet_numbered}
 use Rattle.vsync_text.specs.TraceText.{field, line_with}
 use Rattle.vsync_text.specs.PacketText.{kind_in, packet_line}
 use Rattle.trace_drawing.specs.declared.aside.AsideKind.{AsideKind}
 use Rattle.trace_drawing.specs.declared.aside.AsideKind.TheVariants.{Refused, PutOut, HandedOver}
 use Rattle.trace_drawing.specs.declared.aside.AsideRow.{AsideRow}
+use Rattle.trace_drawing.specs.declared.packet_rows.PacketRows.{PacketRows}
 use Rattle.trace_drawing.specs.declared.marks.Place.{Place}
 use Rattle.trace_drawing.specs.declared.marks.Mark.{Mark}
 use Rattle.trace_drawing.specs.declared.marks.Mark.TheVariants as marks
@@ -61,12 +63,12 @@ packet_start n bytes = codes "<g><title>" ++ packet_line n bytes ++ codes "</tit
 
 -- the number of a packet and its kind, beside its mark
 abbrev pub packet_name : AsideRow → ℕ → List ℕ → List ℕ
-packet_name r n bytes = text_at (codes "j") (x_in r.column + 11) (y_of r.level + 4) (decimal n ++ field (kind_in bytes))
+packet_name r n kind = text_at (codes "j") (x_in r.column + 11) (y_of r.level + 4) (decimal n ++ field kind)
 
 -- all that is drawn of a packet where it is put out: its mark, its way where it is lost, and its name
 abbrev pub packet_group : List AsideRow → AsideRow → ℕ → List ℕ → List ℕ
 packet_group rows r n bytes =
-    packet_start n bytes ++ (mark_text (marks.Packet (aside_place r)) ++ flat_map mark_text (option_to_list (lost_way rows r n))) ++ packet_name r n bytes ++ group_end
+    packet_start n bytes ++ (mark_text (marks.Packet (aside_place r)) ++ flat_map mark_text (option_to_list (lost_way rows r n))) ++ packet_name r n (kind_in bytes) ++ group_end
 
 -- how the group of a packet that is handed over begins: its title, the script's line
 abbrev pub handed_start : ℕ → List ℕ
@@ -79,6 +81,10 @@ handed_name r n = text_at (codes "j") (x_in r.column + 11) (y_of r.level + 4) (d
 -- all that is drawn of a packet where it is handed over: its way, and its number
 abbrev pub handed_group : List AsideRow → AsideRow → ℕ → List ℕ
 handed_group rows r n = handed_start n ++ flat_map mark_text (option_to_list (way_to rows r n)) ++ handed_name r n ++ group_end
+
+-- the row that a table has for a packet
+abbrev pub row_in : PacketRows → ℕ → Option ℕ
+row_in table n = unwrap_or (slice_get table.near.items n) (get nat_eq table.far n)
 
 -- what is kept of rows says where each packet is put out last, and whether it is handed over
 pub record KnowsWays (put_out handed_over : ℕ → Option ℕ) (rows : List AsideRow) : Type 0 where

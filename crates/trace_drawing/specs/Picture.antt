@@ -21,7 +21,7 @@ use Rattle.trace_drawing.specs.Marks.{x_of, y_of, names_y, place_of, is_delivery
 use Rattle.trace_drawing.specs.Labels.{label}
 use Rattle.trace_drawing.specs.Asides.{asides_text}
 use Rattle.trace_drawing.specs.Broken.{broken_text, room_for}
-use Rattle.trace_drawing.specs.Spelling.{path, text_at, mark_text, number_behind, group_end}
+use Rattle.trace_drawing.specs.Spelling.{path, start_down, text_at, mark_text, number_behind, group_end}
 
 -- TEXTS BESIDE AN EVENT'S OWN MARK
 
@@ -67,9 +67,9 @@ name_above level column p = text_at (codes "n") (x_of column) (names_y level) (t
 abbrev pub name_text : Row → Address → List ℕ
 name_text row p = cond (same_block row.level row.before) [] (name_above row.level row.column p)
 
--- the number of an event, from 1
+-- the number of an event, from 1, in a column of its own
 abbrev pub number_text : ℕ → ℕ → List ℕ
-number_text number level = text_at (codes "r") 40 (y_of level + 4) (decimal (number + 1))
+number_text number level = start_down (codes "<text class='r' x='40' y='") (y_of level + 4) ++ decimal (number + 1) ++ codes "</text>"
 
 -- EVENTS
 

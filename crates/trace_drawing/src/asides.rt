@@ -1,8 +1,7 @@
 //! The marks of what stands between events.
 
-ghost use Rattle.std.specs.Prelude.{◌≡◌, ◌++◌, flat_map, nat_eq, OnOk};
-ghost use Rattle.std.specs.HashMap.{get};
-ghost use Rattle.trace_drawing.specs.Packets.{KnowsWays};
+ghost use Rattle.std.specs.Prelude.{◌≡◌, ◌++◌, flat_map, OnOk};
+ghost use Rattle.trace_drawing.specs.Packets.{row_in, KnowsWays};
 ghost use Rattle.trace_drawing.specs.Asides.{aside_group, asides_text};
 
 use crate::aside::{AsideKind, AsideRow};
@@ -35,7 +34,7 @@ fn put_aside_group(
     packets: &[Bytes],
     row: &AsideRow,
 ) -> Result<(), AllocError>
-    ensures { OnOk result (KnowsWays (get nat_eq ways.now.sources) (get nat_eq ways.now.ends) rows.now → out.new.items ≡ out.old.items ++ aside_group rows.now packets.now row.now) }
+    ensures { OnOk result (KnowsWays (row_in ways.now.sources) (row_in ways.now.ends) rows.now → out.new.items ≡ out.old.items ++ aside_group rows.now packets.now row.now) }
 {
     match row.kind {
         AsideKind::Refused { line, refusal } => {
@@ -60,7 +59,7 @@ fn put_aside_groups(
     rows: &[AsideRow],
     packets: &[Bytes],
 ) -> Result<(), AllocError>
-    ensures { OnOk result (KnowsWays (get nat_eq ways.now.sources) (get nat_eq ways.now.ends) rows.now → out.new.items ≡ out.old.items ++ flat_map (aside_group rows.now packets.now) rows.now) }
+    ensures { OnOk result (KnowsWays (row_in ways.now.sources) (row_in ways.now.ends) rows.now → out.new.items ≡ out.old.items ++ flat_map (aside_group rows.now packets.now) rows.now) }
 {
     for row in rows {
         put_aside_group(out, ways, rows, packets, row)?;
@@ -80,7 +79,7 @@ pub fn put_asides(
     if rows.is_empty() {
         return Ok(());
     }
-    let ways = Ways::new(alloc, rows)?;
+    let ways = Ways::new(alloc, rows, packets)?;
     put(out, ASIDE_STYLE)?;
     put_aside_groups(out, &ways, rows, packets)?;
     Ok(())

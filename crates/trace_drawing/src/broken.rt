@@ -68,7 +68,12 @@ fn put_broken_words(
 ) -> Result<(), AllocError>
     ensures { OnOk result (out.new.items ≡ out.old.items ++ broken_words rule level column) }
 {
-    put_text_start(out, b"q", x_of(column) + 112, y_of(level) + 4)?;
+    put_text_start(
+        out,
+        b"<text class='q' x='",
+        x_of(column) + 112,
+        y_of(level) + 4,
+    )?;
     put(out, words_of(rule))?;
     put(out, b"</text>")
 }

@@ -1,13 +1,13 @@
 //! What is kept of the events so far, so that a row is laid out by a few look-ups.
 
-ghost use Rattle.std.specs.Prelude.{◌≡◌, ℕ, ◌++◌, ◌∷◌, [], List, Some, OnOk, IfOk, is_some, length, if◌then◌else◌};
+ghost use Rattle.std.specs.Prelude.{◌≡◌, ℕ, ◌++◌, ◌∷◌, [], List, Some, OnOk, IfOk, IfSome, IfNone, is_some, length, if◌then◌else◌};
 ghost use Rattle.std.specs.Option.{option_copied};
 ghost use Rattle.std.specs.HashMap.{get};
 ghost use Rattle.address.specs.Ids.{Address, same_address, same_view_id};
 ghost use Rattle.trace_props.specs.declared.event.Event.{Event};
 ghost use Rattle.trace_props.specs.Observed.{member_of, is_end};
-ghost use Rattle.trace_drawing.specs.Layout.{same_message, message_sent, view_installed, reached_by, column_of, row_of, member_line};
-ghost use Rattle.trace_drawing.specs.Known.{blocked_after, lifeline_after, KnowsSends, KnowsInstalls, Knows};
+ghost use Rattle.trace_drawing.specs.Layout.{same_message, message_sent, view_installed, reached_by, row_of, member_line};
+ghost use Rattle.trace_drawing.specs.Known.{blocked_after, lifeline_after, row_after, KnowsSends, KnowsInstalls, Knows};
 
 use crate::row::{Line, MessageKey, Row};
 use address::{Address, ViewId};
@@ -127,6 +127,40 @@ fn lifeline_after(kept: Option<&Lifeline>, column: u32, level: u32, event: &Even
     }
 }
 
+// How the row of a member's next event is laid out at a level, by what is kept of the member.
+fn row_after(kept: &Lifeline, level: u32, origin: Option<u32>) -> Row
+    ensures { (next : ℕ) → result ≡ row_after (Some kept.now) next level origin }
+{
+    Row {
+        column: kept.column,
+        level,
+        before: Some(kept.last),
+        blocked: kept.blocked,
+        origin,
+    }
+}
+
+// Keeps the next event of a member of which something is kept, and answers what that was.
+fn note_again(
+    lifelines: &mut HashMap<Address, Lifeline>,
+    member: Address,
+    event: &Event,
+    level: u32,
+) -> Option<Lifeline>
+    ensures before { result ≡ get same_address lifelines.old member }
+    ensures known { IfSome result (λ kept. (other : Address) → get same_address lifelines.new other ≡ (if same_address member other then Some (lifeline_after (Some kept) kept.column level event.now) else get same_address lifelines.old other)) }
+    ensures unknown { IfNone result ((other : Address) → get same_address lifelines.new other ≡ get same_address lifelines.old other) }
+{
+    match lifelines.get_mut(&member) {
+        None => None,
+        Some(kept) => {
+            let before = *kept;
+            *kept = lifeline_after(Some(&before), before.column, level, event);
+            Some(before)
+        }
+    }
+}
+
 // Keeps a member's lifeline.
 fn put_lifeline(
     lifelines: &mut HashMap<Address, Lifeline>,
@@ -139,25 +173,53 @@ fn put_lifeline(
     Ok(())
 }
 
-// Keeps the member to whom an event happens at a level.
-fn note_member(
+// Keeps the first event of a member, in a column.
+fn note_first(
     members: &mut Vec<Address>,
     lifelines: &mut HashMap<Address, Lifeline>,
+    member: Address,
     event: &Event,
     column: u32,
     level: u32,
 ) -> Result<(), AllocError>
-    ensures members { OnOk result (members.new.items ≡ (if is_some (get same_address lifelines.old (member_of event.now)) then members.old.items else members.old.items ++ member_of event.now ∷ [])) }
-    ensures lifelines { OnOk result ((other : Address) → get same_address lifelines.new other ≡ (if same_address (member_of event.now) other then Some (lifeline_after (get same_address lifelines.old (member_of event.now)) column level event.now) else get same_address lifelines.old other)) }
+    ensures members { OnOk result (members.new.items ≡ members.old.items ++ member ∷ []) }
+    ensures lifelines { OnOk result ((other : Address) → get same_address lifelines.new other ≡ (if same_address member other then Some (lifeline_after None column level event.now) else get same_address lifelines.old other)) }
 {
-    let member = member(event);
-    let kept = lifelines.get(&member);
-    if kept.is_none() {
-        members.push(member)?;
-    }
-    let lifeline = lifeline_after(kept, column, level, event);
+    members.push(member)?;
+    let lifeline = lifeline_after(None, column, level, event);
     put_lifeline(lifelines, member, lifeline)?;
     Ok(())
+}
+
+// Keeps the next event of a member, at a level, and answers how its row is laid out. Refused where there are 2^32 members already.
+fn note_member(
+    members: &mut Vec<Address>,
+    lifelines: &mut HashMap<Address, Lifeline>,
+    event: &Event,
+    level: u32,
+    origin: Option<u32>,
+) -> Result<Row, AllocError>
+    ensures row { IfOk result (λ row. row ≡ row_after (get same_address lifelines.old (member_of event.now)) (length members.old.items) level origin) }
+    ensures members { OnOk result (members.new.items ≡ (if is_some (get same_address lifelines.old (member_of event.now)) then members.old.items else members.old.items ++ member_of event.now ∷ [])) }
+    ensures lifelines { IfOk result (λ row. (other : Address) → get same_address lifelines.new other ≡ (if same_address (member_of event.now) other then Some (lifeline_after (get same_address lifelines.old (member_of event.now)) row.column level event.now) else get same_address lifelines.old other)) }
+{
+    let member = member(event);
+    match note_again(lifelines, member, event, level) {
+        Some(kept) => Ok(row_after(&kept, level, origin)),
+        None => match u32::try_from(members.len()) {
+            Err(_) => Err(AllocError),
+            Ok(column) => {
+                note_first(members, lifelines, member, event, column, level)?;
+                Ok(Row {
+                    column,
+                    level,
+                    before: None,
+                    blocked: false,
+                    origin,
+                })
+            }
+        },
+    }
 }
 
 // The message that an event sends.
@@ -253,48 +315,19 @@ impl Known {
         }
     }
 
-    /// How the row of the next event is laid out, at a level. Refused where there are 2^32 members already.
-    pub fn row(&self, event: &Event, level: u32) -> Result<Row, AllocError>
-        ensures { IfOk result (λ row. (at : ℕ → ℕ) (t : List Event) → level ≡ at (length t) → Knows at self.now.members.items (get same_address self.now.lifelines) (get same_message self.now.sends) (get same_view_id self.now.installs) t → row ≡ row_of at t event.now) }
-    {
-        let origin = origin(&self.sends, &self.installs, event);
-        match self.lifelines.get(&member(event)) {
-            Some(lifeline) => Ok(Row {
-                column: lifeline.column,
-                level,
-                before: Some(lifeline.last),
-                blocked: lifeline.blocked,
-                origin,
-            }),
-            None => match u32::try_from(self.members.len()) {
-                Ok(column) => Ok(Row {
-                    column,
-                    level,
-                    before: None,
-                    blocked: false,
-                    origin,
-                }),
-                Err(_) => Err(AllocError),
-            },
-        }
-    }
-
-    /// Keeps the next event, with its number, its column and its level.
-    pub fn note(
-        &mut self,
-        event: &Event,
-        number: u32,
-        column: u32,
-        level: u32,
-    ) -> Result<(), AllocError>
-        ensures { OnOk result ((at : ℕ → ℕ) (t : List Event) → number ≡ length t → column ≡ column_of (member_of event.now) t → level ≡ at (length t)
+    /// Keeps the next event, with its number, at a level, and answers how its row is laid out. Refused where there are 2^32 members already.
+    pub fn note(&mut self, event: &Event, number: u32, level: u32) -> Result<Row, AllocError>
+        ensures row { IfOk result (λ row. (at : ℕ → ℕ) (t : List Event) → level ≡ at (length t)
+            → Knows at self.old.members.items (get same_address self.old.lifelines) (get same_message self.old.sends) (get same_view_id self.old.installs) t → row ≡ row_of at t event.now) }
+        ensures known { OnOk result ((at : ℕ → ℕ) (t : List Event) → number ≡ length t → level ≡ at (length t)
             → Knows at self.old.members.items (get same_address self.old.lifelines) (get same_message self.old.sends) (get same_view_id self.old.installs) t
             → Knows at self.new.members.items (get same_address self.new.lifelines) (get same_message self.new.sends) (get same_view_id self.new.installs) (t ++ event.now ∷ [])) }
     {
-        note_member(&mut self.members, &mut self.lifelines, event, column, level)?;
+        let origin = origin(&self.sends, &self.installs, event);
+        let row = note_member(&mut self.members, &mut self.lifelines, event, level, origin)?;
         note_sent(&mut self.sends, event, number)?;
         note_installed(&mut self.installs, event, number)?;
-        Ok(())
+        Ok(row)
     }
 
     /// The line of a member.

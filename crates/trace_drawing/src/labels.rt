@@ -1,7 +1,9 @@
 //! Payloads as labels: text where they are printable, else hexadecimal; cut, and escaped.
 
 ghost use Rattle.std.specs.Prelude.{◌≡◌, ◌++◌, take, OnOk};
+ghost use Rattle.std.specs.List.{list_all};
 ghost use Rattle.trace_drawing.specs.Labels.{escaped_byte, escaped, is_printable, is_text, dots, label};
+ghost use Rattle.trace_drawing.specs.Promises.{is_plain};
 
 use std::alloc::AllocError;
 use vsync_text::{put, put_hex};
@@ -37,10 +39,26 @@ fn put_escaped(out: &mut Vec<u8>, byte: u8) -> Result<(), AllocError>
     }
 }
 
+// Whether a byte means itself in a text of XML.
+fn is_plain(byte: u8) -> bool
+    ensures { result ≡ is_plain byte }
+{
+    byte != b'<' && byte != b'>' && byte != b'&'
+}
+
+fn is_plain_text(bytes: &[u8]) -> bool
+    ensures { result ≡ list_all is_plain bytes.now }
+{
+    bytes.iter().all(|byte| is_plain(*byte))
+}
+
 // Appends bytes as text of XML.
 fn put_text(out: &mut Vec<u8>, bytes: &[u8]) -> Result<(), AllocError>
     ensures { OnOk result (out.new.items ≡ out.old.items ++ escaped bytes.now) }
 {
+    if is_plain_text(bytes) {
+        return put(out, bytes);
+    }
     for byte in bytes {
         put_escaped(out, *byte)?;
     }

@@ -60,9 +60,7 @@ fn rows_and_lines(
     let mut passed = 0;
     for (index, event) in events.iter().enumerate() {
         passed = above(asides, passed, index);
-        let row = known.row(event, (index + passed) as u32)?;
-        known.note(event, index as u32, row.column, row.level)?;
-        rows.push(row)?;
+        rows.push(known.note(event, index as u32, (index + passed) as u32)?)?;
     }
     let lines = lines(alloc, &known)?;
     Ok((rows, lines))

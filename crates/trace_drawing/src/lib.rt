@@ -10,6 +10,7 @@ mod law;
 mod layout;
 mod levels;
 mod marks;
+mod packet_rows;
 mod packets;
 mod picture;
 mod refusals;

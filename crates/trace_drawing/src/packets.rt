@@ -1,18 +1,19 @@
 //! The marks of packets.
 
-ghost use Rattle.std.specs.Prelude.{◌≡◌, ◌++◌, List, nat_eq, flat_map, option_to_list, OnOk};
-ghost use Rattle.std.specs.HashMap.{get};
+ghost use Rattle.std.specs.Prelude.{◌≡◌, ◌++◌, ◌+◌, List, codes, flat_map, option_to_list, IfOk, OnOk};
+ghost use Rattle.vsync_text.specs.PacketText.{kind_in};
 ghost use Rattle.trace_drawing.specs.declared.aside.AsideRow.{AsideRow};
-ghost use Rattle.trace_drawing.specs.Spelling.{mark_text};
-ghost use Rattle.trace_drawing.specs.Packets.{bytes_numbered, packet_start, packet_name, packet_group, handed_start, handed_name, handed_group, KnowsWays};
+ghost use Rattle.trace_drawing.specs.Spelling.{mark_text, start_behind};
+ghost use Rattle.trace_drawing.specs.Marks.{x_in, y_of};
+ghost use Rattle.trace_drawing.specs.Packets.{bytes_numbered, packet_start, packet_name, packet_group, handed_start, handed_name, handed_group, row_in, KnowsWays};
 
 use crate::aside::AsideRow;
 use crate::marks::{Mark, Place, aside_place, x_in, y_of};
-use crate::spelling::{put_mark, put_number, put_some_mark, put_text_start};
+use crate::spelling::{put_mark, put_over, put_some_mark, put_text_start};
 use crate::ways::Ways;
 use std::alloc::AllocError;
 use trace_props::Bytes;
-use vsync_text::{append_kind, append_packet, put, put_decimal};
+use vsync_text::{append_packet, put};
 
 /// The bytes of the packet of a number, from 1; none where there is none.
 pub fn bytes_numbered(packets: &[Bytes], number: u64) -> &[u8]
@@ -30,13 +31,31 @@ pub fn bytes_numbered(packets: &[Bytes], number: u64) -> &[u8]
     }
 }
 
-// Appends the beginning of a packet's group.
-fn put_packet_start(out: &mut Vec<u8>, number: u64, bytes: &[u8]) -> Result<(), AllocError>
-    ensures { OnOk result (out.new.items ≡ out.old.items ++ packet_start number bytes.now) }
+// Appends the beginning of a packet's group, and answers the name of what the packet says.
+fn put_packet_start(
+    out: &mut Vec<u8>,
+    number: u64,
+    bytes: &[u8],
+) -> Result<&'static [u8], AllocError>
+    ensures text { OnOk result (out.new.items ≡ out.old.items ++ packet_start number bytes.now) }
+    ensures kind { IfOk result (λ kind. kind.now ≡ kind_in bytes.now) }
 {
     put(out, b"<g><title>")?;
-    append_packet(out, number, bytes)?;
-    put(out, b"</title>")
+    let kind = append_packet(out, number, bytes)?;
+    put(out, b"</title>")?;
+    Ok(kind)
+}
+
+// Appends the beginning of a packet's name.
+fn put_name_start(out: &mut Vec<u8>, row: &AsideRow) -> Result<(), AllocError>
+    ensures { OnOk result (out.new.items ≡ out.old.items ++ start_behind (codes "<text class='j' x='") (x_in row.now.column + 11) (y_of row.now.level + 4)) }
+{
+    put_text_start(
+        out,
+        b"<text class='j' x='",
+        x_in(row.column) + 11,
+        y_of(row.level) + 4,
+    )
 }
 
 // Appends the number of a packet and its kind.
@@ -44,13 +63,14 @@ fn put_packet_name(
     out: &mut Vec<u8>,
     row: &AsideRow,
     number: u64,
-    bytes: &[u8],
+    kind: &[u8],
 ) -> Result<(), AllocError>
-    ensures { OnOk result (out.new.items ≡ out.old.items ++ packet_name row.now number bytes.now) }
+    ensures { OnOk result (out.new.items ≡ out.old.items ++ packet_name row.now number kind.now) }
 {
-    put_text_start(out, b"j", x_in(row.column) + 11, y_of(row.level) + 4)?;
-    put_decimal(out, number)?;
-    append_kind(out, bytes)?;
+    let mut first = *b"00000000000000000000 ";
+    put_name_start(out, row)?;
+    put_over(out, number, &mut first)?;
+    put(out, kind)?;
     put(out, b"</text>")
 }
 
@@ -70,11 +90,11 @@ pub fn put_packet_group(
     number: u64,
     bytes: &[u8],
 ) -> Result<(), AllocError>
-    ensures { OnOk result ((rows : List AsideRow) → KnowsWays (get nat_eq ways.now.sources) (get nat_eq ways.now.ends) rows → out.new.items ≡ out.old.items ++ packet_group rows row.now number bytes.now) }
+    ensures { OnOk result ((rows : List AsideRow) → KnowsWays (row_in ways.now.sources) (row_in ways.now.ends) rows → out.new.items ≡ out.old.items ++ packet_group rows row.now number bytes.now) }
 {
-    put_packet_start(out, number, bytes)?;
+    let kind = put_packet_start(out, number, bytes)?;
     put_packet_marks(out, aside_place(row), ways.lost(row, number))?;
-    put_packet_name(out, row, number, bytes)?;
+    put_packet_name(out, row, number, kind)?;
     put(out, b"</g>\n")
 }
 
@@ -82,17 +102,18 @@ pub fn put_packet_group(
 fn put_handed_start(out: &mut Vec<u8>, number: u64) -> Result<(), AllocError>
     ensures { OnOk result (out.new.items ≡ out.old.items ++ handed_start number) }
 {
-    put_number(out, b"<g><title>deliver ", number)?;
-    put(out, b"\n</title>")
+    let mut last = *b"00000000000000000000\n</title>";
+    put(out, b"<g><title>deliver ")?;
+    put_over(out, number, &mut last)
 }
 
 // Appends the number of a packet.
 fn put_handed_name(out: &mut Vec<u8>, row: &AsideRow, number: u64) -> Result<(), AllocError>
     ensures { OnOk result (out.new.items ≡ out.old.items ++ handed_name row.now number) }
 {
-    put_text_start(out, b"j", x_in(row.column) + 11, y_of(row.level) + 4)?;
-    put_decimal(out, number)?;
-    put(out, b"</text>")
+    let mut last = *b"00000000000000000000</text>";
+    put_name_start(out, row)?;
+    put_over(out, number, &mut last)
 }
 
 /// Appends all that is drawn of a packet in a row in which it is handed over.
@@ -103,7 +124,7 @@ pub fn put_handed_group(
     row: &AsideRow,
     number: u64,
 ) -> Result<(), AllocError>
-    ensures { OnOk result (KnowsWays (get nat_eq ways.now.sources) (get nat_eq ways.now.ends) rows.now → out.new.items ≡ out.old.items ++ handed_group rows.now row.now number) }
+    ensures { OnOk result (KnowsWays (row_in ways.now.sources) (row_in ways.now.ends) rows.now → out.new.items ≡ out.old.items ++ handed_group rows.now row.now number) }
 {
     put_handed_start(out, number)?;
     put_some_mark(out, ways.to(rows, row, number))?;

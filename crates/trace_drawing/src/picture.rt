@@ -15,7 +15,7 @@ use crate::marks::{
     place_of, x_of, y_of,
 };
 use crate::row::{Line, Row};
-use crate::spelling::{put_mark, put_number, put_some_mark};
+use crate::spelling::{put_mark, put_number, put_over, put_some_mark};
 use crate::texts::{put_line_title, put_name_above, put_row_number, put_texts};
 use std::alloc::{AllocError, Global};
 use trace_props::{Bytes, Event, Verdict};
@@ -39,7 +39,9 @@ path{fill:none}\
 .m{stroke:currentColor;stroke-width:1.3;stroke-opacity:.75}\
 .v{stroke:#5b7fb5;stroke-width:18;stroke-opacity:.2}\
 .k{stroke:#555;stroke-width:2}\
-.d{fill:currentColor}\
+.u,.d{stroke:currentColor;stroke-linecap:round}\
+.u{stroke-width:14}\
+.d{stroke-width:8}\
 .p{fill:#e4ecf8;stroke:#5b7fb5}\
 .g{fill:#2a8f4f}\
 .o{fill:#fff;stroke:#555;stroke-width:2}\
@@ -78,8 +80,9 @@ fn colour(rows: &[Row], row: &Row, event: &Event) -> u32
 fn put_group_start(out: &mut Vec<u8>, colour: u32, event: &Event) -> Result<(), AllocError>
     ensures { OnOk result (out.new.items ≡ out.old.items ++ group_start colour event.now) }
 {
-    put_number(out, b"<g class='c", u64::from(colour))?;
-    put(out, b"'><title>")?;
+    let mut first = *b"00000000000000000000'><title>";
+    put(out, b"<g class='c")?;
+    put_over(out, u64::from(colour), &mut first)?;
     append_event(out, event)?;
     put(out, b"</title>")
 }

@@ -5,13 +5,13 @@ ghost use Rattle.std.specs.Option.{option_copied};
 ghost use Rattle.address.specs.Ids.{text_of_address, text_of_view_id};
 ghost use Rattle.trace_drawing.specs.Labels.{label};
 ghost use Rattle.trace_drawing.specs.Marks.{x_of, y_of, place_of};
-ghost use Rattle.trace_drawing.specs.Spelling.{text_start, text_at};
+ghost use Rattle.trace_drawing.specs.Spelling.{start_behind, text_behind, text_at};
 ghost use Rattle.trace_drawing.specs.Picture.{beside, given_text, back_text, install_text, texts_of, same_block, name_above, name_text, number_text, line_start};
 
 use crate::labels::put_label;
 use crate::marks::{BLOCK, names_y, place_of, x_of, y_of};
 use crate::row::Row;
-use crate::spelling::{put_number, put_path, put_text_start};
+use crate::spelling::{put_number, put_over, put_shape, put_text_start};
 use address::{Address, ViewId};
 use std::alloc::AllocError;
 use trace_props::{Bytes, Event, Install, Numbered};
@@ -33,29 +33,28 @@ fn put_view_id(out: &mut Vec<u8>, view: ViewId) -> Result<(), AllocError>
     put_address(out, b'@', &view.creator())
 }
 
-// Appends the beginning of a text beside a mark.
+// Appends the beginning of a text beside a mark, behind what stands before its place.
 fn put_beside_start(
     out: &mut Vec<u8>,
-    class: &[u8],
+    before: &[u8],
     level: u32,
     column: u32,
 ) -> Result<(), AllocError>
-    ensures { OnOk result (out.new.items ≡ out.old.items ++ text_start class.now (x_of column + 11) (y_of level + 4)) }
+    ensures { OnOk result (out.new.items ≡ out.old.items ++ start_behind before.now (x_of column + 11) (y_of level + 4)) }
 {
-    put_text_start(out, class, x_of(column) + 11, y_of(level) + 4)
+    put_text_start(out, before, x_of(column) + 11, y_of(level) + 4)
 }
 
 // Appends a text beside a mark.
 fn put_beside(
     out: &mut Vec<u8>,
-    class: &[u8],
     level: u32,
     column: u32,
     content: &[u8],
 ) -> Result<(), AllocError>
-    ensures { OnOk result (out.new.items ≡ out.old.items ++ beside class.now level column content.now) }
+    ensures { OnOk result (out.new.items ≡ out.old.items ++ beside (codes "t") level column content.now) }
 {
-    put_beside_start(out, class, level, column)?;
+    put_beside_start(out, b"<text class='t' x='", level, column)?;
     put(out, content)?;
     put(out, b"</text>")
 }
@@ -63,14 +62,14 @@ fn put_beside(
 // Appends what is shown of a payload, beside a mark.
 fn put_payload(
     out: &mut Vec<u8>,
-    class: &[u8],
+    before: &[u8],
     level: u32,
     column: u32,
     payload: &[u8],
 ) -> Result<(), AllocError>
-    ensures { OnOk result (out.new.items ≡ out.old.items ++ beside class.now level column (label payload.now)) }
+    ensures { OnOk result (out.new.items ≡ out.old.items ++ text_behind before.now (x_of column + 11) (y_of level + 4) (label payload.now)) }
 {
-    put_beside_start(out, class, level, column)?;
+    put_beside_start(out, before, level, column)?;
     put_label(out, payload)?;
     put(out, b"</text>")
 }
@@ -86,7 +85,12 @@ fn put_given(
 {
     match given {
         None => Ok(()),
-        Some(_) => put_path(out, b"g", place_of(level, column), b"m-54-5h10l-5 9z"),
+        Some(_) => put_shape(
+            out,
+            b"<path class='g' d='M",
+            place_of(level, column),
+            b"m-54-5h10l-5 9z'/>",
+        ),
     }
 }
 
@@ -97,17 +101,21 @@ fn put_back(out: &mut Vec<u8>, back: &[Numbered], level: u32, column: u32) -> Re
     if back.is_empty() {
         return Ok(());
     }
-    put_text_start(out, b"t", x_of(column) + 44, y_of(level) + 4)?;
-    put_decimal(out, back.len() as u64)?;
-    put(out, b" back")?;
-    put(out, b"</text>")
+    let mut last = *b"00000000000000000000 back</text>";
+    put_text_start(
+        out,
+        b"<text class='t' x='",
+        x_of(column) + 44,
+        y_of(level) + 4,
+    )?;
+    put_over(out, back.len() as u64, &mut last)
 }
 
 // Appends the id of a view that is installed.
 fn put_installed(out: &mut Vec<u8>, view: ViewId, level: u32, column: u32) -> Result<(), AllocError>
     ensures { OnOk result (out.new.items ≡ out.old.items ++ text_at (codes "i") (x_of column) (y_of level + 4) (text_of_view_id view)) }
 {
-    put_text_start(out, b"i", x_of(column), y_of(level) + 4)?;
+    put_text_start(out, b"<text class='i' x='", x_of(column), y_of(level) + 4)?;
     put_view_id(out, view)?;
     put(out, b"</text>")
 }
@@ -136,14 +144,20 @@ pub fn put_texts(
     ensures { OnOk result (out.new.items ≡ out.old.items ++ texts_of event.now level column) }
 {
     match event {
-        Event::Started(_) => put_beside(out, b"t", level, column, b"started"),
+        Event::Started(_) => put_beside(out, level, column, b"started"),
         Event::Sent(sending) => {
-            put_payload(out, b"b", level, column, sending.message.payload.as_slice())
+            put_payload(
+                out,
+                b"<text class='b' x='",
+                level,
+                column,
+                sending.message.payload.as_slice(),
+            )
         }
         Event::Delivered(delivery) => {
             put_payload(
                 out,
-                b"t",
+                b"<text class='t' x='",
                 level,
                 column,
                 delivery.message.payload.as_slice(),
@@ -151,8 +165,8 @@ pub fn put_texts(
         }
         Event::Blocked(_) => Ok(()),
         Event::Installed(install) => put_install(out, install.get(), level, column),
-        Event::Left(_) => put_beside(out, b"t", level, column, b"left"),
-        Event::Crashed(_) => put_beside(out, b"t", level, column, b"crashed"),
+        Event::Left(_) => put_beside(out, level, column, b"left"),
+        Event::Crashed(_) => put_beside(out, level, column, b"crashed"),
     }
 }
 
@@ -170,7 +184,7 @@ fn same_block(level: u32, before: Option<u32>) -> bool
 fn put_above(out: &mut Vec<u8>, level: u32, column: u32, member: &Address) -> Result<(), AllocError>
     ensures { OnOk result (out.new.items ≡ out.old.items ++ name_above level column member.now) }
 {
-    put_text_start(out, b"n", x_of(column), names_y(level))?;
+    put_text_start(out, b"<text class='n' x='", x_of(column), names_y(level))?;
     put_name(out, member)?;
     put(out, b"</text>")
 }
@@ -190,9 +204,11 @@ pub fn put_name_above(out: &mut Vec<u8>, row: &Row, member: &Address) -> Result<
 pub fn put_row_number(out: &mut Vec<u8>, number: u32, level: u32) -> Result<(), AllocError>
     ensures { OnOk result (out.new.items ≡ out.old.items ++ number_text number level) }
 {
-    put_text_start(out, b"r", 40, y_of(level) + 4)?;
-    put_decimal(out, u64::from(number) + 1)?;
-    put(out, b"</text>")
+    let mut first = *b"00000000000000000000'>";
+    let mut second = *b"00000000000000000000</text>";
+    put(out, b"<text class='r' x='40' y='")?;
+    put_over(out, y_of(level) + 4, &mut first)?;
+    put_over(out, u64::from(number) + 1, &mut second)
 }
 
 /// Appends the title of a member's line: its address.

@@ -1,23 +1,22 @@
 //! From where packets come, and which are lost.
 
-ghost use Rattle.std.specs.Prelude.{◌≡◌, ◌++◌, ◌∷◌, [], List, length, nat_eq, IfOk, OnOk};
+ghost use Rattle.std.specs.Prelude.{◌≡◌, ◌++◌, ◌∷◌, [], List, length, IfOk, OnOk};
 ghost use Rattle.std.specs.Option.{option_copied};
-ghost use Rattle.std.specs.HashMap.{get};
 ghost use Rattle.trace_drawing.specs.declared.aside.AsideRow.{AsideRow};
 ghost use Rattle.trace_drawing.specs.Marks.{x_in};
-ghost use Rattle.trace_drawing.specs.Packets.{towards, in_the_air, lost_way, way_to, KnowsWays};
+ghost use Rattle.trace_drawing.specs.Packets.{towards, in_the_air, lost_way, way_to, row_in, KnowsWays};
 
 use crate::aside::{AsideKind, AsideRow};
-use crate::known::put_row;
 use crate::marks::{Mark, Place, aside_place, x_in, y_of};
+use crate::packet_rows::PacketRows;
 use std::alloc::{AllocError, Global};
-use std::collections::HashMap;
+use trace_props::Bytes;
 
 /// In which row each packet is put out last, and in which it is handed over last, if it is.
 #[derive(Drop)]
 pub struct Ways {
-    pub sources: HashMap<u64, u32>,
-    pub ends: HashMap<u64, u32>,
+    pub sources: PacketRows,
+    pub ends: PacketRows,
 }
 
 // A little way from one column towards another.
@@ -47,34 +46,34 @@ fn in_the_air(row: &AsideRow) -> Place
 
 // Keeps the next row.
 fn note_row(
-    sources: &mut HashMap<u64, u32>,
-    ends: &mut HashMap<u64, u32>,
+    sources: &mut PacketRows,
+    ends: &mut PacketRows,
     row: &AsideRow,
     number: u32,
 ) -> Result<(), AllocError>
     ensures { OnOk result ((rows : List AsideRow) → number ≡ length rows
-        → KnowsWays (get nat_eq sources.old) (get nat_eq ends.old) rows → KnowsWays (get nat_eq sources.new) (get nat_eq ends.new) (rows ++ row.now ∷ [])) }
+        → KnowsWays (row_in sources.old) (row_in ends.old) rows → KnowsWays (row_in sources.new) (row_in ends.new) (rows ++ row.now ∷ [])) }
 {
     match row.kind {
         AsideKind::Refused { .. } => Ok(()),
         AsideKind::PutOut(packet) => {
-            put_row(sources, packet, number)?;
+            sources.put(packet, number)?;
             Ok(())
         }
         AsideKind::HandedOver(packet) => {
-            put_row(ends, packet, number)?;
+            ends.put(packet, number)?;
             Ok(())
         }
     }
 }
 
 impl Ways {
-    /// The ways of the packets of which rows speak. Refused where there are more than 2^32 rows.
-    pub fn new(alloc: Global, rows: &[AsideRow]) -> Result<Ways, AllocError>
-        ensures { IfOk result (λ ways. KnowsWays (get nat_eq ways.sources) (get nat_eq ways.ends) rows.now) }
+    /// The ways of the packets of which rows speak, of these packets or of others. Refused where there are more than 2^32 rows.
+    pub fn new(alloc: Global, rows: &[AsideRow], packets: &[Bytes]) -> Result<Ways, AllocError>
+        ensures { IfOk result (λ ways. KnowsWays (row_in ways.sources) (row_in ways.ends) rows.now) }
     {
-        let mut sources = HashMap::new(alloc);
-        let mut ends = HashMap::new(alloc);
+        let mut sources = PacketRows::new(alloc, packets)?;
+        let mut ends = PacketRows::new(alloc, packets)?;
         for (index, row) in rows.iter().enumerate() {
             match u32::try_from(index) {
                 Err(_) => return Err(AllocError),
@@ -86,9 +85,9 @@ impl Ways {
 
     /// The way of a packet that is put out in a row, if it is lost.
     pub fn lost(&self, row: &AsideRow, packet: u64) -> Option<Mark>
-        ensures { (rows : List AsideRow) → KnowsWays (get nat_eq self.now.sources) (get nat_eq self.now.ends) rows → result ≡ lost_way rows row.now packet }
+        ensures { (rows : List AsideRow) → KnowsWays (row_in self.now.sources) (row_in self.now.ends) rows → result ≡ lost_way rows row.now packet }
     {
-        if self.ends.get(&packet).is_some() {
+        if self.ends.get(packet).is_some() {
             return None;
         }
         Some(Mark::Lost {
@@ -99,11 +98,11 @@ impl Ways {
 
     /// The way of a packet that is handed over in a row, if it is known where it was put out.
     pub fn to(&self, rows: &[AsideRow], row: &AsideRow, packet: u64) -> Option<Mark>
-        ensures { KnowsWays (get nat_eq self.now.sources) (get nat_eq self.now.ends) rows.now → result ≡ way_to rows.now row.now packet }
+        ensures { KnowsWays (row_in self.now.sources) (row_in self.now.ends) rows.now → result ≡ way_to rows.now row.now packet }
     {
-        match self.sources.get(&packet) {
+        match self.sources.get(packet) {
             None => None,
-            Some(source) => match rows.get(*source as usize) {
+            Some(source) => match rows.get(source as usize) {
                 None => None,
                 Some(from) => Some(Mark::Way {
                     from: aside_place(from),

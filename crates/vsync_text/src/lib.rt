@@ -9,6 +9,6 @@ mod trace_line;
 
 pub use append::{put, put_address, put_addresses, put_decimal, put_hex, put_number, put_view_id};
 pub use buffered::put_all;
-pub use packet_lines::{append_kind, append_packet, append_packets};
+pub use packet_lines::{append_packet, append_packets};
 pub use run::{Printed, write_run};
 pub use trace_line::{append_event, append_refusal};

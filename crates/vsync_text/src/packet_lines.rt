@@ -1,6 +1,6 @@
 //! The lines of packets as text (docs/FORMATS.md, "The packets' lines").
 
-ghost use Rattle.std.specs.Prelude.{◌≡◌, ◌++◌, ◌∷◌, [], ℕ, Ok, take, OnOk, OnErr};
+ghost use Rattle.std.specs.Prelude.{◌≡◌, ◌++◌, ◌∷◌, [], ℕ, Ok, take, IfOk, OnOk, OnErr};
 ghost use Rattle.std.specs.List.{concat};
 ghost use Rattle.wire.specs.Packets.{packet_of};
 ghost use Rattle.vsync_text.specs.TraceText.{GoesOnFrom, field, hex_of};
@@ -34,26 +34,35 @@ fn kind_name(body: &Body<'_>) -> &'static [u8]
     }
 }
 
-/// Appends what a packet says, who sent it and to whom, each behind a space.
+/// Appends what a packet says, by its name, who sent it and to whom, each behind a space.
 #[tactic(auto, using(crate::proofs::KeepFront::goes_on))]
-fn put_named(out: &mut Vec<u8>, packet: &Packet<'_>) -> Result<(), AllocError>
+fn put_named(out: &mut Vec<u8>, kind: &[u8], packet: &Packet<'_>) -> Result<(), AllocError>
+    requires kind { kind.now ≡ kind_name packet.now.body }
     ensures text { OnOk result (out.new.items ≡ out.old.items ++ packet_fields (Ok packet.now)) }
     ensures kept { GoesOnFrom out.old.items out.new.items }
 {
     put(out, b" ")?;
-    put(out, kind_name(&packet.body))?;
+    put(out, kind)?;
     put_address(out, b' ', &packet.source)?;
     put_address(out, b' ', &packet.destination)
 }
 
-/// Appends what bytes say as a packet, who sent it and to whom, `-` for each where they spell none.
-fn put_fields(out: &mut Vec<u8>, bytes: &[u8]) -> Result<(), AllocError>
+/// Appends what bytes say as a packet, who sent it and to whom, `-` for each where they spell none. Answers the first of these.
+fn put_fields(out: &mut Vec<u8>, bytes: &[u8]) -> Result<&'static [u8], AllocError>
     ensures text { OnOk result (out.new.items ≡ out.old.items ++ packet_fields (packet_of bytes.now)) }
+    ensures kind { IfOk result (λ kind. kind.now ≡ kind_in bytes.now) }
     ensures kept { GoesOnFrom out.old.items out.new.items }
 {
     match decode(bytes) {
-        Ok(packet) => put_named(out, &packet),
-        Err(_) => put(out, b" - - -"),
+        Ok(packet) => {
+            let kind = kind_name(&packet.body);
+            put_named(out, kind, &packet)?;
+            Ok(kind)
+        }
+        Err(_) => {
+            put(out, b" - - -")?;
+            Ok(b"-")
+        }
     }
 }
 
@@ -68,25 +77,36 @@ fn put_bytes(out: &mut Vec<u8>, bytes: &[u8]) -> Result<(), AllocError>
     put(out, b"\n")
 }
 
-/// Appends the line of a packet or a part of it.
+/// Appends the line of a packet or a part of it, and answers its kind.
 #[tactic(auto, using(crate::proofs::KeepFront::goes_on))]
-fn put_packet(out: &mut Vec<u8>, number: u64, bytes: &[u8]) -> Result<(), AllocError>
+fn put_packet(
+    out: &mut Vec<u8>,
+    number: u64,
+    bytes: &[u8],
+) -> Result<&'static [u8], AllocError>
     ensures text { OnOk result (out.new.items ≡ out.old.items ++ packet_line number bytes.now) }
+    ensures kind { IfOk result (λ kind. kind.now ≡ kind_in bytes.now) }
     ensures kept { GoesOnFrom out.old.items out.new.items }
 {
     put_decimal(out, number)?;
-    put_fields(out, bytes)?;
-    put_bytes(out, bytes)
+    let kind = put_fields(out, bytes)?;
+    put_bytes(out, bytes)?;
+    Ok(kind)
 }
 
 /// Appends the line of the packet of a number with its line feed, as `1 JOIN 2.1 1.1 5653..`. Bytes that spell no packet have `-` in the
-/// place of its kind and of both addresses.
+/// place of its kind and of both addresses. Answers the kind, as the line has it.
 ///
 /// # Errors
 ///
 /// Where memory is refused, the buffer is left as it was.
-pub fn append_packet(out: &mut Vec<u8>, number: u64, bytes: &[u8]) -> Result<(), AllocError>
+pub fn append_packet(
+    out: &mut Vec<u8>,
+    number: u64,
+    bytes: &[u8],
+) -> Result<&'static [u8], AllocError>
     ensures text { OnOk result (out.new.items ≡ out.old.items ++ packet_line number bytes.now) }
+    ensures kind { IfOk result (λ kind. kind.now ≡ kind_in bytes.now) }
     ensures err { OnErr result (out.new.items ≡ out.old.items) }
 {
     let before = out.len();
@@ -95,18 +115,6 @@ pub fn append_packet(out: &mut Vec<u8>, number: u64, bytes: &[u8]) -> Result<(),
         out.truncate(before);
     }
     result
-}
-
-/// Appends the name of what the packet says that bytes spell, behind a space; `-` where they spell none. Where memory is refused, a part may
-/// have been appended.
-pub fn append_kind(out: &mut Vec<u8>, bytes: &[u8]) -> Result<(), AllocError>
-    ensures { OnOk result (out.new.items ≡ out.old.items ++ field (kind_in bytes.now)) }
-{
-    put(out, b" ")?;
-    match decode(bytes) {
-        Ok(packet) => put(out, kind_name(&packet.body)),
-        Err(_) => put(out, b"-"),
-    }
 }
 
 /// Appends the lines of packets, numbered from 1.

@@ -1,10 +1,9 @@
-use Rattle.std.proofs.Common.{◌≡◌, ◌++◌, take, nat_eq}
+use Rattle.std.proofs.Common.{◌≡◌, ◌++◌, take}
 use Rattle.std.specs.Prelude.{flat_map}
-use Rattle.std.specs.HashMap.{get}
-use Rattle.trace_drawing.specs.Packets.{KnowsWays}
+use Rattle.trace_drawing.specs.Packets.{row_in, KnowsWays}
 use Rattle.trace_drawing.specs.Asides.{aside_group}
 use Rattle.trace_drawing.proofs.asides.put_aside_groups.Given as goal
 
 -- so far what is drawn is of the first asides
 abbrev pub invariant-loop-row : goal.invariant-loop-row
-invariant-loop-row l = KnowsWays (get nat_eq l.ways.sources) (get nat_eq l.ways.ends) l.rows → l.out.items ≡ l.initial.out.items ++ flat_map (aside_group l.rows l.packets) (take l.row-index l.rows)
+invariant-loop-row l = KnowsWays (row_in l.ways.sources) (row_in l.ways.ends) l.rows → l.out.items ≡ l.initial.out.items ++ flat_map (aside_group l.rows l.packets) (take l.row-index l.rows)

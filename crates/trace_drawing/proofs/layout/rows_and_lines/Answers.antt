@@ -3,7 +3,7 @@ use Rattle.std.specs.HashMap.{get}
 use Rattle.address.specs.Ids.{same_address, same_view_id}
 use Rattle.trace_drawing.specs.Layout.{same_message, level_of}
 use Rattle.trace_drawing.specs.Known.{Knows}
-use Rattle.trace_drawing.proofs.FactOfRows.{rows-next, known-next, row-column, row-level}
+use Rattle.trace_drawing.proofs.FactOfRows.{rows-next, known-next}
 use Rattle.trace_drawing.proofs.FactOfLevels.{level-here, above-next}
 use Rattle.trace_drawing.proofs.layout.rows_and_lines.Goals as goal
 
@@ -17,11 +17,11 @@ loop-index-preserved c =
     let at = level_of c.args.asides.now in
     let past = take c.loop-index.index c.args.events.now in
     let here = level-here c.args.asides.now c.args.events.now c.loop-index.index c.above-passed.result c.loop-index-test.true c.above-passed.ensures.is in
-    let is = c.in_ok-row.ensures at past here c.loop-index.invariant.1 in (
-      rows-next at c.args.events.now c.loop-index.index c.index-events-index.result c.loop-index.rows.items c.push.new.self.items c.in_ok-row.row c.index-events-index.is c.loop-index-test.true c.loop-index.invariant.0 is c.in_ok-push.ensures.items,
+    let is = c.in_ok-note.ensures.row at past here c.loop-index.invariant.1 in (
+      rows-next at c.args.events.now c.loop-index.index c.index-events-index.result c.loop-index.rows.items c.push.new.self.items c.in_ok-note.field-0 c.index-events-index.is c.loop-index-test.true c.loop-index.invariant.0 is c.in_ok-push.ensures.items,
       known-next c.args.events.now c.loop-index.index c.index-events-index.result
           (λ t. Knows at c.note.new.self.members.items (get same_address c.note.new.self.lifelines) (get same_message c.note.new.self.sends) (get same_view_id c.note.new.self.installs) t)
           c.index-events-index.is c.loop-index-test.true
-          (λ number. c.in_ok-note.ensures at past number (row-column at c.in_ok-row.row past c.index-events-index.result is) (row-level at c.in_ok-row.row past c.index-events-index.result is) c.loop-index.invariant.1),
+          (λ number. c.in_ok-note.ensures.known at past number here c.loop-index.invariant.1),
       above-next c.args.asides.now c.loop-index.index c.above-passed.result c.above-passed.ensures.is,
     )

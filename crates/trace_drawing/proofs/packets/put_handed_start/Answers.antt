@@ -5,6 +5,6 @@ use Rattle.trace_drawing.proofs.packets.put_handed_start.Goals as goal
 
 -- the script's line between its marks
 pub returns : goal.returns
-returns c = on_ok_weaker c.put.result (λ last. last ∙ ap (λ u. u ++ codes "\n</title>") c.in_ok-put_number.ensures
-    ∙ append_assoc c.args.out.now.items (codes "<g><title>deliver " ++ decimal c.args.number) (codes "\n</title>")
-    ∙ ap (λ t. c.args.out.now.items ++ (codes "<g><title>deliver " ++ t)) (sym (append_assoc (decimal c.args.number) (10 ∷ []) (codes "</title>")))) c.put.ensures.text
+returns c = on_ok_weaker c.put_over.result (λ last. last ∙ ap (λ u. u ++ (decimal c.args.number ++ codes "\n</title>")) c.in_ok-put.ensures.text
+    ∙ append_assoc c.args.out.now.items (codes "<g><title>deliver ") (decimal c.args.number ++ codes "\n</title>")
+    ∙ ap (λ t. c.args.out.now.items ++ (codes "<g><title>deliver " ++ t)) (sym (append_assoc (decimal c.args.number) (10 ∷ []) (codes "</title>")))) c.put_over.ensures
