@@ -6,7 +6,7 @@
     schedules.py changes SEED LINES NODES    the same with few messages and many changes of views
     schedules.py maps SEED LINES NODES       the first kind for `vsync map`, whose sends are commands of the map; then all that is outstanding is delivered
     schedules.py puts LINES                  the last kind with puts over 1,000 keys for `vsync map`
-    schedules.py steady LINES                five members in one view; one that is not the coordinator sends, and everything is delivered in order
+    schedules.py steady LINES [MEMBERS]      five members in one view, or so many; one that is not the coordinator sends, and everything is delivered in order
 
 A line `deliver K` names a packet by its number, so whoever writes a script must know which packets are put out. The classes below follow the rules of
 docs/PROTOCOL.md as far as that asks for: who puts out a packet of which kind for whom. Payloads and states are left out. The program is
@@ -536,17 +536,17 @@ def deliver_some(world, chance, member):
         world.deliver(packet)
 
 
-def steady(lines, says=lambda k: f"message {k}"):
+def steady(lines, members=5, says=lambda k: f"message {k}"):
     world = World()
 
     def settle():
         while world.flight:
             world.deliver(world.flight.pop(0))
 
-    for node in range(1, 6):
+    for node in range(1, members + 1):
         world.say("start", node)
     world.say("create", 1)
-    for node in range(2, 6):
+    for node in range(2, members + 1):
         world.say("join", node, (1, 1))
         settle()
     while len(world.lines) < lines:
@@ -565,9 +565,9 @@ def main(words):
         settle(world)
         made = world.lines
     elif len(words) == 2 and words[0] == "puts":
-        made = steady(int(words[1]), lambda k: f"put key{k % 1000:03} message {k}")
-    elif len(words) == 2 and words[0] == "steady":
-        made = steady(int(words[1]))
+        made = steady(int(words[1]), says=lambda k: f"put key{k % 1000:03} message {k}")
+    elif len(words) in (2, 3) and words[0] == "steady":
+        made = steady(*map(int, words[1:]))
     else:
         sys.exit(__doc__)
     sys.stdout.write("\n".join(made) + "\n")

@@ -105,12 +105,12 @@ fn site_of<R: Receiver>(world: &World<R>, target: Target) -> Option<Node>
 }
 
 // The packet of a number that goes to a node, where a member runs there.
-fn handed_at<R: Receiver>(world: &World<R>, number: u64, node: Option<Node>) -> Option<Aside>
-    ensures { node ≡ destination_in number world.now.history.pool → result ≡ handed_over (Target.Packet number) world.now.history }
+fn handed_at<R: Receiver>(world: &World<R>, number: u64, node: Option<&Node>) -> Option<Aside>
+    ensures { option_copied node.entry ≡ destination_in number world.now.history.pool → result ≡ handed_over (Target.Packet number) world.now.history }
 {
     match node {
         None => None,
-        Some(node) => match world.running(node) {
+        Some(node) => match world.running(*node) {
             None => None,
             Some(member) => Some(aside_at(
                 world.trace().events().len(),
@@ -125,9 +125,9 @@ fn handed_at<R: Receiver>(world: &World<R>, number: u64, node: Option<Node>) -> 
 fn handed_over<R: Receiver>(
     world: &World<R>,
     target: Target,
-    site: Option<Node>,
+    site: Option<&Node>,
 ) -> Option<Aside>
-    ensures { site ≡ site_of target world.now.history.pool → result ≡ handed_over target world.now.history }
+    ensures { option_copied site.entry ≡ site_of target world.now.history.pool → result ≡ handed_over target world.now.history }
 {
     match target {
         Target::Member(_) => None,
@@ -258,7 +258,7 @@ fn play_with_packets<R: Receiver>(
 {
     let past = world.packets().len();
     let site = site_of(world, event.target());
-    add(asides, handed_over(world, event.target(), site))?;
+    add(asides, handed_over(world, event.target(), site.as_ref()))?;
     play_alone(world, asides, line, event)?;
     add_put_out_at(
         asides,

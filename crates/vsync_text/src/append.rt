@@ -1,12 +1,11 @@
 //! Texts of ids, payloads and lists, appended to a buffer. Each comes behind one byte that separates it from what stands before.
 //! Where memory is refused, a part may have been appended.
 
-ghost use Rattle.std.specs.Prelude.{◌≡◌, ◌<◌, ◌≤◌, ◌+◌, ◌++◌, ◌∷◌, flat_map, OnOk};
-ghost use Rattle.std.specs.Vec.{vec_len, vec_capacity};
+ghost use Rattle.std.specs.Prelude.{◌≡◌, ◌<◌, ◌++◌, ◌∷◌, flat_map, OnOk};
 ghost use Rattle.std.specs.Option.{option_copied};
 ghost use Rattle.std.specs.Fmt.{decimal};
 ghost use Rattle.address.specs.Ids.{text_of_address, text_of_view_id};
-ghost use Rattle.vsync_text.specs.TraceText.{GoesOnFrom, hex_digit, hex_of_byte, hex_of, text_of_payload, text_of_previous, text_of_addresses, text_of_numbered, text_of_handed_back, text_of_given};
+ghost use Rattle.vsync_text.specs.TraceText.{GoesOnFrom, hex_digit, hex_of, text_of_payload, text_of_previous, text_of_addresses, text_of_numbered, text_of_handed_back, text_of_given};
 
 use address::{Address, ViewId};
 use itoa::Buffer;
@@ -90,27 +89,20 @@ fn hex_digit(number: u8) -> u8
     }
 }
 
-/// Appends the two digits of a byte, for which there is room.
-fn put_hex_byte(out: &mut Vec<u8>, byte: u8)
-    requires room { vec_len out.old + 2 ≤ vec_capacity out.old }
-    ensures text { out.new.items ≡ out.old.items ++ hex_of_byte byte }
-    ensures len { vec_len out.new ≡ vec_len out.old + 2 }
-    ensures capacity { vec_capacity out.new ≡ vec_capacity out.old }
-{
-    out.push_reserved(hex_digit(byte / 16));
-    out.push_reserved(hex_digit(byte % 16));
-}
-
 /// Appends bytes in lower case hexadecimal, two digits a byte, with no byte before them. Where memory is refused, what stood before is
 /// kept, and a part may have been appended.
-#[tactic(auto, using(crate::proofs::KeepFront::goes_on, crate::proofs::KeepFront::stays))]
+#[tactic(auto, using(crate::proofs::KeepFront::at_once, crate::proofs::KeepFront::same))]
 pub fn put_hex(out: &mut Vec<u8>, bytes: &[u8]) -> Result<(), AllocError>
     ensures text { OnOk result (out.new.items ≡ out.old.items ++ hex_of bytes.now) }
     ensures kept { GoesOnFrom out.old.items out.new.items }
 {
+    let from = out.len();
     out.reserve(2 * bytes.len())?;
-    for byte in bytes {
-        put_hex_byte(out, *byte);
+    out.resize(from + 2 * bytes.len(), 0)?;
+    for (index, byte) in bytes.iter().enumerate() {
+        let place = from + 2 * index;
+        out[place] = hex_digit(*byte / 16);
+        out[place + 1] = hex_digit(*byte % 16);
     }
     Ok(())
 }
