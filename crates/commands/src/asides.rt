@@ -122,11 +122,7 @@ fn handed_at<R: Receiver>(world: &World<R>, number: u64, node: Option<&Node>) ->
 }
 
 // The packet that an event hands over that is carried out at a node, where a member runs there.
-fn handed_over<R: Receiver>(
-    world: &World<R>,
-    target: Target,
-    site: Option<&Node>,
-) -> Option<Aside>
+fn handed_over<R: Receiver>(world: &World<R>, target: Target, site: Option<&Node>) -> Option<Aside>
     ensures { option_copied site.entry ≡ site_of target world.now.history.pool → result ≡ handed_over target world.now.history }
 {
     match target {

@@ -1,5 +1,5 @@
 -- Rows and lines by what is kept.
-use Rattle.std.proofs.Common.{◌≡◌, ℕ, ◌+◌, ◌<◌, Bool, false, List, [], ◌∷◌, ◌++◌, length, take, get_or, suc, Option, Some, unwrap_or, option_map, filter_map, sym, refl, ap, ◌∙◌, arith, append_assoc, append-nil, length-take, subst}
+use Rattle.std.proofs.Common.{◌≡◌, ℕ, ◌+◌, ◌<◌, Bool, false, List, [], ◌∷◌, ◌++◌, length, take, get_or, suc, Option, unwrap_or, option_map, filter_map, sym, refl, ap, ◌∙◌, arith, append_assoc, append-nil, length-take, subst}
 use Rattle.std.proofs.Math.Seq.{take-suc}
 use Rattle.std.proofs.lemmas.List.Elements.{filter_map-append}
 use Rattle.std.specs.List.{cons_option}

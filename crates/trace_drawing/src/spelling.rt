@@ -31,7 +31,12 @@ fn put_point(out: &mut Vec<u8>, before: &[u8], x: u64, y: u64) -> Result<(), All
 }
 
 /// Appends a shape at a place, behind what stands before the place.
-pub fn put_shape(out: &mut Vec<u8>, before: &[u8], at: Place, shape: &[u8]) -> Result<(), AllocError>
+pub fn put_shape(
+    out: &mut Vec<u8>,
+    before: &[u8],
+    at: Place,
+    shape: &[u8],
+) -> Result<(), AllocError>
     ensures { OnOk result (out.new.items ≡ out.old.items ++ (point before.now at.x at.y ++ shape.now)) }
 {
     put_point(out, before, at.x, at.y)?;

@@ -46,12 +46,7 @@ fn put_beside_start(
 }
 
 // Appends a text beside a mark.
-fn put_beside(
-    out: &mut Vec<u8>,
-    level: u32,
-    column: u32,
-    content: &[u8],
-) -> Result<(), AllocError>
+fn put_beside(out: &mut Vec<u8>, level: u32, column: u32, content: &[u8]) -> Result<(), AllocError>
     ensures { OnOk result (out.new.items ≡ out.old.items ++ beside (codes "t") level column content.now) }
 {
     put_beside_start(out, b"<text class='t' x='", level, column)?;
