@@ -98,10 +98,10 @@ module _ {S : Type 0} (meaning : Meaning S) where
   -- a member that has ended is let go exactly where its channel has ended
   crash-by : (p : Address) (a b : Bool) (m : MemberModel S) (c : ChannelModel S) → cond a (Connected m) Ended ≡ (cond b (record c { stage = Ended }) c).stage → is_over c.stage ≡ false
       → cond a [] (Crashed p ∷ []) ≡ crash_of p b
-  crash-by p true true m c e open = absurd (let bad : false ≡ true = ap (λ (s : Stage S). is_over s) e in cc)
-  crash-by p true false m c e open = refl
-  crash-by p false true m c e open = refl
-  crash-by p false false m c e open = absurd (let bad : true ≡ false = ap (λ (s : Stage S). is_over s) e ∙ open in cc)
+  crash-by p true true m c e going = absurd (let bad : false ≡ true = ap (λ (s : Stage S). is_over s) e in cc)
+  crash-by p true false m c e going = refl
+  crash-by p false true m c e going = refl
+  crash-by p false false m c e going = absurd (let bad : true ≡ false = ap (λ (s : Stage S). is_over s) e ∙ going in cc)
 
   -- ---- one step
 
@@ -150,7 +150,7 @@ module _ {S : Type 0} (meaning : Meaning S) where
     -- its member refuses, or has ended
     refused : (e : Error) (left : MemberModel S) → is_over old.stage ≡ false → Handled meaning m input (Err e) left → stage_of left ≡ (left_by e old).stage → new ≡ left_by e old
         → IsOne group input m old (Some e) new
-    refused e left open h goes is = record {
+    refused e left going h goes is = record {
       step = Call old.address input (Err e) left;
       so = record { member = m; runs = refl; handled = h };
       by_input = (refl, refl);
@@ -158,7 +158,7 @@ module _ {S : Type 0} (meaning : Meaning S) where
       apart = ap (λ (c : ChannelModel S). is_apart_after c.stage []) is ∙ ap (λ (s : Stage S). is_apart_after s []) (sym goes) ∙ apart-is left;
       puts = no-puts e is;
       tells = no-tells e is;
-      happens = crash-by old.address (is_some left.member_state) (is_end e) left old goes open;
+      happens = crash-by old.address (is_some left.member_state) (is_end e) left old goes going;
       address = same-address e is;
       ready = ready-then e is;
     }
@@ -184,13 +184,13 @@ module _ {S : Type 0} (meaning : Meaning S) where
 
     failed-by : (e : Error) (left : MemberModel S) (result : Result Output Error) → is_over old.stage ≡ false → Leaves → Handled meaning m input result left → IsWhy result e
         → new ≡ left_by e old → IsOne group input m old (Some e) new
-    failed-by e left (Ok out) open goes h why is = lost e why.0 is
-    failed-by e left (Err k) open goes h why is =
-        let handled = subst (λ (j : Error). Handled meaning m input (Err j) left) (sym why) h in refused e left open handled (goes e left handled) is
+    failed-by e left (Ok out) going goes h why is = lost e why.0 is
+    failed-by e left (Err k) going goes h why is =
+        let handled = subst (λ (j : Error). Handled meaning m input (Err j) left) (sym why) h in refused e left going handled (goes e left handled) is
 
     one-step : (failure : Option Error) → is_over old.stage ≡ false → Leaves → Steps meaning input m old failure new → LeftBy failure old new → IsOne group input m old failure new
-    one-step None open goes s is = taken s.out s.left s.handled s.becomes
-    one-step (Some e) open goes s is = failed-by e s.left s.result open goes s.handled s.why is
+    one-step None going goes s is = taken s.out s.left s.handled s.becomes
+    one-step (Some e) going goes s is = failed-by e s.left s.result going goes s.handled s.why is
 
   -- ---- a call
 
@@ -280,11 +280,11 @@ module _ {S : Type 0} (meaning : Meaning S) where
 
     starting : (s : S) → s ≡ meaning.opening → (failure : Option Error) → is_over old.stage ≡ false → StartsWith meaning input group s old failure new → LeftBy failure old new
         → (m : MemberModel S) × IsNew meaning group old.address m × IsOne group input m old failure new
-    starting s opening failure open c is =
+    starting s opening failure going c is =
         let core = subst (λ (r : S). core_of c.member ≡ Some (idle r old.address)) opening c.started.core_is in (
           c.member,
           record { real = real; address = c.started.address_is; group_is = c.started.group_is; core = core },
-          one-step group input c.member old new was failure open (connect-leaves c.member core) c.steps is,
+          one-step group input c.member old new was failure going (connect-leaves c.member core) c.steps is,
         )
 
     plays-two : (s : S) (failure : Option Error) → old.stage ≡ Apart s → (m : MemberModel S) → IsNew meaning group old.address m → (x : IsOne group input m old failure new)

@@ -137,7 +137,7 @@ module _ {S : Type 0} (meaning : Meaning S) (group : List ℕ) (given : Option (
       → left_with x ≡ member_in new.stage → is_apart_after new.stage [] ≡ false → map bytes_of new.outgoing ≡ map bytes_of old.outgoing ++ all_put_out (x ∷ [])
       → new.happened ≡ old.happened ++ all_told (x ∷ []) → Happens (x ∷ []) old failure → new.address ≡ old.address → IsReady meaning new.stage
       → Does meaning group given old (falls old.stage failure) new
-  does-one i x hands by open before fresh so left apart puts tells h address ready = record {
+  does-one i x hands by going before fresh so left apart puts tells h address ready = record {
     own = x ∷ [];
     before = before;
     is_new = fresh;
@@ -151,7 +151,7 @@ module _ {S : Type 0} (meaning : Meaning S) (group : List ℕ) (given : Option (
     address = address;
     ready = ready;
     fallen = fall-ends;
-    over = λ e. absurd (let bad : true ≡ false = sym (over-so old.stage e) ∙ open in cc);
+    over = λ e. absurd (let bad : true ≡ false = sym (over-so old.stage e) ∙ going in cc);
   }
 
   -- ---- a call
