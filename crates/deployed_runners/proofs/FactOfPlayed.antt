@@ -282,8 +282,8 @@ module _ {N S : Type 0} (log : N → Option Log) (failed : N → ℕ) (meaning :
               sym (append-nil taken) ∙ ap (λ (l : List Event). taken ++ l) (sym told) ∙ x.tells ∙ ap (λ (l : List Event). l ++ all_told (steps_in x.items)) was.told in
           x.happens ∙ ap (λ (l : List Event). l ++ crash_of old.channel.address fell) (sym all_taken) ∙ ap (λ (q : Address). taken ++ crash_of q fell) address
 
-      turns-keep : Keeps c (with_runner p (Some now) at) gone (events ++ (taken ++ crash_of p fell))
-      turns-keep = moves-keep d c at (with_runner p (Some now) at) gone gone events (taken ++ crash_of p fell) p y x.items (record {
+      goes-keeps : Keeps c (with_runner p (Some now) at) gone (events ++ (taken ++ crash_of p fell))
+      goes-keeps = moves-keep d c at (with_runner p (Some now) at) gone gone events (taken ++ crash_of p fell) p y x.items (record {
         agree = λ q other. ap (λ b. cond b m (c q)) other;
         follow = follow-from meaning group p (stands_after not_begun before) (running_in m old.channel.stage) (map bytes_of old.channel.outgoing) x.items was.running was.waiting
             (subst (λ (q : Address). Follow meaning group q (standing m old) x.items) address (x.follow (c p) new-old));
@@ -296,6 +296,9 @@ module _ {N S : Type 0} (log : N → Option Log) (failed : N → ℕ) (meaning :
         stays_gone = λ k g e. e;
         used = λ e. absurd (none-some now (sym e ∙ at-this p (Some now) at));
       })
+
+      turns-keep : Keeps c (with_runner p (Some now) at) gone (events ++ taken ++ crash_of p fell)
+      turns-keep = subst (λ (l : List Event). Keeps c (with_runner p (Some now) at) gone l) (sym (append_assoc events taken (crash_of p fell))) goes-keeps
 
   -- ---- a runner is let go, killed before or not
 
@@ -312,8 +315,8 @@ module _ {N S : Type 0} (log : N → Option Log) (failed : N → ℕ) (meaning :
         → EachStep StartsOnce (after_steps nothing_yet (steps_in (items_of y.all))) (steps_in items) → happened_by items ≡ more → net_events items ≡ []
         → Keeps c (with_runner p None at) (gone ++ left ∷ []) (events ++ more)
     goes-with more items follow begins does silent =
-        let own = own_items p y.all ++ items in
-        let same : net_events own ≡ net_events (own_items p y.all) = events-then (own_items p y.all) items ∙ ap (λ l. net_events (own_items p y.all) ++ l) silent
+        let done = own_items p y.all ++ items in
+        let same : net_events done ≡ net_events (own_items p y.all) = events-then (own_items p y.all) items ∙ ap (λ l. net_events (own_items p y.all) ++ l) silent
             ∙ append-nil (net_events (own_items p y.all)) in
         moves-keep c c at (with_runner p None at) gone (gone ++ left ∷ []) events more p y items (record {
           agree = λ q other. refl;
@@ -323,16 +326,16 @@ module _ {N S : Type 0} (log : N → Option Log) (failed : N → ℕ) (meaning :
           others = at-other p None at;
           runs = λ k e. absurd (none-some k (sym (at-this p None at) ∙ e));
           started = has_started-stays p events more (y.started p r there);
-          was_gone = λ k g e. gone-by k g own (λ l is. (y.runners p r there).lists l is ∙ sym same) (slice_get-push gone left k g e);
+          was_gone = λ k g e. gone-by k g done (λ l is. (y.runners p r there).lists l is ∙ sym same) (slice_get-push gone left k g e);
           stays_gone = λ k g e. slice_get-before gone (left ∷ []) k g e;
           used = λ e. inr (length gone, left, slice_get-last gone left, refl);
         })
       where
-        gone-by : (k : ℕ) (g : Gone N) (own : List (Item S)) → ForSome (log r.net) (λ l. l ≡ net_events own) → (slice_get gone k ≡ Some g) ⊎ ((k ≡ length gone) × (left ≡ g))
-            → WasGone (with_runner p None at) gone p own k g
-        gone-by k g own lists (inl e) = inl (e, still-gone c at gone events p y r there k g e)
-        gone-by k g own lists (inr e) =
-            inr (ap (λ (o : Gone N). o.by) (sym e.1), at-this p None at, subst (λ (o : Gone N). ForSome (log o.net) (λ l. l ≡ net_events own)) e.1 lists)
+        gone-by : (k : ℕ) (g : Gone N) (done : List (Item S)) → ForSome (log r.net) (λ l. l ≡ net_events done) → (slice_get gone k ≡ Some g) ⊎ ((k ≡ length gone) × (left ≡ g))
+            → WasGone (with_runner p None at) gone p done k g
+        gone-by k g done lists (inl e) = inl (e, still-gone c at gone events p y r there k g e)
+        gone-by k g done lists (inr e) =
+            inr (ap (λ (o : Gone N). o.by) (sym e.1), at-this p None at, subst (λ (o : Gone N). ForSome (log o.net) (λ l. l ≡ net_events done)) e.1 lists)
 
     dies-keeps : has_ended r.channel.stage ≡ false → Keeps c (with_runner p None at) (gone ++ left ∷ []) (events ++ Crashed p ∷ [])
     dies-keeps runs =

@@ -3,7 +3,6 @@ use Rattle.std.proofs.Common.{◌≡◌, ℕ, false, Option, None, Some, List, [
 use denote.RawPtr.{null_ptr}
 use Rattle.address.specs.Ids.{Address, IsAddress}
 use Rattle.state_transfer.specs.Meanings.{Meaning}
-use Rattle.next_view.specs.Notes.{no_notes}
 use Rattle.membership.specs.declared.sent_install.SentInstall.{SentInstall}
 use Rattle.membership.specs.declared.member_state.MemberState.{MemberState}
 use Rattle.member.specs.Members.{MemberModel}
@@ -23,7 +22,7 @@ idle_state me s = record {
   sent_state = None;
   chunks = [];
   receiver = s;
-  notes = no_notes;
+  notes = record { suspects = []; joiners = []; merging = []; heard = 0 };
 }
 
 module _ {S : Type 0} (meaning : Meaning S) (group : List ℕ) where

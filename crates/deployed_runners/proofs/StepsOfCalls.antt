@@ -25,6 +25,10 @@ use Rattle.deployed_runners.proofs.FactOfItems.{MayHand, step-hands}
 
 -- ---- stages
 
+never : (b : Bool) → cond b false false ≡ false
+never true = refl
+never false = refl
+
 module _ {S : Type 0} where
   pub falls-is : (s : Stage S) (failure : Option Error) → falls s failure ≡ cond (is_over s) false (ends_by failure)
   falls-is (Apart s) failure = refl
@@ -33,10 +37,6 @@ module _ {S : Type 0} where
 
   pub falls-as : (s t : Stage S) (failure : Option Error) → is_over s ≡ is_over t → falls s failure ≡ falls t failure
   falls-as s t failure e = falls-is s failure ∙ ap (λ b. cond b false (ends_by failure)) e ∙ sym (falls-is t failure)
-
-  never : (b : Bool) → cond b false false ≡ false
-  never true = refl
-  never false = refl
 
   pub falls-not : (s : Stage S) (failure : Option Error) → ends_by failure ≡ false → falls s failure ≡ false
   falls-not s failure e = falls-is s failure ∙ ap (λ b. cond (is_over s) false b) e ∙ never (is_over s)
