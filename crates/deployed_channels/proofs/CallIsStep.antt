@@ -303,38 +303,34 @@ module _ {S : Type 0} (meaning : Meaning S) where
         → LeftBy failure old new
         → PlaysBy meaning group (λ own. MatchBool b ((m : MemberModel S) × (x : Step S) × (own ≡ Start old.address m ∷ x ∷ []) × IsStepBy old.address input x) (own ≡ [])) old failure new
     connect-by s failure true at c is =
-        let x = starting s (subst (IsReady meaning) at was) failure (ap (λ (t : Stage S). is_over t) at) c is in
-        (
+        let x = starting s (subst (IsReady meaning) at was) failure (ap (λ (t : Stage S). is_over t) at) c is in (
           Start old.address x.0 ∷ x.2.step ∷ [],
           (x.0, x.2.step, refl, x.2.by_input),
           plays-two s failure at x.0 x.1 x.2,
           happens-one group input old new was x.0 failure (ap (λ (t : Stage S). falls t failure) at) x.2,
         )
-    connect-by s failure false at c is =
-        (
-          [],
-          refl,
-          stays group input old new was (if-some failure (Refused refusal.BadName) (λ e. new ≡ left_by e old) c is),
-          no-happening group input old new was failure (ap (λ (t : Stage S). falls t failure) at ∙ ap ends_by c),
-        )
+    connect-by s failure false at c is = (
+      [],
+      refl,
+      stays group input old new was (if-some failure (Refused refusal.BadName) (λ e. new ≡ left_by e old) c is),
+      no-happening group input old new was failure (ap (λ (t : Stage S). falls t failure) at ∙ ap ends_by c),
+    )
 
     connect-plays : (stage : Stage S) (failure : Option Error) → old.stage ≡ stage → ConnectsAt meaning input group stage old failure new
         → LeftBy failure old new → PlaysBy meaning group (AreByConnect old.address input group stage) old failure new
     connect-plays (Apart s) failure at c is = connect-by s failure (is_group_name group) at c is
-    connect-plays (Connected m) failure at c is =
-        (
-          [],
-          refl,
-          stays group input old new was (if-some failure (Refused refusal.AlreadyConnected) (λ e. new ≡ left_by e old) c is),
-          no-happening group input old new was failure (ap (λ (t : Stage S). falls t failure) at ∙ ap ends_by c),
-        )
-    connect-plays Ended failure at c is =
-        (
-          [],
-          refl,
-          idles group input old new was Ended (if-some failure (Refused refusal.Closed) (λ e. new ≡ left_by e old) c is) (ap member_in at) (sym (ap (λ (t : Stage S). is_apart_after t []) at)) tt,
-          no-happening group input old new was failure (ap (λ (t : Stage S). falls t failure) at),
-        )
+    connect-plays (Connected m) failure at c is = (
+      [],
+      refl,
+      stays group input old new was (if-some failure (Refused refusal.AlreadyConnected) (λ e. new ≡ left_by e old) c is),
+      no-happening group input old new was failure (ap (λ (t : Stage S). falls t failure) at ∙ ap ends_by c),
+    )
+    connect-plays Ended failure at c is = (
+      [],
+      refl,
+      idles group input old new was Ended (if-some failure (Refused refusal.Closed) (λ e. new ≡ left_by e old) c is) (ap member_in at) (sym (ap (λ (t : Stage S). is_apart_after t []) at)) tt,
+      no-happening group input old new was failure (ap (λ (t : Stage S). falls t failure) at),
+    )
 
     pub plays-connect : (failure : Option Error) → Connects meaning input group old failure new → LeftBy failure old new
         → PlaysBy meaning group (AreByConnect old.address input group old.stage) old failure new

@@ -1,17 +1,16 @@
 -- Items of one process behind an order of many: whose they are, and what happens by their steps.
-use Rattle.std.proofs.Common.{◌≡◌, ℕ, Bool, true, false, cond, Option, None, Some, List, [], ◌∷◌, ◌++◌, map, flat_map, refl, sym, ap, ◌∙◌, subst}
+use Rattle.std.proofs.Common.{◌≡◌, Bool, true, false, cond, Option, None, Some, List, [], ◌∷◌, ◌++◌, map, flat_map, refl, sym, ap, ◌∙◌, subst}
 use Rattle.std.specs.List.{AllByRecursion}
-use Rattle.std.proofs.lemmas.Option.{none-some}
 use Rattle.std.proofs.lemmas.List.{append-nil, append_assoc, map-append}
 use Rattle.std.proofs.lemmas.Grind.{flat_map-append}
 use Rattle.address.specs.Ids.{Address, same_address}
-use Rattle.address.proofs.SameIds.{same_address-true, same_address-refl}
+use Rattle.address.proofs.SameIds.{same_address-refl}
 use Rattle.trace_props.specs.declared.event.Event.{Event}
 use Rattle.trace_props.specs.Observed.{has_started}
 use Rattle.trace_props.proofs.FactOfObserved.{has_started-stays}
 use Rattle.udp_net.specs.Logs.{Log, Lists, NetEvent}
 use Rattle.deployment.specs.Deployments.{Step, Start, Call, Crash, Deployment, EachStep, StartsOnce, after, after_steps, nothing_yet, happens_by, trace_of}
-use Rattle.deployed_runners.specs.Items.{Item, net_events, steps_in}
+use Rattle.deployed_runners.specs.Items.{Item, steps_in}
 use Rattle.deployed_runners.specs.Runs.{is_start, happened_by}
 use Rattle.deployed_runners.specs.Merged.{Done, own_items, item_of, items_of}
 use Rattle.deployed_runners.proofs.FactOfItems.{steps-then}

@@ -17,15 +17,15 @@ use Rattle.member.specs.Members.{MemberModel}
 use Rattle.channel.specs.declared.stage.Stage.{Stage}
 use Rattle.channel.specs.declared.stage.Stage.TheVariants.{Apart, Connected, Ended}
 use Rattle.channel.specs.Channels.{ChannelModel}
-use Rattle.udp_net.specs.Logs.{Log, Lists}
+use Rattle.udp_net.specs.Logs.{Log}
 use Rattle.udp_member.specs.Turns.{Driven}
 use Rattle.deployment.specs.Deployments.{Step, Start, Crash, EachStep, StartsOnce, IsNew, after_steps, nothing_yet, bytes_of, trace_of}
 use Rattle.deployment.specs.Processes.{all_told}
 use Rattle.deployed_channels.specs.Plays.{IsReady, crash_of}
 use Rattle.deployed_runners.specs.Items.{Item, OfMember, Standing, not_begun, stands_after, Follow, IsProcess, net_events, steps_in}
-use Rattle.deployed_runners.specs.Runs.{Drives, new_channel, running_in, standing, happened_by, Adds}
-use Rattle.deployed_runners.specs.Merged.{Done, own_items, items_of, IsCarried, RunnersAreSynchronous}
-use Rattle.deployed_runners.specs.Systems.{Gone, with_runner, has_ended, Played, Nothing, Begins, Fails, Turns, Dies, Closes, IsRunnerOf, IsHistoryOf, PlayedAreHistories}
+use Rattle.deployed_runners.specs.Runs.{new_channel, running_in, standing, happened_by, Adds}
+use Rattle.deployed_runners.specs.Merged.{Done, own_items, items_of, RunnersAreSynchronous}
+use Rattle.deployed_runners.specs.Systems.{Gone, with_runner, has_ended, Played, Nothing, Begins, Fails, Turns, Dies, Closes, IsHistoryOf, PlayedAreHistories}
 use Rattle.deployed_runners.proofs.FactOfItems.{after-then, events-then, follow-then, follow-from, running-from, waiting-from}
 use Rattle.deployed_runners.proofs.FactOfOrders.{started-not, done_by, own-of, own-other, steps-of, trace-of, each-then, starts-none, lists-more}
 use Rattle.deployed_runners.proofs.NewMembers.{new_member, is-new}
@@ -279,7 +279,7 @@ module _ {N S : Type 0} (log : N → Option Log) (failed : N → ℕ) (meaning :
       goes-does : happened_by x.items ≡ taken ++ crash_of p fell
       goes-does =
           let all_taken : taken ≡ all_told (steps_in x.items) =
-              sym (append-nil taken) ∙ ap (λ (l : List Event). taken ++ l) (sym told) ∙ x.tells ∙ ap (λ (l : List Event). l ++ all_told (steps_in x.items)) was.told in
+          sym (append-nil taken) ∙ ap (λ (l : List Event). taken ++ l) (sym told) ∙ x.tells ∙ ap (λ (l : List Event). l ++ all_told (steps_in x.items)) was.told in
           x.happens ∙ ap (λ (l : List Event). l ++ crash_of old.channel.address fell) (sym all_taken) ∙ ap (λ (q : Address). taken ++ crash_of q fell) address
 
       goes-keeps : Keeps c (with_runner p (Some now) at) gone (events ++ (taken ++ crash_of p fell))
@@ -317,7 +317,7 @@ module _ {N S : Type 0} (log : N → Option Log) (failed : N → ℕ) (meaning :
     goes-with more items follow begins does silent =
         let done = own_items p y.all ++ items in
         let same : net_events done ≡ net_events (own_items p y.all) = events-then (own_items p y.all) items ∙ ap (λ l. net_events (own_items p y.all) ++ l) silent
-            ∙ append-nil (net_events (own_items p y.all)) in
+        ∙ append-nil (net_events (own_items p y.all)) in
         moves-keep c c at (with_runner p None at) gone (gone ++ left ∷ []) events more p y items (record {
           agree = λ q other. refl;
           follow = follow;

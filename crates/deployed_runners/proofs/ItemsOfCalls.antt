@@ -1,13 +1,11 @@
 -- What each call adds, and any number of calls.
-use Rattle.std.proofs.Common.{◌≡◌, ℕ, Bool, false, Option, None, Some, List, [], ◌∷◌, ◌++◌, map, refl, sym, ap, ◌∙◌, subst}
-use Rattle.std.specs.Prelude.{◌||◌}
+use Rattle.std.proofs.Common.{◌≡◌, ℕ, Bool, false, Option, None, Some, List, [], ◌++◌, map, refl, sym, ap, ◌∙◌, subst}
 use Rattle.std.proofs.lemmas.List.{append-nil}
 use Rattle.address.specs.Ids.{Address, IsAddress}
 use Rattle.state_transfer.specs.Meanings.{Meaning}
 use Rattle.trace_props.specs.declared.event.Event.{Event}
 use Rattle.member.specs.declared.error.Error.{Error}
 use Rattle.member.specs.declared.input.Input.TheVariants as input
-use Rattle.member.specs.Members.{MemberModel}
 use Rattle.channel.specs.Channels.{ChannelModel}
 use Rattle.channel.specs.Queues.{TakesFirst}
 use Rattle.udp_net.specs.Logs.{Log, Lists}

@@ -1,5 +1,5 @@
 -- What each part of a round adds.
-use Rattle.std.proofs.Common.{◌≡◌, ℕ, Bool, true, false, not, Option, None, Some, Result, Ok, Err, List, [], ◌∷◌, ◌++◌, map, flat_map, refl, sym, ap, ◌∙◌, subst, inl, inr, ◌⊎◌}
+use Rattle.std.proofs.Common.{◌≡◌, ℕ, Bool, true, false, Option, None, Some, Result, Ok, Err, List, [], ◌∷◌, ◌++◌, map, flat_map, refl, sym, ap, ◌∙◌, subst, inl, inr, ◌⊎◌}
 use Rattle.std.specs.Prelude.{MatchOption, ◌||◌}
 use Rattle.std.specs.List.{AllByRecursion}
 use Rattle.std.specs.Result.{result_err}
@@ -13,7 +13,6 @@ use Rattle.member.specs.declared.input.Input.TheVariants as input
 use Rattle.member.specs.Members.{MemberModel}
 use Rattle.channel.specs.declared.stage.Stage.{Stage}
 use Rattle.channel.specs.declared.stage.Stage.TheVariants.{Ended}
-use Rattle.channel.specs.Errors.{is_end}
 use Rattle.channel.specs.Channels.{ChannelModel}
 use Rattle.channel.specs.Calls.{Calls}
 use Rattle.udp_net.specs.Logs.{Log, Lists, NetEvent, Answered, receiving}
@@ -27,7 +26,7 @@ use Rattle.udp_member.specs.Seeking.{Hints, Seeks, sought, turned}
 use Rattle.deployment.specs.Deployments.{Step, IsNew, bytes_of, happens_by}
 use Rattle.deployment.specs.Processes.{all_told}
 use Rattle.deployed_channels.specs.Plays.{IsReady, LeftBy, falls, crash_of}
-use Rattle.deployed_channels.proofs.CallIsStep.{ends_by, is_over, calls-are, lent-calls-are}
+use Rattle.deployed_channels.proofs.CallIsStep.{is_over, calls-are, lent-calls-are}
 use Rattle.deployed_runners.specs.Items.{Item, OfNet, Standing, stands_after, datagram_in, Follow, net_events, steps_in}
 use Rattle.deployed_runners.specs.Runs.{is_start, running_in, standing, happened_by, Adds}
 use Rattle.deployed_runners.proofs.FactOfItems
@@ -188,9 +187,9 @@ module _ {N S : Type 0} (log : N → Option Log) (meaning : Meaning S) (group : 
   -- the channel does these steps; and before them, where one of them hands a datagram in, the net gave it
   steps-after : (old new : Driven N S) (fell : Bool) (given : Option (List ℕ)) (first : List (Item S)) (d : Does meaning group given old.channel fell new.channel)
       → ((r : Option (MemberModel S)) (own : List (Step S)) → Follow meaning group old.channel.address (FactOfItems.stands r (map bytes_of old.channel.outgoing) given) (FactOfItems.items_by own)
-          → Follow meaning group old.channel.address (FactOfItems.stands r (map bytes_of old.channel.outgoing) None) (first ++ FactOfItems.items_by own))
+      → Follow meaning group old.channel.address (FactOfItems.stands r (map bytes_of old.channel.outgoing) None) (first ++ FactOfItems.items_by own))
       → ((r : Option (MemberModel S)) (own : List (Step S)) → stands_after (FactOfItems.stands r (map bytes_of old.channel.outgoing) None) (first ++ FactOfItems.items_by own)
-          ≡ stands_after (FactOfItems.stands r (map bytes_of old.channel.outgoing) given) (FactOfItems.items_by own))
+      ≡ stands_after (FactOfItems.stands r (map bytes_of old.channel.outgoing) given) (FactOfItems.items_by own))
       → ((own : List (Step S)) → steps_in (first ++ FactOfItems.items_by own) ≡ own) → Lists (log old.net) (λ l. l ++ net_events (first ++ FactOfItems.items_by d.own)) (log new.net)
       → On old fell new
   steps-after old new fell given first d follows stands steps lists =
@@ -222,7 +221,7 @@ module _ {N S : Type 0} (log : N → Option Log) (meaning : Meaning S) (group : 
   steps-on old new fell d lists =
       steps-after old new fell None [] d (λ r own f. f) (λ r own. refl) (λ own. FactOfItems.steps-by own)
       (subst (λ (l : List NetEvent). Lists (log old.net) (λ k. k ++ l) (log new.net)) (sym (FactOfItems.events-by d.own))
-        (FactOfItems.lists-as (log old.net) (log new.net) (λ l. l) (λ l. l ++ []) (λ l. sym (append-nil l)) lists))
+      (FactOfItems.lists-as (log old.net) (log new.net) (λ l. l) (λ l. l ++ []) (λ l. sym (append-nil l)) lists))
 
   -- the net gives a datagram
   given-on : (old new : Driven N S) (fell : Bool) (bytes : List ℕ) → Does meaning group (Some bytes) old.channel fell new.channel

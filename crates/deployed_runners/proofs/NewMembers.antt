@@ -1,5 +1,5 @@
 -- There are members that have just started.
-use Rattle.std.proofs.Common.{◌≡◌, ℕ, false, Option, None, Some, List, [], Vec, Global, refl, arith}
+use Rattle.std.proofs.Common.{ℕ, false, None, Some, List, [], Vec, Global, refl, arith}
 use denote.RawPtr.{null_ptr}
 use Rattle.address.specs.Ids.{Address, IsAddress}
 use Rattle.state_transfer.specs.Meanings.{Meaning}

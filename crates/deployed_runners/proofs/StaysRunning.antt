@@ -1,5 +1,5 @@
 -- A channel runs on after what a runner hands in, unless that is answered 6 or 7.
-use Rattle.std.proofs.Common.{◌≡◌, ℕ, Bool, true, false, not, cond, Option, None, Some, Ok, is_some, List, [], refl, sym, ap, ◌∙◌, subst}
+use Rattle.std.proofs.Common.{◌≡◌, ℕ, Bool, true, false, not, cond, Option, None, Some, is_some, List, refl, sym, ap, ◌∙◌, subst}
 use Rattle.std.specs.Prelude.{IsSomeAnd}
 use Rattle.limits.specs.declared.refusal.Refusal.TheVariants as refusal
 use Rattle.address.specs.Ids.{Address}
@@ -7,13 +7,12 @@ use Rattle.state_transfer.specs.Meanings.{Meaning}
 use Rattle.trace_props.specs.declared.event.Event.{Event}
 use Rattle.acts.specs.Cores.{Core}
 use Rattle.membership.specs.declared.member_state.MemberState.{MemberState}
-use Rattle.step_output.specs.declared.output.Output.{Output}
 use Rattle.member.specs.declared.error.Error.{Error}
 use Rattle.member.specs.declared.error.Error.TheVariants.{Refused}
 use Rattle.member.specs.declared.input.Input.{Input}
 use Rattle.member.specs.declared.input.Input.TheVariants as input
 use Rattle.member.specs.Members.{MemberModel, core_of}
-use Rattle.member.specs.Handling.{Handled, StaysSo, Replies}
+use Rattle.member.specs.Handling.{StaysSo, Replies}
 use Rattle.channel.specs.declared.stage.Stage.{Stage}
 use Rattle.channel.specs.declared.stage.Stage.TheVariants.{Apart, Connected, Ended}
 use Rattle.channel.specs.Errors.{is_end}

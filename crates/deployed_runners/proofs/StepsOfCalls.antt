@@ -3,7 +3,6 @@ use Rattle.std.proofs.Common.{◌≡◌, ℕ, Bool, true, false, cond, Option, N
 use Rattle.std.specs.Prelude.{IfSome, MatchBool}
 use Rattle.std.specs.List.{AllByRecursion}
 use Rattle.std.proofs.lemmas.Option.{none-some}
-use Rattle.std.proofs.lemmas.List.{append-nil}
 use Rattle.address.specs.Ids.{Address}
 use Rattle.wire_values.specs.Names.{is_group_name}
 use Rattle.state_transfer.specs.Meanings.{Meaning}
@@ -14,8 +13,8 @@ use Rattle.member.specs.Members.{MemberModel}
 use Rattle.channel.specs.declared.stage.Stage.{Stage}
 use Rattle.channel.specs.declared.stage.Stage.TheVariants.{Apart, Connected, Ended}
 use Rattle.channel.specs.Errors.{is_end}
-use Rattle.channel.specs.Channels.{ChannelModel, member_in, is_in, left_by}
-use Rattle.deployment.specs.Deployments.{Step, Start, Call, Crash, IsNew, bytes_of, left_with, puts_of, told_by, happens_by}
+use Rattle.channel.specs.Channels.{ChannelModel, member_in, is_in}
+use Rattle.deployment.specs.Deployments.{Step, Start, Call, Crash, IsNew, bytes_of, left_with, happens_by}
 use Rattle.deployment.specs.Processes.{StepsSo, RunsFrom, member_after, all_put_out, all_told}
 use Rattle.deployed_channels.specs.Plays.{IsReady, is_apart_after, Plays, IsStepBy, AreByCall, AreByConnect, AreByReconnect, falls, crash_of, happens_then, Happens, LeftBy}
 use Rattle.deployed_channels.proofs.CallIsStep.{ends_by, is_over, ended-after}
