@@ -1,5 +1,5 @@
 -- Items, one list behind the other; and those of steps and of offers.
-use Rattle.std.proofs.Common.{◌≡◌, ℕ, Option, Some, None, List, [], ◌∷◌, ◌++◌, map, refl, sym, ap, ◌∙◌, subst}
+use Rattle.std.proofs.Common.{◌≡◌, ℕ, Option, Some, None, List, [], ◌∷◌, ◌++◌, map, flat_map, drop, refl, sym, ap, ◌∙◌, subst}
 use Rattle.std.specs.Prelude.{⊤, IfSome}
 use Rattle.std.proofs.lemmas.Option.{none-some}
 use Rattle.std.proofs.lemmas.List.{append-nil, append_assoc}
@@ -12,10 +12,11 @@ use Rattle.member.specs.declared.input.Input.{Input}
 use Rattle.member.specs.Members.{MemberModel}
 use Rattle.udp_net.specs.Logs.{Log, Lists, NetEvent, Answered, Offered}
 use Rattle.udp_member.specs.Offers.{offered_as}
-use Rattle.deployment.specs.Deployments.{Step, Start, Call, Crash, whose, left_with, puts_of, bytes_of, told_by}
+use Rattle.deployment.specs.Deployments.{Step, Start, Call, Crash, whose, left_with, puts_of, bytes_of, told_by, happens_by}
 use Rattle.deployment.specs.Processes.{RunsFrom, member_after, all_put_out, all_told}
-use Rattle.deployed_channels.specs.Plays.{IsStepBy, AreByCall}
-use Rattle.deployed_runners.specs.Items.{Item, OfNet, OfMember, Standing, then_stands, stands_after, datagram_in, datagram_of, Follow, net_event, net_events, step_in, steps_in}
+use Rattle.deployed_channels.specs.Plays.{IsStepBy}
+use Rattle.deployed_runners.specs.Items.{Item, OfNet, OfMember, Standing, given_by, then_stands, stands_after, datagram_in, datagram_of, Follow, net_event, net_events, step_in, steps_in}
+use Rattle.deployed_runners.specs.Runs.{happened_by}
 
 -- ---- what a net lists
 
@@ -47,6 +48,12 @@ module _ {S : Type 0} where
   pub events-then : (xs ys : List (Item S)) → net_events (xs ++ ys) ≡ net_events xs ++ net_events ys
   events-then xs ys = filter_map-append net_event xs ys
 
+  pub happened-then : (xs ys : List (Item S)) → happened_by (xs ++ ys) ≡ happened_by xs ++ happened_by ys
+  happened-then xs ys = ap (flat_map happens_by) (filter_map-append step_in xs ys) ∙ flat_map-append happens_by (steps_in xs) (steps_in ys)
+
+  pub steps-then : (xs ys : List (Item S)) → steps_in (xs ++ ys) ≡ steps_in xs ++ steps_in ys
+  steps-then xs ys = filter_map-append step_in xs ys
+
   pub told-then : (xs ys : List (Item S)) → all_told (steps_in (xs ++ ys)) ≡ all_told (steps_in xs) ++ all_told (steps_in ys)
   told-then xs ys = ap all_told (filter_map-append step_in xs ys) ∙ flat_map-append told_by (steps_in xs) (steps_in ys)
 
@@ -64,6 +71,14 @@ module _ {S : Type 0} where
   waiting-given r w g (OfNet (Answered answer) ∷ items) = refl
   waiting-given r w g (OfNet (Offered offer) ∷ items) = refl
   waiting-given r w g (OfMember x ∷ items) = refl
+
+  -- which member runs does not matter for what waits
+  pub waiting-ran : (r q : Option (MemberModel S)) (w : List (List ℕ)) (g : Option (List ℕ)) (items : List (Item S))
+      → (stands_after (stands r w g) items).waiting ≡ (stands_after (stands q w g) items).waiting
+  waiting-ran r q w g [] = refl
+  waiting-ran r q w g (OfNet (Answered answer) ∷ items) = waiting-ran r q w (given_by answer) items
+  waiting-ran r q w g (OfNet (Offered offer) ∷ items) = waiting-ran r q (drop 1 w) None items
+  waiting-ran r q w g (OfMember x ∷ items) = refl
 
   module _ (meaning : Meaning S) (group : List ℕ) (p : Address) where
     pub follow-then : (s : Standing S) (xs ys : List (Item S)) → Follow meaning group p s xs → Follow meaning group p (stands_after s xs) ys → Follow meaning group p s (xs ++ ys)
@@ -129,19 +144,11 @@ module _ {S : Type 0} where
   follow-by meaning group p r w g [] runs may = tt
   follow-by meaning group p r w g (x ∷ own) runs may = ((may.0, runs.0, may.1), follow-by meaning group p (left_with x) (w ++ puts_of x) None own runs.1 may.2)
 
-  -- those of a call
-  step-hands : (p : Address) (input : Input) (g : Option (List ℕ)) (x : Step S) → IfSome (datagram_in input) (λ bytes. g ≡ Some bytes) → IsStepBy p input x → MayHand p g (x ∷ [])
+  -- that of a call
+  pub step-hands : (p : Address) (input : Input) (g : Option (List ℕ)) (x : Step S) → IfSome (datagram_in input) (λ bytes. g ≡ Some bytes) → IsStepBy p input x → MayHand p g (x ∷ [])
   step-hands p input g (Start q m) hands by = absurd by
   step-hands p input g (Call q other result left) hands by = (by.0, subst (λ (i : Input). IfSome (datagram_in i) (λ bytes. g ≡ Some bytes)) (sym by.1) hands, tt)
   step-hands p input g (Crash q) hands by = (by, tt, tt)
-
-  pub call-hands : (p : Address) (input : Input) (o : Option (MemberModel S)) (g : Option (List ℕ)) (own : List (Step S)) → IfSome (datagram_in input) (λ bytes. g ≡ Some bytes)
-      → AreByCall p input o own → MayHand p g own
-  call-hands p input None g own hands by = subst (MayHand p g) (sym by) tt
-  call-hands p input (Some m) g own hands by = subst (MayHand p g) (sym by.1) (step-hands p input g by.0 hands by.2)
-
-  pub pair-hands : (p : Address) (input : Input) (m : MemberModel S) (x : Step S) → datagram_in input ≡ None → IsStepBy p input x → MayHand p None (Start p m ∷ x ∷ [])
-  pair-hands p input m x none by = (refl, tt, step-hands p input None x (rw none tt) by)
 
   -- ---- offers alone
 

@@ -1,3 +1,4 @@
 pub mod Items
 pub mod Runs
 pub mod Merged
+pub mod Systems

@@ -1,5 +1,6 @@
 use Rattle.deployed_runners.proofs.ItemsOfCalls.{calls-add, runs-are}
 use Rattle.deployed_runners.proofs.FactOfMerged.{runners-are, runners-tell}
+use Rattle.deployed_runners.proofs.FactOfPlayed.{played-are}
 use Rattle.deployed_runners.proofs.law.runners_are_synchronous.Goals as goal
 
 pub returns-clause-calls : goal.returns-clause-calls
@@ -13,3 +14,6 @@ returns-clause-merged g c = runners-are g.R.Receiver.meaning c.deployments_are_s
 
 pub returns-clause-told : goal.returns-clause-told
 returns-clause-told g c = runners-tell g.R.Receiver.meaning c.deployments_are_synchronous.ensures.told
+
+pub returns-clause-played : goal.returns-clause-played
+returns-clause-played g c = played-are g.N.Net.log g.N.Net.failed g.R.Receiver.meaning (runners-are g.R.Receiver.meaning c.deployments_are_synchronous.ensures.histories)

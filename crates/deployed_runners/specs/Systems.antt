@@ -1,0 +1,75 @@
+-- Processes of several addresses, each with a runner: what one hand does that starts them, drives them one at a time, and lets them go.
+use Rattle.std.specs.Prelude.{◌≡◌, ℕ, Bool, true, false, List, [], ◌∷◌, ◌++◌, slice_get, Option, None, Some, ◌⊎◌, if◌then◌else◌}
+use Rattle.std.specs.Option.{ForSome}
+use Rattle.address.specs.Ids.{Address, IsAddress, same_address}
+use Rattle.state_transfer.specs.Meanings.{Meaning}
+use Rattle.trace_props.specs.declared.event.Event.{Event}
+use Rattle.trace_props.specs.declared.event.Event.TheVariants.{Started, Crashed}
+use Rattle.trace_props.specs.Observed.{has_started}
+use Rattle.trace_props.specs.Synchrony.{IsVirtuallySynchronous}
+use Rattle.channel.specs.declared.stage.Stage.{Stage}
+use Rattle.channel.specs.declared.stage.Stage.TheVariants.{Apart, Connected, Ended}
+use Rattle.udp_net.specs.Logs.{Log}
+use Rattle.udp_member.specs.Turns.{Driven}
+use Rattle.member.specs.Members.{MemberModel}
+use Rattle.deployment.specs.Deployments.{EachStep, StartsOnce, IsNew, nothing_yet, trace_of}
+use Rattle.deployed_channels.specs.Plays.{crash_of}
+use Rattle.deployed_runners.specs.Items.{Item, IsProcess, not_begun, stands_after, net_events, steps_in}
+use Rattle.deployed_runners.specs.Runs.{Drives, new_channel, running_in}
+use Rattle.deployed_runners.specs.Merged.{Done, own_items, items_of, IsCarried}
+
+-- the net that a process had whose runner is gone
+pub record Gone (N : Type 0) : Type 0 where
+  pub by : Address
+  pub net : N
+
+-- the runners that there are, by address, with one changed
+abbrev pub with_runner : {N S : Type 0} → Address → Option (Driven N S) → (Address → Option (Driven N S)) → Address → Option (Driven N S)
+with_runner p r at q = if same_address q p then r else at q
+
+abbrev pub has_ended : {S : Type 0} → Stage S → Bool
+has_ended (Apart s) = false
+has_ended (Connected m) = false
+has_ended Ended = true
+
+-- DONE BY ONE HAND: the runners that there are, the nets of those that are gone, and what happened. From nothing, a process starts, at an address where none did, over a net that
+-- lists nothing yet, or it ends as it starts, without a net; a runner makes some calls, and all that its channel tells is taken; a process is killed; a runner is let go.
+pub data Played {N S : Type 0} (log : N → Option Log) (failed : N → ℕ) (meaning : Meaning S) (group : List ℕ) : (Address → Option (Driven N S)) → List (Gone N) → List Event → Type 0 where
+  Nothing : Played log failed meaning group (λ p. None) [] []
+  Begins : (at : Address → Option (Driven N S)) (gone : List (Gone N)) (events : List Event) (p : Address) (r : Driven N S) → Played log failed meaning group at gone events
+      → IsAddress p → has_started p events ≡ false → r.channel ≡ new_channel meaning p → ForSome (log r.net) (λ l. l ≡ [])
+      → Played log failed meaning group (with_runner p (Some r) at) gone (events ++ Started p ∷ [])
+  Fails : (at : Address → Option (Driven N S)) (gone : List (Gone N)) (events : List Event) (p : Address) → Played log failed meaning group at gone events
+      → IsAddress p → has_started p events ≡ false → Played log failed meaning group at gone (events ++ Started p ∷ Crashed p ∷ [])
+  Turns : (at : Address → Option (Driven N S)) (gone : List (Gone N)) (events : List Event) (p : Address) (old : Driven N S) (taken : List Event) (fell : Bool) (new : Driven N S)
+      → Played log failed meaning group at gone events → at p ≡ Some old → Drives log failed meaning group old taken fell new → new.channel.happened ≡ []
+      → Played log failed meaning group (with_runner p (Some new) at) gone (events ++ taken ++ crash_of p fell)
+  Dies : (at : Address → Option (Driven N S)) (gone : List (Gone N)) (events : List Event) (p : Address) (r : Driven N S) → Played log failed meaning group at gone events
+      → at p ≡ Some r → has_ended r.channel.stage ≡ false
+      → Played log failed meaning group (with_runner p None at) (gone ++ record { by = p; net = r.net } ∷ []) (events ++ Crashed p ∷ [])
+  Closes : (at : Address → Option (Driven N S)) (gone : List (Gone N)) (events : List Event) (p : Address) (r : Driven N S) → Played log failed meaning group at gone events
+      → at p ≡ Some r → Played log failed meaning group (with_runner p None at) (gone ++ record { by = p; net = r.net } ∷ []) events
+
+-- where the process of a runner stands after what it did: with the member that runs in its channel; and what happened at its net is what that lists
+pub record IsRunnerOf {N S : Type 0} (log : N → Option Log) (meaning : Meaning S) (group : List ℕ) (p : Address) (own : List (Item S)) (r : Driven N S) : Type 0 where
+  pub member : MemberModel S
+  pub is_new : IsNew meaning group p member
+  pub running : (stands_after not_begun own).running ≡ running_in member r.channel.stage
+  pub lists : ForSome (log r.net) (λ l. l ≡ net_events own)
+
+-- HISTORY: these events are what happened in some order of what processes did, each of one address, none started twice; each runner that there is is one of its process; what the
+-- net lists of each that is gone is what happened there, and no other was used; and if the nets gave only what was offered before, the events are virtually synchronous
+pub record IsHistoryOf {N S : Type 0} (log : N → Option Log) (meaning : Meaning S) (group : List ℕ) (at : Address → Option (Driven N S)) (gone : List (Gone N)) (events : List Event)
+    : Type 0 where
+  pub all : List (Done S)
+  pub processes : (p : Address) → IsProcess meaning group p (own_items p all)
+  pub once : EachStep StartsOnce nothing_yet (steps_in (items_of all))
+  pub happened : trace_of (steps_in (items_of all)) ≡ events
+  pub runners : (p : Address) (r : Driven N S) → at p ≡ Some r → IsRunnerOf log meaning group p (own_items p all) r
+  pub nets : (k : ℕ) (g : Gone N) → slice_get gone k ≡ Some g → ForSome (log g.net) (λ l. l ≡ net_events (own_items g.by all))
+  pub used : (p : Address) → at p ≡ None → (net_events (own_items p all) ≡ []) ⊎ ((k : ℕ) × (g : Gone N) × (slice_get gone k ≡ Some g) × (g.by ≡ p))
+  pub synchronous : IsCarried group (net_events (items_of all)) → IsVirtuallySynchronous meaning events
+
+abbrev pub PlayedAreHistories : {N S : Type 0} → (N → Option Log) → (N → ℕ) → Meaning S → Type 0
+PlayedAreHistories {N} {S} log failed meaning = (group : List ℕ) (at : Address → Option (Driven N S)) (gone : List (Gone N)) (events : List Event)
+    → Played log failed meaning group at gone events → IsHistoryOf log meaning group at gone events
