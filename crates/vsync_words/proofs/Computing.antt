@@ -30,7 +30,7 @@ abbrev words_on : Bool → Text → Text → Text → List Text
 words_on long name subcommand path = name ∷ subcommand ∷ with_long long path
 
 -- where the subcommand passes with `-`, the empty path and each path with a first letter other than `-`, it passes with each path
-by_first : (P : Text → Type 0) → P [] → P (45 ∷ []) → ((x : ℕ) (xs : Text) → (x == 45) ≡ false → P (x ∷ xs)) → (path : Text) → is_path path ≡ true → P path
+pub by_first : (P : Text → Type 0) → P [] → P (45 ∷ []) → ((x : ℕ) (xs : Text) → (x == 45) ≡ false → P (x ∷ xs)) → (path : Text) → is_path path ≡ true → P path
 by_first P empty dash other [] is = empty
 by_first P empty dash other (x ∷ xs) is = go (x == 45) refl
   where
@@ -114,7 +114,7 @@ pub reads_packets : (long : Bool) (name path : Text) → is_path path ≡ true �
 reads_packets long name = by_first (Reads long (codes "packets") (codes "SCRIPT") name) (empty_packets long name) (dash_packets long name) (other_packets long name)
 
 -- a subcommand that was said with one name was not said with another
-other_name : (said : Text × List Row) (name other : Text) → said.0 ≡ name → said.0 ≡ other → bytes_eq name other ≡ false → ⊥
+pub other_name : (said : Text × List Row) (name other : Text) → said.0 ≡ name → said.0 ≡ other → bytes_eq name other ≡ false → ⊥
 other_name said name other is was differs =
     let same : bytes_eq name other ≡ true = (bytes_eq-Decides name other).1 (sym is ∙ was) in
     absurd cc
@@ -136,7 +136,7 @@ same_path : (path : Text) (p : Text) (value : Option Text) → value ≡ Some pa
 same_path path p value is was = cc
 
 -- the flag of the command is that of the words
-same_flag : (value : Option Text) (was long : Bool) → value ≡ Some (flag_value long) → IsFlag value was → was ≡ long
+pub same_flag : (value : Option Text) (was long : Bool) → value ≡ Some (flag_value long) → IsFlag value was → was ≡ long
 same_flag value true true e is = refl
 same_flag value true false e is = absurd (is.0 e)
 same_flag value false true e is = absurd (is e)

@@ -1,5 +1,5 @@
 -- The grammar of the command line, in clap's words, and what its words ask for.
-use Rattle.std.specs.Prelude.{◌≡◌, ◌≢◌, ◌==◌, ◌||◌, ◌&&◌, ℕ, Bool, true, false, not, List, [], ◌∷◌, Option, None, Some, map, length, nat_lt, unwrap_or, codes, option_map, IsSomeAnd, if◌then◌else◌}
+use Rattle.std.specs.Prelude.{◌≡◌, ◌≢◌, ◌==◌, ◌||◌, ◌&&◌, ℕ, Bool, true, false, not, List, [], ◌∷◌, ◌++◌, Option, None, Some, map, length, nat_lt, unwrap_or, codes, option_map, IsSomeAnd, if◌then◌else◌}
 use Rattle.std.specs.Option.{option_map_or}
 use Rattle.std.specs.Str.{bytes_eq}
 use Rattle.std.specs.Str.Parse.{digits_value, without_leading_plus}
@@ -256,3 +256,7 @@ with_packets false path = path ∷ []
 abbrev pub with_long : Bool → Text → List Text
 with_long true path = codes "--long" ∷ path ∷ []
 with_long false path = path ∷ []
+
+-- `--processes`, behind `--long` or alone, and paths
+abbrev pub with_processes : Bool → List Text → List Text
+with_processes long paths = with_long long (codes "--processes") ++ paths

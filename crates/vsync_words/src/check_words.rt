@@ -104,7 +104,9 @@ pub(crate) fn stray_trace<'a>(matches: &ArgMatches<'a>) -> Option<&'a str>
     if stands(matches, "processes") {
         return None;
     }
-    let traces = matches.get_strs("TRACE")?;
+    let Some(traces) = matches.get_strs("TRACE") else {
+        return None;
+    };
     match traces.get(1) {
         Some(second) => Some(*second),
         None => None,

@@ -1,8 +1,9 @@
-ghost use Rattle.std.specs.Prelude.{◌≡◌, ◌≤◌, ◌<◌, ◌∷◌, [], Bool, true, false, Some, length, map, codes, is_some, string_bytes, IfOk, IfSome, IsOkAnd, IsSomeAnd};
+ghost use Rattle.std.specs.Prelude.{◌≡◌, ◌≤◌, ◌<◌, ◌∷◌, [], Bool, List, true, false, Some, length, map, codes, is_some, string_bytes, IfOk, IfSome, IsOkAnd, IsSomeAnd};
+ghost use Rattle.std.specs.List.{list_all};
 ghost use Rattle.std.specs.Option.{option_map_or};
 ghost use Rattle.clap.specs.Words.{app_of, first_of, found_of, rows_of, subcommand_of, subcommand_rows_of, FailsBy, Text};
-ghost use Rattle.vsync_words.specs.Words.{input_of, is_long, kept_of, IsWorldOn, IsChatOn, IsPacketsOn, IsCheckOn, IsDrawOn, IsDrawTraceOn, IsMapOn, IsLocksOn, IsUdpOn, IsOrNoMemory, RunsStandardInput};
-ghost use Rattle.vsync_words.specs.Grammar.{is_path, with_long, with_packets, draw_app, faults_of, flag_rule, is_stray, required_rule, program_app, program_of_subcommands, path_app, script_app, AddsCommand, AreTextWords, IsArg, IsCommand, IsDrawSaid, IsSaid, IsTextSaid};
+ghost use Rattle.vsync_words.specs.Words.{input_of, is_long, kept_of, IsWorldOn, IsChatOn, IsPacketsOn, IsCheckOn, IsDrawOn, IsDrawTraceOn, IsMapOn, IsLocksOn, IsUdpOn, IsOrNoMemory, AreProcessesOn, RunsStandardInput};
+ghost use Rattle.vsync_words.specs.Grammar.{is_path, with_long, with_packets, with_processes, draw_app, faults_of, flag_rule, is_stray, required_rule, program_app, program_of_subcommands, path_app, script_app, AddsCommand, AreTextWords, IsArg, IsCommand, IsDrawSaid, IsSaid, IsTextSaid};
 
 use crate::check_words::{ProcessesWords, check_words, stray_trace, unexpected_trace, with_check};
 use crate::udp_words::{
@@ -487,6 +488,9 @@ pub fn command<'a>(alloc: Global, words: &'a [String]) -> Result<Invocation<'a>,
     ensures check { (long : Bool) (name path : Text) → is_path path ≡ true
         → map string_bytes words.now ≡ name ∷ codes "check" ∷ with_long long path
         → IsOrNoMemory (IsCheckOn long path) result }
+    ensures processes { (long : Bool) (name path : Text) (others : List Text) → list_all is_path (path ∷ others) ≡ true
+        → map string_bytes words.now ≡ name ∷ codes "check" ∷ with_processes long (path ∷ others)
+        → IsOrNoMemory (AreProcessesOn long (path ∷ others)) result }
     ensures draw { (packets : Bool) (name path : Text) → is_path path ≡ true
         → map string_bytes words.now ≡ name ∷ codes "draw" ∷ with_packets packets path
         → IsOrNoMemory (IsDrawOn packets path) result }

@@ -1,7 +1,8 @@
-use Rattle.std.proofs.Common.{◌∙◌, ap, codes, List, map, string_bytes}
+use Rattle.std.proofs.Common.{◌∙◌, ◌∷◌, ap, codes, List, map, string_bytes}
 use Rattle.clap.specs.Words.{Text, subcommand_of}
 use Rattle.vsync_words.specs.Grammar.{faults_of, program_app}
 use Rattle.vsync_words.proofs.Computing.{chat_or_no_memory, draw_or_no_memory, map_or_no_memory, locks_or_no_memory, script_in, reads_map, reads_locks, trace_or_no_memory, drawing_in, reads_draw, reads_trace, check_in, check_or_no_memory, packets_or_no_memory, reads_chat, reads_check, paths_in, reads_packets, reads_udp, reads_world, udp_or_no_memory, value_in, world_or_no_memory}
+use Rattle.vsync_words.proofs.SeveralPaths.{processes_in, processes_or_no_memory, reads_processes}
 use Rattle.vsync_words.proofs.words.command.Goals as goal
 
 pub returns-clause-world : goal.returns-clause-world
@@ -38,6 +39,15 @@ returns-clause-check c = λ long name path is words.
     (faults_of (map string_bytes c.args.words.now)) long path
     (ap faults_of words ∙ reads.0)
     (ap (λ (w : List Text). check_in (subcommand_of program_app w)) words ∙ reads.1)
+    c.parsed.ensures.said c.parsed.ensures.refused
+
+pub returns-clause-processes : goal.returns-clause-processes
+returns-clause-processes c = λ long name path others are words.
+    let reads = reads_processes long name path others are in
+    processes_or_no_memory c.parsed.result (subcommand_of program_app (map string_bytes c.args.words.now))
+    (faults_of (map string_bytes c.args.words.now)) long (path ∷ others)
+    (ap faults_of words ∙ reads.0)
+    (ap (λ (w : List Text). processes_in (subcommand_of program_app w)) words ∙ reads.1)
     c.parsed.ensures.said c.parsed.ensures.refused
 
 pub returns-clause-udp : goal.returns-clause-udp
