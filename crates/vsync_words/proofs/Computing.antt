@@ -6,7 +6,7 @@ use Rattle.std.proofs.lemmas.Slice.Eq.{bytes_eq-Decides}
 use Rattle.std.proofs.lemmas.Result.{IfOk-weaker}
 use Rattle.std.specs.Result.{IsErrAnd}
 use Rattle.clap.specs.Kinds.{or_else}
-use Rattle.clap.specs.Words.{FailsBy, HasKind, IsAmong, Kinds, Row, Text, fault_of, first_of, is_simple_and_free, is_simple, kind_of, one_of, subcommand_of}
+use Rattle.clap.specs.Words.{FailsBy, HasKind, Kinds, Row, Text, first_of, is_simple_and_free, is_simple, kind_of, one_of, subcommand_of}
 use Rattle.clap.specs.declared.error.Error.{Error}
 use Rattle.clap.specs.declared.error.kind.ErrorKind.TheVariants.{OutOfMemory, UnknownArgument}
 use Rattle.clap.specs.Walk.{is_empty}

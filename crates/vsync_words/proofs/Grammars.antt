@@ -1,5 +1,5 @@
 -- What clap's commands come to, argument by argument.
-use Rattle.std.proofs.Common.{◌≡◌, ◌||◌, ◌∙◌, ap, ap₂, codes, refl, true, false, Bool, Option, None, Some, is_none, option_map, List, [], ◌∷◌, map, length, nat_lt}
+use Rattle.std.proofs.Common.{◌≡◌, ◌||◌, ◌∙◌, ap, ap₂, codes, refl, true, false, Bool, Option, None, Some, is_none, option_map, List, map, length, nat_lt}
 use Rattle.std.specs.Borrow.{Bor}
 use Rattle.std.proofs.lemmas.Bool.{both_ways}
 use Rattle.std.proofs.lemmas.List.{length-map}

@@ -1,5 +1,5 @@
 -- What the grammar makes of `check --processes` and any number of paths, by induction over the paths.
-use Rattle.std.proofs.Common.{◌≡◌, ◌==◌, ◌&&◌, ℕ, Bool, true, false, refl, sym, ap, ap₂, ◌∙◌, codes, List, [], ◌∷◌, ◌++◌, Option, Some, None, is_some, option_map, fold, find, Result, IfOk, IsSomeAnd}
+use Rattle.std.proofs.Common.{◌≡◌, ◌==◌, ℕ, Bool, true, false, refl, sym, ap, ap₂, ◌∙◌, codes, List, [], ◌∷◌, ◌++◌, Option, Some, None, is_some, option_map, fold, find, Result, IfOk, IsSomeAnd}
 use Rattle.std.specs.Prelude.{unwrap_or}
 use Rattle.std.specs.List.{list_all}
 use Rattle.std.specs.Option.{option_map_or}
@@ -7,9 +7,9 @@ use Rattle.std.proofs.lemmas.Result.{IfOk-weaker}
 use Rattle.std.proofs.lemmas.List.{append-nil, append_assoc}
 use Rattle.clap.specs.Kinds.{Kinds, or_else}
 use Rattle.clap.specs.Words.{App, FailsBy, Row, Rule, Shape, Text, all_of, built, fault_of, one_of, subcommand_of}
-use Rattle.clap.specs.Walk.{Held, Names, Walk, answers_to, arg_by_index, finished, nothing_held, positional, reading_by, rows_after, settled, walk, walk_from, walked}
+use Rattle.clap.specs.Walk.{Names, Walk, answers_to, arg_by_index, finished, nothing_held, positional, reading_by, rows_after, settled, walk, walk_from, walked}
 use Rattle.clap.specs.Simple.{entered, label_of, names_of, new_rule, new_shape}
-use Rattle.clap.specs.Faults.{check_fault, defaults_fault, entered_fault, level_fault, settle_fault, turn_fault, walk_fault}
+use Rattle.clap.specs.Faults.{check_fault, defaults_fault, entered_fault, settle_fault, turn_fault, walk_fault}
 use Rattle.clap.specs.declared.error.Error.{Error}
 use Rattle.clap.specs.declared.parser.matches.ValueSource.TheVariants.{CommandLine}
 use Rattle.clap.proofs.FaultLemmas.{stopped_fault}
@@ -237,7 +237,7 @@ reads_processes long name path others are =
     let said = ends long (before_last [] path others) (last_of path others) in
     let rows : rows_after check.rules [] words ≡ finished check.rules end.held = ap (λ (w : Walk). finished check.rules w.held) there in
     let subcommand : subcommand_of program_app (name ∷ codes "check" ∷ words) ≡ Some (codes "check", finished check.rules end.held) =
-        enters name words ∙ ap (λ (r : List Row). Some (codes "check", r)) rows in
+    enters name words ∙ ap (λ (r : List Row). Some (codes "check", r)) rows in
     let paths : all_of (codes "TRACE") (finished check.rules end.held) ≡ Some (path ∷ others) = said.1 ∙ ap Some (all_paths [] path others) in (
       ap₂ or_else (passes name words end clean there said.0) (ap stray_fault subcommand ∙ none_stray (finished check.rules end.held) said.3),
       ap processes_in subcommand ∙ tells (finished check.rules end.held) long (path ∷ others) paths said.2 said.3,
