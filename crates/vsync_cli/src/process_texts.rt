@@ -14,12 +14,7 @@ use std::rt::Files;
 use vsync_words::ProcessesWords;
 
 /// Checks texts, to a writer: their members keep the long chat or the chat.
-fn check_texts<W: Write>(
-    alloc: Global,
-    long: bool,
-    texts: &[Vec<u8>],
-    writer: &mut W,
-) -> Status
+fn check_texts<W: Write>(alloc: Global, long: bool, texts: &[Vec<u8>], writer: &mut W) -> Status
     ensures { DoesProcesses long (texts_of texts.now) (W.contents writer.old) (W.contents writer.new) result }
 {
     if long {

@@ -285,8 +285,7 @@ fn check_takes_one_trace_alone(rt: HostRuntime) {
         "no text"
     );
     assert!(rt;
-        refusal(alloc, &["vsync", "world", "--processes", "a"])
-            == Some(ErrorKind::UnknownArgument),
+        refusal(alloc, &["vsync", "world", "--processes", "a"]) == Some(ErrorKind::UnknownArgument),
         "a script"
     );
 }
