@@ -10,7 +10,7 @@ use Rattle.trace_props.specs.declared.verdict.Verdict.{Verdict}
 use Rattle.trace_props.specs.Verdicts.{IsVerdict}
 use Rattle.trace_props.specs.Recorded.{Recorded}
 use Rattle.trace_merge.specs.Merges.{IsOrderedMerge, lists_of, events_in}
-use Rattle.trace_reader.specs.Traces.{trace_of}
+use Rattle.commands.specs.MemberTexts.{member_trace_of}
 use Rattle.trace_merge.specs.Outcomes.{AreUnordered}
 use Rattle.script_reader.specs.declared.fault.Fault.{Fault}
 use Rattle.script_reader.specs.declared.fault.Unread.{Unread}
@@ -62,14 +62,14 @@ module _ (texts : List (Vec ℕ)) (k : ℕ) (v : Vec ℕ) (within : k < length t
   bytes-at : slice_index_or (texts_of texts) k [] ≡ v.items
   bytes-at = get_or-map bytes_in texts k v [] within ∙ ap bytes_in (sym at)
 
-  pub one-more-read : (traces : List Recorded) (t : Recorded) → AreTracesOf (take k (texts_of texts)) (lists_of traces) → trace_of v.items ≡ Ok t.events
+  pub one-more-read : (traces : List Recorded) (t : Recorded) → AreTracesOf (take k (texts_of texts)) (lists_of traces) → member_trace_of v.items ≡ Ok t.events
       → AreTracesOf (take (k + 1) (texts_of texts)) (lists_of (traces ++ t ∷ []))
   one-more-read traces t so is =
       subst (λ (l : List (List Event)). AreTracesOf (take (k + 1) (texts_of texts)) l) (sym (map-append events_in traces (t ∷ [])))
       (subst (λ (l : List (List ℕ)). AreTracesOf l (lists_of traces ++ t.events ∷ [])) (sym (ap (λ (n : ℕ). take n (texts_of texts)) (add-one k) ∙ take-suc (texts_of texts) k [] inside ∙ ap (λ (b : List ℕ). take k (texts_of texts) ++ b ∷ []) bytes-at))
       (are-push (take k (texts_of texts)) (lists_of traces) v.items t.events so is))
 
-  pub is-unread : (traces : List Recorded) (why : Unread) → AreTracesOf (take k (texts_of texts)) (lists_of traces) → IsUnread (trace_of v.items) why
+  pub is-unread : (traces : List Recorded) (why : Unread) → AreTracesOf (take k (texts_of texts)) (lists_of traces) → IsUnread (member_trace_of v.items) why
       → IsUnreadIn (texts_of texts) (unread_at (k + 1) why)
   is-unread traces (one.Fault line fault) so is = record {
     before = lists_of traces;

@@ -4,4 +4,5 @@ pub mod States
 pub mod Packets
 pub mod Asides
 pub mod Draws
+pub mod MemberTexts
 pub mod Processes

@@ -15,15 +15,15 @@ use Rattle.script_reader.specs.declared.fault.Unread.{Unread}
 use Rattle.script_reader.specs.declared.fault.Unread.TheVariants as one
 use Rattle.script_reader.specs.Script.{fault_number}
 use Rattle.vsync_text.specs.TraceText.{line_of}
-use Rattle.trace_reader.specs.Traces.{trace_of}
 use Rattle.commands.specs.declared.processes.UnreadIn.{UnreadIn}
 use Rattle.commands.specs.declared.processes.UnreadIn.TheVariants as unread
 use Rattle.commands.specs.declared.status.Status.{Status}
 use Rattle.commands.specs.declared.status.Status.TheVariants.{Done, Broken, Refused, Memory}
 use Rattle.commands.specs.Outcomes.{Written, memory_line}
 use Rattle.commands.specs.Checks.{broken_line}
+use Rattle.commands.specs.MemberTexts.{member_trace_of}
 
--- the bytes of texts, and the trace that one says
+-- the bytes of texts, and the trace that one tells
 abbrev pub bytes_in : Vec ℕ → List ℕ
 bytes_in v = v.items
 
@@ -31,7 +31,7 @@ abbrev pub texts_of : List (Vec ℕ) → List (List ℕ)
 texts_of texts = map bytes_in texts
 
 abbrev pub IsTraceOf : List ℕ → List Event → Type 0
-IsTraceOf bytes t = trace_of bytes ≡ Ok t
+IsTraceOf bytes t = member_trace_of bytes ≡ Ok t
 
 -- texts one by one
 abbrev pub AreTracesOf : List (List ℕ) → List (List Event) → Type 0
@@ -88,7 +88,7 @@ pub record HasFault (texts : List (List ℕ)) (number line : ℕ) (fault : Fault
   pub number_is : number ≡ k + 1
   pub reads : AreTracesOf (take k texts) before
   pub there : slice_get texts k ≡ Some bytes
-  pub faulty : trace_of bytes ≡ Err (record { line = line; fault = fault })
+  pub faulty : member_trace_of bytes ≡ Err (record { line = line; fault = fault })
 
 -- why the text of a number is not read, and why texts are not
 abbrev pub unread_at : ℕ → Unread → UnreadIn

@@ -6,6 +6,7 @@ mod checks;
 mod draws;
 mod ends;
 mod law;
+mod member_texts;
 mod packets;
 mod processes;
 mod scripts;

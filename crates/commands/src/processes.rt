@@ -11,6 +11,7 @@ ghost use Rattle.commands.specs.Processes.{texts_of, AreTracesOf, unread_at, IsP
 use crate::Status;
 use crate::checks::code_of;
 use crate::ends::{end_in_memory, end_with};
+use crate::member_texts::read_member_trace;
 use script_reader::{Fault, Unread};
 use state_transfer::Receiver;
 use std::alloc::{AllocError, Global};
@@ -18,7 +19,6 @@ use std::io::Write;
 use trace_checker::check;
 use trace_merge::{MergeError, merge};
 use trace_props::{Event, Rule, Trace, Verdict};
-use trace_reader::read_trace;
 use vsync_text::append_event;
 
 /// Why texts are not read.
@@ -50,7 +50,7 @@ fn read_traces(alloc: Global, texts: &[Vec<u8>]) -> Result<Vec<Trace>, UnreadIn>
 {
     let mut traces = Vec::new(alloc);
     for (text, bytes) in texts.iter().enumerate() {
-        let trace = match read_trace(alloc, bytes.as_slice()) {
+        let trace = match read_member_trace(alloc, bytes.as_slice()) {
             Ok(trace) => trace,
             Err(unread) => return Err(unread_at(text + 1, unread)),
         };
@@ -151,7 +151,8 @@ fn join<R: Receiver, W: Write>(alloc: Global, traces: &[Trace], writer: &mut W) 
 /// Checks the texts of several processes, for receivers that are `R`: puts them together as one trace, in an order in which a message is sent before it is delivered,
 /// and a view's coordinator is delivered a message, and installs the view, before others do, and writes to a writer whether that is virtually synchronous: `holds`, or
 /// `broken RULE PLACE` and the line of the event at that place. Where there is no such order, it writes `unordered TEXT EVENT`, and where a text has a fault,
-/// `fault TEXT LINE NUMBER`; texts are counted from 1, and so are the events of each (docs/FORMATS.md, "Texts of several processes"). Answers the exit status.
+/// `fault TEXT LINE NUMBER`; texts are counted from 1, and so are the events of each. The lines of members' states are passed over (docs/FORMATS.md, "Texts of several
+/// processes"). Answers the exit status.
 pub fn run_check_processes<R: Receiver, W: Write>(
     alloc: Global,
     texts: &[Vec<u8>],

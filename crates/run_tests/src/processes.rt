@@ -46,6 +46,37 @@ fn texts_of_two_processes_hold_in_either_order(rt: HostRuntime) {
 }
 
 #[test]
+fn lines_of_states_are_passed_over(rt: HostRuntime) {
+    let alloc = rt.alloc();
+    let first =
+        b"started 1.1\ninstalled 1.1 - 1@1.1 1.1 1.1 - -\nsent 1.1 1@1.1 1 68\ndelivered 1.1 1@1.1 1.1 1 68\nchat 1.1 1.1:68\nleft 1.1\n";
+    assert!(rt;
+        checks(alloc, &[first], Status::Done, b"holds\n") == Ok(true),
+        "a chat's, and the leave behind it"
+    );
+    assert!(rt;
+        checks(
+            alloc,
+            &[b"map 1.1 -\nlocks 2.1 1@1.1/0 -\nchat 4.2 -\nwent 2.1\n"],
+            Status::Refused,
+            b"fault 1 4 40\n"
+        ) == Ok(true),
+        "each of them, counted"
+    );
+    for line in [
+        b"chat".as_slice(),
+        b"chat 1.1".as_slice(),
+        b"chat 0.1 -".as_slice(),
+        b"chats 1.1 -".as_slice(),
+    ] {
+        assert!(rt;
+            checks(alloc, &[line], Status::Refused, b"fault 1 1 40\n") == Ok(true),
+            "a line that is none"
+        );
+    }
+}
+
+#[test]
 fn a_text_without_a_line_is_broken_by_the_rule_of_that_line(rt: HostRuntime) {
     let alloc = rt.alloc();
     let unsent =

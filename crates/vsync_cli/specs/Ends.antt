@@ -1,5 +1,5 @@
 -- What a command does, and how the program ends where there is none.
-use Rattle.std.specs.Prelude.{◌≡◌, ◌⊎◌, ℕ, List, Option, Result}
+use Rattle.std.specs.Prelude.{◌≡◌, ◌⊎◌, ℕ, Bool, true, false, List, Option, Result}
 use Rattle.clap.specs.Words.{IsAmong, Kinds}
 use Rattle.clap.specs.declared.error.kind.ErrorKind.{ErrorKind}
 use Rattle.clap.specs.declared.error.kind.ErrorKind.TheVariants.{DisplayHelp, DisplayVersion, OutOfMemory}
@@ -19,6 +19,7 @@ use Rattle.commands.specs.Outcomes.{RunsScript}
 use Rattle.commands.specs.States.{RunsStates}
 use Rattle.commands.specs.Packets.{RunsPackets}
 use Rattle.commands.specs.Checks.{ChecksTrace}
+use Rattle.commands.specs.Processes.{ChecksProcesses}
 use Rattle.commands.specs.Draws.{DrawsScript, DrawsTrace}
 use Rattle.commands.specs.declared.status.Status.{Status}
 use Rattle.commands.specs.declared.status.Status.TheVariants.{Done, Memory, Outside, Usage}
@@ -50,6 +51,11 @@ DoesBy kept.Locks = DoesWith table_meaning lock_payload table_line
 -- the command is done, and its members keep what it says
 abbrev pub Does : TextCommand → Option (List ℕ) → Option (List ℕ) → Option (List ℕ) → Status → Type 0
 Does command = DoesBy (kept_of command) command
+
+-- the texts of several processes are checked, to a writer; their members keep the long chat or the chat
+abbrev pub DoesProcesses : Bool → List (List ℕ) → Option (List ℕ) → Option (List ℕ) → Status → Type 0
+DoesProcesses true = ChecksProcesses long_meaning
+DoesProcesses false = ChecksProcesses chat_meaning
 
 -- it ends with this status, or with 5 where the output failed
 abbrev pub EndsBy : Status → Status → Type 0

@@ -4,6 +4,7 @@
 mod hosts;
 mod incarnations;
 mod output;
+mod process_texts;
 mod programs;
 mod said;
 mod udp_programs;
@@ -11,13 +12,14 @@ mod udp_programs;
 pub use application::Application;
 pub use chat_log::{ChatLog, LongChat};
 pub use commands::{
-    Status, run_check, run_draw, run_draw_trace, run_packets, run_script, run_states,
+    Status, run_check, run_check_processes, run_draw, run_draw_trace, run_packets, run_script,
+    run_states,
 };
 pub use lock_table::LockTable;
 pub use programs::program;
 pub use replicated_map::ReplicatedMap;
 pub use udp_runs::{Lines, Manner, run_member, run_udp};
 pub use vsync_words::{
-    Invocation, Kept, MemberMistake, MemberOptions, MemberPlan, MemberWords, TextCommand,
-    TextWords, UdpWords, command,
+    Invocation, Kept, MemberMistake, MemberOptions, MemberPlan, MemberWords, ProcessesWords,
+    TextCommand, TextWords, UdpWords, command,
 };

@@ -1,15 +1,19 @@
-ghost use Rattle.std.specs.Prelude.{◌≡◌, ◌≢◌, ◌⊎◌, ◌<◌, [], length, map, string_bytes};
-ghost use Rattle.clap.specs.Words.{fault_of, kind_of};
+ghost use Rattle.std.specs.Prelude.{◌≡◌, ◌≢◌, ◌⊎◌, ◌<◌, [], length, map, string_bytes, IfErr, IfSome, MatchResult};
+ghost use Rattle.clap.specs.Words.{kind_of};
 ghost use Rattle.vsync_cli.specs.Ends.{Does, DoesWith, EndsBy, EndsByFault};
-ghost use Rattle.vsync_words.specs.Grammar.{program_app};
+ghost use Rattle.vsync_words.specs.Grammar.{faults_of};
 
 use crate::output::Output;
+use crate::process_texts::check_processes;
 use crate::udp_programs::{member, udp};
 use application::Application;
 use chat_log::{ChatLog, LongChat};
 use clap::Error;
 use clap::error::ErrorKind;
-use commands::{Status, run_check, run_draw, run_draw_trace, run_packets, run_script, run_states};
+use commands::{
+    Status, Unreadable, read_all, run_check, run_draw, run_draw_trace, run_packets, run_script,
+    run_states,
+};
 use lock_table::LockTable;
 use replicated_map::ReplicatedMap;
 use std::alloc::Global;
@@ -95,6 +99,37 @@ fn is_drawing(command: TextCommand<'_>) -> bool {
     }
 }
 
+/// The bytes of the file of a path; or the status with which the program ends.
+pub(crate) fn bytes_at<R: Files + Print + Eprint + AllocGlobal>(
+    rt: &R,
+    path: &str,
+) -> Result<Vec<u8>, Status>
+    ensures { IfErr result (EndsBy Status.Memory) }
+{
+    match fs::open(rt, path) {
+        Ok(file) => {
+            let mut file = file;
+            bytes_of(rt, &mut file, path)
+        }
+        Err(error) => Err(failed(rt, &error, "cannot open", path)),
+    }
+}
+
+/// All that a reader has left; or the status with which the program ends.
+pub(crate) fn bytes_of<I: Read, R: Print + Eprint + AllocGlobal>(
+    rt: &R,
+    reader: &mut I,
+    name: &str,
+) -> Result<Vec<u8>, Status>
+    ensures { MatchResult result (λ bytes. IfSome (I.remaining reader.old) (λ left. bytes.items ≡ left)) (EndsBy Status.Memory) }
+{
+    match read_all(rt.alloc(), reader) {
+        Ok(bytes) => Ok(bytes),
+        Err(Unreadable::Memory) => Err(without_memory(rt)),
+        Err(Unreadable::Failed) => Err(complain(rt, "a read failed:", name)),
+    }
+}
+
 /// Says on the standard error which of both failed: the output, or else what is read.
 pub(crate) fn outside<R: Eprint>(rt: &R, is_unwritten: bool, path: &str) -> Status
     ensures { result ≡ Status.Outside }
@@ -175,11 +210,12 @@ fn obey<R: Files + Input + Net + Clock + Print + Eprint + AllocGlobal>(
     rt: &R,
     words: &[String],
 ) -> Status
-    ensures { let faults = fault_of program_app (map string_bytes words.now) in
+    ensures { let faults = faults_of (map string_bytes words.now) in
         1 < length words.now → faults ≢ [] → EndsByFault faults result }
 {
     match command(rt.alloc(), words) {
         Ok(Invocation::Text(command)) => answer_at(rt, command),
+        Ok(Invocation::Processes(words)) => check_processes(rt, &words),
         Ok(Invocation::Udp(words)) => udp(rt, &words),
         Ok(Invocation::Member(words)) => member(rt, &words),
         Err(error) => explain(rt, error),

@@ -9,12 +9,12 @@ ghost use Rattle.vsync_cli.specs.Settings.{EndsWithout, GivesSettings};
 use crate::hosts::{PeersError, peers_in};
 use crate::incarnations::{IncarnationError, next_address};
 use crate::output::Output;
-use crate::programs::{complain, failed, outside, without_memory};
+use crate::programs::{bytes_at, failed, outside, without_memory};
 use crate::said::Appended;
 use address::{Address, Node};
 use application::Application;
 use chat_log::{ChatLog, LongChat};
-use commands::{Status, Unreadable, read_all};
+use commands::Status;
 use lock_table::LockTable;
 use replicated_map::ReplicatedMap;
 use std::io::Read;
@@ -57,14 +57,9 @@ fn settings_at<R: Files + Print + Eprint + AllocGlobal>(
 ) -> Result<Settings, Status>
     ensures { IfErr result EndsWithout }
 {
-    let mut file = match fs::open(rt, path) {
-        Ok(file) => file,
-        Err(error) => return Err(failed(rt, &error, "cannot open", path)),
-    };
-    match read_all(rt.alloc(), &mut file) {
+    match bytes_at(rt, path) {
         Ok(bytes) => settings_in(rt, bytes.as_slice()),
-        Err(Unreadable::Memory) => Err(without_memory(rt)),
-        Err(Unreadable::Failed) => Err(complain(rt, "a read failed:", path)),
+        Err(status) => Err(status),
     }
 }
 

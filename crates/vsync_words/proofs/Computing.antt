@@ -5,16 +5,16 @@ use Rattle.std.specs.Str.{bytes_eq}
 use Rattle.std.proofs.lemmas.Slice.Eq.{bytes_eq-Decides}
 use Rattle.std.proofs.lemmas.Result.{IfOk-weaker}
 use Rattle.std.specs.Result.{IsErrAnd}
-use Rattle.clap.specs.Kinds.{HasKind}
-use Rattle.clap.specs.Words.{FailsBy, Kinds, Row, Text, fault_of, first_of, is_simple_and_free, is_simple, kind_of, one_of, subcommand_of}
+use Rattle.clap.specs.Kinds.{or_else}
+use Rattle.clap.specs.Words.{FailsBy, HasKind, Kinds, Row, Text, first_of, is_simple_and_free, is_simple, kind_of, one_of, subcommand_of}
 use Rattle.clap.specs.declared.error.Error.{Error}
-use Rattle.clap.specs.declared.error.kind.ErrorKind.TheVariants.{OutOfMemory}
+use Rattle.clap.specs.declared.error.kind.ErrorKind.TheVariants.{OutOfMemory, UnknownArgument}
 use Rattle.clap.specs.Walk.{is_empty}
 use Rattle.clap.proofs.OnLiterals.{clap_on_literals}
 use Rattle.vsync_words.specs.declared.words.Invocation.{Invocation}
-use Rattle.vsync_words.specs.declared.words.Invocation.TheVariants.{Text as TextOf, Udp, Member}
+use Rattle.vsync_words.specs.declared.words.Invocation.TheVariants.{Text as TextOf, Processes, Udp, Member}
 use Rattle.vsync_words.specs.declared.words.TextCommand.TheVariants.{World, Chat, Packets, Check, Draw, DrawTrace, Map, Locks}
-use Rattle.vsync_words.specs.Grammar.{IsFlag, IsSaid, is_path, program_app, with_long, with_packets}
+use Rattle.vsync_words.specs.Grammar.{IsFlag, IsSaid, faults_of, is_path, is_stray, program_app, stands, stray_fault, with_long, with_packets}
 use Rattle.vsync_words.specs.Words.{IsChatOn, IsCheckOn, IsDrawOn, IsDrawTraceOn, IsLocksOn, IsMapOn, IsOrNoMemory, IsPacketsOn, IsUdpOn, IsWorldOn}
 
 pub simple : is_simple_and_free program_app ≡ true
@@ -30,7 +30,7 @@ abbrev words_on : Bool → Text → Text → Text → List Text
 words_on long name subcommand path = name ∷ subcommand ∷ with_long long path
 
 -- where the subcommand passes with `-`, the empty path and each path with a first letter other than `-`, it passes with each path
-by_first : (P : Text → Type 0) → P [] → P (45 ∷ []) → ((x : ℕ) (xs : Text) → (x == 45) ≡ false → P (x ∷ xs)) → (path : Text) → is_path path ≡ true → P path
+pub by_first : (P : Text → Type 0) → P [] → P (45 ∷ []) → ((x : ℕ) (xs : Text) → (x == 45) ≡ false → P (x ∷ xs)) → (path : Text) → is_path path ≡ true → P path
 by_first P empty dash other [] is = empty
 by_first P empty dash other (x ∷ xs) is = go (x == 45) refl
   where
@@ -56,7 +56,7 @@ flag_value false = codes "false"
 -- the words pass, and are this subcommand with the path as this argument's value, and this flag
 abbrev Reads : Bool → Text → Text → Text → Text → Type 0
 Reads long subcommand argument name path =
-    (fault_of program_app (words_on long name subcommand path) ≡ [])
+    (faults_of (words_on long name subcommand path) ≡ [])
     × (value_in argument (subcommand_of program_app (words_on long name subcommand path)) ≡ Some (subcommand, Some path, Some (flag_value long)))
 
 other_world : (long : Bool) (name : Text) (x : ℕ) (xs : Text) → (x == 45) ≡ false → Reads long (codes "world") (codes "SCRIPT") name (x ∷ xs)
@@ -74,11 +74,6 @@ unfolding clap_on_literals
 other_packets true name x xs e = (simp e refl, simp e refl)
 other_packets false name x xs e = (simp e refl, simp e refl)
 
-other_check : (long : Bool) (name : Text) (x : ℕ) (xs : Text) → (x == 45) ≡ false → Reads long (codes "check") (codes "TRACE") name (x ∷ xs)
-unfolding clap_on_literals
-other_check true name x xs e = (simp e refl, simp e refl)
-other_check false name x xs e = (simp e refl, simp e refl)
-
 empty_world : (long : Bool) (name : Text) → Reads long (codes "world") (codes "SCRIPT") name []
 unfolding clap_on_literals
 empty_world true name = (refl, refl)
@@ -93,11 +88,6 @@ empty_packets : (long : Bool) (name : Text) → Reads long (codes "packets") (co
 unfolding clap_on_literals
 empty_packets true name = (refl, refl)
 empty_packets false name = (refl, refl)
-
-empty_check : (long : Bool) (name : Text) → Reads long (codes "check") (codes "TRACE") name []
-unfolding clap_on_literals
-empty_check true name = (refl, refl)
-empty_check false name = (refl, refl)
 
 dash_world : (long : Bool) (name : Text) → Reads long (codes "world") (codes "SCRIPT") name (45 ∷ [])
 unfolding clap_on_literals
@@ -114,11 +104,6 @@ unfolding clap_on_literals
 dash_packets true name = (refl, refl)
 dash_packets false name = (refl, refl)
 
-dash_check : (long : Bool) (name : Text) → Reads long (codes "check") (codes "TRACE") name (45 ∷ [])
-unfolding clap_on_literals
-dash_check true name = (refl, refl)
-dash_check false name = (refl, refl)
-
 pub reads_world : (long : Bool) (name path : Text) → is_path path ≡ true → Reads long (codes "world") (codes "SCRIPT") name path
 reads_world long name = by_first (Reads long (codes "world") (codes "SCRIPT") name) (empty_world long name) (dash_world long name) (other_world long name)
 
@@ -128,11 +113,8 @@ reads_chat long name = by_first (Reads long (codes "chat") (codes "SCRIPT") name
 pub reads_packets : (long : Bool) (name path : Text) → is_path path ≡ true → Reads long (codes "packets") (codes "SCRIPT") name path
 reads_packets long name = by_first (Reads long (codes "packets") (codes "SCRIPT") name) (empty_packets long name) (dash_packets long name) (other_packets long name)
 
-pub reads_check : (long : Bool) (name path : Text) → is_path path ≡ true → Reads long (codes "check") (codes "TRACE") name path
-reads_check long name = by_first (Reads long (codes "check") (codes "TRACE") name) (empty_check long name) (dash_check long name) (other_check long name)
-
 -- a subcommand that was said with one name was not said with another
-other_name : (said : Text × List Row) (name other : Text) → said.0 ≡ name → said.0 ≡ other → bytes_eq name other ≡ false → ⊥
+pub other_name : (said : Text × List Row) (name other : Text) → said.0 ≡ name → said.0 ≡ other → bytes_eq name other ≡ false → ⊥
 other_name said name other is was differs =
     let same : bytes_eq name other ≡ true = (bytes_eq-Decides name other).1 (sym is ∙ was) in
     absurd cc
@@ -154,7 +136,7 @@ same_path : (path : Text) (p : Text) (value : Option Text) → value ≡ Some pa
 same_path path p value is was = cc
 
 -- the flag of the command is that of the words
-same_flag : (value : Option Text) (was long : Bool) → value ≡ Some (flag_value long) → IsFlag value was → was ≡ long
+pub same_flag : (value : Option Text) (was long : Bool) → value ≡ Some (flag_value long) → IsFlag value was → was ≡ long
 same_flag value true true e is = refl
 same_flag value true false e is = absurd (is.0 e)
 same_flag value false true e is = absurd (is e)
@@ -175,6 +157,7 @@ said_world (Some said) long path (TextOf (Draw p)) e h = absurd (other_name said
 said_world (Some said) long path (TextOf (DrawTrace p)) e h = absurd (other_name said (codes "world") (codes "draw") (name_in (codes "SCRIPT") said (codes "world") path (flag_value long) e) h.0 refl)
 said_world (Some said) long path (TextOf (Map p)) e h = absurd (other_name said (codes "world") (codes "map") (name_in (codes "SCRIPT") said (codes "world") path (flag_value long) e) h.0 refl)
 said_world (Some said) long path (TextOf (Locks p)) e h = absurd (other_name said (codes "world") (codes "locks") (name_in (codes "SCRIPT") said (codes "world") path (flag_value long) e) h.0 refl)
+said_world (Some said) long path (Processes w) e h = absurd (other_name said (codes "world") (codes "check") (name_in (codes "SCRIPT") said (codes "world") path (flag_value long) e) h.0 refl)
 said_world (Some said) long path (Udp w) e h = absurd (other_name said (codes "world") (codes "udp") (name_in (codes "SCRIPT") said (codes "world") path (flag_value long) e) h.0 refl)
 said_world (Some said) long path (Member w) e h = absurd (other_name said (codes "world") (codes "member") (name_in (codes "SCRIPT") said (codes "world") path (flag_value long) e) h.0 refl)
 
@@ -192,6 +175,7 @@ said_chat (Some said) long path (TextOf (Draw p)) e h = absurd (other_name said 
 said_chat (Some said) long path (TextOf (DrawTrace p)) e h = absurd (other_name said (codes "chat") (codes "draw") (name_in (codes "SCRIPT") said (codes "chat") path (flag_value long) e) h.0 refl)
 said_chat (Some said) long path (TextOf (Map p)) e h = absurd (other_name said (codes "chat") (codes "map") (name_in (codes "SCRIPT") said (codes "chat") path (flag_value long) e) h.0 refl)
 said_chat (Some said) long path (TextOf (Locks p)) e h = absurd (other_name said (codes "chat") (codes "locks") (name_in (codes "SCRIPT") said (codes "chat") path (flag_value long) e) h.0 refl)
+said_chat (Some said) long path (Processes w) e h = absurd (other_name said (codes "chat") (codes "check") (name_in (codes "SCRIPT") said (codes "chat") path (flag_value long) e) h.0 refl)
 said_chat (Some said) long path (Udp w) e h = absurd (other_name said (codes "chat") (codes "udp") (name_in (codes "SCRIPT") said (codes "chat") path (flag_value long) e) h.0 refl)
 said_chat (Some said) long path (Member w) e h = absurd (other_name said (codes "chat") (codes "member") (name_in (codes "SCRIPT") said (codes "chat") path (flag_value long) e) h.0 refl)
 
@@ -209,25 +193,71 @@ said_packets (Some said) long path (TextOf (Draw p)) e h = absurd (other_name sa
 said_packets (Some said) long path (TextOf (DrawTrace p)) e h = absurd (other_name said (codes "packets") (codes "draw") (name_in (codes "SCRIPT") said (codes "packets") path (flag_value long) e) h.0 refl)
 said_packets (Some said) long path (TextOf (Map p)) e h = absurd (other_name said (codes "packets") (codes "map") (name_in (codes "SCRIPT") said (codes "packets") path (flag_value long) e) h.0 refl)
 said_packets (Some said) long path (TextOf (Locks p)) e h = absurd (other_name said (codes "packets") (codes "locks") (name_in (codes "SCRIPT") said (codes "packets") path (flag_value long) e) h.0 refl)
+said_packets (Some said) long path (Processes w) e h = absurd (other_name said (codes "packets") (codes "check") (name_in (codes "SCRIPT") said (codes "packets") path (flag_value long) e) h.0 refl)
 said_packets (Some said) long path (Udp w) e h = absurd (other_name said (codes "packets") (codes "udp") (name_in (codes "SCRIPT") said (codes "packets") path (flag_value long) e) h.0 refl)
 said_packets (Some said) long path (Member w) e h = absurd (other_name said (codes "packets") (codes "member") (name_in (codes "SCRIPT") said (codes "packets") path (flag_value long) e) h.0 refl)
 
+-- the subcommand `check`, with the first value of its argument and what its flags are
+abbrev pub check_in : Option (Text × List Row) → Option (Text × Option Text × Option Text × Bool)
+check_in = option_map (λ said. (said.0, first_of (codes "TRACE") said.1, one_of (codes "long") said.1, stands (codes "processes") said.1))
+
+-- the words pass, and are `check` with this path and this flag, and without `--processes`
+abbrev ReadsCheck : Bool → Text → Text → Type 0
+ReadsCheck long name path =
+    (faults_of (words_on long name (codes "check") path) ≡ [])
+    × (check_in (subcommand_of program_app (words_on long name (codes "check") path)) ≡ Some (codes "check", Some path, Some (flag_value long), false))
+
+empty_check : (long : Bool) (name : Text) → ReadsCheck long name []
+unfolding clap_on_literals
+empty_check true name = (refl, refl)
+empty_check false name = (refl, refl)
+
+dash_check : (long : Bool) (name : Text) → ReadsCheck long name (45 ∷ [])
+unfolding clap_on_literals
+dash_check true name = (refl, refl)
+dash_check false name = (refl, refl)
+
+other_check : (long : Bool) (name : Text) (x : ℕ) (xs : Text) → (x == 45) ≡ false → ReadsCheck long name (x ∷ xs)
+unfolding clap_on_literals
+other_check true name x xs e = (simp e refl, simp e refl)
+other_check false name x xs e = (simp e refl, simp e refl)
+
+pub reads_check : (long : Bool) (name path : Text) → is_path path ≡ true → ReadsCheck long name path
+reads_check long name = by_first (ReadsCheck long name) (empty_check long name) (dash_check long name) (other_check long name)
+
+-- what is said of a check
+abbrev Checking : Type 0
+Checking = Text × Option Text × Option Text × Bool
+
+check_name : (said : Text × List Row) (path flag : Text) (processes : Bool) → check_in (Some said) ≡ Some (codes "check", Some path, Some flag, processes) → said.0 ≡ codes "check"
+check_name said path flag processes e = ap (λ (o : Option Checking). option_map_or (λ q. q.0) o []) e
+
+check_path : (said : Text × List Row) (path flag : Text) (processes : Bool) → check_in (Some said) ≡ Some (codes "check", Some path, Some flag, processes) → first_of (codes "TRACE") said.1 ≡ Some path
+check_path said path flag processes e = ap (λ (o : Option Checking). option_map_or (λ q. q.1) o None) e
+
+check_flag : (said : Text × List Row) (path flag : Text) (processes : Bool) → check_in (Some said) ≡ Some (codes "check", Some path, Some flag, processes) → one_of (codes "long") said.1 ≡ Some flag
+check_flag said path flag processes e = ap (λ (o : Option Checking). option_map_or (λ q. q.2) o None) e
+
+check_stands : (said : Text × List Row) (path flag : Text) (processes : Bool) → check_in (Some said) ≡ Some (codes "check", Some path, Some flag, processes) → stands (codes "processes") said.1 ≡ processes
+check_stands said path flag processes e = ap (λ (o : Option Checking). option_map_or (λ q. q.3) o processes) e
+
 said_check : (o : Option (Text × List Row)) (long : Bool) (path : Text) (i : Invocation)
-    → value_in (codes "TRACE") o ≡ Some (codes "check", Some path, Some (flag_value long)) → IsSomeAnd o (λ said. IsSaid said i) → IsCheckOn long path i
+    → check_in o ≡ Some (codes "check", Some path, Some (flag_value long), false) → IsSomeAnd o (λ said. IsSaid said i) → IsCheckOn long path i
 said_check None long path i e h = absurd h
-said_check (Some said) long path (TextOf (World p)) e h = absurd (other_name said (codes "check") (codes "world") (name_in (codes "TRACE") said (codes "check") path (flag_value long) e) h.0 refl)
-said_check (Some said) long path (TextOf (Chat p)) e h = absurd (other_name said (codes "check") (codes "chat") (name_in (codes "TRACE") said (codes "check") path (flag_value long) e) h.0 refl)
-said_check (Some said) long path (TextOf (Packets p)) e h = absurd (other_name said (codes "check") (codes "packets") (name_in (codes "TRACE") said (codes "check") path (flag_value long) e) h.0 refl)
+said_check (Some said) long path (TextOf (World p)) e h = absurd (other_name said (codes "check") (codes "world") (check_name said path (flag_value long) false e) h.0 refl)
+said_check (Some said) long path (TextOf (Chat p)) e h = absurd (other_name said (codes "check") (codes "chat") (check_name said path (flag_value long) false e) h.0 refl)
+said_check (Some said) long path (TextOf (Packets p)) e h = absurd (other_name said (codes "check") (codes "packets") (check_name said path (flag_value long) false e) h.0 refl)
 said_check (Some said) long path (TextOf (Check p)) e h = (
-  same_path path p.path.now _ (path_in (codes "TRACE") said (codes "check") path (flag_value long) e) h.1.path,
-  same_flag _ p.long long (flag_in (codes "TRACE") said (codes "check") path (flag_value long) e) h.1.long,
+  same_path path p.path.now _ (check_path said path (flag_value long) false e) h.1.path,
+  same_flag _ p.long long (check_flag said path (flag_value long) false e) h.1.long,
 )
-said_check (Some said) long path (TextOf (Draw p)) e h = absurd (other_name said (codes "check") (codes "draw") (name_in (codes "TRACE") said (codes "check") path (flag_value long) e) h.0 refl)
-said_check (Some said) long path (TextOf (DrawTrace p)) e h = absurd (other_name said (codes "check") (codes "draw") (name_in (codes "TRACE") said (codes "check") path (flag_value long) e) h.0 refl)
-said_check (Some said) long path (TextOf (Map p)) e h = absurd (other_name said (codes "check") (codes "map") (name_in (codes "TRACE") said (codes "check") path (flag_value long) e) h.0 refl)
-said_check (Some said) long path (TextOf (Locks p)) e h = absurd (other_name said (codes "check") (codes "locks") (name_in (codes "TRACE") said (codes "check") path (flag_value long) e) h.0 refl)
-said_check (Some said) long path (Udp w) e h = absurd (other_name said (codes "check") (codes "udp") (name_in (codes "TRACE") said (codes "check") path (flag_value long) e) h.0 refl)
-said_check (Some said) long path (Member w) e h = absurd (other_name said (codes "check") (codes "member") (name_in (codes "TRACE") said (codes "check") path (flag_value long) e) h.0 refl)
+said_check (Some said) long path (TextOf (Draw p)) e h = absurd (other_name said (codes "check") (codes "draw") (check_name said path (flag_value long) false e) h.0 refl)
+said_check (Some said) long path (TextOf (DrawTrace p)) e h = absurd (other_name said (codes "check") (codes "draw") (check_name said path (flag_value long) false e) h.0 refl)
+said_check (Some said) long path (TextOf (Map p)) e h = absurd (other_name said (codes "check") (codes "map") (check_name said path (flag_value long) false e) h.0 refl)
+said_check (Some said) long path (TextOf (Locks p)) e h = absurd (other_name said (codes "check") (codes "locks") (check_name said path (flag_value long) false e) h.0 refl)
+said_check (Some said) long path (Processes w) e h = let bad : true ≡ false = sym h.2 ∙ check_stands said path (flag_value long) false e in absurd cc
+said_check (Some said) long path (Udp w) e h = absurd (other_name said (codes "check") (codes "udp") (check_name said path (flag_value long) false e) h.0 refl)
+said_check (Some said) long path (Member w) e h = absurd (other_name said (codes "check") (codes "member") (check_name said path (flag_value long) false e) h.0 refl)
 
 -- `udp` and two paths
 abbrev words_of_udp : Text → Text → Text → List Text
@@ -240,7 +270,7 @@ paths_in = option_map (λ said. (said.0, first_of (codes "CONFIG") said.1, first
 -- the words pass, and are `udp` with these paths
 abbrev ReadsUdp : Text → Text → Text → Type 0
 ReadsUdp name config script =
-    (fault_of program_app (words_of_udp name config script) ≡ [])
+    (faults_of (words_of_udp name config script) ≡ [])
     × (paths_in (subcommand_of program_app (words_of_udp name config script)) ≡ Some (codes "udp", Some config, Some script))
 
 empty_empty : (name : Text) → ReadsUdp name [] []
@@ -301,6 +331,7 @@ said_udp (Some said) config script (TextOf (Draw p)) e h = absurd (other_name sa
 said_udp (Some said) config script (TextOf (DrawTrace p)) e h = absurd (other_name said (codes "udp") (codes "draw") (udp_name said config script e) h.0 refl)
 said_udp (Some said) config script (TextOf (Map p)) e h = absurd (other_name said (codes "udp") (codes "map") (udp_name said config script e) h.0 refl)
 said_udp (Some said) config script (TextOf (Locks p)) e h = absurd (other_name said (codes "udp") (codes "locks") (udp_name said config script e) h.0 refl)
+said_udp (Some said) config script (Processes w) e h = absurd (other_name said (codes "udp") (codes "check") (udp_name said config script e) h.0 refl)
 said_udp (Some said) config script (Member w) e h = absurd (other_name said (codes "udp") (codes "member") (udp_name said config script e) h.0 refl)
 said_udp (Some said) config script (Udp w) e h = (
   same_path config w.config.now _ (ap (λ (o : Option (Text × Option Text × Option Text)). option_map_or (λ q. q.1) o None) e) h.1.config,
@@ -320,7 +351,7 @@ drawing_in = option_map (λ said. (said.0, first_of (codes "INPUT") said.1, one_
 
 -- the words pass, and are `draw` with this path and these flags
 abbrev ReadsDrawing : Text → List Text → Text → Text → Type 0
-ReadsDrawing path words flag packets = (fault_of program_app words ≡ []) × (drawing_in (subcommand_of program_app words) ≡ Some (codes "draw", Some path, Some flag, Some packets))
+ReadsDrawing path words flag packets = (faults_of words ≡ []) × (drawing_in (subcommand_of program_app words) ≡ Some (codes "draw", Some path, Some flag, Some packets))
 
 empty_draw : (packets : Bool) (name : Text) → ReadsDrawing [] (words_of_draw packets name []) (codes "false") (flag_value packets)
 unfolding clap_on_literals
@@ -384,6 +415,7 @@ said_draw (Some said) packets path (TextOf (Draw p)) e h = (
 said_draw (Some said) packets path (TextOf (DrawTrace p)) e h = absurd (h.1.1.0 (drawing_flag said path (codes "false") (flag_value packets) e))
 said_draw (Some said) packets path (TextOf (Map p)) e h = absurd (other_name said (codes "draw") (codes "map") (drawing_name said path (codes "false") (flag_value packets) e) h.0 refl)
 said_draw (Some said) packets path (TextOf (Locks p)) e h = absurd (other_name said (codes "draw") (codes "locks") (drawing_name said path (codes "false") (flag_value packets) e) h.0 refl)
+said_draw (Some said) packets path (Processes w) e h = absurd (other_name said (codes "draw") (codes "check") (drawing_name said path (codes "false") (flag_value packets) e) h.0 refl)
 said_draw (Some said) packets path (Udp w) e h = absurd (other_name said (codes "draw") (codes "udp") (drawing_name said path (codes "false") (flag_value packets) e) h.0 refl)
 said_draw (Some said) packets path (Member w) e h = absurd (other_name said (codes "draw") (codes "member") (drawing_name said path (codes "false") (flag_value packets) e) h.0 refl)
 
@@ -397,6 +429,7 @@ said_trace (Some said) path (TextOf (Draw p)) e h = absurd (h.1.1 (drawing_flag 
 said_trace (Some said) path (TextOf (DrawTrace p)) e h = same_path path p.now _ (drawing_path said path (codes "true") (codes "false") e) h.1.0
 said_trace (Some said) path (TextOf (Map p)) e h = absurd (other_name said (codes "draw") (codes "map") (drawing_name said path (codes "true") (codes "false") e) h.0 refl)
 said_trace (Some said) path (TextOf (Locks p)) e h = absurd (other_name said (codes "draw") (codes "locks") (drawing_name said path (codes "true") (codes "false") e) h.0 refl)
+said_trace (Some said) path (Processes w) e h = absurd (other_name said (codes "draw") (codes "check") (drawing_name said path (codes "true") (codes "false") e) h.0 refl)
 said_trace (Some said) path (Udp w) e h = absurd (other_name said (codes "draw") (codes "udp") (drawing_name said path (codes "true") (codes "false") e) h.0 refl)
 said_trace (Some said) path (Member w) e h = absurd (other_name said (codes "draw") (codes "member") (drawing_name said path (codes "true") (codes "false") e) h.0 refl)
 
@@ -411,7 +444,7 @@ script_in = option_map (λ said. (said.0, first_of (codes "SCRIPT") said.1))
 -- the words pass, and are this subcommand with this path
 abbrev ReadsScript : Text → Text → Text → Type 0
 ReadsScript subcommand name path =
-    (fault_of program_app (words_of_script subcommand name path) ≡ [])
+    (faults_of (words_of_script subcommand name path) ≡ [])
     × (script_in (subcommand_of program_app (words_of_script subcommand name path)) ≡ Some (subcommand, Some path))
 
 empty_map : (name : Text) → ReadsScript (codes "map") name []
@@ -460,6 +493,7 @@ said_map (Some said) path (TextOf (Draw p)) e h = absurd (other_name said (codes
 said_map (Some said) path (TextOf (DrawTrace p)) e h = absurd (other_name said (codes "map") (codes "draw") (script_name said (codes "map") path e) h.0 refl)
 said_map (Some said) path (TextOf (Map p)) e h = same_path path p.now _ (script_path said (codes "map") path e) h.1
 said_map (Some said) path (TextOf (Locks p)) e h = absurd (other_name said (codes "map") (codes "locks") (script_name said (codes "map") path e) h.0 refl)
+said_map (Some said) path (Processes w) e h = absurd (other_name said (codes "map") (codes "check") (script_name said (codes "map") path e) h.0 refl)
 said_map (Some said) path (Udp w) e h = absurd (other_name said (codes "map") (codes "udp") (script_name said (codes "map") path e) h.0 refl)
 said_map (Some said) path (Member w) e h = absurd (other_name said (codes "map") (codes "member") (script_name said (codes "map") path e) h.0 refl)
 
@@ -473,8 +507,22 @@ said_locks (Some said) path (TextOf (Draw p)) e h = absurd (other_name said (cod
 said_locks (Some said) path (TextOf (DrawTrace p)) e h = absurd (other_name said (codes "locks") (codes "draw") (script_name said (codes "locks") path e) h.0 refl)
 said_locks (Some said) path (TextOf (Map p)) e h = absurd (other_name said (codes "locks") (codes "map") (script_name said (codes "locks") path e) h.0 refl)
 said_locks (Some said) path (TextOf (Locks p)) e h = same_path path p.now _ (script_path said (codes "locks") path e) h.1
+said_locks (Some said) path (Processes w) e h = absurd (other_name said (codes "locks") (codes "check") (script_name said (codes "locks") path e) h.0 refl)
 said_locks (Some said) path (Udp w) e h = absurd (other_name said (codes "locks") (codes "udp") (script_name said (codes "locks") path e) h.0 refl)
 said_locks (Some said) path (Member w) e h = absurd (other_name said (codes "locks") (codes "member") (script_name said (codes "locks") path e) h.0 refl)
+
+-- clap's errors, and those of a trace that nothing reads, are errors of the words
+pub by_clap : (kinds more : Kinds) (e : Error) → HasKind kinds e → HasKind (or_else kinds more) e
+by_clap [] more e (inl memory) = inl memory
+by_clap [] more e (inr other) = absurd other
+by_clap (k ∷ ks) more e has = has
+
+pub by_stray : (kinds : Kinds) (said : Option (Text × List Row)) (e : Error) → kinds ≡ [] → option_map_or is_stray said false ≡ true → HasKind (UnknownArgument ∷ []) e
+    → HasKind (or_else kinds (stray_fault said)) e
+by_stray kinds said e none stray has = rw (none, stray) has
+
+pub none_stray : (kinds : Kinds) (said : Option (Text × List Row)) → kinds ≡ [] → option_map_or is_stray said false ≡ false → or_else kinds (stray_fault said) ≡ []
+none_stray kinds said none stray = rw (none, stray) refl
 
 -- an error that is handed on keeps its kind
 pub fails_as : (kinds : Kinds) (r : Result Invocation Error) (e : Error) → IsErrAnd r (λ x. x ≡ e) → HasKind kinds e → FailsBy kinds r
@@ -510,7 +558,7 @@ packets_or_no_memory r o kinds long path none value is fails =
     is_or_no_memory (IsPacketsOn long path) r kinds none (IfOk-weaker r _ _ (λ i said. said_packets o long path i value said) is) fails
 
 pub check_or_no_memory : (r : Result Invocation Error) (o : Option (Text × List Row)) (kinds : Kinds) (long : Bool) (path : Text) → kinds ≡ []
-    → value_in (codes "TRACE") o ≡ Some (codes "check", Some path, Some (flag_value long)) → IfOk r (λ i. IsSomeAnd o (λ said. IsSaid said i)) → FailsBy kinds r
+    → check_in o ≡ Some (codes "check", Some path, Some (flag_value long), false) → IfOk r (λ i. IsSomeAnd o (λ said. IsSaid said i)) → FailsBy kinds r
     → IsOrNoMemory (IsCheckOn long path) r
 check_or_no_memory r o kinds long path none value is fails =
     is_or_no_memory (IsCheckOn long path) r kinds none (IfOk-weaker r _ _ (λ i said. said_check o long path i value said) is) fails

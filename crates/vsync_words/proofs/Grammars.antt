@@ -1,13 +1,15 @@
 -- What clap's commands come to, argument by argument.
-use Rattle.std.proofs.Common.{◌≡◌, ◌||◌, ◌∙◌, ap, ap₂, codes, refl, true, false, Bool, Option, None, Some, is_none, option_map}
+use Rattle.std.proofs.Common.{◌≡◌, ◌||◌, ◌∙◌, ap, ap₂, codes, refl, true, false, Bool, Option, None, Some, is_none, option_map, List, map, length, nat_lt}
+use Rattle.std.specs.Borrow.{Bor}
 use Rattle.std.proofs.lemmas.Bool.{both_ways}
+use Rattle.std.proofs.lemmas.List.{length-map}
 use Rattle.clap.specs.declared.builder.arg.Arg.{Arg}
 use Rattle.clap.specs.declared.builder.command.Command.{Command}
 use Rattle.clap.specs.declared.builder.command.Command.TheOpen.{Command-F}
 use Rattle.clap.specs.declared.parser.matches.Found.{Found}
-use Rattle.clap.specs.Words.{AddsArg, AddsSubcommand, App, Rule, Text, app_of, one_of, one_text, rows_of, with_rule, with_subcommand}
+use Rattle.clap.specs.Words.{AddsArg, AddsSubcommand, App, Row, Rule, Text, all_of, app_of, one_of, one_text, rows_of, with_rule, with_subcommand}
 use Rattle.clap.proofs.WalkLemmas.{one_text-rows}
-use Rattle.vsync_words.specs.Grammar.{AddsCommand, IsArg, IsCommand, IsFlag}
+use Rattle.vsync_words.specs.Grammar.{AddsCommand, IsArg, IsCommand, IsFlag, has_stray_trace, stands}
 
 -- one more argument
 pub with_one : (old : Command) (a : Arg) (new : Command) (app : App) (rule : Rule) → IsCommand app old → IsArg rule a → AddsArg old a new
@@ -38,3 +40,11 @@ flag_is f id b gone on off =
 pub nothing_there : {X Y : Type 0} (g : X → Y) (o : Option X) → is_none o ≡ true → option_map g o ≡ None
 nothing_there g None e = refl
 nothing_there g (Some x) e = absurd (cc)
+
+-- the traces behind the first are stray where `--processes` does not stand there
+pub stray_is : (rows : List Row) (traces : List (Bor Text)) → stands (codes "processes") rows ≡ false → all_of (codes "TRACE") rows ≡ Some (map (λ v. v.now) traces)
+    → has_stray_trace rows ≡ nat_lt 1 (length traces)
+stray_is rows traces gone is = rw (gone, is, length-map traces (λ v. v.now)) refl
+
+pub none_is_stray : (rows : List Row) → stands (codes "processes") rows ≡ false → all_of (codes "TRACE") rows ≡ None → has_stray_trace rows ≡ false
+none_is_stray rows gone is = rw (gone, is) refl

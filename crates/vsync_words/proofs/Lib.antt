@@ -1,3 +1,4 @@
 pub mod Computing
 pub mod Grammars
 pub mod Numbers
+pub mod SeveralPaths

@@ -1,29 +1,37 @@
 -- The grammar of the command line, in clap's words, and what its words ask for.
-use Rattle.std.specs.Prelude.{◌≡◌, ◌≢◌, ◌==◌, ◌||◌, ℕ, Bool, true, false, not, List, [], ◌∷◌, Option, None, Some, map, unwrap_or, codes, option_map, IsSomeAnd}
+use Rattle.std.specs.Prelude.{◌≡◌, ◌≢◌, ◌==◌, ◌||◌, ◌&&◌, ℕ, Bool, true, false, not, List, [], ◌∷◌, ◌++◌, Option, None, Some, map, length, nat_lt, unwrap_or, codes, option_map, IsSomeAnd, if◌then◌else◌}
+use Rattle.std.specs.Option.{option_map_or}
+use Rattle.std.specs.Str.{bytes_eq}
 use Rattle.std.specs.Str.Parse.{digits_value, without_leading_plus}
 use Rattle.clap.specs.Walk.{is_empty}
-use Rattle.clap.specs.Words.{App, IsUnsignedIn, Row, Rule, Text, all_of, app_of, first_of, one_of, new_app, new_rule, rule_of, with_rule, with_subcommand}
+use Rattle.clap.specs.Kinds.{or_else}
+use Rattle.clap.specs.Words.{App, IsUnsignedIn, Kinds, Row, Rule, Text, all_of, app_of, fault_of, first_of, one_of, new_app, new_rule, rule_of, subcommand_of, with_rule, with_subcommand}
 use Rattle.clap.specs.Simple.{new_shape}
 use Rattle.clap.specs.declared.builder.arg.Arg.{Arg}
 use Rattle.clap.specs.declared.builder.command.Command.{Command}
 use Rattle.clap.specs.declared.builder.command.Command.TheViews.{out-Command}
 use Rattle.clap.specs.declared.builder.value_parser.ValueParser.TheVariants.{Unsigned}
 use Rattle.clap.specs.declared.builder.action.ArgAction.TheVariants.{Append, SetTrue}
+use Rattle.clap.specs.declared.error.kind.ErrorKind.TheVariants.{UnknownArgument}
 use Rattle.script_reader.specs.declared.udp_script.TheConstants.{ROUNDS}
+use Rattle.vsync_words.specs.declared.check_words.ProcessesWords.{ProcessesWords}
 use Rattle.vsync_words.specs.declared.udp_words.UdpWords.{UdpWords}
 use Rattle.vsync_words.specs.declared.udp_words.MemberWords.{MemberWords}
 use Rattle.vsync_words.specs.declared.member_options.MemberOptions.{MemberOptions}
 use Rattle.vsync_words.specs.declared.member_options.TheConstants.{MOST_TICK, MOST_MERGE}
 use Rattle.vsync_words.specs.declared.words.Invocation.{Invocation}
-use Rattle.vsync_words.specs.declared.words.Invocation.TheVariants.{Text as TextOf, Udp, Member}
+use Rattle.vsync_words.specs.declared.words.Invocation.TheVariants.{Text as TextOf, Processes, Udp, Member}
 use Rattle.vsync_words.specs.declared.words.TextWords.{TextWords}
 use Rattle.vsync_words.specs.declared.words.TextCommand.{TextCommand}
 use Rattle.vsync_words.specs.declared.words.TextCommand.TheVariants.{World, Chat, Packets, Check, Draw, DrawTrace, Map, Locks}
 use Rattle.limits.specs.declared.TheConstants.{GREATEST_INCARNATION, GREATEST_NODE}
 
--- an argument that is required; one that is a number in a range; and an option with a value
+-- an argument that is required; one that may stand there more than once; one that is a number in a range; and an option with a value
 abbrev pub required_rule : Text → Rule
 required_rule argument = record (new_rule argument) { required = true }
+
+abbrev pub several_rule : Text → Rule
+several_rule argument = record (required_rule argument) { action = Some Append }
 
 abbrev pub number_rule : Text → ℕ → ℕ → Rule
 number_rule argument low high = record (required_rule argument) { parser = Some (Unsigned low high) }
@@ -62,6 +70,10 @@ path_app name argument = with_rule (with_rule (new_app name) (flag_rule (codes "
 abbrev pub program_of_subcommands : Text → App
 program_of_subcommands name =
     record { top = record (new_shape name) { subcommand_required = true }; subs = [] }
+
+-- `check [--long] [--processes] TRACE..`
+abbrev pub check_app : App
+check_app = with_rule (with_rule (with_rule (new_app (codes "check")) (flag_rule (codes "long"))) (flag_rule (codes "processes"))) (several_rule (codes "TRACE"))
 
 -- `draw [--trace] [--packets] INPUT`
 abbrev pub draw_app : App
@@ -113,13 +125,13 @@ options_app app = flags_app (hosts_app (files_app (times_app app)))
 abbrev pub member_app : App
 member_app = options_app member_talk_app
 
--- `vsync world [--long] SCRIPT`, `vsync chat [--long] SCRIPT`, `vsync packets [--long] SCRIPT`, `vsync check [--long] TRACE`, `vsync draw [--trace] [--packets] INPUT`, `vsync map SCRIPT`, `vsync locks SCRIPT`, `vsync udp CONFIG SCRIPT` and `vsync member ..`
+-- `vsync world [--long] SCRIPT`, `vsync chat [--long] SCRIPT`, `vsync packets [--long] SCRIPT`, `vsync check [--long] [--processes] TRACE..`, `vsync draw [--trace] [--packets] INPUT`, `vsync map SCRIPT`, `vsync locks SCRIPT`, `vsync udp CONFIG SCRIPT` and `vsync member ..`
 abbrev pub program_app : App
 program_app = with_subcommand (with_subcommand (with_subcommand (with_subcommand (with_subcommand (with_subcommand (with_subcommand (with_subcommand (with_subcommand (program_of_subcommands (codes "vsync"))
     (path_app (codes "world") (codes "SCRIPT")).top)
     (path_app (codes "chat") (codes "SCRIPT")).top)
     (path_app (codes "packets") (codes "SCRIPT")).top)
-    (path_app (codes "check") (codes "TRACE")).top)
+    check_app.top)
     draw_app.top)
     (script_app (codes "map")).top)
     (script_app (codes "locks")).top)
@@ -140,6 +152,10 @@ IsNumberIn low high value n =
 abbrev pub IsFlag : Option Text → Bool → Type 0
 IsFlag value true = (value ≢ Some (codes "false")) × (value ≢ None)
 IsFlag value false = value ≢ Some (codes "true")
+
+-- a flag stands there: clap's text for it is `true`
+abbrev pub stands : Text → List Row → Bool
+stands name rows = option_map_or (λ value. bytes_eq value (codes "true")) (first_of name rows) false
 
 -- an option stands there with this number, or does not
 abbrev pub IsOptionalIn : ℕ → ℕ → Text → List Row → Option ℕ → Type 0
@@ -177,6 +193,11 @@ pub record AreTextWords (argument : Text) (rows : List Row) (words : TextWords) 
   pub path : first_of argument rows ≡ Some words.path.now
   pub long : IsFlag (one_of (codes "long") rows) words.long
 
+-- the words of `check --processes` are all values of its argument, and whether the flag `--long` stands
+pub record AreProcessesWords (rows : List Row) (words : ProcessesWords) : Type 0 where
+  pub paths : map (λ s. s.now) words.paths.items ≡ unwrap_or (all_of (codes "TRACE") rows) []
+  pub long : IsFlag (one_of (codes "long") rows) words.long
+
 -- the words of `draw` in its matches: the path is the first value of its argument, a trace is drawn exactly where `--trace` stands, and packets are drawn exactly where
 -- `--packets` does
 abbrev pub IsDrawSaid : List Row → TextCommand → Type 0
@@ -194,7 +215,7 @@ abbrev pub IsTextSaid : Text × List Row → TextCommand → Type 0
 IsTextSaid said (World words) = (said.0 ≡ codes "world") × AreTextWords (codes "SCRIPT") said.1 words
 IsTextSaid said (Chat words) = (said.0 ≡ codes "chat") × AreTextWords (codes "SCRIPT") said.1 words
 IsTextSaid said (Packets words) = (said.0 ≡ codes "packets") × AreTextWords (codes "SCRIPT") said.1 words
-IsTextSaid said (Check words) = (said.0 ≡ codes "check") × AreTextWords (codes "TRACE") said.1 words
+IsTextSaid said (Check words) = (said.0 ≡ codes "check") × AreTextWords (codes "TRACE") said.1 words × (stands (codes "processes") said.1 ≡ false)
 IsTextSaid said (Draw words) = (said.0 ≡ codes "draw") × IsDrawSaid said.1 (Draw words)
 IsTextSaid said (DrawTrace path) = (said.0 ≡ codes "draw") × IsDrawSaid said.1 (DrawTrace path)
 IsTextSaid said (Map path) = (said.0 ≡ codes "map") × (first_of (codes "SCRIPT") said.1 ≡ Some path.now)
@@ -203,8 +224,23 @@ IsTextSaid said (Locks path) = (said.0 ≡ codes "locks") × (first_of (codes "S
 -- a subcommand that was said, with its matches, is this command
 abbrev pub IsSaid : Text × List Row → Invocation → Type 0
 IsSaid said (TextOf command) = IsTextSaid said command
+IsSaid said (Processes words) = (said.0 ≡ codes "check") × AreProcessesWords said.1 words × (stands (codes "processes") said.1 ≡ true)
 IsSaid said (Udp words) = (said.0 ≡ codes "udp") × AreUdpWords said.1 words
 IsSaid said (Member words) = (said.0 ≡ codes "member") × AreMemberWords said.1 words
+
+-- `check` has several traces, and no `--processes`: nothing reads the second
+abbrev pub has_stray_trace : List Row → Bool
+has_stray_trace rows = not (stands (codes "processes") rows) && nat_lt 1 (length (unwrap_or (all_of (codes "TRACE") rows) []))
+
+abbrev pub is_stray : Text × List Row → Bool
+is_stray said = bytes_eq said.0 (codes "check") && has_stray_trace said.1
+
+-- the kinds of error of words: those that clap finds, and else that of a trace that nothing reads
+abbrev pub stray_fault : Option (Text × List Row) → Kinds
+stray_fault said = if option_map_or is_stray said false then UnknownArgument ∷ [] else []
+
+abbrev pub faults_of : List Text → Kinds
+faults_of words = or_else (fault_of program_app words) (stray_fault (subcommand_of program_app words))
 
 -- the word is no flag: it is `-`, or does not begin with `-`
 abbrev pub is_path : Text → Bool
@@ -220,3 +256,7 @@ with_packets false path = path ∷ []
 abbrev pub with_long : Bool → Text → List Text
 with_long true path = codes "--long" ∷ path ∷ []
 with_long false path = path ∷ []
+
+-- `--processes`, behind `--long` or alone, and paths
+abbrev pub with_processes : Bool → List Text → List Text
+with_processes long paths = with_long long (codes "--processes") ++ paths

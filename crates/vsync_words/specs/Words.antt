@@ -1,10 +1,10 @@
 -- What a command names.
-use Rattle.std.specs.Prelude.{◌≡◌, ℕ, Bool, true, false, List, Result, MatchResult, codes, if◌then◌else◌}
+use Rattle.std.specs.Prelude.{◌≡◌, ℕ, Bool, true, false, List, Result, MatchResult, codes, map, if◌then◌else◌}
 use Rattle.clap.specs.Words.{kind_of}
 use Rattle.clap.specs.declared.error.Error.{Error}
 use Rattle.clap.specs.declared.error.kind.ErrorKind.TheVariants.{OutOfMemory}
 use Rattle.vsync_words.specs.declared.words.Invocation.{Invocation}
-use Rattle.vsync_words.specs.declared.words.Invocation.TheVariants.{Text, Udp, Member}
+use Rattle.vsync_words.specs.declared.words.Invocation.TheVariants.{Text, Processes, Udp, Member}
 use Rattle.vsync_words.specs.declared.words.Kept.{Kept}
 use Rattle.vsync_words.specs.declared.words.Kept.TheVariants as kept
 use Rattle.vsync_words.specs.declared.words.TextWords.{TextWords}
@@ -25,6 +25,7 @@ IsWorldOn long path (Text (Draw input)) = ⊥
 IsWorldOn long path (Text (DrawTrace input)) = ⊥
 IsWorldOn long path (Text (Map input)) = ⊥
 IsWorldOn long path (Text (Locks input)) = ⊥
+IsWorldOn long path (Processes words) = ⊥
 IsWorldOn long path (Udp words) = ⊥
 IsWorldOn long path (Member words) = ⊥
 
@@ -38,6 +39,7 @@ IsChatOn long path (Text (Draw input)) = ⊥
 IsChatOn long path (Text (DrawTrace input)) = ⊥
 IsChatOn long path (Text (Map input)) = ⊥
 IsChatOn long path (Text (Locks input)) = ⊥
+IsChatOn long path (Processes words) = ⊥
 IsChatOn long path (Udp words) = ⊥
 IsChatOn long path (Member words) = ⊥
 
@@ -51,6 +53,7 @@ IsPacketsOn long path (Text (Draw input)) = ⊥
 IsPacketsOn long path (Text (DrawTrace input)) = ⊥
 IsPacketsOn long path (Text (Map input)) = ⊥
 IsPacketsOn long path (Text (Locks input)) = ⊥
+IsPacketsOn long path (Processes words) = ⊥
 IsPacketsOn long path (Udp words) = ⊥
 IsPacketsOn long path (Member words) = ⊥
 
@@ -64,6 +67,7 @@ IsCheckOn long path (Text (Draw input)) = ⊥
 IsCheckOn long path (Text (DrawTrace input)) = ⊥
 IsCheckOn long path (Text (Map input)) = ⊥
 IsCheckOn long path (Text (Locks input)) = ⊥
+IsCheckOn long path (Processes words) = ⊥
 IsCheckOn long path (Udp words) = ⊥
 IsCheckOn long path (Member words) = ⊥
 
@@ -77,6 +81,7 @@ IsDrawOn packets path (Text (Draw words)) = (words.path.now ≡ path) × (words.
 IsDrawOn packets path (Text (DrawTrace input)) = ⊥
 IsDrawOn packets path (Text (Map input)) = ⊥
 IsDrawOn packets path (Text (Locks input)) = ⊥
+IsDrawOn packets path (Processes words) = ⊥
 IsDrawOn packets path (Udp words) = ⊥
 IsDrawOn packets path (Member words) = ⊥
 
@@ -90,6 +95,7 @@ IsDrawTraceOn path (Text (Draw input)) = ⊥
 IsDrawTraceOn path (Text (DrawTrace input)) = input.now ≡ path
 IsDrawTraceOn path (Text (Map input)) = ⊥
 IsDrawTraceOn path (Text (Locks input)) = ⊥
+IsDrawTraceOn path (Processes words) = ⊥
 IsDrawTraceOn path (Udp words) = ⊥
 IsDrawTraceOn path (Member words) = ⊥
 
@@ -103,6 +109,7 @@ IsMapOn path (Text (Draw input)) = ⊥
 IsMapOn path (Text (DrawTrace input)) = ⊥
 IsMapOn path (Text (Map input)) = input.now ≡ path
 IsMapOn path (Text (Locks input)) = ⊥
+IsMapOn path (Processes words) = ⊥
 IsMapOn path (Udp words) = ⊥
 IsMapOn path (Member words) = ⊥
 
@@ -116,12 +123,21 @@ IsLocksOn path (Text (Draw input)) = ⊥
 IsLocksOn path (Text (DrawTrace input)) = ⊥
 IsLocksOn path (Text (Map input)) = ⊥
 IsLocksOn path (Text (Locks input)) = input.now ≡ path
+IsLocksOn path (Processes words) = ⊥
 IsLocksOn path (Udp words) = ⊥
 IsLocksOn path (Member words) = ⊥
+
+-- the texts of several processes, of these paths in their order, are checked
+abbrev pub AreProcessesOn : Bool → List (List ℕ) → Invocation → Type 0
+AreProcessesOn long paths (Text command) = ⊥
+AreProcessesOn long paths (Processes words) = (map (λ s. s.now) words.paths.items ≡ paths) × (words.long ≡ long)
+AreProcessesOn long paths (Udp words) = ⊥
+AreProcessesOn long paths (Member words) = ⊥
 
 -- nodes run over datagrams by the settings and the script of these paths
 abbrev pub IsUdpOn : List ℕ → List ℕ → Invocation → Type 0
 IsUdpOn config script (Text command) = ⊥
+IsUdpOn config script (Processes words) = ⊥
 IsUdpOn config script (Udp words) = (words.config.now ≡ config) × (words.script.now ≡ script)
 IsUdpOn config script (Member words) = ⊥
 

@@ -86,8 +86,8 @@ fn repeated<'a>(alloc: Global, name: &'a str, value: &'a str, help: &'a str) -> 
     option(alloc, name, value, help).action(ArgAction::Append)
 }
 
-// A flag.
-fn flag<'a>(alloc: Global, name: &'a str, help: &'a str) -> Arg<'a>
+/// A flag.
+pub(crate) fn flag<'a>(alloc: Global, name: &'a str, help: &'a str) -> Arg<'a>
     ensures { IsArg (flag_rule name.now) result }
 {
     Arg::new(alloc, name)
@@ -235,12 +235,16 @@ fn number_of(matches: &ArgMatches<'_>, name: &str, low: u64, high: u64) -> Optio
     Some(Some(number))
 }
 
-// The values of `--peer`.
-fn peers_of<'a>(alloc: Global, matches: &ArgMatches<'a>) -> Result<Vec<&'a str>, AllocError>
-    ensures { IfOk result (λ peers. map (λ s. s.now) peers.items ≡ unwrap_or (all_of (codes "peer") (rows_of (found_of matches.now))) []) }
+/// All values of an argument, in order; none where it does not stand there.
+pub(crate) fn values_of<'a>(
+    alloc: Global,
+    matches: &ArgMatches<'a>,
+    name: &str,
+) -> Result<Vec<&'a str>, AllocError>
+    ensures { IfOk result (λ values. map (λ s. s.now) values.items ≡ unwrap_or (all_of name.now (rows_of (found_of matches.now))) []) }
 {
-    match matches.get_strs("peer") {
-        Some(peers) => Vec::from_slice(alloc, peers),
+    match matches.get_strs(name) {
+        Some(values) => Vec::from_slice(alloc, values),
         None => Ok(Vec::new(alloc)),
     }
 }
@@ -254,7 +258,7 @@ pub(crate) fn member_options<'a>(
 {
     let tick = number_of(matches, "tick", 1, MOST_TICK)?;
     let merge = number_of(matches, "merge", 0, MOST_MERGE)?;
-    let Ok(peers) = peers_of(alloc, matches) else {
+    let Ok(peers) = values_of(alloc, matches, "peer") else {
         return None;
     };
     Some(MemberOptions {

@@ -1,8 +1,11 @@
-ghost use Rattle.std.specs.Prelude.{◌≡◌, ◌≤◌, ◌<◌, ◌∷◌, [], Bool, true, Some, length, map, codes, string_bytes, IfOk, IfSome, IsOkAnd, IsSomeAnd};
-ghost use Rattle.clap.specs.Words.{app_of, fault_of, first_of, found_of, rows_of, subcommand_of, subcommand_rows_of, FailsBy, Text};
-ghost use Rattle.vsync_words.specs.Words.{input_of, is_long, kept_of, IsWorldOn, IsChatOn, IsPacketsOn, IsCheckOn, IsDrawOn, IsDrawTraceOn, IsMapOn, IsLocksOn, IsUdpOn, IsOrNoMemory, RunsStandardInput};
-ghost use Rattle.vsync_words.specs.Grammar.{is_path, with_long, with_packets, draw_app, flag_rule, required_rule, program_app, program_of_subcommands, path_app, script_app, AddsCommand, AreTextWords, IsArg, IsCommand, IsDrawSaid, IsSaid, IsTextSaid};
+ghost use Rattle.std.specs.Prelude.{◌≡◌, ◌≤◌, ◌<◌, ◌∷◌, [], Bool, List, true, false, Some, length, map, codes, is_some, string_bytes, IfOk, IfSome, IsOkAnd, IsSomeAnd};
+ghost use Rattle.std.specs.List.{list_all};
+ghost use Rattle.std.specs.Option.{option_map_or};
+ghost use Rattle.clap.specs.Words.{app_of, first_of, found_of, rows_of, subcommand_of, subcommand_rows_of, FailsBy, Text};
+ghost use Rattle.vsync_words.specs.Words.{input_of, is_long, kept_of, IsWorldOn, IsChatOn, IsPacketsOn, IsCheckOn, IsDrawOn, IsDrawTraceOn, IsMapOn, IsLocksOn, IsUdpOn, IsOrNoMemory, AreProcessesOn, RunsStandardInput};
+ghost use Rattle.vsync_words.specs.Grammar.{is_path, with_long, with_packets, with_processes, draw_app, faults_of, flag_rule, is_stray, required_rule, program_app, program_of_subcommands, path_app, script_app, AddsCommand, AreTextWords, IsArg, IsCommand, IsDrawSaid, IsSaid, IsTextSaid};
 
+use crate::check_words::{ProcessesWords, check_words, stray_trace, unexpected_trace, with_check};
 use crate::udp_words::{
     MemberWords, UdpWords, member_words, required, udp_words, with_member, with_udp,
 };
@@ -118,14 +121,16 @@ pub enum Invocation<'a> {
     /// `world SCRIPT`, `chat SCRIPT`, `packets SCRIPT` or `check TRACE`, each perhaps with `--long`; `draw SCRIPT`, perhaps with `--packets`, or `draw --trace TRACE`;
     /// `map SCRIPT` or `locks SCRIPT`.
     Text(TextCommand<'a>),
+    /// `check --processes FILE..`: the texts of several processes are checked as one trace.
+    Processes(ProcessesWords<'a>),
     /// `udp CONFIG SCRIPT`: nodes run over datagrams in one process.
     Udp(UdpWords<'a>),
     /// `member CONFIG NODE INCARNATION ROUNDS`: one node runs over datagrams by itself.
     Member(MemberWords<'a>),
 }
 
-// The flag `--long`.
-fn long_flag<'a>(alloc: Global) -> Arg<'a>
+/// The flag `--long`.
+pub(crate) fn long_flag<'a>(alloc: Global) -> Arg<'a>
     ensures { IsArg (flag_rule (codes "long")) result }
 {
     Arg::new(alloc, "long")
@@ -213,23 +218,6 @@ fn with_packets<'a>(
         after_help: "It prints `NUMBER KIND SOURCE DESTINATION HEX` for each packet, in order. NUMBER counts from 1, and HEX is all of the packet's bytes.\n\nExample:\n  vsync packets examples/join.script",
         argument: "SCRIPT",
         argument_help: "The script's path, or - for the standard input",
-    };
-    command.add_to(alloc, program)
-}
-
-/// The program with `check [--long] TRACE` as well.
-fn with_check<'a>(
-    alloc: Global,
-    program: clap::Command<'a>,
-) -> Result<clap::Command<'a>, AllocError>
-    ensures { IfOk result (AddsCommand program.entry (path_app (codes "check") (codes "TRACE"))) }
-{
-    let command = PathCommand {
-        name: "check",
-        about: "Checks whether a trace is virtually synchronous",
-        after_help: "The trace has a line for each event, as `vsync world` prints it; empty lines and lines that begin with # are skipped.\nIt prints `holds`, or `broken RULE PLACE`: the rule that breaks first, and the length of the shortest beginning that breaks one.\n\nExample:\n  vsync check examples/hello.trace",
-        argument: "TRACE",
-        argument_help: "The trace's path, or - for the standard input",
     };
     command.add_to(alloc, program)
 }
@@ -365,8 +353,8 @@ fn grammar<'a>(alloc: Global) -> Result<clap::Command<'a>, AllocError>
     with_member(alloc, program)
 }
 
-// The words of a subcommand with `--long` and this argument.
-fn text_words<'a>(matches: &ArgMatches<'a>, argument: &str) -> Option<TextWords<'a>>
+/// The words of a subcommand with `--long` and this argument.
+pub(crate) fn text_words<'a>(matches: &ArgMatches<'a>, argument: &str) -> Option<TextWords<'a>>
     ensures { IfSome result (AreTextWords argument.now (rows_of (found_of matches.now))) }
 {
     let path = matches.get_str(argument)?;
@@ -408,9 +396,6 @@ fn text_command<'a>(name: &str, matches: &ArgMatches<'a>) -> Option<TextCommand<
     if name == "packets" {
         return Some(TextCommand::Packets(text_words(matches, "SCRIPT")?));
     }
-    if name == "check" {
-        return Some(TextCommand::Check(text_words(matches, "TRACE")?));
-    }
     if name == "draw" {
         return draw_words(matches);
     }
@@ -427,6 +412,9 @@ fn text_command<'a>(name: &str, matches: &ArgMatches<'a>) -> Option<TextCommand<
 fn named<'a>(alloc: Global, name: &str, matches: &ArgMatches<'a>) -> Option<Invocation<'a>>
     ensures { IfSome result (IsSaid (name.now, rows_of (found_of matches.now))) }
 {
+    if name == "check" {
+        return check_words(alloc, matches);
+    }
     if name == "udp" {
         return Some(Invocation::Udp(udp_words(matches)?));
     }
@@ -447,13 +435,27 @@ fn asked<'a>(alloc: Global, matches: &ArgMatches<'a>) -> Option<Invocation<'a>>
     named(alloc, name, inner)
 }
 
+// The trace behind the first of `check` without `--processes`, which nothing reads.
+fn stray_in<'a>(matches: &ArgMatches<'a>) -> Option<&'a str>
+    ensures { is_some result ≡ option_map_or is_stray (subcommand_rows_of matches.now) false }
+{
+    let (name, inner) = matches.subcommand()?;
+    if name == "check" {
+        return stray_trace(inner);
+    }
+    None
+}
+
 /// The command that words ask for by the grammar.
 fn parsed<'a>(alloc: Global, words: &'a [String]) -> Result<Invocation<'a>, Error>
     ensures said { IfOk result (λ i.
         IsSomeAnd (subcommand_of program_app (map string_bytes words.now)) (λ said. IsSaid said i)) }
-    ensures refused { FailsBy (fault_of program_app (map string_bytes words.now)) result }
+    ensures refused { FailsBy (faults_of (map string_bytes words.now)) result }
 {
     let matches = grammar(alloc)?.try_get_matches_from(words)?;
+    if let Some(trace) = stray_in(&matches) {
+        return Err(unexpected_trace(alloc, trace));
+    }
     match asked(alloc, &matches) {
         Some(command) => Ok(command),
         None => Err(Error::from(AllocError)),
@@ -461,7 +463,7 @@ fn parsed<'a>(alloc: Global, words: &'a [String]) -> Result<Invocation<'a>, Erro
 }
 
 /// The command that the words of a command line ask for, the program's name first: `world [--long] SCRIPT`, `chat [--long] SCRIPT`,
-/// `packets [--long] SCRIPT`, `check [--long] TRACE`, `draw [--packets] SCRIPT`, `draw --trace TRACE`, `map SCRIPT`, `locks SCRIPT`, `udp CONFIG SCRIPT` or
+/// `packets [--long] SCRIPT`, `check [--long] TRACE`, `check [--long] --processes FILE..`, `draw [--packets] SCRIPT`, `draw --trace TRACE`, `map SCRIPT`, `locks SCRIPT`, `udp CONFIG SCRIPT` or
 /// `member CONFIG NODE INCARNATION ROUNDS` with its options.
 /// No words after the name are `world -`. A path that begins with `-` and is more than that stands behind `--`.
 ///
@@ -473,7 +475,7 @@ pub fn command<'a>(alloc: Global, words: &'a [String]) -> Result<Invocation<'a>,
     ensures said { 1 < length words.now → IfOk result (λ i.
         IsSomeAnd (subcommand_of program_app (map string_bytes words.now)) (λ said. IsSaid said i)) }
     ensures refused { 1 < length words.now
-        → FailsBy (fault_of program_app (map string_bytes words.now)) result }
+        → FailsBy (faults_of (map string_bytes words.now)) result }
     ensures world { (long : Bool) (name path : Text) → is_path path ≡ true
         → map string_bytes words.now ≡ name ∷ codes "world" ∷ with_long long path
         → IsOrNoMemory (IsWorldOn long path) result }
@@ -486,6 +488,9 @@ pub fn command<'a>(alloc: Global, words: &'a [String]) -> Result<Invocation<'a>,
     ensures check { (long : Bool) (name path : Text) → is_path path ≡ true
         → map string_bytes words.now ≡ name ∷ codes "check" ∷ with_long long path
         → IsOrNoMemory (IsCheckOn long path) result }
+    ensures processes { (long : Bool) (name path : Text) (others : List Text) → list_all is_path (path ∷ others) ≡ true
+        → map string_bytes words.now ≡ name ∷ codes "check" ∷ with_processes long (path ∷ others)
+        → IsOrNoMemory (AreProcessesOn long (path ∷ others)) result }
     ensures draw { (packets : Bool) (name path : Text) → is_path path ≡ true
         → map string_bytes words.now ≡ name ∷ codes "draw" ∷ with_packets packets path
         → IsOrNoMemory (IsDrawOn packets path) result }

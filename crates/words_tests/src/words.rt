@@ -70,6 +70,24 @@ fn kept(alloc: Global, line: &[&str]) -> Option<Kept> {
     }
 }
 
+/// The paths of the texts of several processes that the words ask for, joined by spaces; `None` where they ask for none.
+fn texts_asked(alloc: Global, line: &[&str]) -> Option<String> {
+    let words = words_of(alloc, line).ok()?;
+    match command(alloc, words.as_slice()) {
+        Ok(Invocation::Processes(texts)) => texts.paths.as_slice().join(alloc, " ").ok(),
+        _ => None,
+    }
+}
+
+/// Whether the members keep the long chat whose texts the words ask for; `None` where they ask for none.
+fn long_texts(alloc: Global, line: &[&str]) -> Option<bool> {
+    let words = words_of(alloc, line).ok()?;
+    match command(alloc, words.as_slice()) {
+        Ok(Invocation::Processes(texts)) => Some(texts.long),
+        _ => None,
+    }
+}
+
 /// The kind of error that the words give; `None` where they are a command.
 pub(crate) fn refusal(alloc: Global, line: &[&str]) -> Option<ErrorKind> {
     let words = words_of(alloc, line).ok()?;
@@ -226,6 +244,49 @@ fn draw_has_no_long_chat(rt: HostRuntime) {
     assert!(rt;
         refusal(alloc, &["vsync", "draw", "--long", "a"]) == Some(ErrorKind::UnknownArgument),
         "draw --long a"
+    );
+}
+
+#[test]
+fn check_takes_the_texts_of_several_processes(rt: HostRuntime) {
+    let alloc = rt.alloc();
+    for (line, wanted) in [
+        (["vsync", "check", "--processes", "a", "b"], "a b"),
+        (["vsync", "check", "b", "--processes", "a"], "b a"),
+        (["vsync", "check", "a", "-", "--processes"], "a -"),
+        (["vsync", "check", "--long", "--processes", "a"], "a"),
+    ] {
+        let asked = texts_asked(alloc, line.as_slice());
+        assert!(rt;
+            asked.is_some_and(|texts| texts.as_str() == wanted),
+            "the texts {wanted}"
+        );
+    }
+    assert!(rt;
+        long_texts(alloc, &["vsync", "check", "--long", "--processes", "a"]) == Some(true),
+        "--long"
+    );
+    assert!(rt;
+        long_texts(alloc, &["vsync", "check", "--processes", "a"]) == Some(false),
+        "the chat"
+    );
+}
+
+#[test]
+fn check_takes_one_trace_alone(rt: HostRuntime) {
+    let alloc = rt.alloc();
+    assert!(rt;
+        refusal(alloc, &["vsync", "check", "a", "b"]) == Some(ErrorKind::UnknownArgument),
+        "two traces"
+    );
+    assert!(rt;
+        refusal(alloc, &["vsync", "check", "--processes"])
+            == Some(ErrorKind::MissingRequiredArgument),
+        "no text"
+    );
+    assert!(rt;
+        refusal(alloc, &["vsync", "world", "--processes", "a"]) == Some(ErrorKind::UnknownArgument),
+        "a script"
     );
 }
 
