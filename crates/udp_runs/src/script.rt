@@ -53,8 +53,8 @@ fn play_line<N: Net, C: Application, M: Machine<Net = N>, W: Write>(
     done
 }
 
-// Writes the chats.
-fn write_chats<N: Net, C: Application, W: Write>(
+// Writes the states.
+fn write_states<N: Net, C: Application, W: Write>(
     nodes: &mut Nodes<N, C>,
     text: &mut Vec<u8>,
     writer: &mut W,
@@ -84,7 +84,8 @@ fn play_lines<N: Net, C: Application, M: Machine<Net = N>, W: Write>(
             return Err(stop);
         }
     }
-    write_chats(nodes, text, writer)?;
+    write_states(nodes, text, writer)?;
+    nodes.close(machine);
     Ok(())
 }
 

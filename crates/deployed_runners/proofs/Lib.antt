@@ -1,4 +1,0 @@
-pub mod FactOfItems
-pub mod FactOfMerged
-pub mod ItemsOfRounds
-pub mod ItemsOfCalls
