@@ -25,10 +25,18 @@ IsReady meaning (Apart s) = s ≡ meaning.opening
 IsReady meaning (Connected m) = is_some m.member_state ≡ true
 IsReady meaning Ended = ⊤
 
+-- whether a channel is not connected yet, after these steps of its process
+abbrev pub is_apart_after : {S : Type 0} → Stage S → List (Step S) → Bool
+is_apart_after (Apart s) [] = true
+is_apart_after (Apart s) (x ∷ own) = false
+is_apart_after (Connected m) own = false
+is_apart_after Ended own = false
+
 -- these steps of its process lead from one channel to the other: what they put out waits behind what waited, and so does what they tell
 pub record Plays {S : Type 0} (meaning : Meaning S) (group : List ℕ) (own : List (Step S)) (old new : ChannelModel S) : Type 0 where
   pub runs : RunsFrom meaning group (member_in old.stage) own
   pub left : member_after (member_in old.stage) own ≡ member_in new.stage
+  pub apart : is_apart_after new.stage [] ≡ is_apart_after old.stage own
   pub puts : map bytes_of new.outgoing ≡ map bytes_of old.outgoing ++ all_put_out own
   pub tells : new.happened ≡ old.happened ++ all_told own
   pub address : new.address ≡ old.address

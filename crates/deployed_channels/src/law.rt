@@ -1,2 +1,14 @@
-/// Trial.
-pub fn calls_are_steps() {}
+ghost use Rattle.deployed_channels.specs.Plays.{CallsAreSteps, CreatesAreSteps, JoinsAreSteps, LentCallsAreSteps};
+
+use state_transfer::Receiver;
+
+/// Each call of a channel, by the contract of `channel::Channel`, is one step of its process where its member runs, and none where it was never connected or has ended: a call
+/// of the member with this input, or, where room was refused for what that put out, the end of the process (docs/PROOF.md, "Processes"). A connect is a start before that, of a
+/// member of the group that it names; its receiver must be in its opening state. What waits in the channel, packets and events, is what waited and what these steps put out and
+/// tell. It does nothing.
+pub fn calls_are_steps<R: Receiver>()
+    ensures calls { CallsAreSteps R.meaning }
+    ensures lent { LentCallsAreSteps R.meaning }
+    ensures creates { CreatesAreSteps R.meaning }
+    ensures joins { JoinsAreSteps R.meaning }
+{}

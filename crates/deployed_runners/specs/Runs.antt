@@ -1,6 +1,7 @@
 -- What a runner does, call by call, and the items that this adds.
 use Rattle.std.specs.Prelude.{◌≡◌, ℕ, Bool, true, false, ◌||◌, List, [], ◌∷◌, ◌++◌, map, flat_map, Option, None, Some, Result}
 use Rattle.std.specs.Result.{result_err}
+use Rattle.std.specs.List.{AllByRecursion}
 use Rattle.address.specs.Ids.{Address, IsAddress}
 use Rattle.state_transfer.specs.Meanings.{Meaning}
 use Rattle.trace_props.specs.declared.event.Event.{Event}
@@ -17,7 +18,7 @@ use Rattle.udp_net.specs.Logs.{Log, Lists}
 use Rattle.udp_member.specs.Turns.{Driven}
 use Rattle.udp_member.specs.Rounds.{Listens, Rounds}
 use Rattle.udp_member.specs.Seeking.{Seeks}
-use Rattle.deployment.specs.Deployments.{Start, IsNew, bytes_of, happens_by}
+use Rattle.deployment.specs.Deployments.{Step, Start, Call, Crash, IsNew, bytes_of, happens_by}
 use Rattle.deployment.specs.Processes.{all_told}
 use Rattle.deployed_channels.specs.Plays.{IsReady, LeftBy, falls, crash_of}
 use Rattle.deployed_runners.specs.Items.{Item, OfMember, Standing, stands_after, datagram_in, Follow, IsProcess, net_events, steps_in}
@@ -74,6 +75,12 @@ standing m r = record { running = running_in m r.channel.stage; waiting = map by
 abbrev pub happened_by : {S : Type 0} → List (Item S) → List Event
 happened_by items = flat_map happens_by (steps_in items)
 
+-- whether a step starts its process
+abbrev pub is_start : {S : Type 0} → Step S → Bool
+is_start (Start p m) = true
+is_start (Call p input result left) = false
+is_start (Crash p) = false
+
 -- ADDED: items that lead from one runner to the other, to the member that runs in its channel and to what waits there, where its process had started before; what happened at the
 -- net is what that lists more; what its channel tells, taken and not taken yet, is what the steps tell; and what happens is this, and a crash where the channel ended by a call,
 -- other than by a leave. Before it is connected it stands for the member with which it will be: with `m` after them, `before m` before them.
@@ -87,6 +94,8 @@ pub record Adds {N S : Type 0} (log : N → Option Log) (meaning : Meaning S) (g
   pub lists : Lists (log old.net) (λ l. l ++ net_events items) (log new.net)
   pub tells : taken ++ new.channel.happened ≡ old.channel.happened ++ all_told (steps_in items)
   pub happens : happened_by items ≡ all_told (steps_in items) ++ crash_of old.channel.address fell
+  -- none of them starts it anew
+  pub no_start : AllByRecursion (λ x. is_start x ≡ false) (steps_in items)
   pub address : new.channel.address ≡ old.channel.address
   pub ready : IsReady meaning new.channel.stage
   -- after its end no step is done

@@ -1,3 +1,6 @@
+pub mod FactOfPlaces
+pub mod FactOfTurns
+pub mod FactOfNodes
 pub mod FactOfEnds
 pub mod FactOfScripts
 pub mod FactOfMembers

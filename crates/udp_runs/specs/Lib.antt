@@ -5,4 +5,5 @@ pub mod Tallies
 pub mod Texts
 pub mod Nodes
 pub mod Scripts
+pub mod Playing
 pub mod Members

@@ -1,5 +1,5 @@
 -- Nodes of one machine, and the processes that run there.
-use Rattle.std.specs.Prelude.{◌≡◌, ℕ, ◌<◌, ◌≤◌, Bool, true, false, nat_eq, List, [], ◌++◌, slice_get, slice_set, filter_map, Option, None, Some, IfSome, Result}
+use Rattle.std.specs.Prelude.{◌≡◌, ℕ, ◌<◌, ◌≤◌, Bool, true, false, List, [], ◌++◌, slice_get, slice_set, filter_map, Option, None, Some, IfSome, Result}
 use Rattle.address.specs.Ids.{Address, IsAddress}
 use Rattle.state_transfer.specs.Meanings.{Meaning}
 use Rattle.trace_props.specs.declared.event.Event.{Event}
@@ -9,7 +9,7 @@ use Rattle.udp_net.specs.Logs.{Log}
 use Rattle.udp_member.specs.Turns.{Driven}
 use Rattle.deployed_channels.specs.Plays.{crash_of}
 use Rattle.deployed_runners.specs.Runs.{Drives}
-use Rattle.deployed_runners.specs.Systems.{Gone, Played, has_ended}
+use Rattle.deployed_runners.specs.Systems.{Gone, Played, PlayedTellNoStart, has_ended}
 use Rattle.udp_runs.specs.declared.process.Process.{Process}
 use Rattle.udp_runs.specs.declared.node_state.NodeState.{NodeState}
 use Rattle.udp_runs.specs.Texts.{Line, events_in, Appended}
@@ -35,11 +35,12 @@ TakesTurn {N} {S} log failed meaning group old new text text' result =
 
 -- no node before this one is that of the number
 abbrev pub IsFirst : {N S : Type 0} → ℕ → ℕ → List (NodeState N S) → Type 0
-IsFirst {N} {S} node k states = (j : ℕ) (y : NodeState N S) → j < k → slice_get states j ≡ Some y → nat_eq y.node node ≡ false
+IsFirst {N} {S} node k states = (j : ℕ) (y : NodeState N S) → j < k → slice_get states j ≡ Some y → y.node ≡ node → ⊥
 
 -- what happened by the processes of some nodes, as lines say: each that runs is where it was started last, no address was started twice, and there are no others
 pub record Plays {N S : Type 0} (log : N → Option Log) (failed : N → ℕ) (meaning : Meaning S) (group : List ℕ) (states : List (NodeState N S)) (gone : List (Gone N))
     (lines : List Line) : Type 0 where
+  pub law : PlayedTellNoStart log failed meaning
   pub at : Address → Option (Driven N S)
   pub played : Played log failed meaning group at gone (events_in lines)
   pub runs : (k : ℕ) (x : NodeState N S) (q : Process N S) → slice_get states k ≡ Some x → x.process ≡ Some q

@@ -1,5 +1,5 @@
 -- What a command writes that runs nodes over datagrams by a script.
-use Rattle.std.specs.Prelude.{◌≡◌, ℕ, List, ◌++◌, map, take, Option, Some, Result, Ok, Err, IfSome, [], Contains}
+use Rattle.std.specs.Prelude.{◌≡◌, ℕ, List, ◌++◌, map, take, Option, Some, Ok, Err, IfSome, [], Contains}
 use Rattle.std.specs.List.{concat}
 use Rattle.std.specs.Option.{option_map_or}
 use Rattle.std.specs.Io.KnownBytes.{Appends}
@@ -19,7 +19,6 @@ use Rattle.deployed_runners.specs.Systems.{Gone, IsHistoryOf}
 use Rattle.commands.specs.declared.status.Status.{Status}
 use Rattle.commands.specs.declared.status.Status.TheVariants.{Done, Memory}
 use Rattle.commands.specs.Outcomes.{IsFaultText, IsAnswer, memory_line}
-use Rattle.udp_runs.specs.declared.ends.Cut.TheVariants as cut
 use Rattle.udp_runs.specs.declared.ends.Stop.{Stop}
 use Rattle.udp_runs.specs.declared.ends.Stop.TheVariants.{Cut, NoNet}
 use Rattle.udp_runs.specs.declared.process.Process.{Process}
@@ -50,17 +49,21 @@ net_of q = record { by = q.address; net = q.runner.net }
 abbrev pub texts_with : {N S : Type 0} → (Address → S → List ℕ) → List Line → List (Process N S) → List (List ℕ)
 texts_with line_of lines processes = texts_of lines ++ map (state_text line_of) processes
 
+-- what was written of a run before it is cut short: lines of what happened; or these and some of the states
+pub data IsBegun {N S : Type 0} (log : N → Option Log) (meaning : Meaning S) (line_of : Address → S → List ℕ) (group : List ℕ) : List ℕ → Type 0 where
+  InLines : (at : Address → Option (Driven N S)) (gone : List (Gone N)) (lines : List Line) (count : ℕ) → IsHistoryOf log meaning group at gone (events_in lines)
+      → IsBegun log meaning line_of group (concat (take count (texts_of lines)))
+  InStates : (processes : List (Process N S)) (gone : List (Gone N)) (lines : List Line) (count : ℕ) → HasRun log meaning group processes gone lines
+      → IsBegun log meaning line_of group (concat (take count (texts_with line_of lines processes)))
+
 -- the texts of a run of a script's lines. What happened is a history of processes: what each did, one at a time, as the contract of its runner says, over a net that lists what
--- happened there. It is written line by line, with what was refused, and then the states; and the nets are given back. Or the first few of these lines are, and `# memory`; or
--- it stops there, for the node of a line that starts it has no net
+-- happened there. It is written line by line, with what was refused, and then the states; and the nets are given back. Or a beginning of that is, and `# memory`; or it stops
+-- there, for the node of a line that starts it has no net
 pub data IsRunText {N S : Type 0} (log : N → Option Log) (meaning : Meaning S) (line_of : Address → S → List ℕ) (group : List ℕ) (given given' : Option (List (Gone N)))
     (script : List UdpLine) : Status → List ℕ → Type 0 where
   Goes : (processes : List (Process N S)) (gone : List (Gone N)) (lines : List Line) → HasRun log meaning group processes gone lines
       → GivesBack given (gone ++ map net_of processes) given' → IsRunText log meaning line_of group given given' script Done (concat (texts_with line_of lines processes))
-  Lacks : (processes : List (Process N S)) (gone : List (Gone N)) (lines : List Line) (count : ℕ) → HasRun log meaning group processes gone lines
-      → IsRunText log meaning line_of group given given' script Memory (concat (take count (texts_with line_of lines processes)) ++ memory_line)
-  Breaks : (at : Address → Option (Driven N S)) (gone : List (Gone N)) (lines : List Line) (count : ℕ) → IsHistoryOf log meaning group at gone (events_in lines)
-      → IsRunText log meaning line_of group given given' script Memory (concat (take count (texts_of lines)) ++ memory_line)
+  Lacks : (begun : List ℕ) → IsBegun log meaning line_of group begun → IsRunText log meaning line_of group given given' script Memory (begun ++ memory_line)
   Stops : (at : Address → Option (Driven N S)) (gone : List (Gone N)) (lines : List Line) (number node : ℕ) (error : BindError) (status : Status) (text : List ℕ)
       → IsHistoryOf log meaning group at gone (events_in lines) → Contains script (start_line number node) → IsNetlessText number error status text
       → IsRunText log meaning line_of group given given' script status (concat (texts_of lines) ++ text)
@@ -103,22 +106,3 @@ IsNoNet (NoNet number error) = Unit
 abbrev pub StopsIn : List UdpLine → Stop → Type 0
 StopsIn lines (Cut why) = Unit
 StopsIn lines (NoNet number error) = (node : ℕ) × Contains lines (start_line number node)
-
--- what was written of a run before it is cut short: lines of what happened; or these and some of the states
-pub data IsBegun {N S : Type 0} (log : N → Option Log) (meaning : Meaning S) (line_of : Address → S → List ℕ) (group : List ℕ) : List ℕ → Type 0 where
-  InLines : (at : Address → Option (Driven N S)) (gone : List (Gone N)) (lines : List Line) (count : ℕ) → IsHistoryOf log meaning group at gone (events_in lines)
-      → IsBegun log meaning line_of group (concat (take count (texts_of lines)))
-  InStates : (processes : List (Process N S)) (gone : List (Gone N)) (lines : List Line) (count : ℕ) → HasRun log meaning group processes gone lines
-      → IsBegun log meaning line_of group (concat (take count (texts_with line_of lines processes)))
-
--- a run of lines, and what is written by it: all, and the nets are given back; or why it is cut short, and a beginning
-abbrev pub Goes : {N S : Type 0} → (N → Option Log) → Meaning S → (Address → S → List ℕ) → List ℕ → Option (List (Gone N)) → Option (List (Gone N)) → List UdpLine
-    → Option (List ℕ) → Option (List ℕ) → Result Unit Stop → Type 0
-Goes {N} {S} log meaning line_of group given given' script old new (Ok done) =
-    (processes : List (Process N S)) × (gone : List (Gone N)) × (lines : List Line) × HasRun log meaning group processes gone lines
-    × GivesBack given (gone ++ map net_of processes) given' × Appends old new (concat (texts_with line_of lines processes))
-Goes log meaning line_of group given given' script old new (Err (Cut cut.Memory)) = (text : List ℕ) × IsBegun log meaning line_of group text × Appends old new text
-Goes log meaning line_of group given given' script old new (Err (Cut cut.Failed)) = (text : List ℕ) × IsBegun log meaning line_of group text × ((count : ℕ) × Appends old new (take count text))
-Goes {N} {S} log meaning line_of group given given' script old new (Err (NoNet number error)) =
-    (at : Address → Option (Driven N S)) × (gone : List (Gone N)) × (lines : List Line) × IsHistoryOf log meaning group at gone (events_in lines)
-    × ((node : ℕ) × Contains script (start_line number node)) × Appends old new (concat (texts_of lines))

@@ -254,7 +254,8 @@ impl<'a, N: Net, C: Application> Lone<'a, N, C> {
         if self.manner.speaks {
             return Ok(());
         }
-        let appended = append_state_of(&mut self.text, self.member.channel());
+        let channel = self.member.channel();
+        let appended = append_state_of(&mut self.text, &channel.address(), channel);
         show(writer, &mut self.text)?;
         appended?;
         Ok(())

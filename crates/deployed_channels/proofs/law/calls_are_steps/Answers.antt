@@ -1,0 +1,14 @@
+use Rattle.deployed_channels.proofs.CallIsStep.{calls-are, lent-calls-are, creates-are, joins-are}
+use Rattle.deployed_channels.proofs.law.calls_are_steps.Goals as goal
+
+pub returns-clause-calls : goal.returns-clause-calls
+returns-clause-calls g c = calls-are g.R.Receiver.meaning
+
+pub returns-clause-lent : goal.returns-clause-lent
+returns-clause-lent g c = lent-calls-are g.R.Receiver.meaning
+
+pub returns-clause-creates : goal.returns-clause-creates
+returns-clause-creates g c = creates-are g.R.Receiver.meaning
+
+pub returns-clause-joins : goal.returns-clause-joins
+returns-clause-joins g c = joins-are g.R.Receiver.meaning

@@ -1,0 +1,10 @@
+pub mod FactOfItems
+pub mod FactOfMerged
+pub mod StepsOfCalls
+pub mod StaysRunning
+pub mod ItemsOfRounds
+pub mod NewMembers
+pub mod ItemsOfCalls
+pub mod FactOfOrders
+pub mod FactOfPlayed
+pub mod FactOfStarts

@@ -1,0 +1,23 @@
+use Rattle.deployed_runners.proofs.ItemsOfCalls.{calls-add, runs-are}
+use Rattle.deployed_runners.proofs.FactOfMerged.{runners-are, runners-tell}
+use Rattle.deployed_runners.proofs.FactOfPlayed.{played-are}
+use Rattle.deployed_runners.proofs.FactOfStarts.{starts-none}
+use Rattle.deployed_runners.proofs.law.runners_are_synchronous.Goals as goal
+
+pub returns-clause-calls : goal.returns-clause-calls
+returns-clause-calls g c = calls-add g.N.Net.log g.N.Net.failed g.R.Receiver.meaning
+
+pub returns-clause-runs : goal.returns-clause-runs
+returns-clause-runs g c = runs-are g.N.Net.log g.N.Net.failed g.R.Receiver.meaning
+
+pub returns-clause-merged : goal.returns-clause-merged
+returns-clause-merged g c = runners-are g.R.Receiver.meaning c.deployments_are_synchronous.ensures.histories
+
+pub returns-clause-told : goal.returns-clause-told
+returns-clause-told g c = runners-tell g.R.Receiver.meaning c.deployments_are_synchronous.ensures.told
+
+pub returns-clause-played : goal.returns-clause-played
+returns-clause-played g c = played-are g.N.Net.log g.N.Net.failed g.R.Receiver.meaning (runners-are g.R.Receiver.meaning c.deployments_are_synchronous.ensures.histories)
+
+pub returns-clause-starts : goal.returns-clause-starts
+returns-clause-starts g c = starts-none g.N.Net.log g.N.Net.failed g.R.Receiver.meaning

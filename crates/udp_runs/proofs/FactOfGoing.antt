@@ -1,0 +1,115 @@
+-- What each call of a node does among the others, by what its process does.
+use Rattle.std.proofs.Common.{◌≡◌, ℕ, Bool, true, false, Option, None, Some, Result, Ok, Err, OnOk, OnErr, List, [], ◌∷◌, ◌++◌, map, take, slice_get, slice_set, refl, sym, ap, ◌∙◌, subst}
+use Rattle.std.specs.List.{concat}
+use Rattle.std.specs.Option.{ForSome}
+use Rattle.std.proofs.lemmas.List.{append-nil, append_assoc}
+use Rattle.address.specs.Ids.{Address}
+use Rattle.state_transfer.specs.Meanings.{Meaning}
+use Rattle.trace_props.specs.declared.event.Event.TheVariants.{Started, Crashed}
+use Rattle.vsync_text.specs.TraceText.{line_of}
+use Rattle.vsync_text.specs.Runs.{refusal_line}
+use Rattle.udp_net.specs.Logs.{Log}
+use Rattle.udp_member.specs.Turns.{Driven}
+use Rattle.deployed_runners.specs.Runs.{new_channel}
+use Rattle.deployed_runners.specs.Systems.{Gone, Played, has_ended}
+use Rattle.udp_runs.specs.declared.process.Process.{Process}
+use Rattle.udp_runs.specs.declared.node_state.NodeState.{NodeState}
+use Rattle.udp_runs.specs.Machines.{GivesBack}
+use Rattle.udp_runs.specs.Texts.{Line, Happens, Refuses, texts_of, events_in}
+use Rattle.udp_runs.specs.Nodes.{Turns, TakesTurn, Plays, IsFirst, IsNext, GoesOnAt}
+use Rattle.udp_runs.specs.Scripts.{net_of}
+use Rattle.udp_runs.proofs.FactOfPlaces.{set-self}
+use Rattle.udp_runs.proofs.FactOfNodes.{plays-refused, plays-turn, plays-ended, turn-played, plays-killed, killed-played, plays-started, plays-failed, start-failed}
+
+-- ---- what is given back
+
+pub gives-none : {N : Type 0} (given : Option (List (Gone N))) → GivesBack given [] given
+gives-none None = tt
+gives-none (Some all) = sym (append-nil all)
+
+pub gives-then : {N : Type 0} (a b c : Option (List (Gone N))) (xs ys : List (Gone N)) → GivesBack a xs b → GivesBack b ys c → GivesBack a (xs ++ ys) c
+gives-then a b None xs ys x y = tt
+gives-then a None (Some l) xs ys x y = absurd y
+gives-then None (Some m) (Some l) xs ys x y = absurd x
+gives-then (Some o) (Some m) (Some l) xs ys x y = y ∙ ap (λ z. z ++ ys) x ∙ append_assoc o xs ys
+
+pub gives-as : {N : Type 0} (given given' : Option (List (Gone N))) → given' ≡ given → GivesBack given [] given'
+gives-as given given' same = subst (λ (g : Option (List (Gone N))). GivesBack given [] g) (sym same) (gives-none given)
+
+-- no line of a text
+none-more : (text text' : List ℕ) → text' ≡ text → text' ≡ text ++ []
+none-more text text' same = same ∙ sym (append-nil text)
+
+one-more : (text text' line : List ℕ) → text' ≡ text ++ line → text' ≡ text ++ (line ++ [])
+one-more text text' line said = said ∙ ap (λ (l : List ℕ). text ++ l) (sym (append-nil line))
+
+module _ {N S : Type 0} (log : N → Option Log) (failed : N → ℕ) (meaning : Meaning S) (group : List ℕ) where
+  abbrev Goes : {A E : Type 0} → NodeState N S → NodeState N S → Option (List (Gone N)) → Option (List (Gone N)) → List ℕ → List ℕ → Result A E → Type 0
+  Goes old new given given' text text' result = GoesOnAt log failed meaning group old new given given' text text' result
+
+  with_process : NodeState N S → Option (Process N S) → NodeState N S
+  with_process old o = record { node = old.node; last = old.last; process = o }
+
+  still-plays : (states : List (NodeState N S)) (k : ℕ) (old : NodeState N S) (gone : List (Gone N)) (lines more : List Line) → slice_get states k ≡ Some old
+      → Plays log failed meaning group states gone (lines ++ more) → Plays log failed meaning group (slice_set states k old) (gone ++ []) (lines ++ more)
+  still-plays states k old gone lines more here x =
+      subst (λ (l : List (NodeState N S)). Plays log failed meaning group l (gone ++ []) (lines ++ more)) (sym (set-self states k old here))
+      (subst (λ (l : List (Gone N)). Plays log failed meaning group states l (lines ++ more)) (sym (append-nil gone)) x)
+
+  -- ---- nothing is done, or refused
+
+  pub still : {A E : Type 0} (old new : NodeState N S) (given given' : Option (List (Gone N))) (text text' : List ℕ) (done : A) → new ≡ old → given' ≡ given → text' ≡ text
+      → Goes old new given given' text text' (Ok {A = A} {E = E} done)
+  still old new given given' text text' done same gives said states k here gone lines x =
+      ([], ([], gives-as given given' gives,
+      subst (λ (n : NodeState N S). Plays log failed meaning group (slice_set states k n) (gone ++ []) (lines ++ [])) (sym same)
+      (still-plays states k old gone lines [] here (subst (λ (l : List Line). Plays log failed meaning group states gone l) (sym (append-nil lines)) x))), none-more text text' said)
+
+  pub refused : {E : Type 0} (old new : NodeState N S) (given given' : Option (List (Gone N))) (text text' : List ℕ) (line number : ℕ) (result : Result Unit E) → new ≡ old → given' ≡ given
+      → OnOk result (text' ≡ text ++ refusal_line line number) → OnErr result (text' ≡ text) → Goes old new given given' text text' result
+  refused old new given given' text text' line number (Ok done) same gives said unsaid states k here gone lines x =
+      (Refuses line number ∷ [], ([], gives-as given given' gives,
+      subst (λ (n : NodeState N S). Plays log failed meaning group (slice_set states k n) (gone ++ []) (lines ++ Refuses line number ∷ [])) (sym same)
+      (still-plays states k old gone lines (Refuses line number ∷ []) here (plays-refused log failed meaning group states gone lines line number x))),
+      one-more text text' (refusal_line line number) said)
+  refused old new given given' text text' line number (Err e) same gives said unsaid states k here gone lines x =
+      ([], (x.at, gone, subst (λ (l : List Line). Played log failed meaning group x.at gone (events_in l)) (sym (append-nil lines)) x.played), (0, none-more text text' unsaid))
+
+  -- ---- a turn of the process
+
+  module _ {A B E F : Type 0} (old new : NodeState N S) (q now : Process N S) (process : old.process ≡ Some q) (given given' : Option (List (Gone N))) (text text' : List ℕ) where
+    -- it runs on
+    pub turn-on : (b : B) (done : A) → new ≡ with_process old (Some now) → now.address ≡ q.address → has_ended now.runner.channel.stage ≡ false → given' ≡ given
+        → TakesTurn log failed meaning group q now text text' (Ok {A = B} {E = F} b) → Goes old new given given' text text' (Ok {A = A} {E = E} done)
+    turn-on b done is same on gives t states k here gone lines x =
+        let as_now : record { address = q.address; runner = now.runner } ≡ now = ap (λ (a : Address). record { address = a; runner = now.runner }) (sym same) in
+        (t.0, ([], gives-as given given' gives,
+        subst (λ (l : List (Gone N)). Plays log failed meaning group (slice_set states k new) l (lines ++ t.0)) (sym (append-nil gone))
+        (subst (λ (n : NodeState N S). Plays log failed meaning group (slice_set states k n) gone (lines ++ t.0)) (ap (λ (p : Process N S). with_process old (Some p)) as_now ∙ sym is)
+        (plays-turn log failed meaning group states gone lines x k old here q process now.runner t.0 t.1 on))), t.2)
+
+    -- it is let go
+    pub turn-off : (b : B) (done : A) → new ≡ with_process old None → now.address ≡ q.address → GivesBack given (net_of now ∷ []) given'
+        → TakesTurn log failed meaning group q now text text' (Ok {A = B} {E = F} b) → Goes old new given given' text text' (Ok {A = A} {E = E} done)
+    turn-off b done is same gives t states k here gone lines x =
+        (t.0, (record { by = q.address; net = now.runner.net } ∷ [],
+        subst (λ (a : Address). GivesBack given (record { by = a; net = now.runner.net } ∷ []) given') same gives,
+        subst (λ (n : NodeState N S). Plays log failed meaning group (slice_set states k n) (gone ++ record { by = q.address; net = now.runner.net } ∷ []) (lines ++ t.0)) (sym is)
+        (plays-ended log failed meaning group states gone lines x k old here q process now.runner t.0 t.1)), t.2)
+
+    -- memory was refused as it was said
+    pub turn-cut : (f : F) (e : E) → TakesTurn log failed meaning group q now text text' (Err {A = B} {E = F} f) → Goes old new given given' text text' (Err {A = A} {E = E} e)
+    turn-cut f e t states k here gone lines x =
+        (t.0, turn-played log failed meaning group states gone lines x k old here q process t.1.0 t.0 t.1.1, t.2)
+
+  -- ---- it is killed
+
+  pub killed : {E : Type 0} (old new : NodeState N S) (q : Process N S) (given given' : Option (List (Gone N))) (text text' : List ℕ) (result : Result Unit E) → old.process ≡ Some q
+      → new ≡ with_process old None → GivesBack given (net_of q ∷ []) given' → OnOk result (text' ≡ text ++ line_of (Crashed q.address)) → OnErr result (text' ≡ text)
+      → Goes old new given given' text text' result
+  killed old new q given given' text text' (Ok done) process is gives said unsaid states k here gone lines x =
+      (Happens (Crashed q.address) ∷ [], (net_of q ∷ [], gives,
+      subst (λ (n : NodeState N S). Plays log failed meaning group (slice_set states k n) (gone ++ net_of q ∷ []) (lines ++ Happens (Crashed q.address) ∷ [])) (sym is)
+      (plays-killed log failed meaning group states gone lines x k old here q process)), one-more text text' (line_of (Crashed q.address)) said)
+  killed old new q given given' text text' (Err e) process is gives said unsaid states k here gone lines x =
+      (Happens (Crashed q.address) ∷ [], killed-played log failed meaning group states gone lines x k old here q process, (0, none-more text text' unsaid))

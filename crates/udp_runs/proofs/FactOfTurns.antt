@@ -1,0 +1,185 @@
+-- Turns of a process: calls of its runner, and what is told by them.
+use Rattle.std.proofs.Common.{◌≡◌, ℕ, Bool, true, false, ◌||◌, Option, None, Some, Result, Ok, Err, List, [], ◌∷◌, ◌++◌, map, refl, sym, ap, ◌∙◌, subst, inl, inr, ◌⊎◌}
+use Rattle.std.proofs.lemmas.List.{append-nil, append_assoc}
+use Rattle.std.proofs.lemmas.Option.{same_Some}
+use Rattle.address.specs.Ids.{Address}
+use Rattle.state_transfer.specs.Meanings.{Meaning}
+use Rattle.trace_props.specs.declared.event.Event.{Event}
+use Rattle.trace_props.specs.declared.event.Event.TheVariants.{Crashed}
+use Rattle.member.specs.declared.error.Error.{Error}
+use Rattle.channel.specs.declared.stage.Stage.{Stage}
+use Rattle.channel.specs.declared.stage.Stage.TheVariants.{Apart, Connected, Ended}
+use Rattle.channel.specs.Channels.{ChannelModel}
+use Rattle.channel.specs.Errors.{is_end}
+use Rattle.udp_net.specs.Logs.{Log}
+use Rattle.udp_member.specs.Turns.{Driven}
+use Rattle.udp_member.specs.Rounds.{Rounds, Ticks, SuspectsAndTicks, Suspects, Cuts, Hears}
+use Rattle.deployed_channels.specs.Plays.{falls, crash_of}
+use Rattle.deployed_runners.specs.Runs.{Makes, Round, Take, Drives, Begun, Further, with_channel}
+use Rattle.deployed_runners.specs.Systems.{has_ended}
+use Rattle.udp_runs.specs.Nodes.{Turns, all_told}
+use Rattle.udp_runs.specs.Texts.{Line, Happens, Refuses, events_in}
+
+-- ---- one list of lines behind the other
+
+pub events-happen : (events : List Event) → events_in (map Happens events) ≡ events
+events-happen [] = refl
+events-happen (x ∷ events) = ap (λ (l : List Event). x ∷ l) (events-happen events)
+
+pub events-then : (xs ys : List Line) → events_in (xs ++ ys) ≡ events_in xs ++ events_in ys
+events-then [] ys = refl
+events-then (Happens event ∷ xs) ys = ap (λ (l : List Event). event ∷ l) (events-then xs ys)
+events-then (Refuses line number ∷ xs) ys = events-then xs ys
+
+or-false : (a : Bool) → (a || false) ≡ a
+or-false true = refl
+or-false false = refl
+
+or-assoc : (a b c : Bool) → ((a || b) || c) ≡ (a || (b || c))
+or-assoc true b c = refl
+or-assoc false b c = refl
+
+pub falls-none : {S : Type 0} (stage : Stage S) → falls stage None ≡ false
+falls-none (Apart s) = refl
+falls-none (Connected m) = refl
+falls-none Ended = refl
+
+pub falls-end : {S : Type 0} (stage : Stage S) (e : Error) → has_ended stage ≡ false → falls stage (Some e) ≡ is_end e
+falls-end (Apart s) e runs = refl
+falls-end (Connected m) e runs = refl
+falls-end Ended e runs = absurd (let bad : true ≡ false = runs in cc)
+
+module _ {N S : Type 0} (log : N → Option Log) (failed : N → ℕ) (meaning : Meaning S) (group : List ℕ) where
+  abbrev Drive : Driven N S → List Event → Bool → Driven N S → Type 0
+  Drive a taken fell b = Drives log failed meaning group a taken fell b
+
+  -- ---- calls, one after another
+
+  pub drives-then : (a b c : Driven N S) (t u : List Event) (f g : Bool) → Drive a t f b → Drive b u g c → Drive a (t ++ u) (f || g) c
+  drives-then a b _ t _ f _ x Begun =
+      subst (λ (l : List Event). Drive a l (f || false) b) (sym (append-nil t)) (subst (λ (k : Bool). Drive a t k b) (sym (or-false f)) x)
+  drives-then a b c t _ f _ x (Further taken more fell failure mid new d m) =
+      subst (λ (l : List Event). Drive a l (f || (fell || falls mid.channel.stage failure)) c) (append_assoc t taken more)
+      (subst (λ (k : Bool). Drive a ((t ++ taken) ++ more) k c) (or-assoc f fell (falls mid.channel.stage failure))
+      (Further (t ++ taken) more (f || fell) failure mid new (drives-then a b mid t taken f fell x d) m))
+
+  pub drives-one : (a b : Driven N S) (more : List Event) (failure : Option Error) → Makes log failed meaning group a more failure b → Drive a more (falls a.channel.stage failure) b
+  drives-one a b more failure m = Further [] more false failure a b Begun m
+
+  -- of which nothing is told but what waits
+  abbrev quiet : Driven N S → Driven N S
+  quiet r = record r { channel = all_told r.channel }
+
+  with_told : Driven N S → List Event → Driven N S
+  with_told r rest = with_channel r (record r.channel { happened = rest })
+
+  told-first : (r : Driven N S) (x : Event) (rest : List Event) → r.channel.happened ≡ x ∷ rest → Drive r (x ∷ []) false (with_channel r (record r.channel { happened = rest }))
+  told-first r x rest e =
+      subst (λ (k : Bool). Drive r (x ∷ []) k (with_channel r (record r.channel { happened = rest }))) (falls-none r.channel.stage)
+      (drives-one r (with_channel r (record r.channel { happened = rest })) (x ∷ []) None (Take (Some x) (record r.channel { happened = rest }) e refl))
+
+  pub drives-told : (events : List Event) (r : Driven N S) → r.channel.happened ≡ events → Drive r events false (quiet r)
+  drives-told [] r e = subst (λ (l : List Event). Drive r [] false (record r { channel = record r.channel { happened = l } })) e Begun
+  drives-told (x ∷ events) r e =
+      let mid = with_channel r (record r.channel { happened = events }) in
+      drives-then r mid (quiet r) (x ∷ []) events false false (told-first r x events e) (drives-told events mid refl)
+
+  -- ---- a turn
+
+  -- one call, and what is told by it
+  pub turn-of : (p : Address) (old mid : Driven N S) (failure : Option Error) (lines : List Line) → Makes log failed meaning group old [] failure mid
+      → events_in lines ≡ mid.channel.happened ++ crash_of p (falls old.channel.stage failure) → Turns log failed meaning group p old (quiet mid) lines
+  turn-of p old mid failure lines m says = record {
+    taken = mid.channel.happened;
+    fell = falls old.channel.stage failure;
+    drives = subst (λ (k : Bool). Drive old mid.channel.happened k (quiet mid)) (or-false (falls old.channel.stage failure))
+        (drives-then old mid (quiet mid) [] mid.channel.happened (falls old.channel.stage failure) false (drives-one old mid [] failure m) (drives-told mid.channel.happened mid refl));
+    told = refl;
+    says = says;
+  }
+
+  -- no call, and what is told yet
+  pub turn-none : (p : Address) (old : Driven N S) → Turns log failed meaning group p old (quiet old) (map Happens old.channel.happened)
+  turn-none p old = record {
+    taken = old.channel.happened;
+    fell = false;
+    drives = drives-told old.channel.happened old refl;
+    told = refl;
+    says = events-happen old.channel.happened ∙ sym (append-nil old.channel.happened);
+  }
+
+  -- a turn before which a call was taken, by which the channel did not fall
+  pub turn-front : (p : Address) (old mid new : Driven N S) (lines : List Line) → Makes log failed meaning group old [] None mid
+      → Turns log failed meaning group p (quiet mid) new lines → Turns log failed meaning group p old new (map Happens mid.channel.happened ++ lines)
+  turn-front p old mid new lines m t =
+      let first = turn-of p old mid None (map Happens mid.channel.happened) m
+          (events-happen mid.channel.happened ∙ sym (append-nil mid.channel.happened) ∙ ap (λ (k : Bool). mid.channel.happened ++ crash_of p k) (sym (falls-none old.channel.stage))) in
+      record {
+        taken = mid.channel.happened ++ t.taken;
+        fell = t.fell;
+        drives = subst (λ (k : Bool). Drive old (mid.channel.happened ++ t.taken) (k || t.fell) new) (falls-none old.channel.stage)
+            (drives-then old (quiet mid) new mid.channel.happened t.taken (falls old.channel.stage None) t.fell first.drives t.drives);
+        told = t.told;
+        says = events-then (map Happens mid.channel.happened) lines ∙ ap (λ (l : List Event). l ++ events_in lines) (events-happen mid.channel.happened)
+            ∙ ap (λ (l : List Event). mid.channel.happened ++ l) t.says ∙ sym (append_assoc mid.channel.happened t.taken (crash_of p t.fell));
+      }
+
+  -- ---- a round
+
+  -- it is cut short by 6 or 7 alone
+  cut-end : (e k : Error) → Some e ≡ Some k → is_end k ≡ true → is_end e ≡ true
+  cut-end e k same ends = ap is_end (same_Some e k same) ∙ ends
+
+  ticks-end : (mid new : Driven N S) (e : Error) (s : SuspectsAndTicks log failed meaning mid (Some e) new) (cut : Option Error) → s.cut ≡ cut → is_end e ≡ true
+  ticks-end mid new e s None is = (s.ticks is).why.1
+  ticks-end mid new e s (Some k) is =
+      let suspects = subst (λ (c : Option Error). Suspects log failed meaning mid c s.mid) is s.suspects in
+      cut-end e k (s.stops k is).0 suspects.ends
+
+  hears-end : (old new : Driven N S) (e : Error) (r : Rounds log failed meaning old (Some e) new) (heard : Result ℕ Error) → r.heard ≡ heard → is_end e ≡ true
+  hears-end old new e r (Ok count) is = ticks-end r.mid new e (r.then_suspects count is) (r.then_suspects count is).cut refl
+  hears-end old new e r (Err k) is =
+      let hears = subst (λ (h : Result ℕ Error). Hears log failed meaning r.listens.begun h r.mid) is r.listens.hears in
+      cut-end e k (r.stops k is).0 hears.ends
+
+  pub round-end : (old new : Driven N S) (e : Error) → Rounds log failed meaning old (Some e) new → is_end e ≡ true
+  round-end old new e r = hears-end old new e r r.heard refl
+
+  -- it goes on, and what is told by it
+  pub round-goes : (p : Address) (old mid : Driven N S) (failure : Option Error) → failure ≡ None → Rounds log failed meaning old failure mid
+      → Turns log failed meaning group p old (quiet mid) (map Happens mid.channel.happened)
+  round-goes p old mid failure none r =
+      turn-of p old mid failure (map Happens mid.channel.happened) (Round failure mid r)
+      (events-happen mid.channel.happened ∙ sym (append-nil mid.channel.happened)
+      ∙ ap (λ (k : Bool). mid.channel.happened ++ crash_of p k) (sym (ap (falls old.channel.stage) none ∙ falls-none old.channel.stage)))
+
+  -- it is cut short: the process has crashed
+  pub round-falls : (p : Address) (old mid : Driven N S) (failure : Option Error) (e : Error) → has_ended old.channel.stage ≡ false → failure ≡ Some e
+      → Rounds log failed meaning old failure mid → Turns log failed meaning group p old (quiet mid) (map Happens mid.channel.happened ++ Happens (Crashed p) ∷ [])
+  round-falls p old mid failure e runs is r =
+      let fell = ap (falls old.channel.stage) is ∙ falls-end old.channel.stage e runs ∙ round-end old mid e (subst (λ (o : Option Error). Rounds log failed meaning old o mid) is r) in
+      turn-of p old mid failure (map Happens mid.channel.happened ++ Happens (Crashed p) ∷ []) (Round failure mid r)
+      (events-then (map Happens mid.channel.happened) (Happens (Crashed p) ∷ []) ∙ ap (λ (l : List Event). l ++ Crashed p ∷ []) (events-happen mid.channel.happened)
+      ∙ ap (λ (k : Bool). mid.channel.happened ++ crash_of p k) (sym fell))
+
+  -- the round of one that has ended, in which nothing falls
+  pub round-ended : (p : Address) (old mid : Driven N S) (failure : Option Error) → old.channel.stage ≡ Ended → Rounds log failed meaning old failure mid
+      → Turns log failed meaning group p old (quiet mid) (map Happens mid.channel.happened)
+  round-ended p old mid failure ended r =
+      turn-of p old mid failure (map Happens mid.channel.happened) (Round failure mid r)
+      (events-happen mid.channel.happened ∙ sym (append-nil mid.channel.happened) ∙ ap (λ (s : Stage S). mid.channel.happened ++ crash_of p (falls s failure)) (sym ended))
+
+  -- a call that is refused, or by which it has crashed
+  pub call-refused : (p : Address) (old mid : Driven N S) (e : Error) (line number : ℕ) → is_end e ≡ false → has_ended old.channel.stage ≡ false
+      → Makes log failed meaning group old [] (Some e) mid → Turns log failed meaning group p old (quiet mid) (map Happens mid.channel.happened ++ Refuses line number ∷ [])
+  call-refused p old mid e line number stays runs m =
+      turn-of p old mid (Some e) (map Happens mid.channel.happened ++ Refuses line number ∷ []) m
+      (events-then (map Happens mid.channel.happened) (Refuses line number ∷ []) ∙ ap (λ (l : List Event). l ++ []) (events-happen mid.channel.happened)
+      ∙ ap (λ (k : Bool). mid.channel.happened ++ crash_of p k) (sym (falls-end old.channel.stage e runs ∙ stays)))
+
+  pub call-falls : (p : Address) (old mid : Driven N S) (e : Error) → is_end e ≡ true → has_ended old.channel.stage ≡ false
+      → Makes log failed meaning group old [] (Some e) mid → Turns log failed meaning group p old (quiet mid) (map Happens mid.channel.happened ++ Happens (Crashed p) ∷ [])
+  call-falls p old mid e ends runs m =
+      turn-of p old mid (Some e) (map Happens mid.channel.happened ++ Happens (Crashed p) ∷ []) m
+      (events-then (map Happens mid.channel.happened) (Happens (Crashed p) ∷ []) ∙ ap (λ (l : List Event). l ++ Crashed p ∷ []) (events-happen mid.channel.happened)
+      ∙ ap (λ (k : Bool). mid.channel.happened ++ crash_of p k) (sym (falls-end old.channel.stage e runs ∙ ends)))
