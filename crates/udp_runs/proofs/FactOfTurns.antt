@@ -1,5 +1,7 @@
 -- Turns of a process: calls of its runner, and what is told by them.
-use Rattle.std.proofs.Common.{◌≡◌, ℕ, Bool, true, false, ◌||◌, Option, None, Some, Result, Ok, Err, List, [], ◌∷◌, ◌++◌, map, refl, sym, ap, ◌∙◌, subst, inl, inr, ◌⊎◌}
+use Rattle.std.proofs.Common.{◌≡◌, ℕ, Bool, true, false, ◌||◌, Option, None, Some, Result, Ok, Err, IfErr, IfOk, OnErr, IsErr, option_map, List, [], ◌∷◌, ◌++◌, map, take, refl, sym, ap, ◌∙◌, subst, inl, inr, ◌⊎◌}
+use Rattle.std.specs.List.{concat}
+use Rattle.std.specs.Result.{result_err}
 use Rattle.std.proofs.lemmas.List.{append-nil, append_assoc}
 use Rattle.std.proofs.lemmas.Option.{same_Some}
 use Rattle.address.specs.Ids.{Address}
@@ -9,16 +11,20 @@ use Rattle.trace_props.specs.declared.event.Event.TheVariants.{Crashed}
 use Rattle.member.specs.declared.error.Error.{Error}
 use Rattle.channel.specs.declared.stage.Stage.{Stage}
 use Rattle.channel.specs.declared.stage.Stage.TheVariants.{Apart, Connected, Ended}
-use Rattle.channel.specs.Channels.{ChannelModel}
+use Rattle.member.specs.declared.input.Input.TheVariants as input
+use Rattle.channel.specs.Channels.{ChannelModel, left_by}
+use Rattle.channel.specs.Calls.{CallsLent}
 use Rattle.channel.specs.Errors.{is_end}
 use Rattle.udp_net.specs.Logs.{Log}
 use Rattle.udp_member.specs.Turns.{Driven}
 use Rattle.udp_member.specs.Rounds.{Rounds, Ticks, SuspectsAndTicks, Suspects, Cuts, Hears}
-use Rattle.deployed_channels.specs.Plays.{falls, crash_of}
-use Rattle.deployed_runners.specs.Runs.{Makes, Round, Take, Drives, Begun, Further, with_channel}
+use Rattle.deployed_channels.specs.Plays.{LeftBy, falls, crash_of}
+use Rattle.deployed_runners.specs.Runs.{Makes, Round, Send, Take, Drives, Begun, Further, with_channel}
 use Rattle.deployed_runners.specs.Systems.{has_ended}
-use Rattle.udp_runs.specs.Nodes.{Turns, all_told}
-use Rattle.udp_runs.specs.Texts.{Line, Happens, Refuses, events_in}
+use Rattle.udp_runs.specs.declared.process.Process.{Process}
+use Rattle.udp_runs.specs.Nodes.{Turns, TakesTurn, all_told}
+use Rattle.udp_runs.specs.Texts.{Line, Happens, Refuses, events_in, texts_of, text_of_line}
+use Rattle.udp_runs.proofs.FactOfTexts.{text-then, cut-some, cut-whole, cut-lines}
 
 -- ---- one list of lines behind the other
 
@@ -48,6 +54,15 @@ pub falls-end : {S : Type 0} (stage : Stage S) (e : Error) → has_ended stage �
 falls-end (Apart s) e runs = refl
 falls-end (Connected m) e runs = refl
 falls-end Ended e runs = absurd (let bad : true ≡ false = runs in cc)
+
+-- what an error leaves
+pub left-so : {S A : Type 0} (old new : ChannelModel S) (result : Result A Error) → IfErr result (λ e. new ≡ left_by e old) → LeftBy (result_err result) old new
+left-so old new (Ok x) left = tt
+left-so old new (Err e) left = left
+
+left-of : {S A B : Type 0} (old new : ChannelModel S) (result : Result A (B × Error)) → IfErr result (λ r. new ≡ left_by r.1 old) → LeftBy (option_map (λ r. r.1) (result_err result)) old new
+left-of old new (Ok x) left = tt
+left-of old new (Err e) left = left
 
 module _ {N S : Type 0} (log : N → Option Log) (failed : N → ℕ) (meaning : Meaning S) (group : List ℕ) where
   abbrev Drive : Driven N S → List Event → Bool → Driven N S → Type 0
@@ -183,3 +198,65 @@ module _ {N S : Type 0} (log : N → Option Log) (failed : N → ℕ) (meaning :
       turn-of p old mid (Some e) (map Happens mid.channel.happened ++ Happens (Crashed p) ∷ []) m
       (events-then (map Happens mid.channel.happened) (Happens (Crashed p) ∷ []) ∙ ap (λ (l : List Event). l ++ Crashed p ∷ []) (events-happen mid.channel.happened)
       ∙ ap (λ (k : Bool). mid.channel.happened ++ crash_of p k) (sym (falls-end old.channel.stage e runs ∙ ends)))
+
+  -- a message is sent, or refused
+  pub sent-so : {A B : Type 0} (r : Driven N S) (payload : List ℕ) (channel : ChannelModel S) (result : Result A (B × Error)) (answer : Option Error)
+      → answer ≡ option_map (λ r. r.1) (result_err result) → CallsLent meaning input.Send payload r.channel (option_map (λ r. r.1) (result_err result)) channel
+      → IfErr result (λ e. channel ≡ left_by e.1 r.channel) → Makes log failed meaning group r [] answer (with_channel r channel)
+  sent-so r payload channel result answer same calls left =
+      subst (λ (o : Option Error). Makes log failed meaning group r [] o (with_channel r channel)) (sym same)
+      (Send payload (option_map (λ e. e.1) (result_err result)) channel calls (left-of r.channel channel result left))
+
+  -- ---- what a process does by them, and what is said
+
+  -- nothing, where all is told
+  pub turn-stays : (p : Address) (old : Driven N S) → old.channel.happened ≡ [] → Turns log failed meaning group p old old []
+  turn-stays p old told = record { taken = []; fell = false; drives = Begun; told = told; says = refl }
+
+  module _ {A E : Type 0} (old new : Process N S) (text text' : List ℕ) where
+    abbrev Takes : Result A E → Type 0
+    Takes result = TakesTurn log failed meaning group old new text text' result
+
+    pub takes-so : (done : A) (r : Driven N S) (lines : List Line) → new.runner ≡ r → Turns log failed meaning group old.address old.runner r lines → text' ≡ text ++ concat (texts_of lines)
+        → Takes (Ok done)
+    takes-so done r lines same t said = (lines, subst (λ (d : Driven N S). Turns log failed meaning group old.address old.runner d lines) (sym same) t, said)
+
+    pub takes-cut : (result : Result A E) (r : Driven N S) (lines : List Line) → IsErr result → Turns log failed meaning group old.address old.runner r lines
+        → (count : ℕ) × (text' ≡ text ++ concat (take count (texts_of lines))) → Takes result
+    takes-cut result r lines is t cut = cut-lines text text' result is (lines, (r, t), cut)
+
+    -- a round, told in part
+    pub round-cut : (result : Result A E) (mid : Driven N S) (failure : Option Error) → IsErr result → has_ended old.runner.channel.stage ≡ false
+        → Rounds log failed meaning old.runner failure mid → (count : ℕ) × (text' ≡ text ++ concat (take count (texts_of (map Happens mid.channel.happened)))) → Takes result
+    round-cut result mid None is runs r cut =
+        takes-cut result (quiet mid) (map Happens mid.channel.happened) is (round-goes old.address old.runner mid None refl r) cut
+    round-cut result mid (Some e) is runs r cut =
+        takes-cut result (quiet mid) (map Happens mid.channel.happened ++ Happens (Crashed old.address) ∷ []) is (round-falls old.address old.runner mid (Some e) e runs refl r)
+        (cut-some text text' (map Happens mid.channel.happened) (Happens (Crashed old.address) ∷ []) cut)
+
+    -- a call, told in part
+    pub call-cut : (result : Result A E) (mid : Driven N S) (failure : Option Error) → IsErr result → has_ended old.runner.channel.stage ≡ false
+        → Makes log failed meaning group old.runner [] failure mid → (count : ℕ) × (text' ≡ text ++ concat (take count (texts_of (map Happens mid.channel.happened)))) → Takes result
+    call-cut result mid None is runs m cut =
+        takes-cut result (quiet mid) (map Happens mid.channel.happened) is
+        (turn-of old.address old.runner mid None (map Happens mid.channel.happened) m
+        (events-happen mid.channel.happened ∙ sym (append-nil mid.channel.happened) ∙ ap (λ (k : Bool). mid.channel.happened ++ crash_of old.address k) (sym (falls-none old.runner.channel.stage)))) cut
+    call-cut result mid (Some e) is runs m cut = by (is_end e) refl
+      where
+        by : (b : Bool) → is_end e ≡ b → Takes result
+        by true ends =
+            takes-cut result (quiet mid) (map Happens mid.channel.happened ++ Happens (Crashed old.address) ∷ []) is (call-falls old.address old.runner mid e ends runs m)
+            (cut-some text text' (map Happens mid.channel.happened) (Happens (Crashed old.address) ∷ []) cut)
+        by false stays =
+            takes-cut result (quiet mid) (map Happens mid.channel.happened ++ Refuses 0 0 ∷ []) is (call-refused old.address old.runner mid e 0 0 stays runs m)
+            (cut-some text text' (map Happens mid.channel.happened) (Refuses 0 0 ∷ []) cut)
+
+    -- lines, and then one more, or not for want of memory
+    pub ends-by : (mid : List ℕ) (r : Driven N S) (lines : List Line) (last : Line) (result : Result A E) → new.runner ≡ r
+        → Turns log failed meaning group old.address old.runner r (lines ++ last ∷ []) → mid ≡ text ++ concat (texts_of lines) → IfOk result (λ x. text' ≡ mid ++ text_of_line last)
+        → OnErr result (text' ≡ mid) → Takes result
+    ends-by mid r lines last (Ok x) same t said ok err =
+        takes-so x r (lines ++ last ∷ []) same t
+        (text-then text mid text' lines (last ∷ []) said (ok ∙ ap (λ (l : List ℕ). mid ++ l) (sym (append-nil (text_of_line last)))))
+    ends-by mid r lines last (Err e) same t said ok err =
+        takes-cut (Err e) r (lines ++ last ∷ []) tt t (cut-whole text text' lines (last ∷ []) (err ∙ said))

@@ -3,6 +3,7 @@
 ghost use Rattle.std.specs.Prelude.{◌≡◌, ◌++◌, ◌∷◌, [], ℕ, List, true, false, map, take, IfOk, OnOk, OnErr};
 ghost use Rattle.std.specs.List.{concat};
 ghost use Rattle.std.specs.Option.{option_map_or};
+ghost use Rattle.channel.specs.Errors.{is_end};
 ghost use Rattle.channel.specs.Channels.{receiver_in};
 ghost use Rattle.channel.specs.declared.stage.Stage.TheVariants.{Ended};
 ghost use Rattle.trace_props.specs.declared.event.Event.TheVariants.{Crashed};
@@ -84,6 +85,13 @@ pub(crate) fn append_state_of<C: Application>(
     }
 }
 
+// Whether a channel has ended that is answered so.
+fn is_end(error: &Error) -> bool
+    ensures { result ≡ is_end error.now }
+{
+    matches!(error, Error::Refused(Refusal::Memory | Refusal::Closed))
+}
+
 impl<N: Net, C: Application> Process<N, C> {
     // Does the call of a line, in the group of this name; a member that leaves has one round more, by which its last packets go out. Answers whether it runs on: not where
     // it has left, and not where it was refused memory, by which it has crashed.
@@ -103,7 +111,7 @@ impl<N: Net, C: Application> Process<N, C> {
         self.tell(text)?;
         match answer {
             Ok(()) => self.goes_on(call, text),
-            Err(Error::Refused(Refusal::Memory | Refusal::Closed)) => self.end_by_crash(text),
+            Err(error) if is_end(&error) => self.end_by_crash(text),
             Err(error) => {
                 append_refusal(text, line, error.number())?;
                 Ok(self.runs())
@@ -148,12 +156,14 @@ impl<N: Net, C: Application> Process<N, C> {
         ensures address { self.new.address ≡ self.old.address }
         ensures runs { IfOk result (λ runs_on. runs_on ≡ true → has_ended self.new.runner.channel.stage ≡ false) }
     {
-        if !matches!(call, Call::Leave) {
-            return Ok(self.runs());
+        match call {
+            Call::Leave => {
+                let _ended = self.runner.round();
+                self.tell(text)?;
+                Ok(false)
+            }
+            _ => Ok(self.runs()),
         }
-        let _ended = self.runner.round();
-        self.tell(text)?;
-        Ok(false)
     }
 
     // Appends what happened.
