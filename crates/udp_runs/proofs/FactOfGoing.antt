@@ -58,9 +58,9 @@ module _ {N S : Type 0} (log : N → Option Log) (failed : N → ℕ) (meaning :
 
   -- ---- nothing is done, or refused
 
-  pub still : {A E : Type 0} (old new : NodeState N S) (given given' : Option (List (Gone N))) (text text' : List ℕ) (done : A) → new ≡ old → given' ≡ given → text' ≡ text
-      → Goes old new given given' text text' (Ok {A = A} {E = E} done)
-  still old new given given' text text' done same gives said states k here gone lines x =
+  pub still : (A E : Type 0) (old new : NodeState N S) (given given' : Option (List (Gone N))) (text text' : List ℕ) (done : A) → new ≡ old → given' ≡ given → text' ≡ text
+      → Goes old new given given' text text' (Ok {T = A} {E = E} done)
+  still A E old new given given' text text' done same gives said states k here gone lines x =
       ([], ([], gives-as given given' gives,
       subst (λ (n : NodeState N S). Plays log failed meaning group (slice_set states k n) (gone ++ []) (lines ++ [])) (sym same)
       (still-plays states k old gone lines [] here (subst (λ (l : List Line). Plays log failed meaning group states gone l) (sym (append-nil lines)) x))), none-more text text' said)
@@ -77,10 +77,10 @@ module _ {N S : Type 0} (log : N → Option Log) (failed : N → ℕ) (meaning :
 
   -- ---- a turn of the process
 
-  module _ {A B E F : Type 0} (old new : NodeState N S) (q now : Process N S) (process : old.process ≡ Some q) (given given' : Option (List (Gone N))) (text text' : List ℕ) where
+  module _ (A B E F : Type 0) (old new : NodeState N S) (q now : Process N S) (process : old.process ≡ Some q) (given given' : Option (List (Gone N))) (text text' : List ℕ) where
     -- it runs on
     pub turn-on : (b : B) (done : A) → new ≡ with_process old (Some now) → now.address ≡ q.address → has_ended now.runner.channel.stage ≡ false → given' ≡ given
-        → TakesTurn log failed meaning group q now text text' (Ok {A = B} {E = F} b) → Goes old new given given' text text' (Ok {A = A} {E = E} done)
+        → TakesTurn log failed meaning group q now text text' (Ok {T = B} {E = F} b) → Goes old new given given' text text' (Ok {T = A} {E = E} done)
     turn-on b done is same on gives t states k here gone lines x =
         let as_now : record { address = q.address; runner = now.runner } ≡ now = ap (λ (a : Address). record { address = a; runner = now.runner }) (sym same) in
         (t.0, ([], gives-as given given' gives,
@@ -90,7 +90,7 @@ module _ {N S : Type 0} (log : N → Option Log) (failed : N → ℕ) (meaning :
 
     -- it is let go
     pub turn-off : (b : B) (done : A) → new ≡ with_process old None → now.address ≡ q.address → GivesBack given (net_of now ∷ []) given'
-        → TakesTurn log failed meaning group q now text text' (Ok {A = B} {E = F} b) → Goes old new given given' text text' (Ok {A = A} {E = E} done)
+        → TakesTurn log failed meaning group q now text text' (Ok {T = B} {E = F} b) → Goes old new given given' text text' (Ok {T = A} {E = E} done)
     turn-off b done is same gives t states k here gone lines x =
         (t.0, (record { by = q.address; net = now.runner.net } ∷ [],
         subst (λ (a : Address). GivesBack given (record { by = a; net = now.runner.net } ∷ []) given') same gives,
@@ -98,7 +98,7 @@ module _ {N S : Type 0} (log : N → Option Log) (failed : N → ℕ) (meaning :
         (plays-ended log failed meaning group states gone lines x k old here q process now.runner t.0 t.1)), t.2)
 
     -- memory was refused as it was said
-    pub turn-cut : (f : F) (e : E) → TakesTurn log failed meaning group q now text text' (Err {A = B} {E = F} f) → Goes old new given given' text text' (Err {A = A} {E = E} e)
+    pub turn-cut : (f : F) (e : E) → TakesTurn log failed meaning group q now text text' (Err {T = B} {E = F} f) → Goes old new given given' text text' (Err {T = A} {E = E} e)
     turn-cut f e t states k here gone lines x =
         (t.0, turn-played log failed meaning group states gone lines x k old here q process t.1.0 t.0 t.1.1, t.2)
 
