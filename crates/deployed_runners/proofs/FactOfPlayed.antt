@@ -391,3 +391,11 @@ module _ {N S : Type 0} (log : N → Option Log) (failed : N → ℕ) (meaning :
 pub played-are : {N S : Type 0} (log : N → Option Log) (failed : N → ℕ) (meaning : Meaning S) → RunnersAreSynchronous meaning → PlayedAreHistories log failed meaning
 played-are log failed meaning law group at gone events played =
     is-history log failed meaning group law at gone events (keeps log failed meaning group at gone events played (new_member meaning group) (is-new meaning group))
+
+-- a runner that there is has an address, is ready, and all that its channel told is taken
+pub runner-is : {N S : Type 0} (log : N → Option Log) (failed : N → ℕ) (meaning : Meaning S) (group : List ℕ) (at : Address → Option (Driven N S)) (gone : List (Gone N)) (events : List Event)
+    → Played log failed meaning group at gone events → (p : Address) (r : Driven N S) → at p ≡ Some r
+    → IsAddress r.channel.address × IsReady meaning r.channel.stage × (r.channel.happened ≡ [])
+runner-is log failed meaning group at gone events played p r there =
+    let x = (keeps log failed meaning group at gone events played (new_member meaning group) (is-new meaning group)).runners p r there in
+    (subst IsAddress (sym x.address) x.real, x.ready, x.told)

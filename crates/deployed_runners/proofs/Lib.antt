@@ -7,3 +7,4 @@ pub mod NewMembers
 pub mod ItemsOfCalls
 pub mod FactOfOrders
 pub mod FactOfPlayed
+pub mod FactOfStarts

@@ -1,11 +1,12 @@
 -- Processes of several addresses, each with a runner: what one hand does that starts them, drives them one at a time, and lets them go.
 use Rattle.std.specs.Prelude.{◌≡◌, ℕ, Bool, true, false, List, [], ◌∷◌, ◌++◌, slice_get, Option, None, Some, ◌⊎◌, if◌then◌else◌}
+use Rattle.std.specs.List.{list_any}
 use Rattle.std.specs.Option.{ForSome}
 use Rattle.address.specs.Ids.{Address, IsAddress, same_address}
 use Rattle.state_transfer.specs.Meanings.{Meaning}
 use Rattle.trace_props.specs.declared.event.Event.{Event}
 use Rattle.trace_props.specs.declared.event.Event.TheVariants.{Started, Crashed}
-use Rattle.trace_props.specs.Observed.{has_started}
+use Rattle.trace_props.specs.Observed.{has_started, is_start}
 use Rattle.trace_props.specs.Synchrony.{IsVirtuallySynchronous}
 use Rattle.channel.specs.declared.stage.Stage.{Stage}
 use Rattle.channel.specs.declared.stage.Stage.TheVariants.{Apart, Connected, Ended}
@@ -73,3 +74,9 @@ pub record IsHistoryOf {N S : Type 0} (log : N → Option Log) (meaning : Meanin
 abbrev pub PlayedAreHistories : {N S : Type 0} → (N → Option Log) → (N → ℕ) → Meaning S → Type 0
 PlayedAreHistories {N} {S} log failed meaning = (group : List ℕ) (at : Address → Option (Driven N S)) (gone : List (Gone N)) (events : List Event)
     → Played log failed meaning group at gone events → IsHistoryOf log meaning group at gone events
+
+-- what is taken of what their channels tell is no start
+abbrev pub PlayedTellNoStart : {N S : Type 0} → (N → Option Log) → (N → ℕ) → Meaning S → Type 0
+PlayedTellNoStart {N} {S} log failed meaning = (group : List ℕ) (at : Address → Option (Driven N S)) (gone : List (Gone N)) (events : List Event) (p : Address) (old : Driven N S)
+    (taken : List Event) (fell : Bool) (new : Driven N S) → Played log failed meaning group at gone events → at p ≡ Some old → Drives log failed meaning group old taken fell new
+    → new.channel.happened ≡ [] → list_any is_start taken ≡ false

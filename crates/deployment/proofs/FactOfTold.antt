@@ -55,7 +55,7 @@ module _ {S : Type 0} (meaning : Meaning S) (group : List ℕ) where
   replies-told c (MergeHint q) events end r = same-told events [] r.0 refl
   replies-told c Leave events end r = same-told events _ r.0 refl
 
-  reply-told : (o : Option (Core S)) (input : Input) (events : List Event) (end : Option (Core S)) → IsSomeAnd o (λ c. Replies c input events end) → but_starts_and_crashes events ≡ events
+  pub reply-told : (o : Option (Core S)) (input : Input) (events : List Event) (end : Option (Core S)) → IsSomeAnd o (λ c. Replies c input events end) → but_starts_and_crashes events ≡ events
   reply-told None input events end r = absurd r
   reply-told (Some c) input events end r = replies-told c input events end r
 

@@ -1,5 +1,7 @@
+ghost use Rattle.std.specs.Prelude.{None};
+
 use crate::{Wire, Wires};
-use address::Node;
+use address::{Address, Node};
 use std::cell::RefCell;
 use std::time::Duration;
 use udp_net::BindError;
@@ -18,6 +20,8 @@ pub struct Hub<'a> {
 impl<'a> Machine for Hub<'a> {
     type Net = Wire<'a>;
 
+    ghost gone = { λ _. None };
+
     fn net(&mut self, node: Node) -> Result<Wire<'a>, BindError> {
         if let Ok(wires) = self.wires.try_borrow() {
             if wires.taken == Some(node) {
@@ -26,6 +30,8 @@ impl<'a> Machine for Hub<'a> {
         }
         Ok(Wire::new(self.wires, node))
     }
+
+    fn close(&mut self, _member: Address, _net: Wire<'a>) {}
 
     fn now(&mut self) -> Duration {
         match self.wires.try_borrow_mut() {

@@ -181,6 +181,13 @@ impl<N: Net, R: Receiver> Runner<N, R> {
         &mut self.net
     }
 
+    /// Its net, where it drives its channel no more: what waits in the channel is lost.
+    pub fn into_net(self) -> N
+        ensures { result ≡ self.net }
+    {
+        self.net
+    }
+
     // Offers what waits in the channel to the net.
     fn offer(&mut self)
         ensures offers { Offers N.log N.failed self.old.net self.old.channel self.new.net self.new.channel }

@@ -1,10 +1,18 @@
 //! The calls of a channel that a script asks for.
 
+ghost use Rattle.std.specs.Prelude.{◌≡◌, ℕ, List, [], IfOk, IfErr, OnOk};
+ghost use Rattle.std.specs.Result.{result_err};
+ghost use Rattle.channel.specs.declared.stage.Stage.TheVariants.{Ended};
+ghost use Rattle.deployed_runners.specs.Runs.{Makes};
+ghost use Rattle.udp_runs.specs.declared.calls.Call.TheVariants as calls;
+
 use address::{Address, Node};
 use application::Application;
-use channel::{Channel, Error};
+use channel::Error;
 use std::alloc::{AllocError, Global};
 use trace_props::Bytes;
+use udp_member::Runner;
+use udp_net::Net;
 use world_model::WorldEvent;
 
 /// A call of a channel.
@@ -41,32 +49,39 @@ pub(crate) fn call_of(event: &WorldEvent) -> Option<(Node, Call<'_>)> {
 }
 
 // Sends a payload by a channel. The outer error says that memory was refused before that.
-fn send<C: Application>(
+fn send<N: Net, C: Application>(
     alloc: Global,
-    channel: &mut Channel<C>,
+    runner: &mut Runner<N, C>,
     payload: &Bytes,
-) -> Result<Result<(), Error>, AllocError> {
+) -> Result<Result<(), Error>, AllocError>
+    ensures called { (group : List ℕ) → IfOk result (λ answer. Makes N.log N.failed C.meaning group runner.old [] (result_err answer) runner.new) }
+    ensures uncalled { IfErr result (λ _. runner.new ≡ runner.old) }
+{
     let payload = Vec::from_slice(alloc, payload.as_slice())?;
-    match channel.send(payload) {
+    match runner.channel().send(payload) {
         Ok(_) => Ok(Ok(())),
         Err((_, error)) => Ok(Err(error)),
     }
 }
 
-// Does a call of a channel, in the group of this name. The outer error says that memory was refused before that.
-pub(crate) fn do_call<C: Application>(
+// Does a call of the channel of a runner, in the group of this name. The outer error says that memory was refused before that.
+pub(crate) fn do_call<N: Net, C: Application>(
     alloc: Global,
-    channel: &mut Channel<C>,
+    runner: &mut Runner<N, C>,
     group: &[u8],
     call: &Call<'_>,
-) -> Result<Result<(), Error>, AllocError> {
+) -> Result<Result<(), Error>, AllocError>
+    ensures called { IfOk result (λ answer. Makes N.log N.failed C.meaning group.now runner.old [] (result_err answer) runner.new) }
+    ensures uncalled { IfErr result (λ _. runner.new ≡ runner.old) }
+    ensures left { call.now ≡ calls.Leave → IfOk result (λ answer. OnOk answer (runner.new.channel.stage ≡ Ended)) }
+{
     match call {
-        Call::Create => Ok(channel.connect_new(group)),
-        Call::Join(contact) => Ok(channel.connect_to(group, *contact)),
-        Call::Send(payload) => send(alloc, channel, payload),
-        Call::Tick => Ok(channel.tick()),
-        Call::Suspect(address) => Ok(channel.suspect(*address)),
-        Call::MergeHint(address) => Ok(channel.merge_hint(*address)),
-        Call::Leave => Ok(channel.disconnect()),
+        Call::Create => Ok(runner.channel().connect_new(group)),
+        Call::Join(contact) => Ok(runner.channel().connect_to(group, *contact)),
+        Call::Send(payload) => send(alloc, runner, payload),
+        Call::Tick => Ok(runner.channel().tick()),
+        Call::Suspect(address) => Ok(runner.channel().suspect(*address)),
+        Call::MergeHint(address) => Ok(runner.channel().merge_hint(*address)),
+        Call::Leave => Ok(runner.channel().disconnect()),
     }
 }

@@ -12,6 +12,7 @@ mod node_state;
 mod nodes;
 mod one_node;
 mod outbox;
+mod process;
 mod script;
 mod speaking;
 mod telling;

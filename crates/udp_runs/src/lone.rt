@@ -3,7 +3,7 @@
 ghost use Rattle.udp_runs.specs.Ends.{TakesMore};
 
 use crate::ends::{Cut, settle};
-use crate::node_state::append_state_of;
+use crate::process::append_state_of;
 use crate::outbox::{Outbox, OutboxError};
 use crate::telling::Teller;
 use crate::{Lines, LinesError, Machine, Manner, Tally, Trouble};
@@ -94,6 +94,11 @@ impl<'a, N: Net, C: Application> Lone<'a, N, C> {
         tally.unsent = self.member.net().unsent();
         tally.has_ended = self.has_ended;
         tally
+    }
+
+    /// Its net, where it is no more used.
+    pub(crate) fn into_net(self) -> N {
+        self.member.into_net()
     }
 
     // Makes a group, or asks the contact to be let into one.
@@ -249,7 +254,8 @@ impl<'a, N: Net, C: Application> Lone<'a, N, C> {
         if self.manner.speaks {
             return Ok(());
         }
-        let appended = append_state_of(&mut self.text, self.member.channel());
+        let channel = self.member.channel();
+        let appended = append_state_of(&mut self.text, &channel.address(), channel);
         show(writer, &mut self.text)?;
         appended?;
         Ok(())

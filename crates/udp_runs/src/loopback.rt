@@ -1,9 +1,9 @@
-ghost use Rattle.std.specs.Prelude.{◌≡◌, Some};
+ghost use Rattle.std.specs.Prelude.{◌≡◌, Some, None};
 ghost use Rattle.std.specs.Result.{result_err};
 ghost use Rattle.udp_runs.specs.Loopbacks.{nothing_asked, unbound_after};
 
 use crate::{Machine, Tally};
-use address::Node;
+use address::{Address, Node};
 use std::alloc::Global;
 use std::marker::Model;
 use std::time::{Clock, Duration};
@@ -66,6 +66,8 @@ impl<'a, R> Loopback<'a, R> {
 impl<'a, R: std::net::Net + Clock> Machine for Loopback<'a, R> {
     type Net = SocketNet;
 
+    ghost gone = { λ _. None };
+
     fn net(&mut self, node: Node) -> Result<SocketNet, BindError>
         ensures { self.new ≡ record self.old { is_unbound = unbound_after self.old.is_unbound (result_err result) } }
     {
@@ -74,6 +76,12 @@ impl<'a, R: std::net::Net + Clock> Machine for Loopback<'a, R> {
             self.is_unbound = true;
         }
         bound
+    }
+
+    // Its socket is closed.
+    fn close(&mut self, _member: Address, _net: SocketNet)
+        ensures { self.new ≡ self.old }
+    {
     }
 
     fn now(&mut self) -> Duration

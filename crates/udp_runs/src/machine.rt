@@ -1,5 +1,10 @@
+ghost use Rattle.std.specs.Prelude.{◌≡◌, ◌∷◌, [], List, Option, IfOk};
+ghost use Rattle.std.specs.Option.{ForSome};
+ghost use Rattle.deployed_runners.specs.Systems.{Gone};
+ghost use Rattle.udp_runs.specs.Machines.{GivesBack};
+
 use crate::Tally;
-use address::Node;
+use address::{Address, Node};
 use std::time::Duration;
 use udp_net::{BindError, Net};
 
@@ -8,13 +13,24 @@ pub trait Machine {
     /// What carries the datagrams of one node.
     type Net: Net;
 
-    /// The net of a node, as long as it is kept. Refused with 50 where there is none for the node, with 51 where its socket cannot be bound, as where its port
-    /// is taken, and with 7 where memory was refused.
-    fn net(&mut self, node: Node) -> Result<Self::Net, BindError>;
+    /// The nets that were given back to it, each with the member that had it; none, where it keeps no list of them.
+    ghost gone: { Self → Option (List (Gone Self.Net)) };
+
+    /// The net of a node, as long as it is kept; nothing happened there yet. Refused with 50 where there is none for the node, with 51 where its socket cannot be bound, as
+    /// where its port is taken, and with 7 where memory was refused.
+    fn net(&mut self, node: Node) -> Result<Self::Net, BindError>
+        ensures fresh { IfOk result (λ net. ForSome (Self.Net.log net) (λ l. l ≡ [])) }
+        ensures gone { gone self.new ≡ gone self.old };
+
+    /// Takes back the net of a member that is gone.
+    fn close(&mut self, member: Address, net: Self::Net)
+        ensures { GivesBack (gone self.old) (record { by = member; net = net } ∷ []) (gone self.new) };
 
     /// The time since some moment; it never goes back. Where there is no clock, the greatest duration, so that nothing waits.
-    fn now(&mut self) -> Duration;
+    fn now(&mut self) -> Duration
+        ensures { gone self.new ≡ gone self.old };
 
     /// Is told what happened at a node that ran by itself.
-    fn tell(&mut self, tally: &Tally);
+    fn tell(&mut self, tally: &Tally)
+        ensures { gone self.new ≡ gone self.old };
 }

@@ -1,81 +1,56 @@
-//! A node, and the member that runs there.
+//! A node, and the process that runs there.
 
-use crate::calls::{Call, do_call};
+ghost use Rattle.std.specs.Prelude.{◌≡◌, ◌++◌, ℕ, List, [], Option, None, Some, map, slice_get, slice_set, option_to_list, IfOk, OnOk, OnErr};
+ghost use Rattle.std.specs.Option.{ForSome, option_map_or};
+ghost use Rattle.deployed_runners.specs.Systems.{Gone};
+ghost use Rattle.udp_runs.specs.Machines.{GivesBack};
+ghost use Rattle.udp_runs.specs.Nodes.{GoesOn, GoesOnAt, IsFirst, IsNext};
+ghost use Rattle.udp_runs.specs.Scripts.{state_text, net_of};
+
+use crate::Machine;
+use crate::calls::Call;
+use crate::process::{Process, member_at};
 use address::{Address, Node};
-use application::{Application, append_line};
-use channel::{Channel, Error};
+use application::Application;
 use limits::Refusal;
 use std::alloc::{AllocError, Global};
 use trace_props::Event;
-use udp_member::Runner;
 use udp_net::{Net, Settings};
 use vsync_text::{append_event, append_refusal};
 
-/// A node, and the member that runs there. Each call appends to a text what happened by it.
+/// A node, and the process that runs there. Each call appends to a text what happened by it.
 #[derive(Drop)]
 pub(crate) struct NodeState<N: Net, C: Application> {
     node: Node,
     // The address of the member that was started there last.
     last: Option<Address>,
-    member: Option<Runner<N, C>>,
-}
-
-/// The member of an address over a net, not connected yet, which may seek others at the nodes of the settings.
-pub(crate) fn member_at<N: Net, C: Application>(
-    alloc: Global,
-    address: Address,
-    net: N,
-    settings: &Settings,
-) -> Result<Runner<N, C>, AllocError> {
-    let channel = Channel::new(alloc, address, C::opening(alloc)?);
-    let mut nodes = Vec::with_capacity(alloc, settings.nodes().len())?;
-    for place in settings.nodes() {
-        nodes.push(place.node)?;
-    }
-    let silent = u32::from(settings.silent());
-    Runner::new(alloc, net, channel, nodes.as_slice(), silent)
-}
-
-/// Appends the lines of the events of a channel that were not taken yet.
-pub(crate) fn append_events<C: Application>(
-    text: &mut Vec<u8>,
-    channel: &mut Channel<C>,
-) -> Result<(), AllocError> {
-    while let Some(event) = channel.happened() {
-        append_event(text, &event)?;
-    }
-    Ok(())
-}
-
-/// Appends the line of a channel's member, which shows its state, unless it has ended.
-pub(crate) fn append_state_of<C: Application>(
-    text: &mut Vec<u8>,
-    channel: &Channel<C>,
-) -> Result<(), AllocError> {
-    match channel.receiver() {
-        Some(state) => append_line(text, &channel.address(), state),
-        None => Ok(()),
-    }
+    process: Option<Process<N, C>>,
 }
 
 impl<N: Net, C: Application> NodeState<N, C> {
     // A node where no member was started yet.
-    pub(crate) fn new(node: Node) -> NodeState<N, C> {
+    pub(crate) fn new(node: Node) -> NodeState<N, C>
+        ensures { result ≡ record { node = node; last = None; process = None } }
+    {
         NodeState {
             node,
             last: None,
-            member: None,
+            process: None,
         }
     }
 
     // The node.
-    pub(crate) fn node(&self) -> Node {
+    pub(crate) fn node(&self) -> Node
+        ensures { result ≡ self.now.node }
+    {
         self.node
     }
 
     // The address of the next member there. Refused with 5 where one runs, and with 8 after the last incarnation.
-    pub(crate) fn next_address(&self) -> Result<Address, Refusal> {
-        if self.member.is_some() {
+    pub(crate) fn next_address(&self) -> Result<Address, Refusal>
+        ensures { IfOk result (IsNext self.now) }
+    {
+        if self.process.is_some() {
             return Err(Refusal::AlreadyConnected);
         }
         match self.last {
@@ -92,69 +67,96 @@ impl<N: Net, C: Application> NodeState<N, C> {
         net: N,
         settings: &Settings,
         text: &mut Vec<u8>,
-    ) -> Result<(), AllocError> {
+    ) -> Result<(), AllocError>
+        ensures { (group : List ℕ) (given : Option (List (Gone N))) (states : List (NodeState N C)) (k : ℕ) → slice_get states k ≡ Some self.old → IsNext self.old address
+            → IsFirst self.old.node k states → ForSome (N.log net) (λ l. l ≡ [])
+            → GoesOn N.log N.failed C.meaning group states (slice_set states k self.new) given given text.old.items text.new.items result }
+    {
         self.last = Some(address);
         append_event(text, &Event::Started(address))?;
         match member_at(alloc, address, net, settings) {
-            Ok(member) => {
-                self.member = Some(member);
+            Ok(runner) => {
+                self.process = Some(Process { address, runner });
                 Ok(())
             }
-            Err(_) => self.end_by_crash(text),
+            Err(_) => append_event(text, &Event::Crashed(address)),
         }
     }
 
     // Lets the running member crash. Refused with 1 where none was started, and with 6 where none runs any more.
-    pub(crate) fn crash(&mut self, line: u64, text: &mut Vec<u8>) -> Result<(), AllocError> {
-        if self.member.is_none() {
+    pub(crate) fn crash<M: Machine<Net = N>>(
+        &mut self,
+        machine: &mut M,
+        line: u64,
+        text: &mut Vec<u8>,
+    ) -> Result<(), AllocError>
+        ensures { (group : List ℕ) → GoesOnAt N.log N.failed C.meaning group self.old self.new (M.gone machine.old) (M.gone machine.new) text.old.items text.new.items result }
+    {
+        let Some(process) = self.process.take() else {
             return append_refusal(text, line, self.absence().number());
-        }
-        self.end_by_crash(text)
+        };
+        let address = process.address;
+        process.close(machine);
+        append_event(text, &Event::Crashed(address))
     }
 
     // Does the call of a line at the running member, in the group of this name. Refused with 1 where none was started, and with 6 where none runs any more.
-    pub(crate) fn call(
+    pub(crate) fn call<M: Machine<Net = N>>(
         &mut self,
         alloc: Global,
+        machine: &mut M,
         group: &[u8],
         line: u64,
         call: &Call<'_>,
         text: &mut Vec<u8>,
-    ) -> Result<(), AllocError> {
-        let Some(member) = self.member.as_mut() else {
+    ) -> Result<(), AllocError>
+        ensures { GoesOnAt N.log N.failed C.meaning group.now self.old self.new (M.gone machine.old) (M.gone machine.new) text.old.items text.new.items result }
+    {
+        let Some(process) = self.process.as_mut() else {
             return append_refusal(text, line, self.absence().number());
         };
-        let answer = do_call(alloc, member.channel(), group, call)?;
-        append_events(text, member.channel())?;
-        match answer {
-            Ok(()) => self.end_if_left(call, text),
-            Err(Error::Refused(Refusal::Memory)) => self.end_by_crash(text),
-            Err(error) => append_refusal(text, line, error.number()),
+        if !process.call(alloc, group, line, call, text)? {
+            self.close(machine);
         }
+        Ok(())
     }
 
-    // A round of the member, if one runs. It is gone then where it has ended, and has crashed where it was refused memory.
-    pub(crate) fn round(&mut self, text: &mut Vec<u8>) -> Result<(), AllocError> {
-        let Some(member) = self.member.as_mut() else {
+    // A round of the member, if one runs.
+    pub(crate) fn round<M: Machine<Net = N>>(
+        &mut self,
+        machine: &mut M,
+        text: &mut Vec<u8>,
+    ) -> Result<(), AllocError>
+        ensures { (group : List ℕ) → GoesOnAt N.log N.failed C.meaning group self.old self.new (M.gone machine.old) (M.gone machine.new) text.old.items text.new.items result }
+    {
+        let Some(process) = self.process.as_mut() else {
             return Ok(());
         };
-        let answer = member.round();
-        append_events(text, member.channel())?;
-        match answer {
-            Ok(()) => Ok(()),
-            Err(Error::Refused(Refusal::Memory)) => self.end_by_crash(text),
-            Err(_) => {
-                self.member = None;
-                Ok(())
-            }
+        if !process.round(text)? {
+            self.close(machine);
         }
+        Ok(())
     }
 
     // Appends the line of the member, if one runs.
-    pub(crate) fn append_state(&mut self, text: &mut Vec<u8>) -> Result<(), AllocError> {
-        match self.member.as_mut() {
-            Some(member) => append_state_of(text, member.channel()),
+    pub(crate) fn append_state(&mut self, text: &mut Vec<u8>) -> Result<(), AllocError>
+        ensures text { OnOk result (text.new.items ≡ text.old.items ++ option_map_or (state_text C.line_of) self.old.process []) }
+        ensures err { OnErr result (text.new.items ≡ text.old.items) }
+        ensures same { self.new ≡ self.old }
+    {
+        match self.process.as_mut() {
+            Some(process) => process.append_state(text),
             None => Ok(()),
+        }
+    }
+
+    // Lets the process go, if there is one.
+    pub(crate) fn close<M: Machine<Net = N>>(&mut self, machine: &mut M)
+        ensures gone { GivesBack (M.gone machine.old) (map net_of (option_to_list self.old.process)) (M.gone machine.new) }
+        ensures left { self.new ≡ record self.old { process = None } }
+    {
+        if let Some(process) = self.process.take() {
+            process.close(machine);
         }
     }
 
@@ -164,25 +166,6 @@ impl<N: Net, C: Application> NodeState<N, C> {
             Refusal::Closed
         } else {
             Refusal::NotConnected
-        }
-    }
-
-    // A member that left has one round more, by which its last packets go out; then it is gone.
-    fn end_if_left(&mut self, call: &Call<'_>, text: &mut Vec<u8>) -> Result<(), AllocError> {
-        if !matches!(call, Call::Leave) {
-            return Ok(());
-        }
-        self.round(text)?;
-        self.member = None;
-        Ok(())
-    }
-
-    // The member is gone, by a crash.
-    fn end_by_crash(&mut self, text: &mut Vec<u8>) -> Result<(), AllocError> {
-        self.member = None;
-        match self.last {
-            Some(address) => append_event(text, &Event::Crashed(address)),
-            None => Ok(()),
         }
     }
 }

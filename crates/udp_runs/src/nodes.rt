@@ -1,7 +1,11 @@
 //! The nodes of the settings, in one process.
 
-ghost use Rattle.std.specs.Prelude.{ℕ, ◌<◌, vec_len, IfErr, IfSome};
-ghost use Rattle.udp_runs.specs.Scripts.{StopsAt, start_line};
+ghost use Rattle.std.specs.Prelude.{◌≡◌, ◌++◌, ℕ, ◌<◌, List, take, map, vec_len, slice_get, IfErr, IfOk, IfSome, OnOk, OnErr};
+ghost use Rattle.std.specs.List.{concat};
+ghost use Rattle.std.specs.Option.{IsSomeAnd};
+ghost use Rattle.udp_runs.specs.Machines.{GivesBack};
+ghost use Rattle.udp_runs.specs.Nodes.{AreUnused, GoesOn, IsFirst, IsNext, processes_in};
+ghost use Rattle.udp_runs.specs.Scripts.{StopsAt, IsNoNet, net_of, start_line, state_text};
 
 use crate::Machine;
 use crate::calls::{Call, call_of};
@@ -35,7 +39,9 @@ fn sorted(alloc: Global, settings: &Settings) -> Result<Vec<Node>, AllocError> {
 
 impl<N: Net, C: Application> Nodes<N, C> {
     // The nodes that settings list; no member runs.
-    pub(crate) fn new(alloc: Global, settings: &Settings) -> Result<Nodes<N, C>, AllocError> {
+    pub(crate) fn new(alloc: Global, settings: &Settings) -> Result<Nodes<N, C>, AllocError>
+        ensures { IfOk result (λ nodes. AreUnused nodes.node_states.items) }
+    {
         let mut node_states = Vec::with_capacity(alloc, settings.nodes().len())?;
         for node in sorted(alloc, settings)? {
             node_states.push(NodeState::new(node))?;
@@ -51,43 +57,81 @@ impl<N: Net, C: Application> Nodes<N, C> {
         line: &UdpLine,
         text: &mut Vec<u8>,
     ) -> Result<(), Stop>
-        ensures { IfErr result (StopsAt line.now) }
+        ensures goes { GoesOn N.log N.failed C.meaning settings.now.group self.old.node_states.items self.new.node_states.items (M.gone machine.old) (M.gone machine.new) text.old.items text.new.items result }
+        ensures stops { IfErr result (StopsAt line.now) }
+        ensures unchanged { IfErr result (λ stop. IsNoNet stop → text.new.items ≡ text.old.items) }
     {
         match &line.event {
-            UdpEvent::Rounds(count) => self.rounds(*count, text)?,
+            UdpEvent::Rounds(count) => self.rounds(machine, *count, text)?,
             UdpEvent::Node(WorldEvent::Start(node)) => {
                 return self.start(settings, machine, line.number, *node, text);
             }
-            UdpEvent::Node(WorldEvent::Crash(node)) => self.crash(line.number, *node, text)?,
-            UdpEvent::Node(event) => self.call(settings, line.number, event, text)?,
+            UdpEvent::Node(WorldEvent::Crash(node)) => {
+                self.crash(machine, line.number, *node, text)?;
+            }
+            UdpEvent::Node(event) => self.call(settings, machine, line.number, event, text)?,
         }
         Ok(())
     }
 
     // Appends the chat line of each member that runs, by node.
-    pub(crate) fn append_states(&mut self, text: &mut Vec<u8>) -> Result<(), AllocError> {
-        for node_state in self.node_states.as_mut_slice() {
-            node_state.append_state(text)?;
+    pub(crate) fn append_states(&mut self, text: &mut Vec<u8>) -> Result<(), AllocError>
+        ensures text { OnOk result (text.new.items ≡ text.old.items ++ concat (map (state_text C.line_of) (processes_in self.old.node_states.items))) }
+        ensures err { OnErr result ((count : ℕ) × (text.new.items ≡ text.old.items ++ concat (take count (map (state_text C.line_of) (processes_in self.old.node_states.items))))) }
+        ensures same { self.new.node_states.items ≡ self.old.node_states.items }
+    {
+        for index in 0..self.node_states.len() {
+            self.node_states[index].append_state(text)?;
         }
         Ok(())
     }
 
-    // So many rounds of each member that runs, in each of them by node.
-    fn rounds(&mut self, count: u64, text: &mut Vec<u8>) -> Result<(), AllocError> {
+    // Lets each process go, by node.
+    pub(crate) fn close<M: Machine<Net = N>>(&mut self, machine: &mut M)
+        ensures { GivesBack (M.gone machine.old) (map net_of (processes_in self.old.node_states.items)) (M.gone machine.new) }
+    {
+        for index in 0..self.node_states.len() {
+            self.node_states[index].close(machine);
+        }
+    }
+
+    // So many rounds of each member that runs.
+    fn rounds<M: Machine<Net = N>>(
+        &mut self,
+        machine: &mut M,
+        count: u64,
+        text: &mut Vec<u8>,
+    ) -> Result<(), AllocError>
+        ensures { (group : List ℕ) → GoesOn N.log N.failed C.meaning group self.old.node_states.items self.new.node_states.items (M.gone machine.old) (M.gone machine.new) text.old.items text.new.items result }
+    {
         for _ in 0..count {
-            for node_state in self.node_states.as_mut_slice() {
-                node_state.round(text)?;
-            }
+            self.round(machine, text)?;
+        }
+        Ok(())
+    }
+
+    // A round of each member that runs, by node.
+    fn round<M: Machine<Net = N>>(
+        &mut self,
+        machine: &mut M,
+        text: &mut Vec<u8>,
+    ) -> Result<(), AllocError>
+        ensures { (group : List ℕ) → GoesOn N.log N.failed C.meaning group self.old.node_states.items self.new.node_states.items (M.gone machine.old) (M.gone machine.new) text.old.items text.new.items result }
+    {
+        for index in 0..self.node_states.len() {
+            self.node_states[index].round(machine, text)?;
         }
         Ok(())
     }
 
     // The index of a node; `None` for one that the settings do not list.
     fn index_of(&self, node: Node) -> Option<usize>
-        ensures { IfSome result (λ index. index < vec_len self.now.node_states) }
+        ensures within { IfSome result (λ index. index < vec_len self.now.node_states) }
+        ensures node { IfSome result (λ index. IsSomeAnd (slice_get self.now.node_states.items index) (λ x. x.node ≡ node)) }
+        ensures first { IfSome result (λ index. IsFirst node index self.now.node_states.items) }
     {
-        for (index, node_state) in self.node_states.as_slice().iter().enumerate() {
-            if node_state.node() == node {
+        for index in 0..self.node_states.len() {
+            if self.node_states[index].node() == node {
                 return Some(index);
             }
         }
@@ -103,7 +147,9 @@ impl<N: Net, C: Application> Nodes<N, C> {
         node: Node,
         text: &mut Vec<u8>,
     ) -> Result<(), Stop>
-        ensures { IfErr result (StopsAt (start_line line node)) }
+        ensures goes { GoesOn N.log N.failed C.meaning settings.now.group self.old.node_states.items self.new.node_states.items (M.gone machine.old) (M.gone machine.new) text.old.items text.new.items result }
+        ensures stops { IfErr result (StopsAt (start_line line node)) }
+        ensures unchanged { IfErr result (λ stop. IsNoNet stop → text.new.items ≡ text.old.items) }
     {
         let Some(index) = self.index_of(node) else {
             append_refusal(text, line, BindError::Config.number())?;
@@ -128,8 +174,11 @@ impl<N: Net, C: Application> Nodes<N, C> {
         address: Address,
         text: &mut Vec<u8>,
     ) -> Result<(), Stop>
-        requires { index < vec_len self.old.node_states }
-        ensures { (node : ℕ) → IfErr result (StopsAt (start_line line node)) }
+        requires within { index < vec_len self.old.node_states }
+        ensures goes { IsSomeAnd (slice_get self.old.node_states.items index) (λ x. IsNext x address × IsFirst x.node index self.old.node_states.items)
+            → GoesOn N.log N.failed C.meaning settings.now.group self.old.node_states.items self.new.node_states.items (M.gone machine.old) (M.gone machine.new) text.old.items text.new.items result }
+        ensures stops { (node : ℕ) → IfErr result (StopsAt (start_line line node)) }
+        ensures unchanged { IfErr result (λ stop. IsNoNet stop → text.new.items ≡ text.old.items) }
     {
         match machine.net(address.node()) {
             Ok(net) => {
@@ -141,39 +190,54 @@ impl<N: Net, C: Application> Nodes<N, C> {
     }
 
     // Lets the member of a node crash. Refused with 1 where no member was started there.
-    fn crash(&mut self, line: u64, node: Node, text: &mut Vec<u8>) -> Result<(), AllocError> {
+    fn crash<M: Machine<Net = N>>(
+        &mut self,
+        machine: &mut M,
+        line: u64,
+        node: Node,
+        text: &mut Vec<u8>,
+    ) -> Result<(), AllocError>
+        ensures { (group : List ℕ) → GoesOn N.log N.failed C.meaning group self.old.node_states.items self.new.node_states.items (M.gone machine.old) (M.gone machine.new) text.old.items text.new.items result }
+    {
         match self.index_of(node) {
-            Some(index) => self.node_states[index].crash(line, text),
+            Some(index) => self.node_states[index].crash(machine, line, text),
             None => append_refusal(text, line, Refusal::NotConnected.number()),
         }
     }
 
     // Does the call that an event of a line is. One that is none is left to the net, as a delivery.
-    fn call(
+    fn call<M: Machine<Net = N>>(
         &mut self,
         settings: &Settings,
+        machine: &mut M,
         line: u64,
         event: &WorldEvent,
         text: &mut Vec<u8>,
-    ) -> Result<(), AllocError> {
+    ) -> Result<(), AllocError>
+        ensures { GoesOn N.log N.failed C.meaning settings.now.group self.old.node_states.items self.new.node_states.items (M.gone machine.old) (M.gone machine.new) text.old.items text.new.items result }
+    {
         match call_of(event) {
-            Some((node, call)) => self.call_at(settings, line, node, &call, text),
+            Some((node, call)) => self.call_at(settings, machine, line, node, &call, text),
             None => Ok(()),
         }
     }
 
     // Does a call at the member of a node. Refused with 1 where no member was started there.
-    fn call_at(
+    fn call_at<M: Machine<Net = N>>(
         &mut self,
         settings: &Settings,
+        machine: &mut M,
         line: u64,
         node: Node,
         call: &Call<'_>,
         text: &mut Vec<u8>,
-    ) -> Result<(), AllocError> {
+    ) -> Result<(), AllocError>
+        ensures { GoesOn N.log N.failed C.meaning settings.now.group self.old.node_states.items self.new.node_states.items (M.gone machine.old) (M.gone machine.new) text.old.items text.new.items result }
+    {
         match self.index_of(node) {
             Some(index) => self.node_states[index].call(
                 self.alloc,
+                machine,
                 settings.group().as_slice(),
                 line,
                 call,

@@ -7,7 +7,7 @@ ghost use Rattle.udp_runs.specs.Members.{IsListedText, RunsMember, StartsUp, Wri
 
 use crate::ends::{Cut, end, end_without_net, settle};
 use crate::lone::Lone;
-use crate::node_state::member_at;
+use crate::process::member_at;
 use crate::{Lines, Machine, Manner};
 use address::Address;
 use application::Application;
@@ -37,6 +37,7 @@ fn go_on<C: Application, L: Lines, M: Machine, W: Write>(
     let mut lone = Lone::new(alloc, member, manner, plan.send);
     let played = lone.play(settings, plan, lines, machine, writer);
     machine.tell(&lone.tally());
+    machine.close(plan.address, lone.into_net());
     played
 }
 

@@ -1,15 +1,22 @@
 //! Nodes over datagrams in one process, by a script.
 
-ghost use Rattle.std.specs.Prelude.{IfOk, IfErr};
+ghost use Rattle.std.specs.Prelude.{◌≡◌, ℕ, List, [], ◌++◌, map, take, IfOk, IfErr, OnOk, OnErr};
+ghost use Rattle.std.specs.List.{concat};
+ghost use Rattle.std.specs.Io.KnownBytes.{Appends};
 ghost use Rattle.commands.specs.Outcomes.{IsAnswer};
-ghost use Rattle.udp_runs.specs.Ends.{TakesMore};
-ghost use Rattle.udp_runs.specs.Scripts.{IsUnreadText, ReadsLines, RunsUdp, StopsAt, StopsIn};
+ghost use Rattle.deployed_runners.specs.Systems.{Gone};
+ghost use Rattle.udp_runs.specs.declared.ends.Cut.TheVariants as cut;
+ghost use Rattle.udp_runs.specs.Nodes.{AreUnused, Plays, processes_in};
+ghost use Rattle.udp_runs.specs.Playing.{GoesOnBy, RunsLines, WritesStates};
+ghost use Rattle.udp_runs.specs.Scripts.{IsUnreadText, ReadsLines, RunsUdp, StopsAt, state_text};
+ghost use Rattle.udp_runs.specs.Texts.{Line};
 
 use crate::Machine;
 use crate::ends::{Cut, Stop, end, end_without_net, settle};
 use crate::nodes::Nodes;
 use application::Application;
 use commands::{Status, Unreadable, end_in_fault, end_in_memory, read_all};
+use deployed_runners::runners_are_synchronous;
 use script_reader::{UdpLine, Unread, read_udp_script};
 use std::alloc::Global;
 use std::io::{Read, Write};
@@ -45,26 +52,36 @@ fn play_line<N: Net, C: Application, M: Machine<Net = N>, W: Write>(
     text: &mut Vec<u8>,
     writer: &mut W,
 ) -> Result<(), Stop>
-    ensures takes { TakesMore (W.contents writer.old) (W.contents writer.new) }
+    ensures goes { (gone : List (Gone N)) (lines : List Line) → Plays N.log N.failed C.meaning settings.now.group nodes.old.node_states.items gone lines → text.old.items ≡ []
+        → GoesOnBy N.log N.failed C.meaning settings.now.group nodes.old.node_states.items nodes.new.node_states.items (M.gone machine.old) (M.gone machine.new) text.new.items
+            (W.contents writer.old) (W.contents writer.new) gone lines result }
     ensures stops { IfErr result (StopsAt line.now) }
 {
     let done = nodes.carry_out(settings, machine, line, text);
-    settle(writer, text)?;
-    done
+    match settle(writer, text) {
+        Ok(()) => done,
+        Err(why) => Err(Stop::Cut(why)),
+    }
 }
 
-// Writes the chats.
-fn write_chats<N: Net, C: Application, W: Write>(
+// Writes the states.
+fn write_states<N: Net, C: Application, W: Write>(
     nodes: &mut Nodes<N, C>,
     text: &mut Vec<u8>,
     writer: &mut W,
 ) -> Result<(), Cut>
-    ensures { TakesMore (W.contents writer.old) (W.contents writer.new) }
+    ensures writes { text.old.items ≡ []
+        → WritesStates (map (state_text C.line_of) (processes_in nodes.old.node_states.items)) (W.contents writer.old) (W.contents writer.new) result }
+    ensures same { nodes.new.node_states.items ≡ nodes.old.node_states.items }
 {
     let appended = nodes.append_states(text);
-    settle(writer, text)?;
-    appended?;
-    Ok(())
+    if let Err(why) = settle(writer, text) {
+        return Err(why);
+    }
+    match appended {
+        Ok(()) => Ok(()),
+        Err(_) => Err(Cut::Memory),
+    }
 }
 
 // Does what lines say, and writes what happened.
@@ -76,16 +93,22 @@ fn play_lines<N: Net, C: Application, M: Machine<Net = N>, W: Write>(
     text: &mut Vec<u8>,
     writer: &mut W,
 ) -> Result<(), Stop>
-    ensures takes { TakesMore (W.contents writer.old) (W.contents writer.new) }
-    ensures stops { IfErr result (StopsIn lines.now) }
+    ensures { AreUnused nodes.old.node_states.items → text.old.items ≡ []
+        → RunsLines N.log C.meaning C.line_of settings.now.group (M.gone machine.old) (M.gone machine.new) lines.now (W.contents writer.old) (W.contents writer.new) result }
 {
+    runners_are_synchronous::<N, C>();
     for line in lines {
         if let Err(stop) = play_line(nodes, settings, machine, line, text, writer) {
             return Err(stop);
         }
     }
-    write_chats(nodes, text, writer)?;
-    Ok(())
+    match write_states(nodes, text, writer) {
+        Ok(()) => {
+            nodes.close(machine);
+            Ok(())
+        }
+        Err(why) => Err(Stop::Cut(why)),
+    }
 }
 
 // Does what lines say at nodes where no member runs yet.
@@ -96,10 +119,12 @@ fn play<C: Application, M: Machine, W: Write>(
     lines: &[UdpLine],
     writer: &mut W,
 ) -> Result<(), Stop>
-    ensures takes { TakesMore (W.contents writer.old) (W.contents writer.new) }
-    ensures stops { IfErr result (StopsIn lines.now) }
+    ensures { RunsLines M.Net.log C.meaning C.line_of settings.now.group (M.gone machine.old) (M.gone machine.new) lines.now (W.contents writer.old) (W.contents writer.new) result }
 {
-    let mut nodes = Nodes::<M::Net, C>::new(alloc, settings)?;
+    runners_are_synchronous::<M::Net, C>();
+    let Ok(mut nodes) = Nodes::<M::Net, C>::new(alloc, settings) else {
+        return Err(Stop::Cut(Cut::Memory));
+    };
     let mut text = Vec::new(alloc);
     play_lines(&mut nodes, settings, machine, lines, &mut text, writer)
 }
@@ -117,7 +142,7 @@ pub fn run_udp<C: Application, M: Machine, I: Read, W: Write>(
     reader: &mut I,
     writer: &mut W,
 ) -> Status
-    ensures { RunsUdp (I.remaining reader.old) (W.contents writer.old) (W.contents writer.new) result }
+    ensures { RunsUdp M.Net.log C.meaning C.line_of settings.now.group (M.gone machine.old) (M.gone machine.new) (I.remaining reader.old) (W.contents writer.old) (W.contents writer.new) result }
 {
     let lines = match lines_from(alloc, reader, writer) {
         Ok(lines) => lines,

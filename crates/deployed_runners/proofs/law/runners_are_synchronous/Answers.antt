@@ -1,6 +1,7 @@
 use Rattle.deployed_runners.proofs.ItemsOfCalls.{calls-add, runs-are}
 use Rattle.deployed_runners.proofs.FactOfMerged.{runners-are, runners-tell}
 use Rattle.deployed_runners.proofs.FactOfPlayed.{played-are}
+use Rattle.deployed_runners.proofs.FactOfStarts.{starts-none}
 use Rattle.deployed_runners.proofs.law.runners_are_synchronous.Goals as goal
 
 pub returns-clause-calls : goal.returns-clause-calls
@@ -17,3 +18,6 @@ returns-clause-told g c = runners-tell g.R.Receiver.meaning c.deployments_are_sy
 
 pub returns-clause-played : goal.returns-clause-played
 returns-clause-played g c = played-are g.N.Net.log g.N.Net.failed g.R.Receiver.meaning (runners-are g.R.Receiver.meaning c.deployments_are_synchronous.ensures.histories)
+
+pub returns-clause-starts : goal.returns-clause-starts
+returns-clause-starts g c = starts-none g.N.Net.log g.N.Net.failed g.R.Receiver.meaning
