@@ -4,5 +4,6 @@ pub mod FactOfTurns
 pub mod FactOfNodes
 pub mod FactOfGoing
 pub mod FactOfEnds
+pub mod FactOfTelling
 pub mod FactOfScripts
 pub mod FactOfMembers
