@@ -1,5 +1,5 @@
 -- What each call of a node does among the others, by what its process does.
-use Rattle.std.proofs.Common.{◌≡◌, ℕ, Bool, true, false, Option, None, Some, Result, Ok, Err, OnOk, OnErr, List, [], ◌∷◌, ◌++◌, map, take, slice_get, slice_set, refl, sym, ap, ◌∙◌, subst}
+use Rattle.std.proofs.Common.{◌≡◌, ℕ, Bool, true, false, Option, None, Some, Result, Ok, Err, OnOk, OnErr, IsErr, List, [], ◌∷◌, ◌++◌, map, take, slice_get, slice_set, refl, sym, ap, ◌∙◌, subst}
 use Rattle.std.specs.List.{concat}
 use Rattle.std.specs.Option.{ForSome}
 use Rattle.std.proofs.lemmas.List.{append-nil, append_assoc}
@@ -15,11 +15,18 @@ use Rattle.deployed_runners.specs.Systems.{Gone, Played, has_ended}
 use Rattle.udp_runs.specs.declared.process.Process.{Process}
 use Rattle.udp_runs.specs.declared.node_state.NodeState.{NodeState}
 use Rattle.udp_runs.specs.Machines.{GivesBack}
-use Rattle.udp_runs.specs.Texts.{Line, Happens, Refuses, texts_of, events_in}
+use Rattle.udp_runs.specs.Texts.{Line, Happens, Refuses, Appended, texts_of, events_in}
 use Rattle.udp_runs.specs.Nodes.{Turns, TakesTurn, Plays, IsFirst, IsNext, GoesOnAt}
 use Rattle.udp_runs.specs.Scripts.{net_of}
 use Rattle.udp_runs.proofs.FactOfPlaces.{set-self}
+use Rattle.udp_runs.proofs.FactOfTexts.{text-then, cut-whole}
 use Rattle.udp_runs.proofs.FactOfNodes.{plays-refused, plays-turn, plays-ended, turn-played, plays-killed, killed-played, plays-started, plays-failed, start-failed}
+
+abbrev pub okay : (A E : Type 0) → A → Result A E
+okay A E x = Ok x
+
+abbrev pub refusing : (A E : Type 0) → E → Result A E
+refusing A E e = Err e
 
 -- ---- what is given back
 
@@ -34,7 +41,7 @@ gives-then None (Some m) (Some l) xs ys x y = absurd x
 gives-then (Some o) (Some m) (Some l) xs ys x y = y ∙ ap (λ z. z ++ ys) x ∙ append_assoc o xs ys
 
 pub gives-as : {N : Type 0} (given given' : Option (List (Gone N))) → given' ≡ given → GivesBack given [] given'
-gives-as given given' same = subst (λ (g : Option (List (Gone N))). GivesBack given [] g) (sym same) (gives-none given)
+gives-as {N} given given' same = subst (λ (g : Option (List (Gone N))). GivesBack given [] g) (sym same) (gives-none given)
 
 -- no line of a text
 none-more : (text text' : List ℕ) → text' ≡ text → text' ≡ text ++ []
@@ -47,7 +54,7 @@ module _ {N S : Type 0} (log : N → Option Log) (failed : N → ℕ) (meaning :
   abbrev Goes : {A E : Type 0} → NodeState N S → NodeState N S → Option (List (Gone N)) → Option (List (Gone N)) → List ℕ → List ℕ → Result A E → Type 0
   Goes old new given given' text text' result = GoesOnAt log failed meaning group old new given given' text text' result
 
-  with_process : NodeState N S → Option (Process N S) → NodeState N S
+  abbrev pub with_process : NodeState N S → Option (Process N S) → NodeState N S
   with_process old o = record { node = old.node; last = old.last; process = o }
 
   still-plays : (states : List (NodeState N S)) (k : ℕ) (old : NodeState N S) (gone : List (Gone N)) (lines more : List Line) → slice_get states k ≡ Some old
@@ -56,11 +63,21 @@ module _ {N S : Type 0} (log : N → Option Log) (failed : N → ℕ) (meaning :
       subst (λ (l : List (NodeState N S)). Plays log failed meaning group l (gone ++ []) (lines ++ more)) (sym (set-self states k old here))
       (subst (λ (l : List (Gone N)). Plays log failed meaning group states l (lines ++ more)) (sym (append-nil gone)) x)
 
+  -- memory was refused as lines were appended
+  goes-cut : (A E : Type 0) (states : List (NodeState N S)) (gone : List (Gone N)) (given given' : Option (List (Gone N))) (lines : List Line) (text text' : List ℕ) (result : Result A E)
+      → IsErr result
+      → (more : List Line) × ((at : Address → Option (Driven N S)) × (all : List (Gone N)) × Played log failed meaning group at all (events_in (lines ++ more)))
+        × ((count : ℕ) × (text' ≡ text ++ concat (take count (texts_of more))))
+      → Appended (λ more. (back : List (Gone N)) × GivesBack given back given' × Plays log failed meaning group states (gone ++ back) (lines ++ more))
+        (λ more. (at : Address → Option (Driven N S)) × (all : List (Gone N)) × Played log failed meaning group at all (events_in (lines ++ more))) text text' result
+  goes-cut A E states gone given given' lines text text' (Ok x) is begun = absurd (let bad : false ≡ true = is in cc)
+  goes-cut A E states gone given given' lines text text' (Err e) is begun = begun
+
   -- ---- nothing is done, or refused
 
-  pub still : {A E : Type 0} (old new : NodeState N S) (given given' : Option (List (Gone N))) (text text' : List ℕ) (done : A) → new ≡ old → given' ≡ given → text' ≡ text
-      → Goes old new given given' text text' (Ok {A = A} {E = E} done)
-  still old new given given' text text' done same gives said states k here gone lines x =
+  pub still : (A E : Type 0) (old new : NodeState N S) (given given' : Option (List (Gone N))) (text text' : List ℕ) (done : A) → new ≡ old → given' ≡ given → text' ≡ text
+      → Goes old new given given' text text' (okay A E done)
+  still A E old new given given' text text' done same gives said states k here gone lines x =
       ([], ([], gives-as given given' gives,
       subst (λ (n : NodeState N S). Plays log failed meaning group (slice_set states k n) (gone ++ []) (lines ++ [])) (sym same)
       (still-plays states k old gone lines [] here (subst (λ (l : List Line). Plays log failed meaning group states gone l) (sym (append-nil lines)) x))), none-more text text' said)
@@ -77,10 +94,10 @@ module _ {N S : Type 0} (log : N → Option Log) (failed : N → ℕ) (meaning :
 
   -- ---- a turn of the process
 
-  module _ {A B E F : Type 0} (old new : NodeState N S) (q now : Process N S) (process : old.process ≡ Some q) (given given' : Option (List (Gone N))) (text text' : List ℕ) where
+  module _ (A B E F : Type 0) (old new : NodeState N S) (q now : Process N S) (process : old.process ≡ Some q) (given given' : Option (List (Gone N))) (text text' : List ℕ) where
     -- it runs on
     pub turn-on : (b : B) (done : A) → new ≡ with_process old (Some now) → now.address ≡ q.address → has_ended now.runner.channel.stage ≡ false → given' ≡ given
-        → TakesTurn log failed meaning group q now text text' (Ok {A = B} {E = F} b) → Goes old new given given' text text' (Ok {A = A} {E = E} done)
+        → TakesTurn log failed meaning group q now text text' (okay B F b) → Goes old new given given' text text' (okay A E done)
     turn-on b done is same on gives t states k here gone lines x =
         let as_now : record { address = q.address; runner = now.runner } ≡ now = ap (λ (a : Address). record { address = a; runner = now.runner }) (sym same) in
         (t.0, ([], gives-as given given' gives,
@@ -90,7 +107,7 @@ module _ {N S : Type 0} (log : N → Option Log) (failed : N → ℕ) (meaning :
 
     -- it is let go
     pub turn-off : (b : B) (done : A) → new ≡ with_process old None → now.address ≡ q.address → GivesBack given (net_of now ∷ []) given'
-        → TakesTurn log failed meaning group q now text text' (Ok {A = B} {E = F} b) → Goes old new given given' text text' (Ok {A = A} {E = E} done)
+        → TakesTurn log failed meaning group q now text text' (okay B F b) → Goes old new given given' text text' (okay A E done)
     turn-off b done is same gives t states k here gone lines x =
         (t.0, (record { by = q.address; net = now.runner.net } ∷ [],
         subst (λ (a : Address). GivesBack given (record { by = a; net = now.runner.net } ∷ []) given') same gives,
@@ -98,8 +115,9 @@ module _ {N S : Type 0} (log : N → Option Log) (failed : N → ℕ) (meaning :
         (plays-ended log failed meaning group states gone lines x k old here q process now.runner t.0 t.1)), t.2)
 
     -- memory was refused as it was said
-    pub turn-cut : (f : F) (e : E) → TakesTurn log failed meaning group q now text text' (Err {A = B} {E = F} f) → Goes old new given given' text text' (Err {A = A} {E = E} e)
-    turn-cut f e t states k here gone lines x =
+    pub turn-cut : (f : F) (result : Result A E) → IsErr result → TakesTurn log failed meaning group q now text text' (refusing B F f) → Goes old new given given' text text' result
+    turn-cut f result is t states k here gone lines x =
+        goes-cut A E (slice_set states k new) gone given given' lines text text' result is
         (t.0, turn-played log failed meaning group states gone lines x k old here q process t.1.0 t.0 t.1.1, t.2)
 
   -- ---- it is killed
@@ -113,3 +131,43 @@ module _ {N S : Type 0} (log : N → Option Log) (failed : N → ℕ) (meaning :
       (plays-killed log failed meaning group states gone lines x k old here q process)), one-more text text' (line_of (Crashed q.address)) said)
   killed old new q given given' text text' (Err e) process is gives said unsaid states k here gone lines x =
       (Happens (Crashed q.address) ∷ [], killed-played log failed meaning group states gone lines x k old here q process, (0, none-more text text' unsaid))
+
+  -- ---- it starts
+
+  module _ (A E : Type 0) (old new : NodeState N S) (p : Address) (given : Option (List (Gone N))) (text text' : List ℕ) (states : List (NodeState N S)) (k : ℕ)
+      (here : slice_get states k ≡ Some old) (next : IsNext old p) (first : IsFirst old.node k states) (gone : List (Gone N)) (lines : List Line)
+      (x : Plays log failed meaning group states gone lines) where
+    abbrev Starts : Result A E → Type 0
+    Starts result = Appended (λ more. (back : List (Gone N)) × GivesBack given back given × Plays log failed meaning group (slice_set states k new) (gone ++ back) (lines ++ more))
+        (λ more. (at : Address → Option (Driven N S)) × (all : List (Gone N)) × Played log failed meaning group at all (events_in (lines ++ more))) text text' result
+
+    abbrev last_at : Option (Process N S) → NodeState N S
+    last_at o = record { node = old.node; last = Some p; process = o }
+
+    pub starts : (done : A) (r : Driven N S) (net : N) → new ≡ last_at (Some (record { address = p; runner = r })) → r.channel ≡ new_channel meaning p → r.net ≡ net
+        → ForSome (log net) (λ l. l ≡ []) → text' ≡ text ++ line_of (Started p) → Starts (Ok done)
+    starts done r net is channel over lists said =
+        (Happens (Started p) ∷ [], ([], gives-none given,
+        subst (λ (l : List (Gone N)). Plays log failed meaning group (slice_set states k new) l (lines ++ Happens (Started p) ∷ [])) (sym (append-nil gone))
+        (subst (λ (n : NodeState N S). Plays log failed meaning group (slice_set states k n) gone (lines ++ Happens (Started p) ∷ [])) (sym is)
+        (plays-started log failed meaning group states gone lines x k old here p next first r channel (subst (λ (n : N). ForSome (log n) (λ l. l ≡ [])) (sym over) lists)))),
+        one-more text text' (line_of (Started p)) said)
+
+    -- memory was refused before that is said
+    pub starts-unsaid : (result : Result A E) → IsErr result → text' ≡ text → Starts result
+    starts-unsaid result is same =
+        goes-cut A E (slice_set states k new) gone given given lines text text' result is
+        (Happens (Started p) ∷ Happens (Crashed p) ∷ [], start-failed log failed meaning group states gone lines x k old here p next first, (0, none-more text text' same))
+
+    -- it crashes at once
+    pub starts-not : (mid : List ℕ) (result : Result A E) → new ≡ last_at old.process → mid ≡ text ++ line_of (Started p) → OnOk result (text' ≡ mid ++ line_of (Crashed p))
+        → OnErr result (text' ≡ mid) → Starts result
+    starts-not mid (Ok done) is said ok err =
+        (Happens (Started p) ∷ Happens (Crashed p) ∷ [], ([], gives-none given,
+        subst (λ (l : List (Gone N)). Plays log failed meaning group (slice_set states k new) l (lines ++ Happens (Started p) ∷ Happens (Crashed p) ∷ [])) (sym (append-nil gone))
+        (subst (λ (n : NodeState N S). Plays log failed meaning group (slice_set states k n) gone (lines ++ Happens (Started p) ∷ Happens (Crashed p) ∷ []))
+        (ap last_at (sym next.free) ∙ sym is) (plays-failed log failed meaning group states gone lines x k old here p next first))),
+        text-then text mid text' (Happens (Started p) ∷ []) (Happens (Crashed p) ∷ []) (one-more text mid (line_of (Started p)) said) (one-more mid text' (line_of (Crashed p)) ok))
+    starts-not mid (Err e) is said ok err =
+        (Happens (Started p) ∷ Happens (Crashed p) ∷ [], start-failed log failed meaning group states gone lines x k old here p next first,
+        cut-whole text text' (Happens (Started p) ∷ []) (Happens (Crashed p) ∷ []) (err ∙ one-more text mid (line_of (Started p)) said))

@@ -60,8 +60,8 @@ module _ {N S : Type 0} (log : N → Option Log) (failed : N → ℕ) (meaning :
 
   -- ---- one node is as it was but for its process
 
-  process-of : Address → Driven N S → Process N S
-  process-of p r = record { address = p; runner = r }
+  abbrev pub process_of : Address → Driven N S → Process N S
+  process_of p r = record { address = p; runner = r }
 
   -- of two nodes at which processes were started, no two have one number
   apart : (states : List (NodeState N S)) (k j : ℕ) (x y : NodeState N S) → (j ≡ k → ⊥) → slice_get states k ≡ Some x → slice_get states j ≡ Some y → IsFirst x.node k states
@@ -75,7 +75,7 @@ module _ {N S : Type 0} (log : N → Option Log) (failed : N → ℕ) (meaning :
 
   module _ (states : List (NodeState N S)) (gone : List (Gone N)) (lines : List Line) (x : Play states gone lines) (k : ℕ) (old new : NodeState N S) (here : slice_get states k ≡ Some old)
       (node : new.node ≡ old.node) (p : Address) (last : new.last ≡ Some p) (own : p.node ≡ old.node) (first : IsFirst old.node k states) (o : Option (Driven N S))
-      (is : new.process ≡ option_map (process-of p) o) (runs_on : IfSome o (λ r. has_ended r.channel.stage ≡ false))
+      (is : new.process ≡ option_map (process_of p) o) (runs_on : IfSome o (λ r. has_ended r.channel.stage ≡ false))
       (was : (q : Process N S) → old.process ≡ Some q → q.address ≡ p)
       (later : (l : Address) → old.last ≡ Some l → (l.node ≡ p.node) × (l.incarnation ≤ p.incarnation))
       (gone' : List (Gone N)) (lines' : List Line) (played : Played log failed meaning group (with_runner p o x.at) gone' (events_in lines'))
@@ -125,11 +125,11 @@ module _ {N S : Type 0} (log : N → Option Log) (failed : N → ℕ) (meaning :
     at-own = ap (λ (b : Bool). cond b o (x.at p)) (same_address-refl p)
 
     -- what runs there now
-    runs-own : (q : Process N S) (r : Option (Driven N S)) → r ≡ o → option_map (process-of p) r ≡ Some q
+    runs-own : (q : Process N S) (r : Option (Driven N S)) → r ≡ o → option_map (process_of p) r ≡ Some q
         → (Some p ≡ Some q.address) × (o ≡ Some q.runner) × (has_ended q.runner.channel.stage ≡ false)
     runs-own q None same e = absurd (none-some q e)
     runs-own q (Some r) same e =
-        let one = same_Some (process-of p r) q e in
+        let one = same_Some (process_of p r) q e in
         let on : has_ended r.channel.stage ≡ false = subst (λ (z : Option (Driven N S)). IfSome z (λ d. has_ended d.channel.stage ≡ false)) (sym same) runs_on in
         (ap (λ (z : Process N S). Some z.address) one, sym same ∙ ap (λ (z : Process N S). Some z.runner) one, subst (λ (z : Process N S). has_ended z.runner.channel.stage ≡ false) one on)
 
@@ -171,7 +171,7 @@ module _ {N S : Type 0} (log : N → Option Log) (failed : N → ℕ) (meaning :
 
         fresh : (a : Address) → (has_started a (events_in lines) ≡ true) ⊎ (a ≡ p)
             → (j : ℕ) × (y : NodeState N S) × (q : Address) × (slice_get states' j ≡ Some y) × (y.last ≡ Some q) × (a.node ≡ q.node) × (a.incarnation ≤ q.incarnation)
-        fresh a (inr same) = (k, new, p, there-new, last, ap (λ (z : Address). z.node) same, omega arith)
+        fresh a (inr same) = (k, new, p, there-new, last, ap (λ (z : Address). z.node) same, subst (λ (z : Address). z.incarnation ≤ p.incarnation) (sym same) (omega arith))
         fresh a (inl before) = by (x.fresh a before)
           where
             by : (j : ℕ) × (y : NodeState N S) × (q : Address) × (slice_get states j ≡ Some y) × (y.last ≡ Some q) × (a.node ≡ q.node) × (a.incarnation ≤ q.incarnation)
@@ -188,22 +188,22 @@ module _ {N S : Type 0} (log : N → Option Log) (failed : N → ℕ) (meaning :
         there : (a : Address) (r : Driven N S) → with_runner p o x.at a ≡ Some r → (j : ℕ) × (y : NodeState N S) × (slice_get states' j ≡ Some y) × (y.process ≡ Some (record { address = a; runner = r }))
         there a r e = by (same_address a p) refl
           where
-            other-place : (j : ℕ) × (y : NodeState N S) × (slice_get states j ≡ Some y) × (y.process ≡ Some (process-of a r)) → same_address a p ≡ false
+            other-place : (j : ℕ) × (y : NodeState N S) × (slice_get states j ≡ Some y) × (y.process ≡ Some (process_of a r)) → same_address a p ≡ false
                 → (j : ℕ) × (y : NodeState N S) × (slice_get states' j ≡ Some y) × (y.process ≡ Some (record { address = a; runner = r }))
-            other-place (j, y, at, process) no = pick (or-other j)
+            other-place (j, y, at, process) differs = pick (or-other j)
               where
                 pick : (j ≡ k) ⊎ (j ≡ k → ⊥) → (j : ℕ) × (y : NodeState N S) × (slice_get states' j ≡ Some y) × (y.process ≡ Some (record { address = a; runner = r }))
                 pick (inl same) =
-                    let gives = was (process-of a r) (ap (λ (w : NodeState N S). w.process) (sym (same_Some y old (sym at ∙ ap (slice_get states) same ∙ here))) ∙ process) in
-                    absurd (let bad : true ≡ false = sym (same_address-refl p) ∙ ap (λ (z : Address). same_address z p) (sym gives) ∙ no in cc)
+                    let gives = was (process_of a r) (ap (λ (w : NodeState N S). w.process) (sym (same_Some y old (sym at ∙ ap (slice_get states) same ∙ here))) ∙ process) in
+                    absurd (let bad : true ≡ false = sym (same_address-refl p) ∙ ap (λ (z : Address). same_address z p) (sym gives) ∙ differs in cc)
                 pick (inr other) = (j, y, set-other states k j new other ∙ at, process)
 
             by : (b : Bool) → same_address a p ≡ b → (j : ℕ) × (y : NodeState N S) × (slice_get states' j ≡ Some y) × (y.process ≡ Some (record { address = a; runner = r }))
             by true same =
                 let is_p = same_address-true a p same in
                 let now : o ≡ Some r = sym at-own ∙ ap (with_runner p o x.at) (sym is_p) ∙ e in
-                (k, new, there-new, is ∙ ap (option_map (process-of p)) now ∙ ap (λ (z : Address). Some (process-of z r)) (sym is_p))
-            by false no = other-place (x.there a r (sym (at-other a no) ∙ e)) no
+                (k, new, there-new, is ∙ ap (option_map (process_of p)) now ∙ ap (λ (z : Address). Some (process_of z r)) (sym is_p))
+            by false differs = other-place (x.there a r (sym (at-other a differs) ∙ e)) differs
 
 -- ---- what starts
 
@@ -224,8 +224,8 @@ or-first false b e none = absurd (let bad : true ≡ false = sym e ∙ none in c
 started-before : (a p : Address) (events taken : List Event) (fell : Bool) → list_any is_start taken ≡ false → has_started a (events ++ (taken ++ crash_of p fell)) ≡ true
     → has_started a events ≡ true
 started-before a p events taken fell none e =
-    or-first (has_started a events) (has_started a (taken ++ crash_of p fell)) (sym (list_any-append events (taken ++ crash_of p fell)) ∙ e)
-    (no-starts a (taken ++ crash_of p fell) (list_any-append taken (crash_of p fell) ∙ ap (λ (b : Bool). b || list_any is_start (crash_of p fell)) none ∙ of-crash fell))
+    or-first (has_started a events) (has_started a (taken ++ crash_of p fell)) (sym (list_any-append (λ h. same_address (member_of h) a && is_start h) events (taken ++ crash_of p fell)) ∙ e)
+    (no-starts a (taken ++ crash_of p fell) (list_any-append is_start taken (crash_of p fell) ∙ ap (λ (b : Bool). b || list_any is_start (crash_of p fell)) none ∙ of-crash fell))
   where
     of-crash : (b : Bool) → list_any is_start (crash_of p b) ≡ false
     of-crash true = refl
@@ -234,7 +234,7 @@ started-before a p events taken fell none e =
 -- a start is of its address
 started-or : (a p : Address) (events more : List Event) → has_started a (events ++ Started p ∷ more) ≡ true → list_any is_start more ≡ false
     → (has_started a events ≡ true) ⊎ (a ≡ p)
-started-or a p events more e none = by (has_started a events) (same_address p a) refl (sym (list_any-append events (Started p ∷ more)) ∙ e)
+started-or a p events more e none = by (has_started a events) (same_address p a) refl (sym (list_any-append (λ h. same_address (member_of h) a && is_start h) events (Started p ∷ more)) ∙ e)
   where
     by : (b c : Bool) → same_address p a ≡ c → (b || ((c && true) || has_started a more)) ≡ true → (b ≡ true) ⊎ (a ≡ p)
     by true c is so = inl refl
@@ -277,7 +277,7 @@ module _ {N S : Type 0} (log : N → Option Log) (failed : N → ℕ) (meaning :
       all-said = events-then lines more ∙ ap (λ (l : List Event). events_in lines ++ l) t.says
 
       turned : Played log failed meaning group (with_runner p (Some r) x.at) gone (events_in (lines ++ more))
-      turned = subst (λ (l : List Event). Played log failed meaning group (with_runner p (Some r) x.at) gone l) (sym all-said)
+      turned = subst (λ (l : List Event). Played log failed meaning group (with_runner p (Some r) x.at) gone l) (append_assoc (events_in lines) t.taken (crash_of p t.fell) ∙ sym all-said)
           (Turn x.at gone (events_in lines) p q.runner t.taken t.fell r x.played found.1 t.drives t.told)
 
       starts : (a : Address) → has_started a (events_in (lines ++ more)) ≡ true → (has_started a (events_in lines) ≡ true) ⊎ (a ≡ p)

@@ -1,5 +1,5 @@
 -- Lines one behind the other, and events that are taken one by one.
-use Rattle.std.proofs.Common.{◌≡◌, ℕ, zero, suc, Result, Ok, Err, OnErr, IsErr, List, [], ◌∷◌, ◌++◌, map, take, length, refl, sym, ap, ◌∙◌, subst}
+use Rattle.std.proofs.Common.{◌≡◌, ℕ, zero, suc, true, false, Result, Ok, Err, OnErr, IsErr, List, [], ◌∷◌, ◌++◌, map, take, length, refl, sym, ap, ◌∙◌, subst}
 use Rattle.std.specs.List.{concat}
 use Rattle.std.proofs.lemmas.List.{append-nil, append_assoc}
 use Rattle.trace_props.specs.declared.event.Event.{Event}
@@ -96,7 +96,7 @@ on-err (Ok x) p = tt
 on-err (Err e) p = p
 
 -- memory was refused as lines were appended
-pub cut-lines : {A E : Type 0} {Says Begins : List Line → Type 0} (old new : List ℕ) (result : Result A E) → IsErr result
+pub cut-lines : (A E : Type 0) (Says Begins : List Line → Type 0) (old new : List ℕ) (result : Result A E) → IsErr result
     → (lines : List Line) × Begins lines × ((count : ℕ) × (new ≡ old ++ concat (take count (texts_of lines)))) → Appended Says Begins old new result
-cut-lines old new (Ok x) is begun = absurd is
-cut-lines old new (Err e) is begun = begun
+cut-lines A E Says Begins old new (Ok x) is begun = absurd (let bad : false ≡ true = is in cc)
+cut-lines A E Says Begins old new (Err e) is begun = begun

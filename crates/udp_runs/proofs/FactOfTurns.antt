@@ -1,5 +1,5 @@
 -- Turns of a process: calls of its runner, and what is told by them.
-use Rattle.std.proofs.Common.{◌≡◌, ℕ, Bool, true, false, ◌||◌, Option, None, Some, Result, Ok, Err, IfErr, IfOk, OnErr, IsErr, option_map, List, [], ◌∷◌, ◌++◌, map, take, refl, sym, ap, ◌∙◌, subst, inl, inr, ◌⊎◌}
+use Rattle.std.proofs.Common.{◌≡◌, ℕ, Bool, true, false, ◌||◌, Option, None, Some, Result, Ok, Err, IfErr, OnOk, OnErr, IsErr, option_map, List, [], ◌∷◌, ◌++◌, map, take, refl, sym, ap, ◌∙◌, subst, inl, inr, ◌⊎◌}
 use Rattle.std.specs.List.{concat}
 use Rattle.std.specs.Result.{result_err}
 use Rattle.std.proofs.lemmas.List.{append-nil, append_assoc}
@@ -24,7 +24,7 @@ use Rattle.deployed_runners.specs.Systems.{has_ended}
 use Rattle.udp_runs.specs.declared.process.Process.{Process}
 use Rattle.udp_runs.specs.Nodes.{Turns, TakesTurn, all_told}
 use Rattle.udp_runs.specs.Texts.{Line, Happens, Refuses, events_in, texts_of, text_of_line}
-use Rattle.udp_runs.proofs.FactOfTexts.{text-then, cut-some, cut-whole, cut-lines}
+use Rattle.udp_runs.proofs.FactOfTexts.{text-then, cut-some, cut-whole, cut-behind, cut-lines}
 
 -- ---- one list of lines behind the other
 
@@ -101,14 +101,20 @@ module _ {N S : Type 0} (log : N → Option Log) (failed : N → ℕ) (meaning :
 
   -- ---- a turn
 
+  -- one call, and all that is told taken
+  drives-call : (old mid : Driven N S) (failure : Option Error) → Makes log failed meaning group old [] failure mid
+      → Drive old mid.channel.happened (falls old.channel.stage failure) (quiet mid)
+  drives-call old mid failure m =
+      subst (λ (k : Bool). Drive old mid.channel.happened k (quiet mid)) (or-false (falls old.channel.stage failure))
+      (drives-then old mid (quiet mid) [] mid.channel.happened (falls old.channel.stage failure) false (drives-one old mid [] failure m) (drives-told mid.channel.happened mid refl))
+
   -- one call, and what is told by it
   pub turn-of : (p : Address) (old mid : Driven N S) (failure : Option Error) (lines : List Line) → Makes log failed meaning group old [] failure mid
       → events_in lines ≡ mid.channel.happened ++ crash_of p (falls old.channel.stage failure) → Turns log failed meaning group p old (quiet mid) lines
   turn-of p old mid failure lines m says = record {
     taken = mid.channel.happened;
     fell = falls old.channel.stage failure;
-    drives = subst (λ (k : Bool). Drive old mid.channel.happened k (quiet mid)) (or-false (falls old.channel.stage failure))
-        (drives-then old mid (quiet mid) [] mid.channel.happened (falls old.channel.stage failure) false (drives-one old mid [] failure m) (drives-told mid.channel.happened mid refl));
+    drives = drives-call old mid failure m;
     told = refl;
     says = says;
   }
@@ -126,18 +132,15 @@ module _ {N S : Type 0} (log : N → Option Log) (failed : N → ℕ) (meaning :
   -- a turn before which a call was taken, by which the channel did not fall
   pub turn-front : (p : Address) (old mid new : Driven N S) (lines : List Line) → Makes log failed meaning group old [] None mid
       → Turns log failed meaning group p (quiet mid) new lines → Turns log failed meaning group p old new (map Happens mid.channel.happened ++ lines)
-  turn-front p old mid new lines m t =
-      let first = turn-of p old mid None (map Happens mid.channel.happened) m
-          (events-happen mid.channel.happened ∙ sym (append-nil mid.channel.happened) ∙ ap (λ (k : Bool). mid.channel.happened ++ crash_of p k) (sym (falls-none old.channel.stage))) in
-      record {
-        taken = mid.channel.happened ++ t.taken;
-        fell = t.fell;
-        drives = subst (λ (k : Bool). Drive old (mid.channel.happened ++ t.taken) (k || t.fell) new) (falls-none old.channel.stage)
-            (drives-then old (quiet mid) new mid.channel.happened t.taken (falls old.channel.stage None) t.fell first.drives t.drives);
-        told = t.told;
-        says = events-then (map Happens mid.channel.happened) lines ∙ ap (λ (l : List Event). l ++ events_in lines) (events-happen mid.channel.happened)
-            ∙ ap (λ (l : List Event). mid.channel.happened ++ l) t.says ∙ sym (append_assoc mid.channel.happened t.taken (crash_of p t.fell));
-      }
+  turn-front p old mid new lines m t = record {
+    taken = mid.channel.happened ++ t.taken;
+    fell = t.fell;
+    drives = subst (λ (k : Bool). Drive old (mid.channel.happened ++ t.taken) (k || t.fell) new) (falls-none old.channel.stage)
+        (drives-then old (quiet mid) new mid.channel.happened t.taken (falls old.channel.stage None) t.fell (drives-call old mid None m) t.drives);
+    told = t.told;
+    says = events-then (map Happens mid.channel.happened) lines ∙ ap (λ (l : List Event). l ++ events_in lines) (events-happen mid.channel.happened)
+        ∙ ap (λ (l : List Event). mid.channel.happened ++ l) t.says ∙ sym (append_assoc mid.channel.happened t.taken (crash_of p t.fell));
+  }
 
   -- ---- a round
 
@@ -213,7 +216,12 @@ module _ {N S : Type 0} (log : N → Option Log) (failed : N → ℕ) (meaning :
   pub turn-stays : (p : Address) (old : Driven N S) → old.channel.happened ≡ [] → Turns log failed meaning group p old old []
   turn-stays p old told = record { taken = []; fell = false; drives = Begun; told = told; says = refl }
 
-  module _ {A E : Type 0} (old new : Process N S) (text text' : List ℕ) where
+  fronted : (p : Address) (q : Process N S) (mid : Driven N S) → q.address ≡ p → q.runner ≡ quiet mid → (r : Driven N S) (lines : List Line)
+      → Turns log failed meaning group q.address q.runner r lines → Turns log failed meaning group p (quiet mid) r lines
+  fronted p q mid own is r lines t =
+      subst (λ (a : Address). Turns log failed meaning group a (quiet mid) r lines) own (subst (λ (d : Driven N S). Turns log failed meaning group q.address d r lines) is t)
+
+  module _ (A E : Type 0) (old new : Process N S) (text text' : List ℕ) where
     abbrev Takes : Result A E → Type 0
     Takes result = TakesTurn log failed meaning group old new text text' result
 
@@ -223,7 +231,7 @@ module _ {N S : Type 0} (log : N → Option Log) (failed : N → ℕ) (meaning :
 
     pub takes-cut : (result : Result A E) (r : Driven N S) (lines : List Line) → IsErr result → Turns log failed meaning group old.address old.runner r lines
         → (count : ℕ) × (text' ≡ text ++ concat (take count (texts_of lines))) → Takes result
-    takes-cut result r lines is t cut = cut-lines text text' result is (lines, (r, t), cut)
+    takes-cut result r lines is t cut = cut-lines A E (Turns log failed meaning group old.address old.runner new.runner) (λ l. (d : Driven N S) × Turns log failed meaning group old.address old.runner d l) text text' result is (lines, (r, t), cut)
 
     -- a round, told in part
     pub round-cut : (result : Result A E) (mid : Driven N S) (failure : Option Error) → IsErr result → has_ended old.runner.channel.stage ≡ false
@@ -253,10 +261,25 @@ module _ {N S : Type 0} (log : N → Option Log) (failed : N → ℕ) (meaning :
 
     -- lines, and then one more, or not for want of memory
     pub ends-by : (mid : List ℕ) (r : Driven N S) (lines : List Line) (last : Line) (result : Result A E) → new.runner ≡ r
-        → Turns log failed meaning group old.address old.runner r (lines ++ last ∷ []) → mid ≡ text ++ concat (texts_of lines) → IfOk result (λ x. text' ≡ mid ++ text_of_line last)
+        → Turns log failed meaning group old.address old.runner r (lines ++ last ∷ []) → mid ≡ text ++ concat (texts_of lines) → OnOk result (text' ≡ mid ++ text_of_line last)
         → OnErr result (text' ≡ mid) → Takes result
     ends-by mid r lines last (Ok x) same t said ok err =
         takes-so x r (lines ++ last ∷ []) same t
         (text-then text mid text' lines (last ∷ []) said (ok ∙ ap (λ (l : List ℕ). mid ++ l) (sym (append-nil (text_of_line last)))))
     ends-by mid r lines last (Err e) same t said ok err =
-        takes-cut (Err e) r (lines ++ last ∷ []) tt t (cut-whole text text' lines (last ∷ []) (err ∙ said))
+        takes-cut (Err e) r (lines ++ last ∷ []) refl t (cut-whole text text' lines (last ∷ []) (err ∙ said))
+
+    -- a turn behind a call that was taken
+    pub takes-front : (q : Process N S) (mid : Driven N S) (between : List ℕ) (result : Result A E) → q.address ≡ old.address → q.runner ≡ quiet mid
+        → Makes log failed meaning group old.runner [] None mid → between ≡ text ++ concat (texts_of (map Happens mid.channel.happened))
+        → TakesTurn log failed meaning group q new between text' result → Takes result
+    takes-front q mid between (Ok x) own is m said (lines, t, more) = (
+        map Happens mid.channel.happened ++ lines,
+        turn-front old.address old.runner mid new.runner lines m (fronted old.address q mid own is new.runner lines t),
+        text-then text between text' (map Happens mid.channel.happened) lines said more,
+    )
+    takes-front q mid between (Err e) own is m said (lines, (r, t), cut) = (
+        map Happens mid.channel.happened ++ lines,
+        (r, turn-front old.address old.runner mid r lines m (fronted old.address q mid own is r lines t)),
+        cut-behind text between text' (map Happens mid.channel.happened) lines said cut,
+    )

@@ -111,8 +111,10 @@ impl<N: Net, C: Application> Process<N, C> {
         self.tell(text)?;
         match answer {
             Ok(()) => self.goes_on(call, text),
-            Err(error) if is_end(&error) => self.end_by_crash(text),
             Err(error) => {
+                if is_end(&error) {
+                    return self.end_by_crash(text);
+                }
                 append_refusal(text, line, error.number())?;
                 Ok(self.runs())
             }
@@ -186,7 +188,8 @@ impl<N: Net, C: Application> Process<N, C> {
 
     // Appends that it has crashed: it runs no more.
     fn end_by_crash(&mut self, text: &mut Vec<u8>) -> Result<bool, AllocError>
-        ensures text { IfOk result (λ runs_on. (runs_on ≡ false) × (text.new.items ≡ text.old.items ++ line_of (Crashed self.old.address))) }
+        ensures runs { IfOk result (λ runs_on. runs_on ≡ false) }
+        ensures text { OnOk result (text.new.items ≡ text.old.items ++ line_of (Crashed self.old.address)) }
         ensures err { OnErr result (text.new.items ≡ text.old.items) }
         ensures same { self.new ≡ self.old }
     {
