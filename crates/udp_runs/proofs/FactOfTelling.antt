@@ -19,7 +19,7 @@ use Rattle.udp_runs.specs.declared.ends.Cut.TheVariants as cut
 use Rattle.udp_runs.specs.Ends.{TakesMore}
 use Rattle.udp_runs.specs.Nodes.{all_told}
 use Rattle.udp_runs.specs.Scripts.{state_text}
-use Rattle.udp_runs.specs.Telling.{Shows, ShowsBegun, Writes, Shown, Quietly, Tells, PlaysAlone}
+use Rattle.udp_runs.specs.Telling.{Waits, Shows, ShowsBegun, Writes, Shown, Quietly, Tells, PlaysAlone}
 use Rattle.udp_runs.specs.Texts.{Happens, texts_of}
 use Rattle.udp_runs.proofs.FactOfEnds.{takes-then, takes-none}
 use Rattle.udp_runs.proofs.FactOfTexts.{Took, took-one, concat-then, take-some}
@@ -165,6 +165,11 @@ writes-events speaks old text events a b appended result empty whole begun s =
     unsaid (Ok x) e = tt
     unsaid (Err x) (count, e) = (count, e ∙ ap (λ (l : List ℕ). l ++ concat (take count (texts_of (map Happens events)))) empty)
 
+-- a net lists as much as before where nothing was done
+pub lists-same : (l : Option Log) → Lists l (λ x. x) l
+lists-same None = tt
+lists-same (Some x) = refl
+
 -- ---- calls
 
 module _ {N S : Type 0} (log : N → Option Log) (failed : N → ℕ) (meaning : Meaning S) (group : List ℕ) where
@@ -273,14 +278,13 @@ module _ {N S : Type 0} (log : N → Option Log) (failed : N → ℕ) (meaning :
     tells-lost a b c u v why t =
         record { taken = t.taken; fell = t.fell; last = t.last; drives = t.drives; told = t.told; writes = t.writes; ends = tt }
 
-    -- then it waits
-    pub tells-waits : (a b c : Driven N S) (u v : Option (List ℕ)) → Told a b u v (Ok tt) → Lists (log b.net) (λ l. l) (log c.net) → c ≡ record b { net = c.net }
-        → Told a c u v (Ok tt)
-    tells-waits a b c u v t lists others =
-        let same : c.channel ≡ b.channel = ap (λ (r : Driven N S). r.channel) others in
+    -- then it waits, and answers anything
+    pub tells-waits : (a b c : Driven N S) (u v : Option (List ℕ)) (result : Result Unit Why) → Told a b u v (Ok tt) → Waits log b c → Told a c u v result
+    tells-waits a b c u v result t w =
+        let same : c.channel ≡ b.channel = ap (λ (r : Driven N S). r.channel) w.1 in
         let told : b.channel.happened ≡ [] = ap (λ (r : Driven N S). r.channel.happened) t.ends ∙ t.told in
-        tells-then a b c u v v (Ok tt) t (tells-quiet b c c v v (Ok tt) (quiet-by b c None (Wait c lists same))
-        (tells-none c v (ap (λ (d : ChannelModel S). d.happened) same ∙ told)))
+        tells-went a c u v result (tells-then a b c u v v (Ok tt) t (tells-quiet b c c v v (Ok tt) (quiet-by b c None (Wait c w.0 same))
+        (tells-none c v (ap (λ (d : ChannelModel S). d.happened) same ∙ told))))
 
     -- all that it tells is told
     pub told-all : (a b : Driven N S) (u v : Option (List ℕ)) → Told a b u v (Ok tt) → b.channel.happened ≡ []

@@ -6,7 +6,7 @@ use Rattle.address.specs.Ids.{Address}
 use Rattle.state_transfer.specs.Meanings.{Meaning}
 use Rattle.trace_props.specs.declared.event.Event.{Event}
 use Rattle.vsync_text.specs.TraceText.{line_of}
-use Rattle.udp_net.specs.Logs.{Log}
+use Rattle.udp_net.specs.Logs.{Log, Lists}
 use Rattle.udp_member.specs.Turns.{Driven}
 use Rattle.deployed_runners.specs.Runs.{Drives}
 use Rattle.udp_runs.specs.declared.ends.Cut.{Cut as Why}
@@ -42,6 +42,10 @@ Shown text appended old new (Err cut.Failed) = (count : ℕ) × Appends old new 
 -- calls of a runner, by which nothing is told yet
 abbrev pub Quietly : {N S : Type 0} → (N → Option Log) → (N → ℕ) → Meaning S → List ℕ → Driven N S → Driven N S → Type 0
 Quietly log failed meaning group old new = (fell : Bool) × Drives log failed meaning group old [] fell new
+
+-- a wait, or nothing
+abbrev pub Waits : {N S : Type 0} → (N → Option Log) → Driven N S → Driven N S → Type 0
+Waits log old new = Lists (log old.net) (λ l. l) (log new.net) × (new ≡ record old { net = new.net })
 
 -- TOLD: calls of a runner, by which all is told, and the lines of what was told are written; or a beginning of them
 pub record Tells {N S : Type 0} (log : N → Option Log) (failed : N → ℕ) (meaning : Meaning S) (group : List ℕ) (speaks : Bool) (old new : Driven N S)

@@ -1,7 +1,7 @@
 //! A member that runs by itself.
 
 ghost use Rattle.std.specs.Prelude.{◌≡◌, ℕ, List, [], OnOk};
-ghost use Rattle.udp_runs.specs.Telling.{PlaysAlone, Quietly, Tells};
+ghost use Rattle.udp_runs.specs.Telling.{PlaysAlone, Quietly, Tells, Waits};
 
 use crate::calls::{Call, do_call, send};
 use crate::ends::Cut;
@@ -287,6 +287,23 @@ impl<'a, N: Net, C: Application> Lone<'a, N, C> {
         self.teller.tell(self.member.channel(), writer)
     }
 
+    // Connects it, and writes what happened.
+    fn begin<W: Write>(
+        &mut self,
+        settings: &Settings,
+        contact: Option<Address>,
+        writer: &mut W,
+    ) -> Result<(), Cut>
+        ensures tells { Tells N.log N.failed C.meaning settings.now.group self.old.teller.speaks self.old.member self.new.member (W.contents writer.old) (W.contents writer.new) result }
+        ensures speaks { self.new.teller.speaks ≡ self.old.teller.speaks }
+    {
+        let connected = self.connect(settings, contact);
+        match self.show_events(writer) {
+            Ok(()) => connected,
+            Err(why) => Err(why),
+        }
+    }
+
     // One of its rounds, and what happened by it.
     fn turn<L: Lines, W: Write>(
         &mut self,
@@ -297,10 +314,41 @@ impl<'a, N: Net, C: Application> Lone<'a, N, C> {
         ensures tells { (group : List ℕ) → Tells N.log N.failed C.meaning group self.old.teller.speaks self.old.member self.new.member (W.contents writer.old) (W.contents writer.new) result }
         ensures speaks { self.new.teller.speaks ≡ self.old.teller.speaks }
     {
-        self.take_lines(lines)?;
+        if let Err(why) = self.take_lines(lines) {
+            return Err(why);
+        }
         let went = self.round(round);
-        self.show_events(writer)?;
-        went
+        match self.show_events(writer) {
+            Ok(()) => went,
+            Err(why) => Err(why),
+        }
+    }
+
+    // Listens, and writes what happened; then it waits no longer than the rest of the time, unless there is more to do at once.
+    fn listen_for<W: Write>(&mut self, rest: Duration, writer: &mut W) -> Result<(), Cut>
+        ensures tells { (group : List ℕ) → Tells N.log N.failed C.meaning group self.old.teller.speaks self.old.member self.new.member (W.contents writer.old) (W.contents writer.new) result }
+        ensures speaks { self.new.teller.speaks ≡ self.old.teller.speaks }
+    {
+        let went = self.listen();
+        match self.show_events(writer) {
+            Ok(()) => self.wait_unless(rest, went),
+            Err(why) => Err(why),
+        }
+    }
+
+    // Waits, unless there is more to do at once.
+    fn wait_unless(&mut self, rest: Duration, went: Result<bool, Cut>) -> Result<(), Cut>
+        ensures waits { Waits N.log self.old.member self.new.member }
+        ensures speaks { self.new.teller.speaks ≡ self.old.teller.speaks }
+    {
+        match went {
+            Ok(true) => Ok(()),
+            Ok(false) => {
+                self.member.wait(rest);
+                Ok(())
+            }
+            Err(why) => Err(why),
+        }
     }
 
     // Handles datagrams as they come, until it is time for the next round.
@@ -319,10 +367,9 @@ impl<'a, N: Net, C: Application> Lone<'a, N, C> {
             if self.has_ended || rest == Duration::ZERO {
                 return Ok(());
             }
-            let went = self.listen();
-            self.show_events(writer)?;
-            if !went? {
-                self.member.wait(rest);
+            match self.listen_for(rest, writer) {
+                Ok(()) => (),
+                Err(why) => return Err(why),
             }
         }
         Ok(())
@@ -362,8 +409,14 @@ impl<'a, N: Net, C: Application> Lone<'a, N, C> {
             if self.has_ended || self.outbox.is_over() {
                 return Ok(());
             }
-            self.rest(round, machine, writer)?;
-            self.turn(round, lines, writer)?;
+            match self.rest(round, machine, writer) {
+                Ok(()) => (),
+                Err(why) => return Err(why),
+            }
+            match self.turn(round, lines, writer) {
+                Ok(()) => (),
+                Err(why) => return Err(why),
+            }
         }
         Ok(())
     }
@@ -378,8 +431,10 @@ impl<'a, N: Net, C: Application> Lone<'a, N, C> {
         }
         let left = unless_memory(self.member.channel().disconnect());
         let _ended = self.member.listen();
-        self.show_events(writer)?;
-        left
+        match self.show_events(writer) {
+            Ok(()) => left,
+            Err(why) => Err(why),
+        }
     }
 
     /// Connects it, and then has its rounds; at the end its chat is written, and it leaves where it is to.
@@ -395,13 +450,18 @@ impl<'a, N: Net, C: Application> Lone<'a, N, C> {
             (W.contents writer.old) (W.contents writer.new) result }
         ensures gone { M.gone machine.new ≡ M.gone machine.old }
     {
-        let connected = self.connect(settings, plan.contact);
-        self.show_events(writer)?;
-        connected?;
-        self.turns(plan.rounds, lines, machine, writer)?;
+        match self.begin(settings, plan.contact, writer) {
+            Ok(()) => (),
+            Err(why) => return Err(why),
+        }
+        match self.turns(plan.rounds, lines, machine, writer) {
+            Ok(()) => (),
+            Err(why) => return Err(why),
+        }
         let channel = self.member.channel();
-        if let Err(why) = self.teller.tell_state(&plan.address, channel, writer) {
-            return Err(why);
+        match self.teller.tell_state(&plan.address, channel, writer) {
+            Ok(()) => (),
+            Err(why) => return Err(why),
         }
         self.leave(writer)
     }
