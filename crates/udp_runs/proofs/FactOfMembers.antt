@@ -30,7 +30,7 @@ use Rattle.udp_runs.specs.Ends.IsEndText.{Finished}
 use Rattle.udp_runs.specs.Ends.IsEndOf.{Over, Lacking, Failing}
 use Rattle.udp_runs.specs.Ends.IsNetlessText.{Unprinted}
 use Rattle.udp_runs.specs.Machines.{GivesBack}
-use Rattle.udp_runs.specs.Members.{IsListedText, IsTold, IsToldText, GoesAlone, StartsSaying, StartsTelling, StartsUp, WritesStart, started_line, only}
+use Rattle.udp_runs.specs.Members.{IsListedText, IsTold, GoesAlone, StartsSaying, StartsUp, WritesStart, started_line, only}
 use Rattle.udp_runs.specs.Members.IsListedText.{Netless, Told, Said}
 use Rattle.udp_runs.specs.Members.IsToldText.{All, Part}
 use Rattle.udp_runs.specs.Members.StartsSaying.{Unstarted, Unwritten, Goes}

@@ -1,8 +1,8 @@
 -- What a node that runs by itself does and tells, one thing after another.
-use Rattle.std.proofs.Common.{◌≡◌, ℕ, zero, suc, Bool, true, false, ◌||◌, Option, None, Some, Result, Ok, Err, IfOk, IfErr, IsOk, IsErr, OnOk, OnErr, List, [], ◌∷◌, ◌++◌, map, take, length, refl, sym, ap, ◌∙◌, subst, arith}
+use Rattle.std.proofs.Common.{◌≡◌, ℕ, suc, Bool, true, false, ◌||◌, Option, None, Result, Ok, Err, IfOk, IfErr, OnOk, OnErr, List, [], ◌∷◌, ◌++◌, map, take, length, refl, sym, ap, ◌∙◌, subst, arith}
 use Rattle.std.specs.List.{concat}
 use Rattle.std.specs.Result.{result_err}
-use Rattle.std.proofs.lemmas.List.{append-nil, append_assoc, take_all}
+use Rattle.std.proofs.lemmas.List.{append-nil, take_all}
 use Rattle.std.specs.Io.KnownBytes.{Appends}
 use Rattle.address.specs.Ids.{Address}
 use Rattle.state_transfer.specs.Meanings.{Meaning}
@@ -11,7 +11,7 @@ use Rattle.vsync_text.specs.TraceText.{line_of}
 use Rattle.vsync_text.proofs.FactOfWriting.{appends_nothing, appends_then}
 use Rattle.member.specs.declared.error.Error.{Error}
 use Rattle.channel.specs.Channels.{ChannelModel}
-use Rattle.udp_net.specs.Logs.{Log, Lists}
+use Rattle.udp_net.specs.Logs.{Log}
 use Rattle.udp_member.specs.Turns.{Driven}
 use Rattle.deployed_runners.specs.Runs.{Makes, Wait, Drives, Begun, with_channel}
 use Rattle.udp_runs.specs.declared.ends.Cut.{Cut as Why}
@@ -49,19 +49,24 @@ begun-behind false cut.Memory xs ys a b c s (count, t) =
     (r.0, subst (λ (l : List ℕ). Appends a c l) (sym (ap concat r.1 ∙ concat-then xs (take count ys))) (appends_then a b c (concat xs) (concat (take count ys)) s t))
 begun-behind false cut.Failed xs ys a b c s (count, bytes, t) =
     let r = take-behind count xs ys in
-    let n = take-behind bytes (concat xs) (concat (take count ys)) in
-    (r.0, n.0, subst (λ (l : List ℕ). Appends a c l) (sym (ap (take n.0) (ap concat r.1 ∙ concat-then xs (take count ys)) ∙ n.1))
-    (appends_then a b c (concat xs) (take bytes (concat (take count ys))) s t))
+    let n = take-behind bytes (concat xs) (concat (take count ys)) in (
+      r.0,
+      n.0,
+      subst (λ (l : List ℕ). Appends a c l) (sym (ap (take n.0) (ap concat r.1 ∙ concat-then xs (take count ys)) ∙ n.1))
+          (appends_then a b c (concat xs) (take bytes (concat (take count ys))) s t),
+    )
 
 -- all of them are a beginning
 pub begun-whole : (speaks : Bool) (why : Why) (xs : List (List ℕ)) (a b : Option (List ℕ)) → Shows speaks xs a b → ShowsBegun speaks xs a b why
 begun-whole true why xs a b s = s
 begun-whole false cut.Memory xs a b s =
     (length xs, subst (λ (l : List (List ℕ)). Appends a b (concat l)) (sym (take_all (length xs) xs (omega arith))) s)
-begun-whole false cut.Failed xs a b s =
-    (length xs, length (concat xs),
-    subst (λ (l : List (List ℕ)). Appends a b (take (length (concat xs)) (concat l))) (sym (take_all (length xs) xs (omega arith)))
-    (subst (λ (l : List ℕ). Appends a b l) (sym (take_all (length (concat xs)) (concat xs) (omega arith))) s))
+begun-whole false cut.Failed xs a b s = (
+  length xs,
+  length (concat xs),
+  subst (λ (l : List (List ℕ)). Appends a b (take (length (concat xs)) (concat l))) (sym (take_all (length xs) xs (omega arith)))
+      (subst (λ (l : List ℕ). Appends a b l) (sym (take_all (length (concat xs)) (concat xs) (omega arith))) s),
+)
 
 -- and so is nothing
 pub begun-none : (speaks : Bool) (why : Why) (xs : List (List ℕ)) (a : Option (List ℕ)) → ShowsBegun speaks xs a a why
@@ -130,9 +135,9 @@ pub told-one : {S : Type 0} (was speaks speaks' : Bool) (old mid new : ChannelMo
     → mid.happened ≡ event ∷ new.happened → new ≡ record mid { happened = new.happened } → (speaks ≡ false → text'' ≡ text' ++ line_of event) → speaks' ≡ speaks
     → (was ≡ false → Took old new text text'') × (new ≡ record old { happened = new.happened }) × (speaks' ≡ was)
 told-one {S} was speaks speaks' old mid new text text' text'' event (took, same, so) first others line still = (
-    λ is. took-one old mid new text text' text'' event (took is) first others (line (so ∙ is)),
-    others ∙ ap (λ (c : ChannelModel S). record c { happened = new.happened }) same,
-    still ∙ so,
+  λ is. took-one old mid new text text' text'' event (took is) first others (line (so ∙ is)),
+  others ∙ ap (λ (c : ChannelModel S). record c { happened = new.happened }) same,
+  still ∙ so,
 )
 
 -- the line of a state, behind an empty text
@@ -144,6 +149,7 @@ writes-state speaks old text line a b appended result empty whole kept s =
     said : {A E : Type 0} (r : Result A E) → OnOk r (text ≡ old ++ line) → OnOk r (text ≡ line ++ [])
     said (Ok x) e = e ∙ ap (λ (l : List ℕ). l ++ line) empty ∙ sym (append-nil line)
     said (Err x) e = tt
+
     unsaid : {A E : Type 0} (r : Result A E) → OnErr r (text ≡ old) → OnErr r ((count : ℕ) × (text ≡ concat (take count (line ∷ []))))
     unsaid (Ok x) e = tt
     unsaid (Err x) e = (0, e ∙ empty)
@@ -160,15 +166,11 @@ writes-events speaks old text events a b appended result empty whole begun s =
     said : {A E : Type 0} (r : Result A E) → OnOk r (text ≡ old ++ concat (texts_of (map Happens events))) → OnOk r (text ≡ concat (texts_of (map Happens events)))
     said (Ok x) e = e ∙ ap (λ (l : List ℕ). l ++ concat (texts_of (map Happens events))) empty
     said (Err x) e = tt
+
     unsaid : {A E : Type 0} (r : Result A E) → OnErr r ((count : ℕ) × (text ≡ old ++ concat (take count (texts_of (map Happens events)))))
         → OnErr r ((count : ℕ) × (text ≡ concat (take count (texts_of (map Happens events)))))
     unsaid (Ok x) e = tt
     unsaid (Err x) (count, e) = (count, e ∙ ap (λ (l : List ℕ). l ++ concat (take count (texts_of (map Happens events)))) empty)
-
--- a net lists as much as before where nothing was done
-pub lists-same : (l : Option Log) → Lists l (λ x. x) l
-lists-same None = tt
-lists-same (Some x) = refl
 
 -- ---- calls
 
@@ -199,9 +201,6 @@ module _ {N S : Type 0} (log : N → Option Log) (failed : N → ℕ) (meaning :
   module _ (speaks : Bool) where
     abbrev Told : Driven N S → Driven N S → Option (List ℕ) → Option (List ℕ) → Result Unit Why → Type 0
     Told a b u v result = Tells log failed meaning group speaks a b u v result
-
-    quiet : Driven N S → Driven N S
-    quiet r = record r { channel = all_told r.channel }
 
     -- all that waits is told
     pub tells-all : (a b : Driven N S) (u v : Option (List ℕ)) (result : Result Unit Why) → Writes speaks (map line_of a.channel.happened) u v result
@@ -272,11 +271,6 @@ module _ {N S : Type 0} (log : N → Option Log) (failed : N → ℕ) (meaning :
         on-any : {P : Type 0} (r : Result Unit Why) → P → OnOk r P
         on-any (Ok done) p = p
         on-any (Err why) p = tt
-
-    -- it was cut short, and then anything is done
-    pub tells-lost : (a b c : Driven N S) (u v : Option (List ℕ)) (why : Why) → Told a b u v (Err why) → Told a c u v (Err why)
-    tells-lost a b c u v why t =
-        record { taken = t.taken; fell = t.fell; last = t.last; drives = t.drives; told = t.told; writes = t.writes; ends = tt }
 
     -- then it waits, and answers anything
     pub tells-waits : (a b c : Driven N S) (u v : Option (List ℕ)) (result : Result Unit Why) → Told a b u v (Ok tt) → Waits log b c → Told a c u v result

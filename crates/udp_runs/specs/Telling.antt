@@ -1,5 +1,5 @@
 -- What a node that runs by itself does, and what it tells of it.
-use Rattle.std.specs.Prelude.{◌≡◌, ℕ, Bool, true, false, ◌||◌, List, [], ◌∷◌, ◌++◌, map, take, Option, Result, Ok, Err, IsOk, IsErr, OnOk}
+use Rattle.std.specs.Prelude.{◌≡◌, ℕ, Bool, true, false, List, [], ◌∷◌, ◌++◌, map, take, Option, Result, Ok, Err, IsOk, IsErr, OnOk}
 use Rattle.std.specs.List.{concat}
 use Rattle.std.specs.Io.KnownBytes.{Appends}
 use Rattle.address.specs.Ids.{Address}

@@ -44,7 +44,7 @@ fn go_on<C: Application, L: Lines, M: Machine, W: Write>(
 ) -> Result<(), Cut>
     ensures { ForSome (M.Net.log net) (λ l. l ≡ [])
         → GoesAlone M.Net.log C.meaning C.line_of settings.now.group (M.gone machine.old) (M.gone machine.new) manner.speaks plan.now.address
-            (W.contents writer.old) (W.contents writer.new) result }
+        (W.contents writer.old) (W.contents writer.new) result }
 {
     runners_are_synchronous::<M::Net, C>();
     is_real(plan.address);
@@ -83,7 +83,7 @@ fn start<C: Application, L: Lines, M: Machine, W: Write>(
 ) -> Result<(), Cut>
     ensures { ForSome (M.Net.log net) (λ l. l ≡ [])
         → StartsUp M.Net.log C.meaning C.line_of settings.now.group (M.gone machine.old) (M.gone machine.new) manner.speaks plan.now.address
-            (W.contents writer.old) (W.contents writer.new) result }
+        (W.contents writer.old) (W.contents writer.new) result }
 {
     runners_are_synchronous::<M::Net, C>();
     is_real(plan.address);
@@ -122,7 +122,10 @@ fn run_listed<C: Application, L: Lines, M: Machine, W: Write>(
 /// Runs one node of the settings by itself, over its net, with `C` as its receiver: it makes a group or joins its contact's, and has its rounds, between
 /// which it handles datagrams as they come. It sends what the lines say that come, each as soon as it may, and as the coordinator of a view what that sends first in it. It ends early where one is the byte 4 alone. Writes what happened to it
 /// to a writer as it happens, and the line of its state at the end, or what is said as text (docs/FORMATS.md, "Nodes over UDP"). At its end the machine is told what
-/// happened in numbers. Answers the exit status.
+/// happened in numbers, and has its net back. Answers the exit status.
+///
+/// What it writes with status 0, unless it speaks, is the line of its start, a line for each thing that its channel told, in order, the line of its state, and a line for each
+/// thing that it told then: with a crash, which it cannot tell, a history of one process, for every receiver and every net. In every other case it is a beginning of such a text.
 ///
 /// Where the lines can be read no more, one is too long, or one says no payload, it ends at once with status 5, and the machine is told why. Where the settings do not list the node it writes `fault 0 50` alone, status 3; where the node can have no socket `fault 0 51` alone, status 5. Where memory is
 /// refused, it writes the text so far and `# memory`.

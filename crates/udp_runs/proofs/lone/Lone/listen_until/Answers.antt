@@ -11,7 +11,7 @@ returns-in-Err-clause-tells g c group none =
 
 pub loop-preserved : goal.loop-preserved
 loop-preserved g c = (
-    λ group none. tells-then _ _ _ group _ _ _ _ _ _ _ _ (c.loop.invariant.0 group none) (rw c.loop.invariant.1 at c.in-Ok.ensures.tells group),
-    c.listen_for.ensures.speaks ∙ c.loop.invariant.1,
-    c.now.ensures ∙ c.loop.invariant.2,
+  λ group none. tells-then _ _ _ group _ _ _ _ _ _ _ _ (c.loop.invariant.0 group none) (rw c.loop.invariant.1 at c.in-Ok.ensures.tells group),
+  c.listen_for.ensures.speaks ∙ c.loop.invariant.1,
+  c.now.ensures ∙ c.loop.invariant.2,
 )

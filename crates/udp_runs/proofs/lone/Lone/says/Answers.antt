@@ -1,4 +1,4 @@
-use Rattle.udp_runs.proofs.FactOfTelling.{quiet-none, quiet-then}
+use Rattle.udp_runs.proofs.FactOfTelling.{quiet-none}
 use Rattle.udp_runs.proofs.lone.Lone.says.Goals as goal
 
 pub returns-in_default-clause-drives : goal.returns-in_default-clause-drives

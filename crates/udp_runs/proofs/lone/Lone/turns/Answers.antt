@@ -19,11 +19,11 @@ returns-in-Err-turn-clause-tells g c group none =
 
 pub loop-round-preserved : goal.loop-round-preserved
 loop-round-preserved g c = (
-    λ group none.
-    tells-then _ _ _ group _ _ _ _ _ _ _ _
-    (tells-then _ _ _ group _ _ _ _ _ _ _ _ (c.loop-round.invariant.0 group none)
-    (rw c.loop-round.invariant.1 at c.in-Ok.ensures.tells group (told-all _ _ _ group _ _ _ _ _ (c.loop-round.invariant.0 group none))))
-    (rw (c.rest.ensures.speaks, c.loop-round.invariant.1) at c.in-Ok-turn.ensures.tells group),
-    c.turn.ensures.speaks ∙ c.rest.ensures.speaks ∙ c.loop-round.invariant.1,
-    c.rest.ensures.gone ∙ c.loop-round.invariant.2,
+  λ group none.
+      tells-then _ _ _ group _ _ _ _ _ _ _ _
+      (tells-then _ _ _ group _ _ _ _ _ _ _ _ (c.loop-round.invariant.0 group none)
+      (rw c.loop-round.invariant.1 at c.in-Ok.ensures.tells group (told-all _ _ _ group _ _ _ _ _ (c.loop-round.invariant.0 group none))))
+      (rw (c.rest.ensures.speaks, c.loop-round.invariant.1) at c.in-Ok-turn.ensures.tells group),
+  c.turn.ensures.speaks ∙ c.rest.ensures.speaks ∙ c.loop-round.invariant.1,
+  c.rest.ensures.gone ∙ c.loop-round.invariant.2,
 )
