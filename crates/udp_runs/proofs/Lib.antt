@@ -5,5 +5,6 @@ pub mod FactOfNodes
 pub mod FactOfGoing
 pub mod FactOfPlaying
 pub mod FactOfEnds
+pub mod FactOfTelling
 pub mod FactOfScripts
 pub mod FactOfMembers

@@ -6,4 +6,5 @@ pub mod Texts
 pub mod Nodes
 pub mod Scripts
 pub mod Playing
+pub mod Telling
 pub mod Members

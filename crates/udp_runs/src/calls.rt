@@ -49,7 +49,7 @@ pub(crate) fn call_of(event: &WorldEvent) -> Option<(Node, Call<'_>)> {
 }
 
 // Sends a payload by a channel. The outer error says that memory was refused before that.
-fn send<N: Net, C: Application>(
+pub(crate) fn send<N: Net, C: Application>(
     alloc: Global,
     runner: &mut Runner<N, C>,
     payload: &Bytes,

@@ -1,9 +1,10 @@
 //! A member that runs by itself.
 
-ghost use Rattle.udp_runs.specs.Ends.{TakesMore};
+ghost use Rattle.std.specs.Prelude.{◌≡◌, ℕ, List, [], OnOk};
+ghost use Rattle.udp_runs.specs.Telling.{PlaysAlone, Quietly, Tells, Waits};
 
-use crate::ends::{Cut, settle};
-use crate::process::append_state_of;
+use crate::calls::{Call, do_call, send};
+use crate::ends::Cut;
 use crate::outbox::{Outbox, OutboxError};
 use crate::telling::Teller;
 use crate::{Lines, LinesError, Machine, Manner, Tally, Trouble};
@@ -15,6 +16,7 @@ use script_reader::{MemberPlan, Unheard};
 use std::alloc::Global;
 use std::io::Write;
 use std::time::Duration;
+use trace_props::Bytes;
 use udp_member::{RECEIVES, Runner};
 use udp_net::{Net, Settings};
 
@@ -38,8 +40,6 @@ pub(crate) struct Lone<'a, N: Net, C: Application> {
     teller: Teller,
     // Whether it has ended.
     has_ended: bool,
-    // What happened to it that was not written yet.
-    text: Vec<u8>,
 }
 
 // What is left of an answer of a channel to one that runs by itself: want of memory ends it, and what is refused else is passed over.
@@ -50,20 +50,6 @@ fn unless_memory(answer: Result<(), Error>) -> Result<(), Cut> {
     }
 }
 
-// Writes what a text holds, so that it is seen at once, and empties it.
-fn show<W: Write>(writer: &mut W, text: &mut Vec<u8>) -> Result<(), Cut>
-    ensures { TakesMore (W.contents writer.old) (W.contents writer.new) }
-{
-    if text.is_empty() {
-        return Ok(());
-    }
-    settle(writer, text)?;
-    if writer.flush().is_err() {
-        return Err(Cut::Failed);
-    }
-    Ok(())
-}
-
 impl<'a, N: Net, C: Application> Lone<'a, N, C> {
     /// A member that was started, and is not connected yet; what it sends once.
     pub(crate) fn new(
@@ -71,7 +57,10 @@ impl<'a, N: Net, C: Application> Lone<'a, N, C> {
         member: Runner<N, C>,
         manner: Manner,
         unsent: Option<&'a [u8]>,
-    ) -> Lone<'a, N, C> {
+    ) -> Lone<'a, N, C>
+        ensures member { result.member ≡ member }
+        ensures speaks { result.teller.speaks ≡ manner.speaks }
+    {
         Lone {
             alloc,
             member,
@@ -81,12 +70,13 @@ impl<'a, N: Net, C: Application> Lone<'a, N, C> {
             outbox: Outbox::new(alloc),
             teller: Teller::new(alloc, manner.speaks),
             has_ended: false,
-            text: Vec::new(alloc),
         }
     }
 
     /// What happened to it, in numbers.
-    pub(crate) fn tally(&mut self) -> Tally {
+    pub(crate) fn tally(&mut self) -> Tally
+        ensures { self.new.member ≡ self.old.member }
+    {
         let mut tally = self.teller.tally;
         tally.garbled = self.member.garbled();
         tally.foreign = self.member.foreign();
@@ -97,41 +87,76 @@ impl<'a, N: Net, C: Application> Lone<'a, N, C> {
     }
 
     /// Its net, where it is no more used.
-    pub(crate) fn into_net(self) -> N {
+    pub(crate) fn into_net(self) -> N
+        ensures { result ≡ self.entry.member.net }
+    {
         self.member.into_net()
     }
 
     // Makes a group, or asks the contact to be let into one.
-    fn connect(&mut self, settings: &Settings, contact: Option<Address>) -> Result<(), Cut> {
+    fn connect(&mut self, settings: &Settings, contact: Option<Address>) -> Result<(), Cut>
+        ensures drives { Quietly N.log N.failed C.meaning settings.now.group self.old.member self.new.member }
+        ensures speaks { self.new.teller.speaks ≡ self.old.teller.speaks }
+    {
         let group = settings.group();
-        let channel = self.member.channel();
-        unless_memory(match contact {
-            Some(contact) => channel.connect_to(group.as_slice(), contact),
-            None => channel.connect_new(group.as_slice()),
-        })
+        let call = match contact {
+            Some(contact) => Call::Join(contact),
+            None => Call::Create,
+        };
+        let answer = do_call(self.alloc, &mut self.member, group.as_slice(), &call)?;
+        unless_memory(answer)
     }
 
     // Sends, as the coordinator of its view, what that sends first in the view, if it may.
-    fn send_first(&mut self) -> Result<(), Cut> {
-        let channel = self.member.channel();
-        let Some(view) = channel.view() else {
+    fn send_first(&mut self) -> Result<(), Cut>
+        ensures drives { (group : List ℕ) → Quietly N.log N.failed C.meaning group self.old.member self.new.member }
+        ensures speaks { self.new.teller.speaks ≡ self.old.teller.speaks }
+    {
+        let Some(id) = self.unopened() else {
             return Ok(());
         };
-        let id = view.id();
-        if view.first() != channel.address() || self.opened == Some(id) {
-            return Ok(());
+        if self.opens()? {
+            self.opened = Some(id);
         }
-        if let Some(payload) = C::first_message(self.alloc, view)? {
-            if !self.sends(payload.as_slice())? {
-                return Ok(());
-            }
-        }
-        self.opened = Some(id);
         Ok(())
     }
 
+    // The id of its view, where it is the coordinator there and has not said yet what that says first.
+    fn unopened(&mut self) -> Option<ViewId>
+        ensures member { self.new.member ≡ self.old.member }
+        ensures speaks { self.new.teller.speaks ≡ self.old.teller.speaks }
+    {
+        let channel = self.member.channel();
+        let view = channel.view()?;
+        let id = view.id();
+        if view.first() != channel.address() {
+            return None;
+        }
+        if self.opened == Some(id) {
+            return None;
+        }
+        Some(id)
+    }
+
+    // Sends what the coordinator of its view sends first there, if it sends anything; answers whether nothing of it is left.
+    fn opens(&mut self) -> Result<bool, Cut>
+        ensures drives { (group : List ℕ) → Quietly N.log N.failed C.meaning group self.old.member self.new.member }
+        ensures speaks { self.new.teller.speaks ≡ self.old.teller.speaks }
+    {
+        let Some(view) = self.member.channel().view() else {
+            return Ok(false);
+        };
+        match C::first_message(self.alloc, view)? {
+            Some(payload) => self.sends(&payload),
+            None => Ok(true),
+        }
+    }
+
     // Sends what it has to send once, if it may.
-    fn send_once(&mut self) -> Result<(), Cut> {
+    fn send_once(&mut self) -> Result<(), Cut>
+        ensures drives { (group : List ℕ) → Quietly N.log N.failed C.meaning group self.old.member self.new.member }
+        ensures speaks { self.new.teller.speaks ≡ self.old.teller.speaks }
+    {
         let Some(text) = self.unsent else {
             return Ok(());
         };
@@ -142,12 +167,15 @@ impl<'a, N: Net, C: Application> Lone<'a, N, C> {
     }
 
     // Sends what a text says in its view, and answers whether it was taken.
-    fn says(&mut self, text: &[u8]) -> Result<bool, Cut> {
+    fn says(&mut self, text: &[u8]) -> Result<bool, Cut>
+        ensures drives { (group : List ℕ) → Quietly N.log N.failed C.meaning group self.old.member self.new.member }
+        ensures speaks { self.new.teller.speaks ≡ self.old.teller.speaks }
+    {
         let Some(view) = self.member.channel().view() else {
             return Ok(false);
         };
         match C::payload_in_view(self.alloc, view.id(), text) {
-            Ok(payload) => self.sends(payload.as_slice()),
+            Ok(payload) => self.sends(&payload),
             Err(Unheard::Memory) => Err(Cut::Memory),
             Err(Unheard::Fault(fault)) => {
                 self.teller.tally.trouble = Some(Trouble::NoPayload(fault));
@@ -157,19 +185,21 @@ impl<'a, N: Net, C: Application> Lone<'a, N, C> {
     }
 
     // Sends a payload, and answers whether it was taken.
-    fn sends(&mut self, payload: &[u8]) -> Result<bool, Cut> {
-        let payload = Vec::from_slice(self.alloc, payload)?;
-        match self.member.channel().send(payload) {
-            Ok(_) => Ok(true),
-            Err((_, error)) => {
-                unless_memory(Err(error))?;
-                Ok(false)
-            }
-        }
+    fn sends(&mut self, payload: &Bytes) -> Result<bool, Cut>
+        ensures drives { (group : List ℕ) → Quietly N.log N.failed C.meaning group self.old.member self.new.member }
+        ensures speaks { self.new.teller.speaks ≡ self.old.teller.speaks }
+    {
+        let answer = send(self.alloc, &mut self.member, payload)?;
+        let is_taken = answer.is_ok();
+        unless_memory(answer)?;
+        Ok(is_taken)
     }
 
     // Sends the lines that wait, as many as it may; answers whether it sent any.
-    fn send_lines(&mut self) -> Result<bool, Cut> {
+    fn send_lines(&mut self) -> Result<bool, Cut>
+        ensures drives { (group : List ℕ) → Quietly N.log N.failed C.meaning group self.old.member self.new.member }
+        ensures speaks { self.new.teller.speaks ≡ self.old.teller.speaks }
+    {
         self.send_first()?;
         for sent in 0..SENDS {
             let line = match self.outbox.next() {
@@ -189,7 +219,10 @@ impl<'a, N: Net, C: Application> Lone<'a, N, C> {
     }
 
     // Takes the lines that came.
-    fn take_lines<L: Lines>(&mut self, lines: &mut L) -> Result<(), Cut> {
+    fn take_lines<L: Lines>(&mut self, lines: &mut L) -> Result<(), Cut>
+        ensures member { self.new.member ≡ self.old.member }
+        ensures speaks { self.new.teller.speaks ≡ self.old.teller.speaks }
+    {
         match self.outbox.fill(lines) {
             Ok(()) => Ok(()),
             Err(LinesError::Memory) => Err(Cut::Memory),
@@ -201,7 +234,10 @@ impl<'a, N: Net, C: Application> Lone<'a, N, C> {
     }
 
     // Whether it goes on after an answer of its runner: not where it has ended.
-    fn goes_on(&mut self, answer: Result<(), Error>) -> Result<(), Cut> {
+    fn goes_on(&mut self, answer: Result<(), Error>) -> Result<(), Cut>
+        ensures member { self.new.member ≡ self.old.member }
+        ensures speaks { self.new.teller.speaks ≡ self.old.teller.speaks }
+    {
         if answer == Err(Error::Refused(Refusal::Closed)) {
             self.has_ended = true;
             return Ok(());
@@ -210,7 +246,10 @@ impl<'a, N: Net, C: Application> Lone<'a, N, C> {
     }
 
     // A round; it seeks whom its view lacks, where it is time to.
-    fn round(&mut self, round: u64) -> Result<(), Cut> {
+    fn round(&mut self, round: u64) -> Result<(), Cut>
+        ensures drives { (group : List ℕ) → Quietly N.log N.failed C.meaning group self.old.member self.new.member }
+        ensures speaks { self.new.teller.speaks ≡ self.old.teller.speaks }
+    {
         self.send_first()?;
         self.send_once()?;
         self.send_lines()?;
@@ -225,7 +264,10 @@ impl<'a, N: Net, C: Application> Lone<'a, N, C> {
     }
 
     // Listens, and sends what it may then; answers whether there is more to do at once.
-    fn listen(&mut self) -> Result<bool, Cut> {
+    fn listen(&mut self) -> Result<bool, Cut>
+        ensures drives { (group : List ℕ) → Quietly N.log N.failed C.meaning group self.old.member self.new.member }
+        ensures speaks { self.new.teller.speaks ≡ self.old.teller.speaks }
+    {
         let count = match self.member.listen() {
             Ok(count) => count,
             Err(error) => {
@@ -239,26 +281,27 @@ impl<'a, N: Net, C: Application> Lone<'a, N, C> {
 
     // Writes what happened.
     fn show_events<W: Write>(&mut self, writer: &mut W) -> Result<(), Cut>
-        ensures { TakesMore (W.contents writer.old) (W.contents writer.new) }
+        ensures tells { (group : List ℕ) → Tells N.log N.failed C.meaning group self.old.teller.speaks self.old.member self.new.member (W.contents writer.old) (W.contents writer.new) result }
+        ensures speaks { self.new.teller.speaks ≡ self.old.teller.speaks }
     {
-        let appended = self.teller.tell(&mut self.text, self.member.channel());
-        show(writer, &mut self.text)?;
-        appended?;
-        Ok(())
+        self.teller.tell(self.member.channel(), writer)
     }
 
-    // Writes its chat, unless it has ended, or what is said was written as text.
-    fn show_chat<W: Write>(&mut self, writer: &mut W) -> Result<(), Cut>
-        ensures { TakesMore (W.contents writer.old) (W.contents writer.new) }
+    // Connects it, and writes what happened.
+    fn begin<W: Write>(
+        &mut self,
+        settings: &Settings,
+        contact: Option<Address>,
+        writer: &mut W,
+    ) -> Result<(), Cut>
+        ensures tells { Tells N.log N.failed C.meaning settings.now.group self.old.teller.speaks self.old.member self.new.member (W.contents writer.old) (W.contents writer.new) result }
+        ensures speaks { self.new.teller.speaks ≡ self.old.teller.speaks }
     {
-        if self.manner.speaks {
-            return Ok(());
+        let connected = self.connect(settings, contact);
+        match self.show_events(writer) {
+            Ok(()) => connected,
+            Err(why) => Err(why),
         }
-        let channel = self.member.channel();
-        let appended = append_state_of(&mut self.text, &channel.address(), channel);
-        show(writer, &mut self.text)?;
-        appended?;
-        Ok(())
     }
 
     // One of its rounds, and what happened by it.
@@ -268,12 +311,44 @@ impl<'a, N: Net, C: Application> Lone<'a, N, C> {
         lines: &mut L,
         writer: &mut W,
     ) -> Result<(), Cut>
-        ensures { TakesMore (W.contents writer.old) (W.contents writer.new) }
+        ensures tells { (group : List ℕ) → Tells N.log N.failed C.meaning group self.old.teller.speaks self.old.member self.new.member (W.contents writer.old) (W.contents writer.new) result }
+        ensures speaks { self.new.teller.speaks ≡ self.old.teller.speaks }
     {
-        self.take_lines(lines)?;
+        if let Err(why) = self.take_lines(lines) {
+            return Err(why);
+        }
         let went = self.round(round);
-        self.show_events(writer)?;
-        went
+        match self.show_events(writer) {
+            Ok(()) => went,
+            Err(why) => Err(why),
+        }
+    }
+
+    // Listens, and writes what happened; then it waits no longer than the rest of the time, unless there is more to do at once.
+    fn listen_for<W: Write>(&mut self, rest: Duration, writer: &mut W) -> Result<(), Cut>
+        ensures tells { (group : List ℕ) → Tells N.log N.failed C.meaning group self.old.teller.speaks self.old.member self.new.member (W.contents writer.old) (W.contents writer.new) result }
+        ensures speaks { self.new.teller.speaks ≡ self.old.teller.speaks }
+    {
+        let went = self.listen();
+        match self.show_events(writer) {
+            Ok(()) => self.wait_unless(rest, went),
+            Err(why) => Err(why),
+        }
+    }
+
+    // Waits, unless there is more to do at once.
+    fn wait_unless(&mut self, rest: Duration, went: Result<bool, Cut>) -> Result<(), Cut>
+        ensures waits { Waits N.log self.old.member self.new.member }
+        ensures speaks { self.new.teller.speaks ≡ self.old.teller.speaks }
+    {
+        match went {
+            Ok(true) => Ok(()),
+            Ok(false) => {
+                self.member.wait(rest);
+                Ok(())
+            }
+            Err(why) => Err(why),
+        }
     }
 
     // Handles datagrams as they come, until it is time for the next round.
@@ -283,17 +358,18 @@ impl<'a, N: Net, C: Application> Lone<'a, N, C> {
         machine: &mut M,
         writer: &mut W,
     ) -> Result<(), Cut>
-        ensures { TakesMore (W.contents writer.old) (W.contents writer.new) }
+        ensures tells { (group : List ℕ) → self.old.member.channel.happened ≡ [] → Tells N.log N.failed C.meaning group self.old.teller.speaks self.old.member self.new.member (W.contents writer.old) (W.contents writer.new) result }
+        ensures speaks { self.new.teller.speaks ≡ self.old.teller.speaks }
+        ensures gone { M.gone machine.new ≡ M.gone machine.old }
     {
         for _ in 0..LISTENS {
             let rest = due.saturating_sub(machine.now());
             if self.has_ended || rest == Duration::ZERO {
                 return Ok(());
             }
-            let went = self.listen();
-            self.show_events(writer)?;
-            if !went? {
-                self.member.wait(rest);
+            match self.listen_for(rest, writer) {
+                Ok(()) => (),
+                Err(why) => return Err(why),
             }
         }
         Ok(())
@@ -306,7 +382,9 @@ impl<'a, N: Net, C: Application> Lone<'a, N, C> {
         machine: &mut M,
         writer: &mut W,
     ) -> Result<(), Cut>
-        ensures { TakesMore (W.contents writer.old) (W.contents writer.new) }
+        ensures tells { (group : List ℕ) → self.old.member.channel.happened ≡ [] → Tells N.log N.failed C.meaning group self.old.teller.speaks self.old.member self.new.member (W.contents writer.old) (W.contents writer.new) result }
+        ensures speaks { self.new.teller.speaks ≡ self.old.teller.speaks }
+        ensures gone { M.gone machine.new ≡ M.gone machine.old }
     {
         if round == 0 {
             return Ok(());
@@ -323,29 +401,40 @@ impl<'a, N: Net, C: Application> Lone<'a, N, C> {
         machine: &mut M,
         writer: &mut W,
     ) -> Result<(), Cut>
-        ensures { TakesMore (W.contents writer.old) (W.contents writer.new) }
+        ensures tells { (group : List ℕ) → self.old.member.channel.happened ≡ [] → Tells N.log N.failed C.meaning group self.old.teller.speaks self.old.member self.new.member (W.contents writer.old) (W.contents writer.new) result }
+        ensures speaks { self.new.teller.speaks ≡ self.old.teller.speaks }
+        ensures gone { M.gone machine.new ≡ M.gone machine.old }
     {
         for round in 0..rounds {
             if self.has_ended || self.outbox.is_over() {
                 return Ok(());
             }
-            self.rest(round, machine, writer)?;
-            self.turn(round, lines, writer)?;
+            match self.rest(round, machine, writer) {
+                Ok(()) => (),
+                Err(why) => return Err(why),
+            }
+            match self.turn(round, lines, writer) {
+                Ok(()) => (),
+                Err(why) => return Err(why),
+            }
         }
         Ok(())
     }
 
     // Leaves its group, where it is to.
     fn leave<W: Write>(&mut self, writer: &mut W) -> Result<(), Cut>
-        ensures { TakesMore (W.contents writer.old) (W.contents writer.new) }
+        ensures tells { (group : List ℕ) → self.old.member.channel.happened ≡ [] → Tells N.log N.failed C.meaning group self.old.teller.speaks self.old.member self.new.member (W.contents writer.old) (W.contents writer.new) result }
+        ensures speaks { self.new.teller.speaks ≡ self.old.teller.speaks }
     {
         if self.has_ended || !self.manner.leaves {
             return Ok(());
         }
         let left = unless_memory(self.member.channel().disconnect());
         let _ended = self.member.listen();
-        self.show_events(writer)?;
-        left
+        match self.show_events(writer) {
+            Ok(()) => left,
+            Err(why) => Err(why),
+        }
     }
 
     /// Connects it, and then has its rounds; at the end its chat is written, and it leaves where it is to.
@@ -357,13 +446,23 @@ impl<'a, N: Net, C: Application> Lone<'a, N, C> {
         machine: &mut M,
         writer: &mut W,
     ) -> Result<(), Cut>
-        ensures { TakesMore (W.contents writer.old) (W.contents writer.new) }
+        ensures plays { PlaysAlone N.log N.failed C.meaning C.line_of settings.now.group plan.now.address self.old.teller.speaks self.old.member self.new.member
+            (W.contents writer.old) (W.contents writer.new) result }
+        ensures gone { M.gone machine.new ≡ M.gone machine.old }
     {
-        let connected = self.connect(settings, plan.contact);
-        self.show_events(writer)?;
-        connected?;
-        self.turns(plan.rounds, lines, machine, writer)?;
-        self.show_chat(writer)?;
+        match self.begin(settings, plan.contact, writer) {
+            Ok(()) => (),
+            Err(why) => return Err(why),
+        }
+        match self.turns(plan.rounds, lines, machine, writer) {
+            Ok(()) => (),
+            Err(why) => return Err(why),
+        }
+        let channel = self.member.channel();
+        match self.teller.tell_state(&plan.address, channel, writer) {
+            Ok(()) => (),
+            Err(why) => return Err(why),
+        }
         self.leave(writer)
     }
 }

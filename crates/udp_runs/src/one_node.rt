@@ -1,9 +1,11 @@
 //! One node that runs by itself.
 
+ghost use Rattle.std.specs.Prelude.{◌≡◌, []};
+ghost use Rattle.std.specs.Option.{ForSome};
+ghost use Rattle.address.specs.Ids.{IsAddress};
 ghost use Rattle.udp_net.specs.Settings.{port_of};
 ghost use Rattle.commands.specs.Outcomes.{Written};
-ghost use Rattle.udp_runs.specs.Ends.{TakesMore};
-ghost use Rattle.udp_runs.specs.Members.{IsListedText, RunsMember, StartsUp, WritesStart};
+ghost use Rattle.udp_runs.specs.Members.{GoesAlone, IsListedText, RunsMember, StartsUp, WritesStart};
 
 use crate::ends::{Cut, end, end_without_net, settle};
 use crate::lone::Lone;
@@ -12,6 +14,7 @@ use crate::{Lines, Machine, Manner};
 use address::Address;
 use application::Application;
 use commands::Status;
+use deployed_runners::runners_are_synchronous;
 use script_reader::MemberPlan;
 use std::alloc::Global;
 use std::io::Write;
@@ -19,6 +22,14 @@ use trace_props::Event;
 use udp_member::Runner;
 use udp_net::{BindError, Settings};
 use vsync_text::append_event;
+
+// It does nothing: its clause is what the type of an address says of it.
+fn is_real(address: Address)
+    ensures { IsAddress address }
+{
+    let _node = address.node().number();
+    let _incarnation = address.incarnation();
+}
 
 // Does what the plan says at a member that was started.
 fn go_on<C: Application, L: Lines, M: Machine, W: Write>(
@@ -31,9 +42,16 @@ fn go_on<C: Application, L: Lines, M: Machine, W: Write>(
     net: M::Net,
     writer: &mut W,
 ) -> Result<(), Cut>
-    ensures { TakesMore (W.contents writer.old) (W.contents writer.new) }
+    ensures { ForSome (M.Net.log net) (λ l. l ≡ [])
+        → GoesAlone M.Net.log C.meaning C.line_of settings.now.group (M.gone machine.old) (M.gone machine.new) manner.speaks plan.now.address
+        (W.contents writer.old) (W.contents writer.new) result }
 {
-    let member: Runner<M::Net, C> = member_at(alloc, plan.address, net, settings)?;
+    runners_are_synchronous::<M::Net, C>();
+    is_real(plan.address);
+    let member: Runner<M::Net, C> = match member_at(alloc, plan.address, net, settings) {
+        Ok(member) => member,
+        Err(_) => return Err(Cut::Memory),
+    };
     let mut lone = Lone::new(alloc, member, manner, plan.send);
     let played = lone.play(settings, plan, lines, machine, writer);
     machine.tell(&lone.tally());
@@ -63,8 +81,12 @@ fn start<C: Application, L: Lines, M: Machine, W: Write>(
     net: M::Net,
     writer: &mut W,
 ) -> Result<(), Cut>
-    ensures { StartsUp plan.now.address (W.contents writer.old) (W.contents writer.new) result }
+    ensures { ForSome (M.Net.log net) (λ l. l ≡ [])
+        → StartsUp M.Net.log C.meaning C.line_of settings.now.group (M.gone machine.old) (M.gone machine.new) manner.speaks plan.now.address
+        (W.contents writer.old) (W.contents writer.new) result }
 {
+    runners_are_synchronous::<M::Net, C>();
+    is_real(plan.address);
     match write_start(alloc, plan.address, writer) {
         Ok(()) => {
             go_on::<C, L, M, W>(alloc, settings, plan, manner, lines, machine, net, writer)
@@ -83,7 +105,8 @@ fn run_listed<C: Application, L: Lines, M: Machine, W: Write>(
     machine: &mut M,
     writer: &mut W,
 ) -> Status
-    ensures { Written (IsListedText plan.now.address) (W.contents writer.old) (W.contents writer.new) result }
+    ensures { Written (IsListedText M.Net.log C.meaning C.line_of settings.now.group (M.gone machine.old) (M.gone machine.new) manner.speaks plan.now.address)
+        (W.contents writer.old) (W.contents writer.new) result }
 {
     match machine.net(plan.address.node()) {
         Ok(net) => {
@@ -99,7 +122,10 @@ fn run_listed<C: Application, L: Lines, M: Machine, W: Write>(
 /// Runs one node of the settings by itself, over its net, with `C` as its receiver: it makes a group or joins its contact's, and has its rounds, between
 /// which it handles datagrams as they come. It sends what the lines say that come, each as soon as it may, and as the coordinator of a view what that sends first in it. It ends early where one is the byte 4 alone. Writes what happened to it
 /// to a writer as it happens, and the line of its state at the end, or what is said as text (docs/FORMATS.md, "Nodes over UDP"). At its end the machine is told what
-/// happened in numbers. Answers the exit status.
+/// happened in numbers, and has its net back. Answers the exit status.
+///
+/// What it writes with status 0, unless it speaks, is the line of its start, a line for each thing that its channel told, in order, the line of its state, and a line for each
+/// thing that it told then: with a crash, which it cannot tell, a history of one process, for every receiver and every net. In every other case it is a beginning of such a text.
 ///
 /// Where the lines can be read no more, one is too long, or one says no payload, it ends at once with status 5, and the machine is told why. Where the settings do not list the node it writes `fault 0 50` alone, status 3; where the node can have no socket `fault 0 51` alone, status 5. Where memory is
 /// refused, it writes the text so far and `# memory`.
@@ -112,7 +138,8 @@ pub fn run_member<C: Application, L: Lines, M: Machine, W: Write>(
     machine: &mut M,
     writer: &mut W,
 ) -> Status
-    ensures { RunsMember plan.now.address (port_of plan.now.address.node settings.now.nodes) (W.contents writer.old) (W.contents writer.new) result }
+    ensures { RunsMember M.Net.log C.meaning C.line_of settings.now.group (M.gone machine.old) (M.gone machine.new) manner.speaks plan.now.address
+        (port_of plan.now.address.node settings.now.nodes) (W.contents writer.old) (W.contents writer.new) result }
 {
     match settings.port(plan.address.node()) {
         Some(_) => {

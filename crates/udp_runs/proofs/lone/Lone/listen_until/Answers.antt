@@ -1,11 +1,17 @@
-use Rattle.udp_runs.proofs.FactOfEnds.{takes-then}
+use Rattle.std.proofs.Common.{refl, ◌∙◌}
+use Rattle.udp_runs.proofs.FactOfTelling.{tells-none, tells-then}
 use Rattle.udp_runs.proofs.lone.Lone.listen_until.Goals as goal
 
-pub returns-in_err-show_events : goal.returns-in_err-show_events
-returns-in_err-show_events g c = takes-then _ _ _ c.loop.invariant c.show_events.ensures
+pub loop-init : goal.loop-init
+loop-init g c = (λ group none. tells-none _ _ _ group _ _ _ none, refl, refl)
 
-pub returns-in_err-went : goal.returns-in_err-went
-returns-in_err-went g c = takes-then _ _ _ c.loop.invariant c.show_events.ensures
+pub returns-in-Err-clause-tells : goal.returns-in-Err-clause-tells
+returns-in-Err-clause-tells g c group none =
+    tells-then _ _ _ group _ _ _ _ _ _ _ _ (c.loop.invariant.0 group none) (rw c.loop.invariant.1 at c.in-Err.ensures.tells group)
 
 pub loop-preserved : goal.loop-preserved
-loop-preserved g c = takes-then _ _ _ c.loop.invariant c.show_events.ensures
+loop-preserved g c = (
+  λ group none. tells-then _ _ _ group _ _ _ _ _ _ _ _ (c.loop.invariant.0 group none) (rw c.loop.invariant.1 at c.in-Ok.ensures.tells group),
+  c.listen_for.ensures.speaks ∙ c.loop.invariant.1,
+  c.now.ensures ∙ c.loop.invariant.2,
+)

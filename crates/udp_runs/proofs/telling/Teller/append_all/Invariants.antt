@@ -1,0 +1,12 @@
+use Rattle.std.proofs.Common.{◌≡◌, false, length}
+use Rattle.udp_runs.proofs.FactOfTexts.{Took}
+use Rattle.udp_runs.proofs.telling.Teller.append_all.Given as goal
+
+-- some events were taken, and their lines were appended, unless it speaks
+abbrev pub invariant-loop-event : goal.invariant-loop-event
+invariant-loop-event g l =
+    (l.fn.self.speaks ≡ false → Took l.fn.channel l.channel l.fn.self.text.items l.self.text.items) × (l.channel ≡ record l.fn.channel { happened = l.channel.happened })
+    × (l.self.speaks ≡ l.fn.self.speaks)
+
+abbrev pub decreases-loop-event : goal.decreases-loop-event
+decreases-loop-event g l = length l.channel.happened
