@@ -1,4 +1,5 @@
-ghost use Rattle.std.specs.Prelude.{◌≡◌, Some, None};
+ghost use Rattle.std.specs.Prelude.{◌≡◌, [], Some, None, IfOk};
+ghost use Rattle.std.specs.Option.{ForSome};
 ghost use Rattle.std.specs.Result.{result_err};
 ghost use Rattle.udp_runs.specs.Loopbacks.{nothing_asked, unbound_after};
 
@@ -7,7 +8,7 @@ use address::{Address, Node};
 use std::alloc::Global;
 use std::marker::Model;
 use std::time::{Clock, Duration};
-use udp_net::{BindError, Hosts, Settings, SocketNet};
+use udp_net::{BindError, Hosts, Net, Settings, SocketNet};
 
 /// This machine: each node has a socket of UDP, at its port by the settings. Contracts see whether a socket could not be bound, and what was told.
 #[derive(Drop)]
@@ -69,7 +70,8 @@ impl<'a, R: std::net::Net + Clock> Machine for Loopback<'a, R> {
     ghost gone = { λ _. None };
 
     fn net(&mut self, node: Node) -> Result<SocketNet, BindError>
-        ensures { self.new ≡ record self.old { is_unbound = unbound_after self.old.is_unbound (result_err result) } }
+        ensures fresh { IfOk result (λ net. ForSome (⟦<SocketNet as Net>⟧.log net) (λ l. l ≡ [])) }
+        ensures after { self.new ≡ record self.old { is_unbound = unbound_after self.old.is_unbound (result_err result) } }
     {
         let bound = SocketNet::bind(self.alloc, self.runtime, self.settings, &self.hosts, node);
         if matches!(&bound, Err(BindError::Bind)) {
