@@ -1,11 +1,13 @@
 -- What each call of a node does among the others, by what its process does.
-use Rattle.std.proofs.Common.{◌≡◌, ℕ, Bool, true, false, Option, None, Some, Result, Ok, Err, OnOk, OnErr, IsErr, List, [], ◌∷◌, ◌++◌, map, take, slice_get, slice_set, refl, sym, ap, ◌∙◌, subst}
+use Rattle.std.proofs.Common.{◌≡◌, ℕ, Bool, true, false, Option, None, Some, Result, Ok, Err, OnOk, OnErr, IsErr, List, [], ◌∷◌, ◌++◌, map, take, drop, length, get_or, option_to_list, slice_get, slice_set, inl, inr, ◌⊎◌, ◌+◌, ◌<◌, ◌≤◌, arith, refl, sym, ap, ◌∙◌, subst}
 use Rattle.std.specs.List.{concat}
-use Rattle.std.specs.Option.{ForSome}
-use Rattle.std.proofs.lemmas.List.{append-nil, append_assoc}
+use Rattle.std.specs.Option.{ForSome, option_map_or}
+use Rattle.std.proofs.lemmas.List.{append-nil, append_assoc, map-append, take-append-drop}
+use Rattle.std.proofs.lemmas.List.Elements.{filter_map-append}
 use Rattle.address.specs.Ids.{Address}
 use Rattle.state_transfer.specs.Meanings.{Meaning}
 use Rattle.trace_props.specs.declared.event.Event.TheVariants.{Started, Crashed}
+use Rattle.trace_props.proofs.FactOfPlaces.{slice_get-push}
 use Rattle.vsync_text.specs.TraceText.{line_of}
 use Rattle.vsync_text.specs.Runs.{refusal_line}
 use Rattle.udp_net.specs.Logs.{Log}
@@ -16,10 +18,10 @@ use Rattle.udp_runs.specs.declared.process.Process.{Process}
 use Rattle.udp_runs.specs.declared.node_state.NodeState.{NodeState}
 use Rattle.udp_runs.specs.Machines.{GivesBack}
 use Rattle.udp_runs.specs.Texts.{Line, Happens, Refuses, Appended, texts_of, events_in}
-use Rattle.udp_runs.specs.Nodes.{Turns, TakesTurn, Plays, IsFirst, IsNext, GoesOnAt}
-use Rattle.udp_runs.specs.Scripts.{net_of}
-use Rattle.udp_runs.proofs.FactOfPlaces.{set-self}
-use Rattle.udp_runs.proofs.FactOfTexts.{text-then, cut-whole}
+use Rattle.udp_runs.specs.Nodes.{Turns, TakesTurn, Plays, IsFirst, IsNext, AreUnused, GoesOn, GoesOnAt, processes_in}
+use Rattle.udp_runs.specs.Scripts.{net_of, state_text}
+use Rattle.udp_runs.proofs.FactOfPlaces.{set-self, set-other, at-place, length-set, take-more}
+use Rattle.udp_runs.proofs.FactOfTexts.{text-then, cut-whole, cut-behind, concat-then, take-front}
 use Rattle.udp_runs.proofs.FactOfNodes.{plays-refused, plays-turn, plays-ended, turn-played, plays-killed, killed-played, plays-started, plays-failed, start-failed}
 
 abbrev pub okay : (A E : Type 0) → A → Result A E
@@ -171,3 +173,146 @@ module _ {N S : Type 0} (log : N → Option Log) (failed : N → ℕ) (meaning :
     starts-not mid (Err e) is said ok err =
         (Happens (Started p) ∷ Happens (Crashed p) ∷ [], start-failed log failed meaning group states gone lines x k old here p next first,
         cut-whole text text' (Happens (Started p) ∷ []) (Happens (Crashed p) ∷ []) (err ∙ one-more text mid (line_of (Started p)) said))
+
+  -- ---- one after the other
+
+  abbrev pub GoesAll : {A E : Type 0} → List (NodeState N S) → List (NodeState N S) → Option (List (Gone N)) → Option (List (Gone N)) → List ℕ → List ℕ → Result A E → Type 0
+  GoesAll old new given given' text text' result = GoesOn log failed meaning group old new given given' text text' result
+
+  pub goes-none : (states new : List (NodeState N S)) (given given' : Option (List (Gone N))) (text text' : List ℕ) → new ≡ states → given' ≡ given → text' ≡ text
+      → GoesAll states new given given' text text' (okay (Unit {0}) (Unit {0}) tt)
+  goes-none states new given given' text text' same gives said gone lines x =
+      ([], ([], gives-as given given' gives,
+      subst (λ (n : List (NodeState N S)). Plays log failed meaning group n (gone ++ []) (lines ++ [])) (sym same)
+      (subst (λ (l : List (Gone N)). Plays log failed meaning group states l (lines ++ [])) (sym (append-nil gone))
+      (subst (λ (l : List Line). Plays log failed meaning group states gone l) (sym (append-nil lines)) x))), none-more text text' said)
+
+  pub goes-then : (A E B F : Type 0) (a b c : List (NodeState N S)) (given mid given' : Option (List (Gone N))) (text t text' : List ℕ) (done : B) (result : Result A E)
+      → GoesAll a b given mid text t (okay B F done) → GoesAll b c mid given' t text' result → GoesAll a c given given' text text' result
+  goes-then A E B F a b c given mid given' text t text' done (Ok x) f g gone lines y =
+      let first = f gone lines y in
+      let more = g (gone ++ first.1.0) (lines ++ first.0) first.1.2 in
+      (first.0 ++ more.0, (first.1.0 ++ more.1.0, gives-then given mid given' first.1.0 more.1.0 first.1.1 more.1.1,
+      subst (λ (l : List (Gone N)). Plays log failed meaning group c l (lines ++ (first.0 ++ more.0))) (append_assoc gone first.1.0 more.1.0)
+      (subst (λ (l : List Line). Plays log failed meaning group c ((gone ++ first.1.0) ++ more.1.0) l) (append_assoc lines first.0 more.0) more.1.2)),
+      text-then text t text' first.0 more.0 first.2 more.2)
+  goes-then A E B F a b c given mid given' text t text' done (Err e) f g gone lines y =
+      let first = f gone lines y in
+      let more = g (gone ++ first.1.0) (lines ++ first.0) first.1.2 in
+      (first.0 ++ more.0,
+      (more.1.0, more.1.1, subst (λ (l : List Line). Played log failed meaning group more.1.0 more.1.1 (events_in l)) (append_assoc lines first.0 more.0) more.1.2),
+      cut-behind text t text' first.0 more.0 first.2 more.2)
+
+  -- a result that says the same
+  pub goes-as : (A E B F : Type 0) (a b : List (NodeState N S)) (given given' : Option (List (Gone N))) (text text' : List ℕ) (e : F) (result : Result A E) → IsErr result
+      → GoesAll a b given given' text text' (refusing B F e) → GoesAll a b given given' text text' result
+  goes-as A E B F a b given given' text text' e (Ok x) is f = absurd (let bad : false ≡ true = is in cc)
+  goes-as A E B F a b given given' text text' e (Err y) is f = f
+
+  -- the machine keeps what it kept
+  pub goes-given : (A E : Type 0) (a b : List (NodeState N S)) (given given' : Option (List (Gone N))) (text text' : List ℕ) (result : Result A E) → given' ≡ given
+      → GoesAll a b given given text text' result → GoesAll a b given given' text text' result
+  goes-given A E a b given given' text text' result same f = subst (λ (g : Option (List (Gone N))). GoesAll a b given g text text' result) (sym same) f
+
+  -- nothing is done
+  pub goes-stopped : (A E : Type 0) (a b : List (NodeState N S)) (given given' : Option (List (Gone N))) (text text' : List ℕ) (e : E) → text' ≡ text
+      → GoesAll a b given given' text text' (refusing A E e)
+  goes-stopped A E a b given given' text text' e same gone lines x =
+      ([], (x.at, gone, subst (λ (l : List Line). Played log failed meaning group x.at gone (events_in l)) (sym (append-nil lines)) x.played), (0, none-more text text' same))
+
+  pub stopped-by : (A E : Type 0) (a b : List (NodeState N S)) (given given' : Option (List (Gone N))) (text text' : List ℕ) (result : Result A E) → IsErr result → text' ≡ text
+      → GoesAll a b given given' text text' result
+  stopped-by A E a b given given' text text' (Ok x) is same = absurd (let bad : false ≡ true = is in cc)
+  stopped-by A E a b given given' text text' (Err e) is same = goes-stopped A E a b given given' text text' e same
+
+  -- the event of a line is refused
+  pub refused-all : (E : Type 0) (states : List (NodeState N S)) (given : Option (List (Gone N))) (text text' : List ℕ) (line number : ℕ) (result : Result Unit E)
+      → OnOk result (text' ≡ text ++ refusal_line line number) → OnErr result (text' ≡ text) → GoesAll states states given given text text' result
+  refused-all E states given text text' line number (Ok done) said unsaid gone lines x =
+      (Refuses line number ∷ [], ([], gives-none given,
+      subst (λ (l : List (Gone N)). Plays log failed meaning group states l (lines ++ Refuses line number ∷ [])) (sym (append-nil gone))
+      (plays-refused log failed meaning group states gone lines line number x)), one-more text text' (refusal_line line number) said)
+  refused-all E states given text text' line number (Err e) said unsaid gone lines x =
+      goes-stopped Unit E states states given given text text' e unsaid gone lines x
+
+  pub goes-done : (A E B F : Type 0) (a b : List (NodeState N S)) (given given' : Option (List (Gone N))) (text text' : List ℕ) (done : B) (other : A)
+      → GoesAll a b given given' text text' (okay B F done) → GoesAll a b given given' text text' (okay A E other)
+  goes-done A E B F a b given given' text text' done other f = f
+
+-- ---- nodes one by one
+
+module _ {N S : Type 0} where
+  -- one node more, where no process was started
+  pub unused-more : (states : List (NodeState N S)) (x : NodeState N S) (new : List (NodeState N S)) (node : ℕ) → AreUnused states → x ≡ record { node = node; last = None; process = None }
+      → new ≡ states ++ x ∷ [] → AreUnused new
+  unused-more states x new node unused fresh is k y at =
+      by (slice_get-push states x k y (subst (λ (l : List (NodeState N S)). slice_get l k ≡ Some y) is at))
+    where
+      by : (slice_get states k ≡ Some y) ⊎ ((k ≡ length states) × (x ≡ y)) → (y.last ≡ None) × (y.process ≡ None)
+      by (inl before) = unused k y before
+      by (inr (place, same)) =
+          (ap (λ (z : NodeState N S). z.last) (sym same) ∙ ap (λ (z : NodeState N S). z.last) fresh, ap (λ (z : NodeState N S). z.process) (sym same) ∙ ap (λ (z : NodeState N S). z.process) fresh)
+
+  pub processes-then : (xs ys : List (NodeState N S)) → processes_in (xs ++ ys) ≡ processes_in xs ++ processes_in ys
+  processes-then xs ys = filter_map-append (λ (x : NodeState N S). x.process) xs ys
+
+  pub one-process : (x : NodeState N S) → processes_in (x ∷ []) ≡ option_to_list x.process
+  one-process x = by x.node x.last x.process
+    where
+      by : (node : ℕ) (last : Option Address) (o : Option (Process N S)) → processes_in (record { node = node; last = last; process = o } ∷ []) ≡ option_to_list o
+      by node last None = refl
+      by node last (Some q) = refl
+
+  processes-more : (all : List (NodeState N S)) (k : ℕ) (x : NodeState N S) → slice_get all k ≡ Some x
+      → processes_in (take (k + 1) all) ≡ processes_in (take k all) ++ option_to_list x.process
+  processes-more all k x here =
+      ap processes_in (take-more all k x here) ∙ processes-then (take k all) (x ∷ []) ∙ ap (λ (l : List (Process N S)). processes_in (take k all) ++ l) (one-process x)
+
+  -- one more is let go
+  abbrev pub Closed : List (NodeState N S) → List (NodeState N S) → ℕ → Option (List (Gone N)) → Option (List (Gone N)) → Type 0
+  Closed all now k given given' =
+      GivesBack given (map net_of (processes_in (take k all))) given' × (length now ≡ length all) × ((j : ℕ) → k ≤ j → slice_get now j ≡ slice_get all j)
+
+  pub closes-more : (all now : List (NodeState N S)) (k : ℕ) (x new : NodeState N S) (given mid given' : Option (List (Gone N))) → Closed all now k given mid → k < length now
+      → x ≡ get_or now k x → GivesBack mid (map net_of (option_to_list x.process)) given' → Closed all (slice_set now k new) (k + 1) given given'
+  closes-more all now k x new given mid given' (back, same, others) within is gives =
+      let here : slice_get all k ≡ Some x = sym (others k (omega arith)) ∙ at-place now k x within is in (
+        subst (λ (l : List (Gone N)). GivesBack given l given')
+        (sym (map-append net_of (processes_in (take k all)) (option_to_list x.process)) ∙ ap (map net_of) (sym (processes-more all k x here)))
+        (gives-then given mid given' (map net_of (processes_in (take k all))) (map net_of (option_to_list x.process)) back gives),
+        length-set now k new ∙ same,
+        λ j after. set-other now k j new (λ e. omega arith) ∙ others j (omega arith),
+      )
+
+  -- one more state is appended
+  abbrev pub Stated : (Address → S → List ℕ) → List (NodeState N S) → List (NodeState N S) → ℕ → List ℕ → List ℕ → Type 0
+  Stated line_of all now k text text' = (text' ≡ text ++ concat (map (state_text line_of) (processes_in (take k all)))) × (now ≡ all)
+
+  line-of-one : (line_of : Address → S → List ℕ) (o : Option (Process N S)) → option_map_or (state_text line_of) o [] ≡ concat (map (state_text line_of) (option_to_list o))
+  line-of-one line_of None = refl
+  line-of-one line_of (Some q) = sym (append-nil (state_text line_of q))
+
+  pub states-more : (line_of : Address → S → List ℕ) (all now : List (NodeState N S)) (k : ℕ) (x new : NodeState N S) (text mid text' : List ℕ) → Stated line_of all now k text mid
+      → (length now ≡ length all → k < length now) → x ≡ get_or now k x → text' ≡ mid ++ option_map_or (state_text line_of) x.process [] → new ≡ x
+      → Stated line_of all (slice_set now k new) (k + 1) text text'
+  states-more line_of all now k x new text mid text' (said, same) within is line kept =
+      let there = at-place now k x (within (ap length same)) is in
+      let here : slice_get all k ≡ Some x = ap (λ (l : List (NodeState N S)). slice_get l k) (sym same) ∙ there in
+      let before = map (state_text line_of) (processes_in (take k all)) in
+      let last = map (state_text line_of) (option_to_list x.process) in (
+        line ∙ ap (λ (l : List ℕ). l ++ option_map_or (state_text line_of) x.process []) said ∙ append_assoc text (concat before) (option_map_or (state_text line_of) x.process [])
+        ∙ ap (λ (l : List ℕ). text ++ l)
+        (ap (λ (l : List ℕ). concat before ++ l) (line-of-one line_of x.process) ∙ sym (concat-then before last)
+        ∙ ap concat (sym (map-append (state_text line_of) (processes_in (take k all)) (option_to_list x.process)) ∙ ap (map (state_text line_of)) (sym (processes-more all k x here)))),
+        ap (slice_set now k) kept ∙ set-self now k x there ∙ same,
+      )
+
+  pub states-some : (line_of : Address → S → List ℕ) (all now : List (NodeState N S)) (k : ℕ) (text mid text' : List ℕ) → Stated line_of all now k text mid → text' ≡ mid
+      → (n : ℕ) × (text' ≡ text ++ concat (take n (map (state_text line_of) (processes_in all))))
+  states-some line_of all now k text mid text' (said, same) kept =
+      let before = map (state_text line_of) (processes_in (take k all)) in
+      let rest = map (state_text line_of) (processes_in (drop k all)) in
+      (length before, kept ∙ said ∙ ap (λ (l : List (List ℕ)). text ++ concat l)
+      (sym (take-front before rest)
+      ∙ ap (take (length before)) (sym (map-append (state_text line_of) (processes_in (take k all)) (processes_in (drop k all)))
+      ∙ ap (map (state_text line_of)) (sym (processes-then (take k all) (drop k all)) ∙ ap processes_in (take-append-drop k all)))))

@@ -1,5 +1,5 @@
 -- Places of a list, of which one is set.
-use Rattle.std.proofs.Common.{◌≡◌, ℕ, zero, suc, ◌<◌, ◌⊎◌, inl, inr, Option, None, Some, List, [], ◌∷◌, slice_get, slice_set, refl, sym, ap, ◌∙◌, subst, arith}
+use Rattle.std.proofs.Common.{◌≡◌, ℕ, zero, suc, ◌+◌, ◌<◌, ◌⊎◌, inl, inr, Option, None, Some, IsSomeAnd, List, [], ◌∷◌, ◌++◌, length, take, get_or, slice_get, slice_set, refl, sym, ap, ◌∙◌, subst, arith}
 use Rattle.std.proofs.lemmas.Option.{none-some, same_Some}
 
 module _ {X : Type 0} where
@@ -24,6 +24,34 @@ module _ {X : Type 0} where
   set-twice [] k x y = refl
   set-twice (z ∷ xs) zero x y = refl
   set-twice (z ∷ xs) (suc k) x y = ap (λ (l : List X). z ∷ l) (set-twice xs k x y)
+
+-- what stands at a place within
+pub at-place : {X : Type 0} (xs : List X) (k : ℕ) (x : X) → k < length xs → x ≡ get_or xs k x → slice_get xs k ≡ Some x
+at-place [] k x within is = absurd (omega arith)
+at-place (y ∷ xs) zero x within is = ap Some (sym is)
+at-place (y ∷ xs) (suc k) x within is = at-place xs k x (omega arith) is
+
+pub length-set : {X : Type 0} (xs : List X) (k : ℕ) (x : X) → length (slice_set xs k x) ≡ length xs
+length-set [] k x = refl
+length-set (y ∷ xs) zero x = refl
+length-set (y ∷ xs) (suc k) x = ap suc (length-set xs k x)
+
+-- one more of the first
+more-first : {X : Type 0} (xs : List X) (k : ℕ) (x : X) → slice_get xs k ≡ Some x → take (suc k) xs ≡ take k xs ++ x ∷ []
+more-first [] k x at = absurd (none-some x at)
+more-first {X} (y ∷ xs) zero x at = ap (λ (z : X). z ∷ []) (same_Some y x at)
+more-first {X} (y ∷ xs) (suc k) x at = ap (λ (l : List X). y ∷ l) (more-first xs k x at)
+
+pub take-more : {X : Type 0} (xs : List X) (k : ℕ) (x : X) → slice_get xs k ≡ Some x → take (k + 1) xs ≡ take k xs ++ x ∷ []
+take-more xs k x at = let n : k + 1 ≡ suc k = omega arith in ap (λ (m : ℕ). take m xs) n ∙ more-first xs k x at
+
+pub some-of : {X : Type 0} (P : X → Type 0) (o : Option X) (x : X) → o ≡ Some x → P x → IsSomeAnd o P
+some-of P None x at so = absurd (none-some x at)
+some-of P (Some y) x at so = subst P (sym (same_Some y x at)) so
+
+pub some-at : {X : Type 0} (P : X → Type 0) (o : Option X) (x : X) → o ≡ Some x → IsSomeAnd o P → P x
+some-at P None x at so = absurd so
+some-at P (Some y) x at so = subst P (same_Some y x at) so
 
 -- two places are one, or one of them comes first
 pub places : (a b : ℕ) → (a ≡ b) ⊎ ((a < b) ⊎ (b < a))

@@ -3,6 +3,7 @@ pub mod FactOfTexts
 pub mod FactOfTurns
 pub mod FactOfNodes
 pub mod FactOfGoing
+pub mod FactOfPlaying
 pub mod FactOfEnds
 pub mod FactOfTelling
 pub mod FactOfScripts

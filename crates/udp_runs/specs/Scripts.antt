@@ -1,5 +1,5 @@
 -- What a command writes that runs nodes over datagrams by a script.
-use Rattle.std.specs.Prelude.{◌≡◌, ℕ, List, ◌++◌, map, take, Option, Some, Ok, Err, IfSome, [], Contains}
+use Rattle.std.specs.Prelude.{◌≡◌, ℕ, List, ◌++◌, map, take, slice_get, Option, Some, Ok, Err, IfSome, [], Contains}
 use Rattle.std.specs.List.{concat}
 use Rattle.std.specs.Option.{option_map_or}
 use Rattle.std.specs.Io.KnownBytes.{Appends}
@@ -34,8 +34,8 @@ start_line number node = record { number = number; event = Node (Start node) }
 pub record HasRun {N S : Type 0} (log : N → Option Log) (meaning : Meaning S) (group : List ℕ) (processes : List (Process N S)) (gone : List (Gone N)) (lines : List Line) : Type 0 where
   pub at : Address → Option (Driven N S)
   pub history : IsHistoryOf log meaning group at gone (events_in lines)
-  pub each : (q : Process N S) → Contains processes q → at q.address ≡ Some q.runner
-  pub all : (p : Address) (r : Driven N S) → at p ≡ Some r → Contains processes (record { address = p; runner = r })
+  pub each : (k : ℕ) (q : Process N S) → slice_get processes k ≡ Some q → at q.address ≡ Some q.runner
+  pub all : (p : Address) (r : Driven N S) → at p ≡ Some r → (k : ℕ) × (slice_get processes k ≡ Some (record { address = p; runner = r }))
 
 -- the line of the state of a member, unless it has ended
 abbrev pub state_text : {N S : Type 0} → (Address → S → List ℕ) → Process N S → List ℕ

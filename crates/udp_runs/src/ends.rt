@@ -1,6 +1,6 @@
 //! How what happens is written, and how a command over datagrams ends.
 
-ghost use Rattle.std.specs.Prelude.{◌≡◌, ℕ, take, IfErr, OnOk, OnErr};
+ghost use Rattle.std.specs.Prelude.{◌≡◌, ℕ, [], take, IfErr, OnOk, OnErr};
 ghost use Rattle.std.specs.Io.KnownBytes.{Appends};
 ghost use Rattle.commands.specs.Outcomes.{Written};
 ghost use Rattle.udp_runs.specs.declared.ends.Cut.TheVariants as cut;
@@ -60,6 +60,7 @@ pub(crate) fn settle<W: Write>(writer: &mut W, text: &mut Vec<u8>) -> Result<(),
     ensures ok { OnOk result (Appends (W.contents writer.old) (W.contents writer.new) text.old.items) }
     ensures err { OnErr result ((count : ℕ) × Appends (W.contents writer.old) (W.contents writer.new) (take count text.old.items)) }
     ensures cut { IfErr result (λ c. c ≡ cut.Failed) }
+    ensures empty { OnOk result (text.new.items ≡ []) }
 {
     if put_all(writer, text.as_slice()).is_err() {
         return Err(Cut::Failed);

@@ -130,8 +130,8 @@ impl<N: Net, C: Application> Nodes<N, C> {
         ensures node { IfSome result (λ index. IsSomeAnd (slice_get self.now.node_states.items index) (λ x. x.node ≡ node)) }
         ensures first { IfSome result (λ index. IsFirst node index self.now.node_states.items) }
     {
-        for (index, node_state) in self.node_states.as_slice().iter().enumerate() {
-            if node_state.node() == node {
+        for index in 0..self.node_states.len() {
+            if self.node_states[index].node() == node {
                 return Some(index);
             }
         }

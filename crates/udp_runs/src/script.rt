@@ -58,8 +58,10 @@ fn play_line<N: Net, C: Application, M: Machine<Net = N>, W: Write>(
     ensures stops { IfErr result (StopsAt line.now) }
 {
     let done = nodes.carry_out(settings, machine, line, text);
-    settle(writer, text)?;
-    done
+    match settle(writer, text) {
+        Ok(()) => done,
+        Err(why) => Err(Stop::Cut(why)),
+    }
 }
 
 // Writes the states.
@@ -73,9 +75,13 @@ fn write_states<N: Net, C: Application, W: Write>(
     ensures same { nodes.new.node_states.items ≡ nodes.old.node_states.items }
 {
     let appended = nodes.append_states(text);
-    settle(writer, text)?;
-    appended?;
-    Ok(())
+    if let Err(why) = settle(writer, text) {
+        return Err(why);
+    }
+    match appended {
+        Ok(()) => Ok(()),
+        Err(_) => Err(Cut::Memory),
+    }
 }
 
 // Does what lines say, and writes what happened.
@@ -96,9 +102,13 @@ fn play_lines<N: Net, C: Application, M: Machine<Net = N>, W: Write>(
             return Err(stop);
         }
     }
-    write_states(nodes, text, writer)?;
-    nodes.close(machine);
-    Ok(())
+    match write_states(nodes, text, writer) {
+        Ok(()) => {
+            nodes.close(machine);
+            Ok(())
+        }
+        Err(why) => Err(Stop::Cut(why)),
+    }
 }
 
 // Does what lines say at nodes where no member runs yet.
@@ -111,7 +121,10 @@ fn play<C: Application, M: Machine, W: Write>(
 ) -> Result<(), Stop>
     ensures { RunsLines M.Net.log C.meaning C.line_of settings.now.group (M.gone machine.old) (M.gone machine.new) lines.now (W.contents writer.old) (W.contents writer.new) result }
 {
-    let mut nodes = Nodes::<M::Net, C>::new(alloc, settings)?;
+    runners_are_synchronous::<M::Net, C>();
+    let Ok(mut nodes) = Nodes::<M::Net, C>::new(alloc, settings) else {
+        return Err(Stop::Cut(Cut::Memory));
+    };
     let mut text = Vec::new(alloc);
     play_lines(&mut nodes, settings, machine, lines, &mut text, writer)
 }
