@@ -1,6 +1,6 @@
 //! A member that runs by itself.
 
-ghost use Rattle.std.specs.Prelude.{◌≡◌, ℕ, List, [], OnOk};
+ghost use Rattle.std.specs.Prelude.{◌≡◌, ℕ, List, []};
 ghost use Rattle.udp_runs.specs.Telling.{PlaysAlone, Quietly, Tells, Waits};
 
 use crate::calls::{Call, do_call, send};
