@@ -1,6 +1,6 @@
 -- What channels tell is no start.
-use Rattle.std.proofs.Common.{◌≡◌, ℕ, Bool, true, false, cond, ◌||◌, Option, Some, None, Ok, Err, List, [], ◌∷◌, ◌++◌, refl, sym, ap, ◌∙◌, subst}
-use Rattle.std.specs.List.{list_any, filter}
+use Rattle.std.proofs.Common.{◌≡◌, ℕ, Bool, true, false, ◌||◌, Option, Ok, Err, List, [], ◌∷◌, ◌++◌, refl, sym, ap, ◌∙◌}
+use Rattle.std.specs.List.{list_any}
 use Rattle.std.proofs.lemmas.List.{append-nil}
 use Rattle.std.proofs.lemmas.List.Folds.{list_any-append}
 use Rattle.address.specs.Ids.{Address}
@@ -10,13 +10,11 @@ use Rattle.trace_props.specs.declared.event.Event.TheVariants.{Started, Sent, De
 use Rattle.trace_props.specs.Observed.{is_start}
 use Rattle.member.specs.Members.{MemberModel, core_of}
 use Rattle.udp_net.specs.Logs.{Log}
-use Rattle.udp_member.specs.Turns.{Driven}
-use Rattle.deployment.specs.Deployments.{Step, Start, Call, Crash, left_with, told_by}
+use Rattle.deployment.specs.Deployments.{Step, Start, Call, Crash, told_by}
 use Rattle.deployment.specs.Processes.{StepsSo, all_told}
-use Rattle.deployment.specs.Law.{is_told, but_starts_and_crashes}
+use Rattle.deployment.specs.Law.{but_starts_and_crashes}
 use Rattle.deployment.proofs.FactOfTold.{reply-told}
 use Rattle.deployed_runners.specs.Items.{Item, OfNet, OfMember, Standing, then_stands, Follow, steps_in}
-use Rattle.deployed_runners.specs.Runs.{Adds}
 use Rattle.deployed_runners.specs.Systems.{PlayedTellNoStart}
 use Rattle.deployed_runners.proofs.FactOfPlayed.{runner-is}
 use Rattle.deployed_runners.proofs.ItemsOfCalls.{drives-adds}
@@ -57,5 +55,5 @@ starts-none log failed meaning group at gone events p old taken fell new played 
     let x = drives-adds log failed meaning group old taken fell new r.0 r.1 drives in
     let q = old.channel.address in
     let same : taken ≡ all_told (steps_in x.items) =
-        sym (append-nil taken) ∙ ap (λ (l : List Event). taken ++ l) (sym told) ∙ x.tells ∙ ap (λ (l : List Event). l ++ all_told (steps_in x.items)) r.2 in
+    sym (append-nil taken) ∙ ap (λ (l : List Event). taken ++ l) (sym told) ∙ x.tells ∙ ap (λ (l : List Event). l ++ all_told (steps_in x.items)) r.2 in
     ap (list_any is_start) same ∙ follow-none meaning group q _ x.items (x.follow (new_member meaning group q) (is-new meaning group q r.0))

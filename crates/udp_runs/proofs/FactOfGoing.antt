@@ -1,5 +1,5 @@
 -- What each call of a node does among the others, by what its process does.
-use Rattle.std.proofs.Common.{◌≡◌, ℕ, Bool, true, false, Option, None, Some, Result, Ok, Err, OnOk, OnErr, IsErr, List, [], ◌∷◌, ◌++◌, map, take, drop, length, get_or, option_to_list, slice_get, slice_set, inl, inr, ◌⊎◌, ◌+◌, ◌<◌, ◌≤◌, arith, refl, sym, ap, ◌∙◌, subst}
+use Rattle.std.proofs.Common.{◌≡◌, ℕ, true, false, Option, None, Some, Result, Ok, Err, OnOk, OnErr, IsErr, List, [], ◌∷◌, ◌++◌, map, take, drop, length, get_or, option_to_list, slice_get, slice_set, inl, inr, ◌⊎◌, ◌+◌, ◌<◌, ◌≤◌, arith, refl, sym, ap, ◌∙◌, subst}
 use Rattle.std.specs.List.{concat}
 use Rattle.std.specs.Option.{ForSome, option_map_or}
 use Rattle.std.proofs.lemmas.List.{append-nil, append_assoc, map-append, take-append-drop}
@@ -18,7 +18,7 @@ use Rattle.udp_runs.specs.declared.process.Process.{Process}
 use Rattle.udp_runs.specs.declared.node_state.NodeState.{NodeState}
 use Rattle.udp_runs.specs.Machines.{GivesBack}
 use Rattle.udp_runs.specs.Texts.{Line, Happens, Refuses, Appended, texts_of, events_in}
-use Rattle.udp_runs.specs.Nodes.{Turns, TakesTurn, Plays, IsFirst, IsNext, AreUnused, GoesOn, GoesOnAt, processes_in}
+use Rattle.udp_runs.specs.Nodes.{TakesTurn, Plays, IsFirst, IsNext, AreUnused, GoesOn, GoesOnAt, processes_in}
 use Rattle.udp_runs.specs.Scripts.{net_of, state_text}
 use Rattle.udp_runs.proofs.FactOfPlaces.{set-self, set-other, at-place, length-set, take-more}
 use Rattle.udp_runs.proofs.FactOfTexts.{text-then, cut-whole, cut-behind, concat-then, take-front}
@@ -69,9 +69,9 @@ module _ {N S : Type 0} (log : N → Option Log) (failed : N → ℕ) (meaning :
   goes-cut : (A E : Type 0) (states : List (NodeState N S)) (gone : List (Gone N)) (given given' : Option (List (Gone N))) (lines : List Line) (text text' : List ℕ) (result : Result A E)
       → IsErr result
       → (more : List Line) × ((at : Address → Option (Driven N S)) × (all : List (Gone N)) × Played log failed meaning group at all (events_in (lines ++ more)))
-        × ((count : ℕ) × (text' ≡ text ++ concat (take count (texts_of more))))
+      × ((count : ℕ) × (text' ≡ text ++ concat (take count (texts_of more))))
       → Appended (λ more. (back : List (Gone N)) × GivesBack given back given' × Plays log failed meaning group states (gone ++ back) (lines ++ more))
-        (λ more. (at : Address → Option (Driven N S)) × (all : List (Gone N)) × Played log failed meaning group at all (events_in (lines ++ more))) text text' result
+      (λ more. (at : Address → Option (Driven N S)) × (all : List (Gone N)) × Played log failed meaning group at all (events_in (lines ++ more))) text text' result
   goes-cut A E states gone given given' lines text text' (Ok x) is begun = absurd (let bad : false ≡ true = is in cc)
   goes-cut A E states gone given given' lines text text' (Err e) is begun = begun
 
@@ -79,18 +79,29 @@ module _ {N S : Type 0} (log : N → Option Log) (failed : N → ℕ) (meaning :
 
   pub still : (A E : Type 0) (old new : NodeState N S) (given given' : Option (List (Gone N))) (text text' : List ℕ) (done : A) → new ≡ old → given' ≡ given → text' ≡ text
       → Goes old new given given' text text' (okay A E done)
-  still A E old new given given' text text' done same gives said states k here gone lines x =
-      ([], ([], gives-as given given' gives,
+  still A E old new given given' text text' done same gives said states k here gone lines x = (
+    [],
+    (
+      [],
+      gives-as given given' gives,
       subst (λ (n : NodeState N S). Plays log failed meaning group (slice_set states k n) (gone ++ []) (lines ++ [])) (sym same)
-      (still-plays states k old gone lines [] here (subst (λ (l : List Line). Plays log failed meaning group states gone l) (sym (append-nil lines)) x))), none-more text text' said)
+          (still-plays states k old gone lines [] here (subst (λ (l : List Line). Plays log failed meaning group states gone l) (sym (append-nil lines)) x)),
+    ),
+    none-more text text' said,
+  )
 
   pub refused : {E : Type 0} (old new : NodeState N S) (given given' : Option (List (Gone N))) (text text' : List ℕ) (line number : ℕ) (result : Result Unit E) → new ≡ old → given' ≡ given
       → OnOk result (text' ≡ text ++ refusal_line line number) → OnErr result (text' ≡ text) → Goes old new given given' text text' result
-  refused old new given given' text text' line number (Ok done) same gives said unsaid states k here gone lines x =
-      (Refuses line number ∷ [], ([], gives-as given given' gives,
+  refused old new given given' text text' line number (Ok done) same gives said unsaid states k here gone lines x = (
+    Refuses line number ∷ [],
+    (
+      [],
+      gives-as given given' gives,
       subst (λ (n : NodeState N S). Plays log failed meaning group (slice_set states k n) (gone ++ []) (lines ++ Refuses line number ∷ [])) (sym same)
-      (still-plays states k old gone lines (Refuses line number ∷ []) here (plays-refused log failed meaning group states gone lines line number x))),
-      one-more text text' (refusal_line line number) said)
+          (still-plays states k old gone lines (Refuses line number ∷ []) here (plays-refused log failed meaning group states gone lines line number x)),
+    ),
+    one-more text text' (refusal_line line number) said,
+  )
   refused old new given given' text text' line number (Err e) same gives said unsaid states k here gone lines x =
       ([], (x.at, gone, subst (λ (l : List Line). Played log failed meaning group x.at gone (events_in l)) (sym (append-nil lines)) x.played), (0, none-more text text' unsaid))
 
@@ -101,20 +112,31 @@ module _ {N S : Type 0} (log : N → Option Log) (failed : N → ℕ) (meaning :
     pub turn-on : (b : B) (done : A) → new ≡ with_process old (Some now) → now.address ≡ q.address → has_ended now.runner.channel.stage ≡ false → given' ≡ given
         → TakesTurn log failed meaning group q now text text' (okay B F b) → Goes old new given given' text text' (okay A E done)
     turn-on b done is same on gives t states k here gone lines x =
-        let as_now : record { address = q.address; runner = now.runner } ≡ now = ap (λ (a : Address). record { address = a; runner = now.runner }) (sym same) in
-        (t.0, ([], gives-as given given' gives,
-        subst (λ (l : List (Gone N)). Plays log failed meaning group (slice_set states k new) l (lines ++ t.0)) (sym (append-nil gone))
-        (subst (λ (n : NodeState N S). Plays log failed meaning group (slice_set states k n) gone (lines ++ t.0)) (ap (λ (p : Process N S). with_process old (Some p)) as_now ∙ sym is)
-        (plays-turn log failed meaning group states gone lines x k old here q process now.runner t.0 t.1 on))), t.2)
+        let as_now : record { address = q.address; runner = now.runner } ≡ now = ap (λ (a : Address). record { address = a; runner = now.runner }) (sym same) in (
+          t.0,
+          (
+            [],
+            gives-as given given' gives,
+            subst (λ (l : List (Gone N)). Plays log failed meaning group (slice_set states k new) l (lines ++ t.0)) (sym (append-nil gone))
+                (subst (λ (n : NodeState N S). Plays log failed meaning group (slice_set states k n) gone (lines ++ t.0)) (ap (λ (p : Process N S). with_process old (Some p)) as_now ∙ sym is)
+                (plays-turn log failed meaning group states gone lines x k old here q process now.runner t.0 t.1 on)),
+          ),
+          t.2,
+        )
 
     -- it is let go
     pub turn-off : (b : B) (done : A) → new ≡ with_process old None → now.address ≡ q.address → GivesBack given (net_of now ∷ []) given'
         → TakesTurn log failed meaning group q now text text' (okay B F b) → Goes old new given given' text text' (okay A E done)
-    turn-off b done is same gives t states k here gone lines x =
-        (t.0, (record { by = q.address; net = now.runner.net } ∷ [],
+    turn-off b done is same gives t states k here gone lines x = (
+      t.0,
+      (
+        record { by = q.address; net = now.runner.net } ∷ [],
         subst (λ (a : Address). GivesBack given (record { by = a; net = now.runner.net } ∷ []) given') same gives,
         subst (λ (n : NodeState N S). Plays log failed meaning group (slice_set states k n) (gone ++ record { by = q.address; net = now.runner.net } ∷ []) (lines ++ t.0)) (sym is)
-        (plays-ended log failed meaning group states gone lines x k old here q process now.runner t.0 t.1)), t.2)
+            (plays-ended log failed meaning group states gone lines x k old here q process now.runner t.0 t.1),
+      ),
+      t.2,
+    )
 
     -- memory was refused as it was said
     pub turn-cut : (f : F) (result : Result A E) → IsErr result → TakesTurn log failed meaning group q now text text' (refusing B F f) → Goes old new given given' text text' result
@@ -127,10 +149,16 @@ module _ {N S : Type 0} (log : N → Option Log) (failed : N → ℕ) (meaning :
   pub killed : {E : Type 0} (old new : NodeState N S) (q : Process N S) (given given' : Option (List (Gone N))) (text text' : List ℕ) (result : Result Unit E) → old.process ≡ Some q
       → new ≡ with_process old None → GivesBack given (net_of q ∷ []) given' → OnOk result (text' ≡ text ++ line_of (Crashed q.address)) → OnErr result (text' ≡ text)
       → Goes old new given given' text text' result
-  killed old new q given given' text text' (Ok done) process is gives said unsaid states k here gone lines x =
-      (Happens (Crashed q.address) ∷ [], (net_of q ∷ [], gives,
+  killed old new q given given' text text' (Ok done) process is gives said unsaid states k here gone lines x = (
+    Happens (Crashed q.address) ∷ [],
+    (
+      net_of q ∷ [],
+      gives,
       subst (λ (n : NodeState N S). Plays log failed meaning group (slice_set states k n) (gone ++ net_of q ∷ []) (lines ++ Happens (Crashed q.address) ∷ [])) (sym is)
-      (plays-killed log failed meaning group states gone lines x k old here q process)), one-more text text' (line_of (Crashed q.address)) said)
+          (plays-killed log failed meaning group states gone lines x k old here q process),
+    ),
+    one-more text text' (line_of (Crashed q.address)) said,
+  )
   killed old new q given given' text text' (Err e) process is gives said unsaid states k here gone lines x =
       (Happens (Crashed q.address) ∷ [], killed-played log failed meaning group states gone lines x k old here q process, (0, none-more text text' unsaid))
 
@@ -148,12 +176,17 @@ module _ {N S : Type 0} (log : N → Option Log) (failed : N → ℕ) (meaning :
 
     pub starts : (done : A) (r : Driven N S) (net : N) → new ≡ last_at (Some (record { address = p; runner = r })) → r.channel ≡ new_channel meaning p → r.net ≡ net
         → ForSome (log net) (λ l. l ≡ []) → text' ≡ text ++ line_of (Started p) → Starts (Ok done)
-    starts done r net is channel over lists said =
-        (Happens (Started p) ∷ [], ([], gives-none given,
+    starts done r net is channel over lists said = (
+      Happens (Started p) ∷ [],
+      (
+        [],
+        gives-none given,
         subst (λ (l : List (Gone N)). Plays log failed meaning group (slice_set states k new) l (lines ++ Happens (Started p) ∷ [])) (sym (append-nil gone))
-        (subst (λ (n : NodeState N S). Plays log failed meaning group (slice_set states k n) gone (lines ++ Happens (Started p) ∷ [])) (sym is)
-        (plays-started log failed meaning group states gone lines x k old here p next first r channel (subst (λ (n : N). ForSome (log n) (λ l. l ≡ [])) (sym over) lists)))),
-        one-more text text' (line_of (Started p)) said)
+            (subst (λ (n : NodeState N S). Plays log failed meaning group (slice_set states k n) gone (lines ++ Happens (Started p) ∷ [])) (sym is)
+            (plays-started log failed meaning group states gone lines x k old here p next first r channel (subst (λ (n : N). ForSome (log n) (λ l. l ≡ [])) (sym over) lists))),
+      ),
+      one-more text text' (line_of (Started p)) said,
+    )
 
     -- memory was refused before that is said
     pub starts-unsaid : (result : Result A E) → IsErr result → text' ≡ text → Starts result
@@ -164,15 +197,22 @@ module _ {N S : Type 0} (log : N → Option Log) (failed : N → ℕ) (meaning :
     -- it crashes at once
     pub starts-not : (mid : List ℕ) (result : Result A E) → new ≡ last_at old.process → mid ≡ text ++ line_of (Started p) → OnOk result (text' ≡ mid ++ line_of (Crashed p))
         → OnErr result (text' ≡ mid) → Starts result
-    starts-not mid (Ok done) is said ok err =
-        (Happens (Started p) ∷ Happens (Crashed p) ∷ [], ([], gives-none given,
+    starts-not mid (Ok done) is said ok err = (
+      Happens (Started p) ∷ Happens (Crashed p) ∷ [],
+      (
+        [],
+        gives-none given,
         subst (λ (l : List (Gone N)). Plays log failed meaning group (slice_set states k new) l (lines ++ Happens (Started p) ∷ Happens (Crashed p) ∷ [])) (sym (append-nil gone))
-        (subst (λ (n : NodeState N S). Plays log failed meaning group (slice_set states k n) gone (lines ++ Happens (Started p) ∷ Happens (Crashed p) ∷ []))
-        (ap last_at (sym next.free) ∙ sym is) (plays-failed log failed meaning group states gone lines x k old here p next first))),
-        text-then text mid text' (Happens (Started p) ∷ []) (Happens (Crashed p) ∷ []) (one-more text mid (line_of (Started p)) said) (one-more mid text' (line_of (Crashed p)) ok))
-    starts-not mid (Err e) is said ok err =
-        (Happens (Started p) ∷ Happens (Crashed p) ∷ [], start-failed log failed meaning group states gone lines x k old here p next first,
-        cut-whole text text' (Happens (Started p) ∷ []) (Happens (Crashed p) ∷ []) (err ∙ one-more text mid (line_of (Started p)) said))
+            (subst (λ (n : NodeState N S). Plays log failed meaning group (slice_set states k n) gone (lines ++ Happens (Started p) ∷ Happens (Crashed p) ∷ []))
+            (ap last_at (sym next.free) ∙ sym is) (plays-failed log failed meaning group states gone lines x k old here p next first)),
+      ),
+      text-then text mid text' (Happens (Started p) ∷ []) (Happens (Crashed p) ∷ []) (one-more text mid (line_of (Started p)) said) (one-more mid text' (line_of (Crashed p)) ok),
+    )
+    starts-not mid (Err e) is said ok err = (
+      Happens (Started p) ∷ Happens (Crashed p) ∷ [],
+      start-failed log failed meaning group states gone lines x k old here p next first,
+      cut-whole text text' (Happens (Started p) ∷ []) (Happens (Crashed p) ∷ []) (err ∙ one-more text mid (line_of (Started p)) said),
+    )
 
   -- ---- one after the other
 
@@ -181,27 +221,39 @@ module _ {N S : Type 0} (log : N → Option Log) (failed : N → ℕ) (meaning :
 
   pub goes-none : (states new : List (NodeState N S)) (given given' : Option (List (Gone N))) (text text' : List ℕ) → new ≡ states → given' ≡ given → text' ≡ text
       → GoesAll states new given given' text text' (okay (Unit {0}) (Unit {0}) tt)
-  goes-none states new given given' text text' same gives said gone lines x =
-      ([], ([], gives-as given given' gives,
+  goes-none states new given given' text text' same gives said gone lines x = (
+    [],
+    (
+      [],
+      gives-as given given' gives,
       subst (λ (n : List (NodeState N S)). Plays log failed meaning group n (gone ++ []) (lines ++ [])) (sym same)
-      (subst (λ (l : List (Gone N)). Plays log failed meaning group states l (lines ++ [])) (sym (append-nil gone))
-      (subst (λ (l : List Line). Plays log failed meaning group states gone l) (sym (append-nil lines)) x))), none-more text text' said)
+          (subst (λ (l : List (Gone N)). Plays log failed meaning group states l (lines ++ [])) (sym (append-nil gone))
+          (subst (λ (l : List Line). Plays log failed meaning group states gone l) (sym (append-nil lines)) x)),
+    ),
+    none-more text text' said,
+  )
 
   pub goes-then : (A E B F : Type 0) (a b c : List (NodeState N S)) (given mid given' : Option (List (Gone N))) (text t text' : List ℕ) (done : B) (result : Result A E)
       → GoesAll a b given mid text t (okay B F done) → GoesAll b c mid given' t text' result → GoesAll a c given given' text text' result
   goes-then A E B F a b c given mid given' text t text' done (Ok x) f g gone lines y =
       let first = f gone lines y in
-      let more = g (gone ++ first.1.0) (lines ++ first.0) first.1.2 in
-      (first.0 ++ more.0, (first.1.0 ++ more.1.0, gives-then given mid given' first.1.0 more.1.0 first.1.1 more.1.1,
-      subst (λ (l : List (Gone N)). Plays log failed meaning group c l (lines ++ (first.0 ++ more.0))) (append_assoc gone first.1.0 more.1.0)
-      (subst (λ (l : List Line). Plays log failed meaning group c ((gone ++ first.1.0) ++ more.1.0) l) (append_assoc lines first.0 more.0) more.1.2)),
-      text-then text t text' first.0 more.0 first.2 more.2)
+      let more = g (gone ++ first.1.0) (lines ++ first.0) first.1.2 in (
+        first.0 ++ more.0,
+        (
+          first.1.0 ++ more.1.0,
+          gives-then given mid given' first.1.0 more.1.0 first.1.1 more.1.1,
+          subst (λ (l : List (Gone N)). Plays log failed meaning group c l (lines ++ (first.0 ++ more.0))) (append_assoc gone first.1.0 more.1.0)
+              (subst (λ (l : List Line). Plays log failed meaning group c ((gone ++ first.1.0) ++ more.1.0) l) (append_assoc lines first.0 more.0) more.1.2),
+        ),
+        text-then text t text' first.0 more.0 first.2 more.2,
+      )
   goes-then A E B F a b c given mid given' text t text' done (Err e) f g gone lines y =
       let first = f gone lines y in
-      let more = g (gone ++ first.1.0) (lines ++ first.0) first.1.2 in
-      (first.0 ++ more.0,
-      (more.1.0, more.1.1, subst (λ (l : List Line). Played log failed meaning group more.1.0 more.1.1 (events_in l)) (append_assoc lines first.0 more.0) more.1.2),
-      cut-behind text t text' first.0 more.0 first.2 more.2)
+      let more = g (gone ++ first.1.0) (lines ++ first.0) first.1.2 in (
+        first.0 ++ more.0,
+        (more.1.0, more.1.1, subst (λ (l : List Line). Played log failed meaning group more.1.0 more.1.1 (events_in l)) (append_assoc lines first.0 more.0) more.1.2),
+        cut-behind text t text' first.0 more.0 first.2 more.2,
+      )
 
   -- a result that says the same
   pub goes-as : (A E B F : Type 0) (a b : List (NodeState N S)) (given given' : Option (List (Gone N))) (text text' : List ℕ) (e : F) (result : Result A E) → IsErr result
@@ -228,10 +280,16 @@ module _ {N S : Type 0} (log : N → Option Log) (failed : N → ℕ) (meaning :
   -- the event of a line is refused
   pub refused-all : (E : Type 0) (states : List (NodeState N S)) (given : Option (List (Gone N))) (text text' : List ℕ) (line number : ℕ) (result : Result Unit E)
       → OnOk result (text' ≡ text ++ refusal_line line number) → OnErr result (text' ≡ text) → GoesAll states states given given text text' result
-  refused-all E states given text text' line number (Ok done) said unsaid gone lines x =
-      (Refuses line number ∷ [], ([], gives-none given,
+  refused-all E states given text text' line number (Ok done) said unsaid gone lines x = (
+    Refuses line number ∷ [],
+    (
+      [],
+      gives-none given,
       subst (λ (l : List (Gone N)). Plays log failed meaning group states l (lines ++ Refuses line number ∷ [])) (sym (append-nil gone))
-      (plays-refused log failed meaning group states gone lines line number x)), one-more text text' (refusal_line line number) said)
+          (plays-refused log failed meaning group states gone lines line number x),
+    ),
+    one-more text text' (refusal_line line number) said,
+  )
   refused-all E states given text text' line number (Err e) said unsaid gone lines x =
       goes-stopped Unit E states states given given text text' e unsaid gone lines x
 
@@ -278,8 +336,8 @@ module _ {N S : Type 0} where
   closes-more all now k x new given mid given' (back, same, others) within is gives =
       let here : slice_get all k ≡ Some x = sym (others k (omega arith)) ∙ at-place now k x within is in (
         subst (λ (l : List (Gone N)). GivesBack given l given')
-        (sym (map-append net_of (processes_in (take k all)) (option_to_list x.process)) ∙ ap (map net_of) (sym (processes-more all k x here)))
-        (gives-then given mid given' (map net_of (processes_in (take k all))) (map net_of (option_to_list x.process)) back gives),
+            (sym (map-append net_of (processes_in (take k all)) (option_to_list x.process)) ∙ ap (map net_of) (sym (processes-more all k x here)))
+            (gives-then given mid given' (map net_of (processes_in (take k all))) (map net_of (option_to_list x.process)) back gives),
         length-set now k new ∙ same,
         λ j after. set-other now k j new (λ e. omega arith) ∙ others j (omega arith),
       )
@@ -301,9 +359,9 @@ module _ {N S : Type 0} where
       let before = map (state_text line_of) (processes_in (take k all)) in
       let last = map (state_text line_of) (option_to_list x.process) in (
         line ∙ ap (λ (l : List ℕ). l ++ option_map_or (state_text line_of) x.process []) said ∙ append_assoc text (concat before) (option_map_or (state_text line_of) x.process [])
-        ∙ ap (λ (l : List ℕ). text ++ l)
-        (ap (λ (l : List ℕ). concat before ++ l) (line-of-one line_of x.process) ∙ sym (concat-then before last)
-        ∙ ap concat (sym (map-append (state_text line_of) (processes_in (take k all)) (option_to_list x.process)) ∙ ap (map (state_text line_of)) (sym (processes-more all k x here)))),
+            ∙ ap (λ (l : List ℕ). text ++ l)
+            (ap (λ (l : List ℕ). concat before ++ l) (line-of-one line_of x.process) ∙ sym (concat-then before last)
+            ∙ ap concat (sym (map-append (state_text line_of) (processes_in (take k all)) (option_to_list x.process)) ∙ ap (map (state_text line_of)) (sym (processes-more all k x here)))),
         ap (slice_set now k) kept ∙ set-self now k x there ∙ same,
       )
 
@@ -311,8 +369,10 @@ module _ {N S : Type 0} where
       → (n : ℕ) × (text' ≡ text ++ concat (take n (map (state_text line_of) (processes_in all))))
   states-some line_of all now k text mid text' (said, same) kept =
       let before = map (state_text line_of) (processes_in (take k all)) in
-      let rest = map (state_text line_of) (processes_in (drop k all)) in
-      (length before, kept ∙ said ∙ ap (λ (l : List (List ℕ)). text ++ concat l)
-      (sym (take-front before rest)
-      ∙ ap (take (length before)) (sym (map-append (state_text line_of) (processes_in (take k all)) (processes_in (drop k all)))
-      ∙ ap (map (state_text line_of)) (sym (processes-then (take k all) (drop k all)) ∙ ap processes_in (take-append-drop k all)))))
+      let rest = map (state_text line_of) (processes_in (drop k all)) in (
+        length before,
+        kept ∙ said ∙ ap (λ (l : List (List ℕ)). text ++ concat l)
+            (sym (take-front before rest)
+            ∙ ap (take (length before)) (sym (map-append (state_text line_of) (processes_in (take k all)) (processes_in (drop k all)))
+            ∙ ap (map (state_text line_of)) (sym (processes-then (take k all) (drop k all)) ∙ ap processes_in (take-append-drop k all)))),
+      )

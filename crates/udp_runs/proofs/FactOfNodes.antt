@@ -5,7 +5,7 @@ use Rattle.std.specs.Option.{option_map, ForSome}
 use Rattle.std.proofs.lemmas.List.{append-nil, append_assoc}
 use Rattle.std.proofs.lemmas.List.Folds.{list_any-append}
 use Rattle.std.proofs.lemmas.Option.{none-some, same_Some}
-use Rattle.address.specs.Ids.{Address, IsAddress, same_address}
+use Rattle.address.specs.Ids.{Address, same_address}
 use Rattle.address.proofs.SameIds.{same_address-true, same_address-refl}
 use Rattle.state_transfer.specs.Meanings.{Meaning}
 use Rattle.trace_props.specs.declared.event.Event.{Event}
@@ -14,13 +14,13 @@ use Rattle.trace_props.specs.Observed.{has_started, is_start, member_of}
 use Rattle.udp_net.specs.Logs.{Log}
 use Rattle.udp_member.specs.Turns.{Driven}
 use Rattle.deployed_channels.specs.Plays.{crash_of}
-use Rattle.deployed_runners.specs.Runs.{Drives, new_channel}
+use Rattle.deployed_runners.specs.Runs.{new_channel}
 use Rattle.deployed_runners.specs.Systems.{Gone, Played, Nothing, Begins, Fails, Turns as Turn, Dies, Closes, PlayedTellNoStart, with_runner, has_ended}
 use Rattle.udp_runs.specs.declared.process.Process.{Process}
 use Rattle.udp_runs.specs.declared.node_state.NodeState.{NodeState}
 use Rattle.udp_runs.specs.Texts.{Line, Happens, Refuses, events_in}
 use Rattle.udp_runs.specs.Nodes.{Turns, Plays, IsFirst, IsNext, AreUnused}
-use Rattle.udp_runs.proofs.FactOfPlaces.{set-same, set-other, set-self, places}
+use Rattle.udp_runs.proofs.FactOfPlaces.{set-same, set-other, places}
 use Rattle.udp_runs.proofs.FactOfTurns.{events-then}
 
 module _ {N S : Type 0} (log : N → Option Log) (failed : N → ℕ) (meaning : Meaning S) (group : List ℕ) where
@@ -164,9 +164,10 @@ module _ {N S : Type 0} (log : N → Option Log) (failed : N → ℕ) (meaning :
             by (inl same) =
                 let now = is-new j y same at in
                 let is_p = same_Some a p (sym is_last ∙ ap (λ (w : NodeState N S). w.last) now ∙ last) in
-                let number : y.node ≡ old.node = ap (λ (w : NodeState N S). w.node) now ∙ node in
-                (ap (λ (z : Address). z.node) is_p ∙ own ∙ sym number,
-                subst (λ (n : ℕ). IsFirst n j states') (sym number) (subst (λ (i : ℕ). IsFirst old.node i states') (sym same) (first-still old.node k first)))
+                let number : y.node ≡ old.node = ap (λ (w : NodeState N S). w.node) now ∙ node in (
+                  ap (λ (z : Address). z.node) is_p ∙ own ∙ sym number,
+                  subst (λ (n : ℕ). IsFirst n j states') (sym number) (subst (λ (i : ℕ). IsFirst old.node i states') (sym same) (first-still old.node k first)),
+                )
             by (inr other) = let z = x.last j y a (there-other j y other at) is_last in (z.0, first-still y.node j z.1)
 
         fresh : (a : Address) → (has_started a (events_in lines) ≡ true) ⊎ (a ≡ p)

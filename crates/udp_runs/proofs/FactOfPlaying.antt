@@ -1,5 +1,5 @@
 -- What the lines of a script do, and what is written by it.
-use Rattle.std.proofs.Common.{◌≡◌, ℕ, ◌⊎◌, inl, inr, true, false, zero, suc, Option, None, Some, Result, Ok, Err, OnOk, OnErr, IfErr, List, [], ◌∷◌, ◌++◌, map, take, length, slice_get, option_to_list, refl, sym, ap, ◌∙◌, subst, arith}
+use Rattle.std.proofs.Common.{◌≡◌, ℕ, zero, suc, Option, None, Some, Result, Ok, Err, OnOk, OnErr, IfErr, List, [], ◌∷◌, ◌++◌, map, take, length, slice_get, option_to_list, refl, sym, ap, ◌∙◌, subst, arith}
 use Rattle.std.specs.List.{concat}
 use Rattle.std.specs.Io.KnownBytes.{Appends}
 use Rattle.std.proofs.lemmas.List.{append-nil, append_assoc, take_all}
@@ -7,10 +7,9 @@ use Rattle.std.proofs.lemmas.Option.{none-some, same_Some}
 use Rattle.address.specs.Ids.{Address}
 use Rattle.state_transfer.specs.Meanings.{Meaning}
 use Rattle.script_reader.specs.declared.udp_script.UdpLine.{UdpLine}
-use Rattle.udp_net.specs.declared.error.BindError.{BindError}
 use Rattle.udp_net.specs.Logs.{Log}
 use Rattle.udp_member.specs.Turns.{Driven}
-use Rattle.deployed_runners.specs.Systems.{Gone, Played, PlayedAreHistories, PlayedTellNoStart, IsHistoryOf, Nothing}
+use Rattle.deployed_runners.specs.Systems.{Gone, Played, PlayedAreHistories, PlayedTellNoStart}
 use Rattle.udp_runs.specs.declared.ends.Cut.{Cut as Why}
 use Rattle.udp_runs.specs.declared.ends.Cut.TheVariants as cut
 use Rattle.udp_runs.specs.declared.ends.Stop.{Stop}
@@ -23,7 +22,7 @@ use Rattle.udp_runs.specs.Scripts.{HasRun, IsBegun, IsNoNet, StopsIn, net_of, st
 use Rattle.udp_runs.specs.Scripts.IsBegun.{InLines, InStates}
 use Rattle.udp_runs.specs.Playing.{GoesOnBy, RunsLines, WritesStates}
 use Rattle.udp_runs.specs.Texts.{Line, texts_of, events_in}
-use Rattle.udp_runs.proofs.FactOfTexts.{concat-then, texts-then, take-front}
+use Rattle.udp_runs.proofs.FactOfTexts.{concat-then, texts-then}
 use Rattle.udp_runs.proofs.FactOfNodes.{plays-unused}
 use Rattle.udp_runs.proofs.FactOfGoing.{gives-none, gives-then, processes-then, one-process}
 use Rattle.vsync_text.proofs.FactOfWriting.{appends_nothing, appends_then}
@@ -56,9 +55,11 @@ module _ {N S : Type 0} where
   pub process-of : (states : List (NodeState N S)) (j : ℕ) (x : NodeState N S) (q : Process N S) → slice_get states j ≡ Some x → x.process ≡ Some q
       → (k : ℕ) × (slice_get (processes_in states) k ≡ Some q)
   process-of [] j x q at is = absurd (none-some x at)
-  process-of (y ∷ states) zero x q at is =
-      (zero, ap (λ (l : List (Process N S)). slice_get l zero) (processes-first y states ∙ ap (λ (o : Option (Process N S)). option_to_list o ++ processes_in states)
-      (ap (λ (z : NodeState N S). z.process) (same_Some y x at) ∙ is)))
+  process-of (y ∷ states) zero x q at is = (
+    zero,
+    ap (λ (l : List (Process N S)). slice_get l zero) (processes-first y states ∙ ap (λ (o : Option (Process N S)). option_to_list o ++ processes_in states)
+        (ap (λ (z : NodeState N S). z.process) (same_Some y x at) ∙ is)),
+  )
   process-of (y ∷ states) (suc j) x q at is = by y.process refl (process-of states j x q at is)
     where
       by : (o : Option (Process N S)) → y.process ≡ o → (k : ℕ) × (slice_get (processes_in states) k ≡ Some q) → (k : ℕ) × (slice_get (processes_in (y ∷ states)) k ≡ Some q)
@@ -112,9 +113,17 @@ module _ {N S : Type 0} (log : N → Option Log) (failed : N → ℕ) (meaning :
     line-failed (Ok d) count why is goes took =
         let r = goes gone lines x in
         let all = texts_of r.0 in
-        subst (λ (w : Why). By (Err (Cut w))) (sym is)
-        (r.0, r.1.2.at, gone ++ r.1.0, r.1.2.played, (length all, count,
-        subst (λ (l : List ℕ). Appends old new (take count l)) (from-empty (concat all) r.2 ∙ ap concat (sym (take_all (length all) all (omega arith)))) took))
+        subst (λ (w : Why). By (Err (Cut w))) (sym is) (
+          r.0,
+          r.1.2.at,
+          gone ++ r.1.0,
+          r.1.2.played,
+          (
+            length all,
+            count,
+            subst (λ (l : List ℕ). Appends old new (take count l)) (from-empty (concat all) r.2 ∙ ap concat (sym (take_all (length all) all (omega arith)))) took,
+          ),
+        )
     line-failed (Err e) count why is goes took =
         let r = goes gone lines x in
         subst (λ (w : Why). By (Err (Cut w))) (sym is)
@@ -160,30 +169,46 @@ module _ {N S : Type 0} (log : N → Option Log) (failed : N → ℕ) (meaning :
     -- a line stops them
     pub lines-stop : (nodes' : List (NodeState N S)) (text'' : List ℕ) (stop : Stop) → GoesOnBy log failed meaning group states nodes' mid given' text'' between new gone lines (Err stop)
         → StopsIn script stop → All (Err stop)
-    lines-stop nodes' text'' (Cut cut.Memory) (more, at, all, played, (count, next)) stops =
-        (concat (texts_of lines) ++ concat (take count (texts_of more)), begun-lines more at all played count,
-        appends_then old between new (concat (texts_of lines)) (concat (take count (texts_of more))) took next)
+    lines-stop nodes' text'' (Cut cut.Memory) (more, at, all, played, (count, next)) stops = (
+      concat (texts_of lines) ++ concat (take count (texts_of more)),
+      begun-lines more at all played count,
+      appends_then old between new (concat (texts_of lines)) (concat (take count (texts_of more))) took next,
+    )
     lines-stop nodes' text'' (Cut cut.Failed) (more, at, all, played, (count, bytes, next)) stops =
         (concat (texts_of lines) ++ concat (take count (texts_of more)), begun-lines more at all played count, took-cut (concat (take count (texts_of more))) bytes next)
-    lines-stop nodes' text'' (NoNet number error) next stops =
-        (x.at, gone, lines, law group x.at gone (events_in lines) x.played, stops,
-        subst (λ (l : List ℕ). Appends old new l) (append-nil (concat (texts_of lines))) (appends_then old between new (concat (texts_of lines)) [] took next))
+    lines-stop nodes' text'' (NoNet number error) next stops = (
+      x.at,
+      gone,
+      lines,
+      law group x.at gone (events_in lines) x.played,
+      stops,
+      subst (λ (l : List ℕ). Appends old new l) (append-nil (concat (texts_of lines))) (appends_then old between new (concat (texts_of lines)) [] took next),
+    )
 
     -- the states are not written whole
     pub states-stop : (why : Why) → WritesStates (map (state_text line_of) (processes_in states)) between new (Err why) → All (Err (Cut why))
-    states-stop cut.Memory (count, next) =
-        (concat (texts_of lines) ++ concat (take count (map (state_text line_of) (processes_in states))), begun-states count,
-        appends_then old between new (concat (texts_of lines)) (concat (take count (map (state_text line_of) (processes_in states)))) took next)
-    states-stop cut.Failed (count, bytes, next) =
-        (concat (texts_of lines) ++ concat (take count (map (state_text line_of) (processes_in states))), begun-states count,
-        took-cut (concat (take count (map (state_text line_of) (processes_in states)))) bytes next)
+    states-stop cut.Memory (count, next) = (
+      concat (texts_of lines) ++ concat (take count (map (state_text line_of) (processes_in states))),
+      begun-states count,
+      appends_then old between new (concat (texts_of lines)) (concat (take count (map (state_text line_of) (processes_in states)))) took next,
+    )
+    states-stop cut.Failed (count, bytes, next) = (
+      concat (texts_of lines) ++ concat (take count (map (state_text line_of) (processes_in states))),
+      begun-states count,
+      took-cut (concat (take count (map (state_text line_of) (processes_in states)))) bytes next,
+    )
 
     -- all is written, and the nets are given back
     pub lines-end : GivesBack given gone mid → GivesBack mid (map net_of (processes_in states)) given' → Appends between new (concat (map (state_text line_of) (processes_in states))) → All (Ok tt)
-    lines-end gave gives next =
-        (processes_in states, gone, lines, has-run law states gone lines x, gives-then given mid given' gone (map net_of (processes_in states)) gave gives,
-        subst (λ (l : List ℕ). Appends old new l) (sym (concat-then (texts_of lines) (map (state_text line_of) (processes_in states))))
-        (appends_then old between new (concat (texts_of lines)) (concat (map (state_text line_of) (processes_in states))) took next))
+    lines-end gave gives next = (
+      processes_in states,
+      gone,
+      lines,
+      has-run law states gone lines x,
+      gives-then given mid given' gone (map net_of (processes_in states)) gave gives,
+      subst (λ (l : List ℕ). Appends old new l) (sym (concat-then (texts_of lines) (map (state_text line_of) (processes_in states))))
+          (appends_then old between new (concat (texts_of lines)) (concat (map (state_text line_of) (processes_in states))) took next),
+    )
 
   -- ---- so far
 
@@ -198,20 +223,27 @@ module _ {N S : Type 0} (log : N → Option Log) (failed : N → ℕ) (meaning :
 
   pub so-more : (given mid given' : Option (List (Gone N))) (old between new : Option (List ℕ)) (states states' : List (NodeState N S)) (text text' : List ℕ)
       → (s : SoFar given mid old between states text) → GoesOnBy log failed meaning group states states' mid given' text' between new s.0 s.1 (Ok tt) → SoFar given given' old new states' text'
-  so-more given mid given' old between new states states' text text' (gone, lines, x, took, gave, none) (more, back, gives, y, next, empty) =
-      (gone ++ back, lines ++ more, y,
-      subst (λ (l : List ℕ). Appends old new l) (sym (concat-then (texts_of lines) (texts_of more)) ∙ ap concat (sym (texts-then lines more)))
-      (appends_then old between new (concat (texts_of lines)) (concat (texts_of more)) took next),
-      gives-then given mid given' gone back gave gives, empty)
+  so-more given mid given' old between new states states' text text' (gone, lines, x, took, gave, none) (more, back, gives, y, next, empty) = (
+    gone ++ back,
+    lines ++ more,
+    y,
+    subst (λ (l : List ℕ). Appends old new l) (sym (concat-then (texts_of lines) (texts_of more)) ∙ ap concat (sym (texts-then lines more)))
+        (appends_then old between new (concat (texts_of lines)) (concat (texts_of more)) took next),
+    gives-then given mid given' gone back gave gives,
+    empty,
+  )
 
 -- ---- states
 
 pub states-failed : {E : Type 0} (texts : List (List ℕ)) (text text' : List ℕ) (old new : Option (List ℕ)) (appended : Result Unit E) (count : ℕ) (why : Why) → why ≡ cut.Failed → text ≡ []
     → OnOk appended (text' ≡ text ++ concat texts) → OnErr appended ((n : ℕ) × (text' ≡ text ++ concat (take n texts))) → Appends old new (take count text') → WritesStates texts old new (Err why)
 states-failed texts text text' old new (Ok d) count why is empty said unsaid took =
-    subst (λ (w : Why). WritesStates texts old new (Err w)) (sym is)
-    (length texts, count, subst (λ (l : List ℕ). Appends old new (take count l))
-    (said ∙ ap (λ (t : List ℕ). t ++ concat texts) empty ∙ ap concat (sym (take_all (length texts) texts (omega arith)))) took)
+    subst (λ (w : Why). WritesStates texts old new (Err w)) (sym is) (
+      length texts,
+      count,
+      subst (λ (l : List ℕ). Appends old new (take count l))
+          (said ∙ ap (λ (t : List ℕ). t ++ concat texts) empty ∙ ap concat (sym (take_all (length texts) texts (omega arith)))) took,
+    )
 states-failed texts text text' old new (Err e) count why is empty said unsaid took =
     subst (λ (w : Why). WritesStates texts old new (Err w)) (sym is)
     (unsaid.0, count, subst (λ (l : List ℕ). Appends old new (take count l)) (unsaid.1 ∙ ap (λ (t : List ℕ). t ++ concat (take unsaid.0 texts)) empty) took)

@@ -1,5 +1,5 @@
 -- How a command ends that runs nodes over datagrams by a script.
-use Rattle.std.proofs.Common.{◌≡◌, ℕ, ◌<◌, List, [], ◌++◌, length, get_or, Option, Result, Ok, Err, IfSome, unwrap_or, sym, subst}
+use Rattle.std.proofs.Common.{◌≡◌, ℕ, ◌<◌, List, [], ◌++◌, length, get_or, Option, Ok, Err, IfSome, unwrap_or, sym, subst}
 use Rattle.std.specs.List.{concat}
 use Rattle.address.specs.Ids.{Address}
 use Rattle.state_transfer.specs.Meanings.{Meaning}

@@ -1,5 +1,5 @@
 -- Lines one behind the other, and events that are taken one by one.
-use Rattle.std.proofs.Common.{◌≡◌, ℕ, zero, suc, true, false, Result, Ok, Err, OnErr, IsErr, List, [], ◌∷◌, ◌++◌, map, take, length, refl, sym, ap, ◌∙◌, subst}
+use Rattle.std.proofs.Common.{◌≡◌, ℕ, zero, suc, true, false, Result, Ok, Err, OnErr, IsErr, List, [], ◌∷◌, ◌++◌, map, take, length, refl, sym, ap, ◌∙◌}
 use Rattle.std.specs.List.{concat}
 use Rattle.std.proofs.lemmas.List.{append-nil, append_assoc}
 use Rattle.trace_props.specs.declared.event.Event.{Event}
@@ -52,9 +52,11 @@ cut-whole old new xs ys is =
 pub cut-behind : (old mid new : List ℕ) (xs ys : List Line) → mid ≡ old ++ concat (texts_of xs) → (count : ℕ) × (new ≡ mid ++ concat (take count (texts_of ys)))
     → (count : ℕ) × (new ≡ old ++ concat (take count (texts_of (xs ++ ys))))
 cut-behind old mid new xs ys first (count, is) =
-    let r = behind (texts_of xs) (texts_of ys) in
-    (r.0, is ∙ ap (λ (l : List ℕ). l ++ concat (take count (texts_of ys))) first ∙ append_assoc old (concat (texts_of xs)) (concat (take count (texts_of ys)))
-    ∙ ap (λ (l : List ℕ). old ++ l) (sym (concat-then (texts_of xs) (take count (texts_of ys))) ∙ ap concat (sym r.1 ∙ ap (take r.0) (sym (texts-then xs ys)))))
+    let r = behind (texts_of xs) (texts_of ys) in (
+      r.0,
+      is ∙ ap (λ (l : List ℕ). l ++ concat (take count (texts_of ys))) first ∙ append_assoc old (concat (texts_of xs)) (concat (take count (texts_of ys)))
+          ∙ ap (λ (l : List ℕ). old ++ l) (sym (concat-then (texts_of xs) (take count (texts_of ys))) ∙ ap concat (sym r.1 ∙ ap (take r.0) (sym (texts-then xs ys)))),
+    )
   where
     behind : (us vs : List (List ℕ)) → (n : ℕ) × (take n (us ++ vs) ≡ us ++ take count vs)
     behind [] vs = (count, refl)
@@ -71,11 +73,11 @@ module _ {S : Type 0} where
   pub took-one : (old mid new : ChannelModel S) (text text' text'' : List ℕ) (event : Event) → Took old mid text text' → mid.happened ≡ event ∷ new.happened
       → new ≡ record mid { happened = new.happened } → text'' ≡ text' ++ line_of event → Took old new text text''
   took-one old mid new text text' text'' event (done, taken, said, same) first others line = (
-      done ++ event ∷ [],
-      taken ∙ ap (λ (l : List Event). done ++ l) first ∙ sym (append_assoc done (event ∷ []) new.happened),
-      text-then text text' text'' (map Happens done) (Happens event ∷ []) said (line ∙ ap (λ (l : List ℕ). text' ++ l) (sym (append-nil (line_of event))))
-      ∙ ap (λ (l : List Line). text ++ concat (texts_of l)) (sym (happen-then done (event ∷ []))),
-      others ∙ ap (λ (c : ChannelModel S). record c { happened = new.happened }) same,
+    done ++ event ∷ [],
+    taken ∙ ap (λ (l : List Event). done ++ l) first ∙ sym (append_assoc done (event ∷ []) new.happened),
+    text-then text text' text'' (map Happens done) (Happens event ∷ []) said (line ∙ ap (λ (l : List ℕ). text' ++ l) (sym (append-nil (line_of event))))
+        ∙ ap (λ (l : List Line). text ++ concat (texts_of l)) (sym (happen-then done (event ∷ []))),
+    others ∙ ap (λ (c : ChannelModel S). record c { happened = new.happened }) same,
   )
 
   pub took-some : (old now : ChannelModel S) (text mid text' : List ℕ) → Took old now text mid → text' ≡ mid

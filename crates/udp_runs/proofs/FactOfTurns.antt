@@ -1,5 +1,5 @@
 -- Turns of a process: calls of its runner, and what is told by them.
-use Rattle.std.proofs.Common.{◌≡◌, ℕ, Bool, true, false, ◌||◌, Option, None, Some, Result, Ok, Err, IfErr, OnOk, OnErr, IsErr, option_map, List, [], ◌∷◌, ◌++◌, map, take, refl, sym, ap, ◌∙◌, subst, inl, inr, ◌⊎◌}
+use Rattle.std.proofs.Common.{◌≡◌, ℕ, Bool, true, false, ◌||◌, Option, None, Some, Result, Ok, Err, IfErr, OnOk, OnErr, IsErr, option_map, List, [], ◌∷◌, ◌++◌, map, take, refl, sym, ap, ◌∙◌, subst}
 use Rattle.std.specs.List.{concat}
 use Rattle.std.specs.Result.{result_err}
 use Rattle.std.proofs.lemmas.List.{append-nil, append_assoc}
@@ -17,7 +17,7 @@ use Rattle.channel.specs.Calls.{CallsLent}
 use Rattle.channel.specs.Errors.{is_end}
 use Rattle.udp_net.specs.Logs.{Log}
 use Rattle.udp_member.specs.Turns.{Driven}
-use Rattle.udp_member.specs.Rounds.{Rounds, Ticks, SuspectsAndTicks, Suspects, Cuts, Hears}
+use Rattle.udp_member.specs.Rounds.{Rounds, SuspectsAndTicks, Suspects, Hears}
 use Rattle.deployed_channels.specs.Plays.{LeftBy, falls, crash_of}
 use Rattle.deployed_runners.specs.Runs.{Makes, Round, Send, Take, Drives, Begun, Further, with_channel}
 use Rattle.deployed_runners.specs.Systems.{has_ended}
@@ -274,12 +274,12 @@ module _ {N S : Type 0} (log : N → Option Log) (failed : N → ℕ) (meaning :
         → Makes log failed meaning group old.runner [] None mid → between ≡ text ++ concat (texts_of (map Happens mid.channel.happened))
         → TakesTurn log failed meaning group q new between text' result → Takes result
     takes-front q mid between (Ok x) own is m said (lines, t, more) = (
-        map Happens mid.channel.happened ++ lines,
-        turn-front old.address old.runner mid new.runner lines m (fronted old.address q mid own is new.runner lines t),
-        text-then text between text' (map Happens mid.channel.happened) lines said more,
+      map Happens mid.channel.happened ++ lines,
+      turn-front old.address old.runner mid new.runner lines m (fronted old.address q mid own is new.runner lines t),
+      text-then text between text' (map Happens mid.channel.happened) lines said more,
     )
     takes-front q mid between (Err e) own is m said (lines, (r, t), cut) = (
-        map Happens mid.channel.happened ++ lines,
-        (r, turn-front old.address old.runner mid r lines m (fronted old.address q mid own is r lines t)),
-        cut-behind text between text' (map Happens mid.channel.happened) lines said cut,
+      map Happens mid.channel.happened ++ lines,
+      (r, turn-front old.address old.runner mid r lines m (fronted old.address q mid own is r lines t)),
+      cut-behind text between text' (map Happens mid.channel.happened) lines said cut,
     )

@@ -57,7 +57,7 @@ abbrev pub GoesOn : {N S A E : Type 0} → (N → Option Log) → (N → ℕ) �
 GoesOn {N} {S} log failed meaning group old new given given' text text' result =
     (gone : List (Gone N)) (lines : List Line) → Plays log failed meaning group old gone lines
     → Appended (λ more. (back : List (Gone N)) × GivesBack given back given' × Plays log failed meaning group new (gone ++ back) (lines ++ more))
-        (λ more. (at : Address → Option (Driven N S)) × (all : List (Gone N)) × Played log failed meaning group at all (events_in (lines ++ more))) text text' result
+    (λ more. (at : Address → Option (Driven N S)) × (all : List (Gone N)) × Played log failed meaning group at all (events_in (lines ++ more))) text text' result
 
 -- the same of one node among them
 abbrev pub GoesOnAt : {N S A E : Type 0} → (N → Option Log) → (N → ℕ) → Meaning S → List ℕ → NodeState N S → NodeState N S → Option (List (Gone N)) → Option (List (Gone N))

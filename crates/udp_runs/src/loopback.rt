@@ -83,8 +83,7 @@ impl<'a, R: std::net::Net + Clock> Machine for Loopback<'a, R> {
     // Its socket is closed.
     fn close(&mut self, _member: Address, _net: SocketNet)
         ensures { self.new ≡ self.old }
-    {
-    }
+    {}
 
     fn now(&mut self) -> Duration
         ensures { self.new ≡ self.old }

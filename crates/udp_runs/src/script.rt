@@ -54,7 +54,7 @@ fn play_line<N: Net, C: Application, M: Machine<Net = N>, W: Write>(
 ) -> Result<(), Stop>
     ensures goes { (gone : List (Gone N)) (lines : List Line) → Plays N.log N.failed C.meaning settings.now.group nodes.old.node_states.items gone lines → text.old.items ≡ []
         → GoesOnBy N.log N.failed C.meaning settings.now.group nodes.old.node_states.items nodes.new.node_states.items (M.gone machine.old) (M.gone machine.new) text.new.items
-            (W.contents writer.old) (W.contents writer.new) gone lines result }
+        (W.contents writer.old) (W.contents writer.new) gone lines result }
     ensures stops { IfErr result (StopsAt line.now) }
 {
     let done = nodes.carry_out(settings, machine, line, text);

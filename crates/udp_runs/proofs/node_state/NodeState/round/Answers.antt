@@ -1,5 +1,5 @@
-use Rattle.std.proofs.Common.{Bool, refl, sym, ap}
-use Rattle.udp_runs.proofs.FactOfGoing.{still, refused, turn-on, turn-off, turn-cut}
+use Rattle.std.proofs.Common.{Bool, refl, sym}
+use Rattle.udp_runs.proofs.FactOfGoing.{still, turn-on, turn-off, turn-cut}
 use Rattle.udp_runs.proofs.node_state.NodeState.round.Goals as goal
 
 pub returns-in_default : goal.returns-in_default

@@ -1,4 +1,3 @@
-use Rattle.std.proofs.Common.{ap, sym, subst, Some}
 use Rattle.udp_runs.proofs.FactOfGoing.{unused-more}
 use Rattle.udp_runs.proofs.nodes.Nodes.new.Goals as goal
 

@@ -15,10 +15,10 @@ returns-in_err-round g c group =
 
 pub loop-index-preserved : goal.loop-index-preserved
 loop-index-preserved g c = (
-    length-set c.loop-index.self.node_states.items c.loop-index.index c.round.new.self ∙ c.loop-index.invariant.0,
-    λ group. goes-then _ _ _ group (Unit {0}) (Unit {0}) (Unit {0}) (Unit {0}) c.args.self.now.node_states.items c.loop-index.self.node_states.items (slice_set c.loop-index.self.node_states.items c.loop-index.index c.round.new.self)
-    (g.M.Machine.gone c.args.machine.now) (g.M.Machine.gone c.loop-index.machine) (g.M.Machine.gone c.round.new.machine) c.args.text.now.items c.loop-index.text.items c.round.new.text.items tt
-    (okay (Unit {0}) (Unit {0}) tt) (c.loop-index.invariant.1 group)
-    (c.in_ok-round.ensures group c.loop-index.self.node_states.items c.loop-index.index
-    (at-place c.loop-index.self.node_states.items c.loop-index.index c.index_mut.result.now (omega (arith, c.loop-index-test.true, c.len-index-end.ensures, c.loop-index.invariant.0, c.args.self.now.node_states.ok.0)) c.index_mut.ensures.value)),
+  length-set c.loop-index.self.node_states.items c.loop-index.index c.round.new.self ∙ c.loop-index.invariant.0,
+  λ group. goes-then _ _ _ group (Unit {0}) (Unit {0}) (Unit {0}) (Unit {0}) c.args.self.now.node_states.items c.loop-index.self.node_states.items (slice_set c.loop-index.self.node_states.items c.loop-index.index c.round.new.self)
+      (g.M.Machine.gone c.args.machine.now) (g.M.Machine.gone c.loop-index.machine) (g.M.Machine.gone c.round.new.machine) c.args.text.now.items c.loop-index.text.items c.round.new.text.items tt
+      (okay (Unit {0}) (Unit {0}) tt) (c.loop-index.invariant.1 group)
+      (c.in_ok-round.ensures group c.loop-index.self.node_states.items c.loop-index.index
+      (at-place c.loop-index.self.node_states.items c.loop-index.index c.index_mut.result.now (omega (arith, c.loop-index-test.true, c.len-index-end.ensures, c.loop-index.invariant.0, c.args.self.now.node_states.ok.0)) c.index_mut.ensures.value)),
 )

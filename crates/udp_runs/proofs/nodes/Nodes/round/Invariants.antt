@@ -8,4 +8,4 @@ abbrev pub invariant-loop-index : goal.invariant-loop-index
 invariant-loop-index g l =
     (length l.self.node_states.items ≡ length l.fn.self.node_states.items)
     × ((group : List ℕ) → GoesOn g.N.Net.log g.N.Net.failed g.C.Receiver.meaning group l.fn.self.node_states.items l.self.node_states.items (g.M.Machine.gone l.fn.machine)
-        (g.M.Machine.gone l.machine) l.fn.text.items l.text.items (okay (Unit {0}) (Unit {0}) tt))
+    (g.M.Machine.gone l.machine) l.fn.text.items l.text.items (okay (Unit {0}) (Unit {0}) tt))

@@ -7,4 +7,4 @@ use Rattle.udp_runs.proofs.nodes.Nodes.rounds.Given as goal
 abbrev pub invariant-loop : goal.invariant-loop
 invariant-loop g l =
     (group : List ℕ) → GoesOn g.N.Net.log g.N.Net.failed g.C.Receiver.meaning group l.fn.self.node_states.items l.self.node_states.items (g.M.Machine.gone l.fn.machine)
-        (g.M.Machine.gone l.machine) l.fn.text.items l.text.items (okay (Unit {0}) (Unit {0}) tt)
+    (g.M.Machine.gone l.machine) l.fn.text.items l.text.items (okay (Unit {0}) (Unit {0}) tt)

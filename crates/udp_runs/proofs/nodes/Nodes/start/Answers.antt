@@ -1,4 +1,4 @@
-use Rattle.std.proofs.Common.{Ok, ◌≡◌, ◌<◌, length, subst, sym, refl, arith}
+use Rattle.std.proofs.Common.{Ok, ◌≡◌, ◌<◌, length, subst, sym, arith}
 use Rattle.udp_runs.specs.Nodes.{IsFirst, IsNext}
 use Rattle.udp_runs.proofs.FactOfPlaces.{at-place, some-at, some-of}
 use Rattle.udp_runs.proofs.FactOfGoing.{refused-all, stopped-by}

@@ -1,4 +1,4 @@
-use Rattle.std.proofs.Common.{refl, ap, ◌∙◌, map, [], sym}
+use Rattle.std.proofs.Common.{ap, map, [], sym}
 use Rattle.std.specs.Result.{result_err}
 use Rattle.std.proofs.lemmas.List.{append-nil}
 use Rattle.udp_runs.specs.Texts.{Happens}
