@@ -1,6 +1,6 @@
 """What `bench/world` and `bench/check` share: the least time and memory of five calls, by this program and by another in turn.
 
-VSYNC may name another program than the one that ./vsync builds. OTHER may name one to compare with, for instance that of an earlier commit; what
+VSYNC may name another program than the one that `launch/built` prints. OTHER may name one to compare with, for instance that of an earlier commit; what
 is printed then has also what this program took over what the other took."""
 import os
 import pathlib
@@ -12,12 +12,14 @@ ROOT = pathlib.Path(__file__).resolve().parent.parent
 RUNS = 5
 
 
+def built():
+    """The program that VSYNC names, else the one that ./vsync runs: the proved one, or the standard error says that it is not."""
+    return os.environ.get("VSYNC") or subprocess.run([ROOT / "launch/built"], stdout=subprocess.PIPE, text=True, check=True).stdout.strip()
+
+
 def programs():
     """This program, and the one to compare with where there is one."""
-    if "VSYNC" not in os.environ:
-        subprocess.run([ROOT / "vsync", "--help"], stdout=subprocess.DEVNULL, check=True)
-    this = os.environ.get("VSYNC", str(ROOT / "out" / "vsync"))
-    return [this] + [os.environ[name] for name in ["OTHER"] if os.environ.get(name)]
+    return [built()] + [os.environ[name] for name in ["OTHER"] if os.environ.get(name)]
 
 
 def once(words, output):
