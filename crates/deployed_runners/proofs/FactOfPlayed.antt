@@ -28,7 +28,7 @@ use Rattle.deployed_runners.specs.Merged.{Done, own_items, items_of, RunnersAreS
 use Rattle.deployed_runners.specs.Systems.{Gone, with_runner, has_ended, Played, Nothing, Begins, Fails, Turns, Dies, Closes, IsHistoryOf, PlayedAreHistories}
 use Rattle.deployed_runners.proofs.FactOfItems.{after-then, events-then, follow-then, follow-from, running-from, waiting-from}
 use Rattle.deployed_runners.proofs.FactOfOrders.{started-not, done_by, own-of, own-other, steps-of, trace-of, each-then, starts-none, lists-more}
-use Rattle.deployed_runners.proofs.NewMembers.{new_member, is-new}
+use Rattle.deployment.proofs.NewMembers.{new_member, is-new}
 use Rattle.deployed_runners.proofs.ItemsOfCalls.{drives-adds}
 
 module _ {N S : Type 0} (log : N → Option Log) (failed : N → ℕ) (meaning : Meaning S) (group : List ℕ) where

@@ -17,7 +17,7 @@ use Rattle.deployed_channels.proofs.CallIsStep.{lent-calls-are, creates-are, joi
 use Rattle.deployed_runners.specs.Items.{Follow, steps_in}
 use Rattle.deployed_runners.specs.Runs.{listed, with_channel, Makes, Listen, Round, Seek, Wait, Create, Join, Send, Hand, Take, Drives, Begun, Further, running_in, happened_by, Adds, CallsAddItems, new_channel, IsRun, RunsAreProcesses}
 use Rattle.deployed_runners.proofs.StepsOfCalls.{call-does, connect-does, again-does}
-use Rattle.deployed_runners.proofs.NewMembers.{new_member, is-new}
+use Rattle.deployment.proofs.NewMembers.{new_member, is-new}
 use Rattle.deployed_runners.proofs.ItemsOfRounds
 
 module _ {N S : Type 0} (log : N → Option Log) (failed : N → ℕ) (meaning : Meaning S) (group : List ℕ) where

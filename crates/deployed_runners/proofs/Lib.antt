@@ -3,7 +3,6 @@ pub mod FactOfMerged
 pub mod StepsOfCalls
 pub mod StaysRunning
 pub mod ItemsOfRounds
-pub mod NewMembers
 pub mod ItemsOfCalls
 pub mod FactOfOrders
 pub mod FactOfPlayed

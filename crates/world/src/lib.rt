@@ -10,15 +10,18 @@ ghost use Rattle.replicas.specs.Replicas.{ReplicasAgree};
 ghost use Rattle.std.specs.Option.{option_copied, option_map};
 ghost use Rattle.world_model.specs.Histories.{running};
 ghost use Rattle.world_step.specs.Worlds.{shown, no_world, IsLonger, WorldStep, Runs};
-ghost use Rattle.world_model.specs.Packets.{packet_numbered};
+ghost use Rattle.deployment.specs.Deployments.{IsPlayed};
+ghost use Rattle.world_model.specs.Packets.{packet_numbered, world_group};
 ghost use Rattle.world_model.specs.Faithful.{IsFaithful};
+ghost use Rattle.world_step.specs.NodeStates.{deployment_of};
 ghost use Rattle.world_step.specs.Turns.{Carries};
+ghost use Rattle.world.specs.Known.{MembersKnow};
 
 mod gaps;
 
 use address::{Address, Node};
+use deployment::deployments_are_synchronous;
 use limits::{Refusal, STEP_EVENTS};
-use replicas::replicas_agree;
 use state_transfer::Receiver;
 use std::alloc::{AllocError, Global};
 use std::collections::BTreeMap;
@@ -110,12 +113,14 @@ impl<R: Receiver> World<R> {
     /// What every world keeps.
     fn kept(&self)
         ensures faithful { IsFaithful self.now.history }
+        ensures deployed { IsPlayed R.meaning world_group (deployment_of (shown self.now).node_states self.now.history.pool self.now.history.trace) }
         ensures ordered { EachPlace IsWellOrdered self.now.history.trace }
         ensures synchronous { IsVirtuallySynchronous R.meaning self.now.history.trace }
         ensures agreeing { EachPlace (ReplicasAgree R.meaning) self.now.history.trace }
+        ensures known { MembersKnow R.meaning (shown self.now) }
     {
         let _ = &self.trace;
-        replicas_agree::<R>();
+        deployments_are_synchronous::<R>();
     }
 
     /// Carries out events in order, from where the world stands. Answers an error (7) where the places of a step are
@@ -127,12 +132,16 @@ impl<R: Receiver> World<R> {
         ensures fewer { OnErr result ((k : ℕ) × (k < length events.now) × Runs R.meaning (shown self.old) (take k events.now) (shown self.new)) }
         // so what was there is the beginning of what is there,
         ensures longer { IsLonger self.old.history self.new.history }
+        // it is a deployment of the world's group, of which each premise holds, and what was put out is the pool;
+        ensures deployed { IsPlayed R.meaning world_group (deployment_of (shown self.new).node_states self.new.history.pool self.new.history.trace) }
         // each event is answered as the table says, and all rules hold at every place;
         ensures faithful { IsFaithful self.new.history }
         ensures ordered { EachPlace IsWellOrdered self.new.history.trace }
         ensures synchronous { IsVirtuallySynchronous R.meaning self.new.history.trace }
         // and so the copies of the state agree there: who has delivered as much of a view is in the same state.
         ensures agreeing { EachPlace (ReplicasAgree R.meaning) self.new.history.trace }
+        // What a member that runs knows is what the trace says: its view, its receiver's state, how much is delivered and stable.
+        ensures known { MembersKnow R.meaning (shown self.new) }
     {
         for event in events {
             if let Err(refused) = self.step(event) {
