@@ -1,5 +1,6 @@
 pub mod FactOfItems
 pub mod FactOfMerged
+pub mod FactOfKnown
 pub mod StepsOfCalls
 pub mod StaysRunning
 pub mod ItemsOfRounds

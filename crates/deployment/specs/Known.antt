@@ -1,30 +1,18 @@
--- What a process knows that runs: its receiver's state, its view, how much of it it has delivered, and how much of it is stable.
-use Rattle.std.specs.Prelude.{◌≡◌, ℕ, ◌≤◌, true, List, ◌++◌, Option, Some, length, take}
-use Rattle.std.specs.Option.{ForSome, IsSomeAnd}
+-- What the processes of a deployment know that run, and that their copies of the state agree.
+use Rattle.std.specs.Prelude.{◌≡◌, ℕ, List, Some, Err}
+use Rattle.std.specs.Option.{IsSomeAnd}
 use Rattle.address.specs.Ids.{Address, ViewId}
-use Rattle.view.specs.Members.{View, stands_in}
+use Rattle.limits.specs.declared.refusal.Refusal.TheVariants.{Closed}
 use Rattle.state_transfer.specs.Meanings.{Meaning}
-use Rattle.trace_props.specs.declared.event.Event.{Event}
-use Rattle.trace_props.specs.Observed.{current_view, is_blocked, delivered_in}
 use Rattle.trace_props.specs.Places.{EachPlace}
-use Rattle.trace_props.specs.State.{state_of}
 use Rattle.replicas.specs.Replicas.{ReplicasAgree}
-use Rattle.acts.specs.Cores.{Core, id_of, is_frozen}
+use Rattle.acts.specs.Cores.{Core, id_of}
+use Rattle.agreement.specs.Known.{Knows}
+use Rattle.member.specs.declared.error.Error.TheVariants.{Refused}
+use Rattle.member.specs.declared.input.Input.{Input}
+use Rattle.member.specs.Handling.{Handled}
 use Rattle.member.specs.Members.{MemberModel, core_of}
-use Rattle.deployment.specs.Deployments.{Step, IsHistory, nothing_yet, after_steps, trace_of}
-
--- STABLE: each member of a view has delivered so many of its messages there, the first of its order
-abbrev pub AllDelivered : List Event → View → ℕ → Type 0
-AllDelivered t v n =
-    (q : Address) → stands_in q v.members ≡ true → (n ≤ length (delivered_in q v.id t)) × (take n (delivered_in q v.id t) ≡ take n (delivered_in v.id.creator v.id t))
-
--- what a member that runs knows is what the trace says: the state of its receiver, its view, whether it is blocked, how much of its view it has delivered; and what it knows to be stable is
-pub record Knows {S : Type 0} (meaning : Meaning S) (t : List Event) (p : Address) (c : Core S) : Type 0 where
-  pub state : state_of meaning p t ≡ c.state
-  pub current : current_view p t ≡ id_of c.view
-  pub blocked : is_blocked p t ≡ is_frozen c.view c.installed
-  pub delivered : ForSome c.view (λ v. length (delivered_in p v.id t) ≡ c.view_state.delivered)
-  pub stable : ForSome c.view (λ v. AllDelivered t v c.view_state.stable)
+use Rattle.deployment.specs.Deployments.{Step, IsHistory, MayBeHanded, nothing_yet, after_steps, trace_of}
 
 -- each member that runs in a deployment has not ended, and knows so
 abbrev pub MembersKnow : {S : Type 0} → Meaning S → Type 0
@@ -48,7 +36,7 @@ ProcessesAgree {S} meaning = (group : List ℕ) (steps : List (Step S)) → IsHi
 abbrev pub CopiesAgree : {S : Type 0} → Meaning S → Type 0
 CopiesAgree {S} meaning = (group : List ℕ) (steps : List (Step S)) → IsHistory meaning group steps → EachPlace (ReplicasAgree meaning) (trace_of steps)
 
--- what is stable stays so, whatever happens then: the same messages
-abbrev pub StableStays : Type 0
-StableStays = (t more : List Event) (v : View) (n : ℕ) → AllDelivered t v n
-    → (q : Address) → stands_in q v.members ≡ true → take n (delivered_in q v.id (t ++ more)) ≡ take n (delivered_in v.id.creator v.id t)
+-- NEVER CLOSED: on what it may be handed, a member that runs never answers that it has ended (6), since each state that it is given can be read
+abbrev pub NeverClosed : {S : Type 0} → Meaning S → Type 0
+NeverClosed {S} meaning = (group : List ℕ) (steps : List (Step S)) → IsHistory meaning group steps → (p : Address) (m left : MemberModel S) (input : Input)
+    → (after_steps nothing_yet steps).members p ≡ Some m → MayBeHanded group (after_steps nothing_yet steps).offered input → Handled meaning m input (Err (Refused Closed)) left → ⊥

@@ -1,4 +1,5 @@
-ghost use Rattle.deployment.specs.Known.{CopiesAgree, MembersKnow, ProcessesAgree, StableStays};
+ghost use Rattle.agreement.specs.Known.{StableStays};
+ghost use Rattle.deployment.specs.Known.{CopiesAgree, MembersKnow, NeverClosed, ProcessesAgree};
 ghost use Rattle.deployment.specs.Law.{AreSynchronous, MergedAreSynchronous, TellAll};
 
 use replicas::replicas_agree;
@@ -9,7 +10,8 @@ use state_transfer::Receiver;
 /// It is the same where of each address only its own steps are known to be a process. What the members tell is what happened, but starts and crashes, in its order.
 ///
 /// What a member that runs knows is what the trace says: the state of its receiver, its view, how much of it it delivered; and each member of its view has delivered what it knows
-/// to be stable, for ever. So two processes in one view that have delivered as much of it have receivers in the same state. For every receiver that keeps the laws. It does nothing.
+/// to be stable, for ever. So two processes in one view that have delivered as much of it have receivers in the same state. And no member that runs is closed by what it is handed:
+/// each state that it is given can be read. For every receiver that keeps the laws. It does nothing.
 pub fn deployments_are_synchronous<R: Receiver>()
     ensures histories { AreSynchronous R.meaning }
     ensures processes { MergedAreSynchronous R.meaning }
@@ -18,6 +20,7 @@ pub fn deployments_are_synchronous<R: Receiver>()
     ensures known { MembersKnow R.meaning }
     ensures level { ProcessesAgree R.meaning }
     ensures stable { StableStays }
+    ensures open { NeverClosed R.meaning }
 {
     replicas_agree::<R>();
 }

@@ -2,8 +2,8 @@
 use Rattle.std.specs.Prelude.{◌≡◌, ℕ}
 use Rattle.std.specs.Option.{IsSomeAnd}
 use Rattle.state_transfer.specs.Meanings.{Meaning}
+use Rattle.agreement.specs.Known.{Knows}
 use Rattle.member.specs.Members.{MemberModel, core_of}
-use Rattle.deployment.specs.Known.{Knows}
 use Rattle.world_step.specs.declared.node_state.NodeState.TheVariants.{Running}
 use Rattle.world_step.specs.Worlds.{WorldModel}
 

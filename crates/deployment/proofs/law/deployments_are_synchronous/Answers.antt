@@ -1,8 +1,9 @@
 use Rattle.agreement.proofs.KeepBySteps as steps
+use Rattle.agreement.proofs.FactOfKnown.{stable-stays}
 use Rattle.deployment.proofs.KeepBySteps.{are-synchronous}
 use Rattle.deployment.proofs.FactOfProcesses.{merged-are}
 use Rattle.deployment.proofs.FactOfTold.{tell-all}
-use Rattle.deployment.proofs.FactOfKnown.{copies-agree, members-know, processes-agree, stable-stays}
+use Rattle.deployment.proofs.FactOfKnown.{copies-agree, members-know, processes-agree, are-never-closed}
 use Rattle.deployment.proofs.law.deployments_are_synchronous.Goals as goal
 
 pub returns-clause-histories : goal.returns-clause-histories
@@ -36,3 +37,8 @@ returns-clause-level g c =
 
 pub returns-clause-stable : goal.returns-clause-stable
 returns-clause-stable g c = stable-stays
+
+pub returns-clause-open : goal.returns-clause-open
+returns-clause-open g c =
+    are-never-closed g.R.Receiver.meaning
+    (record { opens = g.met.R.Receiver.opens; applies = g.met.R.Receiver.applies; decodes = g.met.R.Receiver.decodes; reads_back = g.met.R.Receiver.reads_back })

@@ -6,7 +6,7 @@ use Rattle.address.specs.Ids.{Address}
 use Rattle.replicas.specs.Replicas.{ReplicasAgree}
 use Rattle.member.specs.Members.{MemberModel, core_of}
 use Rattle.deployment.specs.Deployments.{IsPlayed}
-use Rattle.deployment.specs.Known.{Knows}
+use Rattle.agreement.specs.Known.{Knows}
 use Rattle.deployment.proofs.FactOfPlayed.{of-played}
 use Rattle.world_model.specs.Packets.{world_group}
 use Rattle.world_model.specs.Faithful.{IsFaithful}
