@@ -7,7 +7,7 @@ ghost use Rattle.trace_props.specs.Places.{EachPlace};
 ghost use Rattle.trace_props.specs.Synchrony.{IsWellOrdered, IsVirtuallySynchronous};
 ghost use Rattle.trace_props.specs.State.{state_of};
 ghost use Rattle.replicas.specs.Replicas.{ReplicasAgree};
-ghost use Rattle.std.specs.Option.{option_copied, option_map};
+ghost use Rattle.std.specs.Option.{ForSome, option_copied, option_map};
 ghost use Rattle.world_model.specs.Histories.{running};
 ghost use Rattle.world_step.specs.Worlds.{shown, no_world, IsLonger, WorldStep, Runs};
 ghost use Rattle.deployment.specs.Deployments.{IsPlayed};
@@ -15,7 +15,7 @@ ghost use Rattle.world_model.specs.Packets.{packet_numbered, world_group};
 ghost use Rattle.world_model.specs.Faithful.{IsFaithful};
 ghost use Rattle.world_step.specs.NodeStates.{deployment_of};
 ghost use Rattle.world_step.specs.Turns.{Carries};
-ghost use Rattle.world.specs.Known.{MembersKnow};
+ghost use Rattle.world.specs.Known.{IsStableAt, MembersKnow, stable_at};
 
 mod gaps;
 
@@ -199,6 +199,19 @@ impl<R: Receiver> World<R> {
         match self.node_states.get(&node)? {
             NodeState::Vacant | NodeState::Ended(_) => None,
             NodeState::Running(member) => member.receiver(),
+        }
+    }
+
+    /// How many messages of its view the member that runs at a node knows to be stable (docs/PROTOCOL.md, "Stability"): 0 when a view is installed, and without one. Each member of the view
+    /// has delivered these, the first of its order, one that has crashed since too. None where none runs there.
+    pub fn stable(&self, node: Node) -> Option<u64>
+        ensures value { result ≡ stable_at ((shown self.now).node_states node) }
+        ensures delivered { ForSome result (IsStableAt node self.now.history.trace) }
+    {
+        self.kept();
+        match self.node_states.get(&node)? {
+            NodeState::Running(member) => Some(member.stable()),
+            NodeState::Vacant | NodeState::Ended(_) => None,
         }
     }
 
