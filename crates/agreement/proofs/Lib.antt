@@ -44,3 +44,4 @@ pub mod LeaveStoryPlays
 pub mod MergeStoryPlays
 pub mod ChunkStoryPlays
 pub mod KeepByCall
+pub mod FactOfKnown

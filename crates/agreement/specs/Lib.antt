@@ -2,6 +2,7 @@ pub mod Steps
 pub mod Packets
 pub mod Members
 pub mod Invariant
+pub mod Known
 pub mod Law
 pub mod Stories
 pub mod CrashStory

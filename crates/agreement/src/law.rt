@@ -1,3 +1,4 @@
+ghost use Rattle.agreement.specs.Known.{MembersKnow, StableStays};
 ghost use Rattle.agreement.specs.Law.{KeepsInvariant, IsAlwaysSynchronous, ActsKeep};
 ghost use Rattle.agreement.specs.ChunkStory.{ChunkPlays};
 ghost use Rattle.agreement.specs.CrashStory.{CrashPlays};
@@ -8,11 +9,14 @@ use state_transfer::Receiver;
 
 /// The law of agreement: after any list of starts, crashes and acts, each allowed after those before it and on a packet that was put out before or on none,
 /// the invariant holds, and the trace keeps all eight rules at every place, within the events of one act too
-/// (docs/PROOF.md, "Agreement over acts"). For every receiver that keeps the laws. It does nothing.
+/// (docs/PROOF.md, "Agreement over acts"). Where the invariant holds, what a member knows that runs is what the trace says: its view, the state of its receiver, and how much of the view it has
+/// delivered; and each member of its view has delivered what it knows to be stable, for ever. For every receiver that keeps the laws. It does nothing.
 pub fn agreement<R: Receiver>()
     ensures invariant { KeepsInvariant R.meaning }
     ensures synchronous { IsAlwaysSynchronous R.meaning }
     ensures keep { ActsKeep R.meaning }
+    ensures known { MembersKnow R.meaning }
+    ensures stable { StableStays }
 {}
 
 /// The law speaks of something: these four lists of steps are allowed from the beginning on, and these traces come of them. In three of them three members come

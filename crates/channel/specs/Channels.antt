@@ -57,6 +57,10 @@ receiver_in (Apart s) = Some s
 receiver_in (Connected m) = option_map (λ c. c.state) (core_of m)
 receiver_in Ended = None
 
+-- how many messages of its view it knows to be stable: 0 without a view, and after its end
+abbrev pub stable_in : {S : Type 0} → Stage S → ℕ
+stable_in stage = option_map_or (λ c. c.view_state.stable) (core_in stage) 0
+
 -- the name that it is connected by
 abbrev pub group_in : {S : Type 0} → Stage S → Option (List ℕ)
 group_in stage = option_map (λ m. m.group) (member_in stage)

@@ -3,7 +3,7 @@ ghost use Rattle.std.specs.Option.{option_copied, option_map};
 ghost use Rattle.std.specs.Result.{result_err};
 ghost use Rattle.member.specs.declared.input.Input.TheVariants as input;
 ghost use Rattle.channel.specs.declared.stage.Stage.TheVariants.{Apart, Ended};
-ghost use Rattle.channel.specs.Channels.{left_by, view_in, is_blocked, receiver_in, source_at};
+ghost use Rattle.channel.specs.Channels.{left_by, view_in, is_blocked, receiver_in, source_at, stable_in};
 ghost use Rattle.channel.specs.Calls.{Calls, CallsLent, Connects, Reconnects, Watches};
 ghost use Rattle.channel.specs.Queues.{TakesFirst, sent_at};
 ghost use Rattle.channel.specs.Stages.{Keeps};
@@ -175,6 +175,14 @@ impl<R: Receiver> Channel<R> {
         ensures { result ≡ is_blocked self.now.stage }
     {
         self.stage.is_blocked()
+    }
+
+    /// How many messages of its view it knows to be stable: each member of the view has delivered them, the first of its order, so they are in the state of each that goes on from this view
+    /// (docs/PROTOCOL.md, "Stability"). 0 when a view is installed, without a view, and after its end.
+    pub fn stable(&self) -> u64
+        ensures { result ≡ stable_in self.now.stage }
+    {
+        self.stage.stable()
     }
 
     /// Its receiver, as the steps left it; `None` after its end (docs/GUARANTEES.md, "The receiver's laws").

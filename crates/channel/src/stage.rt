@@ -2,7 +2,7 @@
 
 ghost use Rattle.std.specs.Prelude.{◌≡◌, not, is_some, IfOk};
 ghost use Rattle.std.specs.Option.{option_copied, option_and_then};
-ghost use Rattle.channel.specs.Channels.{member_in, view_in, is_blocked, receiver_in, is_in};
+ghost use Rattle.channel.specs.Channels.{member_in, view_in, is_blocked, receiver_in, stable_in, is_in};
 ghost use Rattle.member.specs.declared.input.Input.TheVariants as input;
 ghost use Rattle.member.specs.Handling.{Handled};
 ghost use Rattle.member.specs.Sources.{source_of, output_of};
@@ -72,6 +72,16 @@ impl<R: Receiver> Stage<R> {
         match self {
             Stage::Connected(member) => member.is_blocked(),
             Stage::Apart(_) | Stage::Ended => false,
+        }
+    }
+
+    // How many messages of its view its member knows to be stable.
+    pub(crate) fn stable(&self) -> u64
+        ensures { result ≡ stable_in self.now }
+    {
+        match self {
+            Stage::Connected(member) => member.stable(),
+            Stage::Apart(_) | Stage::Ended => 0,
         }
     }
 

@@ -283,7 +283,7 @@ module _ {S : Type 0} (meaning : Meaning S) where
     starting s opening failure going c is =
         let core = subst (λ (r : S). core_of c.member ≡ Some (idle r old.address)) opening c.started.core_is in (
           c.member,
-          record { real = real; address = c.started.address_is; group_is = c.started.group_is; core = core },
+          record { real = real; address = c.started.address_is; group_is = c.started.group_is; core = core; alive = c.started.alive },
           one-step group input c.member old new was failure going (connect-leaves c.member core) c.steps is,
         )
 

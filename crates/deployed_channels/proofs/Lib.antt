@@ -1,1 +1,2 @@
 pub mod CallIsStep
+pub mod FactOfKnown

@@ -13,11 +13,11 @@ use Rattle.member.specs.Members.{MemberModel}
 use Rattle.udp_net.specs.declared.net.Received.{Received}
 use Rattle.udp_net.specs.declared.net.Received.TheVariants as received
 use Rattle.udp_net.specs.Logs.{NetEvent, Answered, Offered, Offer}
-use Rattle.deployment.specs.Deployments.{Step, Start, Call, Crash, Deployment, nothing_yet, whose, left_with, puts_of, after, EachStep, DoesSo, WasPutOut, MayCome, MayBeHanded, HandsOver, IsHistory}
+use Rattle.deployment.specs.Deployments.{Step, Start, Call, Crash, Deployment, nothing_yet, whose, left_with, puts_of, after, after_steps, EachStep, DoesSo, WasPutOut, MayCome, MayBeHanded, HandsOver, IsHistory}
 use Rattle.deployment.specs.Processes.{StepsSo}
 use Rattle.deployment.specs.Law.{AreSynchronous, TellAll}
 use Rattle.deployment.proofs.FactOfProcesses.{does-so}
-use Rattle.deployed_runners.specs.Items.{Item, OfNet, OfMember, Standing, not_begun, given_by, then_stands, datagram_in, datagram_of, MayFollow, Follow, net_events, steps_in}
+use Rattle.deployed_runners.specs.Items.{Item, OfNet, OfMember, Standing, not_begun, given_by, then_stands, stands_after, datagram_in, datagram_of, MayFollow, Follow, IsProcess, net_events, steps_in}
 use Rattle.deployed_runners.specs.Merged.{Done, own_items, items_of, all_offered, AreMerged, RunnersAreSynchronous, RunnersTellAll}
 
 -- ---- what was put out before
@@ -214,6 +214,57 @@ module _ {S : Type 0} (meaning : Meaning S) (group : List ℕ) where
   merged-goes [] at d offered x f c = (tt, tt)
   merged-goes (y ∷ all) at d offered x f c = item-goes y.by y.item all (merged-goes all) at d offered x (first at y all f).0 (rest at y all f) c
 
+  -- ---- who runs at the end
+
+  ends-by : (b : Bool) (p q : Address) (at : Address → Standing S) (i : Item S) (own : List (Item S)) → same_address p q ≡ b
+      → stands_after (cond b (then_stands (at q) i) (at p)) own ≡ stands_after (at p) (cond b (i ∷ own) own)
+  ends-by true p q at i own same = ap (λ (r : Address). stands_after (then_stands (at r) i) own) (sym (same_address-true p q same))
+  ends-by false p q at i own same = refl
+
+  abbrev SameMembers : (Address → Standing S) → Deployment S → Type 0
+  SameMembers at d = (p : Address) → d.members p ≡ (at p).running
+
+  item-same-by : (b : Bool) (p q : Address) (at : Address → Standing S) (d : Deployment S) (t : Standing S) → same_address p q ≡ b → t.running ≡ (at q).running → SameMembers at d
+      → d.members p ≡ (cond b t (at p)).running
+  item-same-by true p q at d t same e m = ap d.members (same_address-true p q same) ∙ m q ∙ sym e
+  item-same-by false p q at d t same e m = m p
+
+  step-same-by : (b : Bool) (p : Address) (at : Address → Standing S) (d : Deployment S) (t : Standing S) (o : Option (MemberModel S)) → t.running ≡ o → SameMembers at d
+      → cond b o (d.members p) ≡ (cond b t (at p)).running
+  step-same-by true p at d t o e m = sym e
+  step-same-by false p at d t o e m = m p
+
+  step-same : (q : Address) (x : Step S) (at : Address → Standing S) (d : Deployment S) → whose x ≡ q → SameMembers at d
+      → SameMembers (with_standing q (then_stands (at q) (OfMember x)) at) (after d x)
+  step-same q x at d own m p =
+      ap (λ (r : Address). cond (same_address p r) (left_with x) (d.members p)) own
+      ∙ step-same-by (same_address p q) p at d (then_stands (at q) (OfMember x)) (left_with x) refl m
+
+  abbrev EndsSo : List (Done S) → Type 0
+  EndsSo all = (at : Address → Standing S) (d : Deployment S) → EachFollows at all → SameMembers at d
+      → (p : Address) → (after_steps d (steps_in (items_of all))).members p ≡ (stands_after (at p) (own_items p all)).running
+
+  item-ends : (q : Address) (i : Item S) (all : List (Done S)) → EndsSo all → (at : Address → Standing S) (d : Deployment S) → MayFollow meaning group q (at q) i
+      → EachFollows (with_standing q (then_stands (at q) i) at) all → SameMembers at d
+      → (p : Address) → (after_steps d (steps_in (i ∷ items_of all))).members p ≡ (stands_after (cond (same_address p q) (then_stands (at q) i) (at p)) (own_items p all)).running
+  item-ends q (OfNet (Answered answer)) all so at d may f m p =
+      so (with_standing q (then_stands (at q) (OfNet (Answered answer))) at) d f
+      (λ r. item-same-by (same_address r q) r q at d (then_stands (at q) (OfNet (Answered answer))) refl refl m) p
+  item-ends q (OfNet (Offered offer)) all so at d may f m p =
+      so (with_standing q (then_stands (at q) (OfNet (Offered offer))) at) d f
+      (λ r. item-same-by (same_address r q) r q at d (then_stands (at q) (OfNet (Offered offer))) refl refl m) p
+  item-ends q (OfMember x) all so at d may f m p = so (with_standing q (then_stands (at q) (OfMember x)) at) (after d x) f (step-same q x at d may.0 m) p
+
+  members-end : (all : List (Done S)) → EndsSo all
+  members-end [] at d f m p = m p
+  members-end (y ∷ all) at d f m p =
+      item-ends y.by y.item all (members-end all) at d (first at y all f).0 (rest at y all f) m p
+      ∙ ap (λ (s : Standing S). s.running) (ends-by (same_address p y.by) p y.by at y.item (own_items p all) refl)
+
+  pub members-are : (all : List (Done S)) → ((p : Address) → IsProcess meaning group p (own_items p all))
+      → (p : Address) → (after_steps nothing_yet (steps_in (items_of all))).members p ≡ (stands_after not_begun (own_items p all)).running
+  members-are all f p = members-end all (λ q. not_begun) nothing_yet f (λ q. refl) p
+
   nothing-stands : Stands (λ p. not_begun) nothing_yet []
   nothing-stands = record {
     members = λ p. refl;
@@ -224,7 +275,7 @@ module _ {S : Type 0} (meaning : Meaning S) (group : List ℕ) where
 
 module _ {S : Type 0} (meaning : Meaning S) where
   -- in one order they are a history
-  history : (group : List ℕ) (all : List (Done S)) → AreMerged meaning group all → IsHistory meaning group (steps_in (items_of all))
+  pub history : (group : List ℕ) (all : List (Done S)) → AreMerged meaning group all → IsHistory meaning group (steps_in (items_of all))
   history group all m =
       let g = merged-goes meaning group all (λ p. not_begun) nothing_yet [] (nothing-stands meaning group) m.processes m.network in
       record { does = g.0; once = m.once; network = g.1 }

@@ -10,7 +10,9 @@ use Rattle.state_transfer.specs.Meanings.{Meaning}
 use Rattle.trace_props.specs.declared.event.Event.{Event}
 use Rattle.trace_props.specs.declared.event.Event.TheVariants.{Started, Crashed}
 use Rattle.trace_props.specs.Observed.{has_started}
+use Rattle.trace_props.specs.Places.{EachPlace}
 use Rattle.trace_props.specs.Synchrony.{IsVirtuallySynchronous}
+use Rattle.replicas.specs.Replicas.{ReplicasAgree}
 use Rattle.trace_props.proofs.FactOfObserved.{has_started-now, has_started-stays}
 use Rattle.trace_props.proofs.FactOfPlaces.{slice_get-push, slice_get-before, slice_get-last}
 use Rattle.member.specs.Members.{MemberModel}
@@ -22,13 +24,15 @@ use Rattle.udp_member.specs.Turns.{Driven}
 use Rattle.deployment.specs.Deployments.{Step, Start, Crash, EachStep, StartsOnce, IsNew, after_steps, nothing_yet, bytes_of, trace_of}
 use Rattle.deployment.specs.Processes.{all_told}
 use Rattle.deployed_channels.specs.Plays.{IsReady, crash_of}
+use Rattle.deployed_channels.specs.Known.{ChannelKnows}
 use Rattle.deployed_runners.specs.Items.{Item, OfMember, Standing, not_begun, stands_after, Follow, IsProcess, net_events, steps_in}
-use Rattle.deployed_runners.specs.Runs.{new_channel, running_in, standing, happened_by, Adds}
-use Rattle.deployed_runners.specs.Merged.{Done, own_items, items_of, RunnersAreSynchronous}
-use Rattle.deployed_runners.specs.Systems.{Gone, with_runner, has_ended, Played, Nothing, Begins, Fails, Turns, Dies, Closes, IsHistoryOf, PlayedAreHistories}
+use Rattle.deployed_runners.specs.Runs.{new_channel, running_in, standing, happened_by, Adds, StandsWith}
+use Rattle.deployed_runners.specs.Merged.{Done, own_items, items_of, IsCarried, AreMerged, RunnersAreSynchronous}
+use Rattle.deployed_runners.specs.Known.{RunnersKnow, RunnersAgree}
+use Rattle.deployed_runners.specs.Systems.{Gone, with_runner, has_ended, Played, Nothing, Begins, Fails, Turns, Dies, Closes, IsAgreed, IsHistoryOf, PlayedAreHistories}
 use Rattle.deployed_runners.proofs.FactOfItems.{after-then, events-then, follow-then, follow-from, running-from, waiting-from}
 use Rattle.deployed_runners.proofs.FactOfOrders.{started-not, done_by, own-of, own-other, steps-of, trace-of, each-then, starts-none, lists-more}
-use Rattle.deployed_runners.proofs.NewMembers.{new_member, is-new}
+use Rattle.deployment.proofs.NewMembers.{new_member, is-new}
 use Rattle.deployed_runners.proofs.ItemsOfCalls.{drives-adds}
 
 module _ {N S : Type 0} (log : N → Option Log) (failed : N → ℕ) (meaning : Meaning S) (group : List ℕ) where
@@ -374,23 +378,39 @@ module _ {N S : Type 0} (log : N → Option Log) (failed : N → ℕ) (meaning :
   keeps _ _ _ (Dies at gone events p r so there runs) c new = dies-keeps c at gone events p r there (keeps at gone events so c new) runs
   keeps _ _ _ (Closes at gone events p r so there) c new = closes-keeps c at gone events p r there (keeps at gone events so c new)
 
-  is-history : RunnersAreSynchronous meaning → (at : Runners) (gone : List (Gone N)) (events : List Event) → Keeps (new_member meaning group) at gone events
-      → IsHistoryOf log meaning group at gone events
-  is-history law at gone events y = record {
+  -- ---- what comes of it
+
+  stands : (at : Runners) (gone : List (Gone N)) (events : List Event) (y : Keeps (new_member meaning group) at gone events) (p : Address) (r : Driven N S) → at p ≡ Some r
+      → StandsWith meaning group p (own_items p y.all) r.channel.stage
+  stands at gone events y p r e = let x = y.runners p r e in record { member = new_member meaning group p; is_new = is-new meaning group p x.real; ready = x.ready; running = x.running }
+
+  is-agreed : RunnersAreSynchronous meaning → RunnersAgree meaning → RunnersKnow meaning → (at : Runners) (gone : List (Gone N)) (events : List Event)
+      (y : Keeps (new_member meaning group) at gone events) → IsCarried group (net_events (items_of y.all)) → IsAgreed meaning at events
+  is-agreed law agree know at gone events y carried =
+      let merged : AreMerged meaning group y.all = record { processes = y.processes; network = carried; once = y.once } in
+      record {
+        synchronous = subst (λ (l : List Event). IsVirtuallySynchronous meaning l) y.happened (law group y.all merged);
+        agreeing = subst (λ (l : List Event). EachPlace (ReplicasAgree meaning) l) y.happened (agree group y.all merged);
+        known = λ p r e. subst (λ (l : List Event). ChannelKnows meaning l p r.channel.stage) y.happened (know group y.all merged p r.channel.stage (stands at gone events y p r e));
+      }
+
+  is-history : RunnersAreSynchronous meaning → RunnersAgree meaning → RunnersKnow meaning → (at : Runners) (gone : List (Gone N)) (events : List Event)
+      → Keeps (new_member meaning group) at gone events → IsHistoryOf log meaning group at gone events
+  is-history law agree know at gone events y = record {
     all = y.all;
     processes = y.processes;
     once = y.once;
     happened = y.happened;
-    runners = λ p r e. let x = y.runners p r e in record { member = new_member meaning group p; is_new = is-new meaning group p x.real; running = x.running; lists = x.lists };
+    runners = λ p r e. record { stands = stands at gone events y p r e; lists = (y.runners p r e).lists };
     nets = y.nets;
     used = y.used;
-    synchronous = λ carried. subst (λ (l : List Event). IsVirtuallySynchronous meaning l) y.happened
-        (law group y.all (record { processes = y.processes; network = carried; once = y.once }));
+    agreed = is-agreed law agree know at gone events y;
   }
 
-pub played-are : {N S : Type 0} (log : N → Option Log) (failed : N → ℕ) (meaning : Meaning S) → RunnersAreSynchronous meaning → PlayedAreHistories log failed meaning
-played-are log failed meaning law group at gone events played =
-    is-history log failed meaning group law at gone events (keeps log failed meaning group at gone events played (new_member meaning group) (is-new meaning group))
+pub played-are : {N S : Type 0} (log : N → Option Log) (failed : N → ℕ) (meaning : Meaning S) → RunnersAreSynchronous meaning → RunnersAgree meaning → RunnersKnow meaning
+    → PlayedAreHistories log failed meaning
+played-are log failed meaning law agree know group at gone events played =
+    is-history log failed meaning group law agree know at gone events (keeps log failed meaning group at gone events played (new_member meaning group) (is-new meaning group))
 
 -- a runner that there is has an address, is ready, and all that its channel told is taken
 pub runner-is : {N S : Type 0} (log : N → Option Log) (failed : N → ℕ) (meaning : Meaning S) (group : List ℕ) (at : Address → Option (Driven N S)) (gone : List (Gone N)) (events : List Event)

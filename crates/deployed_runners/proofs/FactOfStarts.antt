@@ -18,7 +18,7 @@ use Rattle.deployed_runners.specs.Items.{Item, OfNet, OfMember, Standing, then_s
 use Rattle.deployed_runners.specs.Systems.{PlayedTellNoStart}
 use Rattle.deployed_runners.proofs.FactOfPlayed.{runner-is}
 use Rattle.deployed_runners.proofs.ItemsOfCalls.{drives-adds}
-use Rattle.deployed_runners.proofs.NewMembers.{new_member, is-new}
+use Rattle.deployment.proofs.NewMembers.{new_member, is-new}
 
 told-none : (events : List Event) → list_any is_start (but_starts_and_crashes events) ≡ false
 told-none [] = refl

@@ -14,10 +14,10 @@ use Rattle.deployment.specs.Deployments.{IsNew, bytes_of}
 use Rattle.deployment.specs.Processes.{all_told}
 use Rattle.deployed_channels.specs.Plays.{IsReady, falls, crash_of}
 use Rattle.deployed_channels.proofs.CallIsStep.{lent-calls-are, creates-are, joins-are}
-use Rattle.deployed_runners.specs.Items.{Follow, steps_in}
+use Rattle.deployed_runners.specs.Items.{Follow, stands_after, steps_in}
 use Rattle.deployed_runners.specs.Runs.{listed, with_channel, Makes, Listen, Round, Seek, Wait, Create, Join, Send, Hand, Take, Drives, Begun, Further, running_in, happened_by, Adds, CallsAddItems, new_channel, IsRun, RunsAreProcesses}
 use Rattle.deployed_runners.proofs.StepsOfCalls.{call-does, connect-does, again-does}
-use Rattle.deployed_runners.proofs.NewMembers.{new_member, is-new}
+use Rattle.deployment.proofs.NewMembers.{new_member, is-new}
 use Rattle.deployed_runners.proofs.ItemsOfRounds
 
 module _ {N S : Type 0} (log : N → Option Log) (failed : N → ℕ) (meaning : Meaning S) (group : List ℕ) where
@@ -87,6 +87,13 @@ module _ {N S : Type 0} (log : N → Option Log) (failed : N → ℕ) (meaning :
           (refl, subst (λ (q : Address). IsNew meaning group q (x.before m)) at (x.is_new m n), tt),
           subst (λ (c : ChannelModel S). Follow meaning group c.address (record { running = running_in (x.before m) c.stage; waiting = map bytes_of c.outgoing; given = None }) x.items) fresh (x.follow m n),
         );
+        stands = record {
+          member = m;
+          is_new = is-new meaning group p real;
+          ready = x.ready;
+          running = subst (λ (c : ChannelModel S). (stands_after (record { running = running_in (x.before m) c.stage; waiting = map bytes_of c.outgoing; given = None }) x.items).running
+              ≡ running_in m now.channel.stage) fresh (x.running m n);
+        };
         lists = x.lists;
         tells = subst (λ (c : ChannelModel S). taken ++ now.channel.happened ≡ c.happened ++ all_told (steps_in x.items)) fresh x.tells;
         happens = subst (λ (q : Address). happened_by x.items ≡ all_told (steps_in x.items) ++ crash_of q fell) at x.happens;

@@ -1,9 +1,9 @@
 pub mod FactOfItems
 pub mod FactOfMerged
+pub mod FactOfKnown
 pub mod StepsOfCalls
 pub mod StaysRunning
 pub mod ItemsOfRounds
-pub mod NewMembers
 pub mod ItemsOfCalls
 pub mod FactOfOrders
 pub mod FactOfPlayed

@@ -1,4 +1,5 @@
 pub mod Items
 pub mod Runs
 pub mod Merged
+pub mod Known
 pub mod Systems

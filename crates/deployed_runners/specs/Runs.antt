@@ -21,7 +21,7 @@ use Rattle.udp_member.specs.Seeking.{Seeks}
 use Rattle.deployment.specs.Deployments.{Step, Start, Call, Crash, IsNew, bytes_of, happens_by}
 use Rattle.deployment.specs.Processes.{all_told}
 use Rattle.deployed_channels.specs.Plays.{IsReady, LeftBy, falls, crash_of}
-use Rattle.deployed_runners.specs.Items.{Item, OfMember, Standing, stands_after, datagram_in, Follow, IsProcess, net_events, steps_in}
+use Rattle.deployed_runners.specs.Items.{Item, OfMember, Standing, not_begun, stands_after, datagram_in, Follow, IsProcess, net_events, steps_in}
 
 -- ---- calls
 
@@ -113,13 +113,21 @@ CallsAddItems {N} {S} log failed meaning = (group : List ℕ) (old : Driven N S)
 abbrev pub new_channel : {S : Type 0} → Meaning S → Address → ChannelModel S
 new_channel meaning p = record { address = p; stage = Apart meaning.opening; outgoing = []; happened = [] }
 
--- RUN: what a runner did since its channel was new is a process, which begins with its start; what happened at its net is what that lists more; what its channel told is what the
--- steps tell; and this is what happened, but for the start, and for the crash where the channel ended other than by a leave
+-- where a process stands after what it did that has a channel like this: with the member that runs there; before it is connected, with one with which it will be
+pub record StandsWith {S : Type 0} (meaning : Meaning S) (group : List ℕ) (p : Address) (own : List (Item S)) (stage : Stage S) : Type 0 where
+  pub member : MemberModel S
+  pub is_new : IsNew meaning group p member
+  pub ready : IsReady meaning stage
+  pub running : (stands_after not_begun own).running ≡ running_in member stage
+
+-- RUN: what a runner did since its channel was new is a process, which begins with its start and stands with its channel; what happened at its net is what that lists more; what its
+-- channel told is what the steps tell; and this is what happened, but for the start, and for the crash where the channel ended other than by a leave
 pub record IsRun {N S : Type 0} (log : N → Option Log) (meaning : Meaning S) (group : List ℕ) (p : Address) (first : Driven N S) (taken : List Event) (fell : Bool) (now : Driven N S)
     : Type 0 where
   pub member : MemberModel S
   pub items : List (Item S)
   pub process : IsProcess meaning group p (OfMember (Start p member) ∷ items)
+  pub stands : StandsWith meaning group p (OfMember (Start p member) ∷ items) now.channel.stage
   pub lists : Lists (log first.net) (λ l. l ++ net_events items) (log now.net)
   pub tells : taken ++ now.channel.happened ≡ all_told (steps_in items)
   pub happens : happened_by items ≡ all_told (steps_in items) ++ crash_of p fell

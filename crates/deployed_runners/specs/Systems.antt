@@ -7,16 +7,18 @@ use Rattle.state_transfer.specs.Meanings.{Meaning}
 use Rattle.trace_props.specs.declared.event.Event.{Event}
 use Rattle.trace_props.specs.declared.event.Event.TheVariants.{Started, Crashed}
 use Rattle.trace_props.specs.Observed.{has_started, is_start}
+use Rattle.trace_props.specs.Places.{EachPlace}
 use Rattle.trace_props.specs.Synchrony.{IsVirtuallySynchronous}
+use Rattle.replicas.specs.Replicas.{ReplicasAgree}
 use Rattle.channel.specs.declared.stage.Stage.{Stage}
 use Rattle.channel.specs.declared.stage.Stage.TheVariants.{Apart, Connected, Ended}
 use Rattle.udp_net.specs.Logs.{Log}
 use Rattle.udp_member.specs.Turns.{Driven}
-use Rattle.member.specs.Members.{MemberModel}
-use Rattle.deployment.specs.Deployments.{EachStep, StartsOnce, IsNew, nothing_yet, trace_of}
+use Rattle.deployment.specs.Deployments.{EachStep, StartsOnce, nothing_yet, trace_of}
 use Rattle.deployed_channels.specs.Plays.{crash_of}
-use Rattle.deployed_runners.specs.Items.{Item, IsProcess, not_begun, stands_after, net_events, steps_in}
-use Rattle.deployed_runners.specs.Runs.{Drives, new_channel, running_in}
+use Rattle.deployed_channels.specs.Known.{ChannelKnows}
+use Rattle.deployed_runners.specs.Items.{Item, IsProcess, net_events, steps_in}
+use Rattle.deployed_runners.specs.Runs.{Drives, new_channel, StandsWith}
 use Rattle.deployed_runners.specs.Merged.{Done, own_items, items_of, IsCarried}
 
 -- the net that a process had whose runner is gone
@@ -51,15 +53,20 @@ pub data Played {N S : Type 0} (log : N → Option Log) (failed : N → ℕ) (me
   Closes : (at : Address → Option (Driven N S)) (gone : List (Gone N)) (events : List Event) (p : Address) (r : Driven N S) → Played log failed meaning group at gone events
       → at p ≡ Some r → Played log failed meaning group (with_runner p None at) (gone ++ record { by = p; net = r.net } ∷ []) events
 
--- where the process of a runner stands after what it did: with the member that runs in its channel; and what happened at its net is what that lists
+-- the process of a runner stands with its channel after what it did; and what happened at its net is what that lists
 pub record IsRunnerOf {N S : Type 0} (log : N → Option Log) (meaning : Meaning S) (group : List ℕ) (p : Address) (own : List (Item S)) (r : Driven N S) : Type 0 where
-  pub member : MemberModel S
-  pub is_new : IsNew meaning group p member
-  pub running : (stands_after not_begun own).running ≡ running_in member r.channel.stage
+  pub stands : StandsWith meaning group p own r.channel.stage
   pub lists : ForSome (log r.net) (λ l. l ≡ net_events own)
 
+-- what comes of it where the nets gave only what was offered before: the events are virtually synchronous, copies agree, and each channel knows itself: its receiver is in the state
+-- that the events give, and what it knows to be stable each member of its view has delivered
+pub record IsAgreed {N S : Type 0} (meaning : Meaning S) (at : Address → Option (Driven N S)) (events : List Event) : Type 0 where
+  pub synchronous : IsVirtuallySynchronous meaning events
+  pub agreeing : EachPlace (ReplicasAgree meaning) events
+  pub known : (p : Address) (r : Driven N S) → at p ≡ Some r → ChannelKnows meaning events p r.channel.stage
+
 -- HISTORY: these events are what happened in some order of what processes did, each of one address, none started twice; each runner that there is is one of its process; what the
--- net lists of each that is gone is what happened there, and no other was used; and if the nets gave only what was offered before, the events are virtually synchronous
+-- net lists of each that is gone is what happened there, and no other was used; and if the nets gave only what was offered before, they are virtually synchronous, and what comes of that
 pub record IsHistoryOf {N S : Type 0} (log : N → Option Log) (meaning : Meaning S) (group : List ℕ) (at : Address → Option (Driven N S)) (gone : List (Gone N)) (events : List Event)
     : Type 0 where
   pub all : List (Done S)
@@ -69,7 +76,7 @@ pub record IsHistoryOf {N S : Type 0} (log : N → Option Log) (meaning : Meanin
   pub runners : (p : Address) (r : Driven N S) → at p ≡ Some r → IsRunnerOf log meaning group p (own_items p all) r
   pub nets : (k : ℕ) (g : Gone N) → slice_get gone k ≡ Some g → ForSome (log g.net) (λ l. l ≡ net_events (own_items g.by all))
   pub used : (p : Address) → at p ≡ None → (net_events (own_items p all) ≡ []) ⊎ ((k : ℕ) × (g : Gone N) × (slice_get gone k ≡ Some g) × (g.by ≡ p))
-  pub synchronous : IsCarried group (net_events (items_of all)) → IsVirtuallySynchronous meaning events
+  pub agreed : IsCarried group (net_events (items_of all)) → IsAgreed meaning at events
 
 abbrev pub PlayedAreHistories : {N S : Type 0} → (N → Option Log) → (N → ℕ) → Meaning S → Type 0
 PlayedAreHistories {N} {S} log failed meaning = (group : List ℕ) (at : Address → Option (Driven N S)) (gone : List (Gone N)) (events : List Event)

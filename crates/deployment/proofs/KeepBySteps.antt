@@ -25,6 +25,8 @@ use Rattle.membership.specs.declared.member_state.MemberState.{MemberState}
 use Rattle.membership.specs.MemberStates.{core_of as core_at}
 use Rattle.step_output.specs.Outputs.{packet_in, spelled}
 use Rattle.step_output.specs.declared.output.Output.{Output}
+use Rattle.step_output.specs.Steps.{who}
+use Rattle.member.specs.Running.{IsAlive}
 use Rattle.limits.specs.declared.refusal.Refusal.{Refusal}
 use Rattle.limits.specs.declared.refusal.Refusal.TheVariants as refusal
 use Rattle.limits.specs.Refusals as refusals
@@ -80,7 +82,7 @@ module _ {S : Type 0} where
   on-core : (m : MemberModel S) → option_and_then core_of (running_on m) ≡ core_of m
   on-core m = on-by m.address m.group m.member_state
 
-  state-core : (address : Address) (state : Option (MemberState S)) → is_some state ≡ true → (c : Core S) × (option_map (core_at address) state ≡ Some c)
+  pub state-core : (address : Address) (state : Option (MemberState S)) → is_some state ≡ true → (c : Core S) × (option_map (core_at address) state ≡ Some c)
   state-core address None e = absurd (let bad : false ≡ true = e in cc)
   state-core address (Some l) e = (core_at address l, refl)
 
@@ -99,6 +101,7 @@ pub record IsHere {S : Type 0} (group : List ℕ) (p : Address) (m : MemberModel
   pub address : m.address ≡ p
   pub group_is : m.group ≡ group
   pub runs : is_some m.member_state ≡ true
+  pub alive : IsAlive (who m.address m.group) m.member_state
 
 abbrev pub AreHere : {S : Type 0} → List ℕ → (Address → Option (MemberModel S)) → Type 0
 AreHere {S} group members = (p : Address) (m : MemberModel S) → members p ≡ Some m → IsHere group p m
@@ -157,7 +160,7 @@ module _ {S : Type 0} (meaning : Meaning S) (laws : steps.Laws meaning) (group :
         (steps.step-keeps meaning laws (system_of d.members d.offered d.trace) (agree.Start p) x.agreed (new.real, once));
     spelled = still-spelled d.offered x.spelled;
     here = here-with group p (Some m) d.members
-        (λ k e. subst (IsHere group p) (same_Some m k e) (record { address = new.address; group_is = new.group_is; runs = core-state m.address m.member_state (idle meaning.opening p) new.core })) x.here;
+        (λ k e. subst (IsHere group p) (same_Some m k e) (record { address = new.address; group_is = new.group_is; runs = core-state m.address m.member_state (idle meaning.opening p) new.core; alive = new.alive })) x.here;
   }
 
   -- ---- a crash
@@ -189,13 +192,13 @@ module _ {S : Type 0} (meaning : Meaning S) (laws : steps.Laws meaning) (group :
     core-is : (c : Core S) × (core_of m ≡ Some c)
     core-is = state-core m.address m.member_state is-here.runs
 
-    left-by : (b : Bool) (k : MemberModel S) → is_some left.member_state ≡ b → left.address ≡ m.address → left.group ≡ m.group → cond b (Some left) None ≡ Some k → IsHere group p k
-    left-by false k runs address same e = absurd (none-some k e)
-    left-by true k runs address same e =
-        subst (IsHere group p) (same_Some left k e) (record { address = address ∙ is-here.address; group_is = same ∙ is-here.group_is; runs = runs })
+    left-by : (b : Bool) (k : MemberModel S) → is_some left.member_state ≡ b → left.address ≡ m.address → left.group ≡ m.group → IsAlive (who left.address left.group) left.member_state → cond b (Some left) None ≡ Some k → IsHere group p k
+    left-by false k runs address same alive e = absurd (none-some k e)
+    left-by true k runs address same alive e =
+        subst (IsHere group p) (same_Some left k e) (record { address = address ∙ is-here.address; group_is = same ∙ is-here.group_is; runs = runs; alive = alive })
 
-    left-here : left.address ≡ m.address → left.group ≡ m.group → AreHere group (with_member p (running_on left) d.members)
-    left-here address same = here-with group p (running_on left) d.members (λ k e. left-by (is_some left.member_state) k refl address same e) x.here
+    left-here : left.address ≡ m.address → left.group ≡ m.group → IsAlive (who left.address left.group) left.member_state → AreHere group (with_member p (running_on left) d.members)
+    left-here address same alive = here-with group p (running_on left) d.members (λ k e. left-by (is_some left.member_state) k refl address same alive e) x.here
 
     -- that is taken
     module _ (out : Output) (did : HasActed meaning m input out left) (may : MayBeHanded group d.offered input) where
@@ -244,7 +247,7 @@ module _ {S : Type 0} (meaning : Meaning S) (laws : steps.Laws meaning) (group :
     fails-by true e runs h = record {
       agreed = still-agreed (same-left e runs h);
       spelled = still-spelled d.offered x.spelled;
-      here = here-with group p (Some left) d.members (λ k at. left-by true k runs h.address h.group at) x.here;
+      here = here-with group p (Some left) d.members (λ k at. left-by true k runs h.address h.group h.alive at) x.here;
     }
     fails-by false e runs h = record {
       agreed = crash-agreed d p m x there;
@@ -253,7 +256,7 @@ module _ {S : Type 0} (meaning : Meaning S) (laws : steps.Laws meaning) (group :
     }
 
     pub call-keeps : (result : Result Output Error) → Handled meaning m input result left → MayBeHanded group d.offered input → IsDeployment (after d (Call p input result left))
-    call-keeps (Ok out) h may = record { agreed = taken-agreed out h.acted may; spelled = taken-spelled out h.acted may; here = left-here h.address h.group }
+    call-keeps (Ok out) h may = record { agreed = taken-agreed out h.acted may; spelled = taken-spelled out h.acted may; here = left-here h.address h.group h.alive }
     call-keeps (Err e) h may = fails-by (is_some left.member_state) e refl h
 
   -- ---- any step, and any number of them

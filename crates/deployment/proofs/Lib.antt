@@ -3,3 +3,8 @@ pub mod FactOfCame
 pub mod KeepBySteps
 pub mod FactOfProcesses
 pub mod FactOfTold
+pub mod FactOfPlayed
+pub mod NewMembers
+pub mod FactOfReadable
+pub mod FactOfKnown
+pub mod FactOfOwnEvents

@@ -17,6 +17,8 @@ use Rattle.member.specs.declared.input.Input.{Input}
 use Rattle.member.specs.declared.input.Input.TheVariants.{Create, Join, Send, Datagram, Tick, Suspect, MergeHint, Leave}
 use Rattle.member.specs.Members.{MemberModel, core_of}
 use Rattle.member.specs.Handling.{Handled}
+use Rattle.member.specs.Running.{IsAlive}
+use Rattle.step_output.specs.Steps.{who}
 
 -- ---- steps
 
@@ -100,6 +102,7 @@ pub record IsNew {S : Type 0} (meaning : Meaning S) (group : List ℕ) (p : Addr
   pub address : m.address ≡ p
   pub group_is : m.group ≡ group
   pub core : core_of m ≡ Some (idle meaning.opening p)
+  pub alive : IsAlive (who m.address m.group) m.member_state
 
 -- one call of `handle`, with its whole contract, on the member that runs at the address
 pub record IsCall {S : Type 0} (meaning : Meaning S) (running : Option (MemberModel S)) (input : Input) (result : Result Output Error) (left : MemberModel S) : Type 0 where
@@ -157,6 +160,12 @@ pub record IsHistory {S : Type 0} (meaning : Meaning S) (group : List ℕ) (step
   pub does : EachStep (DoesSo meaning group) nothing_yet steps
   pub once : EachStep StartsOnce nothing_yet steps
   pub network : EachStep (HandsOver group) nothing_yet steps
+
+-- PLAYED: a deployment that came from nothing by such steps
+pub record IsPlayed {S : Type 0} (meaning : Meaning S) (group : List ℕ) (d : Deployment S) : Type 0 where
+  pub steps : List (Step S)
+  pub history : IsHistory meaning group steps
+  pub end : after_steps nothing_yet steps ≡ d
 
 -- what happened
 abbrev pub trace_of : {S : Type 0} → List (Step S) → List Event

@@ -101,6 +101,20 @@ impl<R: Receiver> Member<R> {
         }
     }
 
+    /// How many messages of its view it knows to be stable: each member of the view has delivered them, the first of its order (docs/PROTOCOL.md, "Stability"). 0 when a view
+    /// is installed, without a view, and after its end.
+    pub fn stable(&self) -> u64
+        ensures { result ≡ option_map_or (λ c. c.view_state.stable) (core_of self.now) 0 }
+    {
+        let Some(member_state) = &self.member_state else {
+            return 0;
+        };
+        match &member_state.view_state {
+            None => 0,
+            Some(view_state) => view_state.stable().get(),
+        }
+    }
+
     /// Its receiver, as the steps left it; `None` after its end.
     pub fn receiver(&self) -> Option<&R>
         ensures { option_copied result ≡ option_map (λ c. c.state) (core_of self.now) }

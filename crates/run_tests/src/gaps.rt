@@ -122,6 +122,24 @@ fn a_second_catch_up_puts_out_a_status_alone(rt: HostRuntime) {
 }
 
 #[test]
+fn messages_are_stable_by_acks_and_a_status(rt: HostRuntime) {
+    let mut world = behind(rt.alloc(), &[b"a", b"b"]).expect(&rt, "the events are done");
+    let _ = world.catch_up(node(2));
+    assert!(rt; world.stable(node(1)) == Some(0), "no ACK has come yet");
+    let acks = [WorldEvent::Deliver(11), WorldEvent::Deliver(12)];
+    assert!(rt; world.run(&acks).is_ok(), "the ACKs are delivered");
+    assert!(rt;
+        world.stable(node(1)) == Some(2),
+        "1.1 knows that 2.1 has both messages"
+    );
+    assert!(rt; world.stable(node(2)) == Some(0), "2.1 is told later");
+    let status = [WorldEvent::Tick(node(1)), WorldEvent::Deliver(13)];
+    assert!(rt; world.run(&status).is_ok(), "the STATUS is delivered");
+    assert!(rt; world.stable(node(2)) == Some(2), "2.1 knows it too");
+    assert!(rt; world.stable(node(3)).is_none(), "nobody runs at 3");
+}
+
+#[test]
 fn the_coordinator_is_not_caught_up(rt: HostRuntime) {
     let mut world = behind(rt.alloc(), &[b"a", b"b"]).expect(&rt, "the events are done");
     assert!(rt;

@@ -56,7 +56,7 @@ module _ {N S : Type 0} (log : N → Option Log) (failed : N → ℕ) (meaning :
     runners = λ p r e. h.runners p r (same p ∙ e);
     nets = h.nets;
     used = λ p e. h.used p (same p ∙ e);
-    synchronous = h.synchronous;
+    agreed = λ carried. let a = h.agreed carried in record { synchronous = a.synchronous; agreeing = a.agreeing; known = λ p r e. a.known p r (same p ∙ e) };
   }
 
   -- the runner of a process that runs alone is another now

@@ -140,6 +140,11 @@ pub fn view(text: &mut Vec<u8>, channel: &Chat) -> Result<(), AllocError> {
     }
 }
 
+/// How many messages of its view it knows to be stable.
+pub fn stable(text: &mut Vec<u8>, channel: &Chat) -> Result<(), AllocError> {
+    put_number(text, "stable", channel.stable())
+}
+
 /// What is answered always.
 pub fn always(text: &mut Vec<u8>, channel: &Chat) -> Result<(), AllocError> {
     view(text, channel)?;

@@ -2,7 +2,7 @@
 
 use crate::channels::{
     Chat, always, apart, carry, connect_new, connect_to, connected, disconnect, happened,
-    merge_hint, outgoing, pass_events, send, suspect, together, view,
+    merge_hint, outgoing, pass_events, send, stable, suspect, together, view,
 };
 use std::alloc::{AllocError, Global};
 
@@ -42,10 +42,12 @@ fn send_at_second(
     carry(text, second, first)
 }
 
-/// A message of the second goes to the coordinator, which orders it.
+/// A message of the second goes to the coordinator, which orders it; by the ACK the coordinator knows that both have delivered it.
 pub fn sends(alloc: Global, text: &mut Vec<u8>) -> Result<(), AllocError> {
     let (mut first, mut second) = together(alloc)?;
-    send_at_second(alloc, text, &mut first, &mut second)
+    send_at_second(alloc, text, &mut first, &mut second)?;
+    stable(text, &first)?;
+    stable(text, &second)
 }
 
 /// The second asks to be let in, and the first sends.

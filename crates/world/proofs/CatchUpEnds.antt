@@ -26,7 +26,8 @@ use Rattle.world_model.specs.Histories.{last_of, is_connected}
 use Rattle.world.specs.declared.gaps.Pair.{Pair}
 use Rattle.world_step.specs.declared.node_state.NodeState.{NodeState}
 use Rattle.world_step.specs.declared.node_state.NodeState.TheVariants.{Vacant, Ended, Running}
-use Rattle.world_step.specs.NodeStates.{system_of}
+use Rattle.world_step.proofs.FactOfMembers
+use Rattle.world_step.proofs.FactOfSystem.{system_of}
 use Rattle.world_step.specs.Invariant.{IsWorld, IsNodeStateOf}
 use Rattle.world_step.specs.Worlds.{WorldModel}
 use Rattle.world_step.specs.Pools.{first_for}
@@ -136,13 +137,14 @@ module _ {S : Type 0} (meaning : Meaning S) (laws : KeepBySteps.Laws meaning) wh
       → FactOfReplies.RunsAs meaning w p o.member_state o.view_state
   runs-open w n p m v keeps node_state is o =
       let k = node_state-of w n m keeps node_state in
+      let here = FactOfMembers.is-here meaning laws w.node_states w.history n m keeps node_state k.1 in
       let node : p.node ≡ n = ap (λ (q : Address). q.node) (sym is) ∙ k.1 in
-      record { member = m; node_state = ap (λ (j : ℕ). w.node_states j) node ∙ node_state; address = is; group = k.2.group; member_state = o.lives; view_state = o.keeps; installed = o.installed }
+      record { member = m; node_state = ap (λ (j : ℕ). w.node_states j) node ∙ node_state; address = is; group = here.group_is; member_state = o.lives; view_state = o.keeps; installed = o.installed }
 
   orderly-of : (w : WorldModel S) (n : ℕ) (p : Address) (m : MemberModel S) (v : View) → Keeps w → w.node_states n ≡ Running m → m.address ≡ p → (o : IsOpen m v) → IsOrderly p o.view_state
   orderly-of w n p m v keeps node_state is o =
-      let k = node_state-of w n m keeps node_state in
-      subst (λ (q : Address). IsOrderly q o.view_state) is ((k.3 o.member_state o.lives).ordered o.view_state o.keeps)
+      let k = FactOfMembers.is-here meaning laws w.node_states w.history n m keeps node_state (node_state-of w n m keeps node_state).1 in
+      subst (λ (q : Address). IsOrderly q o.view_state) is ((k.alive o.member_state o.lives).ordered o.view_state o.keeps)
 
   pub record Found (w : WorldModel S) (pair : Pair) : Type 0 where
     pub first : MemberState S
@@ -162,7 +164,7 @@ module _ {S : Type 0} (meaning : Meaning S) (laws : KeepBySteps.Laws meaning) wh
     joined : (lc lq : MemberState S) (kc : Coordinator) (kq : Follower) → FactOfReplies.RunsAs meaning w c lc (kinds.Coordinator kc)
         → FactOfReplies.RunsAs meaning w q lq (kinds.Follower kq) → kc.view.id ≡ pair.view → kq.view.id ≡ pair.view → Found w pair
     joined lc lq kc kq rc rq ic iq =
-        let one = FactOfPairs.one-view meaning (system_of w.node_states w.history.pool w.history.trace) keeps.agreed.agreed c q (core_at c lc) (core_at q lq) kc.view kq.view
+        let one = FactOfPairs.one-view meaning (system_of w.node_states w.history.pool w.history.trace) (FactOfMembers.agreed meaning laws w.node_states w.history keeps).agreed c q (core_at c lc) (core_at q lq) kc.view kq.view
         (CatchUpLevels.runs-in meaning laws w c lc (kinds.Coordinator kc) rc) (CatchUpLevels.runs-in meaning laws w q lq (kinds.Follower kq) rq)
         (rw rc.view_state refl) (rw rq.view_state refl) (iq ∙ sym ic) in
         record {

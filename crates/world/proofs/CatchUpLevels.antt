@@ -43,17 +43,18 @@ use Rattle.world_model.specs.declared.WorldEvent.TheVariants.{Deliver}
 use Rattle.world_model.specs.Histories.{last_of, is_connected}
 use Rattle.world_model.specs.Packets.{world_group, packet_numbered}
 use Rattle.world_step.specs.declared.node_state.NodeState.TheVariants.{Running}
-use Rattle.world_step.specs.NodeStates.{bytes_of, core_here, system_of}
+use Rattle.world_step.specs.NodeStates.{bytes_of}
 use Rattle.world_step.specs.Turns.{OthersStand}
-use Rattle.world_step.specs.Invariant.{IsWorld, IsNodeStateOf}
+use Rattle.world_step.specs.Invariant.{IsWorld}
 use Rattle.world_step.specs.Worlds.{WorldModel}
 use Rattle.world_step.specs.Pools.{is_destined, first_for}
 use Rattle.world.specs.Gaps.{lacks_memory, Plays, Delivers, DeliversPast}
 use Rattle.world.specs.Gaps.Delivers.{Still, Next}
 use Rattle.world.proofs.WindowFills.{MissesWithin, asked-within, nothing-missing, filled}
 use Rattle.world.proofs.FactOfPairs
-use Rattle.world_step.proofs.FactOfSystem.{runs, core-running}
-use Rattle.world_step.proofs.FactOfPosts.{EachSound, bytes_for}
+use Rattle.world_step.proofs.FactOfMembers
+use Rattle.world_step.proofs.FactOfSystem.{core_here, runs, core-running, system_of}
+use Rattle.deployment.proofs.FactOfPosts.{EachSound, bytes_for}
 use Rattle.world_step.proofs.KeepOfWorlds
 use Rattle.world.proofs.FactOfReplies
 use Rattle.world.proofs.FactOfReplies.{bytes_as, IsSound, goes-to}
@@ -66,13 +67,13 @@ use Rattle.step_output.specs.Steps.{who}
 abbrev pub AreNext : ℕ → List Posted → List (List ℕ) → Type 0
 AreNext past posted pool = (j : ℕ) (m : Posted) → slice_get posted j ≡ Some m → packet_numbered (past + 1 + j) pool ≡ Some (bytes_as m)
 
-pub put-next : (pool : List (List ℕ)) (posted : List Posted) → AreNext (length pool) posted (pool ++ bytes_for posted)
+pub put-next : (pool : List (List ℕ)) (posted : List Posted) → AreNext (length pool) posted (pool ++ bytes_for world_group posted)
 put-next pool posted j m at =
     let e : length pool + 1 + j ≡ length pool + j + 1 = omega arith in
-    ap (λ (k : ℕ). packet_numbered k (pool ++ bytes_for posted)) e ∙ numbered-at (length pool + j) (pool ++ bytes_for posted)
-    ∙ slice_get-right pool (bytes_for posted) j ∙ by posted j at
+    ap (λ (k : ℕ). packet_numbered k (pool ++ bytes_for world_group posted)) e ∙ numbered-at (length pool + j) (pool ++ bytes_for world_group posted)
+    ∙ slice_get-right pool (bytes_for world_group posted) j ∙ by posted j at
   where
-    by : (l : List Posted) (i : ℕ) → slice_get l i ≡ Some m → slice_get (bytes_for l) i ≡ Some (bytes_as m)
+    by : (l : List Posted) (i : ℕ) → slice_get l i ≡ Some m → slice_get (bytes_for world_group l) i ≡ Some (bytes_as m)
     by [] i e = absurd (none-some m e)
     by (x ∷ l) zero e = ap (λ (o : Option Posted). option_map bytes_as o) e
     by (x ∷ l) (suc i) e = by l i e
@@ -98,14 +99,14 @@ next-first past m posted pool each = let e : past + 1 ≡ past + 1 + 0 = omega a
 -- the first packet for a member, where each of a list is put out one
 pub record FirstFor (q : Address) (m : Posted) (start : ℕ) (posted : List Posted) : Type 0 where
   pub place : ℕ
-  pub found : position_from (is_destined q) start (bytes_for posted) ≡ Some (start + place)
+  pub found : position_from (is_destined q) start (bytes_for world_group posted) ≡ Some (start + place)
   pub there : slice_get posted place ≡ Some m
 
 right-of : (a b : Bool) → a ≡ false → (a || b) ≡ true → b ≡ true
 right-of true b e x = absurd (let bad : true ≡ false = e in cc)
 right-of false b e x = x
 
-pub first-found : (c q : Address) (b : Body) (list : List Address) (start : ℕ) → EachSound (map (packet c b) list) → stands_in q list ≡ true
+pub first-found : (c q : Address) (b : Body) (list : List Address) (start : ℕ) → EachSound world_group (map (packet c b) list) → stands_in q list ≡ true
     → FirstFor q (packet c b q) start (map (packet c b) list)
 first-found c q b [] start sound there = absurd (let bad : false ≡ true = there in cc)
 first-found c q b (x ∷ list) start sound there = by (same_address x q) refl (first-found c q b list (start + 1) sound.1)
@@ -200,7 +201,7 @@ module _ {S : Type 0} (meaning : Meaning S) (laws : KeepBySteps.Laws meaning) wh
 
   pub numbers : (w : WorldModel S) (c q : Address) (lc lq : MemberState S) (kc : Coordinator) (kq : Follower) → Couple w c q lc lq kc kq → Numbers w c q kc kq
   numbers w c q lc lq kc kq x =
-      let p = FactOfPairs.compared meaning (system_of w.node_states w.history.pool w.history.trace) x.keeps.agreed.agreed c q (core_at c lc) (core_at q lq) kc.view (record {
+      let p = FactOfPairs.compared meaning (system_of w.node_states w.history.pool w.history.trace) (FactOfMembers.agreed meaning laws w.node_states w.history x.keeps).agreed c q (core_at c lc) (core_at q lq) kc.view (record {
         coordinator = runs-in w c lc (kinds.Coordinator kc) x.first;
         member = runs-in w q lq (kinds.Follower kq) x.other;
         own = x.own;
@@ -229,9 +230,8 @@ module _ {S : Type 0} (meaning : Meaning S) (laws : KeepBySteps.Laws meaning) wh
   pub none-next : (w : WorldModel S) (c q : Address) (lc lq : MemberState S) (kc : Coordinator) (kq : Follower) → Couple w c q lc lq kc kq → held_at (kq.window.delivered + 1) kq.window.held ≡ None
   none-next w c q lc lq kc kq x =
       let m = x.other.member in
-      let k : IsNodeStateOf q.node (last_of q.node w.history.trace) (is_connected q.node w.history) w.history.trace (Running m) =
-      subst (IsNodeStateOf q.node (last_of q.node w.history.trace) (is_connected q.node w.history) w.history.trace) x.other.node_state (x.keeps.node_states q.node) in
-      let o : IsOrderly m.address (kinds.Follower kq) = (k.3 lq x.other.member_state).ordered (kinds.Follower kq) x.other.view_state in
+      let k = FactOfMembers.is-here meaning laws w.node_states w.history q.node m x.keeps x.other.node_state (ap (λ (p : Address). p.node) x.other.address) in
+      let o : IsOrderly m.address (kinds.Follower kq) = (k.alive lq x.other.member_state).ordered (kinds.Follower kq) x.other.view_state in
       o.1
 
   -- ---- the steps
@@ -288,7 +288,7 @@ module _ {S : Type 0} (meaning : Meaning S) (laws : KeepBySteps.Laws meaning) wh
       let body = bodies.Status kc.view.id (progress_of kc.window) in
       let posted = map (packet c body) (others_of c kc.view.members) in
       let f = first-found c q body (others_of c kc.view.members) (length old.history.pool + 1) t.sound (others-there c q kc.view.members n.listed x.apart) in
-      let rest : drop (length old.history.pool) announced.history.pool ≡ bytes_for posted = ap (drop (length old.history.pool)) t.puts ∙ drop-append_seam old.history.pool (bytes_for posted) in
+      let rest : drop (length old.history.pool) announced.history.pool ≡ bytes_for world_group posted = ap (drop (length old.history.pool)) t.puts ∙ drop-append_seam old.history.pool (bytes_for world_group posted) in
       record {
         couple = coordinator-moves old announced c q lc lq kc kq x keeps t.runs t.others;
         number = length old.history.pool + 1 + f.place;
@@ -407,7 +407,7 @@ module _ {S : Type 0} (meaning : Meaning S) (laws : KeepBySteps.Laws meaning) wh
       }
 
   pub rounds : (n g past : ℕ) (w new : WorldModel S) (c q : Address) (lc lq : MemberState S) (kc : Coordinator) (kq : Follower) (last : ℕ) → Couple w c q lc lq kc kq
-      → MissesWithin g last kc.window.delivered kq.window → g + n ≡ last + 1 → kc.window.stable < g → last ≤ kc.window.delivered → EachSound (orders c q kc g n)
+      → MissesWithin g last kc.window.delivered kq.window → g + n ≡ last + 1 → kc.window.stable < g → last ≤ kc.window.delivered → EachSound world_group (orders c q kc g n)
       → AreNext past (orders c q kc g n) w.history.pool → Delivers meaning past (length (orders c q kc g n)) w new → Ended new c q lc kc last
   rounds zero g past w new c q lc lq kc kq last x within count low high sound next all =
       let is : new ≡ w = delivers-none meaning past 0 w new refl all in
@@ -423,7 +423,7 @@ module _ {S : Type 0} (meaning : Meaning S) (laws : KeepBySteps.Laws meaning) wh
       let o = order-at w c q lc lq kc kq n g last x count low high in
       let m = packet c (bodies.Order kc.view.id g o.entry) q in
       let rest = orders c q kc (g + 1) n in
-      let sounds : EachSound (m ∷ rest) = subst EachSound o.is sound in
+      let sounds : EachSound world_group (m ∷ rest) = subst (EachSound world_group) o.is sound in
       let nexts : AreNext past (m ∷ rest) w.history.pool = subst (λ (l : List Posted). AreNext past l w.history.pool) o.is next in
       let d = delivers-next meaning past (length (m ∷ rest)) (length rest) w new refl
       (subst (λ (l : List Posted). Delivers meaning past (length l) w new) o.is all) in
@@ -452,10 +452,10 @@ module _ {S : Type 0} (meaning : Meaning S) (laws : KeepBySteps.Laws meaning) wh
   pub no-more : (xs ys : List (List ℕ)) → xs ≡ ys → length xs - length ys ≡ 0
   no-more xs ys e = let l : length xs ≡ length ys = ap length e in omega (arith, l)
 
-  some-more : (xs ys : List (List ℕ)) (posted : List Posted) → xs ≡ ys ++ bytes_for posted → length xs - length ys ≡ length posted
+  some-more : (xs ys : List (List ℕ)) (posted : List Posted) → xs ≡ ys ++ bytes_for world_group posted → length xs - length ys ≡ length posted
   some-more xs ys posted e =
-      let l : length xs ≡ length ys + length (bytes_for posted) = ap length e ∙ length-append ys (bytes_for posted) in
-      let m : length (bytes_for posted) ≡ length posted = length-map (map (spelled world_group) posted) bytes_of ∙ length-map posted (spelled world_group) in
+      let l : length xs ≡ length ys + length (bytes_for world_group posted) = ap length e ∙ length-append ys (bytes_for world_group posted) in
+      let m : length (bytes_for world_group posted) ≡ length posted = length-map (map (spelled world_group) posted) bytes_of ∙ length-map posted (spelled world_group) in
       omega (arith, l, m)
 
   -- the NAK that it put out, if it asks
@@ -474,7 +474,7 @@ module _ {S : Type 0} (meaning : Meaning S) (laws : KeepBySteps.Laws meaning) wh
         let is : packet q (bodies.Nak s.now.view.id k.missing) s.now.view.id.creator ≡ nak =
         ap (λ (v : View). packet q (bodies.Nak v.id k.missing) v.id.creator) s.couple.same ∙ ap (packet q (bodies.Nak kc.view.id k.missing)) s.couple.own in
         let grows : Grows world_group s.start s.out (nak ∷ []) [] = subst (λ (m : Posted). Grows world_group s.start s.out (m ∷ []) []) is k.grows in
-        let pool : asked.history.pool ≡ announced.history.pool ++ bytes_for (nak ∷ []) =
+        let pool : asked.history.pool ≡ announced.history.pool ++ bytes_for world_group (nak ∷ []) =
         s.puts ∙ ap (λ (ps : List (List ℕ)). announced.history.pool ++ ps) (FactOfReplies.put-out meaning s.start s.out s.nothing (nak ∷ []) [] grows) in
         let next : AreNext (length announced.history.pool) (nak ∷ []) asked.history.pool = subst (AreNext (length announced.history.pool) (nak ∷ [])) (sym pool) (put-next announced.history.pool (nak ∷ [])) in
         record {
@@ -499,7 +499,7 @@ module _ {S : Type 0} (meaning : Meaning S) (laws : KeepBySteps.Laws meaning) wh
       pub count : first + (last + 1 - first) ≡ last + 1
       pub low : kc.window.stable < first
       pub high : last ≤ kc.window.delivered
-      pub sound : EachSound (orders c q kc first (last + 1 - first))
+      pub sound : EachSound world_group (orders c q kc first (last + 1 - first))
       pub next : AreNext (length asked.history.pool) (orders c q kc first (last + 1 - first)) replied.history.pool
       pub many : length replied.history.pool - length asked.history.pool ≡ length (orders c q kc first (last + 1 - first))
 

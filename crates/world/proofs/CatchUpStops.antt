@@ -29,7 +29,7 @@ use Rattle.world.specs.Gaps.{open_view, is_open_in, pair_at, lacks_memory, Plays
 use Rattle.world.specs.Gaps.Breaks.{Here, Later}
 use Rattle.world.specs.Gaps.Stops.{AtTick, AtStatus, AtRequest, AtAnswer}
 use Rattle.world.proofs.WindowFills.{MissesWithin}
-use Rattle.world_step.proofs.FactOfPosts.{EachSound}
+use Rattle.deployment.proofs.FactOfPosts.{EachSound}
 use Rattle.world_step.proofs.KeepOfWorlds
 use Rattle.world.proofs.FactOfReplies
 use Rattle.world.proofs.CatchUpLevels
@@ -105,7 +105,7 @@ module _ {S : Type 0} (meaning : Meaning S) (laws : KeepBySteps.Laws meaning) wh
 
   rounds-break : (n g past : ℕ) (w new : WorldModel S) (pair : Pair) (lc lq : MemberState S) (kc : Coordinator) (kq : Follower) (last : ℕ) → Couple w pair.view.creator pair.member lc lq kc kq
       → kc.view.id ≡ pair.view → MissesWithin g last kc.window.delivered kq.window → g + n ≡ last + 1 → kc.window.stable < g → last ≤ kc.window.delivered
-      → EachSound (CatchUpLevels.orders meaning laws pair.view.creator pair.member kc g n)
+      → EachSound world_group (CatchUpLevels.orders meaning laws pair.view.creator pair.member kc g n)
       → AreNext past (CatchUpLevels.orders meaning laws pair.view.creator pair.member kc g n) w.history.pool
       → Breaks meaning past (length (CatchUpLevels.orders meaning laws pair.view.creator pair.member kc g n)) w new → EndsSo pair new
   rounds-break zero g past w new pair lc lq kc kq last x id within count low high sound next all = absurd (breaks-none meaning past 0 w new refl all)
@@ -115,7 +115,7 @@ module _ {S : Type 0} (meaning : Meaning S) (laws : KeepBySteps.Laws meaning) wh
       let o = CatchUpLevels.order-at meaning laws w c q lc lq kc kq n g last x count low high in
       let m = packet c (bodies.Order kc.view.id g o.entry) q in
       let rest = CatchUpLevels.orders meaning laws c q kc (g + 1) n in
-      let sounds : EachSound (m ∷ rest) = subst EachSound o.is sound in
+      let sounds : EachSound world_group (m ∷ rest) = subst (EachSound world_group) o.is sound in
       let nexts : AreNext past (m ∷ rest) w.history.pool = subst (λ (l : List Posted). AreNext past l w.history.pool) o.is next in
       let f : FactOfReplies.IsFor meaning w (past + 1) q m =
       record { there = next-first past m rest w.history.pool nexts; sound = sounds.0; goes = refl; other = same_address-sym c q ∙ x.apart; plain = refl } in

@@ -9,6 +9,7 @@ use Rattle.trace_props.specs.declared.event.Event.{Event}
 use Rattle.trace_props.specs.Observed.{current_view, is_blocked}
 use Rattle.address.proofs.SameIds.{same_address-true}
 use Rattle.acts.specs.Cores.{Core, id_of, is_frozen}
+use Rattle.agreement.proofs.KeepBySteps
 use Rattle.member.specs.Members.{MemberModel}
 use Rattle.world_model.specs.Histories.{History, running}
 use Rattle.world.specs.declared.gaps.Pair.{Pair}
@@ -42,7 +43,7 @@ open-by true p q view installed v t same here s =
     rw (here, same, block, current) (inside-by (is_frozen view installed) view v)
 open-by false p q view installed v t same here s = rw (here, same) refl
 
-module _ {S : Type 0} (meaning : Meaning S) (at : ℕ → NodeState S) (h : History) (w : KeepByTurn.World meaning at h) where
+module _ {S : Type 0} (meaning : Meaning S) (laws : KeepBySteps.Laws meaning) (at : ℕ → NodeState S) (h : History) (w : KeepByTurn.World meaning at h) where
   says : (n : ℕ) (m : MemberModel S) (c : Core S) → FactOfMembers.Runs meaning h n m c → Says m.address c.view c.installed h.trace
   says n m c x = record {
     runs = subst (λ (k : ℕ). running k h.trace ≡ Some m.address) (sym x.node) (FactOfMembers.is-running meaning h n m c x);
@@ -54,7 +55,7 @@ module _ {S : Type 0} (meaning : Meaning S) (at : ℕ → NodeState S) (h : Hist
   open-at Vacant q v e = rw (← FactOfWorlds.nobody-yet meaning at h q.node w e) refl
   open-at (Ended p) q v e = rw (← FactOfWorlds.nobody-more meaning at h q.node p w e) refl
   open-at (Running m) q v e =
-      let x = FactOfMembers.running-here meaning at h q.node m w e in
+      let x = FactOfMembers.running-here meaning laws at h q.node m w e in
       let c = x.0 in
       rw x.1.core
       (open-by (same_address m.address q) m.address q c.view c.installed v h.trace refl (FactOfMembers.is-running meaning h q.node m c x.1) (says q.node m c x.1))
@@ -83,7 +84,7 @@ module _ {S : Type 0} (meaning : Meaning S) (at : ℕ → NodeState S) (h : Hist
   pair-at n Vacant e = rw (← FactOfWorlds.nobody-yet meaning at h n w e) refl
   pair-at n (Ended p) e = rw (← FactOfWorlds.nobody-more meaning at h n p w e) refl
   pair-at n (Running m) e =
-      let x = FactOfMembers.running-here meaning at h n m w e in
+      let x = FactOfMembers.running-here meaning laws at h n m w e in
       let c = x.0 in
       let s = says n m c x.1 in
       let runs : running n h.trace ≡ Some m.address = FactOfMembers.is-running meaning h n m c x.1 in

@@ -44,7 +44,7 @@ use Rattle.world_step.specs.NodeStates.{bytes_of}
 use Rattle.world_step.specs.Turns.{OthersStand}
 use Rattle.world_step.specs.Worlds.{WorldModel, WorldStep}
 use Rattle.world.specs.Gaps.{lacks_memory}
-use Rattle.world_step.proofs.FactOfPosts.{EachSound, bytes_for}
+use Rattle.deployment.proofs.FactOfPosts.{EachSound, bytes_for}
 use Rattle.world_step.proofs.FactOfTaken.{when-true}
 use Rattle.world.proofs.FactOfPlayed
 use Rattle.step_output.specs.Steps.{who}
@@ -132,7 +132,7 @@ module _ {S : Type 0} (meaning : Meaning S) where
 
   -- all that was put out and happened
   module _ (start out : Output) (nothing : Puts [] [] start) (posted : List Posted) (happened : List Event) (x : Grows world_group start out posted happened) where
-    pub put-out : map bytes_of out.packets.items ≡ bytes_for posted
+    pub put-out : map bytes_of out.packets.items ≡ bytes_for world_group posted
     put-out = ap (map bytes_of) (x.packets ∙ ap (λ (l : List _). l ++ map (spelled world_group) posted) nothing.packets)
 
     pub happens : out.events.items ≡ happened
@@ -147,8 +147,8 @@ module _ {S : Type 0} (meaning : Meaning S) where
     pub runs : RunsAs new c l (kinds.Coordinator k)
     pub others : OthersStand c.node old.node_states new.node_states
     pub trace : new.history.trace ≡ old.history.trace
-    pub puts : new.history.pool ≡ old.history.pool ++ bytes_for (statuses c k)
-    pub sound : EachSound (statuses c k)
+    pub puts : new.history.pool ≡ old.history.pool ++ bytes_for world_group (statuses c k)
+    pub sound : EachSound world_group (statuses c k)
 
   -- what a tick puts out there
   tick-grows : (c : Address) (l : MemberState S) (k : Coordinator) (start out : Output) → l.view_state ≡ Some (kinds.Coordinator k) → l.promise.is_installed ≡ true
@@ -376,8 +376,8 @@ module _ {S : Type 0} (meaning : Meaning S) where
   pub record Answered (old new : WorldModel S) (c q : Address) (l : MemberState S) (k : Coordinator) (missing : Missing) : Type 0 where
     pub runs : RunsAs new c l (kinds.Coordinator k)
     pub others : OthersStand c.node old.node_states new.node_states
-    pub puts : new.history.pool ≡ old.history.pool ++ bytes_for (orders_held c k.view q k.window.held missing.first (missing.last + 1 - missing.first))
-    pub sound : EachSound (orders_held c k.view q k.window.held missing.first (missing.last + 1 - missing.first))
+    pub puts : new.history.pool ≡ old.history.pool ++ bytes_for world_group (orders_held c k.view q k.window.held missing.first (missing.last + 1 - missing.first))
+    pub sound : EachSound world_group (orders_held c k.view q k.window.held missing.first (missing.last + 1 - missing.first))
 
   takes-nak : (q : Address) (l : MemberState S) (k : Coordinator) → l.view_state ≡ Some (kinds.Coordinator k) → l.promise.is_installed ≡ true → stands_in q k.view.members ≡ true
       → takes_nak q k.view.id l ≡ true

@@ -1,6 +1,7 @@
 pub mod WindowFills
 pub mod FactOfPairs
 pub mod FactOfPlayed
+pub mod FactOfStable
 pub mod FactOfReplies
 pub mod CatchUpLevels
 pub mod CatchUpEnds

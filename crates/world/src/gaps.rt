@@ -9,8 +9,11 @@ ghost use Rattle.trace_props.specs.Synchrony.{IsWellOrdered, IsVirtuallySynchron
 ghost use Rattle.replicas.specs.Replicas.{ReplicasAgree};
 ghost use Rattle.world_model.specs.Faithful.{IsFaithful};
 ghost use Rattle.world_model.specs.declared.WorldEvent.TheVariants.{Deliver};
-ghost use Rattle.world_step.specs.NodeStates.{node_states_in};
+ghost use Rattle.deployment.specs.Deployments.{IsPlayed};
+ghost use Rattle.world_model.specs.Packets.{world_group};
+ghost use Rattle.world_step.specs.NodeStates.{deployment_of, node_states_in};
 ghost use Rattle.world_step.specs.Worlds.{shown, IsLonger};
+ghost use Rattle.world.specs.Known.{MembersKnow};
 ghost use Rattle.world.specs.Gaps.{open_view, is_open_in, pair_of, pair_at, has_open_pair, lacks_memory, Plays, Hands, Fails, DeliversPast, BreaksPast, CatchesUp, Stops, EndsSo, IsLevel};
 
 use crate::World;
@@ -181,12 +184,14 @@ impl<R: Receiver> World<R> {
         // or a beginning of them, and then one of the two has crashed for want of memory, or a step was not begun and both run.
         ensures stops { OnErr result (IsSomeAnd (pair_at (shown self.old).node_states node) (λ pair. Stops R.meaning pair (shown self.old) (shown self.new))) }
         ensures ends { OnErr result (IsSomeAnd (pair_at (shown self.old).node_states node) (λ pair. EndsSo pair (shown self.new))) }
-        // What was there is the beginning of what is there, all rules hold, and copies agree, as after `run`.
+        // What was there is the beginning of what is there; it is a deployment that was played, all rules hold, copies agree, and members know what the trace says, as after `run`.
         ensures longer { IsLonger self.old.history self.new.history }
+        ensures deployed { IsPlayed R.meaning world_group (deployment_of (shown self.new).node_states self.new.history.pool self.new.history.trace) }
         ensures faithful { IsFaithful self.new.history }
         ensures ordered { EachPlace IsWellOrdered self.new.history.trace }
         ensures synchronous { IsVirtuallySynchronous R.meaning self.new.history.trace }
         ensures agreeing { EachPlace (ReplicasAgree R.meaning) self.new.history.trace }
+        ensures known { MembersKnow R.meaning (shown self.new) }
     {
         let Some(pair) = pair_at(&self.node_states, node) else {
             self.kept();

@@ -7,18 +7,21 @@ ghost use Rattle.trace_props.specs.Places.{EachPlace};
 ghost use Rattle.trace_props.specs.Synchrony.{IsWellOrdered, IsVirtuallySynchronous};
 ghost use Rattle.trace_props.specs.State.{state_of};
 ghost use Rattle.replicas.specs.Replicas.{ReplicasAgree};
-ghost use Rattle.std.specs.Option.{option_copied, option_map};
+ghost use Rattle.std.specs.Option.{ForSome, option_copied, option_map};
 ghost use Rattle.world_model.specs.Histories.{running};
 ghost use Rattle.world_step.specs.Worlds.{shown, no_world, IsLonger, WorldStep, Runs};
-ghost use Rattle.world_model.specs.Packets.{packet_numbered};
+ghost use Rattle.deployment.specs.Deployments.{IsPlayed};
+ghost use Rattle.world_model.specs.Packets.{packet_numbered, world_group};
 ghost use Rattle.world_model.specs.Faithful.{IsFaithful};
+ghost use Rattle.world_step.specs.NodeStates.{deployment_of};
 ghost use Rattle.world_step.specs.Turns.{Carries};
+ghost use Rattle.world.specs.Known.{IsStableAt, MembersKnow, stable_at};
 
 mod gaps;
 
 use address::{Address, Node};
+use deployment::deployments_are_synchronous;
 use limits::{Refusal, STEP_EVENTS};
-use replicas::replicas_agree;
 use state_transfer::Receiver;
 use std::alloc::{AllocError, Global};
 use std::collections::BTreeMap;
@@ -110,12 +113,14 @@ impl<R: Receiver> World<R> {
     /// What every world keeps.
     fn kept(&self)
         ensures faithful { IsFaithful self.now.history }
+        ensures deployed { IsPlayed R.meaning world_group (deployment_of (shown self.now).node_states self.now.history.pool self.now.history.trace) }
         ensures ordered { EachPlace IsWellOrdered self.now.history.trace }
         ensures synchronous { IsVirtuallySynchronous R.meaning self.now.history.trace }
         ensures agreeing { EachPlace (ReplicasAgree R.meaning) self.now.history.trace }
+        ensures known { MembersKnow R.meaning (shown self.now) }
     {
         let _ = &self.trace;
-        replicas_agree::<R>();
+        deployments_are_synchronous::<R>();
     }
 
     /// Carries out events in order, from where the world stands. Answers an error (7) where the places of a step are
@@ -127,12 +132,16 @@ impl<R: Receiver> World<R> {
         ensures fewer { OnErr result ((k : ℕ) × (k < length events.now) × Runs R.meaning (shown self.old) (take k events.now) (shown self.new)) }
         // so what was there is the beginning of what is there,
         ensures longer { IsLonger self.old.history self.new.history }
+        // it is a deployment of the world's group, of which each premise holds, and what was put out is the pool;
+        ensures deployed { IsPlayed R.meaning world_group (deployment_of (shown self.new).node_states self.new.history.pool self.new.history.trace) }
         // each event is answered as the table says, and all rules hold at every place;
         ensures faithful { IsFaithful self.new.history }
         ensures ordered { EachPlace IsWellOrdered self.new.history.trace }
         ensures synchronous { IsVirtuallySynchronous R.meaning self.new.history.trace }
         // and so the copies of the state agree there: who has delivered as much of a view is in the same state.
         ensures agreeing { EachPlace (ReplicasAgree R.meaning) self.new.history.trace }
+        // What a member that runs knows is what the trace says: its view, its receiver's state, how much is delivered and stable.
+        ensures known { MembersKnow R.meaning (shown self.new) }
     {
         for event in events {
             if let Err(refused) = self.step(event) {
@@ -190,6 +199,19 @@ impl<R: Receiver> World<R> {
         match self.node_states.get(&node)? {
             NodeState::Vacant | NodeState::Ended(_) => None,
             NodeState::Running(member) => member.receiver(),
+        }
+    }
+
+    /// How many messages of its view the member that runs at a node knows to be stable (docs/PROTOCOL.md, "Stability"): 0 when a view is installed, and without one. Each member of the view
+    /// has delivered these, the first of its order, one that has crashed since too. None where none runs there.
+    pub fn stable(&self, node: Node) -> Option<u64>
+        ensures value { result ≡ stable_at ((shown self.now).node_states node) }
+        ensures delivered { ForSome result (IsStableAt node self.now.history.trace) }
+    {
+        self.kept();
+        match self.node_states.get(&node)? {
+            NodeState::Running(member) => Some(member.stable()),
+            NodeState::Vacant | NodeState::Ended(_) => None,
         }
     }
 

@@ -19,7 +19,8 @@ use Rattle.limits.specs.declared.refusal.Refusal.TheVariants.{AlreadyConnected, 
 use Rattle.world_model.specs.Histories.{History}
 use Rattle.world_model.specs.Faithful.{AnswersCreate, AnswersJoin, AnswersQuietly, AnswersLeave, is_quiet}
 use Rattle.world_step.specs.NodeStates.{answer_for, answer_to}
-use Rattle.world_step.proofs.FactOfOwnEvents.{EachOwn, own-quiet}
+use Rattle.deployment.proofs.FactOfOwnEvents.{EachOwn}
+use Rattle.world_step.proofs.FactOfQuietEvents.{own-quiet}
 use Rattle.world_step.proofs.FactOfMembers
 
 -- ---- refusals by tests

@@ -1,25 +1,21 @@
 -- A packet that is handed over, of whatever kind: what is known of it, and the turn that a delivery is.
 use Rattle.std.proofs.Common.{◌≡◌, ℕ, ◌-◌, Bool, true, false, cond, Option, Some, None, Ok, List, [], nat_eq, refl, sym, ap, ◌∙◌, subst, inl, inr}
 use Rattle.std.specs.Borrow.{Bor}
-use Rattle.std.specs.Option.{option_map, option_and_then}
+use Rattle.std.specs.Option.{option_map}
 use Rattle.std.specs.List.{slice_get}
 use Rattle.std.proofs.lemmas.Option.{none-some}
 use Rattle.std.proofs.lemmas.List.{append-nil}
 use Rattle.address.specs.Ids.{Address}
-use Rattle.wire.specs.Packets.{packet_of, wire_refusal}
+use Rattle.wire.specs.Packets.{wire_refusal}
 use Rattle.state_transfer.specs.Meanings.{Meaning}
 use Rattle.trace_props.specs.declared.event.Event.{Event}
-use Rattle.acts.specs.Histories.{Posted}
 use Rattle.acts.specs.Cores.{Core}
-use Rattle.acts.specs.Acts.{handed}
-use Rattle.agreement.specs.Steps.{came_of}
 use Rattle.agreement.proofs.KeepBySteps
 use Rattle.member.specs.declared.error.Error.{Error}
 use Rattle.member.specs.declared.error.Error.TheVariants.{Wire}
 use Rattle.member.specs.declared.input.Input.TheVariants.{Datagram}
 use Rattle.step_output.specs.declared.output.Output.{Output}
-use Rattle.member.specs.Members.{MemberModel, core_of, came_at, refusal_in}
-use Rattle.step_output.specs.Outputs.{packet_in}
+use Rattle.member.specs.Members.{MemberModel, refusal_in}
 use Rattle.member.specs.Handling.{Handled}
 use Rattle.world_model.specs.declared.WorldEvent.TheVariants.{Deliver}
 use Rattle.world_model.specs.declared.Answer.{Answer}
@@ -29,15 +25,13 @@ use Rattle.world_model.specs.Packets.{world_group, recipient, packet_numbered, d
 use Rattle.world_model.specs.Faithful.{AnswersDeliver}
 use Rattle.world_step.specs.declared.node_state.NodeState.{NodeState}
 use Rattle.world_step.specs.declared.node_state.NodeState.TheVariants.{Vacant, Ended, Running}
-use Rattle.world_step.specs.NodeStates.{answer_to, posts_in}
+use Rattle.world_step.specs.NodeStates.{answer_to}
 use Rattle.world_step.specs.Turns.{about, OthersStand, SameNodeStates, Idles, HandsPacket, HandsOver, Delivers}
-use Rattle.world_step.specs.Invariant.{EachSpelled, IsSpelled}
-use Rattle.world_step.proofs.FactOfOwnEvents.{EachOwn}
-use Rattle.world_step.proofs.FactOfPosts.{is-read, post-at}
+use Rattle.deployment.proofs.FactOfOwnEvents.{EachOwn}
+use Rattle.deployment.proofs.FactOfPosts.{IsSpelled, is-read}
 use Rattle.world_step.proofs.FactOfSystem.{same-at}
 use Rattle.world_step.proofs.FactOfAnswers
 use Rattle.world_step.proofs.FactOfAnswers.{quiet-done}
-use Rattle.world_step.proofs.FactOfReadable.{Comes}
 use Rattle.world_step.proofs.KeepByTurn
 use Rattle.world_step.proofs.FactOfMembers
 use Rattle.world_step.proofs.FactOfTaken
@@ -49,33 +43,16 @@ answers-deliver k h None e = rw e (refl, refl)
 answers-deliver k h (Some p) e = rw e (inl (refl, refl))
 
 -- bytes that spell a packet are not refused
-spelled-free : (bytes : List ℕ) → IsSpelled bytes → wire_refusal bytes ≡ None
-spelled-free bytes s = let r = is-read bytes s in rw r.packet refl
+spelled-free : (bytes : List ℕ) → IsSpelled world_group bytes → wire_refusal bytes ≡ None
+spelled-free bytes s = let r = is-read world_group bytes s in rw r.packet refl
 
 numbered-by : (b : Bool) (o : Option (List ℕ)) (x : List ℕ) → cond b None o ≡ Some x → o ≡ Some x
 numbered-by true o x e = absurd (none-some x e)
 numbered-by false o x e = e
 
--- ---- the packet that comes to a member
-
-module _ {S : Type 0} (pool : List (List ℕ)) (m : MemberModel S) (c : Core S) (core : core_of m ≡ Some c) (group : m.group ≡ world_group) (each : EachSpelled pool) where
-  comes-by : (k : ℕ) (o came : Option Posted) → came ≡ o → o ≡ came_of c (posts_in pool) (Some k) → Comes (posts_in pool) c came
-  comes-by k o None same from = record { which = None; from = refl; none = λ e. refl }
-  comes-by k o (Some p) same from = record { which = Some k; from = same ∙ from; none = λ e. absurd (none-some p (sym e)) }
-
-  came-is : (b : Bor (List ℕ)) (p : Posted) → packet_of b.now ≡ Ok (packet_in world_group p) → came_at m (Datagram b) ≡ handed c p
-  came-is b p e = rw (e, group, core) refl
-
-  -- is a packet of the pool, or none
-  pub packet-comes : (k : ℕ) (b : Bor (List ℕ)) → slice_get pool k ≡ Some b.now → Comes (posts_in pool) c (came_at m (Datagram b))
-  packet-comes k b at =
-      let r = is-read b.now (each k b.now at) in
-      comes-by k (handed c r.post) (came_at m (Datagram b)) (came-is b r.post r.packet)
-      (sym (ap (option_and_then (handed c)) (post-at pool k b.now each at ∙ r.read)))
-
 -- ---- a delivery
 
-module _ {S : Type 0} (meaning : Meaning S) (at : ℕ → NodeState S) (h : History) (w : KeepByTurn.World meaning at h) (k : ℕ) where
+module _ {S : Type 0} (meaning : Meaning S) (laws : KeepBySteps.Laws meaning) (at : ℕ → NodeState S) (h : History) (w : KeepByTurn.World meaning at h) (k : ℕ) where
   -- the packet of that number, and whom it is for
   pub record IsPacketFor (bytes : List ℕ) (p : Address) : Type 0 where
     pub there : packet_numbered k h.pool ≡ Some bytes
@@ -89,8 +66,8 @@ module _ {S : Type 0} (meaning : Meaning S) (at : ℕ → NodeState S) (h : Hist
     is-recipient : recipient k h ≡ Some m.address
     is-recipient = rw (f.there, f.goes) (FactOfMembers.is-running meaning h p.node m c x)
 
-    spelled : IsSpelled b.now
-    spelled = w.spelled (k - 1) b.now (in-pool b.now f.there)
+    spelled : IsSpelled world_group b.now
+    spelled = (FactOfMembers.deployed meaning laws at h w).spelled (k - 1) b.now (in-pool b.now f.there)
 
     deliver-taken : (out : Output) (left : MemberModel S) → Handled meaning m (Datagram b) (Ok out) left → EachOwn m.address out.events.items
         → FactOfTaken.TakesSo meaning h p.node m (Deliver k) (Datagram b) (answer_to out.events.items) out.events.items left
@@ -101,7 +78,7 @@ module _ {S : Type 0} (meaning : Meaning S) (at : ℕ → NodeState S) (h : Hist
           answers = rw is-recipient (FactOfAnswers.quiet-taken meaning h p.node m c x s own r.0);
           prompt = tt;
           ends = λ e. absurd (let bad : false ≡ true = e in cc);
-          stays = λ e. FactOfTables.stays-so meaning h p.node m c x left handled.group r.1;
+          stays = λ e. FactOfTables.stays-so meaning h p.node m c x left r.1;
         })
 
     not-refused : (err : Error) → refusal_in c (Datagram b) ≡ Some err → ⊥
@@ -110,13 +87,13 @@ module _ {S : Type 0} (meaning : Meaning S) (at : ℕ → NodeState S) (h : Hist
     deliver-table : FactOfTaken.Tabled meaning h p.node m c (Deliver k) (Datagram b)
     deliver-table = record {
       elsewhere = λ a j o. refl;
-      comes = packet-comes h.pool m c x.core x.group w.spelled (k - 1) b (in-pool b.now f.there);
+      may = inl (k - 1, in-pool b.now f.there);
       lost = λ free. rw is-recipient (inr (refl, refl));
       not = λ err refused. absurd (not-refused err refused);
       taken = λ out left handled free own. deliver-taken out left handled own;
     }
 
-  module _ (laws : KeepBySteps.Laws meaning) (new : ℕ → NodeState S) where
+  module _ (new : ℕ → NodeState S) where
     abbrev Turned : ℕ → Answer → List Event → List (List ℕ) → Type 0
     Turned n a t pool = FactOfTaken.Turned meaning new n h (Deliver k) a t pool
 
@@ -139,7 +116,7 @@ module _ {S : Type 0} (meaning : Meaning S) (at : ℕ → NodeState S) (h : Hist
     heard bytes p Vacant a t pool f was others g = idle p.node Vacant a t pool was others g
     heard bytes p (Ended q) a t pool f was others g = idle p.node (Ended q) a t pool was others g
     heard bytes p (Running m) a t pool f was others g =
-        let x = FactOfMembers.running-here meaning at h p.node m w was in
+        let x = FactOfMembers.running-here meaning laws at h p.node m w was in
         let table = deliver-table g.0 p (subst (λ (l : List ℕ). IsPacketFor l p) (sym g.1) f) m x.0 x.1 in
         FactOfTaken.hands-turn meaning laws at new p.node h (Deliver k) (Datagram g.0) m x.0 w was x.1 table others a (new p.node) t pool refl g.2
 

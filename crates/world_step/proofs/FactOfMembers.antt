@@ -1,6 +1,6 @@
 -- What is known of a running member: by its node, and by agreement.
 use Rattle.std.proofs.Common.{◌≡◌, ℕ, ◌+◌, false, Option, Some, None, List, length, refl, sym, ap, ◌∙◌, subst, arith, length-append}
-use Rattle.std.specs.Option.{IsSomeAnd, option_map_or}
+use Rattle.std.specs.Option.{IsSomeAnd, option_map_or, option_and_then}
 use Rattle.address.specs.Ids.{Address}
 use Rattle.view.specs.Members.{View}
 use Rattle.state_transfer.specs.Meanings.{Meaning}
@@ -20,9 +20,14 @@ use Rattle.world_model.specs.Faithful.{outstanding, AtMember}
 use Rattle.world_model.specs.declared.Answer.{Answer}
 use Rattle.world_step.specs.declared.node_state.NodeState.{NodeState}
 use Rattle.world_step.specs.declared.node_state.NodeState.TheVariants.{Running}
-use Rattle.world_step.specs.NodeStates.{core_here, posts_in}
 use Rattle.world_step.specs.Invariant.{IsNodeStateOf}
-use Rattle.world_step.proofs.FactOfSystem.{runs, core-running}
+use Rattle.agreement.proofs.KeepBySteps
+use Rattle.agreement.specs.Invariant.{Kept}
+use Rattle.deployment.proofs.KeepBySteps.{IsDeployment, IsHere}
+use Rattle.deployment.proofs.FactOfPosts.{posts_in}
+use Rattle.world_step.specs.NodeStates.{deployment_of, member_here}
+use Rattle.world_step.proofs.FactOfSystem.{members, member-running, system_of}
+use Rattle.deployment.proofs.FactOfPlayed.{played-keeps}
 use Rattle.world_step.proofs.KeepByTurn
 
 -- the core of a member that runs
@@ -35,27 +40,36 @@ module _ {S : Type 0} (meaning : Meaning S) where
   pub record Runs (h : History) (n : ℕ) (m : MemberModel S) (c : Core S) : Type 0 where
     pub last : last_of n h.trace ≡ Some m.address
     pub node : m.address.node ≡ n
-    pub group : m.group ≡ world_group
     pub core : core_of m ≡ Some c
     pub joined : is_connected n h ≡ c.connected
     pub fact : MemberFact meaning (record { pool = posts_in h.pool; trace = h.trace }) m.address c
 
-  pub runs-at : (at : ℕ → NodeState S) (h : History) (n : ℕ) (m : MemberModel S) → KeepByTurn.World meaning at h → at n ≡ Running m → m.address.node ≡ n
-      → runs at m.address ≡ core_of m
-  runs-at at h n m w there node = subst (λ (k : ℕ). core_here m.address (at k) ≡ core_of m) (sym node) (ap (core_here m.address) there ∙ core-running m.address m refl)
+  -- it is the member of its address in the deployment
+  pub member-at : (at : ℕ → NodeState S) (h : History) (n : ℕ) (m : MemberModel S) → KeepByTurn.World meaning at h → at n ≡ Running m → m.address.node ≡ n → members at m.address ≡ Some m
+  member-at at h n m w there node = subst (λ (k : ℕ). member_here m.address (at k) ≡ Some m) (sym node) (ap (member_here m.address) there ∙ member-running m.address m refl)
 
-  pub running-here : (at : ℕ → NodeState S) (h : History) (n : ℕ) (m : MemberModel S) → KeepByTurn.World meaning at h → at n ≡ Running m → (c : Core S) × Runs h n m c
-  running-here at h n m w there =
+  -- what deployments keep
+  pub deployed : (laws : KeepBySteps.Laws meaning) (at : ℕ → NodeState S) (h : History) → KeepByTurn.World meaning at h → IsDeployment meaning laws world_group (deployment_of at h.pool h.trace)
+  deployed laws at h w = played-keeps meaning world_group laws (deployment_of at h.pool h.trace) w.played
+
+  -- among them: it is of the world's group, and what holds of a member between its calls holds of it
+  pub is-here : (laws : KeepBySteps.Laws meaning) (at : ℕ → NodeState S) (h : History) (n : ℕ) (m : MemberModel S) → KeepByTurn.World meaning at h → at n ≡ Running m → m.address.node ≡ n → IsHere world_group m.address m
+  is-here laws at h n m w there node = (deployed laws at h w).here m.address m (member-at at h n m w there node)
+
+  pub agreed : KeepBySteps.Laws meaning → (at : ℕ → NodeState S) (h : History) → KeepByTurn.World meaning at h → Kept meaning (system_of at h.pool h.trace)
+  agreed laws at h w = (deployed laws at h w).agreed
+
+  pub running-here : KeepBySteps.Laws meaning → (at : ℕ → NodeState S) (h : History) (n : ℕ) (m : MemberModel S) → KeepByTurn.World meaning at h → at n ≡ Running m → (c : Core S) × Runs h n m c
+  running-here laws at h n m w there =
       let k : IsNodeStateOf n (last_of n h.trace) (is_connected n h) h.trace (Running m) = subst (IsNodeStateOf n (last_of n h.trace) (is_connected n h) h.trace) there (w.node_states n) in
-      let x = core-there (core_of m) (λ c. is_connected n h ≡ c.connected) k.2.joined in (
+      let x = core-there (core_of m) (λ c. is_connected n h ≡ c.connected) k.2 in (
         x.0,
         record {
           last = k.0;
           node = k.1;
-          group = k.2.group;
           core = x.1;
           joined = x.2;
-          fact = w.agreed.agreed.members m.address x.0 (runs-at at h n m w there k.1 ∙ x.1);
+          fact = (agreed laws at h w).agreed.members m.address x.0 (ap (option_and_then core_of) (member-at at h n m w there k.1) ∙ x.1);
         },
       )
 

@@ -22,7 +22,8 @@ use Rattle.limits.specs.declared.refusal.Refusal.TheVariants as refusal
 use Rattle.world_model.specs.Histories.{History}
 use Rattle.world_model.specs.Faithful.{AnswersSend, IsPrompt, SendsNext, outstanding}
 use Rattle.world_step.specs.NodeStates.{answer_to}
-use Rattle.world_step.proofs.FactOfOwnEvents.{EachOwn, own-quiet}
+use Rattle.deployment.proofs.FactOfOwnEvents.{EachOwn}
+use Rattle.world_step.proofs.FactOfQuietEvents.{own-quiet}
 use Rattle.world_step.proofs.FactOfAnswers.{free-of, quiet-all}
 use Rattle.world_step.proofs.FactOfMembers
 

@@ -27,11 +27,10 @@ use Rattle.limits.specs.declared.refusal.Refusal.{Refusal}
 use Rattle.limits.specs.declared.refusal.Refusal.TheVariants.{Memory, AlreadyConnected}
 use Rattle.world_model.specs.Histories.{History, is_connected}
 use Rattle.world_model.specs.Faithful.{AnswersCreate, AnswersJoin, AnswersQuietly, AnswersLeave, AnswersSend, IsPrompt}
-use Rattle.world_step.specs.NodeStates.{answer_for, answer_to, posts_in}
+use Rattle.world_step.specs.NodeStates.{answer_for, answer_to}
 use Rattle.world_step.specs.Invariant.{IsMember}
 use Rattle.world_step.proofs.FactOfConnected.{connects_after-other, refused-connects}
-use Rattle.world_step.proofs.FactOfOwnEvents.{EachOwn}
-use Rattle.world_step.proofs.FactOfReadable.{nothing-comes}
+use Rattle.deployment.proofs.FactOfOwnEvents.{EachOwn}
 use Rattle.world_step.proofs.FactOfAnswers
 use Rattle.world_step.proofs.FactOfAnswers.{quiet-done, done-here}
 use Rattle.world_step.proofs.FactOfPromptSend
@@ -57,18 +56,12 @@ module _ {S : Type 0} (meaning : Meaning S) (h : History) (n : ℕ) (m : MemberM
   replies i out left handled = subst (λ (o : Option (Core S)). IsSomeAnd o (λ d. Replies d i out.events.items (core_of left))) x.core handled.reply
 
   -- the member runs on as before
-  pub stays-so : (left : MemberModel S) → left.group ≡ m.group → StaysSo c (core_of left) → IsMember (is_connected n h) left
-  stays-so left group core = record {
-    group = group ∙ x.group;
-    joined = some-map (core_of left) (λ d. d.connected ≡ c.connected) (λ d. is_connected n h ≡ d.connected) (λ d e. x.joined ∙ sym e) core;
-  }
+  pub stays-so : (left : MemberModel S) → StaysSo c (core_of left) → IsMember (is_connected n h) left
+  stays-so left core = some-map (core_of left) (λ d. d.connected ≡ c.connected) (λ d. is_connected n h ≡ d.connected) (λ d e. x.joined ∙ sym e) core
 
   -- it runs on connected
-  connected-so : (left : MemberModel S) (connected : Bool) → left.group ≡ m.group → IsConnected (core_of left) → connected ≡ true → IsMember connected left
-  connected-so left connected group core on = record {
-    group = group ∙ x.group;
-    joined = some-map (core_of left) (λ d. d.connected ≡ true) (λ d. connected ≡ d.connected) (λ d e. on ∙ sym e) core;
-  }
+  connected-so : (left : MemberModel S) (connected : Bool) → IsConnected (core_of left) → connected ≡ true → IsMember connected left
+  connected-so left connected core on = some-map (core_of left) (λ d. d.connected ≡ true) (λ d. connected ≡ d.connected) (λ d e. on ∙ sym e) core
 
   -- ---- a create
 
@@ -81,7 +74,7 @@ module _ {S : Type 0} (meaning : Meaning S) (h : History) (n : ℕ) (m : MemberM
             (FactOfAnswers.create-taken meaning h n m c x out.events.items free r.0);
         prompt = tt;
         ends = λ e. absurd (let bad : false ≡ true = e in cc);
-        stays = λ e. connected-so left _ handled.group r.1 (done-here n true (is_connected n h));
+        stays = λ e. connected-so left _ r.1 (done-here n true (is_connected n h));
       })
 
   create-not : (err : Error) → refusal_in c input.Create ≡ Some err → RefusesSo (Create n) (answer_for err)
@@ -98,7 +91,7 @@ module _ {S : Type 0} (meaning : Meaning S) (h : History) (n : ℕ) (m : MemberM
   pub create-table : Tabled (Create n) input.Create
   create-table = record {
     elsewhere = λ a k o. connects_after-other k (is_connected k h) (Create n) a o;
-    comes = nothing-comes (posts_in h.pool) c;
+    may = tt;
     lost = λ free. FactOfMembers.at-member meaning h n m c x (Refused Memory) (Crashed m.address ∷ []) (λ p. AnswersCreate p h (Refused Memory) (Crashed m.address ∷ []))
         (FactOfAnswers.create-lost meaning h n m c x free);
     not = λ err refused. create-not err refused;
@@ -115,7 +108,7 @@ module _ {S : Type 0} (meaning : Meaning S) (h : History) (n : ℕ) (m : MemberM
         answers = FactOfMembers.at-member meaning h n m c x Done [] (λ p. AnswersJoin p h Done []) (FactOfAnswers.join-taken meaning h n m c x free);
         prompt = tt;
         ends = λ e. absurd (let bad : false ≡ true = e in cc);
-        stays = λ e. connected-so left _ handled.group r.1 (done-here n true (is_connected n h));
+        stays = λ e. connected-so left _ r.1 (done-here n true (is_connected n h));
       })
 
   join-not-at : (contact : Address) (err : Error) (o : Option View) → c.view ≡ o → cond (is_some o) (Some (error.Refused AlreadyConnected)) None ≡ Some err
@@ -132,7 +125,7 @@ module _ {S : Type 0} (meaning : Meaning S) (h : History) (n : ℕ) (m : MemberM
   pub join-table : (contact : Address) → Tabled (Join n contact) (input.Join contact)
   join-table contact = record {
     elsewhere = λ a k o. connects_after-other k (is_connected k h) (Join n contact) a o;
-    comes = nothing-comes (posts_in h.pool) c;
+    may = tt;
     lost = λ free. FactOfMembers.at-member meaning h n m c x (Refused Memory) (Crashed m.address ∷ []) (λ p. AnswersJoin p h (Refused Memory) (Crashed m.address ∷ []))
         (FactOfAnswers.join-lost meaning h n m c x free);
     not = λ err refused. join-not-at contact err c.view refl refused (FactOfAnswers.join-not meaning h n m c x err refused);
@@ -160,7 +153,7 @@ module _ {S : Type 0} (meaning : Meaning S) (h : History) (n : ℕ) (m : MemberM
         answers = FactOfMembers.at-member meaning h n m c x (Sent (c.view_state.sent + 1)) s (λ p. AnswersSend b.now p h (Sent (c.view_state.sent + 1)) s) t.answers;
         prompt = t.prompt;
         ends = λ e. absurd (let bad : false ≡ true = e in cc);
-        stays = λ e. stays-so left handled.group r.1;
+        stays = λ e. stays-so left r.1;
       })
 
   send-not-for : (b : Bor (List ℕ)) (err : Error) (o : Option Refusal) → send_refusal c b.now ≡ o → option_map error.Refused o ≡ Some err → RefusesSo (Send n b.now) (answer_for err)
@@ -177,7 +170,7 @@ module _ {S : Type 0} (meaning : Meaning S) (h : History) (n : ℕ) (m : MemberM
   pub send-table : (b : Bor (List ℕ)) → Tabled (Send n b.now) (input.Send b)
   send-table b = record {
     elsewhere = λ a k o. connects_after-other k (is_connected k h) (Send n b.now) a o;
-    comes = nothing-comes (posts_in h.pool) c;
+    may = tt;
     lost = λ free. FactOfMembers.at-member meaning h n m c x (Refused Memory) (Crashed m.address ∷ []) (λ p. AnswersSend b.now p h (Refused Memory) (Crashed m.address ∷ []))
         (FactOfPromptSend.send-lost meaning h n m c x b.now (send-free b (send_refusal c b.now) free));
     not = λ err refused. send-not b err refused;
@@ -195,13 +188,13 @@ module _ {S : Type 0} (meaning : Meaning S) (h : History) (n : ℕ) (m : MemberM
             (FactOfAnswers.quiet-taken meaning h n m c x out.events.items own r.0);
         prompt = tt;
         ends = λ e. absurd (let bad : false ≡ true = e in cc);
-        stays = λ e. stays-so left handled.group r.1;
+        stays = λ e. stays-so left r.1;
       })
 
   pub tick-table : Tabled (Tick n) input.Tick
   tick-table = record {
     elsewhere = λ a k o. connects_after-other k (is_connected k h) (Tick n) a o;
-    comes = nothing-comes (posts_in h.pool) c;
+    may = tt;
     lost = λ free. FactOfMembers.at-member meaning h n m c x (Refused Memory) (Crashed m.address ∷ []) (λ p. AnswersQuietly p (Refused Memory) (Crashed m.address ∷ [])) (inr (refl, refl));
     not = λ err refused. absurd (none-some err refused);
     taken = λ out left handled free own. tick-taken out left handled own;
@@ -218,13 +211,13 @@ module _ {S : Type 0} (meaning : Meaning S) (h : History) (n : ℕ) (m : MemberM
             (FactOfAnswers.quiet-taken meaning h n m c x out.events.items own r.0);
         prompt = tt;
         ends = λ e. absurd (let bad : false ≡ true = e in cc);
-        stays = λ e. stays-so left handled.group r.1;
+        stays = λ e. stays-so left r.1;
       })
 
   pub suspect-table : (q : Address) → Tabled (Suspect n q) (input.Suspect q)
   suspect-table q = record {
     elsewhere = λ a k o. connects_after-other k (is_connected k h) (Suspect n q) a o;
-    comes = nothing-comes (posts_in h.pool) c;
+    may = tt;
     lost = λ free. FactOfMembers.at-member meaning h n m c x (Refused Memory) (Crashed m.address ∷ []) (λ p. AnswersQuietly p (Refused Memory) (Crashed m.address ∷ [])) (inr (refl, refl));
     not = λ err refused. absurd (none-some err refused);
     taken = λ out left handled free own. suspect-taken q out left handled own;
@@ -238,13 +231,13 @@ module _ {S : Type 0} (meaning : Meaning S) (h : History) (n : ℕ) (m : MemberM
         answers = FactOfMembers.at-member meaning h n m c x Done [] (λ p. AnswersQuietly p Done []) (inl (refl, refl));
         prompt = tt;
         ends = λ e. absurd (let bad : false ≡ true = e in cc);
-        stays = λ e. stays-so left handled.group r.1;
+        stays = λ e. stays-so left r.1;
       })
 
   pub hint-table : (q : Address) → Tabled (MergeHint n q) (input.MergeHint q)
   hint-table q = record {
     elsewhere = λ a k o. connects_after-other k (is_connected k h) (MergeHint n q) a o;
-    comes = nothing-comes (posts_in h.pool) c;
+    may = tt;
     lost = λ free. FactOfMembers.at-member meaning h n m c x (Refused Memory) (Crashed m.address ∷ []) (λ p. AnswersQuietly p (Refused Memory) (Crashed m.address ∷ [])) (inr (refl, refl));
     not = λ err refused. absurd (none-some err refused);
     taken = λ out left handled free own. hint-taken q out left handled;
@@ -268,7 +261,7 @@ module _ {S : Type 0} (meaning : Meaning S) (h : History) (n : ℕ) (m : MemberM
   pub leave-table : Tabled (Leave n) input.Leave
   leave-table = record {
     elsewhere = λ a k o. connects_after-other k (is_connected k h) (Leave n) a o;
-    comes = nothing-comes (posts_in h.pool) c;
+    may = tt;
     lost = λ free. FactOfMembers.at-member meaning h n m c x (Refused Memory) (Crashed m.address ∷ []) (λ p. AnswersLeave p (Refused Memory) (Crashed m.address ∷ [])) (inr (refl, refl));
     not = λ err refused. absurd (none-some err refused);
     taken = λ out left handled free own. leave-taken out left handled;

@@ -1,11 +1,9 @@
 -- An input that is handed to a running member, for any event: what has to be known of the event, and the turn that it is then.
 use Rattle.std.proofs.Common.{◌≡◌, ℕ, true, false, Bool, cond, Option, Some, None, Result, Ok, Err, List, [], ◌∷◌, ◌++◌, map, nat_eq, inl, inr, ◌⊎◌, refl, sym, ap, ◌∙◌, subst}
 use Rattle.std.specs.Prelude.{MatchBool}
-use Rattle.std.specs.List.{AllByRecursion}
 use Rattle.std.proofs.lemmas.List.{append-nil}
 use Rattle.std.proofs.lemmas.Option.{none-some}
 use Rattle.address.specs.Ids.{Address}
-use Rattle.wire.specs.Packets.{IsPacket}
 use Rattle.state_transfer.specs.Meanings.{Meaning}
 use Rattle.trace_props.specs.declared.event.Event.{Event}
 use Rattle.trace_props.specs.declared.event.Event.TheVariants.{Crashed}
@@ -15,15 +13,12 @@ use Rattle.acts.specs.Histories.{Posted}
 use Rattle.acts.specs.Cores.{Core}
 use Rattle.acts.specs.Chains.{Acted}
 use Rattle.agreement.proofs.KeepBySteps
-use Rattle.member.specs.Running.{IsAlive}
 use Rattle.member.specs.declared.error.Error.{Error}
 use Rattle.member.specs.declared.error.Error.TheVariants as error
 use Rattle.member.specs.declared.input.Input.{Input}
-use Rattle.step_output.specs.declared.output.Outgoing.{Outgoing}
 use Rattle.step_output.specs.declared.output.Output.{Output}
 use Rattle.member.specs.Errors.{is_memory}
 use Rattle.member.specs.Members.{MemberModel, core_of, leaves, came_at, refusal_in, refusal_of, is_unreadable}
-use Rattle.step_output.specs.Outputs.{packet_in, spelled}
 use Rattle.member.specs.Handling.{Handled}
 use Rattle.world_model.specs.declared.WorldEvent.{WorldEvent}
 use Rattle.world_model.specs.declared.Answer.{Answer}
@@ -36,20 +31,24 @@ use Rattle.world_model.specs.Histories.{History, last_of, is_connected, connects
 use Rattle.world_model.specs.Faithful.{Answers, SendsPromptly}
 use Rattle.world_step.specs.declared.node_state.NodeState.{NodeState}
 use Rattle.world_step.specs.declared.node_state.NodeState.TheVariants.{Ended, Running}
-use Rattle.world_step.specs.NodeStates.{core_here, bytes_of, posts_in, answer_for, is_closed, answer_to, system_of}
+use Rattle.deployment.specs.Deployments.{MayBeHanded, running_on}
+use Rattle.world_model.specs.Packets.{world_group}
+use Rattle.world_step.specs.NodeStates.{member_here, deployment_of, bytes_of, answer_for, is_closed, answer_to}
 use Rattle.world_step.specs.Turns.{about, OthersStand, Takes, Crashes, Refuses, CallGives, HandsHere}
-use Rattle.world_step.specs.Invariant.{IsMember, IsNodeStateOf, EachSpelled}
+use Rattle.world_step.specs.Invariant.{IsMember, IsNodeStateOf}
 use Rattle.world_step.proofs.FactOfConnected.{refused-prompt}
-use Rattle.world_step.proofs.FactOfOwnEvents.{EachOwn, own-acted}
+use Rattle.deployment.proofs.FactOfOwnEvents.{EachOwn, own-acted}
 use Rattle.world_step.proofs.FactOfTraces.{last_of-own, starts-own}
-use Rattle.world_step.proofs.FactOfPosts.{EachSound, bytes_for, posted-spelled, spelled-more}
-use Rattle.world_step.proofs.FactOfSystem.{OnlyHere, only-ended, only-running, core-running, same-at}
+use Rattle.world_step.proofs.FactOfSystem.{OnlyHere, only-ended, only-running, member-running, same-at, members}
 use Rattle.world_step.proofs.KeepByTurn
 use Rattle.world_step.proofs.FactOfMembers
-use Rattle.world_step.proofs.KeepAgreement
-use Rattle.world_step.proofs.FactOfReadable
-use Rattle.world_step.proofs.FactOfReadable.{Comes}
-use Rattle.step_output.specs.Steps.{who}
+use Rattle.world_step.proofs.KeepPlayed
+use Rattle.deployment.proofs.FactOfReadable
+use Rattle.std.specs.Prelude.{is_some}
+use Rattle.std.specs.Option.{IsSomeAnd, option_map}
+use Rattle.std.proofs.lemmas.Bool.{cond-true, cond-false}
+use Rattle.membership.specs.declared.member_state.MemberState.{MemberState}
+use Rattle.membership.specs.MemberStates.{core_of as core_at}
 
 -- ---- what a call that answered an error says
 
@@ -95,7 +94,7 @@ module _ {S : Type 0} (meaning : Meaning S) where
   -- what has to be known of an event and its input
   pub record Tabled (h : History) (n : ℕ) (m : MemberModel S) (c : Core S) (e : WorldEvent) (input : Input) : Type 0 where
     pub elsewhere : (a : Answer) (k : ℕ) → nat_eq n k ≡ false → connects_after k (is_connected k h) e a ≡ is_connected k h
-    pub comes : Comes (posts_in h.pool) c (came_at m input)
+    pub may : MayBeHanded world_group h.pool input
     pub lost : refusal_in c input ≡ None → Answers h e (Refused Memory) (Crashed m.address ∷ [])
     pub not : (err : Error) → refusal_in c input ≡ Some err → RefusesSo h e (answer_for err)
     pub taken : (out : Output) (left : MemberModel S) → Handled meaning m input (Ok out) left → refusal_in c input ≡ None → EachOwn m.address out.events.items
@@ -112,11 +111,8 @@ module _ {S : Type 0} (meaning : Meaning S) where
   module _ (laws : KeepBySteps.Laws meaning) (at new : ℕ → NodeState S) (n : ℕ) (h : History) (e : WorldEvent) (m : MemberModel S) (c : Core S)
       (w : KeepByTurn.World meaning at h) (there : at n ≡ Running m) (x : FactOfMembers.Runs meaning h n m c)
       (others : OthersStand n at new) (elsewhere : (a : Answer) (k : ℕ) → nat_eq n k ≡ false → connects_after k (is_connected k h) e a ≡ is_connected k h) where
-    pub moves-to : (now : NodeState S) → new n ≡ now → OnlyHere m.address now → KeepAgreement.Moves meaning laws at new n m.address (Running m) now
+    pub moves-to : (now : NodeState S) → new n ≡ now → OnlyHere m.address now → KeepPlayed.Moves meaning at new n m.address (Running m) now
     moves-to now is only = record { node = x.node; was = there; is = is; only_old = only-running m.address m refl; only_now = only; others = others }
-
-    core-was : core_here m.address (Running m) ≡ Some c
-    core-was = core-running m.address m refl ∙ x.core
 
     -- ---- it crashes
 
@@ -130,9 +126,8 @@ module _ {S : Type 0} (meaning : Meaning S) where
         record {
           answers = answers;
           prompt = prompt;
-          agreed = KeepAgreement.crashed-agreed meaning laws at new n m.address (Running m) (Ended m.address) (moves-to (Ended m.address) is (only-ended m.address m.address))
-              h.pool h.trace c core-was refl w.agreed;
-          spelled = subst EachSpelled (sym (append-nil h.pool)) w.spelled;
+          played = KeepPlayed.crash-plays meaning at new n m.address (Running m) (Ended m.address) (moves-to (Ended m.address) is (only-ended m.address m.address))
+              h.pool h.trace w.played m (member-running m.address m refl) refl;
           starts = starts-own m.address h.trace (Crashed m.address ∷ []) crash-own w.starts;
           lasts = λ k o. last_of-own k m.address h.trace (Crashed m.address ∷ []) crash-own;
           connected = λ k o. elsewhere a k o;
@@ -149,32 +144,36 @@ module _ {S : Type 0} (meaning : Meaning S) where
     left-only true left same = only-ended m.address m.address
     left-only false left same = only-running m.address left same
 
-    left-core : (b : Bool) (left : MemberModel S) → leaves input ≡ b → left.address ≡ m.address → (leaves input ≡ true → core_of left ≡ None)
-        → core_here m.address (cond b (Ended m.address) (Running left)) ≡ core_of left
-    left-core true left e same ends = sym (ends e)
-    left-core false left e same ends = core-running m.address left same
+    -- a member that does not leave runs on
+    runs-on : (o : Option (MemberState S)) (P : Core S → Type 0) → IsSomeAnd (option_map (core_at m.address) o) P → is_some o ≡ true
+    runs-on None P s = absurd s
+    runs-on (Some l) P s = refl
+
+    has-ended : (o : Option (MemberState S)) → option_map (core_at m.address) o ≡ None → is_some o ≡ false
+    has-ended None e = refl
+    has-ended (Some l) e = absurd (none-some (core_at m.address l) (sym e))
+
+    left-member : (b connected : Bool) (left : MemberModel S) → leaves input ≡ b → left.address ≡ m.address → (leaves input ≡ true → core_of left ≡ None) → (leaves input ≡ false → IsMember connected left)
+        → running_on left ≡ member_here m.address (cond b (Ended m.address) (Running left))
+    left-member true connected left e same ends stays =
+        cond-false (is_some left.member_state) (Some left) None (has-ended left.member_state (subst (λ (p : Address). option_map (core_at p) left.member_state ≡ None) same (ends e)))
+    left-member false connected left e same ends stays =
+        cond-true (is_some left.member_state) (Some left) None
+        (runs-on left.member_state (λ d. connected ≡ d.connected) (subst (λ (p : Address). IsSomeAnd (option_map (core_at p) left.member_state) (λ d. connected ≡ d.connected)) same (stays e)))
+        ∙ sym (member-running m.address left same)
 
     left-node_state : (b connected : Bool) (s : List Event) (left : MemberModel S) → leaves input ≡ b → left.address ≡ m.address → last_of n (h.trace ++ s) ≡ Some m.address
-        → (leaves input ≡ true → has_ended m.address (h.trace ++ s) ≡ true) → (leaves input ≡ false → IsMember connected left) → IsAlive (who left.address left.group) left.member_state
+        → (leaves input ≡ true → has_ended m.address (h.trace ++ s) ≡ true) → (leaves input ≡ false → IsMember connected left)
         → IsNodeStateOf n (last_of n (h.trace ++ s)) connected (h.trace ++ s) (cond b (Ended m.address) (Running left))
-    left-node_state true connected s left e same last ended stays alive = (last, x.node, ended e)
-    left-node_state false connected s left e same last ended stays alive = (last ∙ ap Some (sym same), ap (λ (p : Address). p.node) same ∙ x.node, stays e, alive)
-
-    group-sound : (posted : List Posted) → AllByRecursion (λ k. IsPacket (packet_in m.group k)) posted → EachSound posted
-    group-sound posted sound = subst (λ (g : List ℕ). AllByRecursion (λ k. IsPacket (packet_in g k)) posted) x.group sound
-
-    group-bytes : (packets : List Outgoing) (posted : List Posted) → packets ≡ map (spelled m.group) posted → map bytes_of packets ≡ bytes_for posted
-    group-bytes packets posted e = ap (map bytes_of) e ∙ ap (λ (g : List ℕ). map bytes_of (map (spelled g) posted)) x.group
+    left-node_state true connected s left e same last ended stays = (last, x.node, ended e)
+    left-node_state false connected s left e same last ended stays = (last ∙ ap Some (sym same), ap (λ (p : Address). p.node) same ∙ x.node, stays e)
 
     taken-turn : (out : Output) (left : MemberModel S) (now : NodeState S) → new n ≡ now → now ≡ cond (leaves input) (Ended m.address) (Running left)
         → Handled meaning m input (Ok out) left → refusal_in c input ≡ None
         → KeepByTurn.Turn meaning new n h e (answer_to out.events.items) (map bytes_of out.packets.items) out.events.items
     taken-turn out left now is node_state handled free =
         let s = out.events.items in
-        let ps = map bytes_of out.packets.items in
         let did = handled.acted in
-        let sound : EachSound did.posted = group-sound did.posted did.sound in
-        let same : ps ≡ bytes_for did.posted = group-bytes out.packets.items did.posted did.spelled in
         let acted : Acted meaning (came_at m input) (Some c) did.posted s (core_of left) =
         subst (λ (o : Option (Core S)). Acted meaning (came_at m input) o did.posted s (core_of left)) x.core did.acted in
         let own : EachOwn m.address s = own-acted meaning m.address c (came_at m input) did.posted s (core_of left) x.fact.standing.itself acted in
@@ -184,17 +183,15 @@ module _ {S : Type 0} (meaning : Meaning S) where
         record {
           answers = so.answers;
           prompt = so.prompt;
-          agreed = subst (λ (l : List (List ℕ)). KeepByTurn.Holding meaning (system_of new (h.pool ++ l) (h.trace ++ s))) (sym same)
-              (KeepAgreement.taken-agreed meaning laws at new n m.address (Running m) (cond (leaves input) (Ended m.address) (Running left))
+          played = KeepPlayed.call-plays meaning at new n m.address (Running m) (cond (leaves input) (Ended m.address) (Running left))
               (moves-to laws at new n h e m c w there x others table.elsewhere (cond (leaves input) (Ended m.address) (Running left)) node_state_is (left-only (leaves input) left handled.address))
-              h.pool h.trace c (core_of left) table.comes.which (came_at m input) did.posted s (core-running m.address m refl ∙ x.core)
-              (left-core (leaves input) left refl handled.address (λ l. (so.ends l).0)) table.comes.from table.comes.none sound acted w.agreed);
-          spelled = subst (λ (l : List (List ℕ)). EachSpelled (h.pool ++ l)) (sym same) (spelled-more h.pool (bytes_for did.posted) w.spelled (posted-spelled did.posted sound));
+              h.pool h.trace w.played m left input out (member-running m.address m refl)
+              (left-member (leaves input) (connects_after n (is_connected n h) e (answer_to s)) left refl handled.address (λ l. (so.ends l).0) so.stays) handled table.may;
           starts = starts-own m.address h.trace s own w.starts;
           lasts = λ k o. last_of-own k m.address h.trace s own;
           connected = λ k o. table.elsewhere (answer_to s) k o;
           node_state = subst (IsNodeStateOf n (last_of n (h.trace ++ s)) (connects_after n (is_connected n h) e (answer_to s)) (h.trace ++ s)) (sym node_state_is)
-              (left-node_state (leaves input) (connects_after n (is_connected n h) e (answer_to s)) s left refl handled.address last (λ l. (so.ends l).1) so.stays handled.alive);
+              (left-node_state (leaves input) (connects_after n (is_connected n h) e (answer_to s)) s left refl handled.address last (λ l. (so.ends l).1) so.stays);
         }
 
     -- ---- whatever it answers
@@ -202,13 +199,11 @@ module _ {S : Type 0} (meaning : Meaning S) where
     is-free : refusal_of m input ≡ None → refusal_in c input ≡ None
     is-free free = FactOfMembers.free-is meaning h n m c x input None free
 
+    runs-there : members at m.address ≡ Some m
+    runs-there = FactOfMembers.member-at meaning at h n m w there x.node
+
     readable : is_unreadable meaning m input ≡ false
-    readable =
-        let k : IsNodeStateOf n (last_of n h.trace) (is_connected n h) h.trace (Running m) = subst (IsNodeStateOf n (last_of n h.trace) (is_connected n h) h.trace) there (w.node_states n) in
-        let l = FactOfReadable.member-there m.address m.member_state c x.core in
-        FactOfReadable.never-unreadable meaning laws (system_of at h.pool h.trace) m l.0 input w.agreed l.1 (k.3 l.0 l.1).member_state
-        (FactOfMembers.runs-at meaning at h n m w there x.node ∙ x.core ∙ ap Some (sym l.2))
-        (subst (λ (d : Core S). FactOfReadable.Comes (posts_in h.pool) d (came_at m input)) (sym l.2) table.comes)
+    readable = FactOfReadable.call-readable meaning laws world_group (deployment_of at h.pool h.trace) (FactOfMembers.deployed meaning laws at h w) m.address m runs-there input table.may
 
     taken : (out : Output) (left : MemberModel S) (a : Answer) (now : NodeState S) (t : List Event) (pool : List (List ℕ)) → new n ≡ now → Handled meaning m input (Ok out) left
         → Takes m.address input out left a (about (Running m) h.trace h.pool) (about now t pool) → Turned new n h e a t pool
@@ -248,11 +243,9 @@ module _ {S : Type 0} (meaning : Meaning S) where
 
     -- a running member of a world is not closed
     never-closed : (err : Error) (left : MemberModel S) → Handled meaning m input (Err err) left → is_closed err ≡ true → ⊥
-    never-closed err left handled is = by (handled.closed.only (ap {B = Result Output Error} Err (closed-is err is)))
-      where
-        by : (core_of m ≡ None) ⊎ (is_unreadable meaning m input ≡ true) → ⊥
-        by (inl none) = none-some c (sym none ∙ x.core)
-        by (inr bad) = let n : true ≡ false = sym bad ∙ readable in absurd (cc)
+    never-closed err left handled is =
+        FactOfReadable.never-closed meaning laws world_group (deployment_of at h.pool h.trace) (FactOfMembers.deployed meaning laws at h w) m.address m runs-there input table.may left
+        (subst (λ (e : Error). Handled meaning m input (Err e) left) (closed-is err is) handled)
 
     not-taken : (err : Error) (left : MemberModel S) (a : Answer) (now : NodeState S) (t : List Event) (pool : List (List ℕ)) (b k : Bool) → new n ≡ now → is_memory err ≡ b → is_closed err ≡ k
         → Handled meaning m input (Err err) left → CallGives m.address input (Err err) left a (about (Running m) h.trace h.pool) (about now t pool) → Turned new n h e a t pool

@@ -12,7 +12,7 @@ use Rattle.address.proofs.SameIds.{same_address-true}
 use Rattle.trace_props.proofs.FactOfObserved.{has_started-other, has_started-still}
 use Rattle.world_model.specs.Histories.{last_of, last_after}
 use Rattle.world_step.specs.Invariant.{StartsInTurn, top_of}
-use Rattle.world_step.proofs.FactOfOwnEvents.{EachOwn}
+use Rattle.deployment.proofs.FactOfOwnEvents.{EachOwn}
 
 -- the newest event changes a node's last member
 pub last_of-push : (n : ℕ) (t : List Event) (h : Event) → last_of n (t ++ h ∷ []) ≡ last_after n (last_of n t) h

@@ -8,7 +8,7 @@ use Rattle.trace_props.specs.declared.event.Event.{Event}
 use Rattle.trace_props.specs.State.{state_of}
 use Rattle.acts.specs.Cores.{Core}
 use Rattle.agreement.proofs.KeepBySteps
-use Rattle.agreement.proofs.KeepAtFirst.{nothing-holds}
+use Rattle.deployment.proofs.FactOfPlayed.{nothing-played}
 use Rattle.member.specs.Members.{MemberModel, core_of}
 use Rattle.world_model.specs.declared.WorldEvent.{WorldEvent}
 use Rattle.world_model.specs.declared.WorldEvent.TheVariants.{Deliver, Start, Create, Join, Send, Tick, Suspect, MergeHint, Leave, Crash}
@@ -16,7 +16,7 @@ use Rattle.world_model.specs.declared.Target.{Target}
 use Rattle.world_model.specs.declared.Target.TheVariants as target
 use Rattle.world_model.specs.declared.Answer.{Answer}
 use Rattle.world_model.specs.Histories.{History, no_history, last_of, is_connected, target_of, running}
-use Rattle.world_model.specs.Packets.{packet_numbered}
+use Rattle.world_model.specs.Packets.{packet_numbered, world_group}
 use Rattle.world_model.specs.Faithful.IsFaithful.{Nothing}
 use Rattle.world_step.specs.declared.node_state.NodeState.{NodeState}
 use Rattle.world_step.specs.declared.node_state.NodeState.TheVariants.{Vacant, Ended, Running}
@@ -41,8 +41,7 @@ module _ {S : Type 0} (meaning : Meaning S) where
   no-world = record {
     faithful = Nothing;
     paired = refl;
-    agreed = nothing-holds meaning;
-    spelled = λ k bytes at. absurd (none-some bytes at);
+    played = nothing-played meaning world_group;
     starts = starts-none;
     node_states = λ n. refl;
   }
@@ -87,7 +86,7 @@ module _ {S : Type 0} (meaning : Meaning S) where
   turned-by laws at new h e a t pool (target.Member n) here w g =
       to-world at new n h e a t pool w g.1 (KeepByEvent.acts-turn meaning laws at new n h w g.1 e a t pool here g.0)
   turned-by laws at new h e a t pool (target.Packet k) here w g =
-      let x = FactOfDelivery.delivered meaning at h w k laws new (packet_numbered k h.pool) a t pool refl g in
+      let x = FactOfDelivery.delivered meaning laws at h w k new (packet_numbered k h.pool) a t pool refl g in
       subst (λ (d : WorldEvent). Carried at new h d a t pool) (sym (packet-is e k here)) (to-world at new x.0 h (Deliver k) a t pool w x.1 x.2)
 
   pub world-carries : KeepBySteps.Laws meaning → (at new : ℕ → NodeState S) (h : History) (e : WorldEvent) (a : Answer) (t : List Event) (pool : List (List ℕ))
@@ -96,16 +95,16 @@ module _ {S : Type 0} (meaning : Meaning S) where
 
   -- ---- the member that runs at a node
 
-  pub running-is : (at : ℕ → NodeState S) (h : History) (n : ℕ) (m : MemberModel S) → World at h → at n ≡ Running m → Some m.address ≡ running n h.trace
-  running-is at h n m w e =
-      let x = FactOfMembers.running-here meaning at h n m w e in
+  pub running-is : KeepBySteps.Laws meaning → (at : ℕ → NodeState S) (h : History) (n : ℕ) (m : MemberModel S) → World at h → at n ≡ Running m → Some m.address ≡ running n h.trace
+  running-is laws at h n m w e =
+      let x = FactOfMembers.running-here meaning laws at h n m w e in
       sym (FactOfMembers.is-running meaning h n m x.0 x.1)
 
   -- its receiver
-  pub receiver-is : (at : ℕ → NodeState S) (h : History) (n : ℕ) (m : MemberModel S) → World at h → at n ≡ Running m
+  pub receiver-is : KeepBySteps.Laws meaning → (at : ℕ → NodeState S) (h : History) (n : ℕ) (m : MemberModel S) → World at h → at n ≡ Running m
       → option_map (λ (c : Core S). c.state) (core_of m) ≡ option_map (λ p. state_of meaning p h.trace) (running n h.trace)
-  receiver-is at h n m w e =
-      let x = FactOfMembers.running-here meaning at h n m w e in
+  receiver-is laws at h n m w e =
+      let x = FactOfMembers.running-here meaning laws at h n m w e in
       rw (x.1.core, FactOfMembers.is-running meaning h n m x.0 x.1) (ap Some (sym x.1.fact.state.now))
 
   -- where no member runs

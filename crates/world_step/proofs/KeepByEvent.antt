@@ -64,7 +64,7 @@ module _ {S : Type 0} (meaning : Meaning S)
   handed-at e i Vacant now a t pool x was is k g = refused e NotConnected Vacant now a t pool was is (x.never k) g.0 g.1
   handed-at e i (Ended p) now a t pool x was is k g = refused e Closed (Ended p) now a t pool was is (x.over p k.0 k) g.0 g.1
   handed-at e i (Running m) now a t pool x was is k g =
-      let y = FactOfMembers.running-here meaning at h n m w was in
+      let y = FactOfMembers.running-here meaning laws at h n m w was in
       FactOfTaken.hands-turn meaning laws at new n h e i m y.0 w was y.1 (x.table m y.0 y.1) others a now t pool is g
 
   handed : (e : WorldEvent) (i : Input) (a : Answer) (t : List Event) (pool : List (List ℕ)) → Handed e i → Hands meaning i a (about (at n) h.trace h.pool) (about (new n) t pool)
@@ -133,7 +133,7 @@ module _ {S : Type 0} (meaning : Meaning S)
   crash-at Vacant now a t pool was is k g same = refused (Crash n) NotConnected Vacant now a t pool was is (at-none _ k) g same
   crash-at (Ended p) now a t pool was is k g same = refused (Crash n) Closed (Ended p) now a t pool was is (at-ended _ p k) g same
   crash-at (Running m) now a t pool was is k g same =
-      let y = FactOfMembers.running-here meaning at h n m w was in
+      let y = FactOfMembers.running-here meaning laws at h n m w was in
       subst (λ (b : Answer). Turned (Crash n) b t pool) (sym g.0) (record {
         ps = [];
         s = Crashed m.address ∷ [];

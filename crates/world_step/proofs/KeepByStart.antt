@@ -20,16 +20,16 @@ use Rattle.world_model.specs.Histories.{History, last_of, is_connected, connects
 use Rattle.world_model.specs.Faithful.{Answers}
 use Rattle.world_step.specs.declared.node_state.NodeState.{NodeState}
 use Rattle.world_step.specs.declared.node_state.NodeState.TheVariants.{Vacant, Ended, Running}
-use Rattle.world_step.specs.NodeStates.{core_here}
+use Rattle.world_step.specs.NodeStates.{member_here}
 use Rattle.world_step.specs.Turns.{Begun, BeginsSo, Begins, Stays, StartGives, OthersStand}
-use Rattle.world_step.specs.Invariant.{IsNodeStateOf, EachSpelled, StartsInTurn, top_of}
+use Rattle.world_step.specs.Invariant.{IsNodeStateOf, StartsInTurn, top_of}
 use Rattle.world_step.proofs.FactOfConnected.{connects_after-other, refused-connects}
 use Rattle.world_step.proofs.FactOfTraces.{last_of-push, last_of-still, last_of-other, starts-push}
-use Rattle.world_step.proofs.FactOfSystem.{OnlyHere, only-ended, only-running, core-running, same-at}
+use Rattle.world_step.proofs.FactOfSystem.{OnlyHere, only-ended, only-running, member-running, same-at}
 use Rattle.world_step.proofs.FactOfAnswers.{done-here}
 use Rattle.world_step.proofs.KeepByTurn
 use Rattle.world_step.proofs.FactOfMembers
-use Rattle.world_step.proofs.KeepAgreement
+use Rattle.world_step.proofs.KeepPlayed
 use Rattle.world_step.proofs.FactOfTaken
 
 -- an incarnation above all of its node has not started
@@ -51,7 +51,7 @@ module _ {S : Type 0} (meaning : Meaning S)
     node : q.node ≡ n
     real : IsAddress q
     was : at n ≡ old
-    nobody : (p : Address) → core_here p old ≡ None
+    nobody : (p : Address) → member_here p old ≡ None
     above : top_of n h.trace < q.incarnation
     done : Answers h (Start n) Done (Started q ∷ [])
     memory : Answers h (Start n) (Refused Memory) (Started q ∷ Crashed q ∷ [])
@@ -63,7 +63,7 @@ module _ {S : Type 0} (meaning : Meaning S)
     new-one : has_started q h.trace ≡ false
     new-one = unstarted q h.trace w.starts higher (has_started q h.trace) refl
 
-    moves-to : (now : NodeState S) → new n ≡ now → OnlyHere q now → KeepAgreement.Moves meaning laws at new n q old now
+    moves-to : (now : NodeState S) → new n ≡ now → OnlyHere q now → KeepPlayed.Moves meaning at new n q old now
     moves-to now is only = record { node = x.node; was = x.was; is = is; only_old = λ p e. x.nobody p; only_now = only; others = others }
 
     starts-now : StartsInTurn (h.trace ++ Started q ∷ [])
@@ -85,20 +85,15 @@ module _ {S : Type 0} (meaning : Meaning S)
           turn = record {
             answers = x.done;
             prompt = tt;
-            agreed = KeepAgreement.started-agreed meaning laws at new n q old (Running g.member) (moves-to (Running g.member) here (only-running q g.member g.address))
-                h.pool h.trace x.real new-one (core-running q g.member g.address ∙ g.core) w.agreed;
-            spelled = subst EachSpelled (sym (append-nil h.pool)) w.spelled;
+            played = KeepPlayed.start-plays meaning at new n q old (Running g.member) (moves-to (Running g.member) here (only-running q g.member g.address))
+                h.pool h.trace w.played g.member (record { real = x.real; address = g.address; group_is = g.group; core = g.core; alive = g.alive }) (sym (member-running q g.member g.address)) new-one;
             starts = starts-now;
             lasts = lasts-now;
             connected = λ k o. connects_after-other k (is_connected k h) (Start n) Done o;
             node_state = subst (IsNodeStateOf n (last_of n (h.trace ++ Started q ∷ [])) (connects_after n (is_connected n h) (Start n) Done) (h.trace ++ Started q ∷ [])) (sym here) (
               last-now q n h.trace x.node ∙ ap Some (sym g.address),
               ap (λ (p : Address). p.node) g.address ∙ x.node,
-              record {
-                group = g.group;
-                joined = subst (λ (o : Option (Core S)). IsSomeAnd o (λ d. connects_after n (is_connected n h) (Start n) Done ≡ d.connected)) (sym g.core) (done-here n false (is_connected n h));
-              },
-              g.alive,
+              subst (λ (o : Option (Core S)). IsSomeAnd o (λ d. connects_after n (is_connected n h) (Start n) Done ≡ d.connected)) (sym g.core) (done-here n false (is_connected n h)),
             );
           };
         }
@@ -118,8 +113,7 @@ module _ {S : Type 0} (meaning : Meaning S)
           turn = record {
             answers = x.memory;
             prompt = tt;
-            agreed = KeepAgreement.failed-agreed meaning laws at new n q old (Ended q) (moves-to (Ended q) is (only-ended q q)) h.pool h.trace x.real new-one refl w.agreed;
-            spelled = subst EachSpelled (sym (append-nil h.pool)) w.spelled;
+            played = KeepPlayed.fail-plays meaning at new n q old (Ended q) (moves-to (Ended q) is (only-ended q q)) h.pool h.trace w.played x.real refl new-one;
             starts = subst StartsInTurn two (starts-push (h.trace ++ Started q ∷ []) (Crashed q) starts-now tt);
             lasts = λ k o. ap (last_of k) (sym two) ∙ last_of-still k (h.trace ++ Started q ∷ []) (Crashed q) refl ∙ lasts-now k o;
             connected = λ k o. connects_after-other k (is_connected k h) (Start n) (Refused Memory) o;
@@ -196,7 +190,7 @@ module _ {S : Type 0} (meaning : Meaning S)
   start-here Vacant a now t was is k g = first-at a now t was is k g
   start-here (Ended p) a now t was is k g = after-ended p a now t was is k (nat_lt (p.incarnation + 1) (2 ^ 32)) refl g
   start-here (Running m) a now t was is k g =
-      let x = FactOfMembers.running-here meaning at h n m w was in
+      let x = FactOfMembers.running-here meaning laws at h n m w was in
       refused AlreadyConnected (Running m) now a t was is (rw (k.0, FactOfMembers.going meaning h n m x.0 x.1) (refl, refl)) g
 
   pub start-turns : (a : Answer) (t : List Event) → StartGives meaning n a (at n) h.trace (new n) t → Turned a t h.pool

@@ -6,10 +6,6 @@ use Rattle.address.specs.Ids.{Address}
 use Rattle.state_transfer.specs.Meanings.{Meaning}
 use Rattle.trace_props.specs.declared.event.Event.{Event}
 use Rattle.trace_props.proofs.FactOfObserved.{has_ended-stays}
-use Rattle.acts.specs.Histories.{Posted}
-use Rattle.acts.specs.Cores.{Core}
-use Rattle.agreement.specs.Steps.{System}
-use Rattle.agreement.specs.Invariant.{Kept}
 use Rattle.world_model.specs.declared.WorldEvent.{WorldEvent}
 use Rattle.world_model.specs.declared.Answer.{Answer}
 use Rattle.world_model.specs.Histories.{History, last_of, is_connected, connects_after, after}
@@ -17,11 +13,10 @@ use Rattle.world_model.specs.Faithful.{Answers, SendsPromptly}
 use Rattle.world_model.specs.Faithful.IsFaithful.{Next}
 use Rattle.world_step.specs.declared.node_state.NodeState.{NodeState}
 use Rattle.world_step.specs.declared.node_state.NodeState.TheVariants.{Vacant, Ended, Running}
-use Rattle.world_step.specs.NodeStates.{posts_in, system_of}
 use Rattle.world_step.specs.Turns.{SameNodeStates, OthersStand}
-use Rattle.world_step.specs.Invariant.{IsNodeStateOf, IsWorld, EachSpelled, StartsInTurn}
+use Rattle.world_step.specs.Invariant.{IsNodeStateOf, IsWorld, StartsInTurn}
 use Rattle.world_step.proofs.FactOfConnected.{is_connected-push}
-use Rattle.world_step.proofs.FactOfSystem.{runs, runs-same}
+use Rattle.world_step.proofs.KeepPlayed.{Plays, same-plays}
 
 -- what stands at another node stays what it was
 node_state-kept : {S : Type 0} (n : ℕ) (last : Option Address) (connected : Bool) (t s : List Event) (node_state : NodeState S) → IsNodeStateOf n last connected t node_state → IsNodeStateOf n last connected (t ++ s) node_state
@@ -30,9 +25,6 @@ node_state-kept n last connected t s (Ended p) k = (k.0, k.1, has_ended-stays p 
 node_state-kept n last connected t s (Running m) k = k
 
 module _ {S : Type 0} (meaning : Meaning S) where
-  abbrev pub Holding : System S → Type 0
-  Holding s = Kept meaning s
-
   abbrev pub World : (ℕ → NodeState S) → History → Type 0
   World at h = IsWorld meaning at h
 
@@ -40,8 +32,7 @@ module _ {S : Type 0} (meaning : Meaning S) where
   pub record Turn (new : ℕ → NodeState S) (n : ℕ) (h : History) (e : WorldEvent) (a : Answer) (ps : List (List ℕ)) (s : List Event) : Type 0 where
     pub answers : Answers h e a s
     pub prompt : SendsPromptly h.trace e a s
-    pub agreed : Holding (system_of new (h.pool ++ ps) (h.trace ++ s))
-    pub spelled : EachSpelled (h.pool ++ ps)
+    pub played : Plays meaning new (h.pool ++ ps) (h.trace ++ s)
     pub starts : StartsInTurn (h.trace ++ s)
     pub lasts : (m : ℕ) → nat_eq n m ≡ false → last_of m (h.trace ++ s) ≡ last_of m h.trace
     pub connected : (m : ℕ) → nat_eq n m ≡ false → connects_after m (is_connected m h) e a ≡ is_connected m h
@@ -60,22 +51,12 @@ module _ {S : Type 0} (meaning : Meaning S) where
   turned at new n h e a ps s w turn others = record {
     faithful = Next h e a ps s w.faithful turn.answers turn.prompt;
     paired = length-append h.events (e ∷ []) ∙ ap (λ n. n + 1) w.paired ∙ sym (length-append h.replies (record { answer = a; place = length (h.trace ++ s) } ∷ []));
-    agreed = turn.agreed;
-    spelled = turn.spelled;
+    played = turn.played;
     starts = turn.starts;
     node_states = λ m. rw (is_connected-push m h e a ps s w.paired) (node_state-turned at new n h e a ps s w turn others m (nat_eq n m) refl);
   }
 
   -- ---- where nothing changes
-
-  abbrev pub system_at : (Address → Option (Core S)) → List Posted → List Event → System S
-  system_at running pool t = record { running = running; history = record { pool = pool; trace = t } }
-
-  agreed-same : (at new : ℕ → NodeState S) (pool : List (List ℕ)) (t : List Event) → SameNodeStates at new → Holding (system_of at pool t) → Holding (system_of new (pool ++ []) (t ++ []))
-  agreed-same at new pool t same i =
-      subst (λ (r : Address → Option (Core S)). Holding (system_at r (posts_in (pool ++ [])) (t ++ []))) (sym (runs-same at new same))
-      (subst (λ (l : List (List ℕ)). Holding (system_at (runs at) (posts_in l) (t ++ []))) (sym (append-nil pool))
-      (subst (λ (u : List Event). Holding (system_at (runs at) (posts_in pool) u)) (sym (append-nil t)) i))
 
   -- an event in whose step nothing happens, nothing is put out, and no node changes
   pub turn-still : (at new : ℕ → NodeState S) (n : ℕ) (h : History) (e : WorldEvent) (a : Answer) → World at h → SameNodeStates at new → Answers h e a [] → SendsPromptly h.trace e a []
@@ -83,8 +64,7 @@ module _ {S : Type 0} (meaning : Meaning S) where
   turn-still at new n h e a w same answers prompt same_answers = record {
     answers = answers;
     prompt = prompt;
-    agreed = agreed-same at new h.pool h.trace same w.agreed;
-    spelled = subst EachSpelled (sym (append-nil h.pool)) w.spelled;
+    played = same-plays meaning at new h.pool h.trace same w.played;
     starts = subst StartsInTurn (sym (append-nil h.trace)) w.starts;
     lasts = λ m o. ap (last_of m) (append-nil h.trace);
     connected = λ m o. same_answers m;

@@ -3,9 +3,8 @@ pub mod FactOfWidening
 pub mod StepIsWorldStep
 pub mod FactOfRuns
 pub mod FactOfNodes
-pub mod FactOfPosts
 pub mod FactOfDestinations
-pub mod FactOfOwnEvents
+pub mod FactOfQuietEvents
 pub mod FactOfTraces
 pub mod FactOfConnected
 pub mod FactOfSystem
@@ -13,7 +12,7 @@ pub mod KeepByTurn
 pub mod FactOfMembers
 pub mod FactOfAnswers
 pub mod FactOfPromptSend
-pub mod KeepAgreement
+pub mod KeepPlayed
 pub mod FactOfTaken
 pub mod FactOfTables
 pub mod KeepByStart
@@ -21,5 +20,4 @@ pub mod KeepByEvent
 pub mod FactOfDelivery
 pub mod FactOfWorlds
 pub mod KeepOfWorlds
-pub mod FactOfReadable
 pub mod FactOfFirst

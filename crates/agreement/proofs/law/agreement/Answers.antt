@@ -1,5 +1,6 @@
 use Rattle.agreement.proofs.KeepBySteps.{keeps-invariant, always-synchronous}
 use Rattle.agreement.proofs.KeepByCall.{acted-keeps}
+use Rattle.agreement.proofs.FactOfKnown.{members-know, stable-stays}
 use Rattle.agreement.proofs.law.agreement.Goals as goal
 
 pub returns-clause-invariant : goal.returns-clause-invariant
@@ -16,3 +17,9 @@ pub returns-clause-keep : goal.returns-clause-keep
 returns-clause-keep g c =
     acted-keeps g.R.Receiver.meaning
     (record { opens = g.met.R.Receiver.opens; applies = g.met.R.Receiver.applies; decodes = g.met.R.Receiver.decodes; reads_back = g.met.R.Receiver.reads_back })
+
+pub returns-clause-known : goal.returns-clause-known
+returns-clause-known g c = members-know g.R.Receiver.meaning
+
+pub returns-clause-stable : goal.returns-clause-stable
+returns-clause-stable g c = stable-stays

@@ -1,4 +1,5 @@
 use Rattle.deployed_channels.proofs.CallIsStep.{calls-are, lent-calls-are, creates-are, joins-are}
+use Rattle.deployed_channels.proofs.FactOfKnown.{channels-know}
 use Rattle.deployed_channels.proofs.law.calls_are_steps.Goals as goal
 
 pub returns-clause-calls : goal.returns-clause-calls
@@ -12,3 +13,6 @@ returns-clause-creates g c = creates-are g.R.Receiver.meaning
 
 pub returns-clause-joins : goal.returns-clause-joins
 returns-clause-joins g c = joins-are g.R.Receiver.meaning
+
+pub returns-clause-known : goal.returns-clause-known
+returns-clause-known g c = channels-know g.R.Receiver.meaning c.deployments_are_synchronous.ensures.known

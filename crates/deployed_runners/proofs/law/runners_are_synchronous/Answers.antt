@@ -1,5 +1,6 @@
 use Rattle.deployed_runners.proofs.ItemsOfCalls.{calls-add, runs-are}
 use Rattle.deployed_runners.proofs.FactOfMerged.{runners-are, runners-tell}
+use Rattle.deployed_runners.proofs.FactOfKnown.{runners-agree, runners-know, receivers-agree}
 use Rattle.deployed_runners.proofs.FactOfPlayed.{played-are}
 use Rattle.deployed_runners.proofs.FactOfStarts.{starts-none}
 use Rattle.deployed_runners.proofs.law.runners_are_synchronous.Goals as goal
@@ -16,8 +17,19 @@ returns-clause-merged g c = runners-are g.R.Receiver.meaning c.deployments_are_s
 pub returns-clause-told : goal.returns-clause-told
 returns-clause-told g c = runners-tell g.R.Receiver.meaning c.deployments_are_synchronous.ensures.told
 
+pub returns-clause-agreeing : goal.returns-clause-agreeing
+returns-clause-agreeing g c = runners-agree g.R.Receiver.meaning c.deployments_are_synchronous.ensures.agreeing
+
+pub returns-clause-known : goal.returns-clause-known
+returns-clause-known g c = runners-know g.R.Receiver.meaning c.deployments_are_synchronous.ensures.known
+
+pub returns-clause-level : goal.returns-clause-level
+returns-clause-level g c = receivers-agree g.R.Receiver.meaning (returns-clause-known g c) (returns-clause-agreeing g c)
+
 pub returns-clause-played : goal.returns-clause-played
-returns-clause-played g c = played-are g.N.Net.log g.N.Net.failed g.R.Receiver.meaning (runners-are g.R.Receiver.meaning c.deployments_are_synchronous.ensures.histories)
+returns-clause-played g c =
+    played-are g.N.Net.log g.N.Net.failed g.R.Receiver.meaning (runners-are g.R.Receiver.meaning c.deployments_are_synchronous.ensures.histories)
+    (returns-clause-agreeing g c) (returns-clause-known g c)
 
 pub returns-clause-starts : goal.returns-clause-starts
 returns-clause-starts g c = starts-none g.N.Net.log g.N.Net.failed g.R.Receiver.meaning

@@ -48,13 +48,13 @@ returns-clause-longer g c = catches-longer g.R.Receiver.meaning c.in-Some.pair (
 pub returns-in_default-clause-condition : goal.returns-in_default-clause-condition
 returns-in_default-clause-condition g c =
     ap is_some (sym c.in_default.is ∙ (c.pair_at.ensures ∙ ap (λ (w : WorldValue _). pair_at (shown w).node_states c.args.node) c.self.view_is))
-    ∙ open-pair-is g.R.Receiver.meaning (shown c.args.self.now).node_states c.args.self.now.history
+    ∙ open-pair-is g.R.Receiver.meaning (record { opens = g.met.R.Receiver.opens; applies = g.met.R.Receiver.applies; decodes = g.met.R.Receiver.decodes; reads_back = g.met.R.Receiver.reads_back }) (shown c.args.self.now).node_states c.args.self.now.history
     (subst (λ (w : WorldValue _). IsWorld g.R.Receiver.meaning (shown w).node_states w.history) c.self.view_is
     (reached-keeps g.R.Receiver.meaning (record { opens = g.met.R.Receiver.opens; applies = g.met.R.Receiver.applies; decodes = g.met.R.Receiver.decodes; reads_back = g.met.R.Receiver.reads_back }) _ c.self.invariant)) c.args.node
 
 pub returns-clause-condition : goal.returns-clause-condition
 returns-clause-condition g c =
     ap is_some (sym c.in-Some.is ∙ (c.pair_at.ensures ∙ ap (λ (w : WorldValue _). pair_at (shown w).node_states c.args.node) c.self.view_is))
-    ∙ open-pair-is g.R.Receiver.meaning (shown c.args.self.now).node_states c.args.self.now.history
+    ∙ open-pair-is g.R.Receiver.meaning (record { opens = g.met.R.Receiver.opens; applies = g.met.R.Receiver.applies; decodes = g.met.R.Receiver.decodes; reads_back = g.met.R.Receiver.reads_back }) (shown c.args.self.now).node_states c.args.self.now.history
     (subst (λ (w : WorldValue _). IsWorld g.R.Receiver.meaning (shown w).node_states w.history) c.self.view_is
     (reached-keeps g.R.Receiver.meaning (record { opens = g.met.R.Receiver.opens; applies = g.met.R.Receiver.applies; decodes = g.met.R.Receiver.decodes; reads_back = g.met.R.Receiver.reads_back }) _ c.self.invariant)) c.args.node

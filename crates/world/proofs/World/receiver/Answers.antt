@@ -24,7 +24,7 @@ returns-in_err-member g c =
 pub returns-in-Running : goal.returns-in-Running
 returns-in-Running g c =
     c.receiver.ensures
-    ∙ receiver-is g.R.Receiver.meaning (node_states_in (get nat_cmp c.self.inside.node_states)) _ c.args.node c.in-Running.member
+    ∙ receiver-is g.R.Receiver.meaning (record { opens = g.met.R.Receiver.opens; applies = g.met.R.Receiver.applies; decodes = g.met.R.Receiver.decodes; reads_back = g.met.R.Receiver.reads_back }) (node_states_in (get nat_cmp c.self.inside.node_states)) _ c.args.node c.in-Running.member
     (reached-keeps g.R.Receiver.meaning
     (record { opens = g.met.R.Receiver.opens; applies = g.met.R.Receiver.applies; decodes = g.met.R.Receiver.decodes; reads_back = g.met.R.Receiver.reads_back }) _ c.self.invariant) (ap node_state_at (sym c.get.ensures.value ∙ ap option_copied c.in_ok-member.was ∙ ap Some c.in-Running.is))
     ∙ ap (λ (w : WorldValue _). option_map (λ p. state_of g.R.Receiver.meaning p w.history.trace) (running c.args.node w.history.trace)) c.self.view_is

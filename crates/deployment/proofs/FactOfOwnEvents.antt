@@ -1,20 +1,17 @@
 -- What happens by a member's acts happens to it, and is no start.
-use Rattle.std.proofs.Common.{◌≡◌, ℕ, Bool, ◌&&◌, true, false, Option, Some, None, List, [], ◌∷◌, ◌++◌, map, refl, sym, ap, ◌∙◌, subst}
-use Rattle.std.specs.List.{AllByRecursion, list_all}
-use Rattle.std.proofs.lemmas.Bool.{and_parts, and_from}
+use Rattle.std.proofs.Common.{◌≡◌, ℕ, Bool, true, false, Option, Some, None, List, [], ◌∷◌, ◌++◌, map, refl, sym, ap, ◌∙◌, subst}
+use Rattle.std.specs.List.{AllByRecursion}
 use Rattle.std.proofs.lemmas.Option.{none-some, same_Some}
-use Rattle.address.specs.Ids.{Address, same_address}
+use Rattle.address.specs.Ids.{Address}
 use Rattle.view.specs.Members.{View}
 use Rattle.wire_values.specs.Values.{Entry}
 use Rattle.state_transfer.specs.Meanings.{Meaning}
 use Rattle.trace_props.specs.declared.event.Event.{Event}
 use Rattle.trace_props.specs.Observed.{member_of, is_start}
-use Rattle.address.proofs.SameIds.{same_address-from}
 use Rattle.acts.specs.Histories.{Posted}
 use Rattle.acts.specs.Cores.{Core, is_open}
 use Rattle.acts.specs.Acts.{Act, Creates, Joins, Puts, Sends, Queues, Orders, TakesAck, Collects, Holds, Delivers, Promises, Begins, Records, Gathers, Finishes, Enters, Leaves, after, events_of, deliveries, delivery, entering, blocking}
 use Rattle.acts.specs.Chains.{Acted, Chain, events_along}
-use Rattle.world_model.specs.Faithful.{is_quiet, are_quiet}
 
 abbrev pub IsOwn : Address → Event → Type 0
 IsOwn p x = (member_of x ≡ p) × (is_start x ≡ false)
@@ -22,7 +19,7 @@ IsOwn p x = (member_of x ≡ p) × (is_start x ≡ false)
 abbrev pub EachOwn : Address → List Event → Type 0
 EachOwn p s = AllByRecursion (IsOwn p) s
 
-own-append : (p : Address) (s t : List Event) → EachOwn p s → EachOwn p t → EachOwn p (s ++ t)
+pub own-append : (p : Address) (s t : List Event) → EachOwn p s → EachOwn p t → EachOwn p (s ++ t)
 own-append p [] t a b = b
 own-append p (x ∷ s) t a b = (a.0, own-append p s t a.1 b)
 
@@ -84,7 +81,7 @@ module _ {S : Type 0} (meaning : Meaning S) where
   me-stays c d (Enters i given) e = sym (ap me_of (same_Some _ d e))
   me-stays c d Leaves e = absurd (none-some d e)
 
-  own-chain : (p : Address) (came : Option Posted) (acts : List Act) (o end : Option (Core S)) → ((d : Core S) → o ≡ Some d → d.me ≡ p) → Chain meaning came o acts end
+  pub own-chain : (p : Address) (came : Option Posted) (acts : List Act) (o end : Option (Core S)) → ((d : Core S) → o ≡ Some d → d.me ≡ p) → Chain meaning came o acts end
       → EachOwn p (events_along meaning o acts)
   own-chain p came [] o end me x = tt
   own-chain p came (a ∷ acts) None end me x = absurd x
@@ -96,11 +93,3 @@ module _ {S : Type 0} (meaning : Meaning S) where
       → Acted meaning came (Some c) posted s end → EachOwn p s
   own-acted p c came posted s end me x =
       subst (EachOwn p) (sym x.happens) (own-chain p came x.acts (Some c) end (λ d e. sym (ap me_of (same_Some c d e)) ∙ me) x.chain)
-
--- what happens to one member and is asked for by no event by itself is quiet for it
-pub own-quiet : (p : Address) (s : List Event) → EachOwn p s → list_all is_quiet s ≡ true → are_quiet p s ≡ true
-own-quiet p [] own quiet = refl
-own-quiet p (x ∷ s) own quiet =
-    let q = and_parts (is_quiet x) (list_all is_quiet s) quiet in
-    and_from (same_address (member_of x) p && is_quiet x) (are_quiet p s)
-    (and_from (same_address (member_of x) p) (is_quiet x) (same_address-from (member_of x) p own.0.0) q.0) (own-quiet p s own.1 q.1)

@@ -1,5 +1,5 @@
--- The state that an INSTALL of the pool gives can be read, if it gives one: so no member of a world is ever closed for want of that.
-use Rattle.std.proofs.Common.{◌≡◌, ℕ, Bool, true, false, cond, not, ◌&&◌, List, Option, Some, None, slice_get, is_some, refl, sym, ap, ◌∙◌, subst}
+-- The state that an INSTALL that was put out gives can be read, if it gives one: so no member of a deployment is ever closed for want of that.
+use Rattle.std.proofs.Common.{◌≡◌, ℕ, Bool, true, false, cond, not, ◌&&◌, List, Option, Some, None, Err, ◌⊎◌, inl, inr, slice_get, is_some, refl, sym, ap, ◌∙◌, subst}
 use Rattle.std.specs.Option.{option_eq, option_map, option_map_or, option_and_then}
 use Rattle.std.proofs.lemmas.Bool.{and_parts}
 use Rattle.std.proofs.lemmas.Option.{none-some, same_Some, cond_some}
@@ -31,15 +31,14 @@ use Rattle.member.specs.declared.input.Input.{Input}
 use Rattle.wire_values.specs.Kinds.{install_said as install_in}
 use Rattle.member.specs.Members.{MemberModel, came_at, is_readable, is_unreadable, is_unreadable_by}
 use Rattle.address.proofs.Plain.{found}
-
--- what came to a member came from the pool, or nothing came
-pub record Comes {S : Type 0} (pool : List Posted) (c : Core S) (came : Option Posted) : Type 0 where
-  pub which : Option ℕ
-  pub from : came ≡ came_of c pool which
-  pub none : came ≡ None → which ≡ None
-
-pub nothing-comes : {S : Type 0} (pool : List Posted) (c : Core S) → Comes pool c None
-nothing-comes pool c = record { which = None; from = refl; none = λ e. refl }
+use Rattle.deployment.specs.Deployments.{Deployment, MayBeHanded}
+use Rattle.deployment.proofs.FactOfPosts.{posts_in}
+use Rattle.deployment.proofs.FactOfCame.{Comes, input-comes}
+use Rattle.deployment.proofs.KeepBySteps.{IsDeployment, system_of, cores, state-core}
+use Rattle.member.specs.Handling.{Handled}
+use Rattle.member.specs.Members.{core_of}
+use Rattle.member.specs.declared.error.Error.TheVariants.{Refused}
+use Rattle.limits.specs.declared.refusal.Refusal.TheVariants.{Closed}
 
 -- a packet that came stands in the pool, and is for the member
 came-there : {S : Type 0} (pool : List Posted) (c : Core S) (which : Option ℕ) (m : Posted) → Some m ≡ came_of c pool which → (k : ℕ) × (slice_get pool k ≡ Some m) × (m.destination ≡ c.me)
@@ -121,3 +120,23 @@ module _ {S : Type 0} (meaning : Meaning S) (laws : KeepBySteps.Laws meaning) wh
   never-unreadable s m l input kept is lives here x =
       ap (λ (o : Option (MemberState S)). option_map_or (λ k. option_map_or (is_unreadable_by meaning m.address k) (came_at m input) false) o false) is
       ∙ readable-by s kept m.address m.group l lives here (came_at m input) x
+
+module _ {S : Type 0} (meaning : Meaning S) (laws : KeepBySteps.Laws meaning) (group : List ℕ) (d : Deployment S) (x : IsDeployment meaning laws group d)
+    (p : Address) (m : MemberModel S) (there : d.members p ≡ Some m) (input : Input) (may : MayBeHanded group d.offered input) where
+  -- what it is handed it can read
+  pub call-readable : is_unreadable meaning m input ≡ false
+  call-readable =
+      let here = x.here p m there in
+      let c = state-core m.address m.member_state here.runs in
+      let l = member-there m.address m.member_state c.0 c.1 in
+      never-unreadable meaning laws (system_of meaning laws group d.members d.offered d.trace) m l.0 input x.agreed l.1 (here.alive l.0 l.1).member_state
+      (subst (λ (q : Address). cores d.members q ≡ Some (core_at m.address l.0)) (sym here.address) (ap (option_and_then core_of) there ∙ c.1 ∙ ap Some (sym l.2)))
+      (subst (λ (k : Core S). Comes (posts_in d.offered) k (came_at m input)) (sym l.2) (input-comes group d.offered m c.0 c.1 here.group_is input x.spelled may))
+
+  -- so it is not closed
+  pub never-closed : (left : MemberModel S) → Handled meaning m input (Err (Refused Closed)) left → ⊥
+  never-closed left h = by (h.closed.only refl)
+    where
+      by : (core_of m ≡ None) ⊎ (is_unreadable meaning m input ≡ true) → ⊥
+      by (inl none) = let c = state-core m.address m.member_state (x.here p m there).runs in none-some c.0 (sym none ∙ c.1)
+      by (inr bad) = let n : true ≡ false = sym bad ∙ call-readable in absurd (cc)
