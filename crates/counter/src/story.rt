@@ -2,10 +2,16 @@
 
 use crate::CountingNode;
 use address::{Address, Node};
+use memory_net::{FOUR, Wire, Wires, settings_of};
 use std::cell::RefCell;
 use std::io;
 use std::io::ErrorKind;
-use test_net::{FOUR, Wire, Wires, settings_of};
+
+/// How many rounds each node has.
+const ROUNDS: u64 = 140;
+
+/// After which round node 1 is killed.
+const KILLED: u64 = 40;
 
 // The first address of a node.
 fn first_at(number: u16) -> io::Result<Address> {
@@ -15,7 +21,44 @@ fn first_at(number: u16) -> io::Result<Address> {
     }
 }
 
-/// The nodes come together, each counts one, and then one of them counts twice more.
+// Whether the node at this place counts one before this round: node 3 before it is in a view; all of them; node 2 twice, and once more right before node 1 is killed.
+fn counts(round: u64, place: usize) -> bool {
+    match (round, place) {
+        (0, 2) => true,
+        (20, _) => true,
+        (21 | 22 | KILLED, 1) => true,
+        _ => false,
+    }
+}
+
+// A round of a node at this place.
+fn take_turn(
+    rt: &HostRuntime,
+    round: u64,
+    place: usize,
+    node: &mut CountingNode<Wire<'_>>,
+) -> io::Result<()> {
+    if place == 0 && round > KILLED {
+        return Ok(());
+    }
+    if counts(round, place) {
+        node.count()?;
+    }
+    node.round(round)?;
+    node.show(rt)
+}
+
+// All rounds of the nodes.
+fn take_turns(rt: &HostRuntime, nodes: &mut [CountingNode<Wire<'_>>]) -> io::Result<()> {
+    for round in 0..ROUNDS {
+        for (place, node) in nodes.iter_mut().enumerate() {
+            take_turn(rt, round, place, node)?;
+        }
+    }
+    Ok(())
+}
+
+/// The nodes come together and count. Then node 1, the coordinator, is killed with a message of node 2 on its way: the next view hands it back, and it is sent again.
 pub fn play(rt: &HostRuntime) -> io::Result<()> {
     let alloc = rt.alloc();
     let settings = settings_of(alloc, FOUR)?;
@@ -31,16 +74,5 @@ pub fn play(rt: &HostRuntime) -> io::Result<()> {
         let net = Wire::new(&wires, own.node());
         nodes.push(CountingNode::new(alloc, &settings, net, own, contact)?)?;
     }
-    for tick in 0..40u8 {
-        for (place, node) in nodes.iter_mut().enumerate() {
-            if tick == 20 || (place == 1 && tick > 20 && tick < 23) {
-                node.count(alloc);
-            }
-            if !node.tick() {
-                return Err(io::Error::from(ErrorKind::Other));
-            }
-            node.show(rt)?;
-        }
-    }
-    Ok(())
+    take_turns(rt, nodes.as_mut_slice())
 }

@@ -3,10 +3,10 @@
 use address::{Address, Node};
 use channel::Channel;
 use chat_log::ChatLog;
+use memory_net::{Failing, Wire, Wires};
 use state_transfer::Receiver;
 use std::alloc::{AllocError, Global};
 use std::cell::RefCell;
-use test_net::{Failing, Wire, Wires};
 use udp_member::Runner;
 use vsync_text::append_event;
 

@@ -3,9 +3,10 @@
 use crate::Tried;
 use chat_log::ChatLog;
 use commands::Status;
+use memory_net::{FOUR, Failing, Wires, settings_of};
 use std::alloc::{AllocError, Global};
 use std::cell::RefCell;
-use test_net::{FOUR, Failing, Hub, MERGE, Wires, holds, settings_of};
+use test_net::{Hub, MERGE, holds};
 use udp_net::Settings;
 use udp_runs::run_udp;
 
@@ -26,7 +27,7 @@ fn run(alloc: Global, settings: &Settings, failing: Failing) -> Came {
     let wires = RefCell::new(Wires::failing(alloc, failing));
     let mut text = Vec::new(alloc);
     let mut reader = MERGE;
-    let mut hub = Hub { wires: &wires };
+    let mut hub = Hub::new(&wires);
     let status = run_udp::<ChatLog, _, _, _>(alloc, settings, &mut hub, &mut reader, &mut text);
     let (receives, sends) = match wires.try_borrow() {
         Ok(wires) => (wires.receives, wires.sends),

@@ -2,8 +2,8 @@
 
 use crate::Tried;
 use crate::four::{After, Story, play};
+use memory_net::Failing;
 use std::alloc::{AllocError, Global};
-use test_net::Failing;
 
 /// What was counted after the last round of all: the receives, and the sends.
 fn last(story: &Story) -> (u64, u64) {

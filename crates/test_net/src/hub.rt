@@ -1,7 +1,7 @@
 ghost use Rattle.std.specs.Prelude.{None};
 
-use crate::{Wire, Wires};
 use address::{Address, Node};
+use memory_net::{Wire, Wires};
 use std::cell::RefCell;
 use std::time::Duration;
 use udp_net::BindError;
@@ -15,6 +15,15 @@ const STEP: u64 = 10;
 pub struct Hub<'a> {
     /// The wires.
     pub wires: &'a RefCell<Wires>,
+    /// What a node that ran by itself told last.
+    pub tally: Option<Tally>,
+}
+
+impl<'a> Hub<'a> {
+    /// The machine of these wires, to which no node told anything yet.
+    pub fn new(wires: &'a RefCell<Wires>) -> Hub<'a> {
+        Hub { wires, tally: None }
+    }
 }
 
 impl<'a> Machine for Hub<'a> {
@@ -41,8 +50,6 @@ impl<'a> Machine for Hub<'a> {
     }
 
     fn tell(&mut self, tally: &Tally) {
-        if let Ok(mut wires) = self.wires.try_borrow_mut() {
-            wires.tally = Some(*tally);
-        }
+        self.tally = Some(*tally);
     }
 }

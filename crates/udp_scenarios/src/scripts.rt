@@ -6,10 +6,11 @@ use crate::lines::put_number;
 use address::Node;
 use chat_log::ChatLog;
 use commands::Status;
+use memory_net::{FOUR, Wires, settings_of};
 use std::alloc::{AllocError, Global};
 use std::cell::RefCell;
 use std::time::Duration;
-use test_net::{FOUR, Hub, Wires, settings_of};
+use test_net::Hub;
 use udp_runs::{Lines, LinesError, Manner, MemberPlan, NoLines, Tally, run_member, run_udp};
 
 /// The most scripts of a file.
@@ -30,7 +31,7 @@ fn put_run(
     wires.taken = taken;
     let wires = RefCell::new(wires);
     let mut reader = script;
-    let mut hub = Hub { wires: &wires };
+    let mut hub = Hub::new(&wires);
     let status = run_udp::<ChatLog, _, _, _>(alloc, &settings, &mut hub, &mut reader, told);
     put_number(told, "status", u64::from(status.code()))
 }
@@ -63,15 +64,12 @@ fn plain() -> Manner {
 }
 
 /// Adds a status, how often its net waited, and what it told.
-fn put_end(told: &mut Vec<u8>, status: Status, wires: &RefCell<Wires>) -> Result<(), AllocError> {
+fn put_end(told: &mut Vec<u8>, status: Status, hub: &Hub<'_>) -> Result<(), AllocError> {
     put_number(told, "status", u64::from(status.code()))?;
-    match wires.try_borrow() {
-        Ok(wires) => {
-            put_number(told, "waits", wires.waits)?;
-            put_tally(told, wires.tally)
-        }
-        Err(_) => Ok(()),
+    if let Ok(wires) = hub.wires.try_borrow() {
+        put_number(told, "waits", wires.waits)?;
     }
+    put_tally(told, hub.tally)
 }
 
 /// Adds what a node told, if it did.
@@ -102,7 +100,7 @@ fn put_member(
     let mut wires = Wires::new(alloc);
     wires.taken = taken;
     let wires = RefCell::new(wires);
-    let mut hub = Hub { wires: &wires };
+    let mut hub = Hub::new(&wires);
     let status = run_member::<ChatLog, _, _, _>(
         alloc,
         &settings,
@@ -112,7 +110,7 @@ fn put_member(
         &mut hub,
         told,
     );
-    put_end(told, status, &wires)
+    put_end(told, status, &hub)
 }
 
 /// Lines that all have come.
@@ -149,12 +147,12 @@ fn put_lines(
     };
     let settings = settings_of(alloc, FOUR)?;
     let wires = RefCell::new(Wires::new(alloc));
-    let mut hub = Hub { wires: &wires };
+    let mut hub = Hub::new(&wires);
     let mut lines = Typed { rest: lines };
     let status = run_member::<ChatLog, _, _, _>(
         alloc, &settings, &plan, manner, &mut lines, &mut hub, told,
     );
-    put_end(told, status, &wires)
+    put_end(told, status, &hub)
 }
 
 /// Node 1 by itself says lines.

@@ -6,9 +6,10 @@ use address::Node;
 use application::Application;
 use chat_log::ChatLog;
 use commands::Status;
+use memory_net::settings_of;
 use std::alloc::{AllocError, Global};
 use std::time::Duration;
-use test_net::{MERGE, holds, settings_of, trace_of};
+use test_net::{MERGE, holds, trace_of};
 use udp_net::{BindError, Hosts, Net, Settings, SocketNet};
 use udp_runs::{Loopback, run_udp};
 

@@ -1,1 +1,2 @@
+pub mod CodesAgree
 pub mod SettingsOfBytes

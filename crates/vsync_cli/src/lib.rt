@@ -1,6 +1,7 @@
 //! The program `vsync`: it does what its words ask for.
 #![tactic(auto)]
 
+mod explaining;
 mod hosts;
 mod incarnations;
 mod output;
@@ -15,6 +16,7 @@ pub use commands::{
     Status, run_check, run_check_processes, run_draw, run_draw_trace, run_packets, run_script,
     run_states,
 };
+pub use explanations::{Topic, topic_of};
 pub use lock_table::LockTable;
 pub use programs::program;
 pub use replicated_map::ReplicatedMap;

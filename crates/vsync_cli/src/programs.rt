@@ -3,6 +3,7 @@ ghost use Rattle.clap.specs.Words.{kind_of};
 ghost use Rattle.vsync_cli.specs.Ends.{Does, DoesWith, EndsBy, EndsByFault};
 ghost use Rattle.vsync_words.specs.Grammar.{faults_of};
 
+use crate::explaining::explain_code;
 use crate::output::Output;
 use crate::process_texts::check_processes;
 use crate::udp_programs::{member, udp};
@@ -30,6 +31,14 @@ pub(crate) fn complain<R: Eprint>(rt: &R, what: &str, path: &str) -> Status
 {
     let _ = eprintln!(rt; "vsync: {what} {path}");
     Status::Outside
+}
+
+/// Says what is wrong with words that clap took.
+pub(crate) fn mistaken<R: Eprint>(rt: &R, what: &str) -> Status
+    ensures { result ≡ Status.Usage }
+{
+    let _ = eprintln!(rt; "error: {what}\n\nFor more information, try '--help'.");
+    Status::Usage
 }
 
 /// Ends for want of memory.
@@ -218,6 +227,7 @@ fn obey<R: Files + Input + Net + Clock + Print + Eprint + AllocGlobal>(
         Ok(Invocation::Processes(words)) => check_processes(rt, &words),
         Ok(Invocation::Udp(words)) => udp(rt, &words),
         Ok(Invocation::Member(words)) => member(rt, &words),
+        Ok(Invocation::Explain(code)) => explain_code(rt, code),
         Err(error) => explain(rt, error),
     }
 }

@@ -1,15 +1,15 @@
 //! The commands for members over datagrams, on files and sockets.
 
-ghost use Rattle.std.specs.Prelude.{◌≡◌, ◌⊎◌, Err, IfErr};
+ghost use Rattle.std.specs.Prelude.{◌≡◌, ◌⊎◌, Err, IfErr, true};
 ghost use Rattle.vsync_words.specs.declared.udp_words.MemberMistake.{MemberMistake};
 ghost use Rattle.vsync_cli.specs.Ends.{EndsBy};
-ghost use Rattle.vsync_words.specs.Plans.{contact_of, payload_of, text_of};
+ghost use Rattle.vsync_words.specs.Plans.{contact_of, keeps_two, payload_of, text_of};
 ghost use Rattle.vsync_cli.specs.Settings.{EndsWithout, GivesSettings};
 
 use crate::hosts::{PeersError, peers_in};
 use crate::incarnations::{IncarnationError, next_address};
 use crate::output::Output;
-use crate::programs::{bytes_at, failed, outside, without_memory};
+use crate::programs::{bytes_at, failed, mistaken, outside, without_memory};
 use crate::said::Appended;
 use address::{Address, Node};
 use application::Application;
@@ -135,14 +135,6 @@ fn manner_of(options: &MemberOptions<'_>) -> Manner {
         leaves: options.leave,
         speaks: options.text,
     }
-}
-
-// Says what is wrong with words that clap took.
-fn mistaken<R: Eprint>(rt: &R, what: &str) -> Status
-    ensures { result ≡ Status.Usage }
-{
-    let _ = eprintln!(rt; "error: {what}\n\nFor more information, try '--help'.");
-    Status::Usage
 }
 
 // The hosts of the options; or the status with which the program ends.
@@ -342,13 +334,14 @@ fn run_at<R: Files + Net + Clock + Print + Eprint + AllocGlobal>(
     }
 }
 
-/// Does `member`: where its words are right, reads the settings, and runs the node.
+/// Does `member`: reads the settings, and runs the node. A mistake in its words is said on the standard error, with status 2.
 pub(crate) fn member<R: Files + Net + Clock + Print + Eprint + AllocGlobal>(
     rt: &R,
     words: &MemberWords<'_>,
 ) -> Status
-    ensures { (e : MemberMistake) → (contact_of (text_of words.now.contact) ≡ Err e) ⊎ (payload_of (text_of words.now.send) ≡ Err e)
+    ensures texts { (e : MemberMistake) → (contact_of (text_of words.now.contact) ≡ Err e) ⊎ (payload_of (text_of words.now.send) ≡ Err e)
         → result ≡ Status.Usage }
+    ensures keeps { keeps_two words.now ≡ true → result ≡ Status.Usage }
 {
     let plan = match words.plan() {
         Ok(plan) => plan,

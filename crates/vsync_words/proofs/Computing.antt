@@ -12,10 +12,10 @@ use Rattle.clap.specs.declared.error.kind.ErrorKind.TheVariants.{OutOfMemory, Un
 use Rattle.clap.specs.Walk.{is_empty}
 use Rattle.clap.proofs.OnLiterals.{clap_on_literals}
 use Rattle.vsync_words.specs.declared.words.Invocation.{Invocation}
-use Rattle.vsync_words.specs.declared.words.Invocation.TheVariants.{Text as TextOf, Processes, Udp, Member}
+use Rattle.vsync_words.specs.declared.words.Invocation.TheVariants.{Text as TextOf, Processes, Udp, Member, Explain}
 use Rattle.vsync_words.specs.declared.words.TextCommand.TheVariants.{World, Chat, Packets, Check, Draw, DrawTrace, Map, Locks}
 use Rattle.vsync_words.specs.Grammar.{IsFlag, IsSaid, faults_of, is_path, is_stray, program_app, stands, stray_fault, with_long, with_packets}
-use Rattle.vsync_words.specs.Words.{IsChatOn, IsCheckOn, IsDrawOn, IsDrawTraceOn, IsLocksOn, IsMapOn, IsOrNoMemory, IsPacketsOn, IsUdpOn, IsWorldOn}
+use Rattle.vsync_words.specs.Words.{IsChatOn, IsCheckOn, IsDrawOn, IsDrawTraceOn, IsExplainOn, IsLocksOn, IsMapOn, IsOrNoMemory, IsPacketsOn, IsUdpOn, IsWorldOn}
 
 pub simple : is_simple_and_free program_app ≡ true
 unfolding clap_on_literals
@@ -160,6 +160,7 @@ said_world (Some said) long path (TextOf (Locks p)) e h = absurd (other_name sai
 said_world (Some said) long path (Processes w) e h = absurd (other_name said (codes "world") (codes "check") (name_in (codes "SCRIPT") said (codes "world") path (flag_value long) e) h.0 refl)
 said_world (Some said) long path (Udp w) e h = absurd (other_name said (codes "world") (codes "udp") (name_in (codes "SCRIPT") said (codes "world") path (flag_value long) e) h.0 refl)
 said_world (Some said) long path (Member w) e h = absurd (other_name said (codes "world") (codes "member") (name_in (codes "SCRIPT") said (codes "world") path (flag_value long) e) h.0 refl)
+said_world (Some said) long path (Explain c) e h = absurd (other_name said (codes "world") (codes "explain") (name_in (codes "SCRIPT") said (codes "world") path (flag_value long) e) h.0 refl)
 
 said_chat : (o : Option (Text × List Row)) (long : Bool) (path : Text) (i : Invocation)
     → value_in (codes "SCRIPT") o ≡ Some (codes "chat", Some path, Some (flag_value long)) → IsSomeAnd o (λ said. IsSaid said i) → IsChatOn long path i
@@ -178,6 +179,7 @@ said_chat (Some said) long path (TextOf (Locks p)) e h = absurd (other_name said
 said_chat (Some said) long path (Processes w) e h = absurd (other_name said (codes "chat") (codes "check") (name_in (codes "SCRIPT") said (codes "chat") path (flag_value long) e) h.0 refl)
 said_chat (Some said) long path (Udp w) e h = absurd (other_name said (codes "chat") (codes "udp") (name_in (codes "SCRIPT") said (codes "chat") path (flag_value long) e) h.0 refl)
 said_chat (Some said) long path (Member w) e h = absurd (other_name said (codes "chat") (codes "member") (name_in (codes "SCRIPT") said (codes "chat") path (flag_value long) e) h.0 refl)
+said_chat (Some said) long path (Explain c) e h = absurd (other_name said (codes "chat") (codes "explain") (name_in (codes "SCRIPT") said (codes "chat") path (flag_value long) e) h.0 refl)
 
 said_packets : (o : Option (Text × List Row)) (long : Bool) (path : Text) (i : Invocation)
     → value_in (codes "SCRIPT") o ≡ Some (codes "packets", Some path, Some (flag_value long)) → IsSomeAnd o (λ said. IsSaid said i) → IsPacketsOn long path i
@@ -196,6 +198,7 @@ said_packets (Some said) long path (TextOf (Locks p)) e h = absurd (other_name s
 said_packets (Some said) long path (Processes w) e h = absurd (other_name said (codes "packets") (codes "check") (name_in (codes "SCRIPT") said (codes "packets") path (flag_value long) e) h.0 refl)
 said_packets (Some said) long path (Udp w) e h = absurd (other_name said (codes "packets") (codes "udp") (name_in (codes "SCRIPT") said (codes "packets") path (flag_value long) e) h.0 refl)
 said_packets (Some said) long path (Member w) e h = absurd (other_name said (codes "packets") (codes "member") (name_in (codes "SCRIPT") said (codes "packets") path (flag_value long) e) h.0 refl)
+said_packets (Some said) long path (Explain c) e h = absurd (other_name said (codes "packets") (codes "explain") (name_in (codes "SCRIPT") said (codes "packets") path (flag_value long) e) h.0 refl)
 
 -- the subcommand `check`, with the first value of its argument and what its flags are
 abbrev pub check_in : Option (Text × List Row) → Option (Text × Option Text × Option Text × Bool)
@@ -258,6 +261,7 @@ said_check (Some said) long path (TextOf (Locks p)) e h = absurd (other_name sai
 said_check (Some said) long path (Processes w) e h = let bad : true ≡ false = sym h.2 ∙ check_stands said path (flag_value long) false e in absurd cc
 said_check (Some said) long path (Udp w) e h = absurd (other_name said (codes "check") (codes "udp") (check_name said path (flag_value long) false e) h.0 refl)
 said_check (Some said) long path (Member w) e h = absurd (other_name said (codes "check") (codes "member") (check_name said path (flag_value long) false e) h.0 refl)
+said_check (Some said) long path (Explain c) e h = absurd (other_name said (codes "check") (codes "explain") (check_name said path (flag_value long) false e) h.0 refl)
 
 -- `udp` and two paths
 abbrev words_of_udp : Text → Text → Text → List Text
@@ -333,6 +337,7 @@ said_udp (Some said) config script (TextOf (Map p)) e h = absurd (other_name sai
 said_udp (Some said) config script (TextOf (Locks p)) e h = absurd (other_name said (codes "udp") (codes "locks") (udp_name said config script e) h.0 refl)
 said_udp (Some said) config script (Processes w) e h = absurd (other_name said (codes "udp") (codes "check") (udp_name said config script e) h.0 refl)
 said_udp (Some said) config script (Member w) e h = absurd (other_name said (codes "udp") (codes "member") (udp_name said config script e) h.0 refl)
+said_udp (Some said) config script (Explain c) e h = absurd (other_name said (codes "udp") (codes "explain") (udp_name said config script e) h.0 refl)
 said_udp (Some said) config script (Udp w) e h = (
   same_path config w.config.now _ (ap (λ (o : Option (Text × Option Text × Option Text)). option_map_or (λ q. q.1) o None) e) h.1.config,
   same_path script w.script.now _ (ap (λ (o : Option (Text × Option Text × Option Text)). option_map_or (λ q. q.2) o None) e) h.1.script,
@@ -418,6 +423,7 @@ said_draw (Some said) packets path (TextOf (Locks p)) e h = absurd (other_name s
 said_draw (Some said) packets path (Processes w) e h = absurd (other_name said (codes "draw") (codes "check") (drawing_name said path (codes "false") (flag_value packets) e) h.0 refl)
 said_draw (Some said) packets path (Udp w) e h = absurd (other_name said (codes "draw") (codes "udp") (drawing_name said path (codes "false") (flag_value packets) e) h.0 refl)
 said_draw (Some said) packets path (Member w) e h = absurd (other_name said (codes "draw") (codes "member") (drawing_name said path (codes "false") (flag_value packets) e) h.0 refl)
+said_draw (Some said) packets path (Explain c) e h = absurd (other_name said (codes "draw") (codes "explain") (drawing_name said path (codes "false") (flag_value packets) e) h.0 refl)
 
 said_trace : (o : Option (Text × List Row)) (path : Text) (i : Invocation) → drawing_in o ≡ Some (codes "draw", Some path, Some (codes "true"), Some (codes "false")) → IsSomeAnd o (λ said. IsSaid said i) → IsDrawTraceOn path i
 said_trace None path i e h = absurd h
@@ -432,84 +438,117 @@ said_trace (Some said) path (TextOf (Locks p)) e h = absurd (other_name said (co
 said_trace (Some said) path (Processes w) e h = absurd (other_name said (codes "draw") (codes "check") (drawing_name said path (codes "true") (codes "false") e) h.0 refl)
 said_trace (Some said) path (Udp w) e h = absurd (other_name said (codes "draw") (codes "udp") (drawing_name said path (codes "true") (codes "false") e) h.0 refl)
 said_trace (Some said) path (Member w) e h = absurd (other_name said (codes "draw") (codes "member") (drawing_name said path (codes "true") (codes "false") e) h.0 refl)
+said_trace (Some said) path (Explain c) e h = absurd (other_name said (codes "draw") (codes "explain") (drawing_name said path (codes "true") (codes "false") e) h.0 refl)
 
--- `map` or `locks` with a path
-abbrev words_of_script : Text → Text → Text → List Text
-words_of_script subcommand name path = name ∷ subcommand ∷ path ∷ []
+-- `map`, `locks` or `explain` with its word
+abbrev words_of_one : Text → Text → Text → List Text
+words_of_one subcommand name path = name ∷ subcommand ∷ path ∷ []
 
 -- the subcommand, with the first value of its argument
-abbrev pub script_in : Option (Text × List Row) → Option (Text × Option Text)
-script_in = option_map (λ said. (said.0, first_of (codes "SCRIPT") said.1))
+abbrev pub word_in : Text → Option (Text × List Row) → Option (Text × Option Text)
+word_in argument = option_map (λ said. (said.0, first_of argument said.1))
 
--- the words pass, and are this subcommand with this path
-abbrev ReadsScript : Text → Text → Text → Type 0
-ReadsScript subcommand name path =
-    (faults_of (words_of_script subcommand name path) ≡ [])
-    × (script_in (subcommand_of program_app (words_of_script subcommand name path)) ≡ Some (subcommand, Some path))
+-- the words pass, and are this subcommand with this word as its argument
+abbrev ReadsOne : Text → Text → Text → Text → Type 0
+ReadsOne argument subcommand name path =
+    (faults_of (words_of_one subcommand name path) ≡ [])
+    × (word_in argument (subcommand_of program_app (words_of_one subcommand name path)) ≡ Some (subcommand, Some path))
 
-empty_map : (name : Text) → ReadsScript (codes "map") name []
+empty_map : (name : Text) → ReadsOne (codes "SCRIPT") (codes "map") name []
 unfolding clap_on_literals
 empty_map name = (refl, refl)
 
-dash_map : (name : Text) → ReadsScript (codes "map") name (45 ∷ [])
+dash_map : (name : Text) → ReadsOne (codes "SCRIPT") (codes "map") name (45 ∷ [])
 unfolding clap_on_literals
 dash_map name = (refl, refl)
 
-other_map : (name : Text) (x : ℕ) (xs : Text) → (x == 45) ≡ false → ReadsScript (codes "map") name (x ∷ xs)
+other_map : (name : Text) (x : ℕ) (xs : Text) → (x == 45) ≡ false → ReadsOne (codes "SCRIPT") (codes "map") name (x ∷ xs)
 unfolding clap_on_literals
 other_map name x xs e = (simp e refl, simp e refl)
 
-pub reads_map : (name path : Text) → is_path path ≡ true → ReadsScript (codes "map") name path
-reads_map name = by_first (ReadsScript (codes "map") name) (empty_map name) (dash_map name) (other_map name)
+pub reads_map : (name path : Text) → is_path path ≡ true → ReadsOne (codes "SCRIPT") (codes "map") name path
+reads_map name = by_first (ReadsOne (codes "SCRIPT") (codes "map") name) (empty_map name) (dash_map name) (other_map name)
 
-empty_locks : (name : Text) → ReadsScript (codes "locks") name []
+empty_locks : (name : Text) → ReadsOne (codes "SCRIPT") (codes "locks") name []
 unfolding clap_on_literals
 empty_locks name = (refl, refl)
 
-dash_locks : (name : Text) → ReadsScript (codes "locks") name (45 ∷ [])
+dash_locks : (name : Text) → ReadsOne (codes "SCRIPT") (codes "locks") name (45 ∷ [])
 unfolding clap_on_literals
 dash_locks name = (refl, refl)
 
-other_locks : (name : Text) (x : ℕ) (xs : Text) → (x == 45) ≡ false → ReadsScript (codes "locks") name (x ∷ xs)
+other_locks : (name : Text) (x : ℕ) (xs : Text) → (x == 45) ≡ false → ReadsOne (codes "SCRIPT") (codes "locks") name (x ∷ xs)
 unfolding clap_on_literals
 other_locks name x xs e = (simp e refl, simp e refl)
 
-pub reads_locks : (name path : Text) → is_path path ≡ true → ReadsScript (codes "locks") name path
-reads_locks name = by_first (ReadsScript (codes "locks") name) (empty_locks name) (dash_locks name) (other_locks name)
+pub reads_locks : (name path : Text) → is_path path ≡ true → ReadsOne (codes "SCRIPT") (codes "locks") name path
+reads_locks name = by_first (ReadsOne (codes "SCRIPT") (codes "locks") name) (empty_locks name) (dash_locks name) (other_locks name)
 
-script_name : (said : Text × List Row) (name path : Text) → script_in (Some said) ≡ Some (name, Some path) → said.0 ≡ name
-script_name said name path e = ap (λ (o : Option (Text × Option Text)). option_map_or (λ q. q.0) o []) e
+empty_explain : (name : Text) → ReadsOne (codes "CODE") (codes "explain") name []
+unfolding clap_on_literals
+empty_explain name = (refl, refl)
 
-script_path : (said : Text × List Row) (name path : Text) → script_in (Some said) ≡ Some (name, Some path) → first_of (codes "SCRIPT") said.1 ≡ Some path
-script_path said name path e = ap (λ (o : Option (Text × Option Text)). option_map_or (λ q. q.1) o None) e
+dash_explain : (name : Text) → ReadsOne (codes "CODE") (codes "explain") name (45 ∷ [])
+unfolding clap_on_literals
+dash_explain name = (refl, refl)
 
-said_map : (o : Option (Text × List Row)) (path : Text) (i : Invocation) → script_in o ≡ Some (codes "map", Some path) → IsSomeAnd o (λ said. IsSaid said i) → IsMapOn path i
+other_explain : (name : Text) (x : ℕ) (xs : Text) → (x == 45) ≡ false → ReadsOne (codes "CODE") (codes "explain") name (x ∷ xs)
+unfolding clap_on_literals
+other_explain name x xs e = (simp e refl, simp e refl)
+
+pub reads_explain : (name code : Text) → is_path code ≡ true → ReadsOne (codes "CODE") (codes "explain") name code
+reads_explain name = by_first (ReadsOne (codes "CODE") (codes "explain") name) (empty_explain name) (dash_explain name) (other_explain name)
+
+word_name : (argument : Text) (said : Text × List Row) (name word : Text) → word_in argument (Some said) ≡ Some (name, Some word) → said.0 ≡ name
+word_name argument said name word e = ap (λ (o : Option (Text × Option Text)). option_map_or (λ q. q.0) o []) e
+
+word_is : (argument : Text) (said : Text × List Row) (name word : Text) → word_in argument (Some said) ≡ Some (name, Some word) → first_of argument said.1 ≡ Some word
+word_is argument said name word e = ap (λ (o : Option (Text × Option Text)). option_map_or (λ q. q.1) o None) e
+
+said_map : (o : Option (Text × List Row)) (path : Text) (i : Invocation) → word_in (codes "SCRIPT") o ≡ Some (codes "map", Some path) → IsSomeAnd o (λ said. IsSaid said i) → IsMapOn path i
 said_map None path i e h = absurd h
-said_map (Some said) path (TextOf (World p)) e h = absurd (other_name said (codes "map") (codes "world") (script_name said (codes "map") path e) h.0 refl)
-said_map (Some said) path (TextOf (Chat p)) e h = absurd (other_name said (codes "map") (codes "chat") (script_name said (codes "map") path e) h.0 refl)
-said_map (Some said) path (TextOf (Packets p)) e h = absurd (other_name said (codes "map") (codes "packets") (script_name said (codes "map") path e) h.0 refl)
-said_map (Some said) path (TextOf (Check p)) e h = absurd (other_name said (codes "map") (codes "check") (script_name said (codes "map") path e) h.0 refl)
-said_map (Some said) path (TextOf (Draw p)) e h = absurd (other_name said (codes "map") (codes "draw") (script_name said (codes "map") path e) h.0 refl)
-said_map (Some said) path (TextOf (DrawTrace p)) e h = absurd (other_name said (codes "map") (codes "draw") (script_name said (codes "map") path e) h.0 refl)
-said_map (Some said) path (TextOf (Map p)) e h = same_path path p.now _ (script_path said (codes "map") path e) h.1
-said_map (Some said) path (TextOf (Locks p)) e h = absurd (other_name said (codes "map") (codes "locks") (script_name said (codes "map") path e) h.0 refl)
-said_map (Some said) path (Processes w) e h = absurd (other_name said (codes "map") (codes "check") (script_name said (codes "map") path e) h.0 refl)
-said_map (Some said) path (Udp w) e h = absurd (other_name said (codes "map") (codes "udp") (script_name said (codes "map") path e) h.0 refl)
-said_map (Some said) path (Member w) e h = absurd (other_name said (codes "map") (codes "member") (script_name said (codes "map") path e) h.0 refl)
+said_map (Some said) path (TextOf (World p)) e h = absurd (other_name said (codes "map") (codes "world") (word_name (codes "SCRIPT") said (codes "map") path e) h.0 refl)
+said_map (Some said) path (TextOf (Chat p)) e h = absurd (other_name said (codes "map") (codes "chat") (word_name (codes "SCRIPT") said (codes "map") path e) h.0 refl)
+said_map (Some said) path (TextOf (Packets p)) e h = absurd (other_name said (codes "map") (codes "packets") (word_name (codes "SCRIPT") said (codes "map") path e) h.0 refl)
+said_map (Some said) path (TextOf (Check p)) e h = absurd (other_name said (codes "map") (codes "check") (word_name (codes "SCRIPT") said (codes "map") path e) h.0 refl)
+said_map (Some said) path (TextOf (Draw p)) e h = absurd (other_name said (codes "map") (codes "draw") (word_name (codes "SCRIPT") said (codes "map") path e) h.0 refl)
+said_map (Some said) path (TextOf (DrawTrace p)) e h = absurd (other_name said (codes "map") (codes "draw") (word_name (codes "SCRIPT") said (codes "map") path e) h.0 refl)
+said_map (Some said) path (TextOf (Map p)) e h = same_path path p.now _ (word_is (codes "SCRIPT") said (codes "map") path e) h.1
+said_map (Some said) path (TextOf (Locks p)) e h = absurd (other_name said (codes "map") (codes "locks") (word_name (codes "SCRIPT") said (codes "map") path e) h.0 refl)
+said_map (Some said) path (Processes w) e h = absurd (other_name said (codes "map") (codes "check") (word_name (codes "SCRIPT") said (codes "map") path e) h.0 refl)
+said_map (Some said) path (Udp w) e h = absurd (other_name said (codes "map") (codes "udp") (word_name (codes "SCRIPT") said (codes "map") path e) h.0 refl)
+said_map (Some said) path (Member w) e h = absurd (other_name said (codes "map") (codes "member") (word_name (codes "SCRIPT") said (codes "map") path e) h.0 refl)
+said_map (Some said) path (Explain c) e h = absurd (other_name said (codes "map") (codes "explain") (word_name (codes "SCRIPT") said (codes "map") path e) h.0 refl)
 
-said_locks : (o : Option (Text × List Row)) (path : Text) (i : Invocation) → script_in o ≡ Some (codes "locks", Some path) → IsSomeAnd o (λ said. IsSaid said i) → IsLocksOn path i
+said_locks : (o : Option (Text × List Row)) (path : Text) (i : Invocation) → word_in (codes "SCRIPT") o ≡ Some (codes "locks", Some path) → IsSomeAnd o (λ said. IsSaid said i) → IsLocksOn path i
 said_locks None path i e h = absurd h
-said_locks (Some said) path (TextOf (World p)) e h = absurd (other_name said (codes "locks") (codes "world") (script_name said (codes "locks") path e) h.0 refl)
-said_locks (Some said) path (TextOf (Chat p)) e h = absurd (other_name said (codes "locks") (codes "chat") (script_name said (codes "locks") path e) h.0 refl)
-said_locks (Some said) path (TextOf (Packets p)) e h = absurd (other_name said (codes "locks") (codes "packets") (script_name said (codes "locks") path e) h.0 refl)
-said_locks (Some said) path (TextOf (Check p)) e h = absurd (other_name said (codes "locks") (codes "check") (script_name said (codes "locks") path e) h.0 refl)
-said_locks (Some said) path (TextOf (Draw p)) e h = absurd (other_name said (codes "locks") (codes "draw") (script_name said (codes "locks") path e) h.0 refl)
-said_locks (Some said) path (TextOf (DrawTrace p)) e h = absurd (other_name said (codes "locks") (codes "draw") (script_name said (codes "locks") path e) h.0 refl)
-said_locks (Some said) path (TextOf (Map p)) e h = absurd (other_name said (codes "locks") (codes "map") (script_name said (codes "locks") path e) h.0 refl)
-said_locks (Some said) path (TextOf (Locks p)) e h = same_path path p.now _ (script_path said (codes "locks") path e) h.1
-said_locks (Some said) path (Processes w) e h = absurd (other_name said (codes "locks") (codes "check") (script_name said (codes "locks") path e) h.0 refl)
-said_locks (Some said) path (Udp w) e h = absurd (other_name said (codes "locks") (codes "udp") (script_name said (codes "locks") path e) h.0 refl)
-said_locks (Some said) path (Member w) e h = absurd (other_name said (codes "locks") (codes "member") (script_name said (codes "locks") path e) h.0 refl)
+said_locks (Some said) path (TextOf (World p)) e h = absurd (other_name said (codes "locks") (codes "world") (word_name (codes "SCRIPT") said (codes "locks") path e) h.0 refl)
+said_locks (Some said) path (TextOf (Chat p)) e h = absurd (other_name said (codes "locks") (codes "chat") (word_name (codes "SCRIPT") said (codes "locks") path e) h.0 refl)
+said_locks (Some said) path (TextOf (Packets p)) e h = absurd (other_name said (codes "locks") (codes "packets") (word_name (codes "SCRIPT") said (codes "locks") path e) h.0 refl)
+said_locks (Some said) path (TextOf (Check p)) e h = absurd (other_name said (codes "locks") (codes "check") (word_name (codes "SCRIPT") said (codes "locks") path e) h.0 refl)
+said_locks (Some said) path (TextOf (Draw p)) e h = absurd (other_name said (codes "locks") (codes "draw") (word_name (codes "SCRIPT") said (codes "locks") path e) h.0 refl)
+said_locks (Some said) path (TextOf (DrawTrace p)) e h = absurd (other_name said (codes "locks") (codes "draw") (word_name (codes "SCRIPT") said (codes "locks") path e) h.0 refl)
+said_locks (Some said) path (TextOf (Map p)) e h = absurd (other_name said (codes "locks") (codes "map") (word_name (codes "SCRIPT") said (codes "locks") path e) h.0 refl)
+said_locks (Some said) path (TextOf (Locks p)) e h = same_path path p.now _ (word_is (codes "SCRIPT") said (codes "locks") path e) h.1
+said_locks (Some said) path (Processes w) e h = absurd (other_name said (codes "locks") (codes "check") (word_name (codes "SCRIPT") said (codes "locks") path e) h.0 refl)
+said_locks (Some said) path (Udp w) e h = absurd (other_name said (codes "locks") (codes "udp") (word_name (codes "SCRIPT") said (codes "locks") path e) h.0 refl)
+said_locks (Some said) path (Member w) e h = absurd (other_name said (codes "locks") (codes "member") (word_name (codes "SCRIPT") said (codes "locks") path e) h.0 refl)
+said_locks (Some said) path (Explain c) e h = absurd (other_name said (codes "locks") (codes "explain") (word_name (codes "SCRIPT") said (codes "locks") path e) h.0 refl)
+
+said_explain : (o : Option (Text × List Row)) (code : Text) (i : Invocation) → word_in (codes "CODE") o ≡ Some (codes "explain", Some code) → IsSomeAnd o (λ said. IsSaid said i) → IsExplainOn code i
+said_explain None code i e h = absurd h
+said_explain (Some said) code (TextOf (World p)) e h = absurd (other_name said (codes "explain") (codes "world") (word_name (codes "CODE") said (codes "explain") code e) h.0 refl)
+said_explain (Some said) code (TextOf (Chat p)) e h = absurd (other_name said (codes "explain") (codes "chat") (word_name (codes "CODE") said (codes "explain") code e) h.0 refl)
+said_explain (Some said) code (TextOf (Packets p)) e h = absurd (other_name said (codes "explain") (codes "packets") (word_name (codes "CODE") said (codes "explain") code e) h.0 refl)
+said_explain (Some said) code (TextOf (Check p)) e h = absurd (other_name said (codes "explain") (codes "check") (word_name (codes "CODE") said (codes "explain") code e) h.0 refl)
+said_explain (Some said) code (TextOf (Draw p)) e h = absurd (other_name said (codes "explain") (codes "draw") (word_name (codes "CODE") said (codes "explain") code e) h.0 refl)
+said_explain (Some said) code (TextOf (DrawTrace p)) e h = absurd (other_name said (codes "explain") (codes "draw") (word_name (codes "CODE") said (codes "explain") code e) h.0 refl)
+said_explain (Some said) code (TextOf (Map p)) e h = absurd (other_name said (codes "explain") (codes "map") (word_name (codes "CODE") said (codes "explain") code e) h.0 refl)
+said_explain (Some said) code (TextOf (Locks p)) e h = absurd (other_name said (codes "explain") (codes "locks") (word_name (codes "CODE") said (codes "explain") code e) h.0 refl)
+said_explain (Some said) code (Processes w) e h = absurd (other_name said (codes "explain") (codes "check") (word_name (codes "CODE") said (codes "explain") code e) h.0 refl)
+said_explain (Some said) code (Udp w) e h = absurd (other_name said (codes "explain") (codes "udp") (word_name (codes "CODE") said (codes "explain") code e) h.0 refl)
+said_explain (Some said) code (Member w) e h = absurd (other_name said (codes "explain") (codes "member") (word_name (codes "CODE") said (codes "explain") code e) h.0 refl)
+said_explain (Some said) code (Explain c) e h = same_path code c.now _ (word_is (codes "CODE") said (codes "explain") code e) h.1
 
 -- clap's errors, and those of a trace that nothing reads, are errors of the words
 pub by_clap : (kinds more : Kinds) (e : Error) → HasKind kinds e → HasKind (or_else kinds more) e
@@ -582,13 +621,19 @@ trace_or_no_memory r o kinds path none value is fails =
     is_or_no_memory (IsDrawTraceOn path) r kinds none (IfOk-weaker r _ _ (λ i said. said_trace o path i value said) is) fails
 
 pub map_or_no_memory : (r : Result Invocation Error) (o : Option (Text × List Row)) (kinds : Kinds) (path : Text) → kinds ≡ []
-    → script_in o ≡ Some (codes "map", Some path) → IfOk r (λ i. IsSomeAnd o (λ said. IsSaid said i)) → FailsBy kinds r
+    → word_in (codes "SCRIPT") o ≡ Some (codes "map", Some path) → IfOk r (λ i. IsSomeAnd o (λ said. IsSaid said i)) → FailsBy kinds r
     → IsOrNoMemory (IsMapOn path) r
 map_or_no_memory r o kinds path none value is fails =
     is_or_no_memory (IsMapOn path) r kinds none (IfOk-weaker r _ _ (λ i said. said_map o path i value said) is) fails
 
 pub locks_or_no_memory : (r : Result Invocation Error) (o : Option (Text × List Row)) (kinds : Kinds) (path : Text) → kinds ≡ []
-    → script_in o ≡ Some (codes "locks", Some path) → IfOk r (λ i. IsSomeAnd o (λ said. IsSaid said i)) → FailsBy kinds r
+    → word_in (codes "SCRIPT") o ≡ Some (codes "locks", Some path) → IfOk r (λ i. IsSomeAnd o (λ said. IsSaid said i)) → FailsBy kinds r
     → IsOrNoMemory (IsLocksOn path) r
 locks_or_no_memory r o kinds path none value is fails =
     is_or_no_memory (IsLocksOn path) r kinds none (IfOk-weaker r _ _ (λ i said. said_locks o path i value said) is) fails
+
+pub explain_or_no_memory : (r : Result Invocation Error) (o : Option (Text × List Row)) (kinds : Kinds) (code : Text) → kinds ≡ []
+    → word_in (codes "CODE") o ≡ Some (codes "explain", Some code) → IfOk r (λ i. IsSomeAnd o (λ said. IsSaid said i)) → FailsBy kinds r
+    → IsOrNoMemory (IsExplainOn code) r
+explain_or_no_memory r o kinds code none value is fails =
+    is_or_no_memory (IsExplainOn code) r kinds none (IfOk-weaker r _ _ (λ i said. said_explain o code i value said) is) fails

@@ -18,7 +18,7 @@ use Rattle.clap.proofs.OnLiterals.{clap_on_literals}
 use Rattle.vsync_words.specs.Grammar.{IsSaid, faults_of, is_path, program_app, stands, stray_fault, with_long, with_processes}
 use Rattle.vsync_words.specs.Words.{AreProcessesOn, IsOrNoMemory}
 use Rattle.vsync_words.specs.declared.words.Invocation.{Invocation}
-use Rattle.vsync_words.specs.declared.words.Invocation.TheVariants.{Text as TextOf, Processes, Udp, Member}
+use Rattle.vsync_words.specs.declared.words.Invocation.TheVariants.{Text as TextOf, Processes, Udp, Member, Explain}
 use Rattle.vsync_words.specs.declared.words.TextCommand.TheVariants.{World, Chat, Packets, Check, Draw, DrawTrace, Map, Locks}
 use Rattle.vsync_words.proofs.Computing.{by_first, flag_value, is_or_no_memory, other_name, same_flag}
 
@@ -279,6 +279,7 @@ said_processes (Some said) long paths (Processes w) e h = (
 )
 said_processes (Some said) long paths (Udp w) e h = absurd (other_name said (codes "check") (codes "udp") (several_name said long paths e) h.0 refl)
 said_processes (Some said) long paths (Member w) e h = absurd (other_name said (codes "check") (codes "member") (several_name said long paths e) h.0 refl)
+said_processes (Some said) long paths (Explain c) e h = absurd (other_name said (codes "check") (codes "explain") (several_name said long paths e) h.0 refl)
 
 pub processes_or_no_memory : (r : Result Invocation Error) (o : Option (Text × List Row)) (kinds : Kinds) (long : Bool) (paths : List Text) → kinds ≡ []
     → processes_in o ≡ Some (codes "check", Some paths, Some (flag_value long), true) → IfOk r (λ i. IsSomeAnd o (λ said. IsSaid said i)) → FailsBy kinds r

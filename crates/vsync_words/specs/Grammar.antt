@@ -20,7 +20,7 @@ use Rattle.vsync_words.specs.declared.udp_words.MemberWords.{MemberWords}
 use Rattle.vsync_words.specs.declared.member_options.MemberOptions.{MemberOptions}
 use Rattle.vsync_words.specs.declared.member_options.TheConstants.{MOST_TICK, MOST_MERGE}
 use Rattle.vsync_words.specs.declared.words.Invocation.{Invocation}
-use Rattle.vsync_words.specs.declared.words.Invocation.TheVariants.{Text as TextOf, Processes, Udp, Member}
+use Rattle.vsync_words.specs.declared.words.Invocation.TheVariants.{Text as TextOf, Processes, Udp, Member, Explain}
 use Rattle.vsync_words.specs.declared.words.TextWords.{TextWords}
 use Rattle.vsync_words.specs.declared.words.TextCommand.{TextCommand}
 use Rattle.vsync_words.specs.declared.words.TextCommand.TheVariants.{World, Chat, Packets, Check, Draw, DrawTrace, Map, Locks}
@@ -125,9 +125,13 @@ options_app app = flags_app (hosts_app (files_app (times_app app)))
 abbrev pub member_app : App
 member_app = options_app member_talk_app
 
--- `vsync world [--long] SCRIPT`, `vsync chat [--long] SCRIPT`, `vsync packets [--long] SCRIPT`, `vsync check [--long] [--processes] TRACE..`, `vsync draw [--trace] [--packets] INPUT`, `vsync map SCRIPT`, `vsync locks SCRIPT`, `vsync udp CONFIG SCRIPT` and `vsync member ..`
+-- `explain CODE`
+abbrev pub explain_app : App
+explain_app = with_rule (new_app (codes "explain")) (required_rule (codes "CODE"))
+
+-- `vsync world [--long] SCRIPT`, `vsync chat [--long] SCRIPT`, `vsync packets [--long] SCRIPT`, `vsync check [--long] [--processes] TRACE..`, `vsync draw [--trace] [--packets] INPUT`, `vsync map SCRIPT`, `vsync locks SCRIPT`, `vsync udp CONFIG SCRIPT`, `vsync member ..` and `vsync explain CODE`
 abbrev pub program_app : App
-program_app = with_subcommand (with_subcommand (with_subcommand (with_subcommand (with_subcommand (with_subcommand (with_subcommand (with_subcommand (with_subcommand (program_of_subcommands (codes "vsync"))
+program_app = with_subcommand (with_subcommand (with_subcommand (with_subcommand (with_subcommand (with_subcommand (with_subcommand (with_subcommand (with_subcommand (with_subcommand (program_of_subcommands (codes "vsync"))
     (path_app (codes "world") (codes "SCRIPT")).top)
     (path_app (codes "chat") (codes "SCRIPT")).top)
     (path_app (codes "packets") (codes "SCRIPT")).top)
@@ -136,7 +140,8 @@ program_app = with_subcommand (with_subcommand (with_subcommand (with_subcommand
     (script_app (codes "map")).top)
     (script_app (codes "locks")).top)
     udp_app.top)
-    member_app.top
+    member_app.top)
+    explain_app.top
 
 -- the words of `udp` are the first values of its arguments
 pub record AreUdpWords (rows : List Row) (words : UdpWords) : Type 0 where
@@ -227,6 +232,7 @@ IsSaid said (TextOf command) = IsTextSaid said command
 IsSaid said (Processes words) = (said.0 ≡ codes "check") × AreProcessesWords said.1 words × (stands (codes "processes") said.1 ≡ true)
 IsSaid said (Udp words) = (said.0 ≡ codes "udp") × AreUdpWords said.1 words
 IsSaid said (Member words) = (said.0 ≡ codes "member") × AreMemberWords said.1 words
+IsSaid said (Explain code) = (said.0 ≡ codes "explain") × (first_of (codes "CODE") said.1 ≡ Some code.now)
 
 -- `check` has several traces, and no `--processes`: nothing reads the second
 abbrev pub has_stray_trace : List Row → Bool

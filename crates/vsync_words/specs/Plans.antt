@@ -1,5 +1,5 @@
 -- What a node does by the words of `member`, and what is wrong with them.
-use Rattle.std.specs.Prelude.{◌≡◌, ℕ, List, Option, None, Some, Result, Ok, Err, length, nat_lt, option_map, is_ok, true, if◌then◌else◌}
+use Rattle.std.specs.Prelude.{◌≡◌, ℕ, List, Option, None, Some, Result, Ok, Err, length, nat_lt, option_map, is_ok, true, false, Bool, ◌&&◌, if◌then◌else◌}
 use Rattle.std.specs.Borrow.{Bor}
 use Rattle.address.specs.Ids.{Address}
 use Rattle.limits.specs.declared.TheConstants.{PAYLOAD}
@@ -7,7 +7,7 @@ use Rattle.script_reader.specs.AddressText.{address_of_text}
 use Rattle.script_reader.specs.declared.member_plan.MemberPlan.{MemberPlan}
 use Rattle.vsync_words.specs.declared.udp_words.MemberWords.{MemberWords}
 use Rattle.vsync_words.specs.declared.udp_words.MemberMistake.{MemberMistake}
-use Rattle.vsync_words.specs.declared.udp_words.MemberMistake.TheVariants.{NoAddress, LongText}
+use Rattle.vsync_words.specs.declared.udp_words.MemberMistake.TheVariants.{NoAddress, LongText, MapAndLocks}
 
 -- the text that stands there, if one does
 abbrev pub text_of : Option (Bor (List ℕ)) → Option (List ℕ)
@@ -28,14 +28,20 @@ abbrev pub payload_of : Option (List ℕ) → Result (Option (List ℕ)) MemberM
 payload_of None = Ok None
 payload_of (Some text) = if nat_lt PAYLOAD (length text) then Err LongText else Ok (Some text)
 
--- the node does what the words say: it has their address and rounds, ADDR's address as its contact, and TEXT as what it sends
+-- the member would keep a map and locks
+abbrev pub keeps_two : MemberWords → Bool
+keeps_two words = words.options.map && words.options.locks
+
+-- the node does what the words say: it has their address and rounds, ADDR's address as its contact, TEXT as what it sends, and keeps one kind of state
 pub record IsPlan (words : MemberWords) (plan : MemberPlan) : Type 0 where
   pub address : plan.address ≡ words.address
   pub rounds : plan.rounds ≡ words.rounds
   pub contact : contact_of (text_of words.contact) ≡ Ok plan.contact
   pub send : payload_of (text_of words.send) ≡ Ok (text_of plan.send)
+  pub keeps : keeps_two words ≡ false
 
--- this is wrong with the words: ADDR is no address; or it is none or an address, and TEXT is too long
+-- this is wrong with the words, and nothing before it: ADDR is no address; TEXT is too long; the member would keep a map and locks
 abbrev pub IsMistaken : MemberWords → MemberMistake → Type 0
 IsMistaken words NoAddress = contact_of (text_of words.contact) ≡ Err NoAddress
 IsMistaken words LongText = (is_ok (contact_of (text_of words.contact)) ≡ true) × (payload_of (text_of words.send) ≡ Err LongText)
+IsMistaken words MapAndLocks = (is_ok (contact_of (text_of words.contact)) ≡ true) × (is_ok (payload_of (text_of words.send)) ≡ true) × (keeps_two words ≡ true)

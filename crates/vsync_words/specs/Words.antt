@@ -4,7 +4,7 @@ use Rattle.clap.specs.Words.{kind_of}
 use Rattle.clap.specs.declared.error.Error.{Error}
 use Rattle.clap.specs.declared.error.kind.ErrorKind.TheVariants.{OutOfMemory}
 use Rattle.vsync_words.specs.declared.words.Invocation.{Invocation}
-use Rattle.vsync_words.specs.declared.words.Invocation.TheVariants.{Text, Processes, Udp, Member}
+use Rattle.vsync_words.specs.declared.words.Invocation.TheVariants.{Text, Processes, Udp, Member, Explain}
 use Rattle.vsync_words.specs.declared.words.Kept.{Kept}
 use Rattle.vsync_words.specs.declared.words.Kept.TheVariants as kept
 use Rattle.vsync_words.specs.declared.words.TextWords.{TextWords}
@@ -28,6 +28,7 @@ IsWorldOn long path (Text (Locks input)) = ⊥
 IsWorldOn long path (Processes words) = ⊥
 IsWorldOn long path (Udp words) = ⊥
 IsWorldOn long path (Member words) = ⊥
+IsWorldOn long path (Explain code) = ⊥
 
 -- the script of this path is run, and the chats are printed
 abbrev pub IsChatOn : Bool → List ℕ → Invocation → Type 0
@@ -42,6 +43,7 @@ IsChatOn long path (Text (Locks input)) = ⊥
 IsChatOn long path (Processes words) = ⊥
 IsChatOn long path (Udp words) = ⊥
 IsChatOn long path (Member words) = ⊥
+IsChatOn long path (Explain code) = ⊥
 
 -- the script of this path is run, and the packets are printed
 abbrev pub IsPacketsOn : Bool → List ℕ → Invocation → Type 0
@@ -56,6 +58,7 @@ IsPacketsOn long path (Text (Locks input)) = ⊥
 IsPacketsOn long path (Processes words) = ⊥
 IsPacketsOn long path (Udp words) = ⊥
 IsPacketsOn long path (Member words) = ⊥
+IsPacketsOn long path (Explain code) = ⊥
 
 -- the trace of this path is checked
 abbrev pub IsCheckOn : Bool → List ℕ → Invocation → Type 0
@@ -70,6 +73,7 @@ IsCheckOn long path (Text (Locks input)) = ⊥
 IsCheckOn long path (Processes words) = ⊥
 IsCheckOn long path (Udp words) = ⊥
 IsCheckOn long path (Member words) = ⊥
+IsCheckOn long path (Explain code) = ⊥
 
 -- the script of this path is run, and a picture of it is drawn, with its packets or without
 abbrev pub IsDrawOn : Bool → List ℕ → Invocation → Type 0
@@ -84,6 +88,7 @@ IsDrawOn packets path (Text (Locks input)) = ⊥
 IsDrawOn packets path (Processes words) = ⊥
 IsDrawOn packets path (Udp words) = ⊥
 IsDrawOn packets path (Member words) = ⊥
+IsDrawOn packets path (Explain code) = ⊥
 
 -- a picture of the trace of this path is drawn
 abbrev pub IsDrawTraceOn : List ℕ → Invocation → Type 0
@@ -98,6 +103,7 @@ IsDrawTraceOn path (Text (Locks input)) = ⊥
 IsDrawTraceOn path (Processes words) = ⊥
 IsDrawTraceOn path (Udp words) = ⊥
 IsDrawTraceOn path (Member words) = ⊥
+IsDrawTraceOn path (Explain code) = ⊥
 
 -- the script of this path is run, and the maps are printed
 abbrev pub IsMapOn : List ℕ → Invocation → Type 0
@@ -112,6 +118,7 @@ IsMapOn path (Text (Locks input)) = ⊥
 IsMapOn path (Processes words) = ⊥
 IsMapOn path (Udp words) = ⊥
 IsMapOn path (Member words) = ⊥
+IsMapOn path (Explain code) = ⊥
 
 -- the script of this path is run, and the tables of locks are printed
 abbrev pub IsLocksOn : List ℕ → Invocation → Type 0
@@ -126,6 +133,7 @@ IsLocksOn path (Text (Locks input)) = input.now ≡ path
 IsLocksOn path (Processes words) = ⊥
 IsLocksOn path (Udp words) = ⊥
 IsLocksOn path (Member words) = ⊥
+IsLocksOn path (Explain code) = ⊥
 
 -- the texts of several processes, of these paths in their order, are checked
 abbrev pub AreProcessesOn : Bool → List (List ℕ) → Invocation → Type 0
@@ -133,6 +141,7 @@ AreProcessesOn long paths (Text command) = ⊥
 AreProcessesOn long paths (Processes words) = (map (λ s. s.now) words.paths.items ≡ paths) × (words.long ≡ long)
 AreProcessesOn long paths (Udp words) = ⊥
 AreProcessesOn long paths (Member words) = ⊥
+AreProcessesOn long paths (Explain code) = ⊥
 
 -- nodes run over datagrams by the settings and the script of these paths
 abbrev pub IsUdpOn : List ℕ → List ℕ → Invocation → Type 0
@@ -140,6 +149,15 @@ IsUdpOn config script (Text command) = ⊥
 IsUdpOn config script (Processes words) = ⊥
 IsUdpOn config script (Udp words) = (words.config.now ≡ config) × (words.script.now ≡ script)
 IsUdpOn config script (Member words) = ⊥
+IsUdpOn config script (Explain code) = ⊥
+
+-- what this code means is printed
+abbrev pub IsExplainOn : List ℕ → Invocation → Type 0
+IsExplainOn code (Text command) = ⊥
+IsExplainOn code (Processes words) = ⊥
+IsExplainOn code (Udp words) = ⊥
+IsExplainOn code (Member words) = ⊥
+IsExplainOn code (Explain asked) = asked.now ≡ code
 
 -- a script from the standard input is run
 abbrev pub RunsStandardInput : Invocation → Type 0

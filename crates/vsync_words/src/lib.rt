@@ -2,6 +2,7 @@
 #![tactic(auto)]
 
 mod check_words;
+mod explain_words;
 mod member_options;
 mod udp_words;
 mod words;

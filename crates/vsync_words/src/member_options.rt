@@ -49,7 +49,7 @@ pub struct MemberOptions<'a> {
 }
 
 impl MemberOptions<'_> {
-    /// What it keeps: the table of locks, the map, the long chat, the first of these whose flag stands, and the chat where none does.
+    /// What it keeps: the first of the table of locks, the map and the long chat whose flag is there, else the chat. `MemberWords::plan` refuses a map beside locks.
     pub fn kept(&self) -> Kept
         ensures { result ≡ kept_by self.now.locks self.now.map self.now.long }
     {
@@ -211,12 +211,12 @@ fn with_flags<'a>(
         .arg(flag(
             alloc,
             "map",
-            "It keeps a map; all of the group must. TEXT and the lines of --say are put KEY VALUE, remove KEY, replace KEY OLD NEW or clear",
+            "It keeps a map, and no locks; all of the group must. TEXT and the lines of --say are put KEY VALUE, remove KEY, replace KEY OLD NEW or clear",
         ))?
         .arg(flag(
             alloc,
             "locks",
-            "It keeps a table of locks; all of the group must. TEXT and the lines of --say are acquire NAME or release NAME",
+            "It keeps a table of locks, and no map; all of the group must. TEXT and the lines of --say are acquire NAME or release NAME",
         ))
 }
 

@@ -51,15 +51,21 @@ pub enum MemberMistake {
     /// TEXT has more than `PAYLOAD` bytes (`limits`).
     #[error("invalid value for '--send <TEXT>': it has more than {limit} bytes", limit = PAYLOAD)]
     LongText,
+    /// `--map` and `--locks` both stand there: a member keeps one of them.
+    #[error("the argument '--map' cannot be used with '--locks'")]
+    MapAndLocks,
 }
 
 impl<'a> MemberWords<'a> {
-    /// What the node does: refused where ADDR is no address, and then where TEXT is too long.
+    /// What the node does. It is refused if ADDR is no address; else if TEXT is too long; else if the member would keep a map and locks.
     pub fn plan(&self) -> Result<MemberPlan<'a>, MemberMistake>
         ensures { MatchResult result (IsPlan self.now) (IsMistaken self.now) }
     {
         let contact = contact_in(self.contact)?;
         let send = payload_in(self.send)?;
+        if self.options.map && self.options.locks {
+            return Err(MemberMistake::MapAndLocks);
+        }
         Ok(MemberPlan {
             address: self.address,
             rounds: self.rounds,

@@ -2,10 +2,11 @@ ghost use Rattle.std.specs.Prelude.{◌≡◌, ◌≤◌, ◌<◌, ◌∷◌, []
 ghost use Rattle.std.specs.List.{list_all};
 ghost use Rattle.std.specs.Option.{option_map_or};
 ghost use Rattle.clap.specs.Words.{app_of, first_of, found_of, rows_of, subcommand_of, subcommand_rows_of, FailsBy, Text};
-ghost use Rattle.vsync_words.specs.Words.{input_of, is_long, kept_of, IsWorldOn, IsChatOn, IsPacketsOn, IsCheckOn, IsDrawOn, IsDrawTraceOn, IsMapOn, IsLocksOn, IsUdpOn, IsOrNoMemory, AreProcessesOn, RunsStandardInput};
+ghost use Rattle.vsync_words.specs.Words.{input_of, is_long, kept_of, IsWorldOn, IsChatOn, IsPacketsOn, IsCheckOn, IsDrawOn, IsDrawTraceOn, IsMapOn, IsLocksOn, IsUdpOn, IsExplainOn, IsOrNoMemory, AreProcessesOn, RunsStandardInput};
 ghost use Rattle.vsync_words.specs.Grammar.{is_path, with_long, with_packets, with_processes, draw_app, faults_of, flag_rule, is_stray, required_rule, program_app, program_of_subcommands, path_app, script_app, AddsCommand, AreTextWords, IsArg, IsCommand, IsDrawSaid, IsSaid, IsTextSaid};
 
 use crate::check_words::{ProcessesWords, check_words, stray_trace, unexpected_trace, with_check};
+use crate::explain_words::with_explain;
 use crate::udp_words::{
     MemberWords, UdpWords, member_words, required, udp_words, with_member, with_udp,
 };
@@ -127,6 +128,8 @@ pub enum Invocation<'a> {
     Udp(UdpWords<'a>),
     /// `member CONFIG NODE INCARNATION ROUNDS`: one node runs over datagrams by itself.
     Member(MemberWords<'a>),
+    /// `explain CODE`: the program prints what this code means, the number of a refusal or a word of `check`.
+    Explain(&'a str),
 }
 
 /// The flag `--long`.
@@ -350,7 +353,8 @@ fn grammar<'a>(alloc: Global) -> Result<clap::Command<'a>, AllocError>
     let program = with_map(alloc, program)?;
     let program = with_locks(alloc, program)?;
     let program = with_udp(alloc, program)?;
-    with_member(alloc, program)
+    let program = with_member(alloc, program)?;
+    with_explain(alloc, program)
 }
 
 /// The words of a subcommand with `--long` and this argument.
@@ -375,12 +379,12 @@ fn draw_words<'a>(matches: &ArgMatches<'a>) -> Option<TextCommand<'a>>
     }
 }
 
-// The path of the script of `map` and `locks`.
-fn script_path<'a>(matches: &ArgMatches<'a>) -> Option<&'a str>
-    ensures { IfSome result (λ path. first_of (codes "SCRIPT") (rows_of (found_of matches.now)) ≡ Some path.now) }
+// The word of a subcommand whose only argument this is.
+fn only_word<'a>(matches: &ArgMatches<'a>, argument: &str) -> Option<&'a str>
+    ensures { IfSome result (λ word. first_of argument.now (rows_of (found_of matches.now)) ≡ Some word.now) }
 {
-    let path = matches.get_str("SCRIPT")?;
-    Some(path)
+    let word = matches.get_str(argument)?;
+    Some(word)
 }
 
 /// The command over a text that a subcommand's matches name.
@@ -400,10 +404,10 @@ fn text_command<'a>(name: &str, matches: &ArgMatches<'a>) -> Option<TextCommand<
         return draw_words(matches);
     }
     if name == "map" {
-        return Some(TextCommand::Map(script_path(matches)?));
+        return Some(TextCommand::Map(only_word(matches, "SCRIPT")?));
     }
     if name == "locks" {
-        return Some(TextCommand::Locks(script_path(matches)?));
+        return Some(TextCommand::Locks(only_word(matches, "SCRIPT")?));
     }
     None
 }
@@ -423,6 +427,9 @@ fn named<'a>(alloc: Global, name: &str, matches: &ArgMatches<'a>) -> Option<Invo
             Some(words) => Some(Invocation::Member(words)),
             None => None,
         };
+    }
+    if name == "explain" {
+        return Some(Invocation::Explain(only_word(matches, "CODE")?));
     }
     Some(Invocation::Text(text_command(name, matches)?))
 }
@@ -463,8 +470,8 @@ fn parsed<'a>(alloc: Global, words: &'a [String]) -> Result<Invocation<'a>, Erro
 }
 
 /// The command that the words of a command line ask for, the program's name first: `world [--long] SCRIPT`, `chat [--long] SCRIPT`,
-/// `packets [--long] SCRIPT`, `check [--long] TRACE`, `check [--long] --processes FILE..`, `draw [--packets] SCRIPT`, `draw --trace TRACE`, `map SCRIPT`, `locks SCRIPT`, `udp CONFIG SCRIPT` or
-/// `member CONFIG NODE INCARNATION ROUNDS` with its options.
+/// `packets [--long] SCRIPT`, `check [--long] TRACE`, `check [--long] --processes FILE..`, `draw [--packets] SCRIPT`, `draw --trace TRACE`, `map SCRIPT`, `locks SCRIPT`, `udp CONFIG SCRIPT`,
+/// `member CONFIG NODE INCARNATION ROUNDS` with its options, or `explain CODE`.
 /// No words after the name are `world -`. A path that begins with `-` and is more than that stands behind `--`.
 ///
 /// Words that are no command give clap's error, whose text says what is wrong (`error.kind()` says which kind of
@@ -506,6 +513,9 @@ pub fn command<'a>(alloc: Global, words: &'a [String]) -> Result<Invocation<'a>,
     ensures udp { (name config script : Text) → is_path config ≡ true → is_path script ≡ true
         → map string_bytes words.now ≡ name ∷ codes "udp" ∷ config ∷ script ∷ []
         → IsOrNoMemory (IsUdpOn config script) result }
+    ensures explain { (name code : Text) → is_path code ≡ true
+        → map string_bytes words.now ≡ name ∷ codes "explain" ∷ code ∷ []
+        → IsOrNoMemory (IsExplainOn code) result }
 {
     if words.len() <= 1 {
         return Ok(Invocation::Text(TextCommand::World(TextWords {

@@ -213,9 +213,9 @@ fn a_number_out_of_range_is_a_usage_fault(rt: HostRuntime) {
     }
 }
 
-/// What is wrong with an option of `member` that clap takes.
-fn mistake<'x>(alloc: Global, option: &'x str, value: &'x str) -> Option<MemberMistake> {
-    let line = ["vsync", "member", "a.toml", "1", "1", "1", option, value];
+/// What is wrong with two words behind the numbers of `member` that clap takes; `None` if nothing is.
+fn mistake<'x>(alloc: Global, first: &'x str, second: &'x str) -> Option<MemberMistake> {
+    let line = ["vsync", "member", "a.toml", "1", "1", "1", first, second];
     let words = words_of(alloc, &line).ok()?;
     match command(alloc, words.as_slice()) {
         Ok(Invocation::Member(member)) => match member.plan() {
@@ -256,4 +256,18 @@ fn a_text_has_at_most_512_bytes(rt: HostRuntime) {
         mistake(alloc, "--send", longer) == Some(MemberMistake::LongText),
         "513"
     );
+}
+
+#[test]
+fn a_member_keeps_no_map_beside_locks(rt: HostRuntime) {
+    let alloc = rt.alloc();
+    for (first, second, want) in [
+        ("--map", "--locks", Some(MemberMistake::MapAndLocks)),
+        ("--locks", "--map", Some(MemberMistake::MapAndLocks)),
+        ("--map", "--text", None),
+        ("--locks", "--text", None),
+    ] {
+        let got = mistake(alloc, first, second);
+        assert!(rt; got == want, "{first} {second}");
+    }
 }

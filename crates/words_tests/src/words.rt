@@ -290,6 +290,35 @@ fn check_takes_one_trace_alone(rt: HostRuntime) {
     );
 }
 
+/// The code that the words ask to explain; `None` if they ask for something else.
+fn code_asked(alloc: Global, line: &[&str]) -> Option<String> {
+    let words = words_of(alloc, line).ok()?;
+    match command(alloc, words.as_slice()) {
+        Ok(Invocation::Explain(code)) => String::from_str(alloc, code).ok(),
+        _ => None,
+    }
+}
+
+#[test]
+fn explain_takes_one_code(rt: HostRuntime) {
+    let alloc = rt.alloc();
+    for code in ["41", "D9", "unordered", "99"] {
+        let asked = code_asked(alloc, &["vsync", "explain", code]);
+        assert!(rt;
+            asked.is_some_and(|asked| asked.as_str() == code),
+            "explain {code}"
+        );
+    }
+    assert!(rt;
+        refusal(alloc, &["vsync", "explain"]) == Some(ErrorKind::MissingRequiredArgument),
+        "no code"
+    );
+    assert!(rt;
+        refusal(alloc, &["vsync", "explain", "41", "42"]) == Some(ErrorKind::UnknownArgument),
+        "two codes"
+    );
+}
+
 #[test]
 fn a_flag_alone_is_refused(rt: HostRuntime) {
     assert!(rt;

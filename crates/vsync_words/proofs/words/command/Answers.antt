@@ -1,7 +1,7 @@
 use Rattle.std.proofs.Common.{◌∙◌, ◌∷◌, ap, codes, List, map, string_bytes}
 use Rattle.clap.specs.Words.{Text, subcommand_of}
 use Rattle.vsync_words.specs.Grammar.{faults_of, program_app}
-use Rattle.vsync_words.proofs.Computing.{chat_or_no_memory, draw_or_no_memory, map_or_no_memory, locks_or_no_memory, script_in, reads_map, reads_locks, trace_or_no_memory, drawing_in, reads_draw, reads_trace, check_in, check_or_no_memory, packets_or_no_memory, reads_chat, reads_check, paths_in, reads_packets, reads_udp, reads_world, udp_or_no_memory, value_in, world_or_no_memory}
+use Rattle.vsync_words.proofs.Computing.{chat_or_no_memory, draw_or_no_memory, map_or_no_memory, locks_or_no_memory, explain_or_no_memory, word_in, reads_map, reads_locks, reads_explain, trace_or_no_memory, drawing_in, reads_draw, reads_trace, check_in, check_or_no_memory, packets_or_no_memory, reads_chat, reads_check, paths_in, reads_packets, reads_udp, reads_world, udp_or_no_memory, value_in, world_or_no_memory}
 use Rattle.vsync_words.proofs.SeveralPaths.{processes_in, processes_or_no_memory, reads_processes}
 use Rattle.vsync_words.proofs.words.command.Goals as goal
 
@@ -83,7 +83,7 @@ returns-clause-map c = λ name path is words.
     map_or_no_memory c.parsed.result (subcommand_of program_app (map string_bytes c.args.words.now))
     (faults_of (map string_bytes c.args.words.now)) path
     (ap faults_of words ∙ reads.0)
-    (ap (λ (w : List Text). script_in (subcommand_of program_app w)) words ∙ reads.1)
+    (ap (λ (w : List Text). word_in (codes "SCRIPT") (subcommand_of program_app w)) words ∙ reads.1)
     c.parsed.ensures.said c.parsed.ensures.refused
 
 pub returns-clause-locks : goal.returns-clause-locks
@@ -92,5 +92,14 @@ returns-clause-locks c = λ name path is words.
     locks_or_no_memory c.parsed.result (subcommand_of program_app (map string_bytes c.args.words.now))
     (faults_of (map string_bytes c.args.words.now)) path
     (ap faults_of words ∙ reads.0)
-    (ap (λ (w : List Text). script_in (subcommand_of program_app w)) words ∙ reads.1)
+    (ap (λ (w : List Text). word_in (codes "SCRIPT") (subcommand_of program_app w)) words ∙ reads.1)
+    c.parsed.ensures.said c.parsed.ensures.refused
+
+pub returns-clause-explain : goal.returns-clause-explain
+returns-clause-explain c = λ name code is words.
+    let reads = reads_explain name code is in
+    explain_or_no_memory c.parsed.result (subcommand_of program_app (map string_bytes c.args.words.now))
+    (faults_of (map string_bytes c.args.words.now)) code
+    (ap faults_of words ∙ reads.0)
+    (ap (λ (w : List Text). word_in (codes "CODE") (subcommand_of program_app w)) words ∙ reads.1)
     c.parsed.ensures.said c.parsed.ensures.refused

@@ -1,7 +1,7 @@
 use Rattle.std.proofs.Common.{◌∙◌, ap, codes}
 use Rattle.std.proofs.lemmas.Result.{IfOk-weaker}
 use Rattle.clap.specs.Words.{App, with_subcommand}
-use Rattle.vsync_words.specs.Grammar.{check_app, draw_app, member_app, path_app, script_app, udp_app}
+use Rattle.vsync_words.specs.Grammar.{check_app, draw_app, explain_app, member_app, path_app, script_app, udp_app}
 use Rattle.vsync_words.proofs.words.grammar.Goals as goal
 
 -- the program with this subcommand as well
@@ -18,4 +18,5 @@ returns c =
     let map_is = c.in_ok-program-7.ensures ∙ ap (adding (script_app (codes "map"))) draw_is in
     let locks_is = c.in_ok-program-8.ensures ∙ ap (adding (script_app (codes "locks"))) map_is in
     let udp_is = c.in_ok-program-9.ensures ∙ ap (adding udp_app) locks_is in
-    IfOk-weaker c.with_member.result _ _ (λ program member_is. member_is ∙ ap (adding member_app) udp_is) c.with_member.ensures
+    let member_is = c.in_ok-program-10.ensures ∙ ap (adding member_app) udp_is in
+    IfOk-weaker c.with_explain.result _ _ (λ program explain_is. explain_is ∙ ap (adding explain_app) member_is) c.with_explain.ensures

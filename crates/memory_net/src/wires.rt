@@ -7,7 +7,6 @@ use std::collections::VecDeque;
 use std::time::Duration;
 use trace_props::Bytes;
 use udp_net::{Fault, Net};
-use udp_runs::Tally;
 
 /// Which call fails. Of all nodes, the first of each kind is numbered 1.
 #[derive(Clone, Copy, Debug, PartialEq, Eq)]
@@ -37,8 +36,6 @@ pub struct Wires {
     pub taken: Option<Node>,
     /// How often a net of theirs waited.
     pub waits: u64,
-    /// What a node that ran by itself told last.
-    pub tally: Option<Tally>,
     time: Duration,
 }
 
@@ -58,13 +55,12 @@ impl Wires {
             failing,
             taken: None,
             waits: 0,
-            tally: None,
             time: Duration::ZERO,
         }
     }
 
-    // Lets time pass, and answers what time it is then.
-    pub(crate) fn pass(&mut self, time: Duration) -> Duration {
+    /// Lets time pass, and answers what time it is then. The time begins at 0.
+    pub fn pass(&mut self, time: Duration) -> Duration {
         self.time = self.time.saturating_add(time);
         self.time
     }

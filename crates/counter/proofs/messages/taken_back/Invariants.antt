@@ -1,5 +1,5 @@
 use Rattle.std.proofs.Common.{length}
-use Rattle.counter.proofs.node.forget.Given as goal
+use Rattle.counter.proofs.messages.taken_back.Given as goal
 
 abbrev pub decreases-loop-event : goal.decreases-loop-event
 decreases-loop-event l = length l.channel.happened
