@@ -1,5 +1,5 @@
 -- What a channel knows of itself, and what of that the trace says too.
-use Rattle.std.specs.Prelude.{◌≡◌, ℕ, true, List, Option, Some}
+use Rattle.std.specs.Prelude.{◌≡◌, ℕ, true, List, Some}
 use Rattle.std.specs.Option.{ForSome}
 use Rattle.address.specs.Ids.{Address}
 use Rattle.state_transfer.specs.Meanings.{Meaning}

@@ -10,10 +10,10 @@ use Rattle.trace_props.specs.Observed.{has_started}
 use Rattle.trace_props.proofs.FactOfObserved.{has_started-stays}
 use Rattle.udp_net.specs.Logs.{Log, Lists, NetEvent}
 use Rattle.deployment.specs.Deployments.{Step, Start, Call, Crash, Deployment, EachStep, StartsOnce, after, after_steps, nothing_yet, happens_by, trace_of}
-use Rattle.deployed_runners.specs.Items.{Item, steps_in}
+use Rattle.deployed_runners.specs.Items.{Item, steps_in, net_events}
 use Rattle.deployed_runners.specs.Runs.{is_start, happened_by}
 use Rattle.deployed_runners.specs.Merged.{Done, own_items, item_of, items_of}
-use Rattle.deployed_runners.proofs.FactOfItems.{steps-then}
+use Rattle.deployed_runners.proofs.FactOfItems.{steps-then, events-then}
 
 -- ---- what has started
 
@@ -63,6 +63,11 @@ module _ {S : Type 0} where
   steps-of q all items =
       ap (λ (l : List (Item S)). steps_in l) (map-append item_of all (done_by q items)) ∙ steps-then (items_of all) (items_of (done_by q items))
       ∙ ap (λ (l : List (Item S)). steps_in (items_of all) ++ steps_in l) (items-done q items)
+
+  pub nets-of : (q : Address) (all : List (Done S)) (items : List (Item S)) → net_events (items_of (all ++ done_by q items)) ≡ net_events (items_of all) ++ net_events items
+  nets-of q all items =
+      ap (λ (l : List (Item S)). net_events l) (map-append item_of all (done_by q items)) ∙ events-then (items_of all) (items_of (done_by q items))
+      ∙ ap (λ (l : List (Item S)). net_events (items_of all) ++ net_events l) (items-done q items)
 
   -- ---- what happens by their steps
 

@@ -3,7 +3,7 @@ use Rattle.std.proofs.Common.{◌≡◌, ℕ, Bool, true, false, cond, Option, N
 use Rattle.std.specs.Prelude.{slice_get}
 use Rattle.std.specs.Option.{ForSome}
 use Rattle.std.proofs.lemmas.Option.{none-some, same_Some}
-use Rattle.std.proofs.lemmas.List.{append-nil, append_assoc}
+use Rattle.std.proofs.lemmas.List.{append-nil, append_assoc, append_cancel_left}
 use Rattle.address.specs.Ids.{Address, IsAddress, same_address}
 use Rattle.address.proofs.SameIds.{same_address-true, same_address-refl}
 use Rattle.state_transfer.specs.Meanings.{Meaning}
@@ -19,7 +19,7 @@ use Rattle.member.specs.Members.{MemberModel}
 use Rattle.channel.specs.declared.stage.Stage.{Stage}
 use Rattle.channel.specs.declared.stage.Stage.TheVariants.{Apart, Connected, Ended}
 use Rattle.channel.specs.Channels.{ChannelModel}
-use Rattle.udp_net.specs.Logs.{Log}
+use Rattle.udp_net.specs.Logs.{Log, Lists, NetEvent}
 use Rattle.udp_member.specs.Turns.{Driven}
 use Rattle.deployment.specs.Deployments.{Step, Start, Crash, EachStep, StartsOnce, IsNew, after_steps, nothing_yet, bytes_of, trace_of}
 use Rattle.deployment.specs.Processes.{all_told}
@@ -29,11 +29,23 @@ use Rattle.deployed_runners.specs.Items.{Item, OfMember, Standing, not_begun, st
 use Rattle.deployed_runners.specs.Runs.{new_channel, running_in, standing, happened_by, Adds, StandsWith}
 use Rattle.deployed_runners.specs.Merged.{Done, own_items, items_of, IsCarried, AreMerged, RunnersAreSynchronous}
 use Rattle.deployed_runners.specs.Known.{RunnersKnow, RunnersAgree}
-use Rattle.deployed_runners.specs.Systems.{Gone, with_runner, has_ended, Played, Nothing, Begins, Fails, Turns, Dies, Closes, IsAgreed, IsHistoryOf, PlayedAreHistories}
+use Rattle.deployed_runners.specs.Systems.{Gone, with_runner, has_ended, PlayedOver, Nothing, Begins, Fails, Turns, Dies, Closes, AllList, IsAgreed, IsSeen, PlayedAreSeen, PlayedAreHistories}
 use Rattle.deployed_runners.proofs.FactOfItems.{after-then, events-then, follow-then, follow-from, running-from, waiting-from}
-use Rattle.deployed_runners.proofs.FactOfOrders.{started-not, done_by, own-of, own-other, steps-of, trace-of, each-then, starts-none, lists-more}
+use Rattle.deployed_runners.proofs.FactOfOrders.{started-not, done_by, own-of, own-other, steps-of, nets-of, trace-of, each-then, starts-none, lists-more}
 use Rattle.deployment.proofs.NewMembers.{new_member, is-new}
 use Rattle.deployed_runners.proofs.ItemsOfCalls.{drives-adds}
+
+-- what lists now listed before
+listed-before : (a b : Option Log) (f : Log → Log) → Lists a f b → is_some b ≡ true → is_some a ≡ true
+listed-before a None f x e = absurd (let bad : false ≡ true = e in cc)
+listed-before None (Some l) f x e = absurd x
+listed-before (Some k) (Some l) f x e = refl
+
+-- what it lists more is one list
+same-more : (a b : Option Log) (xs ys : List NetEvent) → Lists a (λ l. l ++ xs) b → Lists a (λ l. l ++ ys) b → is_some b ≡ true → xs ≡ ys
+same-more a None xs ys x y e = absurd (let bad : false ≡ true = e in cc)
+same-more None (Some l) xs ys x y e = absurd x
+same-more (Some k) (Some l) xs ys x y e = append_cancel_left k xs ys (sym x ∙ y)
 
 module _ {N S : Type 0} (log : N → Option Log) (failed : N → ℕ) (meaning : Meaning S) (group : List ℕ) where
   abbrev Runners : Type 0
@@ -63,7 +75,7 @@ module _ {N S : Type 0} (log : N → Option Log) (failed : N → ℕ) (meaning :
   abbrev IsUsed : Runners → List (Gone N) → Address → List (Item S) → Type 0
   IsUsed at gone p own = at p ≡ None → (net_events own ≡ []) ⊎ IsIn gone p
 
-  record Keeps (c : Choice) (at : Runners) (gone : List (Gone N)) (events : List Event) : Type 0 where
+  record Keeps (c : Choice) (at : Runners) (gone : List (Gone N)) (events : List Event) (nets_seen : List NetEvent) : Type 0 where
     all : List (Done S)
     processes : (p : Address) → IsProcess meaning group p (own_items p all)
     once : EachStep StartsOnce nothing_yet (steps_in (items_of all))
@@ -74,6 +86,7 @@ module _ {N S : Type 0} (log : N → Option Log) (failed : N → ℕ) (meaning :
     closed : (k : ℕ) (g : Gone N) → slice_get gone k ≡ Some g → (at g.by ≡ None) × (has_started g.by events ≡ true)
     nets : (k : ℕ) (g : Gone N) → slice_get gone k ≡ Some g → ForSome (log g.net) (λ l. l ≡ net_events (own_items g.by all))
     used : (p : Address) → IsUsed at gone p (own_items p all)
+    order : AllList log at gone → net_events (items_of all) ≡ nets_seen
 
   -- ---- one process goes on
 
@@ -81,7 +94,8 @@ module _ {N S : Type 0} (log : N → Option Log) (failed : N → ℕ) (meaning :
   abbrev WasGone : Runners → List (Gone N) → Address → List (Item S) → ℕ → Gone N → Type 0
   WasGone at gone p own k g = ((slice_get gone k ≡ Some g) × (same_address g.by p ≡ false)) ⊎ ((g.by ≡ p) × (at p ≡ None) × ForSome (log g.net) (λ l. l ≡ net_events own))
 
-  module _ (c d : Choice) (at new : Runners) (gone less : List (Gone N)) (events more : List Event) (p : Address) (y : Keeps c at gone events) (items : List (Item S)) where
+  module _ (c d : Choice) (at new : Runners) (gone less : List (Gone N)) (events more : List Event) (seen added : List NetEvent) (p : Address) (y : Keeps c at gone events seen)
+      (items : List (Item S)) where
     abbrev own : List (Item S)
     own = own_items p y.all ++ items
 
@@ -96,6 +110,8 @@ module _ {N S : Type 0} (log : N → Option Log) (failed : N → ℕ) (meaning :
       was_gone : (k : ℕ) (g : Gone N) → slice_get less k ≡ Some g → WasGone new gone p own k g
       stays_gone : (k : ℕ) (g : Gone N) → slice_get gone k ≡ Some g → slice_get less k ≡ Some g
       used : IsUsed new less p own
+      listed : AllList log new less → (r : Driven N S) → at p ≡ Some r → is_some (log r.net) ≡ true
+      adds : AllList log new less → net_events items ≡ added
 
     abbrev all : List (Done S)
     all = y.all ++ done_by p items
@@ -131,7 +147,14 @@ module _ {N S : Type 0} (log : N → Option Log) (failed : N → ℕ) (meaning :
     used-by m q (inl x) = inl x
     used-by m q (inr x) = inr (x.0, x.1, m.stays_gone x.0 x.1 x.2, x.3)
 
-    moves-keep : Moves → Keeps d new less (events ++ more)
+    listed-by : (m : Moves) → AllList log new less → (q : Address) (r : Driven N S) (b : Bool) → same_address q p ≡ b → at q ≡ Some r → is_some (log r.net) ≡ true
+    listed-by m a q r true same e = m.listed a r (ap at (sym (same_address-true q p same)) ∙ e)
+    listed-by m a q r false same e = a.runners q r (m.others q same ∙ e)
+
+    all-listed : Moves → AllList log new less → AllList log at gone
+    all-listed m a = record { runners = λ q r e. listed-by m a q r (same_address q p) refl e; nets = λ k g e. a.nets k g (m.stays_gone k g e) }
+
+    moves-keep : Moves → Keeps d new less (events ++ more) (seen ++ added)
     moves-keep m = record {
       all = all;
       processes = each (λ q l. IsProcess meaning group q l) (follow-then meaning group p not_begun (own_items p y.all) items (y.processes p) m.follow) (λ q other. y.processes q);
@@ -145,6 +168,7 @@ module _ {N S : Type 0} (log : N → Option Log) (failed : N → ℕ) (meaning :
       closed = λ k g e. closed-by m k g (m.was_gone k g e);
       nets = λ k g e. nets-by k g (m.was_gone k g e);
       used = each (λ q l. IsUsed new less q l) m.used (λ q other is. used-by m q (y.used q (sym (m.others q other) ∙ is)));
+      order = λ a. nets-of p y.all items ∙ ap (λ (l : List NetEvent). l ++ net_events items) (y.order (all-listed m a)) ∙ ap (λ (l : List NetEvent). seen ++ l) (m.adds a);
     }
 
   -- ---- the runners that there are
@@ -162,8 +186,8 @@ module _ {N S : Type 0} (log : N → Option Log) (failed : N → ℕ) (meaning :
 
   -- ---- a start
 
-  module _ (c : Choice) (new : AreNew c) (at : Runners) (gone : List (Gone N)) (events : List Event) (p : Address) (y : Keeps c at gone events) (real : IsAddress p)
-      (unstarted : has_started p events ≡ false) where
+  module _ (c : Choice) (new : AreNew c) (at : Runners) (gone : List (Gone N)) (events : List Event) (seen : List NetEvent) (p : Address) (y : Keeps c at gone events seen)
+      (real : IsAddress p) (unstarted : has_started p events ≡ false) where
     none-own : own_items p y.all ≡ []
     none-own = y.unstarted p unstarted
 
@@ -189,9 +213,9 @@ module _ {N S : Type 0} (log : N → Option Log) (failed : N → ℕ) (meaning :
       lists = lists;
     }
 
-    begins-keeps : (r : Driven N S) → r.channel ≡ new_channel meaning p → ForSome (log r.net) (λ l. l ≡ []) → Keeps c (with_runner p (Some r) at) gone (events ++ Started p ∷ [])
+    begins-keeps : (r : Driven N S) → r.channel ≡ new_channel meaning p → ForSome (log r.net) (λ l. l ≡ []) → Keeps c (with_runner p (Some r) at) gone (events ++ Started p ∷ []) (seen ++ [])
     begins-keeps r fresh lists = let items : List (Item S) = OfMember (Start p (c p)) ∷ [] in
-        moves-keep c c at (with_runner p (Some r) at) gone gone events (Started p ∷ []) p y items (record {
+        moves-keep c c at (with_runner p (Some r) at) gone gone events (Started p ∷ []) seen [] p y items (record {
           agree = λ q other. refl;
           follow = subst (λ (l : List (Item S)). Follow meaning group p (stands_after not_begun l) items) (sym none-own) ((refl, new p real, tt), tt);
           begins = (starts-once, tt);
@@ -203,11 +227,13 @@ module _ {N S : Type 0} (log : N → Option Log) (failed : N → ℕ) (meaning :
           was_gone = λ k g e. inl (e, not-gone k g e);
           stays_gone = λ k g e. e;
           used = λ e. absurd (none-some r (sym e ∙ at-this p (Some r) at));
+          listed = λ a k e. absurd (let bad : true ≡ false = sym (y.started p k e) ∙ unstarted in cc);
+          adds = λ a. refl;
         })
 
-    fails-keeps : Keeps c at gone (events ++ Started p ∷ Crashed p ∷ [])
+    fails-keeps : Keeps c at gone (events ++ Started p ∷ Crashed p ∷ []) (seen ++ [])
     fails-keeps = let items : List (Item S) = OfMember (Start p (c p)) ∷ OfMember (Crash p) ∷ [] in
-        moves-keep c c at at gone gone events (Started p ∷ Crashed p ∷ []) p y items (record {
+        moves-keep c c at at gone gone events (Started p ∷ Crashed p ∷ []) seen [] p y items (record {
           agree = λ q other. refl;
           follow = subst (λ (l : List (Item S)). Follow meaning group p (stands_after not_begun l) items) (sym none-own) ((refl, new p real, tt), ((refl, refl, tt), tt));
           begins = (starts-once, (tt, tt));
@@ -219,6 +245,8 @@ module _ {N S : Type 0} (log : N → Option Log) (failed : N → ℕ) (meaning :
           was_gone = λ k g e. inl (e, not-gone k g e);
           stays_gone = λ k g e. e;
           used = λ e. inl (ap net_events (behind-none items));
+          listed = λ a r e. a.runners p r e;
+          adds = λ a. refl;
         })
 
   -- ---- a runner goes on
@@ -234,13 +262,13 @@ module _ {N S : Type 0} (log : N → Option Log) (failed : N → ℕ) (meaning :
       by false same = new q real
 
   -- a net of another is not that of a runner that there is
-  still-gone : (c : Choice) (at : Runners) (gone : List (Gone N)) (events : List Event) (p : Address) (y : Keeps c at gone events) (r : Driven N S) → at p ≡ Some r
+  still-gone : (c : Choice) (at : Runners) (gone : List (Gone N)) (events : List Event) (seen : List NetEvent) (p : Address) (y : Keeps c at gone events seen) (r : Driven N S) → at p ≡ Some r
       → (k : ℕ) (g : Gone N) → slice_get gone k ≡ Some g → same_address g.by p ≡ false
-  still-gone c at gone events p y r there k g e =
+  still-gone c at gone events seen p y r there k g e =
       other-than p g.by (same_address g.by p) refl (λ same. none-some r (sym (y.closed k g e).0 ∙ ap at same ∙ there))
 
-  module _ (c : Choice) (new : AreNew c) (at : Runners) (gone : List (Gone N)) (events : List Event) (p : Address) (old : Driven N S) (taken : List Event) (fell : Bool) (now : Driven N S)
-      (real : IsAddress p) (address : old.channel.address ≡ p) (there : at p ≡ Some old) (told : now.channel.happened ≡ []) (x : Adds log meaning group old taken fell now) where
+  module _ (c : Choice) (new : AreNew c) (at : Runners) (gone : List (Gone N)) (events : List Event) (seen : List NetEvent) (p : Address) (old : Driven N S) (taken : List Event)
+      (fell : Bool) (now : Driven N S) (more : List NetEvent) (lists_so : Lists (log old.net) (λ l. l ++ more) (log now.net)) (real : IsAddress p) (address : old.channel.address ≡ p) (there : at p ≡ Some old) (told : now.channel.happened ≡ []) (x : Adds log meaning group old taken fell now) where
     abbrev m : MemberModel S
     m = x.before (c p)
 
@@ -260,7 +288,7 @@ module _ {N S : Type 0} (log : N → Option Log) (failed : N → ℕ) (meaning :
     d-this : d p ≡ m
     d-this = ap (λ b. cond b m (c p)) (same_address-refl p)
 
-    module _ (y : Keeps d at gone events) where
+    module _ (y : Keeps d at gone events seen) where
       abbrev before : List (Item S)
       before = own_items p y.all
 
@@ -286,8 +314,11 @@ module _ {N S : Type 0} (log : N → Option Log) (failed : N → ℕ) (meaning :
           sym (append-nil taken) ∙ ap (λ (l : List Event). taken ++ l) (sym told) ∙ x.tells ∙ ap (λ (l : List Event). l ++ all_told (steps_in x.items)) was.told in
           x.happens ∙ ap (λ (l : List Event). l ++ crash_of old.channel.address fell) (sym all_taken) ∙ ap (λ (q : Address). taken ++ crash_of q fell) address
 
-      goes-keeps : Keeps c (with_runner p (Some now) at) gone (events ++ (taken ++ crash_of p fell))
-      goes-keeps = moves-keep d c at (with_runner p (Some now) at) gone gone events (taken ++ crash_of p fell) p y x.items (record {
+      now-lists : AllList log (with_runner p (Some now) at) gone → is_some (log now.net) ≡ true
+      now-lists a = a.runners p now (at-this p (Some now) at)
+
+      goes-keeps : Keeps c (with_runner p (Some now) at) gone (events ++ (taken ++ crash_of p fell)) (seen ++ more)
+      goes-keeps = moves-keep d c at (with_runner p (Some now) at) gone gone events (taken ++ crash_of p fell) seen more p y x.items (record {
         agree = λ q other. ap (λ b. cond b m (c q)) other;
         follow = follow-from meaning group p (stands_after not_begun before) (running_in m old.channel.stage) (map bytes_of old.channel.outgoing) x.items was.running was.waiting
             (subst (λ (q : Address). Follow meaning group q (standing m old) x.items) address (x.follow (c p) new-old));
@@ -296,13 +327,15 @@ module _ {N S : Type 0} (log : N → Option Log) (failed : N → ℕ) (meaning :
         others = at-other p (Some now) at;
         runs = λ r e. subst (λ (k : Driven N S). Runs (c p) p (before ++ x.items) k) (same_Some now r (sym (at-this p (Some now) at) ∙ e)) now-runs;
         started = has_started-stays p events (taken ++ crash_of p fell) (y.started p old there);
-        was_gone = λ k g e. inl (e, still-gone d at gone events p y old there k g e);
+        was_gone = λ k g e. inl (e, still-gone d at gone events seen p y old there k g e);
         stays_gone = λ k g e. e;
         used = λ e. absurd (none-some now (sym e ∙ at-this p (Some now) at));
+        listed = λ a r e. subst (λ (k : Driven N S). is_some (log k.net) ≡ true) (same_Some old r (sym there ∙ e)) (listed-before (log old.net) (log now.net) _ x.lists (now-lists a));
+        adds = λ a. same-more (log old.net) (log now.net) (net_events x.items) more x.lists lists_so (now-lists a);
       })
 
-      turns-keep : Keeps c (with_runner p (Some now) at) gone (events ++ taken ++ crash_of p fell)
-      turns-keep = subst (λ (l : List Event). Keeps c (with_runner p (Some now) at) gone l) (sym (append_assoc events taken (crash_of p fell))) goes-keeps
+      turns-keep : Keeps c (with_runner p (Some now) at) gone (events ++ taken ++ crash_of p fell) (seen ++ more)
+      turns-keep = subst (λ (l : List Event). Keeps c (with_runner p (Some now) at) gone l (seen ++ more)) (sym (append_assoc events taken (crash_of p fell))) goes-keeps
 
   -- ---- a runner is let go, killed before or not
 
@@ -311,18 +344,18 @@ module _ {N S : Type 0} (log : N → Option Log) (failed : N → ℕ) (meaning :
   runs-some m (Connected n) e = refl
   runs-some m Ended e = absurd (let bad : true ≡ false = e in cc)
 
-  module _ (c : Choice) (at : Runners) (gone : List (Gone N)) (events : List Event) (p : Address) (r : Driven N S) (there : at p ≡ Some r) (y : Keeps c at gone events) where
+  module _ (c : Choice) (at : Runners) (gone : List (Gone N)) (events : List Event) (seen : List NetEvent) (p : Address) (r : Driven N S) (there : at p ≡ Some r) (y : Keeps c at gone events seen) where
     abbrev left : Gone N
     left = record { by = p; net = r.net }
 
     goes-with : (more : List Event) (items : List (Item S)) → Follow meaning group p (stands_after not_begun (own_items p y.all)) items
         → EachStep StartsOnce (after_steps nothing_yet (steps_in (items_of y.all))) (steps_in items) → happened_by items ≡ more → net_events items ≡ []
-        → Keeps c (with_runner p None at) (gone ++ left ∷ []) (events ++ more)
+        → Keeps c (with_runner p None at) (gone ++ left ∷ []) (events ++ more) (seen ++ [])
     goes-with more items follow begins does silent =
         let done = own_items p y.all ++ items in
         let same : net_events done ≡ net_events (own_items p y.all) = events-then (own_items p y.all) items ∙ ap (λ l. net_events (own_items p y.all) ++ l) silent
         ∙ append-nil (net_events (own_items p y.all)) in
-        moves-keep c c at (with_runner p None at) gone (gone ++ left ∷ []) events more p y items (record {
+        moves-keep c c at (with_runner p None at) gone (gone ++ left ∷ []) events more seen [] p y items (record {
           agree = λ q other. refl;
           follow = follow;
           begins = begins;
@@ -333,25 +366,27 @@ module _ {N S : Type 0} (log : N → Option Log) (failed : N → ℕ) (meaning :
           was_gone = λ k g e. gone-by k g done (λ l is. (y.runners p r there).lists l is ∙ sym same) (slice_get-push gone left k g e);
           stays_gone = λ k g e. slice_get-before gone (left ∷ []) k g e;
           used = λ e. inr (length gone, left, slice_get-last gone left, refl);
+          listed = λ a k e. subst (λ (z : Driven N S). is_some (log z.net) ≡ true) (same_Some r k (sym there ∙ e)) (a.nets (length gone) left (slice_get-last gone left));
+          adds = λ a. silent;
         })
       where
         gone-by : (k : ℕ) (g : Gone N) (done : List (Item S)) → ForSome (log r.net) (λ l. l ≡ net_events done) → (slice_get gone k ≡ Some g) ⊎ ((k ≡ length gone) × (left ≡ g))
             → WasGone (with_runner p None at) gone p done k g
-        gone-by k g done lists (inl e) = inl (e, still-gone c at gone events p y r there k g e)
+        gone-by k g done lists (inl e) = inl (e, still-gone c at gone events seen p y r there k g e)
         gone-by k g done lists (inr e) =
             inr (ap (λ (o : Gone N). o.by) (sym e.1), at-this p None at, subst (λ (o : Gone N). ForSome (log o.net) (λ l. l ≡ net_events done)) e.1 lists)
 
-    dies-keeps : has_ended r.channel.stage ≡ false → Keeps c (with_runner p None at) (gone ++ left ∷ []) (events ++ Crashed p ∷ [])
+    dies-keeps : has_ended r.channel.stage ≡ false → Keeps c (with_runner p None at) (gone ++ left ∷ []) (events ++ Crashed p ∷ []) (seen ++ [])
     dies-keeps runs =
         goes-with (Crashed p ∷ []) (OfMember (Crash p) ∷ [])
         ((refl, ap (λ (o : Option (MemberModel S)). is_some o) (y.runners p r there).running ∙ runs-some (c p) r.channel.stage runs, tt), tt) (tt, tt) refl refl
 
-    closes-keeps : Keeps c (with_runner p None at) (gone ++ left ∷ []) events
-    closes-keeps = subst (λ (l : List Event). Keeps c (with_runner p None at) (gone ++ left ∷ []) l) (append-nil events) (goes-with [] [] tt tt refl refl)
+    closes-keeps : Keeps c (with_runner p None at) (gone ++ left ∷ []) events (seen ++ [])
+    closes-keeps = subst (λ (l : List Event). Keeps c (with_runner p None at) (gone ++ left ∷ []) l (seen ++ [])) (append-nil events) (goes-with [] [] tt tt refl refl)
 
   -- ---- all of it
 
-  nothing-keeps : (c : Choice) → Keeps c (λ p. None) [] []
+  nothing-keeps : (c : Choice) → Keeps c (λ p. None) [] [] []
   nothing-keeps c = record {
     all = [];
     processes = λ p. tt;
@@ -363,59 +398,92 @@ module _ {N S : Type 0} (log : N → Option Log) (failed : N → ℕ) (meaning :
     closed = λ k g e. absurd (none-some g e);
     nets = λ k g e. absurd (none-some g e);
     used = λ p e. inl refl;
+    order = λ a. refl;
   }
 
-  keeps : (at : Runners) (gone : List (Gone N)) (events : List Event) → Played log failed meaning group at gone events → (c : Choice) → AreNew c → Keeps c at gone events
-  keeps _ _ _ Nothing c new = nothing-keeps c
-  keeps _ _ _ (Begins at gone events p r so real unstarted fresh lists) c new =
-      begins-keeps c new at gone events p (keeps at gone events so c new) real unstarted r fresh lists
-  keeps _ _ _ (Fails at gone events p so real unstarted) c new = fails-keeps c new at gone events p (keeps at gone events so c new) real unstarted
-  keeps _ _ _ (Turns at gone events p old taken fell now so there drives told) c new =
-      let r = (keeps at gone events so c new).runners p old there in
+  -- nothing more was seen at the nets
+  none-seen : (c : Choice) (at : Runners) (gone : List (Gone N)) (events : List Event) (seen : List NetEvent) → Keeps c at gone events (seen ++ []) → Keeps c at gone events seen
+  none-seen c at gone events seen y = subst (λ (l : List NetEvent). Keeps c at gone events l) (append-nil seen) y
+
+  keeps : (at : Runners) (gone : List (Gone N)) (events : List Event) (seen : List NetEvent) → PlayedOver log failed meaning group at gone events seen → (c : Choice) → AreNew c
+      → Keeps c at gone events seen
+  keeps _ _ _ _ Nothing c new = nothing-keeps c
+  keeps _ _ _ _ (Begins at gone events seen p r so real unstarted fresh lists) c new =
+      none-seen c (with_runner p (Some r) at) gone (events ++ Started p ∷ []) seen
+      (begins-keeps c new at gone events seen p (keeps at gone events seen so c new) real unstarted r fresh lists)
+  keeps _ _ _ _ (Fails at gone events seen p so real unstarted) c new =
+      none-seen c at gone (events ++ Started p ∷ Crashed p ∷ []) seen (fails-keeps c new at gone events seen p (keeps at gone events seen so c new) real unstarted)
+  keeps _ _ _ _ (Turns at gone events seen p old taken fell now more so there drives told lists_so) c new =
+      let r = (keeps at gone events seen so c new).runners p old there in
       let x = drives-adds log failed meaning group old taken fell now (subst IsAddress (sym r.address) r.real) r.ready drives in
-      turns-keep c new at gone events p old taken fell now r.real r.address there told x
-      (keeps at gone events so (d c new at gone events p old taken fell now r.real r.address there told x) (d-new c new at gone events p old taken fell now r.real r.address there told x))
-  keeps _ _ _ (Dies at gone events p r so there runs) c new = dies-keeps c at gone events p r there (keeps at gone events so c new) runs
-  keeps _ _ _ (Closes at gone events p r so there) c new = closes-keeps c at gone events p r there (keeps at gone events so c new)
+      turns-keep c new at gone events seen p old taken fell now more lists_so r.real r.address there told x
+      (keeps at gone events seen so (d c new at gone events seen p old taken fell now more lists_so r.real r.address there told x)
+      (d-new c new at gone events seen p old taken fell now more lists_so r.real r.address there told x))
+  keeps _ _ _ _ (Dies at gone events seen p r so there runs) c new =
+      none-seen c (with_runner p None at) (gone ++ record { by = p; net = r.net } ∷ []) (events ++ Crashed p ∷ []) seen
+      (dies-keeps c at gone events seen p r there (keeps at gone events seen so c new) runs)
+  keeps _ _ _ _ (Closes at gone events seen p r so there) c new =
+      none-seen c (with_runner p None at) (gone ++ record { by = p; net = r.net } ∷ []) events seen (closes-keeps c at gone events seen p r there (keeps at gone events seen so c new))
 
   -- ---- what comes of it
 
-  stands : (at : Runners) (gone : List (Gone N)) (events : List Event) (y : Keeps (new_member meaning group) at gone events) (p : Address) (r : Driven N S) → at p ≡ Some r
+  stands : (at : Runners) (gone : List (Gone N)) (events : List Event) (seen : List NetEvent) (y : Keeps (new_member meaning group) at gone events seen) (p : Address) (r : Driven N S) → at p ≡ Some r
       → StandsWith meaning group p (own_items p y.all) r.channel.stage
-  stands at gone events y p r e = let x = y.runners p r e in record { member = new_member meaning group p; is_new = is-new meaning group p x.real; ready = x.ready; running = x.running }
+  stands at gone events seen y p r e = let x = y.runners p r e in record { member = new_member meaning group p; is_new = is-new meaning group p x.real; ready = x.ready; running = x.running }
 
-  is-agreed : RunnersAreSynchronous meaning → RunnersAgree meaning → RunnersKnow meaning → (at : Runners) (gone : List (Gone N)) (events : List Event)
-      (y : Keeps (new_member meaning group) at gone events) → IsCarried group (net_events (items_of y.all)) → IsAgreed meaning at events
-  is-agreed law agree know at gone events y carried =
+  is-agreed : RunnersAreSynchronous meaning → RunnersAgree meaning → RunnersKnow meaning → (at : Runners) (gone : List (Gone N)) (events : List Event) (seen : List NetEvent)
+      (y : Keeps (new_member meaning group) at gone events seen) → IsCarried group (net_events (items_of y.all)) → IsAgreed meaning at events
+  is-agreed law agree know at gone events seen y carried =
       let merged : AreMerged meaning group y.all = record { processes = y.processes; network = carried; once = y.once } in
       record {
         synchronous = subst (λ (l : List Event). IsVirtuallySynchronous meaning l) y.happened (law group y.all merged);
         agreeing = subst (λ (l : List Event). EachPlace (ReplicasAgree meaning) l) y.happened (agree group y.all merged);
-        known = λ p r e. subst (λ (l : List Event). ChannelKnows meaning l p r.channel.stage) y.happened (know group y.all merged p r.channel.stage (stands at gone events y p r e));
+        known = λ p r e. subst (λ (l : List Event). ChannelKnows meaning l p r.channel.stage) y.happened (know group y.all merged p r.channel.stage (stands at gone events seen y p r e));
       }
 
-  is-history : RunnersAreSynchronous meaning → RunnersAgree meaning → RunnersKnow meaning → (at : Runners) (gone : List (Gone N)) (events : List Event)
-      → Keeps (new_member meaning group) at gone events → IsHistoryOf log meaning group at gone events
-  is-history law agree know at gone events y = record {
-    all = y.all;
-    processes = y.processes;
-    once = y.once;
-    happened = y.happened;
-    runners = λ p r e. record { stands = stands at gone events y p r e; lists = (y.runners p r e).lists };
-    nets = y.nets;
-    used = y.used;
-    agreed = is-agreed law agree know at gone events y;
+  is-history : RunnersAreSynchronous meaning → RunnersAgree meaning → RunnersKnow meaning → (at : Runners) (gone : List (Gone N)) (events : List Event) (seen : List NetEvent)
+      → Keeps (new_member meaning group) at gone events seen → IsSeen log meaning group at gone events seen
+  is-history law agree know at gone events seen y = record {
+    history = record {
+      all = y.all;
+      processes = y.processes;
+      once = y.once;
+      happened = y.happened;
+      runners = λ p r e. record { stands = stands at gone events seen y p r e; lists = (y.runners p r e).lists };
+      nets = y.nets;
+      used = y.used;
+      agreed = is-agreed law agree know at gone events seen y;
+    };
+    order = y.order;
+    agreed = λ a carried. is-agreed law agree know at gone events seen y (subst (λ (l : List NetEvent). IsCarried group l) (sym (y.order a)) carried);
   }
 
-pub played-are : {N S : Type 0} (log : N → Option Log) (failed : N → ℕ) (meaning : Meaning S) → RunnersAreSynchronous meaning → RunnersAgree meaning → RunnersKnow meaning
-    → PlayedAreHistories log failed meaning
-played-are log failed meaning law agree know group at gone events played =
-    is-history log failed meaning group law agree know at gone events (keeps log failed meaning group at gone events played (new_member meaning group) (is-new meaning group))
+pub played-seen : {N S : Type 0} (log : N → Option Log) (failed : N → ℕ) (meaning : Meaning S) → RunnersAreSynchronous meaning → RunnersAgree meaning → RunnersKnow meaning
+    → PlayedAreSeen log failed meaning
+played-seen log failed meaning law agree know group at gone events seen played =
+    is-history log failed meaning group law agree know at gone events seen (keeps log failed meaning group at gone events seen played (new_member meaning group) (is-new meaning group))
+
+pub played-are : {N S : Type 0} (log : N → Option Log) (failed : N → ℕ) (meaning : Meaning S) → PlayedAreSeen log failed meaning → PlayedAreHistories log failed meaning
+played-are log failed meaning see group at gone events (seen, played) = (see group at gone events seen played).history
 
 -- a runner that there is has an address, is ready, and all that its channel told is taken
 pub runner-is : {N S : Type 0} (log : N → Option Log) (failed : N → ℕ) (meaning : Meaning S) (group : List ℕ) (at : Address → Option (Driven N S)) (gone : List (Gone N)) (events : List Event)
-    → Played log failed meaning group at gone events → (p : Address) (r : Driven N S) → at p ≡ Some r
+    (seen : List NetEvent) → PlayedOver log failed meaning group at gone events seen → (p : Address) (r : Driven N S) → at p ≡ Some r
     → IsAddress r.channel.address × IsReady meaning r.channel.stage × (r.channel.happened ≡ [])
-runner-is log failed meaning group at gone events played p r there =
-    let x = (keeps log failed meaning group at gone events played (new_member meaning group) (is-new meaning group)).runners p r there in
+runner-is log failed meaning group at gone events seen played p r there =
+    let x = (keeps log failed meaning group at gone events seen played (new_member meaning group) (is-new meaning group)).runners p r there in
     (subst IsAddress (sym x.address) x.real, x.ready, x.told)
+
+-- its process stands with its channel
+pub record Stands {N S : Type 0} (meaning : Meaning S) (group : List ℕ) (p : Address) (r : Driven N S) : Type 0 where
+  pub own : List (Item S)
+  pub process : IsProcess meaning group p own
+  pub running : (stands_after not_begun own).running ≡ running_in (new_member meaning group p) r.channel.stage
+  pub address : r.channel.address ≡ p
+
+pub runner-stands : {N S : Type 0} (log : N → Option Log) (failed : N → ℕ) (meaning : Meaning S) (group : List ℕ) (at : Address → Option (Driven N S)) (gone : List (Gone N))
+    (events : List Event) (seen : List NetEvent) → PlayedOver log failed meaning group at gone events seen → (p : Address) (r : Driven N S) → at p ≡ Some r → Stands meaning group p r
+runner-stands log failed meaning group at gone events seen played p r there =
+    let y = keeps log failed meaning group at gone events seen played (new_member meaning group) (is-new meaning group) in
+    let x = y.runners p r there in
+    record { own = own_items p y.all; process = y.processes p; running = x.running; address = x.address }

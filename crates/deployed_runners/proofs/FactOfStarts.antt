@@ -50,8 +50,8 @@ module _ {S : Type 0} (meaning : Meaning S) (group : List ℕ) where
       ∙ both-none (list_any is_start (told_by x)) (list_any is_start (all_told (steps_in items))) (step-none s.running x f.0.1) (follow-none p (then_stands s (OfMember x)) items f.1)
 
 pub starts-none : {N S : Type 0} (log : N → Option Log) (failed : N → ℕ) (meaning : Meaning S) → PlayedTellNoStart log failed meaning
-starts-none log failed meaning group at gone events p old taken fell new played there drives told =
-    let r = runner-is log failed meaning group at gone events played p old there in
+starts-none log failed meaning group at gone events p old taken fell new (seen, played) there drives told =
+    let r = runner-is log failed meaning group at gone events seen played p old there in
     let x = drives-adds log failed meaning group old taken fell new r.0 r.1 drives in
     let q = old.channel.address in
     let same : taken ≡ all_told (steps_in x.items) =

@@ -7,4 +7,6 @@ pub mod ItemsOfRounds
 pub mod ItemsOfCalls
 pub mod FactOfOrders
 pub mod FactOfPlayed
+pub mod FactOfHands
 pub mod FactOfStarts
+pub mod FactOfOwn

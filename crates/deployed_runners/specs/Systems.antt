@@ -1,18 +1,18 @@
 -- Processes of several addresses, each with a runner: what one hand does that starts them, drives them one at a time, and lets them go.
-use Rattle.std.specs.Prelude.{◌≡◌, ℕ, Bool, true, false, List, [], ◌∷◌, ◌++◌, slice_get, Option, None, Some, ◌⊎◌, if◌then◌else◌}
-use Rattle.std.specs.List.{list_any}
+use Rattle.std.specs.Prelude.{◌≡◌, ℕ, Bool, true, false, List, [], ◌∷◌, ◌++◌, slice_get, Option, None, Some, ◌⊎◌, is_some, if◌then◌else◌}
+use Rattle.std.specs.List.{list_any, AllByRecursion}
 use Rattle.std.specs.Option.{ForSome}
 use Rattle.address.specs.Ids.{Address, IsAddress, same_address}
 use Rattle.state_transfer.specs.Meanings.{Meaning}
 use Rattle.trace_props.specs.declared.event.Event.{Event}
 use Rattle.trace_props.specs.declared.event.Event.TheVariants.{Started, Crashed}
-use Rattle.trace_props.specs.Observed.{has_started, is_start}
+use Rattle.trace_props.specs.Observed.{has_started, is_start, member_of}
 use Rattle.trace_props.specs.Places.{EachPlace}
 use Rattle.trace_props.specs.Synchrony.{IsVirtuallySynchronous}
 use Rattle.replicas.specs.Replicas.{ReplicasAgree}
 use Rattle.channel.specs.declared.stage.Stage.{Stage}
 use Rattle.channel.specs.declared.stage.Stage.TheVariants.{Apart, Connected, Ended}
-use Rattle.udp_net.specs.Logs.{Log}
+use Rattle.udp_net.specs.Logs.{Log, Lists, NetEvent}
 use Rattle.udp_member.specs.Turns.{Driven}
 use Rattle.deployment.specs.Deployments.{EachStep, StartsOnce, nothing_yet, trace_of}
 use Rattle.deployed_channels.specs.Plays.{crash_of}
@@ -35,23 +35,37 @@ has_ended (Apart s) = false
 has_ended (Connected m) = false
 has_ended Ended = true
 
--- DONE BY ONE HAND: the runners that there are, the nets of those that are gone, and what happened. From nothing, a process starts, at an address where none did, over a net that
--- lists nothing yet, or it ends as it starts, without a net; a runner makes some calls, and all that its channel tells is taken; a process is killed; a runner is let go.
-pub data Played {N S : Type 0} (log : N → Option Log) (failed : N → ℕ) (meaning : Meaning S) (group : List ℕ) : (Address → Option (Driven N S)) → List (Gone N) → List Event → Type 0 where
-  Nothing : Played log failed meaning group (λ p. None) [] []
-  Begins : (at : Address → Option (Driven N S)) (gone : List (Gone N)) (events : List Event) (p : Address) (r : Driven N S) → Played log failed meaning group at gone events
+-- DONE BY ONE HAND: the runners that there are, the nets of those that are gone, what happened, and what happened at the nets, in one order. From nothing, a process starts, at an
+-- address where none did, over a net that lists nothing yet, or it ends as it starts, without a net; a runner makes some calls, and all that its channel tells is taken, and what its
+-- net lists more; a process is killed; a runner is let go.
+pub data PlayedOver {N S : Type 0} (log : N → Option Log) (failed : N → ℕ) (meaning : Meaning S) (group : List ℕ) : (Address → Option (Driven N S)) → List (Gone N) → List Event
+    → List NetEvent → Type 0 where
+  Nothing : PlayedOver log failed meaning group (λ p. None) [] [] []
+  Begins : (at : Address → Option (Driven N S)) (gone : List (Gone N)) (events : List Event) (nets : List NetEvent) (p : Address) (r : Driven N S)
+      → PlayedOver log failed meaning group at gone events nets
       → IsAddress p → has_started p events ≡ false → r.channel ≡ new_channel meaning p → ForSome (log r.net) (λ l. l ≡ [])
-      → Played log failed meaning group (with_runner p (Some r) at) gone (events ++ Started p ∷ [])
-  Fails : (at : Address → Option (Driven N S)) (gone : List (Gone N)) (events : List Event) (p : Address) → Played log failed meaning group at gone events
-      → IsAddress p → has_started p events ≡ false → Played log failed meaning group at gone (events ++ Started p ∷ Crashed p ∷ [])
-  Turns : (at : Address → Option (Driven N S)) (gone : List (Gone N)) (events : List Event) (p : Address) (old : Driven N S) (taken : List Event) (fell : Bool) (new : Driven N S)
-      → Played log failed meaning group at gone events → at p ≡ Some old → Drives log failed meaning group old taken fell new → new.channel.happened ≡ []
-      → Played log failed meaning group (with_runner p (Some new) at) gone (events ++ taken ++ crash_of p fell)
-  Dies : (at : Address → Option (Driven N S)) (gone : List (Gone N)) (events : List Event) (p : Address) (r : Driven N S) → Played log failed meaning group at gone events
-      → at p ≡ Some r → has_ended r.channel.stage ≡ false
-      → Played log failed meaning group (with_runner p None at) (gone ++ record { by = p; net = r.net } ∷ []) (events ++ Crashed p ∷ [])
-  Closes : (at : Address → Option (Driven N S)) (gone : List (Gone N)) (events : List Event) (p : Address) (r : Driven N S) → Played log failed meaning group at gone events
-      → at p ≡ Some r → Played log failed meaning group (with_runner p None at) (gone ++ record { by = p; net = r.net } ∷ []) events
+      → PlayedOver log failed meaning group (with_runner p (Some r) at) gone (events ++ Started p ∷ []) nets
+  Fails : (at : Address → Option (Driven N S)) (gone : List (Gone N)) (events : List Event) (nets : List NetEvent) (p : Address) → PlayedOver log failed meaning group at gone events nets
+      → IsAddress p → has_started p events ≡ false → PlayedOver log failed meaning group at gone (events ++ Started p ∷ Crashed p ∷ []) nets
+  Turns : (at : Address → Option (Driven N S)) (gone : List (Gone N)) (events : List Event) (nets : List NetEvent) (p : Address) (old : Driven N S) (taken : List Event) (fell : Bool)
+      (new : Driven N S) (more : List NetEvent) → PlayedOver log failed meaning group at gone events nets → at p ≡ Some old → Drives log failed meaning group old taken fell new
+      → new.channel.happened ≡ [] → Lists (log old.net) (λ l. l ++ more) (log new.net)
+      → PlayedOver log failed meaning group (with_runner p (Some new) at) gone (events ++ taken ++ crash_of p fell) (nets ++ more)
+  Dies : (at : Address → Option (Driven N S)) (gone : List (Gone N)) (events : List Event) (nets : List NetEvent) (p : Address) (r : Driven N S)
+      → PlayedOver log failed meaning group at gone events nets → at p ≡ Some r → has_ended r.channel.stage ≡ false
+      → PlayedOver log failed meaning group (with_runner p None at) (gone ++ record { by = p; net = r.net } ∷ []) (events ++ Crashed p ∷ []) nets
+  Closes : (at : Address → Option (Driven N S)) (gone : List (Gone N)) (events : List Event) (nets : List NetEvent) (p : Address) (r : Driven N S)
+      → PlayedOver log failed meaning group at gone events nets → at p ≡ Some r
+      → PlayedOver log failed meaning group (with_runner p None at) (gone ++ record { by = p; net = r.net } ∷ []) events nets
+
+-- the same, whatever happened at the nets
+abbrev pub Played : {N S : Type 0} → (N → Option Log) → (N → ℕ) → Meaning S → List ℕ → (Address → Option (Driven N S)) → List (Gone N) → List Event → Type 0
+Played log failed meaning group at gone events = (nets : List NetEvent) × PlayedOver log failed meaning group at gone events nets
+
+-- all nets list what happens there: those of the runners that there are, and those that are gone
+pub record AllList {N S : Type 0} (log : N → Option Log) (at : Address → Option (Driven N S)) (gone : List (Gone N)) : Type 0 where
+  pub runners : (p : Address) (r : Driven N S) → at p ≡ Some r → is_some (log r.net) ≡ true
+  pub nets : (k : ℕ) (g : Gone N) → slice_get gone k ≡ Some g → is_some (log g.net) ≡ true
 
 -- the process of a runner stands with its channel after what it did; and what happened at its net is what that lists
 pub record IsRunnerOf {N S : Type 0} (log : N → Option Log) (meaning : Meaning S) (group : List ℕ) (p : Address) (own : List (Item S)) (r : Driven N S) : Type 0 where
@@ -78,6 +92,17 @@ pub record IsHistoryOf {N S : Type 0} (log : N → Option Log) (meaning : Meanin
   pub used : (p : Address) → at p ≡ None → (net_events (own_items p all) ≡ []) ⊎ ((k : ℕ) × (g : Gone N) × (slice_get gone k ≡ Some g) × (g.by ≡ p))
   pub agreed : IsCarried group (net_events (items_of all)) → IsAgreed meaning at events
 
+-- SEEN: where all nets list, the order of what happened at them is the one that the hand saw: so of that order alone it is asked that the nets gave only what was offered before
+pub record IsSeen {N S : Type 0} (log : N → Option Log) (meaning : Meaning S) (group : List ℕ) (at : Address → Option (Driven N S)) (gone : List (Gone N)) (events : List Event)
+    (nets : List NetEvent) : Type 0 where
+  pub history : IsHistoryOf log meaning group at gone events
+  pub order : AllList log at gone → net_events (items_of history.all) ≡ nets
+  pub agreed : AllList log at gone → IsCarried group nets → IsAgreed meaning at events
+
+abbrev pub PlayedAreSeen : {N S : Type 0} → (N → Option Log) → (N → ℕ) → Meaning S → Type 0
+PlayedAreSeen {N} {S} log failed meaning = (group : List ℕ) (at : Address → Option (Driven N S)) (gone : List (Gone N)) (events : List Event) (nets : List NetEvent)
+    → PlayedOver log failed meaning group at gone events nets → IsSeen log meaning group at gone events nets
+
 abbrev pub PlayedAreHistories : {N S : Type 0} → (N → Option Log) → (N → ℕ) → Meaning S → Type 0
 PlayedAreHistories {N} {S} log failed meaning = (group : List ℕ) (at : Address → Option (Driven N S)) (gone : List (Gone N)) (events : List Event)
     → Played log failed meaning group at gone events → IsHistoryOf log meaning group at gone events
@@ -87,3 +112,9 @@ abbrev pub PlayedTellNoStart : {N S : Type 0} → (N → Option Log) → (N → 
 PlayedTellNoStart {N} {S} log failed meaning = (group : List ℕ) (at : Address → Option (Driven N S)) (gone : List (Gone N)) (events : List Event) (p : Address) (old : Driven N S)
     (taken : List Event) (fell : Bool) (new : Driven N S) → Played log failed meaning group at gone events → at p ≡ Some old → Drives log failed meaning group old taken fell new
     → new.channel.happened ≡ [] → list_any is_start taken ≡ false
+
+-- and each such event happens to the member of their address
+abbrev pub PlayedTellOwn : {N S : Type 0} → (N → Option Log) → (N → ℕ) → Meaning S → Type 0
+PlayedTellOwn {N} {S} log failed meaning = (group : List ℕ) (at : Address → Option (Driven N S)) (gone : List (Gone N)) (events : List Event) (p : Address) (old : Driven N S)
+    (taken : List Event) (fell : Bool) (new : Driven N S) → Played log failed meaning group at gone events → at p ≡ Some old → Drives log failed meaning group old taken fell new
+    → new.channel.happened ≡ [] → AllByRecursion (λ e. member_of e ≡ p) taken

@@ -1,7 +1,7 @@
 ghost use Rattle.deployed_runners.specs.Known.{ReceiversAgree, RunnersAgree, RunnersKnow};
 ghost use Rattle.deployed_runners.specs.Merged.{RunnersAreSynchronous, RunnersTellAll};
 ghost use Rattle.deployed_runners.specs.Runs.{CallsAddItems, RunsAreProcesses};
-ghost use Rattle.deployed_runners.specs.Systems.{PlayedAreHistories, PlayedTellNoStart};
+ghost use Rattle.deployed_runners.specs.Systems.{PlayedAreHistories, PlayedAreSeen, PlayedTellNoStart, PlayedTellOwn};
 
 use deployment::deployments_are_synchronous;
 use state_transfer::Receiver;
@@ -17,7 +17,8 @@ use udp_net::Net;
 ///
 /// There, after any call or round, a channel shows its receiver in the state that the trace gives, and what it knows to be stable each member of its view has delivered. So two
 /// processes that have delivered as much of a view show receivers in the same state. And what one hand does that starts processes, drives their runners one at a time and lets them
-/// go is such an order. For every receiver that keeps the laws. It does nothing.
+/// go is such an order; where all nets list, the order of what happened at them is the one that the hand saw. What is taken of what a channel tells is no start, and happens to the
+/// member of its address. For every receiver that keeps the laws. It does nothing.
 pub fn runners_are_synchronous<N: Net, R: Receiver>()
     ensures calls { CallsAddItems N.log N.failed R.meaning }
     ensures runs { RunsAreProcesses N.log N.failed R.meaning }
@@ -26,8 +27,10 @@ pub fn runners_are_synchronous<N: Net, R: Receiver>()
     ensures agreeing { RunnersAgree R.meaning }
     ensures known { RunnersKnow R.meaning }
     ensures level { ReceiversAgree R.meaning }
+    ensures seen { PlayedAreSeen N.log N.failed R.meaning }
     ensures played { PlayedAreHistories N.log N.failed R.meaning }
     ensures starts { PlayedTellNoStart N.log N.failed R.meaning }
+    ensures own { PlayedTellOwn N.log N.failed R.meaning }
 {
     deployments_are_synchronous::<R>();
 }

@@ -1,5 +1,5 @@
 -- What the processes of a deployment know that run: what agreement's law says of them.
-use Rattle.std.proofs.Common.{◌≡◌, ℕ, Option, Some, None, Err, List, length, refl, sym, ap, ◌∙◌, subst}
+use Rattle.std.proofs.Common.{◌≡◌, ℕ, Option, Some, None, List, length, refl, sym, ap, ◌∙◌, subst}
 use Rattle.std.specs.Option.{IsSomeAnd, option_and_then}
 use Rattle.std.proofs.lemmas.Option.{none-some, same_Some}
 use Rattle.address.specs.Ids.{Address, ViewId}

@@ -17,7 +17,8 @@ use Rattle.udp_member.specs.Turns.{Driven}
 use Rattle.udp_member.specs.Notes.{nothing_noted}
 use Rattle.deployed_channels.specs.Plays.{crash_of}
 use Rattle.deployed_runners.specs.Runs.{Drives, Begun, new_channel}
-use Rattle.deployed_runners.specs.Systems.{Gone, Played, Nothing, Begins, Turns, PlayedAreHistories, IsHistoryOf, with_runner}
+use Rattle.deployed_runners.specs.Systems.{Gone, Played, PlayedAreHistories, IsHistoryOf, with_runner}
+use Rattle.deployed_runners.proofs.FactOfHands as hands
 use Rattle.commands.specs.declared.status.Status.{Status}
 use Rattle.commands.specs.declared.status.Status.TheVariants.{Done, Memory, Outside}
 use Rattle.commands.specs.Outcomes.{Ends, Written, memory_line}
@@ -70,7 +71,7 @@ module _ {N S : Type 0} (log : N → Option Log) (failed : N → ℕ) (meaning :
   module _ (law : PlayedAreHistories log failed meaning) (real : IsAddress member) (first : Driven N S) (begun : first.channel ≡ new_channel meaning member)
       (fresh : ForSome (log first.net) (λ l. l ≡ [])) where
     begins : Played log failed meaning group (only member first) [] (Started member ∷ [])
-    begins = Begins (λ p. None) [] [] member first Nothing real refl begun fresh
+    begins = hands.begin-played log failed meaning group (λ p. None) [] [] member (hands.nothing-played log failed meaning group) first real refl begun fresh
 
     there : only member first member ≡ Some first
     there = ap (λ (b : Bool). cond b (Some first) None) (same_address-refl member)
@@ -80,7 +81,7 @@ module _ {N S : Type 0} (log : N → Option Log) (failed : N → ℕ) (meaning :
     turned events fell r d told =
         history-at (with_runner member (Some r) (only member first)) (only member r) (Started member ∷ events ++ crash_of member fell) (only-now first r)
         (law group (with_runner member (Some r) (only member first)) [] (Started member ∷ events ++ crash_of member fell)
-        (Turns (only member first) [] (Started member ∷ []) member first events fell r begins there d told))
+        (hands.turn-played log failed meaning group (only member first) [] (Started member ∷ []) member begins first events fell r there d told))
 
     -- what it does in two parts
     is-told : (line_of_state : Address → S → List ℕ) (events more : List Event) (fell fell' : Bool) (shown last : Driven N S) → Drives log failed meaning group first events fell shown

@@ -15,7 +15,8 @@ use Rattle.udp_net.specs.Logs.{Log}
 use Rattle.udp_member.specs.Turns.{Driven}
 use Rattle.deployed_channels.specs.Plays.{crash_of}
 use Rattle.deployed_runners.specs.Runs.{new_channel}
-use Rattle.deployed_runners.specs.Systems.{Gone, Played, Nothing, Begins, Fails, Turns as Turn, Dies, Closes, PlayedTellNoStart, with_runner, has_ended}
+use Rattle.deployed_runners.specs.Systems.{Gone, Played, PlayedTellNoStart, with_runner, has_ended}
+use Rattle.deployed_runners.proofs.FactOfHands as hands
 use Rattle.udp_runs.specs.declared.process.Process.{Process}
 use Rattle.udp_runs.specs.declared.node_state.NodeState.{NodeState}
 use Rattle.udp_runs.specs.Texts.{Line, Happens, Refuses, events_in}
@@ -33,7 +34,7 @@ module _ {N S : Type 0} (log : N → Option Log) (failed : N → ℕ) (meaning :
   plays-unused states law unused = record {
     law = law;
     at = λ p. None;
-    played = Nothing;
+    played = hands.nothing-played log failed meaning group;
     runs = λ k x q at is. absurd (none-some q (sym (unused k x at).1 ∙ is));
     last = λ k x p at is. absurd (none-some p (sym (unused k x at).0 ∙ is));
     fresh = λ p started. absurd (let bad : false ≡ true = started in cc);
@@ -279,7 +280,7 @@ module _ {N S : Type 0} (log : N → Option Log) (failed : N → ℕ) (meaning :
 
       turned : Played log failed meaning group (with_runner p (Some r) x.at) gone (events_in (lines ++ more))
       turned = subst (λ (l : List Event). Played log failed meaning group (with_runner p (Some r) x.at) gone l) (append_assoc (events_in lines) t.taken (crash_of p t.fell) ∙ sym all-said)
-          (Turn x.at gone (events_in lines) p q.runner t.taken t.fell r x.played found.1 t.drives t.told)
+          (hands.turn-played log failed meaning group x.at gone (events_in lines) p x.played q.runner t.taken t.fell r found.1 t.drives t.told)
 
       starts : (a : Address) → has_started a (events_in (lines ++ more)) ≡ true → (has_started a (events_in lines) ≡ true) ⊎ (a ≡ p)
       starts a e =
@@ -295,7 +296,7 @@ module _ {N S : Type 0} (log : N → Option Log) (failed : N → ℕ) (meaning :
       closed : Played log failed meaning group (with_runner p None x.at) (gone ++ record { by = p; net = r.net } ∷ []) (events_in (lines ++ more))
       closed = subst (λ (at : Address → Option (Driven N S)). Played log failed meaning group at (gone ++ record { by = p; net = r.net } ∷ []) (events_in (lines ++ more)))
           (with-twice p (Some r) None x.at)
-          (Closes (with_runner p (Some r) x.at) gone (events_in (lines ++ more)) p r turned (ap (λ (b : Bool). cond b (Some r) (x.at p)) (same_address-refl p)))
+          (hands.close-played log failed meaning group (with_runner p (Some r) x.at) gone (events_in (lines ++ more)) p turned r (ap (λ (b : Bool). cond b (Some r) (x.at p)) (same_address-refl p)))
 
       -- it takes a turn, and is let go
       pub plays-ended : Plays log failed meaning group (slice_set states k (with_process None)) (gone ++ record { by = q.address; net = r.net } ∷ []) (lines ++ more)
@@ -312,7 +313,7 @@ module _ {N S : Type 0} (log : N → Option Log) (failed : N → ℕ) (meaning :
 
     died : Played log failed meaning group (with_runner p None x.at) (gone ++ record { by = p; net = q.runner.net } ∷ []) (events_in (lines ++ Happens (Crashed p) ∷ []))
     died = subst (λ (l : List Event). Played log failed meaning group (with_runner p None x.at) (gone ++ record { by = p; net = q.runner.net } ∷ []) l) (sym crashed-said)
-        (Dies x.at gone (events_in lines) p q.runner x.played found.1 found.2)
+        (hands.death-played log failed meaning group x.at gone (events_in lines) p x.played q.runner found.1 found.2)
 
     -- it is killed
     pub plays-killed : Plays log failed meaning group (slice_set states k (with_process None)) (gone ++ record { by = q.address; net = q.runner.net } ∷ [])
@@ -373,12 +374,12 @@ module _ {N S : Type 0} (log : N → Option Log) (failed : N → ℕ) (meaning :
         plays-set log failed meaning group states gone lines x k old (started_at (Some (record { address = p; runner = r }))) here refl p refl (its-node old.last refl) first (Some r) refl
         (ap (λ c. has_ended c.stage) channel) was-free is-later gone (lines ++ Happens (Started p) ∷ [])
         (subst (λ (l : List Event). Played log failed meaning group (with_runner p (Some r) x.at) gone l) (sym said)
-        (Begins x.at gone (events_in lines) p r x.played next.real is-unused channel lists))
+        (hands.begin-played log failed meaning group x.at gone (events_in lines) p x.played r next.real is-unused channel lists))
         (λ a e. started-or a p (events_in lines) [] (ap (has_started a) (sym said) ∙ e) refl)
 
     failing : Played log failed meaning group x.at gone (events_in (lines ++ Happens (Started p) ∷ Happens (Crashed p) ∷ []))
     failing = subst (λ (l : List Event). Played log failed meaning group x.at gone l) (sym (events-then lines (Happens (Started p) ∷ Happens (Crashed p) ∷ [])))
-        (Fails x.at gone (events_in lines) p x.played next.real is-unused)
+        (hands.fail-played log failed meaning group x.at gone (events_in lines) p x.played next.real is-unused)
 
     -- it ends as it starts; nobody is there
     pub start-failed : (at : Address → Option (Driven N S)) × (all : List (Gone N))

@@ -1,5 +1,5 @@
 -- What happens to one member and is asked for by no event by itself is quiet for it.
-use Rattle.std.proofs.Common.{◌≡◌, Bool, ◌&&◌, true, List, [], ◌∷◌, refl}
+use Rattle.std.proofs.Common.{◌≡◌, ◌&&◌, true, List, [], ◌∷◌, refl}
 use Rattle.std.specs.List.{list_all}
 use Rattle.std.proofs.lemmas.Bool.{and_parts, and_from}
 use Rattle.address.specs.Ids.{Address, same_address}

@@ -1,5 +1,5 @@
 -- An input that is handed to a running member, for any event: what has to be known of the event, and the turn that it is then.
-use Rattle.std.proofs.Common.{◌≡◌, ℕ, true, false, Bool, cond, Option, Some, None, Result, Ok, Err, List, [], ◌∷◌, ◌++◌, map, nat_eq, inl, inr, ◌⊎◌, refl, sym, ap, ◌∙◌, subst}
+use Rattle.std.proofs.Common.{◌≡◌, ℕ, true, false, Bool, cond, Option, Some, None, Result, Ok, Err, List, [], ◌∷◌, ◌++◌, map, nat_eq, inl, inr, refl, sym, ap, ◌∙◌, subst}
 use Rattle.std.specs.Prelude.{MatchBool}
 use Rattle.std.proofs.lemmas.List.{append-nil}
 use Rattle.std.proofs.lemmas.Option.{none-some}
@@ -9,7 +9,6 @@ use Rattle.trace_props.specs.declared.event.Event.{Event}
 use Rattle.trace_props.specs.declared.event.Event.TheVariants.{Crashed}
 use Rattle.trace_props.specs.Observed.{has_ended}
 use Rattle.trace_props.proofs.FactOfObserved.{has_ended-now}
-use Rattle.acts.specs.Histories.{Posted}
 use Rattle.acts.specs.Cores.{Core}
 use Rattle.acts.specs.Chains.{Acted}
 use Rattle.agreement.proofs.KeepBySteps

@@ -1,7 +1,6 @@
 -- The world after one event, after none, and what its receivers are.
 use Rattle.std.proofs.Common.{◌≡◌, ℕ, List, ◌++◌, Some, None, ◌⊎◌, inl, inr, subst, sym, refl, ap, ◌∙◌}
 use Rattle.std.specs.Option.{option_map}
-use Rattle.std.proofs.lemmas.Option.{none-some}
 use Rattle.address.specs.Ids.{Address}
 use Rattle.state_transfer.specs.Meanings.{Meaning}
 use Rattle.trace_props.specs.declared.event.Event.{Event}

@@ -1,6 +1,5 @@
 -- What happens at a node is steps of a deployment: a call with its input, a start, a crash, or a start and a crash.
 use Rattle.std.proofs.Common.{◌≡◌, ℕ, Bool, true, false, cond, Option, Some, None, Ok, List, [], ◌∷◌, ◌++◌, map, is_some, refl, sym, ap, ◌∙◌, subst}
-use Rattle.std.proofs.lemmas.Option.{none-some}
 use Rattle.std.proofs.lemmas.List.{append-nil, append_assoc}
 use Rattle.address.specs.Ids.{Address, IsAddress, same_address}
 use Rattle.address.proofs.SameIds.{same_address-refl}

@@ -1,8 +1,9 @@
 use Rattle.deployed_runners.proofs.ItemsOfCalls.{calls-add, runs-are}
 use Rattle.deployed_runners.proofs.FactOfMerged.{runners-are, runners-tell}
 use Rattle.deployed_runners.proofs.FactOfKnown.{runners-agree, runners-know, receivers-agree}
-use Rattle.deployed_runners.proofs.FactOfPlayed.{played-are}
+use Rattle.deployed_runners.proofs.FactOfPlayed.{played-seen, played-are}
 use Rattle.deployed_runners.proofs.FactOfStarts.{starts-none}
+use Rattle.deployed_runners.proofs.FactOfOwn.{told-own}
 use Rattle.deployed_runners.proofs.law.runners_are_synchronous.Goals as goal
 
 pub returns-clause-calls : goal.returns-clause-calls
@@ -26,10 +27,15 @@ returns-clause-known g c = runners-know g.R.Receiver.meaning c.deployments_are_s
 pub returns-clause-level : goal.returns-clause-level
 returns-clause-level g c = receivers-agree g.R.Receiver.meaning (returns-clause-known g c) (returns-clause-agreeing g c)
 
+pub returns-clause-seen : goal.returns-clause-seen
+returns-clause-seen g c =
+    played-seen g.N.Net.log g.N.Net.failed g.R.Receiver.meaning (returns-clause-merged g c) (returns-clause-agreeing g c) (returns-clause-known g c)
+
 pub returns-clause-played : goal.returns-clause-played
-returns-clause-played g c =
-    played-are g.N.Net.log g.N.Net.failed g.R.Receiver.meaning (runners-are g.R.Receiver.meaning c.deployments_are_synchronous.ensures.histories)
-    (returns-clause-agreeing g c) (returns-clause-known g c)
+returns-clause-played g c = played-are g.N.Net.log g.N.Net.failed g.R.Receiver.meaning (returns-clause-seen g c)
 
 pub returns-clause-starts : goal.returns-clause-starts
 returns-clause-starts g c = starts-none g.N.Net.log g.N.Net.failed g.R.Receiver.meaning
+
+pub returns-clause-own : goal.returns-clause-own
+returns-clause-own g c = told-own g.N.Net.log g.N.Net.failed g.R.Receiver.meaning

@@ -5,7 +5,7 @@ use Rattle.udp_runs.proofs.script.play.Goals as goal
 use Rattle.vsync_text.proofs.FactOfWriting.{appends_nothing}
 
 pub returns-in_default : goal.returns-in_default
-returns-in_default g c = ([], InLines (λ p. None) [] [] 0 (c.runners_are_synchronous.ensures.played c.args.settings.now.group (λ p. None) [] [] Nothing), appends_nothing _)
+returns-in_default g c = ([], InLines (λ p. None) [] [] 0 (c.runners_are_synchronous.ensures.played c.args.settings.now.group (λ p. None) [] [] ([], Nothing)), appends_nothing _)
 
 pub returns : goal.returns
 returns g c = c.play_lines.ensures c.in-Ok.ensures c.new-text.ensures.items
