@@ -40,7 +40,6 @@ use Rattle.member_messages.specs.Heard.{is_near}
 use Rattle.member_messages.specs.Ordered.{IsOrderly}
 use Rattle.member.specs.Members.{MemberModel}
 use Rattle.world_model.specs.declared.WorldEvent.TheVariants.{Deliver}
-use Rattle.world_model.specs.Histories.{last_of, is_connected}
 use Rattle.world_model.specs.Packets.{world_group, packet_numbered}
 use Rattle.world_step.specs.declared.node_state.NodeState.TheVariants.{Running}
 use Rattle.world_step.specs.NodeStates.{bytes_of}

@@ -1,6 +1,6 @@
 -- What a member of a world knows to be stable each member of its view has delivered.
 use Rattle.std.proofs.Common.{◌≡◌, ℕ, Option, None, Some, List, refl, sym, ap, ◌∙◌, subst}
-use Rattle.std.specs.Option.{IsSomeAnd, ForSome, option_map_or, option_and_then}
+use Rattle.std.specs.Option.{IsSomeAnd, option_map_or, option_and_then}
 use Rattle.std.proofs.lemmas.Option.{none-some, same_Some}
 use Rattle.address.specs.Ids.{Address, ViewId}
 use Rattle.view.specs.Members.{View}
@@ -12,10 +12,9 @@ use Rattle.agreement.specs.Known.{AllDelivered, Knows}
 use Rattle.agreement.specs.Members.{installed_as}
 use Rattle.member.specs.Members.{MemberModel, core_of}
 use Rattle.world_model.specs.Histories.{running}
-use Rattle.world_step.specs.declared.node_state.NodeState.{NodeState}
-use Rattle.world_step.specs.declared.node_state.NodeState.TheVariants.{Vacant, Ended, Running}
+use Rattle.world_step.specs.declared.node_state.NodeState.TheVariants.{Running}
 use Rattle.world_step.specs.Worlds.{WorldModel}
-use Rattle.world.specs.Known.{MembersKnow, stable_at, IsStableAt}
+use Rattle.world.specs.Known.{MembersKnow, IsStableAt}
 
 module _ {S : Type 0} (meaning : Meaning S) (t : List Event) (p : Address) where
   -- its view is the one that the trace says
