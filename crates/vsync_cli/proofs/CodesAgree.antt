@@ -1,5 +1,5 @@
 -- The codes of explanations are those that commands print.
-use Rattle.std.proofs.Common.{◌≡◌, refl, codes}
+use Rattle.std.proofs.Common.{◌≡◌, refl}
 use Rattle.std.specs.Fmt.{decimal, digits}
 use Rattle.trace_props.specs.declared.verdict.Rule.{Rule}
 use Rattle.trace_props.specs.declared.verdict.Rule.TheVariants as rule

@@ -1,5 +1,4 @@
 use Rattle.std.proofs.Common.{◌≡◌, ◌∙◌, sym, None, Some}
-use Rattle.explanations.specs.declared.topic.Topic.{Topic}
 use Rattle.explanations.specs.declared.topic.Topic.TheVariants.{Rule as OfRule}
 use Rattle.vsync_cli.proofs.CodesAgree.{rules}
 use Rattle.vsync_cli.proofs.explaining.explain_code.Goals as goal
