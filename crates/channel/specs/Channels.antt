@@ -1,15 +1,16 @@
 -- A channel as contracts see it.
 use Rattle.std.specs.Prelude.{◌≡◌, ℕ, Bool, false, is_some, List, Option, None, Some, IfSome, if◌then◌else◌}
 use Rattle.std.specs.Option.{option_map, option_map_or, option_and_then}
-use Rattle.address.specs.Ids.{Address}
+use Rattle.address.specs.Ids.{Address, ViewId}
 use Rattle.view.specs.Members.{View}
 use Rattle.trace_props.specs.declared.event.Event.{Event}
-use Rattle.acts.specs.Cores.{Core, is_frozen}
+use Rattle.acts.specs.Cores.{Core, id_of, is_frozen}
 use Rattle.step_output.specs.declared.output.Outgoing.{Outgoing}
 use Rattle.step_output.specs.Names.{same_name}
 use Rattle.member.specs.declared.error.Error.{Error}
 use Rattle.member.specs.Members.{MemberModel, core_of}
-use Rattle.member.specs.Sources.{source_of}
+use Rattle.member.specs.declared.heard.Heard.{Heard}
+use Rattle.member.specs.Sources.{heard_of}
 use Rattle.channel.specs.declared.stage.Stage.{Stage}
 use Rattle.channel.specs.declared.stage.Stage.TheVariants.{Apart, Connected, Ended}
 use Rattle.channel.specs.Errors.{is_end}
@@ -51,6 +52,10 @@ view_in stage = option_and_then (λ c. c.view) (core_in stage)
 abbrev pub is_blocked : {S : Type 0} → Stage S → Bool
 is_blocked stage = option_map_or (λ c. is_frozen c.view c.installed) (core_in stage) false
 
+-- the view that it promised last
+abbrev pub promised_in : {S : Type 0} → Stage S → Option ViewId
+promised_in stage = option_and_then (λ c. id_of c.promise) (core_in stage)
+
 -- its receiver's state, before a connect and while its member runs
 abbrev pub receiver_in : {S : Type 0} → Stage S → Option S
 receiver_in (Apart s) = Some s
@@ -69,6 +74,10 @@ group_in stage = option_map (λ m. m.group) (member_in stage)
 abbrev pub is_in : {S : Type 0} → List ℕ → Stage S → Bool
 is_in name stage = option_map_or (same_name name) (group_in stage) false
 
--- from whom a datagram came that is for it: of the group that it is connected to, to its address, and from another
+-- what packet a datagram spells that is for it: of the group that it is connected to, to its address, and from another
+abbrev pub heard_at : {S : Type 0} → List ℕ → ChannelModel S → Option Heard
+heard_at bytes c = option_and_then (λ group. heard_of c.address group bytes) (group_in c.stage)
+
+-- from whom it came
 abbrev pub source_at : {S : Type 0} → List ℕ → ChannelModel S → Option Address
-source_at bytes c = option_and_then (λ group. source_of c.address group bytes) (group_in c.stage)
+source_at bytes c = option_map (λ heard. heard.source) (heard_at bytes c)

@@ -3,16 +3,16 @@ ghost use Rattle.std.specs.Option.{option_copied, option_map};
 ghost use Rattle.std.specs.Result.{result_err};
 ghost use Rattle.member.specs.declared.input.Input.TheVariants as input;
 ghost use Rattle.channel.specs.declared.stage.Stage.TheVariants.{Apart, Ended};
-ghost use Rattle.channel.specs.Channels.{left_by, view_in, is_blocked, receiver_in, source_at, stable_in};
+ghost use Rattle.channel.specs.Channels.{left_by, view_in, is_blocked, receiver_in, heard_at, promised_in, stable_in};
 ghost use Rattle.channel.specs.Calls.{Calls, CallsLent, Connects, Reconnects, Watches};
 ghost use Rattle.channel.specs.Queues.{TakesFirst, sent_at};
 ghost use Rattle.channel.specs.Stages.{Keeps};
 
 use crate::queues::{number_sent, put_all};
 use crate::stage::Stage;
-use address::Address;
+use address::{Address, ViewId};
 use limits::Refusal;
-use member::{Error, Input};
+use member::{Error, Heard, Input};
 use state_transfer::Receiver;
 use std::alloc::Global;
 use std::collections::VecDeque;
@@ -111,17 +111,17 @@ impl<R: Receiver> Channel<R> {
         Ok(())
     }
 
-    /// Takes a datagram that came (docs/PROTOCOL.md, "Which packets are ignored"), and answers its source where it is of this group, to this address, and from
-    /// another. Refused with 1 before a connect, with 6 after its end, with 20 to 26 where the bytes spell no packet (docs/WIRE.md), and with 7 where memory was refused;
+    /// Takes a datagram that came (docs/PROTOCOL.md, "Which packets are ignored"), and answers what packet it spelled, where that is of this group, to this
+    /// address, and from another: from whom, of which kind, and about which view or proposal. Refused with 1 before a connect, with 6 after its end, with 20 to 26 where the bytes spell no packet (docs/WIRE.md), and with 7 where memory was refused;
     /// with 6, and it has ended, where it would enter a view by it with a state that its receiver cannot read (docs/PROTOCOL.md, "State transfer").
-    pub fn incoming(&mut self, bytes: &[u8]) -> Result<Option<Address>, Error>
+    pub fn incoming(&mut self, bytes: &[u8]) -> Result<Option<Heard>, Error>
         ensures calls { Calls R.meaning (input.Datagram bytes.entry) self.old (result_err result) self.new }
         ensures left { IfErr result (λ e. self.new ≡ left_by e self.old) }
-        ensures source { IfOk result (λ source. source ≡ source_at bytes.now self.old) }
+        ensures heard { IfOk result (λ heard. heard ≡ heard_at bytes.now self.old) }
     {
         let taken = self.stage.take(bytes)?;
         self.keep(taken.out)?;
-        Ok(taken.source)
+        Ok(taken.heard)
     }
 
     /// Tells it that the member of an address has failed (docs/PROTOCOL.md, "Suspicion"). Refused with 1 before a connect, with 6 after its end, and with 7 where
@@ -175,6 +175,14 @@ impl<R: Receiver> Channel<R> {
         ensures { result ≡ is_blocked self.now.stage }
     {
         self.stage.is_blocked()
+    }
+
+    /// The id of the view that it promised last (docs/PROTOCOL.md, "Promise"): that of its own view unless it is blocked. `None` before the first, before a connect and after
+    /// its end.
+    pub fn promised(&self) -> Option<ViewId>
+        ensures { result ≡ promised_in self.now.stage }
+    {
+        self.stage.promised()
     }
 
     /// How many messages of its view it knows to be stable: each member of the view has delivered them, the first of its order, so they are in the state of each that goes on from this view

@@ -7,4 +7,4 @@ mod queues;
 mod stage;
 
 pub use channel::Channel;
-pub use member::Error;
+pub use member::{Error, Heard};

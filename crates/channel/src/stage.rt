@@ -2,14 +2,14 @@
 
 ghost use Rattle.std.specs.Prelude.{◌≡◌, not, is_some, IfOk};
 ghost use Rattle.std.specs.Option.{option_copied, option_and_then};
-ghost use Rattle.channel.specs.Channels.{member_in, view_in, is_blocked, receiver_in, stable_in, is_in};
+ghost use Rattle.channel.specs.Channels.{member_in, view_in, is_blocked, promised_in, receiver_in, stable_in, is_in};
 ghost use Rattle.member.specs.declared.input.Input.TheVariants as input;
 ghost use Rattle.member.specs.Handling.{Handled};
-ghost use Rattle.member.specs.Sources.{source_of, output_of};
+ghost use Rattle.member.specs.Sources.{heard_of, output_of};
 ghost use Rattle.channel.specs.Calls.{Watches};
 ghost use Rattle.channel.specs.Stages.{Begins, Hands};
 
-use address::Address;
+use address::{Address, ViewId};
 use limits::Refusal;
 use member::{Error, Input, Member, Taken};
 use state_transfer::Receiver;
@@ -72,6 +72,16 @@ impl<R: Receiver> Stage<R> {
         match self {
             Stage::Connected(member) => member.is_blocked(),
             Stage::Apart(_) | Stage::Ended => false,
+        }
+    }
+
+    // The id of the view that its member promised last.
+    pub(crate) fn promised(&self) -> Option<ViewId>
+        ensures { result ≡ promised_in self.now }
+    {
+        match self {
+            Stage::Connected(member) => member.promised(),
+            Stage::Apart(_) | Stage::Ended => None,
         }
     }
 
@@ -155,10 +165,10 @@ impl<R: Receiver> Stage<R> {
         }
     }
 
-    // One step of its member by a datagram; it answers from whom that came, where it is for the member. Once that has ended, so has the channel.
+    // One step of its member by a datagram; it answers what packet that spelled, where it is for the member. Once that has ended, so has the channel.
     pub(crate) fn take(&mut self, bytes: &[u8]) -> Result<Taken, Error>
         ensures hands { Hands R.meaning (input.Datagram bytes.entry) self.old (output_of result) self.new }
-        ensures source { IfOk result (λ taken. taken.source ≡ option_and_then (λ m. source_of m.address m.group bytes.now) (member_in self.old)) }
+        ensures heard { IfOk result (λ taken. taken.heard ≡ option_and_then (λ m. heard_of m.address m.group bytes.now) (member_in self.old)) }
     {
         match self {
             Stage::Apart(_) => Err(Error::Refused(Refusal::NotConnected)),

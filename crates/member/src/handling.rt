@@ -6,11 +6,12 @@ ghost use Rattle.member.specs.declared.error.Error.TheVariants as error;
 ghost use Rattle.member.specs.Running.{IsAlive};
 ghost use Rattle.member.specs.declared.input.Input.TheVariants as input;
 ghost use Rattle.member.specs.Handling.{Handled};
-ghost use Rattle.member.specs.Sources.{source_in, source_of, output_of};
+ghost use Rattle.member.specs.Sources.{heard_in, heard_of, output_of};
 ghost use Rattle.step_output.specs.Steps.{who_of};
 
+use crate::heard::about;
 use crate::hearing::{pass_time, take_packet};
-use crate::{Error, Taken};
+use crate::{Error, Heard, Taken};
 use address::Address;
 use limits::Refusal;
 use member_messages::{send, send_refusal};
@@ -98,12 +99,16 @@ pub(crate) fn send_message<R: Receiver>(
     }
 }
 
-// From whom a packet came, where it is for the member.
-fn source_in(who: &Identity, packet: &Packet<'_>) -> Option<Address>
-    ensures { result ≡ source_in who.now.address who.now.group (Ok packet.now) }
+// What a packet was, where it is for the member.
+fn heard_in(who: &Identity, packet: &Packet<'_>) -> Option<Heard>
+    ensures { result ≡ heard_in who.now.address who.now.group (Ok packet.now) }
 {
     if who.is_for(packet) {
-        Some(packet.source)
+        Some(Heard {
+            source: packet.source,
+            kind: packet.body.kind(),
+            about: about(&packet.body),
+        })
     } else {
         None
     }
@@ -118,7 +123,7 @@ pub(crate) fn take_datagram<R: Receiver>(
     requires alive { IsAlive (who_of who.now) member_state.old }
     ensures alive { IsAlive (who_of who.now) member_state.new }
     ensures handled { Handled R.meaning (record { address = who.now.address; group = who.now.group; member_state = member_state.old }) (input.Datagram bytes.entry) (output_of result) (record { address = who.now.address; group = who.now.group; member_state = member_state.new }) }
-    ensures source { IfOk result (λ taken. taken.source ≡ source_of who.now.address who.now.group bytes.now) }
+    ensures heard { IfOk result (λ taken. taken.heard ≡ heard_of who.now.address who.now.group bytes.now) }
 {
     let Some(running) = member_state else {
         return Err(Error::Refused(Refusal::Closed));
@@ -130,7 +135,7 @@ pub(crate) fn take_datagram<R: Receiver>(
             match take_packet(running, who, &packet, &mut out) {
                 Ok(()) => Ok(Taken {
                     out,
-                    source: source_in(who, &packet),
+                    heard: heard_in(who, &packet),
                 }),
                 Err(stop) => {
                     *member_state = None;

@@ -5,6 +5,7 @@
 
 mod error;
 mod handling;
+mod heard;
 mod hearing;
 mod input;
 mod member;
@@ -13,6 +14,7 @@ mod taken;
 mod watching;
 
 pub use error::Error;
+pub use heard::Heard;
 pub use input::Input;
 pub use member::Member;
 pub use taken::Taken;

@@ -1,13 +1,13 @@
 ghost use Rattle.std.specs.Prelude.{◌≡◌, ◌≤◌, length, false, Some, IfOk};
 ghost use Rattle.std.specs.Option.{IsSomeAnd, option_copied, option_and_then, option_map, option_map_or};
 ghost use Rattle.trace_props.specs.Recorded.{IsRecordable};
-ghost use Rattle.acts.specs.Cores.{idle, is_frozen};
+ghost use Rattle.acts.specs.Cores.{idle, id_of, is_frozen};
 ghost use Rattle.membership.specs.MemberStates.{idle_member};
 ghost use Rattle.member.specs.Running.{IsAlive};
 ghost use Rattle.member.specs.Members.{core_of, refusal_of, is_unreadable};
 ghost use Rattle.member.specs.Doing.{Does};
 ghost use Rattle.member.specs.declared.input.Input.TheVariants as input;
-ghost use Rattle.member.specs.Sources.{source_of, output_of};
+ghost use Rattle.member.specs.Sources.{heard_of, output_of};
 ghost use Rattle.member.specs.Handling.{Handled, HasActed, RefusesAs, EndsWithout, IsClosed, Replies, IsPrompt, Ignores};
 ghost use Rattle.member.specs.Watching.{watched};
 ghost use Rattle.step_output.specs.Steps.{who};
@@ -17,7 +17,7 @@ use crate::handling::{
 };
 use crate::watching::watched_in;
 use crate::{Error, Input, Taken};
-use address::Address;
+use address::{Address, ViewId};
 use limits::STEP_EVENTS;
 use membership::MemberState;
 use state_transfer::Receiver;
@@ -101,6 +101,16 @@ impl<R: Receiver> Member<R> {
         }
     }
 
+    /// The id of the view that it promised last (docs/PROTOCOL.md, "Promise"): that of its own view unless it is blocked. `None` before the first, and after its end.
+    pub fn promised(&self) -> Option<ViewId>
+        ensures { result ≡ option_and_then (λ c. id_of c.promise) (core_of self.now) }
+    {
+        match self.member_state.as_ref()?.promise.proposal() {
+            None => None,
+            Some(view) => Some(view.id()),
+        }
+    }
+
     /// How many messages of its view it knows to be stable: each member of the view has delivered them, the first of its order (docs/PROTOCOL.md, "Stability"). 0 when a view
     /// is installed, without a view, and after its end.
     pub fn stable(&self) -> u64
@@ -139,10 +149,10 @@ impl<R: Receiver> Member<R> {
         }
     }
 
-    /// One step by a datagram: what `handle` does by `Input::Datagram` of these bytes, and from whom they came, where they are for it. They are read once.
+    /// One step by a datagram: what `handle` does by `Input::Datagram` of these bytes, and what packet they spelled, where that is for it. They are read once.
     pub fn take(&mut self, bytes: &[u8]) -> Result<Taken, Error>
         ensures handled { Handled R.meaning self.old (input.Datagram bytes.entry) (output_of result) self.new }
-        ensures source { IfOk result (λ taken. taken.source ≡ source_of self.old.address self.old.group bytes.now) }
+        ensures heard { IfOk result (λ taken. taken.heard ≡ heard_of self.old.address self.old.group bytes.now) }
     {
         take_datagram(&mut self.member_state, &self.identity, bytes)
     }

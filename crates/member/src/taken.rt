@@ -1,4 +1,4 @@
-use address::Address;
+use crate::Heard;
 use step_output::Output;
 
 /// What a step by a datagram comes to.
@@ -6,6 +6,6 @@ use step_output::Output;
 pub struct Taken {
     /// What it puts out.
     pub out: Output,
-    /// From whom the datagram came, where it is of the member's group, to its address, and from another.
-    pub source: Option<Address>,
+    /// What packet the datagram spelled, where that is of the member's group, to its address, and from another.
+    pub heard: Option<Heard>,
 }
