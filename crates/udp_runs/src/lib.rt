@@ -3,6 +3,7 @@
 
 mod calls;
 mod ends;
+mod finding;
 mod lines;
 mod lone;
 mod loopback;
@@ -13,14 +14,17 @@ mod nodes;
 mod one_node;
 mod outbox;
 mod process;
+mod ranks;
 mod script;
 mod speaking;
 mod telling;
+mod unsaid;
+mod watch;
 
 pub use lines::{Lines, LinesError, NoLines};
 pub use loopback::Loopback;
 pub use machine::Machine;
-pub use manner::{Manner, Tally, Trouble};
+pub use manner::{Manner, NodeStatus, Notice, Tally, Trouble};
 pub use one_node::run_member;
 pub use script::run_udp;
 pub use script_reader::MemberPlan;

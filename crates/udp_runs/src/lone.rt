@@ -5,20 +5,23 @@ ghost use Rattle.udp_runs.specs.Telling.{PlaysAlone, Quietly, Tells, Waits};
 
 use crate::calls::{Call, do_call, send};
 use crate::ends::Cut;
+use crate::finding::{Finder, Standing, Step, Whereabouts, milliseconds};
 use crate::outbox::{Outbox, OutboxError};
 use crate::telling::Teller;
-use crate::{Lines, LinesError, Machine, Manner, Tally, Trouble};
+use crate::unsaid::Sent;
+use crate::watch::Watch;
+use crate::{Lines, LinesError, Machine, Manner, NodeStatus, Notice, Tally, Trouble};
 use address::{Address, ViewId};
 use application::Application;
 use channel::Error;
 use limits::Refusal;
-use script_reader::{MemberPlan, Unheard};
+use script_reader::{Fault, MemberPlan, Unheard};
 use std::alloc::Global;
 use std::io::Write;
 use std::time::Duration;
 use trace_props::Bytes;
 use udp_member::{RECEIVES, Runner};
-use udp_net::{Net, Settings};
+use udp_net::{MOST_NODES, Net, Settings};
 
 /// How often a node listens between two of its rounds, at most: with as many datagrams each time as a round takes, so that others cannot keep it from its rounds.
 const LISTENS: u32 = 4_096;
@@ -32,14 +35,33 @@ pub(crate) struct Lone<'a, N: Net, C: Application> {
     alloc: Global,
     member: Runner<N, C>,
     manner: Manner,
-    // What it has to send yet.
-    unsent: Option<&'a [u8]>,
+    // What it sends once, and whether that was not sent yet, or came back.
+    once: Option<&'a [u8]>,
+    is_unsent: bool,
     // The view for which it has said what its coordinator says first.
     opened: Option<ViewId>,
     outbox: Outbox,
     teller: Teller,
     // Whether it has ended.
     has_ended: bool,
+    finder: Finder,
+    // Whether it gives up its address.
+    gives_up: bool,
+    // The round in which it is.
+    round: u64,
+    // The time when it looked last.
+    time: Duration,
+    watch: Watch,
+}
+
+// What became of a text that a node was to send.
+enum Said {
+    // It was sent.
+    Taken,
+    // It cannot be sent now.
+    Waits,
+    // It says no payload: this is wrong with it.
+    Bad(Fault),
 }
 
 // What is left of an answer of a channel to one that runs by itself: want of memory ends it, and what is refused else is passed over.
@@ -56,7 +78,7 @@ impl<'a, N: Net, C: Application> Lone<'a, N, C> {
         alloc: Global,
         member: Runner<N, C>,
         manner: Manner,
-        unsent: Option<&'a [u8]>,
+        once: Option<&'a [u8]>,
     ) -> Lone<'a, N, C>
         ensures member { result.member ≡ member }
         ensures speaks { result.teller.speaks ≡ manner.speaks }
@@ -65,11 +87,17 @@ impl<'a, N: Net, C: Application> Lone<'a, N, C> {
             alloc,
             member,
             manner,
-            unsent,
+            once,
+            is_unsent: once.is_some(),
             opened: None,
             outbox: Outbox::new(alloc),
             teller: Teller::new(alloc, manner.speaks),
             has_ended: false,
+            finder: Finder::new(manner.tick, None),
+            gives_up: false,
+            round: 0,
+            time: Duration::ZERO,
+            watch: Watch::new(),
         }
     }
 
@@ -83,7 +111,20 @@ impl<'a, N: Net, C: Application> Lone<'a, N, C> {
         tally.unreceived = self.member.faults();
         tally.unsent = self.member.net().unsent();
         tally.has_ended = self.has_ended;
+        tally.gives_up = self.gives_up;
+        tally.rounds = self.round;
+        tally.is_unsaid = self.is_unsent || self.teller.unsaid.has_once();
+        tally.strange = self.member.net().strange();
+        tally.sieved = self.member.net().sieved();
         tally
+    }
+
+    /// Gives back the lines that were not sent, or were not delivered, where it finds its group: those first that were sent first.
+    pub(crate) fn give_back<L: Lines>(&self, lines: &mut L) {
+        if self.manner.finds {
+            self.teller.unsaid.give_back(lines);
+            lines.back(self.outbox.waiting());
+        }
     }
 
     /// Its net, where it is no more used.
@@ -98,13 +139,110 @@ impl<'a, N: Net, C: Application> Lone<'a, N, C> {
         ensures drives { Quietly N.log N.failed C.meaning settings.now.group self.old.member self.new.member }
         ensures speaks { self.new.teller.speaks ≡ self.old.teller.speaks }
     {
-        let group = settings.group();
         let call = match contact {
             Some(contact) => Call::Join(contact),
+            // It looks first.
+            None if self.manner.finds => return Ok(()),
             None => Call::Create,
         };
-        let answer = do_call(self.alloc, &mut self.member, group.as_slice(), &call)?;
+        self.finder = Finder::new(self.manner.tick, contact);
+        self.call(settings, &call)
+    }
+
+    // Does a call of its channel, in the group of the settings.
+    fn call(&mut self, settings: &Settings, call: &Call<'_>) -> Result<(), Cut>
+        ensures drives { Quietly N.log N.failed C.meaning settings.now.group self.old.member self.new.member }
+        ensures speaks { self.new.teller.speaks ≡ self.old.teller.speaks }
+    {
+        let group = settings.group();
+        let answer = do_call(self.alloc, &mut self.member, group.as_slice(), call)?;
         unless_memory(answer)
+    }
+
+    // Where it is.
+    fn whereabouts(&mut self) -> Whereabouts
+        ensures member { self.new.member ≡ self.old.member }
+        ensures speaks { self.new.teller.speaks ≡ self.old.teller.speaks }
+    {
+        let channel = self.member.channel();
+        let view = match channel.view() {
+            Some(view) => Some(Standing {
+                view: view.id(),
+                members: view.members().len(),
+            }),
+            None => None,
+        };
+        Whereabouts {
+            own: channel.address(),
+            view,
+        }
+    }
+
+    // Whether its view has too few members to send in it.
+    fn is_few(&mut self) -> bool
+        ensures member { self.new.member ≡ self.old.member }
+        ensures speaks { self.new.teller.speaks ≡ self.old.teller.speaks }
+    {
+        match self.whereabouts().view {
+            Some(standing) => standing.members < self.manner.quorum as usize,
+            None => false,
+        }
+    }
+
+    // Whether it sends nothing for now.
+    fn holds(&mut self) -> bool
+        ensures member { self.new.member ≡ self.old.member }
+        ensures speaks { self.new.teller.speaks ≡ self.old.teller.speaks }
+    {
+        (self.manner.finds && self.finder.holds()) || self.is_few()
+    }
+
+    // Says to each node to which it is time to where it is.
+    fn say(&mut self, own: Address)
+        ensures waits { Waits N.log self.old.member self.new.member }
+        ensures speaks { self.new.teller.speaks ≡ self.old.teller.speaks }
+    {
+        let now = milliseconds(self.time);
+        for place in 0..MOST_NODES {
+            let Some(node) = self.member.net().words().get(place).copied() else {
+                return;
+            };
+            if node.node != own.node() && self.finder.says(self.round, node.is_asked) {
+                let word = self.finder.word(now, own, &node);
+                self.member.net().say(node.node, &word);
+            }
+        }
+    }
+
+    // What it is to do to find its group.
+    fn next_step(&mut self) -> Step
+        ensures waits { Waits N.log self.old.member self.new.member }
+        ensures speaks { self.new.teller.speaks ≡ self.old.teller.speaks }
+    {
+        let now = milliseconds(self.time);
+        let at = self.whereabouts();
+        let step = self.finder.step(now, &at, self.member.net().words());
+        self.say(at.own);
+        step
+    }
+
+    // Finds its group, where it is to: from its second round on, for it knows no time in the first.
+    fn find(&mut self, settings: &Settings) -> Result<(), Cut>
+        ensures drives { Quietly N.log N.failed C.meaning settings.now.group self.old.member self.new.member }
+        ensures speaks { self.new.teller.speaks ≡ self.old.teller.speaks }
+    {
+        if !self.manner.finds || self.has_ended || self.round == 0 {
+            return Ok(());
+        }
+        match self.next_step() {
+            Step::Stay => Ok(()),
+            Step::Ask(contact) => self.call(settings, &Call::Join(contact)),
+            Step::Make => self.call(settings, &Call::Create),
+            Step::Again => {
+                self.gives_up = true;
+                Ok(())
+            }
+        }
     }
 
     // Sends, as the coordinator of its view, what that sends first in the view, if it may.
@@ -147,7 +285,7 @@ impl<'a, N: Net, C: Application> Lone<'a, N, C> {
             return Ok(false);
         };
         match C::first_message(self.alloc, view)? {
-            Some(payload) => self.sends(&payload),
+            Some(payload) => self.sends(&payload, Sent::First),
             None => Ok(true),
         }
     }
@@ -157,65 +295,144 @@ impl<'a, N: Net, C: Application> Lone<'a, N, C> {
         ensures drives { (group : List ℕ) → Quietly N.log N.failed C.meaning group self.old.member self.new.member }
         ensures speaks { self.new.teller.speaks ≡ self.old.teller.speaks }
     {
-        let Some(text) = self.unsent else {
+        if self.manner.finds && self.teller.unsaid.take_once() {
+            self.is_unsent = true;
+        }
+        let Some(text) = self.once else {
             return Ok(());
         };
-        if self.says(text)? {
-            self.unsent = None;
+        if !self.is_unsent {
+            return Ok(());
         }
-        Ok(())
-    }
-
-    // Sends what a text says in its view, and answers whether it was taken.
-    fn says(&mut self, text: &[u8]) -> Result<bool, Cut>
-        ensures drives { (group : List ℕ) → Quietly N.log N.failed C.meaning group self.old.member self.new.member }
-        ensures speaks { self.new.teller.speaks ≡ self.old.teller.speaks }
-    {
-        let Some(view) = self.member.channel().view() else {
-            return Ok(false);
-        };
-        match C::payload_in_view(self.alloc, view.id(), text) {
-            Ok(payload) => self.sends(&payload),
-            Err(Unheard::Memory) => Err(Cut::Memory),
-            Err(Unheard::Fault(fault)) => {
+        match self.says(text, Sent::Once)? {
+            Said::Taken => {
+                self.is_unsent = false;
+                Ok(())
+            }
+            Said::Waits => Ok(()),
+            Said::Bad(fault) => {
                 self.teller.tally.trouble = Some(Trouble::NoPayload(fault));
                 Err(Cut::Failed)
             }
         }
     }
 
-    // Sends a payload, and answers whether it was taken.
-    fn sends(&mut self, payload: &Bytes) -> Result<bool, Cut>
+    // Sends what a text says in its view, and answers what became of it.
+    fn says(&mut self, text: &[u8], sent: Sent) -> Result<Said, Cut>
+        ensures drives { (group : List ℕ) → Quietly N.log N.failed C.meaning group self.old.member self.new.member }
+        ensures speaks { self.new.teller.speaks ≡ self.old.teller.speaks }
+    {
+        let Some(view) = self.member.channel().view() else {
+            return Ok(Said::Waits);
+        };
+        match C::payload_in_view(self.alloc, view.id(), text) {
+            Ok(payload) => {
+                if self.sends(&payload, sent)? {
+                    Ok(Said::Taken)
+                } else {
+                    Ok(Said::Waits)
+                }
+            }
+            Err(Unheard::Memory) => Err(Cut::Memory),
+            Err(Unheard::Fault(fault)) => Ok(Said::Bad(fault)),
+        }
+    }
+
+    // Sends a payload, and answers whether it was taken. Where it finds its group it notes what was sent, to send it again if it comes back.
+    fn sends(&mut self, payload: &Bytes, sent: Sent) -> Result<bool, Cut>
         ensures drives { (group : List ℕ) → Quietly N.log N.failed C.meaning group self.old.member self.new.member }
         ensures speaks { self.new.teller.speaks ≡ self.old.teller.speaks }
     {
         let answer = send(self.alloc, &mut self.member, payload)?;
         let is_taken = answer.is_ok();
         unless_memory(answer)?;
+        if is_taken && self.manner.finds {
+            self.teller.unsaid.send(sent)?;
+        }
         Ok(is_taken)
     }
 
-    // Sends the lines that wait, as many as it may; answers whether it sent any.
+    // Takes the lines that came back, to send them before all that wait.
+    fn take_back(&mut self) -> Result<(), Cut>
+        ensures member { self.new.member ≡ self.old.member }
+        ensures speaks { self.new.teller.speaks ≡ self.old.teller.speaks }
+    {
+        let lines = self.teller.unsaid.take_lines();
+        self.outbox.begin_with(lines.as_slice())?;
+        Ok(())
+    }
+
+    // The line that it is to send next; none while a line is to be told of that cannot be sent.
+    fn next_line(&mut self) -> Result<Option<Vec<u8>>, Cut>
+        ensures member { self.new.member ≡ self.old.member }
+        ensures speaks { self.new.teller.speaks ≡ self.old.teller.speaks }
+    {
+        if self.watch.has_notice() {
+            return Ok(None);
+        }
+        match self.outbox.next() {
+            Ok(Some(line)) => Ok(Some(Vec::from_slice(self.alloc, line)?)),
+            Ok(None) => Ok(None),
+            Err(OutboxError::Long) => {
+                self.outbox.drop_long();
+                self.watch.note(Notice::LongLine);
+                Ok(None)
+            }
+        }
+    }
+
+    // Sends the next line, and answers whether it did.
+    fn send_line(&mut self) -> Result<bool, Cut>
+        ensures drives { (group : List ℕ) → Quietly N.log N.failed C.meaning group self.old.member self.new.member }
+        ensures speaks { self.new.teller.speaks ≡ self.old.teller.speaks }
+    {
+        let Some(line) = self.next_line()? else {
+            return Ok(false);
+        };
+        let copy = Vec::from_slice(self.alloc, line.as_slice())?;
+        match self.says(line.as_slice(), Sent::Line(copy))? {
+            Said::Taken => {
+                self.outbox.take();
+                Ok(true)
+            }
+            Said::Waits => Ok(false),
+            Said::Bad(fault) => {
+                self.outbox.take();
+                self.watch.note(Notice::BadLine(fault));
+                Ok(false)
+            }
+        }
+    }
+
+    // Sends the lines that wait, as many as it may, where it holds none back; answers whether it sent any.
     fn send_lines(&mut self) -> Result<bool, Cut>
         ensures drives { (group : List ℕ) → Quietly N.log N.failed C.meaning group self.old.member self.new.member }
         ensures speaks { self.new.teller.speaks ≡ self.old.teller.speaks }
     {
+        self.take_back()?;
+        if self.holds() {
+            return Ok(false);
+        }
         self.send_first()?;
         for sent in 0..SENDS {
-            let line = match self.outbox.next() {
-                Ok(Some(line)) => Vec::from_slice(self.alloc, line)?,
-                Ok(None) => return Ok(sent > 0),
-                Err(OutboxError::Long) => {
-                    self.teller.tally.trouble = Some(Trouble::LongLine);
-                    return Err(Cut::Failed);
-                }
-            };
-            if !self.says(line.as_slice())? {
+            if !self.send_line()? {
                 return Ok(sent > 0);
             }
-            self.outbox.take();
         }
         Ok(true)
+    }
+
+    // Sends what it has to send, as much as it may, where it holds nothing back.
+    fn send_all(&mut self) -> Result<(), Cut>
+        ensures drives { (group : List ℕ) → Quietly N.log N.failed C.meaning group self.old.member self.new.member }
+        ensures speaks { self.new.teller.speaks ≡ self.old.teller.speaks }
+    {
+        if !self.holds() {
+            self.send_first()?;
+            self.send_once()?;
+        }
+        self.send_lines()?;
+        Ok(())
     }
 
     // Takes the lines that came.
@@ -246,17 +463,16 @@ impl<'a, N: Net, C: Application> Lone<'a, N, C> {
     }
 
     // A round; it seeks whom its view lacks, where it is time to.
-    fn round(&mut self, round: u64) -> Result<(), Cut>
+    fn round(&mut self) -> Result<(), Cut>
         ensures drives { (group : List ℕ) → Quietly N.log N.failed C.meaning group self.old.member self.new.member }
         ensures speaks { self.new.teller.speaks ≡ self.old.teller.speaks }
     {
-        self.send_first()?;
-        self.send_once()?;
-        self.send_lines()?;
+        self.send_all()?;
         let answer = self.member.round();
+        self.member.meet();
         self.goes_on(answer)?;
         let merge = u64::from(self.manner.merge);
-        if self.has_ended || merge == 0 || round % merge != 0 {
+        if self.has_ended || self.manner.finds || merge == 0 || self.round % merge != 0 {
             return Ok(());
         }
         let answer = self.member.seek();
@@ -307,17 +523,20 @@ impl<'a, N: Net, C: Application> Lone<'a, N, C> {
     // One of its rounds, and what happened by it.
     fn turn<L: Lines, W: Write>(
         &mut self,
-        round: u64,
+        settings: &Settings,
         lines: &mut L,
         writer: &mut W,
     ) -> Result<(), Cut>
-        ensures tells { (group : List ℕ) → Tells N.log N.failed C.meaning group self.old.teller.speaks self.old.member self.new.member (W.contents writer.old) (W.contents writer.new) result }
+        ensures tells { Tells N.log N.failed C.meaning settings.now.group self.old.teller.speaks self.old.member self.new.member (W.contents writer.old) (W.contents writer.new) result }
         ensures speaks { self.new.teller.speaks ≡ self.old.teller.speaks }
     {
         if let Err(why) = self.take_lines(lines) {
             return Err(why);
         }
-        let went = self.round(round);
+        let went = match self.round() {
+            Ok(()) => self.find(settings),
+            Err(why) => Err(why),
+        };
         match self.show_events(writer) {
             Ok(()) => went,
             Err(why) => Err(why),
@@ -351,6 +570,15 @@ impl<'a, N: Net, C: Application> Lone<'a, N, C> {
         }
     }
 
+    // It is this time.
+    fn go_on(&mut self, now: Duration)
+        ensures member { self.new.member ≡ self.old.member }
+        ensures speaks { self.new.teller.speaks ≡ self.old.teller.speaks }
+    {
+        self.time = now;
+        self.finder.go_on(milliseconds(now));
+    }
+
     // Handles datagrams as they come, until it is time for the next round.
     fn listen_until<M: Machine, W: Write>(
         &mut self,
@@ -363,7 +591,8 @@ impl<'a, N: Net, C: Application> Lone<'a, N, C> {
         ensures gone { M.gone machine.new ≡ M.gone machine.old }
     {
         for _ in 0..LISTENS {
-            let rest = due.saturating_sub(machine.now());
+            self.go_on(machine.now());
+            let rest = due.saturating_sub(self.time);
             if self.has_ended || rest == Duration::ZERO {
                 return Ok(());
             }
@@ -393,30 +622,91 @@ impl<'a, N: Net, C: Application> Lone<'a, N, C> {
         self.listen_until(due, machine, writer)
     }
 
+    // Tells the machine what whoever looks after it should know, and shows it how it is.
+    fn look<M: Machine>(&mut self, machine: &mut M)
+        ensures member { self.new.member ≡ self.old.member }
+        ensures speaks { self.new.teller.speaks ≡ self.old.teller.speaks }
+        ensures gone { M.gone machine.new ≡ M.gone machine.old }
+    {
+        if let Some(notice) = self.watch.take_notice() {
+            machine.notice(notice);
+        }
+        if self.round == 0 {
+            return;
+        }
+        let is_blocked = self.member.channel().is_blocked();
+        if self.watch.pass(self.time, is_blocked) {
+            self.teller.say_blocked();
+        }
+        self.note_few();
+        if self.watch.shows(self.time) {
+            self.show(machine);
+        }
+    }
+
+    // Notes where lines wait since its view has too few members.
+    fn note_few(&mut self)
+        ensures member { self.new.member ≡ self.old.member }
+        ensures speaks { self.new.teller.speaks ≡ self.old.teller.speaks }
+    {
+        if !self.is_few() || !(self.is_unsent || self.outbox.has_line()) {
+            return;
+        }
+        if let Some(standing) = self.whereabouts().view {
+            self.watch.wait_for_more(standing.view, standing.members);
+        }
+    }
+
+    // Shows the machine how it is.
+    fn show<M: Machine>(&mut self, machine: &mut M)
+        ensures member { self.new.member ≡ self.old.member }
+        ensures speaks { self.new.teller.speaks ≡ self.old.teller.speaks }
+        ensures gone { M.gone machine.new ≡ M.gone machine.old }
+    {
+        let strange = self.member.net().strange();
+        let channel = self.member.channel();
+        let (view, members) = match channel.view() {
+            Some(view) => (Some(view.id()), view.members().as_slice()),
+            None => (None, &[][..]),
+        };
+        machine.show(&NodeStatus {
+            address: channel.address(),
+            view,
+            members,
+            blocked: self.watch.blocked(self.time),
+            outstanding: self.teller.unsaid.outstanding(),
+            stable: channel.stable(),
+            strange,
+        });
+    }
+
     // All of its rounds, until its lines are over; between two it handles datagrams as they come.
     fn turns<L: Lines, M: Machine, W: Write>(
         &mut self,
+        settings: &Settings,
         rounds: u64,
         lines: &mut L,
         machine: &mut M,
         writer: &mut W,
     ) -> Result<(), Cut>
-        ensures tells { (group : List ℕ) → self.old.member.channel.happened ≡ [] → Tells N.log N.failed C.meaning group self.old.teller.speaks self.old.member self.new.member (W.contents writer.old) (W.contents writer.new) result }
+        ensures tells { self.old.member.channel.happened ≡ [] → Tells N.log N.failed C.meaning settings.now.group self.old.teller.speaks self.old.member self.new.member (W.contents writer.old) (W.contents writer.new) result }
         ensures speaks { self.new.teller.speaks ≡ self.old.teller.speaks }
         ensures gone { M.gone machine.new ≡ M.gone machine.old }
     {
         for round in 0..rounds {
-            if self.has_ended || self.outbox.is_over() {
+            if self.has_ended || self.gives_up || self.outbox.is_over() {
                 return Ok(());
             }
             match self.rest(round, machine, writer) {
                 Ok(()) => (),
                 Err(why) => return Err(why),
             }
-            match self.turn(round, lines, writer) {
+            self.round = round;
+            match self.turn(settings, lines, writer) {
                 Ok(()) => (),
                 Err(why) => return Err(why),
             }
+            self.look(machine);
         }
         Ok(())
     }
@@ -426,7 +716,7 @@ impl<'a, N: Net, C: Application> Lone<'a, N, C> {
         ensures tells { (group : List ℕ) → self.old.member.channel.happened ≡ [] → Tells N.log N.failed C.meaning group self.old.teller.speaks self.old.member self.new.member (W.contents writer.old) (W.contents writer.new) result }
         ensures speaks { self.new.teller.speaks ≡ self.old.teller.speaks }
     {
-        if self.has_ended || !self.manner.leaves {
+        if self.has_ended || !(self.manner.leaves || self.gives_up) {
             return Ok(());
         }
         let left = unless_memory(self.member.channel().disconnect());
@@ -454,7 +744,7 @@ impl<'a, N: Net, C: Application> Lone<'a, N, C> {
             Ok(()) => (),
             Err(why) => return Err(why),
         }
-        match self.turns(plan.rounds, lines, machine, writer) {
+        match self.turns(settings, plan.rounds, lines, machine, writer) {
             Ok(()) => (),
             Err(why) => return Err(why),
         }
