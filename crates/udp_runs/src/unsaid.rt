@@ -33,7 +33,8 @@ pub(crate) struct Unsaid {
 // Appends a line and its line feed.
 fn append_line(text: &mut Vec<u8>, line: &[u8]) -> Result<(), AllocError> {
     text.extend_from_slice(line)?;
-    text.push(b'\n')
+    text.push(b'\n')?;
+    Ok(())
 }
 
 impl Unsaid {
@@ -50,7 +51,8 @@ impl Unsaid {
 
     /// A message was sent.
     pub(crate) fn send(&mut self, message: Sent) -> Result<(), AllocError> {
-        self.sent.push(message)
+        self.sent.push(message)?;
+        Ok(())
     }
 
     /// Something happened to the member: what it sent is delivered in the order in which it was sent, and what a view change hands back is the oldest of the rest.

@@ -4,11 +4,11 @@ use crate::Notice;
 use address::ViewId;
 use std::time::Duration;
 
-/// How often its status is shown at most.
-const SHOWS: Duration = Duration::from_secs(1);
+/// How often its status is shown at most, in seconds.
+const SHOWS: u64 = 1;
 
-/// For how long a member is blocked before it says so.
-const BLOCKED: Duration = Duration::from_secs(2);
+/// For how long a member is blocked before it says so, in seconds.
+const BLOCKED: u64 = 2;
 
 /// What is to be told of a node, and what was.
 #[derive(Drop)]
@@ -70,7 +70,7 @@ impl Watch {
         }
         let since = self.blocked.unwrap_or(now);
         self.blocked = Some(since);
-        if self.is_said || now.saturating_sub(since) < BLOCKED {
+        if self.is_said || now.saturating_sub(since) < Duration::from_secs(BLOCKED) {
             return false;
         }
         self.is_said = true;
@@ -88,7 +88,7 @@ impl Watch {
     /// Whether its status is to be shown at this time.
     pub(crate) fn shows(&mut self, now: Duration) -> bool {
         match self.shown {
-            Some(last) if now.saturating_sub(last) < SHOWS => false,
+            Some(last) if now.saturating_sub(last) < Duration::from_secs(SHOWS) => false,
             _ => {
                 self.shown = Some(now);
                 true

@@ -32,7 +32,7 @@ fn put(text: &mut Vec<u8>, more: &str) -> Result<(), AllocError> {
 }
 
 // Appends a line of a word and a value.
-fn put_value<V: std::fmt::Display>(text: &mut Vec<u8>, word: &str, value: V) -> Result<(), AllocError> {
+fn put_value<V: std::fmt::Display + Drop>(text: &mut Vec<u8>, word: &str, value: V) -> Result<(), AllocError> {
     let line = format!(in *text.allocator(); "{word} {value}\n")?;
     put(text, line.as_str())
 }
