@@ -3,3 +3,5 @@ pub mod Errors
 pub mod Hosts
 pub mod Logs
 pub mod Settings
+pub mod Sieve
+pub mod Words
