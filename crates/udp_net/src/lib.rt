@@ -9,6 +9,7 @@ mod held_back;
 mod hosts;
 mod lane;
 mod memory_net;
+mod neighbours;
 mod net;
 mod node_ports;
 mod sieve;
