@@ -5,15 +5,25 @@ ghost use Rattle.udp_net.specs.Hosts.{host_of};
 ghost use Rattle.udp_net.specs.declared.lane.Passage.TheVariants.{Lost};
 
 use crate::lane::{Lane, Passage};
+use crate::neighbours::Neighbours;
+use crate::sieve::Sieve;
 use crate::socket::Socket;
-use crate::{BindError, Fault, HELD_WAIT, Hosts, Net, NodePort, Settings, TURN};
-use address::Node;
+use crate::word::is_word;
+use crate::{
+    BindError, Fault, HELD_WAIT, Hosts, Neighbour, Net, NodePort, Settings, TURN, WORD, Word,
+};
+use address::{Address, Node, ViewId};
 use std::alloc::{AllocError, Global};
 use std::net::SocketAddr;
 use std::time::Duration;
+use step_output::OwnedName;
+use wire::decode;
 
-/// The net of one node: a socket of UDP at this node's host and at its port by the settings, which waits only in `wait`. What comes is heard as from a node where it comes
-/// from the node's host and port. Packets are neither signed nor encrypted, so the network must be one's own.
+/// The net of one node: a socket of UDP at this node's host and at its port by the settings, which waits only in `wait`. Packets are neither signed nor encrypted, so the
+/// network must be one's own.
+///
+/// It drops packets and words of a node that the settings do not list, or that come from elsewhere than the node's host and port, and packets that would harm the group
+/// (docs/PROTOCOL.md, "What a net drops"). What spells no packet is given, and refused by the member.
 ///
 /// A long burst goes in pieces, since the buffer of the socket that it is for would not take it: in one turn `BURST` bytes go to a node, and the datagram that
 /// goes over them. What is more is held back, for each node by itself, and goes in order, in the next turns, before what is offered then. One that waits
@@ -32,8 +42,15 @@ pub struct SocketNet {
     // The receives of this turn.
     receives: u32,
     failures: u64,
+    group: OwnedName,
+    sieve: Sieve,
+    neighbours: Neighbours,
+    // The bytes of the word that is said.
+    spelled: Vec<u8>,
     // Whether a node's datagrams are taken wherever they come from.
     is_open: bool,
+    strange: u64,
+    sieved: u64,
 }
 
 // The ways to some nodes, each at its host.
@@ -87,13 +104,22 @@ impl SocketNet {
     ) -> Result<SocketNet, BindError> {
         let port = settings.port(node).ok_or(BindError::Config)?;
         let lanes = lanes_to(alloc, settings.nodes(), hosts)?;
+        let sieve = Sieve::new(alloc, settings.nodes(), settings.silent())?;
+        let neighbours = Neighbours::new(alloc, settings.nodes())?;
+        let spelled = Vec::with_capacity(alloc, WORD)?;
         match Socket::bind(network, SocketAddr::new(hosts.own(), port)) {
             Ok(socket) => Ok(SocketNet {
                 socket,
                 lanes,
                 receives: 0,
                 failures: 0,
+                group: OwnedName::of(&settings.group()),
+                sieve,
+                neighbours,
+                spelled,
                 is_open: false,
+                strange: 0,
+                sieved: 0,
             }),
             Err(_) => Err(BindError::Bind),
         }
@@ -108,35 +134,83 @@ impl SocketNet {
         self.is_open = true;
     }
 
-    // A datagram came from an address.
-    fn hear(&mut self, from: SocketAddr)
+    // Whether a datagram that names a node is from it: then the node has rounds.
+    fn is_from(&mut self, node: Node, from: SocketAddr) -> bool
         ensures failed { self.new.failures ≡ self.old.failures }
         ensures unsent { self.new.socket.unsent ≡ self.old.socket.unsent }
     {
+        let is_open = self.is_open;
+        let mut is_from = false;
         for lane in self.lanes.as_mut_slice() {
-            if lane.comes_from(from) {
+            if lane.node() == node && (is_open || lane.comes_from(from)) {
                 lane.hear();
+                is_from = true;
             }
+        }
+        is_from
+    }
+
+    // Takes a datagram that begins as a word: it counts if it spells one of the group, and is from its node.
+    fn hear_word(&mut self, datagram: &[u8], from: SocketAddr)
+        ensures failed { self.new.failures ≡ self.old.failures }
+        ensures unsent { self.new.socket.unsent ≡ self.old.socket.unsent }
+    {
+        let Ok(word) = Word::read(datagram, &self.group.lent()) else {
+            self.strange = self.strange.saturating_add(1);
+            return;
+        };
+        if self.is_from(word.source.node(), from) {
+            self.neighbours.hear(&word);
+        } else {
+            self.strange = self.strange.saturating_add(1);
         }
     }
 
-    // Takes the next datagram that came.
+    // Whether a datagram is given: what spells no packet is, unless it is a word.
+    fn gives(&mut self, datagram: &[u8], from: SocketAddr) -> bool
+        ensures failed { self.new.failures ≡ self.old.failures }
+        ensures unsent { self.new.socket.unsent ≡ self.old.socket.unsent }
+    {
+        if is_word(datagram) {
+            self.hear_word(datagram, from);
+            return false;
+        }
+        let Ok(packet) = decode(datagram) else {
+            return true;
+        };
+        if !self.is_from(packet.source.node(), from) {
+            self.strange = self.strange.saturating_add(1);
+            return false;
+        }
+        if !self.sieve.lets_through(&packet) {
+            self.sieved = self.sieved.saturating_add(1);
+            return false;
+        }
+        self.sieve.hear(&packet);
+        true
+    }
+
+    // Takes the next datagram that is given; none where `TURN` in a row are dropped.
     fn take(&mut self, buffer: &mut [u8]) -> Result<Option<usize>, Fault>
         ensures within { IfOk result (λ count. IfSome count (λ n. n ≤ length buffer.new)) }
         ensures failed { self.new.failures ≡ failures_after self.old.failures result }
         ensures unsent { self.new.socket.unsent ≡ self.old.socket.unsent }
     {
-        match self.socket.receive(buffer) {
-            Ok(Some((count, from))) => {
-                self.hear(from);
-                Ok(Some(count))
-            }
-            Ok(None) => Ok(None),
-            Err(_) => {
-                self.failures = self.failures.saturating_add(1);
-                Err(Fault::Receive)
+        for _ in 0..TURN {
+            match self.socket.receive(buffer) {
+                Ok(Some((count, from))) => {
+                    if self.gives(&buffer[..count], from) {
+                        return Ok(Some(count));
+                    }
+                }
+                Ok(None) => return Ok(None),
+                Err(_) => {
+                    self.failures = self.failures.saturating_add(1);
+                    return Err(Fault::Receive);
+                }
             }
         }
+        Ok(None)
     }
 
     // Whether a datagram is held back for some node.
@@ -202,5 +276,40 @@ impl Net for SocketNet {
 
     fn unsent(&self) -> u64 {
         self.socket.unsent()
+    }
+
+    fn pass(&mut self, view: Option<ViewId>, members: &[Address]) {
+        self.sieve.pass(view, members);
+        self.neighbours.pass();
+    }
+
+    /// Sends it to the node's host and port at once; one for a node that the settings do not list is lost, and does not count as unsent.
+    fn say(&mut self, node: Node, word: &Word) {
+        self.sieve.say_words();
+        self.neighbours.answer(node);
+        self.spelled.clear();
+        if word.spell(&self.group.lent(), &mut self.spelled).is_err() {
+            self.socket.lose();
+            return;
+        }
+        let socket = &mut self.socket;
+        for lane in self.lanes.as_slice() {
+            if lane.node() == node {
+                socket.send(lane.address(), self.spelled.as_slice());
+            }
+        }
+    }
+
+    fn words(&self) -> &[Neighbour] {
+        self.neighbours.told()
+    }
+
+    /// Also words that are spelled wrongly, or are of another group.
+    fn strange(&self) -> u64 {
+        self.strange
+    }
+
+    fn sieved(&self) -> u64 {
+        self.sieved
     }
 }
