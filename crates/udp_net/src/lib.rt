@@ -12,6 +12,7 @@ mod net;
 mod node_ports;
 mod socket;
 mod socket_net;
+mod word;
 
 pub use document::settings;
 pub use error::{BindError, Fault, SettingsError};
@@ -21,6 +22,7 @@ pub use memory_net::{Listed, MemoryNet, Offered};
 pub use net::{Net, Received};
 pub use node_ports::{MOST_NODES, MOST_SILENT, NodePort, Settings};
 pub use socket_net::SocketNet;
+pub use word::{Echo, Neighbour, Place, Word};
 
 /// How many bytes a socket's net sends to a node in one turn, in bytes; the datagram that goes over them is sent too. The buffer of a socket has 212,992 bytes
 /// by default on Linux, of which a datagram takes up to twice its length.

@@ -32,6 +32,8 @@ pub struct SocketNet {
     // The receives of this turn.
     receives: u32,
     failures: u64,
+    // Whether a node's datagrams are taken wherever they come from.
+    is_open: bool,
 }
 
 // The ways to some nodes, each at its host.
@@ -91,9 +93,19 @@ impl SocketNet {
                 lanes,
                 receives: 0,
                 failures: 0,
+                is_open: false,
             }),
             Err(_) => Err(BindError::Bind),
         }
+    }
+
+    /// From now on the datagrams of a node that the settings list are taken wherever they come from, as where addresses are translated on the way
+    /// (docs/PROTOCOL.md, "What a net drops").
+    pub fn hear_from_anywhere(&mut self)
+        ensures failed { self.new.failures ≡ self.old.failures }
+        ensures unsent { self.new.socket.unsent ≡ self.old.socket.unsent }
+    {
+        self.is_open = true;
     }
 
     // A datagram came from an address.
