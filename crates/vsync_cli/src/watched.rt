@@ -47,11 +47,17 @@ fn put_addresses(text: &mut Vec<u8>, word: &str, addresses: &[Address]) -> Resul
     put(text, "\n")
 }
 
-// Appends the line of the nodes at which there is no member of the view.
-fn put_sought(text: &mut Vec<u8>, nodes: &[NodePort], members: &[Address]) -> Result<(), AllocError> {
+// Appends the line of the other nodes at which there is no member of the view.
+fn put_sought(
+    text: &mut Vec<u8>,
+    nodes: &[NodePort],
+    status: &NodeStatus<'_>,
+) -> Result<(), AllocError> {
     put(text, "sought")?;
+    let own = status.address.node();
     for place in nodes {
-        if !members.iter().any(|member| member.node() == place.node) {
+        let is_there = status.members.iter().any(|member| member.node() == place.node);
+        if place.node != own && !is_there {
             let node = place.node;
             let shown = format!(in *text.allocator(); " {node}")?;
             put(text, shown.as_str())?;
@@ -78,7 +84,7 @@ fn status_text(alloc: Global, nodes: &[NodePort], status: &NodeStatus<'_>) -> Re
     }
     put_value(&mut text, "outstanding", status.outstanding)?;
     put_value(&mut text, "stable", status.stable)?;
-    put_sought(&mut text, nodes, status.members)?;
+    put_sought(&mut text, nodes, status)?;
     put_value(&mut text, "strange", status.strange)?;
     Ok(text)
 }
