@@ -2,14 +2,17 @@
 //! (docs/FORMATS.md, "Settings"); and the hosts at which they are reached.
 #![tactic(auto)]
 
+mod asker;
 mod document;
 mod error;
 mod held_back;
 mod hosts;
 mod lane;
 mod memory_net;
+mod neighbours;
 mod net;
 mod node_ports;
+mod sieve;
 mod socket;
 mod socket_net;
 mod word;
@@ -21,8 +24,9 @@ pub use hosts::Hosts;
 pub use memory_net::{Listed, MemoryNet, Offered};
 pub use net::{Net, Received};
 pub use node_ports::{MOST_NODES, MOST_SILENT, NodePort, Settings};
+pub use sieve::FURTHEST;
 pub use socket_net::SocketNet;
-pub use word::{Echo, Neighbour, Place, Word};
+pub use word::{Echo, Neighbour, Place, WORD, Word};
 
 /// How many bytes a socket's net sends to a node in one turn, in bytes; the datagram that goes over them is sent too. The buffer of a socket has 212,992 bytes
 /// by default on Linux, of which a datagram takes up to twice its length.
