@@ -5,4 +5,5 @@ pub mod Logs
 pub mod Neighbours
 pub mod Settings
 pub mod Sieve
+pub mod Strangers
 pub mod Words

@@ -1,6 +1,7 @@
 ghost use Rattle.std.specs.Prelude.{◌≡◌, OnErr, IfOk, OnOk, IsTrue, length, nat_eq};
 ghost use Rattle.udp_net.specs.Bursts.{opened, passage, offered, after_offer, begun, GoesOn};
 ghost use Rattle.udp_net.specs.Hosts.{IsSameHost};
+ghost use Rattle.udp_net.specs.Strangers.{IsFrom, IsPlainlyFrom};
 ghost use Rattle.std.specs.Net.Socket.{socket_ip, socket_port};
 
 use crate::held_back::HeldBack;
@@ -87,6 +88,14 @@ impl Lane {
         ensures only { IsTrue result → IsSameHost (socket_ip from) self.now.host × (socket_port from ≡ self.now.port.port) }
     {
         is_same_host(from.ip(), self.host) && from.port() == self.port.port
+    }
+
+    // Whether it leads to a node, and a datagram that names the node is from it: it comes from there, or may come from anywhere.
+    pub(crate) fn is_way_of(&self, is_open: bool, node: Node, from: SocketAddr) -> bool
+        ensures same { IsPlainlyFrom is_open node from self.now → IsTrue result }
+        ensures only { IsTrue result → IsFrom is_open node from self.now }
+    {
+        self.port.node == node && (is_open || self.comes_from(from))
     }
 
     // How many datagrams are held back.

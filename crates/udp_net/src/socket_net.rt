@@ -1,7 +1,13 @@
-ghost use Rattle.std.specs.Prelude.{◌≡◌, ◌≤◌, length, map, IfOk, IfSome};
+ghost use Rattle.std.specs.Prelude.{◌≡◌, ◌≢◌, ◌≤◌, true, length, map, IfOk, IfSome, IsTrue, if◌then◌else◌};
 ghost use Rattle.udp_net.specs.Logs.{one_more, failures_after};
 ghost use Rattle.udp_net.specs.Bursts.{opened, passage};
 ghost use Rattle.udp_net.specs.Hosts.{host_of};
+ghost use Rattle.udp_net.specs.Sieve.{lets_through, IsOrdinary};
+ghost use Rattle.udp_net.specs.Strangers.{AnyLane, IsFrom, IsPlainlyFrom, is_strange, is_sieved};
+ghost use Rattle.udp_net.specs.Words.{begins_as_word};
+ghost use Rattle.udp_net.specs.declared.socket_net.Verdict.TheVariants.{Given};
+ghost use Rattle.wire_values.specs.declared.packet.Packet.{Packet as PacketValue};
+ghost use Rattle.wire.specs.Packets.{Spells, packet_of};
 ghost use Rattle.udp_net.specs.declared.lane.Passage.TheVariants.{Lost};
 
 use crate::lane::{Lane, Passage};
@@ -17,7 +23,20 @@ use std::alloc::{AllocError, Global};
 use std::net::SocketAddr;
 use std::time::Duration;
 use step_output::OwnedName;
-use wire::decode;
+use wire::{Packet, decode};
+
+/// What becomes of a datagram that comes.
+#[derive(Clone, Copy, PartialEq, Eq)]
+enum Verdict {
+    /// It is given.
+    Given,
+    /// It is a word, which counts.
+    Told,
+    /// It is dropped: it is no word of the group, or comes from elsewhere than the node that it names.
+    Strange,
+    /// It is dropped: the sieve does not let it through.
+    Sieved,
+}
 
 /// The net of one node: a socket of UDP at this node's host and at its port by the settings, which waits only in `wait`. Packets are neither signed nor encrypted, so the
 /// network must be one's own.
@@ -92,6 +111,17 @@ fn send_on(socket: &mut Socket, lane: &mut Lane, datagram: &[u8])
     }
 }
 
+// Whether one of these ways leads to a node, and a datagram is from it: it comes from where the way leads, or may come from anywhere.
+fn is_on_a_lane(lanes: &[Lane], is_open: bool, node: Node, from: SocketAddr) -> bool
+    ensures same { AnyLane (IsPlainlyFrom is_open node from) lanes.now → IsTrue result }
+    ensures only { IsTrue result → AnyLane (IsFrom is_open node from) lanes.now }
+{
+    let Some((first, rest)) = lanes.split_first() else {
+        return false;
+    };
+    first.is_way_of(is_open, node, from) || is_on_a_lane(rest, is_open, node, from)
+}
+
 impl SocketNet {
     /// The net of a node. Refused with 50 where the settings do not list the node, with 51 where its socket cannot be bound, as where its port is taken, and
     /// with 7 where memory was refused.
@@ -134,60 +164,90 @@ impl SocketNet {
         self.is_open = true;
     }
 
-    // Whether a datagram that names a node is from it: then the node has rounds.
-    fn is_from(&mut self, node: Node, from: SocketAddr) -> bool
+    // A datagram came from an address: the node that is reached there has rounds.
+    fn hear(&mut self, from: SocketAddr)
         ensures failed { self.new.failures ≡ self.old.failures }
         ensures unsent { self.new.socket.unsent ≡ self.old.socket.unsent }
     {
-        let is_open = self.is_open;
-        let mut is_from = false;
         for lane in self.lanes.as_mut_slice() {
-            if lane.node() == node && (is_open || lane.comes_from(from)) {
+            if lane.comes_from(from) {
                 lane.hear();
-                is_from = true;
             }
         }
-        is_from
     }
 
-    // Takes a datagram that begins as a word: it counts if it spells one of the group, and is from its node.
-    fn hear_word(&mut self, datagram: &[u8], from: SocketAddr)
+    // Whether a datagram that names a node is from it.
+    fn is_from(&self, node: Node, from: SocketAddr) -> bool
+        ensures same { AnyLane (IsPlainlyFrom self.now.is_open node from) self.now.lanes.items → IsTrue result }
+        ensures only { IsTrue result → AnyLane (IsFrom self.now.is_open node from) self.now.lanes.items }
+    {
+        is_on_a_lane(self.lanes.as_slice(), self.is_open, node, from)
+    }
+
+    // What becomes of a datagram that begins as a word: it counts if it spells one of the group, and is from its node.
+    fn hear_word(&mut self, datagram: &[u8], from: SocketAddr) -> Verdict
+        ensures given { result ≢ Given }
         ensures failed { self.new.failures ≡ self.old.failures }
         ensures unsent { self.new.socket.unsent ≡ self.old.socket.unsent }
     {
         let Ok(word) = Word::read(datagram, &self.group.lent()) else {
-            self.strange = self.strange.saturating_add(1);
-            return;
+            return Verdict::Strange;
         };
-        if self.is_from(word.source.node(), from) {
-            self.neighbours.hear(&word);
-        } else {
-            self.strange = self.strange.saturating_add(1);
+        if !self.is_from(word.source.node(), from) {
+            return Verdict::Strange;
         }
+        self.neighbours.hear(&word);
+        Verdict::Told
     }
 
-    // Whether a datagram is given: what spells no packet is, unless it is a word.
-    fn gives(&mut self, datagram: &[u8], from: SocketAddr) -> bool
+    // What becomes of a packet.
+    fn judge_packet(&mut self, packet: &Packet<'_>, from: SocketAddr) -> Verdict
+        ensures given { result ≡ Given → AnyLane (IsFrom self.old.is_open packet.now.source.node from) self.old.lanes.items × (lets_through self.old.sieve packet.now ≡ true) }
+        ensures ordinary { IsOrdinary self.old.sieve packet.now → AnyLane (IsPlainlyFrom self.old.is_open packet.now.source.node from) self.old.lanes.items → result ≡ Given }
+        ensures failed { self.new.failures ≡ self.old.failures }
+        ensures unsent { self.new.socket.unsent ≡ self.old.socket.unsent }
+    {
+        if !self.is_from(packet.source.node(), from) {
+            return Verdict::Strange;
+        }
+        if !self.sieve.lets_through(packet) {
+            return Verdict::Sieved;
+        }
+        self.sieve.hear(packet);
+        Verdict::Given
+    }
+
+    // What becomes of a datagram: what spells no packet is given, unless it is a word.
+    fn judge(&mut self, datagram: &[u8], from: SocketAddr) -> Verdict
+        // No word is given; and a packet only if it comes from the node that it names, and the sieve lets it through.
+        ensures word { begins_as_word datagram.now ≡ true → result ≢ Given }
+        ensures given { result ≡ Given → IfOk (packet_of datagram.now) (λ p. AnyLane (IsFrom self.old.is_open p.source.node from) self.old.lanes.items × (lets_through self.old.sieve p ≡ true)) }
+        // The messages of a view, and what flushes it for its members, are always given, if they come from the node that they name.
+        ensures ordinary { (p : PacketValue) → Spells p datagram.now → IsOrdinary self.old.sieve p → AnyLane (IsPlainlyFrom self.old.is_open p.source.node from) self.old.lanes.items → result ≡ Given }
         ensures failed { self.new.failures ≡ self.old.failures }
         ensures unsent { self.new.socket.unsent ≡ self.old.socket.unsent }
     {
         if is_word(datagram) {
-            self.hear_word(datagram, from);
-            return false;
+            return self.hear_word(datagram, from);
         }
-        let Ok(packet) = decode(datagram) else {
-            return true;
-        };
-        if !self.is_from(packet.source.node(), from) {
-            self.strange = self.strange.saturating_add(1);
-            return false;
+        match decode(datagram) {
+            Ok(packet) => self.judge_packet(&packet, from),
+            Err(_) => Verdict::Given,
         }
-        if !self.sieve.lets_through(&packet) {
-            self.sieved = self.sieved.saturating_add(1);
-            return false;
+    }
+
+    // Counts a datagram that is dropped.
+    fn count(&mut self, verdict: Verdict)
+        ensures strange { self.new.strange ≡ (if is_strange verdict then one_more self.old.strange else self.old.strange) }
+        ensures sieved { self.new.sieved ≡ (if is_sieved verdict then one_more self.old.sieved else self.old.sieved) }
+        ensures failed { self.new.failures ≡ self.old.failures }
+        ensures unsent { self.new.socket.unsent ≡ self.old.socket.unsent }
+    {
+        match verdict {
+            Verdict::Given | Verdict::Told => {}
+            Verdict::Strange => self.strange = self.strange.saturating_add(1),
+            Verdict::Sieved => self.sieved = self.sieved.saturating_add(1),
         }
-        self.sieve.hear(&packet);
-        true
     }
 
     // Takes the next datagram that is given; none where `TURN` in a row are dropped.
@@ -199,9 +259,12 @@ impl SocketNet {
         for _ in 0..TURN {
             match self.socket.receive(buffer) {
                 Ok(Some((count, from))) => {
-                    if self.gives(&buffer[..count], from) {
+                    self.hear(from);
+                    let verdict = self.judge(&buffer[..count], from);
+                    if verdict == Verdict::Given {
                         return Ok(Some(count));
                     }
+                    self.count(verdict);
                 }
                 Ok(None) => return Ok(None),
                 Err(_) => {
