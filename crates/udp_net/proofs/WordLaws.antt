@@ -2,13 +2,12 @@
 use Rattle.std.proofs.Common.{◌≡◌, ℕ, ◌≤◌, Bool, true, false, List, [], ◌∷◌, ◌++◌, length, Option, Some, None, Ok, refl, sym, ap, ◌∙◌, append_assoc, arith, nat_eq}
 use Rattle.std.specs.Prelude.{IfSome}
 use Rattle.std.specs.Cmp.Lexicographic.{pointwise}
-use Rattle.std.proofs.lemmas.List.{append-nil, length-append}
+use Rattle.std.proofs.lemmas.List.{append-nil}
 use Rattle.std.proofs.lemmas.Bool.{eq-eqb}
 use Rattle.byteorder.specs.Endian.{big_bytes}
 use Rattle.address.specs.Ids.{ViewId}
 use Rattle.limits.specs.declared.TheConstants.{GROUP_NAME, MEMBERS}
 use Rattle.wire_values.specs.declared.error.WireError.TheVariants.{NotOurs, Version, Value}
-use Rattle.wire_values.specs.Reading.{◌>>=◌}
 use Rattle.wire_values.specs.Fields.{address_bytes, number_bytes, view_id_bytes}
 use Rattle.wire_values.specs.Texts.{group_bytes}
 use Rattle.wire_values.specs.Names.{is_group_name}
@@ -18,7 +17,7 @@ use Rattle.udp_net.specs.declared.word.Word.{Word}
 use Rattle.udp_net.specs.declared.word.Echo.{Echo}
 use Rattle.udp_net.specs.declared.word.Place.{Place}
 use Rattle.udp_net.specs.declared.word.TheConstants.{WORD_MAGIC, WORD_VERSION, GREATEST_CLOCK}
-use Rattle.udp_net.specs.Words.{IsEcho, IsPlace, IsWord, place_flag, echo_bytes, place_bytes, word_head, said_bytes, word_bytes, word_front_at, echo_at, place_at, said_at, word_at, word_of}
+use Rattle.udp_net.specs.Words.{IsEcho, IsPlace, IsWord, echo_bytes, place_bytes, word_head, said_bytes, word_bytes, word_front_at, echo_at, place_at, said_at, word_at, word_of}
 
 -- ---- how long they are
 

@@ -1,11 +1,11 @@
 -- What words tell of nodes, and when it is forgotten.
-use Rattle.std.specs.Prelude.{ℕ, ◌+◌, Bool, true, false, ◌&&◌, ◌||◌, List, map, min, Option, None, Some, nat_lt, nat_eq, if◌then◌else◌}
+use Rattle.std.specs.Prelude.{ℕ, ◌+◌, Bool, true, false, ◌&&◌, ◌||◌, List, map, min, None, Some, nat_lt, nat_eq, if◌then◌else◌}
 use Rattle.std.specs.List.{list_any}
 use Rattle.std.specs.Option.{option_map_or, is_none}
 use Rattle.udp_net.specs.declared.word.Word.{Word}
 use Rattle.udp_net.specs.declared.word.Neighbour.{Neighbour}
 use Rattle.udp_net.specs.declared.neighbours.Age.{Age}
-use Rattle.udp_net.specs.declared.neighbours.TheConstants.{FORGOTTEN}
+use Rattle.udp_net.specs.declared.TheConstants.{FORGOTTEN}
 
 -- the nodes with what was told of them, and for how many rounds that is known
 pub record NeighboursModel : Type 0 where

@@ -1,7 +1,7 @@
 -- What a socket's net lets through, and when an address that asks to be let in is not heard.
-use Rattle.std.specs.Prelude.{◌≡◌, ◌≤◌, ⊤, ℕ, ◌+◌, ◌*◌, ◌-◌, Bool, true, false, not, ◌&&◌, ◌||◌, List, [], ◌∷◌, map, min, max, Option, None, Some, nat_lt, nat_le, nat_eq, MatchOption, if◌then◌else◌}
+use Rattle.std.specs.Prelude.{◌≡◌, ◌≤◌, ⊤, ℕ, ◌+◌, ◌*◌, ◌-◌, Bool, true, false, not, ◌&&◌, ◌||◌, List, map, min, max, Option, None, Some, nat_lt, nat_le, nat_eq, MatchOption, if◌then◌else◌}
 use Rattle.std.specs.List.{list_any}
-use Rattle.std.specs.Option.{option_map_or, is_some}
+use Rattle.std.specs.Option.{option_map_or}
 use Rattle.address.specs.Ids.{Address, ViewId}
 use Rattle.view.specs.Members.{View, stands_in}
 use Rattle.view.specs.View.{view_refusal}
@@ -11,8 +11,7 @@ use Rattle.wire_values.specs.declared.packet.Packet.{Packet}
 use Rattle.udp_net.specs.declared.asker.Asker.{Asker}
 use Rattle.udp_net.specs.declared.asker.Stage.{Stage}
 use Rattle.udp_net.specs.declared.asker.Stage.TheVariants.{Free, Window, Pause}
-use Rattle.udp_net.specs.declared.asker.TheConstants.{FIRST_PAUSE, LONGEST_PAUSE, CALM}
-use Rattle.udp_net.specs.declared.sieve.TheConstants.{FURTHEST}
+use Rattle.udp_net.specs.declared.TheConstants.{FIRST_PAUSE, LONGEST_PAUSE, CALM, FURTHEST}
 
 -- ---- where the member is
 

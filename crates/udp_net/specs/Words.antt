@@ -1,5 +1,5 @@
 -- What nodes say of themselves to each other: which words there are, how each is spelled, how it is read.
-use Rattle.std.specs.Prelude.{◌≡◌, ◌≤◌, ◌<◌, ◌^◌, ℕ, Bool, true, List, [], ◌++◌, length, Option, Some, None, Result, Ok, Err, ◌==◌, IfSome, nat_eq, if◌then◌else◌}
+use Rattle.std.specs.Prelude.{◌≤◌, ℕ, Bool, List, ◌++◌, length, Option, Some, None, Result, Ok, Err, ◌==◌, IfSome, nat_eq, if◌then◌else◌}
 use Rattle.std.specs.List.{starts_with}
 use Rattle.byteorder.specs.Endian.{big_bytes}
 use Rattle.address.specs.Ids.{IsAddress}

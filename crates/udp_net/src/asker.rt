@@ -5,19 +5,10 @@ ghost use Rattle.address.specs.Ids.{Address as AddressValue};
 ghost use Rattle.view.specs.Members.{stands_in};
 ghost use Rattle.udp_net.specs.Sieve.{unasked, is_later, in_pause, is_barred_by, is_barred, asking, opened, stage_after, pause_after, is_inside, calm_after, waited};
 
-use crate::NodePort;
+use crate::{CALM, FIRST_PAUSE, LONGEST_PAUSE, NodePort};
 use address::{Address, Node};
 use std::alloc::{AllocError, Global};
 use wire_values::Roster;
-
-/// How long the first pause of an address is, in rounds.
-pub(crate) const FIRST_PAUSE: u32 = 100;
-
-/// How long a pause is at most, in rounds.
-pub(crate) const LONGEST_PAUSE: u32 = 3_200;
-
-/// After how many rounds in a row in the view an address starts afresh.
-pub(crate) const CALM: u32 = 100;
 
 /// Whether an address that asks is heard.
 #[derive(Clone, Copy)]

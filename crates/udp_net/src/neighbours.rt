@@ -4,13 +4,10 @@ ghost use Rattle.std.specs.Prelude.{◌≡◌, map, IfOk};
 ghost use Rattle.udp_net.specs.Neighbours.{untold, newborn, is_later, is_news, hearing, renewed, heard, answered, answering, older, is_old, remembered, passing};
 ghost use Rattle.std.specs.List.{list_any};
 
-use crate::{Neighbour, NodePort, Word};
+use crate::{FORGOTTEN, Neighbour, NodePort, Word};
 use address::Node;
 use std::alloc::{AllocError, Global};
 use std::marker::Model;
-
-/// After how many rounds a word is forgotten.
-pub(crate) const FORGOTTEN: u32 = 500;
 
 /// For how many rounds the latest word of a node is known.
 #[derive(Clone, Copy)]

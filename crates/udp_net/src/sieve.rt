@@ -3,15 +3,12 @@
 ghost use Rattle.std.specs.Prelude.{◌≡◌, map, true, false, None, IfOk};
 ghost use Rattle.udp_net.specs.Sieve.{unasked, standing, is_outside, counter_of, is_join, is_flush, is_merge, is_absurd, would_merge, asks_too_soon, lets_through, IsOrdinary, hearing, passing};
 
-use crate::NodePort;
 use crate::asker::{Asker, ask, is_barred, stands_in, unasked_at, wait};
+use crate::{FURTHEST, NodePort};
 use address::{Address, ViewId};
 use std::alloc::{AllocError, Global};
 use std::marker::Model;
 use wire_values::{Body, Packet, Roster};
-
-/// How much further than its own view the counters of what a member hears may be: 2 to the 32.
-pub const FURTHEST: u64 = 4_294_967_296;
 
 /// What a net knows of its member's view and of those that ask to be let in, and so what it lets through.
 #[derive(Drop)]

@@ -176,6 +176,19 @@ impl SocketNet {
         }
     }
 
+    // A datagram that names a node is from it: it has rounds, also where its address is translated on the way.
+    fn hear_node(&mut self, node: Node)
+        ensures failed { self.new.failures ≡ self.old.failures }
+        ensures unsent { self.new.socket.unsent ≡ self.old.socket.unsent }
+        ensures sieve { self.new.sieve ≡ self.old.sieve }
+    {
+        for lane in self.lanes.as_mut_slice() {
+            if lane.node() == node {
+                lane.hear();
+            }
+        }
+    }
+
     // Whether a datagram that names a node is from it.
     fn is_from(&self, node: Node, from: SocketAddr) -> bool
         ensures same { AnyLane (IsPlainlyFrom self.now.is_open node from) self.now.lanes.items → IsTrue result }
@@ -196,6 +209,7 @@ impl SocketNet {
         if !self.is_from(word.source.node(), from) {
             return Verdict::Strange;
         }
+        self.hear_node(word.source.node());
         self.neighbours.hear(&word);
         Verdict::Told
     }
@@ -210,6 +224,7 @@ impl SocketNet {
         if !self.is_from(packet.source.node(), from) {
             return Verdict::Strange;
         }
+        self.hear_node(packet.source.node());
         if !self.sieve.lets_through(packet) {
             return Verdict::Sieved;
         }

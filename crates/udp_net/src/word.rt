@@ -8,14 +8,12 @@ ghost use Rattle.wire_values.specs.Fields.{view_id_bytes};
 ghost use Rattle.udp_net.specs.declared.word.Word.{Word as WordValue};
 ghost use Rattle.udp_net.specs.Words.{IsWord, echo_bytes, place_flag, held_place_bytes, place_bytes, word_bytes, word_head, said_bytes, echo_at, place_at, word_front_at, said_at, word_at, word_of, begins_as_word};
 
+use crate::WORD;
 use address::{Address, Node, ViewId};
 use big_endian::{put, put_address, put_u8, put_u16, put_u64};
 use limits::MEMBERS;
 use std::alloc::AllocError;
 use wire_values::{GroupName, Reader, WireError, group_at};
-
-/// The most bytes of a word: 3 before the name of the group, 33 of it, 14 of who says it and when, 15 of what it answers, 16 of the view.
-pub const WORD: usize = 81;
 
 // The first two bytes of a word, `VF`, as a number. A packet begins with others (`limits::MAGIC`).
 pub(crate) const WORD_MAGIC: u16 = 22_086;
