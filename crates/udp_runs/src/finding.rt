@@ -1,5 +1,9 @@
 //! How a node finds its group by words, and when it gives way to a greater view (docs/PROTOCOL.md, "Finding", "Giving way").
 
+ghost use Rattle.std.specs.Prelude.{◌≡◌, MatchOption, None};
+ghost use Rattle.std.specs.Option.{is_some};
+ghost use Rattle.udp_runs.specs.Finding.{StepsInView, StepsOutside, asked_after, asking, greater_than, is_ago, looking, looked_after, moment_of, own_rank, ticks, wanted_after, way_of};
+
 use crate::ranks::{Moment, Offer, Rank};
 use address::{Address, ViewId};
 use std::time::Duration;
@@ -25,6 +29,9 @@ const LOOKER_SAYS: u64 = 5;
 
 /// Every how many rounds a node says a word that is in a view.
 const MEMBER_SAYS: u64 = 10;
+
+// A node that gave way was wanted nowhere by a word that is older than any that is fresh.
+const _: () = prove!(GIVE > 2 * FRESH);
 
 /// What a node is to do.
 #[derive(Clone, Copy, Debug, PartialEq, Eq)]
@@ -128,7 +135,10 @@ impl Finder {
     }
 
     /// What it is to do at this time.
-    pub(crate) fn step(&mut self, now: u64, at: &Whereabouts, nodes: &[Neighbour]) -> Step {
+    pub(crate) fn step(&mut self, now: u64, at: &Whereabouts, nodes: &[Neighbour]) -> Step
+        ensures { MatchOption at.now.view (StepsOutside self.old self.new (moment_of self.old.tick now at.now.own) nodes.now result)
+            (λ s. StepsInView self.old self.new (moment_of self.old.tick now at.now.own) s nodes.now result) }
+    {
         let moment = self.moment(now, at.own);
         match &at.view {
             Some(standing) => self.step_in_view(&moment, standing, nodes),
@@ -164,44 +174,66 @@ impl Finder {
     }
 
     // So many ticks, in milliseconds.
-    fn ticks(&self, count: u64) -> u64 {
+    fn ticks(&self, count: u64) -> u64
+        ensures { result ≡ ticks self.now.tick count }
+    {
         self.tick.saturating_mul(count)
     }
 
     // Who hears, and when.
-    fn moment(&self, now: u64, own: Address) -> Moment {
+    fn moment(&self, now: u64, own: Address) -> Moment
+        ensures { result ≡ moment_of self.now.tick now own }
+    {
         Moment {
             own,
-            now,
+            time: now,
             fresh: self.ticks(FRESH),
         }
     }
 
     // Whether a time is so many ticks ago.
-    fn is_ago(&self, now: u64, since: u64, count: u64) -> bool {
-        now.saturating_sub(since) >= self.ticks(count)
+    fn is_ago(&self, now: u64, since: u64, count: u64) -> bool
+        ensures { result ≡ is_ago self.now.tick now since count }
+    {
+        self.ticks(count) <= now.saturating_sub(since)
     }
 
     // The step of a member of a view: it gives way to a greater one that was there for long, and whose coordinator stays.
-    fn step_in_view(&mut self, moment: &Moment, at: &Standing, nodes: &[Neighbour]) -> Step {
+    fn step_in_view(&mut self, moment: &Moment, at: &Standing, nodes: &[Neighbour]) -> Step
+        ensures { StepsInView self.old self.new moment.now at.now nodes.now result }
+    {
         let own = own_rank(moment, at, nodes);
-        let greater = greater_than(&own, moment.greatest(Some(at.view), nodes));
+        let best = moment.greatest(Some(at.view), nodes);
+        let greater = greater_than(&own, best);
         let is_alone = at.members > 1 && own.members == 1;
         self.stand(moment, &own, greater.is_some(), is_alone);
-        match (greater, self.wanted) {
-            (Some(best), Some(since)) if best.stays && self.is_ago(moment.now, since, GIVE) => {
-                Step::Again
-            }
+        self.way(moment.time, greater)
+    }
+
+    // What it does in a view, by a greater one, if there is one.
+    fn way(&self, now: u64, greater: Option<Offer>) -> Step
+        ensures { result ≡ way_of self.now.tick now self.now.wanted greater }
+    {
+        let Some(since) = self.wanted else {
+            return Step::Stay;
+        };
+        match greater {
+            Some(best) if best.stays && self.is_ago(now, since, GIVE) => Step::Again,
             _ => Step::Stay,
         }
     }
 
     // It is in a view of this rank, by whether there is a greater one, and whether it hears nobody else of its own.
-    fn stand(&mut self, moment: &Moment, own: &Rank, is_wanting: bool, is_alone: bool) {
+    fn stand(&mut self, moment: &Moment, own: &Rank, is_wanting: bool, is_alone: bool)
+        ensures wanted { self.new.wanted ≡ wanted_after self.old.wanted moment.now.time is_wanting }
+        ensures asked { self.new.asked ≡ None }
+        ensures looked { self.new.looked ≡ None }
+        ensures tick { self.new.tick ≡ self.old.tick }
+    {
         self.asked = None;
         self.looked = None;
         self.wanted = if is_wanting {
-            Some(self.wanted.unwrap_or(moment.now))
+            Some(self.wanted.unwrap_or(moment.time))
         } else {
             None
         };
@@ -218,7 +250,9 @@ impl Finder {
     }
 
     // The step of who is in no view: it asks the coordinator of the greatest one of which it is told, or looks on.
-    fn step_outside(&mut self, moment: &Moment, nodes: &[Neighbour]) -> Step {
+    fn step_outside(&mut self, moment: &Moment, nodes: &[Neighbour]) -> Step
+        ensures { StepsOutside self.old self.new moment.now nodes.now result }
+    {
         self.is_new = !self.has_looked;
         self.has_looked = true;
         self.wanted = None;
@@ -227,14 +261,18 @@ impl Finder {
         match moment.greatest(None, nodes) {
             Some(best) => {
                 self.looked = None;
-                self.ask(moment.now, best.rank.view.creator())
+                self.ask(moment.time, best.rank.view.creator())
             }
             None => self.look_on(moment, nodes),
         }
     }
 
     // Asks an address, unless it did not long ago.
-    fn ask(&mut self, now: u64, contact: Address) -> Step {
+    fn ask(&mut self, now: u64, contact: Address) -> Step
+        ensures does { result ≡ asking self.old now contact }
+        ensures asked { self.new.asked ≡ asked_after self.old.asked now result }
+        ensures others { self.new ≡ record self.old { asked = self.new.asked } }
+    {
         if let Some(asked) = self.asked {
             if asked.contact == contact && !self.is_ago(now, asked.at, LOOK) {
                 return Step::Stay;
@@ -245,11 +283,15 @@ impl Finder {
     }
 
     // Looks on, where it is told of no view. At last it makes a group; where it has asked somebody, its member can make none, so it begins again.
-    fn look_on(&mut self, moment: &Moment, nodes: &[Neighbour]) -> Step {
-        let since = self.looked.unwrap_or(moment.now);
+    fn look_on(&mut self, moment: &Moment, nodes: &[Neighbour]) -> Step
+        ensures does { result ≡ looking self.old moment.now nodes.now }
+        ensures looked { self.new.looked ≡ looked_after self.old.looked moment.now.time None result }
+        ensures others { self.new ≡ record self.old { looked = self.new.looked } }
+    {
+        let since = self.looked.unwrap_or(moment.time);
         self.looked = Some(since);
-        let is_long = self.is_ago(moment.now, since, LOOK) && !moment.hears_another(nodes);
-        if !is_long && !self.is_ago(moment.now, since, FAR) {
+        let is_long = self.is_ago(moment.time, since, LOOK) && !moment.hears_another(nodes);
+        if !is_long && !self.is_ago(moment.time, since, FAR) {
             return Step::Stay;
         }
         if self.asked.is_some() {
@@ -261,7 +303,9 @@ impl Finder {
 }
 
 // The rank of a member's own view: as its coordinator tells of it; or, where this is the coordinator, or that one is not heard, by how many say that they are there, and itself.
-fn own_rank(moment: &Moment, at: &Standing, nodes: &[Neighbour]) -> Rank {
+fn own_rank(moment: &Moment, at: &Standing, nodes: &[Neighbour]) -> Rank
+    ensures { result ≡ own_rank moment.now at.now nodes.now }
+{
     match moment.told_of(at.view, nodes) {
         Some(offer) => offer.rank,
         None => {
@@ -275,7 +319,9 @@ fn own_rank(moment: &Moment, at: &Standing, nodes: &[Neighbour]) -> Rank {
 }
 
 // A view, if it is greater than one's own.
-fn greater_than(own: &Rank, best: Option<Offer>) -> Option<Offer> {
+fn greater_than(own: &Rank, best: Option<Offer>) -> Option<Offer>
+    ensures { result ≡ greater_than own.now best }
+{
     match best {
         Some(best) if best.rank.is_greater(own) => Some(best),
         _ => None,
