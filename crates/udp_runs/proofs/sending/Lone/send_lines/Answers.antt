@@ -1,6 +1,6 @@
 use Rattle.std.proofs.Common.{◌∙◌}
 use Rattle.udp_runs.proofs.FactOfTelling.{quiet-then}
-use Rattle.udp_runs.proofs.lone.Lone.send_lines.Goals as goal
+use Rattle.udp_runs.proofs.sending.Lone.send_lines.Goals as goal
 
 pub returns-in_err-says-clause-drives : goal.returns-in_err-says-clause-drives
 returns-in_err-says-clause-drives g c group = quiet-then _ _ _ group _ _ _ (c.loop-sent.invariant.0 group) (c.says.ensures.drives group)
