@@ -1,7 +1,6 @@
 -- How the parts of a round go on, and come together.
-use Rattle.std.proofs.Common.{◌≡◌, ℕ, ◌+◌, ◌<◌, ◌≤◌, ◌++◌, Bool, true, false, cond, length, take, filter, is_empty, slice_index_or, List, [], ◌∷◌, Option, Some, None, Result, Ok, Err, inl, inr, refl, sym, ap, ◌∙◌, subst, arith, length-append, append-nil}
+use Rattle.std.proofs.Common.{◌≡◌, ℕ, ◌+◌, ◌<◌, ◌≤◌, ◌++◌, Bool, true, false, cond, length, take, filter, slice_index_or, take_all, List, [], ◌∷◌, Option, Some, None, Result, Ok, Err, inl, inr, refl, sym, ap, ◌∙◌, subst, arith, length-append, append-nil}
 use Rattle.std.proofs.lemmas.List.Elements.{filter_more}
-use Rattle.std.proofs.lemmas.List.Edits.{take_all}
 use Rattle.address.specs.Ids.{Address}
 use Rattle.state_transfer.specs.Meanings.{Meaning}
 use Rattle.member.specs.declared.error.Error.{Error}
@@ -80,6 +79,10 @@ module _ {N S : Type 0} (log : N → Option Log) (failed : N → ℕ) (meaning :
 
   -- ---- suspicions
 
+  abbrev pub is_empty : List Address → Bool
+  is_empty [] = true
+  is_empty (x ∷ xs) = false
+
   -- those of the first addresses that are silent were suspected
   pub record SuspectedSoFar (watched : List Address) (count : ℕ) (old : Driven N S) (is_heard : Bool) (new : Driven N S) : Type 0 where
     pub takes : TakesAll log failed meaning Suspect (IsSilent old) old (silent_of (take count watched) old) new
@@ -138,7 +141,7 @@ module _ {N S : Type 0} (log : N → Option Log) (failed : N → ℕ) (meaning :
   ends-so (x ∷ xs) is_heard r e = rw e refl
 
   whole : (watched : List Address) (k : ℕ) → k ≡ length watched → take k watched ≡ watched
-  whole watched k e = ap (λ n. take n watched) e ∙ take_all watched
+  whole watched k e = ap (λ n. take n watched) e ∙ take_all (length watched) watched (omega arith)
 
   pub all-suspected : (watched : List Address) (k : ℕ) (old mid new : Driven N S) (is_heard : Bool) → SuspectedSoFar watched k old is_heard mid → k ≡ length watched
       → new ≡ cond is_heard mid (record mid { notes = record mid.notes { silence = begun_anew mid.notes.silence } }) → SuspectsOf log failed meaning watched old None new

@@ -256,7 +256,7 @@ impl<N: Net, R: Receiver> Runner<N, R> {
             return Ok(());
         };
         let standing = standing_of(&self.channel);
-        if self.notes.pass(standing, watched.as_slice()).is_err() {
+        if self.notes.pass(&standing, watched.as_slice()).is_err() {
             return Ok(());
         }
         self.suspect_all(watched.as_slice())

@@ -2,6 +2,7 @@
 
 ghost use Rattle.std.specs.Prelude.{◌≡◌, map, OnOk, IfErr};
 ghost use Rattle.std.specs.Option.{option_copied};
+ghost use Rattle.udp_member.specs.declared.silence.Standing.TheVariants.{Outside, Open, Flushes, Waits};
 ghost use Rattle.udp_member.specs.Silences.{after_packet, after_round, begun_anew, count_of, counted, is_about, is_new, is_same, is_silent, is_sign_of_life, most, never_heard, rounds_after, standing_of};
 
 use address::{Address, ViewId};
@@ -73,16 +74,51 @@ impl Model for Silence {
     ghost view = { λ s. record { silent = s.silent; standing = s.standing; age = s.age; counts = s.counts.items } };
 }
 
+fn is_outside(standing: Standing) -> bool
+    ensures { result ≡ is_same Outside standing }
+{
+    match standing {
+        Standing::Outside => true,
+        _ => false,
+    }
+}
+
+fn is_open(standing: Standing, id: ViewId) -> bool
+    ensures { result ≡ is_same (Open id) standing }
+{
+    match standing {
+        Standing::Open(view) => id == view,
+        _ => false,
+    }
+}
+
+fn is_flush(standing: Standing, id: ViewId) -> bool
+    ensures { result ≡ is_same (Flushes id) standing }
+{
+    match standing {
+        Standing::Flushes(proposal) => id == proposal,
+        _ => false,
+    }
+}
+
+fn is_wait(standing: Standing, id: ViewId) -> bool
+    ensures { result ≡ is_same (Waits id) standing }
+{
+    match standing {
+        Standing::Waits(proposal) => id == proposal,
+        _ => false,
+    }
+}
+
 // Whether both are the same place.
 fn is_same(one: Standing, other: Standing) -> bool
     ensures { result ≡ is_same one other }
 {
-    match (one, other) {
-        (Standing::Outside, Standing::Outside) => true,
-        (Standing::Open(one), Standing::Open(other)) => one == other,
-        (Standing::Flushes(one), Standing::Flushes(other)) => one == other,
-        (Standing::Waits(one), Standing::Waits(other)) => one == other,
-        _ => false,
+    match one {
+        Standing::Outside => is_outside(other),
+        Standing::Open(view) => is_open(other, view),
+        Standing::Flushes(proposal) => is_flush(other, proposal),
+        Standing::Waits(proposal) => is_wait(other, proposal),
     }
 }
 
@@ -183,11 +219,11 @@ impl Silence {
     }
 
     // A round is over, where the member stands so, with these addresses watched: each of them has its count, and nobody else. An error for want of memory changes nothing.
-    pub(crate) fn pass(&mut self, alloc: Global, standing: Standing, watched: &[Address]) -> Result<(), AllocError>
-        ensures passed { OnOk result (self.new ≡ after_round standing watched.now self.old) }
+    pub(crate) fn pass(&mut self, alloc: Global, standing: &Standing, watched: &[Address]) -> Result<(), AllocError>
+        ensures passed { OnOk result (self.new ≡ after_round standing.now watched.now self.old) }
         ensures memory { IfErr result (λ e. self.new ≡ self.old) }
     {
-        let stays = is_same(self.standing, standing);
+        let stays = is_same(self.standing, *standing);
         let mut counts = Vec::new(alloc);
         for address in watched {
             counts.push(Count {
@@ -197,7 +233,7 @@ impl Silence {
             })?;
         }
         self.counts = counts;
-        self.standing = standing;
+        self.standing = *standing;
         self.age = if stays { self.age.saturating_add(1) } else { 0 };
         Ok(())
     }
