@@ -13,7 +13,7 @@ use Rattle.udp_runs.specs.declared.finding.Standing.{Standing}
 use Rattle.udp_runs.specs.declared.finding.Step.{Step}
 use Rattle.udp_runs.specs.declared.finding.Step.TheVariants.{Stay, Ask, Make, Again}
 use Rattle.udp_runs.specs.declared.finding.TheConstants.{FAR, FRESH, GIVE, LOOK}
-use Rattle.udp_runs.specs.Ranks.{IsGreatest, count_in, is_awaited, outranks, told, told_of}
+use Rattle.udp_runs.specs.Ranks.{IsGreatest, count_in, is_awaited, is_of_greater, outranks, told, told_of}
 
 -- so many ticks, in milliseconds
 abbrev pub ticks : ℕ → ℕ → ℕ
@@ -83,9 +83,13 @@ making f = if is_some f.asked then Again else Make
 abbrev pub looking : Finder → Moment → List Neighbour → Step
 looking f m nodes = if has_looked_long f.tick m.time (unwrap_or f.looked m.time) (list_any (is_awaited m) nodes) then making f else Stay
 
+-- it asks nobody yet, until it has looked for FAR ticks, while it hears of a greater view than the greatest of which it is told
+abbrev pub holds_off : Finder → Moment → List Neighbour → Rank → Bool
+holds_off f m nodes rank = list_any (is_of_greater m rank nodes) nodes && not (is_ago f.tick m.time (unwrap_or f.looked m.time) FAR)
+
 -- what it does, by the greatest view of which it is told
 abbrev pub step_by : Finder → Moment → List Neighbour → Option Offer → Step
-step_by f m nodes (Some best) = asking f m.time best.rank.view.creator
+step_by f m nodes (Some best) = if holds_off f m nodes best.rank then Stay else asking f m.time best.rank.view.creator
 step_by f m nodes None = looking f m nodes
 
 -- whom it asked last, and since when it looks, after a step
@@ -95,12 +99,15 @@ asked_after old time Stay = old
 asked_after old time Make = old
 asked_after old time Again = old
 
-abbrev pub looked_after : Option ℕ → ℕ → Option Offer → Step → Option ℕ
-looked_after old time (Some best) step = None
-looked_after old time None Make = None
-looked_after old time None Stay = Some (unwrap_or old time)
-looked_after old time None Again = Some (unwrap_or old time)
-looked_after old time None (Ask contact) = Some (unwrap_or old time)
+abbrev pub looked_after : Option ℕ → ℕ → Step → Option ℕ
+looked_after old time Make = None
+looked_after old time Stay = Some (unwrap_or old time)
+looked_after old time Again = Some (unwrap_or old time)
+looked_after old time (Ask contact) = Some (unwrap_or old time)
+
+abbrev pub looked_since : Finder → Moment → List Neighbour → Option Offer → Step → Option ℕ
+looked_since f m nodes None step = looked_after f.looked m.time step
+looked_since f m nodes (Some best) step = if holds_off f m nodes best.rank then Some (unwrap_or f.looked m.time) else None
 
 -- the step of who is in no view
 pub record StepsOutside (old new : Finder) (m : Moment) (nodes : List Neighbour) (step : Step) : Type 0 where
@@ -108,6 +115,6 @@ pub record StepsOutside (old new : Finder) (m : Moment) (nodes : List Neighbour)
   pub greatest : IsGreatest (told m None nodes) best
   pub does : step ≡ step_by old m nodes best
   pub asked : new.asked ≡ asked_after old.asked m.time step
-  pub looked : new.looked ≡ looked_after old.looked m.time best step
+  pub looked : new.looked ≡ looked_since old m nodes best step
   pub wanted : new.wanted ≡ None
   pub tick : new.tick ≡ old.tick

@@ -1,5 +1,5 @@
 -- Which of two views is the greater one, and of which views a node is told.
-use Rattle.std.specs.Prelude.{◌≡◌, ℕ, ◌+◌, ◌-◌, Bool, true, false, ◌&&◌, ◌||◌, List, [], filter_map, filter, length, min, Option, None, Some, Contains, nat_lt, nat_le, nat_eq, if◌then◌else◌}
+use Rattle.std.specs.Prelude.{◌≡◌, ℕ, ◌+◌, ◌-◌, Bool, true, false, not, ◌&&◌, ◌||◌, List, [], filter_map, filter, length, min, Option, None, Some, Contains, nat_lt, nat_le, nat_eq, if◌then◌else◌}
 use Rattle.std.specs.List.{slice_get}
 use Rattle.std.specs.Option.{option_map_or, option_and_then, is_some}
 use Rattle.std.specs.Ordering.{is_gt, is_lt}
@@ -74,6 +74,19 @@ is_there m view n = option_map_or (stands_there view) (word_of m n) false
 -- of how many nodes it is known that they are in a view
 abbrev pub count_in : Moment → ViewId → List Neighbour → ℕ
 count_in m view nodes = length (filter (is_there m view) nodes)
+
+-- whether a node is in a view of which its coordinator does not tell, and that is greater than another, by how many say that they are there
+abbrev pub untold_rank : Moment → List Neighbour → ViewId → Rank
+untold_rank m nodes view = record { members = min (count_in m view nodes) 255; view = view }
+
+abbrev pub is_greater_untold : Moment → Rank → List Neighbour → ViewId → Bool
+is_greater_untold m than nodes view = not (is_some (told_of m view nodes)) && outranks (untold_rank m nodes view) than
+
+abbrev pub says_of_greater : Moment → Rank → List Neighbour → Word → Bool
+says_of_greater m than nodes w = option_map_or (λ p. is_greater_untold m than nodes p.view) w.place false
+
+abbrev pub is_of_greater : Moment → Rank → List Neighbour → Neighbour → Bool
+is_of_greater m than nodes n = option_map_or (says_of_greater m than nodes) (word_of m n) false
 
 -- whether a node that looks waits for the one of a word: that is in a view, or looks too and has a lower address
 abbrev pub goes_first : Moment → Word → Bool

@@ -2,7 +2,7 @@
 
 ghost use Rattle.std.specs.Prelude.{◌≡◌, MatchOption, None};
 ghost use Rattle.std.specs.Option.{is_some};
-ghost use Rattle.udp_runs.specs.Finding.{StepsInView, StepsOutside, asked_after, asking, greater_than, is_ago, looking, looked_after, moment_of, own_rank, ticks, wanted_after, way_of};
+ghost use Rattle.udp_runs.specs.Finding.{StepsInView, StepsOutside, asked_after, asking, greater_than, holds_off, is_ago, looking, looked_after, moment_of, own_rank, ticks, wanted_after, way_of};
 
 use crate::ranks::{Moment, Offer, Rank};
 use address::{Address, ViewId};
@@ -249,7 +249,8 @@ impl Finder {
         });
     }
 
-    // The step of who is in no view: it asks the coordinator of the greatest one of which it is told, or looks on.
+    // The step of who is in no view: it asks the coordinator of the greatest one of which it is told, or looks on. It asks nobody yet while it hears of a greater one, whose
+    // coordinator may just have failed.
     fn step_outside(&mut self, moment: &Moment, nodes: &[Neighbour]) -> Step
         ensures { StepsOutside self.old self.new moment.now nodes.now result }
     {
@@ -259,12 +260,24 @@ impl Finder {
         self.place = None;
         self.holds = false;
         match moment.greatest(None, nodes) {
+            Some(best) if self.holds_off(moment, &best.rank, nodes) => {
+                self.looked = Some(self.looked.unwrap_or(moment.time));
+                Step::Stay
+            }
             Some(best) => {
                 self.looked = None;
                 self.ask(moment.time, best.rank.view.creator())
             }
             None => self.look_on(moment, nodes),
         }
+    }
+
+    // Whether it does not ask yet for a view of this rank: it has not looked for FAR ticks, and hears of a greater one.
+    fn holds_off(&self, moment: &Moment, rank: &Rank, nodes: &[Neighbour]) -> bool
+        ensures { result ≡ holds_off self.now moment.now nodes.now rank.now }
+    {
+        let since = self.looked.unwrap_or(moment.time);
+        moment.hears_of_greater(rank, nodes) && !self.is_ago(moment.time, since, FAR)
     }
 
     // Asks an address, unless it did not long ago.
@@ -285,7 +298,7 @@ impl Finder {
     // Looks on, where it is told of no view. At last it makes a group; where it has asked somebody, its member can make none, so it begins again.
     fn look_on(&mut self, moment: &Moment, nodes: &[Neighbour]) -> Step
         ensures does { result ≡ looking self.old moment.now nodes.now }
-        ensures looked { self.new.looked ≡ looked_after self.old.looked moment.now.time None result }
+        ensures looked { self.new.looked ≡ looked_after self.old.looked moment.now.time result }
         ensures others { self.new ≡ record self.old { looked = self.new.looked } }
     {
         let since = self.looked.unwrap_or(moment.time);

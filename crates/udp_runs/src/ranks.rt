@@ -4,7 +4,7 @@ ghost use Rattle.std.specs.Prelude.{◌≡◌, true, false};
 ghost use Rattle.std.specs.List.{list_any};
 ghost use Rattle.address.specs.Ids.{same_view_id};
 ghost use Rattle.udp_runs.specs.declared.ranks.Rank.{Rank as RankValue};
-ghost use Rattle.udp_runs.specs.Ranks.{IsGreatest, count_in, greater_of, is_awaited, is_fresh, is_of, is_there, offer_in, offer_of, other_of, outranks, told, told_of, word_of};
+ghost use Rattle.udp_runs.specs.Ranks.{IsGreatest, count_in, greater_of, is_awaited, is_fresh, is_greater_untold, is_of, is_of_greater, is_there, offer_in, offer_of, other_of, outranks, told, told_of, untold_rank, word_of};
 
 use address::{Address, ViewId};
 use udp_net::{Neighbour, Place, Word};
@@ -166,6 +166,48 @@ impl Moment {
                 None => false,
             },
             None => false,
+        }
+    }
+
+    /// Whether it hears of a greater view than one of this rank, whose coordinator it does not hear: by as many nodes as say that they are there.
+    pub(crate) fn hears_of_greater(&self, than: &Rank, nodes: &[Neighbour]) -> bool
+        ensures { result ≡ list_any (is_of_greater self.now than.now nodes.now) nodes.now }
+    {
+        for node in nodes {
+            if self.is_of_greater(than, node, nodes) {
+                return true;
+            }
+        }
+        false
+    }
+
+    // Whether a node says that it is in a view of which its coordinator does not tell, and that is greater than one of this rank.
+    fn is_of_greater(&self, than: &Rank, node: &Neighbour, nodes: &[Neighbour]) -> bool
+        ensures { result ≡ is_of_greater self.now than.now nodes.now node.now }
+    {
+        match self.word_of(node) {
+            Some(word) => match word.place {
+                Some(place) => self.is_greater_untold(than, place.view, nodes),
+                None => false,
+            },
+            None => false,
+        }
+    }
+
+    // Whether a view is one of which its coordinator does not tell, and greater than one of this rank.
+    fn is_greater_untold(&self, than: &Rank, view: ViewId, nodes: &[Neighbour]) -> bool
+        ensures { result ≡ is_greater_untold self.now than.now nodes.now view }
+    {
+        self.told_of(view, nodes).is_none() && self.untold_rank(view, nodes).is_greater(than)
+    }
+
+    // The rank of a view of which its coordinator does not tell: by how many say that they are there.
+    fn untold_rank(&self, view: ViewId, nodes: &[Neighbour]) -> Rank
+        ensures { result ≡ untold_rank self.now nodes.now view }
+    {
+        Rank {
+            members: self.count_in(view, nodes).min(255) as u8,
+            view,
         }
     }
 
