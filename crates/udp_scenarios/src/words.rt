@@ -109,6 +109,10 @@ impl Pair {
 /// Words are said, heard and forgotten.
 pub fn said(rt: &HostRuntime, told: &mut Vec<u8>) -> Result<(), AllocError> {
     let mut pair = nets(rt)?;
+    put_said(&mut pair, told)
+}
+
+fn put_said(pair: &mut Pair, told: &mut Vec<u8>) -> Result<(), AllocError> {
     let (first, second) = (first_at(1), first_at(2));
     pair.two.say(first.node(), &looking(second, 7, None));
     let is_given = pair.is_given();
@@ -144,6 +148,10 @@ pub fn said(rt: &HostRuntime, told: &mut Vec<u8>) -> Result<(), AllocError> {
 /// What names node 3 and comes from node 2 is dropped, until it is heard from anywhere.
 pub fn strange(rt: &HostRuntime, told: &mut Vec<u8>) -> Result<(), AllocError> {
     let mut pair = nets(rt)?;
+    put_strange(&mut pair, told)
+}
+
+fn put_strange(pair: &mut Pair, told: &mut Vec<u8>) -> Result<(), AllocError> {
     let third = first_at(3);
     let is_given = pair.gives(third, Body::Leave)?;
     put_truth(told, "a packet is given", is_given)?;
@@ -163,6 +171,10 @@ pub fn strange(rt: &HostRuntime, told: &mut Vec<u8>) -> Result<(), AllocError> {
 /// An address asks to be let in again and again.
 pub fn asks(rt: &HostRuntime, told: &mut Vec<u8>) -> Result<(), AllocError> {
     let mut pair = nets(rt)?;
+    put_asks(&mut pair, told)
+}
+
+fn put_asks(pair: &mut Pair, told: &mut Vec<u8>) -> Result<(), AllocError> {
     for rounds in [1, 49, 1, 99, 1, 50, 199, 1] {
         pair.pass(rounds);
         let is_given = pair.gives(first_at(2), Body::Join)?;
@@ -180,6 +192,10 @@ pub fn asks(rt: &HostRuntime, told: &mut Vec<u8>) -> Result<(), AllocError> {
 /// Counters that are far ahead, and a MERGE where words are said.
 pub fn sieved(rt: &HostRuntime, told: &mut Vec<u8>) -> Result<(), AllocError> {
     let mut pair = nets(rt)?;
+    put_sieved(&mut pair, told)
+}
+
+fn put_sieved(pair: &mut Pair, told: &mut Vec<u8>) -> Result<(), AllocError> {
     pair.pass(1);
     for counter in [4_294_967_297, 4_294_967_298] {
         let ack = Body::Ack {
