@@ -107,7 +107,7 @@ module _ {N S : Type 0} (log : N → Option Log) (failed : N → ℕ) (meaning :
   suspected-one watched k old mid new is_heard p few at so silent h same =
       let is : is_silent old.notes.silence p ≡ true = subst (λ (n : Notes). is_silent n.silence p ≡ true) so.notes silent in
       let more : silent_of (take (k + 1) watched) old ≡ silent_of (take k watched) old ++ p ∷ [] =
-          one-more (is_silent old.notes.silence) watched k p few at ∙ ap (λ (b : Bool). silent_of (take k watched) old ++ cond b (p ∷ []) []) is in
+      one-more (is_silent old.notes.silence) watched k p few at ∙ ap (λ (b : Bool). silent_of (take k watched) old ++ cond b (p ∷ []) []) is in
       record {
         takes = subst (λ (xs : List Address). TakesAll log failed meaning Suspect (IsSilent old) old xs new) (sym more)
             (Next (silent_of (take k watched) old) mid p h.answer new so.takes is (record { net = mid.net; comes = refl; turn = h.turn; faults = same; notes = h.noted }) h.why);
@@ -120,7 +120,7 @@ module _ {N S : Type 0} (log : N → Option Log) (failed : N → ℕ) (meaning :
   heard-one-more watched k old mid is_heard p few at so silent =
       let is : is_silent old.notes.silence p ≡ false = subst (λ (n : Notes). is_silent n.silence p ≡ false) so.notes silent in
       let same : silent_of (take (k + 1) watched) old ≡ silent_of (take k watched) old =
-          one-more (is_silent old.notes.silence) watched k p few at ∙ ap (λ (b : Bool). silent_of (take k watched) old ++ cond b (p ∷ []) []) is ∙ append-nil (silent_of (take k watched) old) in
+      one-more (is_silent old.notes.silence) watched k p few at ∙ ap (λ (b : Bool). silent_of (take k watched) old ++ cond b (p ∷ []) []) is ∙ append-nil (silent_of (take k watched) old) in
       record {
         takes = subst (λ (xs : List Address). TakesAll log failed meaning Suspect (IsSilent old) old xs mid) (sym same) so.takes;
         heard = so.heard ∙ ap is_empty (sym same);

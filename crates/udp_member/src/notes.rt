@@ -67,7 +67,11 @@ impl Notes {
     }
 
     // A round is over, where the member stands so, with these addresses watched. An error for want of memory changes nothing.
-    pub(crate) fn pass(&mut self, standing: &Standing, watched: &[Address]) -> Result<(), AllocError>
+    pub(crate) fn pass(
+        &mut self,
+        standing: &Standing,
+        watched: &[Address],
+    ) -> Result<(), AllocError>
         ensures passed { OnOk result (self.new ≡ record self.old { silence = after_round standing.now watched.now self.old.silence }) }
         ensures memory { IfErr result (λ e. self.new ≡ self.old) }
     {

@@ -157,10 +157,13 @@ fn is_sign_of_life(standing: Standing, is_new: bool, heard: &Heard) -> bool
     match standing {
         Standing::Outside => false,
         Standing::Open(view) => {
-            let is_of_view = (FORWARD <= kind && kind <= STATUS) || kind == INSTALL || kind == STATE;
+            let is_of_view = (FORWARD <= kind && kind <= STATUS)
+                || kind == INSTALL
+                || kind == STATE;
             (is_of_view || (is_new && kind == REPORT)) && is_about(heard, view)
         }
-        Standing::Flushes(proposal) => (kind == REPORT || kind == BEHIND) && is_about(heard, proposal),
+        Standing::Flushes(proposal) => (kind == REPORT || kind == BEHIND)
+            && is_about(heard, proposal),
         Standing::Waits(proposal) => {
             (kind == FLUSH || kind == INSTALL || kind == STATE) && is_about(heard, proposal)
         }
@@ -219,7 +222,12 @@ impl Silence {
     }
 
     // A round is over, where the member stands so, with these addresses watched: each of them has its count, and nobody else. An error for want of memory changes nothing.
-    pub(crate) fn pass(&mut self, alloc: Global, standing: &Standing, watched: &[Address]) -> Result<(), AllocError>
+    pub(crate) fn pass(
+        &mut self,
+        alloc: Global,
+        standing: &Standing,
+        watched: &[Address],
+    ) -> Result<(), AllocError>
         ensures passed { OnOk result (self.new ≡ after_round standing.now watched.now self.old) }
         ensures memory { IfErr result (λ e. self.new ≡ self.old) }
     {

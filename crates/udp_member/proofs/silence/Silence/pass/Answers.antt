@@ -1,4 +1,4 @@
-use Rattle.std.proofs.Common.{map, take, get_or, sym, ap, ◌∙◌, ◌++◌, ◌∷◌, [], List, ℕ, false}
+use Rattle.std.proofs.Common.{map, take, sym, ap, ◌∙◌, ◌++◌, ◌∷◌, [], List, ℕ, false}
 use Rattle.std.proofs.lemmas.List.{map_more}
 use Rattle.address.specs.Ids.{Address}
 use Rattle.udp_member.specs.declared.silence.Count.{Count}
