@@ -1,0 +1,594 @@
+"""The accidents of tests/accidents: each a function of a group, whose words say what happens and what must come of it.
+
+A group has the settings' `silent` of 50 rounds of 20 ms: a second. In every accident all texts must hold as one trace in the end, all nodes must end with status 0 by the
+line that ends them, and all of it must be over within the limit."""
+import resource
+import socket
+import time
+
+import accidents_net
+from accidents_group import TICK
+
+# In seconds: how long a flush may stop a group, beside what a busy machine adds.
+SILENCE = 50 * TICK
+BUSY = 0.6
+CASES = {}
+
+
+def accident(count, limit=60, **more):
+    """Notes a function as an accident of so many nodes, with its limit in seconds."""
+    def note(does):
+        CASES[does.__name__] = (does, count, limit, more)
+        return does
+    return note
+
+
+def says_on(group, speakers, hearers, seconds, within=3, word="on"):
+    """Each of the speakers says a line each half second, for so long; the hearers must be told each within some seconds. It answers the lines, and the longest time that one took."""
+    waiting, lines, longest = [], [], 0.0
+    end = time.monotonic() + seconds
+    due = 0.0
+    while time.monotonic() < end or waiting:
+        if time.monotonic() >= due and time.monotonic() < end:
+            due = time.monotonic() + 0.5
+            for number in speakers:
+                line = f"{word} {number} {len(lines)}"
+                lines.append(line)
+                group[number].say(line)
+                waiting.append((line, time.monotonic()))
+        group.wait(0.02)
+        left = []
+        for line, said in waiting:
+            if all(group[number].has(line) for number in hearers):
+                longest = max(longest, time.monotonic() - said)
+            else:
+                group.expect(time.monotonic() - said < within, f"within {within} s not told to {hearers}: {line}")
+                left.append((line, said))
+        waiting = left
+    return lines, longest
+
+
+def never_stops(group, *numbers):
+    """That a flush never stopped these nodes for longer than the silence."""
+    longest = max(group[number].longest_block for number in numbers)
+    group.note("blocked at most", longest)
+    group.expect(longest <= SILENCE + BUSY, f"a node was blocked for {longest:.1f} s")
+
+
+# The accidents of everyday.
+
+
+@accident(3)
+def first_node_starts_again(group):
+    """Node 1 made the group, is killed, and is started again by the same command at once. One view of all, with the chat that the others went on with."""
+    group.come_together()
+    group.talk()
+    group.kill(group[1])
+    group[2].say("meanwhile")
+    group[1].start()
+    group.note("one view", group.one_view(within=10))
+    group.told(["meanwhile"])
+    group.talk()
+
+
+@accident(3)
+def contact_of_yesterday(group):
+    """Node 1 is a later incarnation by now; node 3 is started with the contact 1.1. It is let in."""
+    group.come_together(1, 2)
+    group.kill(group[1])
+    group[1].start()
+    group.one_view(1, 2, within=10)
+    group[3].start("--contact", "1.1")
+    group.note("one view", group.one_view(within=15))
+    group.talk()
+
+
+@accident(2)
+def contact_not_there_yet(group):
+    """Node 2 is started three seconds before node 1, each by the same command. One view of both."""
+    group[2].start()
+    group.wait(3)
+    group[1].start()
+    group.note("one view", group.one_view(within=10))
+    group.talk()
+
+
+@accident(2)
+def two_make_a_group_at_once(group):
+    """Two nodes are started at once, each by the command that makes a group if there is none. One group."""
+    group.start()
+    group.note("one view", group.one_view(within=10))
+    group.talk()
+
+
+def hears_nothing(group, number):
+    group.net.cut([other for other in group.nodes if other != number], [number])
+
+
+@accident(3)
+def newcomer_that_cannot_be_reached(group):
+    """Node 3 can be heard but not reached. The two others are told what they say, and no flush stops them for longer than the silence; once it can be reached it is let in."""
+    group.come_together(1, 2)
+    hears_nothing(group, 3)
+    group[3].start()
+    _, longest = says_on(group, [1, 2], [1, 2], 12)
+    group.note("told within", longest)
+    never_stops(group, 1, 2)
+    group.net.heal()
+    group.note("one view", group.one_view(within=15))
+    group.talk()
+
+
+@accident(3, limit=75, options=("--long",))
+def newcomer_that_cannot_be_reached_by_contact(group):
+    """The same without --find: node 3 asks the contact 1.1 again and again. It is let in within a pause of the net, once it can be reached."""
+    unreachable_by_contact(group, [1, 2])
+
+
+@accident(3, limit=75, options=("--long",))
+def newcomer_that_a_lone_node_cannot_reach(group):
+    """The same of a lone coordinator, without --find. It is told what it says, and node 3 is let in within a pause of the net, once it can be reached."""
+    unreachable_by_contact(group, [1])
+
+
+def unreachable_by_contact(group, there):
+    group[1].start()
+    group.one_view(1)
+    for number in there[1:]:
+        group[number].start("--contact", "1.1")
+        group.one_view(*there)
+    hears_nothing(group, 3)
+    group[3].start("--contact", "1.1")
+    before = group[1].installs
+    # What another says may be handed back in a change of views, and without --find nobody says it again.
+    _, longest = says_on(group, [1], there, 12)
+    group.note("told within", longest)
+    never_stops(group, *there)
+    group.notes.append(f"{group[1].installs - before} views in 12 s")
+    group.net.heal()
+    group.note("one view", group.one_view(*there, 3, within=20))
+    group.talk(*there, 3)
+
+
+@accident(3, limit=75)
+def newcomer_behind_a_bad_link(group):
+    """Nine of ten datagrams to node 3 are lost, and it is started. The others are told what they say, and no flush stops them for longer than the silence."""
+    group.come_together(1, 2)
+    for link in group.net.each(others=[3]):
+        link.loss = 0.9
+    group[3].start()
+    before = group[1].installs
+    _, longest = says_on(group, [1, 2], [1, 2], 15, within=6)
+    group.note("told within", longest)
+    never_stops(group, 1, 2)
+    group.notes.append(f"{group[1].installs - before} views in 15 s")
+    group.net.heal()
+    group.note("one view", group.one_view(within=25))
+    group.talk()
+
+
+@accident(3)
+def one_way_inside(group):
+    """Nothing goes from node 1 to node 3, in the view of 1, 2 and 3. Two of them go on; once the network is whole all are one view."""
+    group.come_together()
+    group.net.cut([1], [3])
+    pairs = ((1, 2), (2, 3))
+    group.note("two go on after", group.until(lambda: any(is_pair(group, pair) for pair in pairs), 15, "a view of two that hear each other"))
+    pair = next(pair for pair in pairs if is_pair(group, pair))
+    group.talk(*pair)
+    group.net.heal()
+    group.note("one view", group.one_view(within=15))
+    group.talk()
+
+
+def is_pair(group, pair):
+    """Whether two nodes are in a view of both, whoever else is in it, and neither is blocked."""
+    one, other = (group[number] for number in pair)
+    return one.view is not None and one.view == other.view and len(one.members) == 2 and one.blocked_since is None and other.blocked_since is None
+
+
+@accident(3)
+def parted_and_the_first_gone(group):
+    """Nodes 2 and 3 are parted, and their coordinator dies; the network is whole again. They are one view, and node 1 comes back into it."""
+    group.come_together()
+    group.net.part([2], [3])
+    group.kill(group[1])
+    group.wait(4)
+    group.net.heal()
+    group.note("one view of 2 and 3", group.one_view(2, 3, within=10))
+    group.talk(2, 3)
+    group[1].start()
+    group.note("one view of all", group.one_view(within=10))
+
+
+@accident(3, options=("--long",))
+def parted_and_the_first_gone_without_words(group):
+    """The same without --find, nodes 2 and 3 alone: they seek each other, since each stood in the other's view."""
+    group[1].start()
+    group.one_view(1)
+    for number in (2, 3):
+        group[number].start("--contact", "1.1")
+        group.one_view(*range(1, number + 1))
+    group.net.part([2], [3])
+    group.kill(group[1])
+    group.wait(4)
+    group.net.heal()
+    group.note("one view of 2 and 3", group.one_view(2, 3, within=10))
+    group.talk(2, 3)
+
+
+@accident(3, limit=90)
+def no_long_datagrams(group):
+    """The network drops datagrams over 1,472 bytes; the chat has 6 KB, and node 3 is started. It cannot be let in; but the others are told what they say in time."""
+    for link in group.net.each():
+        link.longest = accidents_net.FRAME
+    group[1].start()
+    group.one_view(1)
+    group[2].start()
+    group.one_view(1, 2)
+    long = [f"{place} " + "x" * 400 for place in range(15)]
+    for line in long:
+        group[1].say(line)
+    group.told(long, 1, 2)
+    group[3].start()
+    _, longest = says_on(group, [1, 2], [1, 2], 30, within=15)
+    group.note("told within", longest)
+    group.net.heal()
+    group.note("one view", group.one_view(within=40))
+    group.told(long)
+
+
+@accident(3)
+def sleeper_overwrites_nothing(group):
+    """Node 1, the coordinator, sleeps four seconds while 2 and 3 go on. In the end all have what those said, once; so node 1 gave its place up."""
+    group.come_together()
+    group.talk()
+    before, begun = group[1].starts, time.monotonic()
+    group[1].stop()
+    group.note("two go on after", group.one_view(2, 3, within=10))
+    group[2].say("while it slept")
+    group[3].say("this too")
+    group.told(["while it slept", "this too"], 2, 3)
+    group.wait(max(begun + 4 - time.monotonic(), 0))
+    group[1].go_on()
+    group.note("one view", group.one_view(within=10))
+    group.told(["while it slept", "this too"])
+    group.expect(all(node.count("this too") == 1 for node in group.all()), "a line is there twice")
+    group.expect(group[1].starts == before + 1, f"node 1 began again {group[1].starts - before} times")
+    group.talk()
+
+
+@accident(3)
+def stranger_sends_a_merge(group):
+    """A MERGE with the counter 2^62 - 1, from elsewhere, from the address of a node that is listed, and of another group's. Nobody is blocked, and no view changes."""
+    group.come_together()
+    views = [node.installs for node in group.all()]
+    body = accidents_net.view(2**62 - 1, ["9.1"])
+    listed = accidents_net.view(2**62 - 1, ["3.7"])
+    with socket.socket(socket.AF_INET, socket.SOCK_DGRAM) as stranger:
+        for node in group.all():
+            for source, view in (("9.1", body), ("3.7", listed)):
+                stranger.sendto(accidents_net.packet(accidents_net.MERGE, b"accidents", source, node.address, view), (group.net.host(node.number), group.net.ports[node.number]))
+    for number in (1, 2):
+        group.net.hand_over(3, number, accidents_net.packet(accidents_net.MERGE, b"accidents", "3.7", group[number].address, listed))
+    _, longest = says_on(group, [1, 2, 3], [1, 2, 3], 4)
+    group.note("told within", longest)
+    group.expect([node.installs for node in group.all()] == views, "a view changed")
+
+
+# Ten more, and some.
+
+
+@accident(5)
+def power_cut(group):
+    """All five are killed at once, and started at once by the same commands. One view; what they had said is gone, as the documents say."""
+    group.come_together()
+    group.talk(word="before")
+    group.kill(*group.all())
+    group.start()
+    group.note("one view", group.one_view(within=10))
+    group.expect(all(node.chat == [] for node in group.all()), "a line of before is there")
+    group.talk()
+
+
+@accident(16, limit=45)
+def sixteen_at_once(group):
+    """Sixteen nodes are started at once. One view of all."""
+    group.start()
+    group.note("one view", group.one_view(within=20))
+    group.talk()
+
+
+@accident(4)
+def machine_sleeps(group):
+    """All nodes sleep four seconds, as on one machine that is suspended, and wake at once. One view, and nobody began again."""
+    group.come_together()
+    before = [node.starts for node in group.all()]
+    for node in group.all():
+        node.stop()
+    group.wait(4)
+    for node in group.all():
+        node.go_on()
+    group.wait(0.5)
+    group.note("one view", group.one_view(within=5))
+    group.talk()
+    group.expect([node.starts for node in group.all()] == before, "a node began again")
+
+
+@accident(4)
+def two_and_two(group):
+    """Four are parted two and two for five seconds. One half gives its place up, once; what is said while the network is whole again is told to all."""
+    group.come_together()
+    before = {node.number: node.starts for node in group.all()}
+    group.net.part([1, 2], [3, 4])
+    group.one_view(1, 2, within=10)
+    group.one_view(3, 4, within=10)
+    group.wait(3)
+    group.net.heal()
+    group.note("one view", group.one_view(within=10))
+    again = {number for number, starts in before.items() if group[number].starts > starts}
+    group.expect(again in ({1, 2}, {3, 4}) and all(group[number].starts == before[number] + 1 for number in again), f"{sorted(again)} began again")
+    group.talk()
+
+
+@accident(3)
+def star_around_the_first(group):
+    """Nodes 2 and 3 never reach each other, and both reach node 1. The greatest view goes on, nobody is blocked for long, and views do not change without end."""
+    group.net.part([2], [3])
+    group.start()
+    group.until(lambda: any(len(node.members) > 1 for node in group.all()), 10, "a view of two or more")
+    group.wait(6)
+    before = sum(node.installs + node.starts for node in group.all())
+    first = group[1]
+    group.until(lambda: first.view is not None and len(first.members) > 1 and first.blocked_since is None, 5, "node 1 in a view of two or more")
+    pair = [number for number in group.nodes if group[number].address in first.members]
+    says_on(group, pair, pair, 5)
+    after = sum(node.installs + node.starts for node in group.all()) - before
+    group.notes.append(f"{after} changes in 5 s")
+    group.expect(after <= 8, f"{after} installs and starts in 5 s")
+    group.net.heal()
+    group.note("one view", group.one_view(within=15))
+    group.talk()
+
+
+@accident(3)
+def star_around_another(group):
+    """Nodes 1 and 2 never reach each other, and both reach node 3. As above."""
+    group.net.part([1], [2])
+    group.start()
+    middle = group[3]
+    group.until(lambda: middle.view is not None and len(middle.members) > 1 and middle.blocked_since is None, 15, "node 3 in a view of two or more")
+    group.wait(6)
+    before = sum(node.installs + node.starts for node in group.all())
+    group.until(lambda: middle.view is not None and len(middle.members) > 1 and middle.blocked_since is None, 5, "node 3 in a view of two or more")
+    pair = [number for number in group.nodes if group[number].address in middle.members]
+    says_on(group, pair, pair, 5)
+    after = sum(node.installs + node.starts for node in group.all()) - before
+    group.notes.append(f"{after} changes in 5 s")
+    group.expect(after <= 8, f"{after} installs and starts in 5 s")
+    group.net.heal()
+    group.note("one view", group.one_view(within=15))
+    group.talk()
+
+
+@accident(3, limit=90)
+def coordinator_sleeps_again_and_again(group):
+    """The coordinator of the view sleeps six times for one to three seconds. What the two others say is told to all, once."""
+    group.come_together()
+    group.talk()
+    said = []
+    for turn in range(6):
+        first = next(node for node in group.all() if node.address == group[1].members[0])
+        others = [node.number for node in group.all() if node is not first]
+        first.stop()
+        for number in others:
+            said.append(f"turn {turn} of {number}")
+            group[number].say(said[-1])
+        group.wait(1 + turn % 3)
+        first.go_on()
+        group.one_view(within=15)
+        group.told(said, within=10)
+    group.expect(all(node.count(line) == 1 for node in group.all() for line in said), "a line is there twice")
+    group.talk()
+
+
+@accident(3)
+def lines_while_it_slept(group):
+    """Forty lines are added to the file of a node that sleeps three seconds. They are told to all, once and in order."""
+    group.come_together()
+    group[2].stop()
+    lines = [f"kept {place:02}" for place in range(40)]
+    group[2].say(*lines)
+    group.wait(3)
+    group[2].go_on()
+    group.note("told", group.told(lines, within=15))
+    group.one_view(within=10)
+    wanted = [line.encode() for line in lines]
+    group.expect(all([payload for _, payload in node.chat if payload in wanted] == wanted for node in group.all()), "the lines are not there once and in order")
+
+
+@accident(3, options=("--find", "--long", "--quorum", "2"))
+def quorum_keeps_lines(group):
+    """With `--quorum 2` a node that is parted from the two others is given lines. It says none to itself: all are told them, once, when the network is whole again."""
+    group.come_together()
+    group.net.part([1, 2], [3])
+    group.one_view(1, 2, within=10)
+    group.one_view(3, within=10)
+    lines = [f"parted {place}" for place in range(12)]
+    group[3].say(*lines)
+    group.wait(3)
+    group.expect(group[3].chat == [], "it says lines to itself")
+    group.expect(group[3].errors.read_text().strip() != "", "it does not say that it cannot send")
+    group.talk(1, 2)
+    group.net.heal()
+    group.note("one view", group.one_view(within=10))
+    group.told(lines, within=10)
+    group.expect(all(node.count(line) == 1 for node in group.all() for line in lines), "a line is there twice")
+
+
+@accident(3)
+def lines_that_came_back(group):
+    """A node's lines go to a coordinator that is dead; they come back to it with the next view. It says them again: all are told them, once."""
+    group.come_together()
+    group.kill(group[1])
+    lines = [f"to nobody {place}" for place in range(5)]
+    group[2].say(*lines)
+    group.note("told", group.told(lines, 2, 3, within=10))
+    group[1].start()
+    group.one_view(within=10)
+    group.told(lines)
+    group.expect(all(node.count(line) == 1 for node in group.all() for line in lines), "a line is there twice")
+
+
+@accident(3)
+def line_that_is_too_long(group):
+    """A line of more than 512 bytes is added to a node's file, between two others. It is told on the standard error, the two others are said, and the node goes on."""
+    group.come_together()
+    group[2].say("before it", "x" * 513, "behind it")
+    group.told(["before it", "behind it"])
+    group.expect(group[2].errors.read_text().count("\n") > 1, "the standard error does not say so")
+    group.talk()
+
+
+@accident(3)
+def incarnation_files_lost(group):
+    """Nodes 1 and 2 are killed; the file of the one's incarnation is lost, that of the other is spoiled. Both come back, as later incarnations."""
+    group.come_together()
+    before = [group[number].address for number in (1, 2)]
+    group.kill(group[1], group[2])
+    group.wait(1.1)
+    group[1].incarnation.unlink()
+    group[2].incarnation.write_text("none\n")
+    group.start(1, 2)
+    group.note("one view", group.one_view(within=10))
+    after = [group[number].address for number in (1, 2)]
+    group.expect(all(int(new.split(".")[1]) > int(old.split(".")[1]) for old, new in zip(before, after)), f"{after} after {before}")
+    group.talk()
+
+
+@accident(3)
+def strangers_ask_without_end(group):
+    """Three thousand JOINs come from elsewhere, of nodes that are listed and that are not, and as many of an unlisted node from a listed one's address. Nothing changes."""
+    group.come_together()
+    views = [node.installs for node in group.all()]
+    with socket.socket(socket.AF_INET, socket.SOCK_DGRAM) as stranger:
+        for turn in range(60):
+            for place in range(50):
+                node = group[1 + place % 3]
+                source = f"{(3, 9, 2)[place % 3]}.{4_000_000_000 + turn * 50 + place}"
+                join = accidents_net.packet(accidents_net.JOIN, b"accidents", source, node.address)
+                stranger.sendto(join, (group.net.host(node.number), group.net.ports[node.number]))
+                group.net.hand_over(3 if node.number != 3 else 1, node.number, accidents_net.packet(accidents_net.JOIN, b"accidents", f"9.{turn * 50 + place + 1}", node.address))
+            group.wait(0.05)
+    group.talk()
+    group.expect([node.installs for node in group.all()] == views, "a view changed")
+
+
+@accident(3, limit=75)
+def map_among_chats(group):
+    """Node 3 keeps a map among chats: it can read no state that it is given. The others go on; it begins again with growing pauses, until it keeps a chat too."""
+    group.come_together(1, 2)
+    # A chat that no map can read.
+    group[1].say("not a map's state")
+    group.told(["not a map's state"], 1, 2)
+    group[3].options = ["--find", "--map"]
+    group[3].start()
+    _, longest = says_on(group, [1, 2], [1, 2], 12)
+    group.note("told within", longest)
+    group.notes.append(f"{group[3].starts} starts")
+    group.expect(2 <= group[3].starts <= 6, f"it began {group[3].starts} times in 12 s")
+    group.kill(group[3])
+    group[3].options = list(group.options)
+    group[3].start()
+    group.note("one view", group.one_view(within=15))
+    group.talk()
+
+
+@accident(2, options=("--long",))
+def map_among_chats_without_words(group):
+    """The same without --find: node 2 says why, and ends with status 5."""
+    group[1].start()
+    group.one_view(1)
+    group[1].say("not a map's state")
+    group.told(["not a map's state"], 1)
+    group[2].options = ["--map"]
+    group.may_end_with = {2: 5}
+    group[2].start("--contact", "1.1")
+    group.until(lambda: not group[2].is_running(), 10, "node 2 ends")
+    group.expect(group[2].errors.read_text().strip() != "", "it does not say why")
+    group.one_view(1, within=10)
+    group.talk(1)
+
+
+@accident(3)
+def flapping_network(group):
+    """Node 3 is cut off for 0.7 s and heard for 0.5 s, in turn for twelve seconds. The others are told what they say; one view when it is over."""
+    group.come_together()
+    waiting = []
+    for turn in range(10):
+        group.net.part([1, 2], [3])
+        for number in (1, 2):
+            waiting.append(f"flap {turn} of {number}")
+            group[number].say(waiting[-1])
+        group.wait(0.7)
+        group.net.heal()
+        group.wait(0.5)
+    group.note("told after it", group.told(waiting, 1, 2, within=10))
+    group.note("one view", group.one_view(within=10))
+    group.talk()
+
+
+@accident(3)
+def killed_and_started_again_and_again(group):
+    """Node 2 is killed and started again six times, a second or less after each other. One view, and what the others said is there."""
+    group.come_together()
+    lines = []
+    for turn in range(6):
+        group.kill(group[2])
+        group.wait(0.15 * turn)
+        group[2].start()
+        lines.append(f"start {turn}")
+        group[1 if turn % 2 else 3].say(lines[-1])
+        group.wait(0.4)
+    group.note("one view", group.one_view(within=10))
+    group.told(lines)
+
+
+@accident(4)
+def a_third_of_all_lost(group):
+    """For eight seconds a third of all datagrams is lost and a tenth repeated. What is said is told to all; one view when it is over."""
+    group.come_together()
+    for link in group.net.each():
+        link.loss, link.repeat = 0.33, 0.1
+    lines, _ = says_on(group, [1, 2, 3, 4], [], 8)
+    group.net.heal()
+    group.note("one view", group.one_view(within=10))
+    group.talk()
+
+
+@accident(3)
+def slow_network(group):
+    """Each datagram takes 50 to 250 ms. One view of all, and what is said is told."""
+    for link in group.net.each():
+        link.delay = (0.05, 0.25)
+    group.start()
+    group.note("one view", group.one_view(within=20))
+    _, longest = says_on(group, [1, 2, 3], [1, 2, 3], 5)
+    group.note("told within", longest)
+
+
+@accident(3)
+def memory_is_refused(group):
+    """Node 2 is refused memory for some seconds, as on a machine that has none left. The others go on, and it begins again when there is some."""
+    group.come_together()
+    node = group[2]
+    limit = resource.prlimit(node.process.pid, resource.RLIMIT_AS)
+    resource.prlimit(node.process.pid, resource.RLIMIT_AS, (1 << 20, limit[1]))
+    lines = [f"{place} " + "x" * 500 for place in range(200)]
+    group[1].say(*lines)
+    ended = group.until(lambda: node.address not in group[1].members or len(group[1].members) < 3, 20, "a view without node 2")
+    group.note("ended after", ended)
+    group.wait(2)
+    resource.prlimit(node.process.pid, resource.RLIMIT_AS, limit)
+    group.note("one view", group.one_view(within=20))
+    group.told(lines, within=15)
