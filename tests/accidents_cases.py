@@ -521,6 +521,28 @@ def map_among_chats_without_words(group):
 
 
 @accident(3)
+def status_of_nodes(group):
+    """What `--status` writes is what the texts say, within two seconds: the view, the coordinator, who is sought, and how many datagrams came from elsewhere."""
+    group.come_together()
+    group.talk()
+    group.until(lambda: all(is_told(node, "", "3") for node in group.all()), 2, "a status of three")
+    group.kill(group[3])
+    group.one_view(1, 2, within=10)
+    group.until(lambda: all(is_told(node, "3", "0") for node in group.all((1, 2))), 2, "a status of two")
+    with socket.socket(socket.AF_INET, socket.SOCK_DGRAM) as stranger:
+        for _ in range(7):
+            stranger.sendto(accidents_net.packet(accidents_net.JOIN, b"accidents", "3.7", group[1].address), (group.net.host(1), group.net.ports[1]))
+    group.until(lambda: int(group[1].seen()["strange"]) == 7, 3, "seven strangers")
+
+
+def is_told(node, sought, stable):
+    """Whether a node's status says what its text says, with these nodes sought and this many messages stable."""
+    wanted = {"address": node.address, "view": node.view, "members": " ".join(node.members), "coordinator": node.members[0] if node.members else "", "blocked": "",
+              "outstanding": "0", "stable": stable, "sought": sought, "strange": "0"}
+    return node.seen() == wanted and time.time() - node.status.stat().st_mtime < 2
+
+
+@accident(3)
 def flapping_network(group):
     """Node 3 is cut off for 0.7 s and heard for 0.5 s, in turn for twelve seconds. The others are told what they say; one view when it is over."""
     group.come_together()
@@ -591,4 +613,5 @@ def memory_is_refused(group):
     group.wait(2)
     resource.prlimit(node.process.pid, resource.RLIMIT_AS, limit)
     group.note("one view", group.one_view(within=20))
+    group.expect("# memory" in node.text.read_text(), "node 2 was not out of memory")
     group.told(lines, within=15)

@@ -64,7 +64,8 @@ class Node:
     def start(self, *more):
         """Starts the node, always by the same command."""
         net = self.group.net
-        words = [VSYNC, "member", self.group.settings, self.number, 1, 0, "--forever", "--incarnation-file", self.incarnation, "--say", self.lines, "--bind", net.host(self.number)]
+        words = [VSYNC, "member", self.group.settings, self.number, 1, 0, "--forever", "--incarnation-file", self.incarnation, "--say", self.lines,
+                 "--status", self.status, "--bind", net.host(self.number)]
         for other in net.numbers:
             if other != self.number:
                 words += ["--peer", f"{other}={net.peer(self.number, other)}"]
@@ -157,6 +158,12 @@ class Node:
 
     def count(self, line):
         return sum(payload == line.encode() for _, payload in self.chat)
+
+    def seen(self):
+        """What its status says, by the first words of its lines; nothing if it has written none."""
+        if not self.status.exists():
+            return {}
+        return {word: rest.strip() for word, _, rest in (line.partition(" ") for line in self.status.read_text().splitlines())}
 
     def where(self):
         state = "stopped" if self.is_stopped else "runs" if self.is_running() else f"ended with {self.ended_with}"

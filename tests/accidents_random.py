@@ -86,6 +86,7 @@ def run(group, kind, seed):
     group.start()
     group.one_view(within=15)
     faults = Faults(group)
+    chance = random.Random(seed)
     begun = 0.0
     said = 0
     for at, what, of in [*plan(kind, seed), (FAULTS, "end", None)]:
@@ -94,7 +95,7 @@ def run(group, kind, seed):
             group.wait(rest)
             begun += rest
             said += 1
-            group[said % COUNT + 1].say(f"{said} in between")
+            group[said % COUNT + 1].say(f"{said} in between" + "x" * chance.choice((0, 0, 40, 400)))
         if what != "end":
             faults.carry_out(what, of)
     group.net.heal()
@@ -104,4 +105,4 @@ def run(group, kind, seed):
             node.start()
     group.note("one view", group.one_view(within=TOGETHER))
     group.note("told", group.talk(word="afterwards"))
-    group.notes.append(f"{sum(node.starts for node in group.all())} starts, {sum(node.installs for node in group.all())} installs")
+    group.notes.append(f"{sum(node.starts for node in group.all())} starts, {sum(node.installs for node in group.all())} installs, {len(group[1].chat)} lines")
