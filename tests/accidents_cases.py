@@ -4,10 +4,11 @@ A group has the settings' `silent` of 50 rounds of 20 ms: a second. In every acc
 line that ends them, and all of it must be over within the limit."""
 import resource
 import socket
+import subprocess
 import time
 
 import accidents_net
-from accidents_group import TICK
+from accidents_group import TICK, VSYNC, die_with_parent
 
 # In seconds: how long a flush may stop a group, beside what a busy machine adds.
 SILENCE = 50 * TICK
@@ -175,7 +176,8 @@ def one_way_inside(group):
     pairs = ((1, 2), (2, 3))
     group.note("two go on after", group.until(lambda: any(is_pair(group, pair) for pair in pairs), 15, "a view of two that hear each other"))
     pair = next(pair for pair in pairs if is_pair(group, pair))
-    group.talk(*pair)
+    _, longest = says_on(group, pair, pair, 8)
+    group.note("told within", longest)
     group.net.heal()
     group.note("one view", group.one_view(within=15))
     group.talk()
@@ -597,6 +599,121 @@ def slow_network(group):
     group.note("one view", group.one_view(within=20))
     _, longest = says_on(group, [1, 2, 3], [1, 2, 3], 5)
     group.note("told within", longest)
+
+
+@accident(16, limit=60)
+def sixteen_in_three_parts(group):
+    """Sixteen nodes, as many as a view may have, are parted into six, five and five for some seconds. One view of all; and again after one was killed and started at once."""
+    group.start()
+    group.one_view(within=20)
+    parts = [list(range(1, 7)), list(range(7, 12)), list(range(12, 17))]
+    group.net.part(*parts)
+    for part in parts:
+        group.one_view(*part, within=15)
+    group.net.heal()
+    group.note("one view", group.one_view(within=15))
+    group.kill(group[5])
+    group[5].start()
+    group.note("again", group.one_view(within=10))
+    group.talk()
+
+
+@accident(2, limit=60)
+def long_state_from_far(group):
+    """The chat has a megabyte, each datagram takes 30 to 50 ms, and a tenth is lost. Node 2 is let in, and has all of it."""
+    group[1].start()
+    group.one_view(1)
+    group[1].say(*(f"{place:04}" + "x" * 508 for place in range(2000)))
+    group.until(lambda: len(group[1].chat) == 2000, 20, "2,000 lines")
+    for link in group.net.each():
+        link.delay, link.loss = (0.03, 0.05), 0.1
+    group[2].start()
+    group.note("one view", group.one_view(within=25))
+    group.expect(group[2].chat == group[1].chat, "node 2 has another chat")
+    group.net.heal()
+    group.talk()
+
+
+@accident(4, options=("--find", "--long", "--leave"))
+def settings_not_rolled_out_yet(group):
+    """Node 4 is in its own settings alone. The others go on as if it was not there; then they get the new settings, leave and are started again in turn. Nothing is lost."""
+    old = group.settings_of([1, 2, 3])
+    for number in (1, 2, 3):
+        group[number].settings = old
+    group.come_together(1, 2, 3)
+    group.talk(1, 2, 3)
+    lines = group[1].chat[:]
+    views = [group[number].installs for number in (1, 2, 3)]
+    group[4].start()
+    says_on(group, [1, 2, 3], [1, 2, 3], 4)
+    group.expect([group[number].installs for number in (1, 2, 3)] == views, "a view changed")
+    for number in (1, 2, 3):
+        group[number].leave()
+        group[number].settings = group.settings
+        group[number].start()
+        group.until(lambda: any(set(node.members) >= {group[other].address for other in (1, 2, 3)} for node in group.all((1, 2, 3))), 15, "a view of 1, 2 and 3")
+    group.note("one view", group.one_view(within=10))
+    group.expect(all(node.chat[:len(lines)] == lines for node in group.all()), "what was said is lost")
+    group.talk()
+
+
+@accident(4)
+def first_starts_again_as_another_returns(group):
+    """Node 4 was parted for some seconds. As it returns node 1, the others' coordinator, is killed and started at once. What the three had said meanwhile is not lost."""
+    group.come_together()
+    group.net.part([1, 2, 3], [4])
+    group.one_view(1, 2, 3, within=10)
+    group.one_view(4, within=10)
+    group.talk(1, 2, 3, word="three of four")
+    lines = [payload for _, payload in group[2].chat]
+    group.kill(group[1])
+    group.net.heal()
+    group[1].start()
+    group.note("one view", group.one_view(within=15))
+    group.expect(all([payload for _, payload in node.chat][:len(lines)] == lines for node in group.all()), "what the three said is lost")
+
+
+@accident(3)
+def machine_that_was_copied(group):
+    """Node 2 is started a second time, at another host, as if its machine had been copied. Its datagrams are dropped and counted, and the group does not change."""
+    group.come_together()
+    group.talk()
+    views = [node.installs for node in group.all()]
+    # In the second in which node 2 was started it would have the same address.
+    group.wait(1.1)
+    lines = group.folder / "copy.lines"
+    lines.touch()
+    words = [VSYNC, "member", group.settings, 2, 1, 0, "--forever", "--find", "--long", "--say", lines, "--bind", group.net.copy_host()]
+    words += [word for other in (1, 3) for word in ("--peer", f"{other}={group.net.host(other)}")]
+    with open(group.folder / "copy.text", "wb") as text, open(group.folder / "copy.errors", "wb") as errors:
+        copy = subprocess.Popen([str(word) for word in words], stdin=subprocess.DEVNULL, stdout=text, stderr=errors, preexec_fn=die_with_parent)
+    try:
+        _, longest = says_on(group, [1, 2, 3], [1, 2, 3], 5)
+        group.note("told within", longest)
+        group.expect([node.installs for node in group.all()] == views, "a view changed")
+        group.expect(all(int(group[number].seen()["strange"]) > 0 for number in (1, 3)), "nothing is counted as strange")
+        lines.write_text("\x04\n")
+        group.until(lambda: copy.poll() is not None, 5, "the copy ends")
+    finally:
+        copy.kill()
+        copy.wait()
+
+
+@accident(3)
+def translated_addresses(group):
+    """Node 2's datagrams come from another address than its peers name. It is left alone and counted as strange; started again with `--any-source` all are one view."""
+    group.net.translated.add(2)
+    group.start()
+    group.one_view(1, 3, within=10)
+    group.one_view(2, within=15)
+    group.wait(1.5)
+    group.expect(int(group[1].seen()["strange"]) > 0, "nothing is counted as strange")
+    for node in group.all():
+        node.options = [*group.options, "--any-source"]
+    group.kill(*group.all())
+    group.start()
+    group.note("one view", group.one_view(within=10))
+    group.talk()
 
 
 @accident(3)

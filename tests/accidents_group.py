@@ -44,6 +44,7 @@ class Node:
         for file in (self.text, self.errors, self.lines):
             file.touch()
         self.options = list(group.options)
+        self.settings = group.settings
         self.process = None
         self.is_stopped = False
         self.ended_with = None
@@ -64,7 +65,7 @@ class Node:
     def start(self, *more):
         """Starts the node, always by the same command."""
         net = self.group.net
-        words = [VSYNC, "member", self.group.settings, self.number, 1, 0, "--forever", "--incarnation-file", self.incarnation, "--say", self.lines,
+        words = [VSYNC, "member", self.settings, self.number, 1, 0, "--forever", "--incarnation-file", self.incarnation, "--say", self.lines,
                  "--status", self.status, "--bind", net.host(self.number)]
         for other in net.numbers:
             if other != self.number:
@@ -86,8 +87,10 @@ class Node:
             self.process.send_signal(signal.SIGCONT)
             self.is_stopped = False
 
-    def kill(self):
-        self.group.kill(self)
+    def leave(self, within=5):
+        """Ends its process by the line that does."""
+        self.say("\x04")
+        self.group.until(lambda: not self.is_running(), within, f"node {self.number} ends")
 
     def cut_off(self):
         """Kills its process, whose datagrams nobody hears any more; ends its text as a crash."""
@@ -192,9 +195,7 @@ class Group:
         self.options = options
         self.silent = silent
         self.net = accidents_net.Network(range(1, count + 1), seed)
-        self.settings = self.folder / "settings.toml"
-        self.settings.write_text(f'group = "accidents"\nsilent = {silent}\n' + "".join(
-            f"[[node]]\nnumber = {number}\nport = {port}\n" for number, port in self.net.ports.items()))
+        self.settings = self.settings_of(self.net.numbers)
         self.nodes = {number: Node(self, number) for number in self.net.numbers}
         self.begun = time.monotonic()
         self.end = self.begun + limit
@@ -202,6 +203,12 @@ class Group:
         self.notes = []
         # The statuses with which nodes may end, where it is not 0.
         self.may_end_with = {}
+
+    def settings_of(self, numbers):
+        """The settings of a group of these nodes."""
+        settings = self.folder / f"settings.{len(numbers)}"
+        settings.write_text(f'group = "accidents"\nsilent = {self.silent}\n' + "".join(f"[[node]]\nnumber = {number}\nport = {self.net.ports[number]}\n" for number in numbers))
+        return settings
 
     def __getitem__(self, number):
         return self.nodes[number]
@@ -316,7 +323,7 @@ class Group:
 
     def judge(self):
         """What the check says of all texts as one trace."""
-        texts = [node.text for node in self.nodes.values() if node.text.stat().st_size > 0]
+        texts = [text for text in sorted(self.folder.glob("*.text")) if text.stat().st_size > 0]
         if not texts:
             raise Wrong("no node printed anything")
         longs = ["--long"] if "--long" in self.options else []

@@ -74,6 +74,11 @@ class Network:
         self.queue, self.counter = [], 0
         # Nodes whose datagrams are lost from now on.
         self.muted = set()
+        # Nodes whose datagrams come from another address and port than their peers name, as if they were translated on the way.
+        self.translated = set()
+        self.elsewhere = socket.socket(socket.AF_INET, socket.SOCK_DGRAM)
+        self.elsewhere.setblocking(False)
+        self.elsewhere.bind((f"127.{self.block}.255.253", 0))
         # How much later than asked this process went on, at most: by that a test knows of a machine that did not let it run.
         self.late = 0.0
         self.epoll = select.epoll()
@@ -94,6 +99,10 @@ class Network:
         """The address at which a node is bound."""
         return f"127.{self.block}.0.{self.numbers.index(number) + 1}"
 
+    def copy_host(self):
+        """An address that is no node's."""
+        return f"127.{self.block}.0.200"
+
     def peer(self, one, other):
         """The address by which one node names another."""
         return f"127.{self.block}.{self.numbers.index(one) + 1}.{self.numbers.index(other) + 1}"
@@ -102,6 +111,7 @@ class Network:
         for way in self.sockets.values():
             way.close()
         self.epoll.close()
+        self.elsewhere.close()
         self.holder.close()
 
     # Faults of links.
@@ -174,7 +184,8 @@ class Network:
     def hand_over(self, one, other, datagram):
         """Gives a datagram to the other node, from where that one names the first; also one that the first never sent."""
         try:
-            self.sockets[other, one].sendto(datagram, (self.host(other), self.ports[other]))
+            way = self.elsewhere if one in self.translated else self.sockets[other, one]
+            way.sendto(datagram, (self.host(other), self.ports[other]))
         except (BlockingIOError, ConnectionError):
             pass
 
