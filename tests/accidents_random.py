@@ -5,22 +5,28 @@ import random
 FAULTS = 30
 TOGETHER = 15
 LIMIT = 90
-COUNT = 5
+FEWEST, MOST = 3, 7
 KINDS = ("parts", "oneway", "stops", "kills", "mix")
 
 
+def count_of(seed):
+    """Of how many nodes the group is."""
+    return FEWEST + seed // len(KINDS) % (MOST - FEWEST + 1)
+
+
 def plan(kind, seed):
-    """The faults of a run: pairs of a time and what begins or ends then, by time."""
+    """The faults of a run: a time each, what begins or ends then, and of what, by time."""
     chance = random.Random(f"{kind} {seed}")
-    numbers = list(range(1, COUNT + 1))
+    count = count_of(seed)
+    numbers = list(range(1, count + 1))
     events = []
     now = chance.uniform(0.2, 1)
     while now < FAULTS - 1:
         what = chance.choice(("parts", "oneway", "loss", "stops", "kills")) if kind == "mix" else kind
         until = min(now + chance.uniform(0.3, 6), FAULTS)
         if what == "parts":
-            mixed = chance.sample(numbers, COUNT)
-            at = chance.randint(1, COUNT - 1)
+            mixed = chance.sample(numbers, count)
+            at = chance.randint(1, count - 1)
             events.append((now, "part", (mixed[:at], mixed[at:])))
             events.append((until, "join", (mixed[:at], mixed[at:])))
         elif what == "oneway":
@@ -35,7 +41,7 @@ def plan(kind, seed):
             events.append((now, "stop", chosen))
             events.append((until, "wake", chosen))
         else:
-            chosen = chance.sample(numbers, chance.choice((1, 1, 2, 5) if chance.random() < 0.3 else (1,)))
+            chosen = chance.sample(numbers, chance.choice((1, 1, 2, count) if chance.random() < 0.3 else (1,)))
             events.append((now, "kill", chosen))
             events.append((min(now + chance.uniform(0.05, 3), FAULTS), "start", chosen))
         now += chance.uniform(0.3, 2.5) if kind == "mix" else chance.uniform(0.5, 4)
@@ -82,7 +88,7 @@ class Faults:
 
 
 def run(group, kind, seed):
-    """Five nodes, thirty seconds of faults; then all are one view within fifteen seconds of the last fault, and are told what each says."""
+    """Three to seven nodes, thirty seconds of faults; then all are one view within fifteen seconds of the last fault, and are told what each says."""
     group.start()
     group.one_view(within=15)
     faults = Faults(group)
@@ -95,7 +101,7 @@ def run(group, kind, seed):
             group.wait(rest)
             begun += rest
             said += 1
-            group[said % COUNT + 1].say(f"{said} in between" + "x" * chance.choice((0, 0, 40, 400)))
+            group[said % len(group.nodes) + 1].say(f"{said} in between" + "x" * chance.choice((0, 0, 40, 400)))
         if what != "end":
             faults.carry_out(what, of)
     group.net.heal()
@@ -105,4 +111,4 @@ def run(group, kind, seed):
             node.start()
     group.note("one view", group.one_view(within=TOGETHER))
     group.note("told", group.talk(word="afterwards"))
-    group.notes.append(f"{sum(node.starts for node in group.all())} starts, {sum(node.installs for node in group.all())} installs, {len(group[1].chat)} lines")
+    group.notes.append(f"{len(group.nodes)} nodes, {sum(node.starts for node in group.all())} starts, {sum(node.installs for node in group.all())} installs, {len(group[1].chat)} lines")
