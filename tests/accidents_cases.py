@@ -590,6 +590,20 @@ def a_third_of_all_lost(group):
     group.talk()
 
 
+@accident(4)
+def flood_of_lines(group):
+    """Two nodes are given three thousand lines each at once. All are told all of them, and no view changes meanwhile."""
+    group.come_together()
+    before = [node.installs + node.starts for node in group.all()]
+    for number in (2, 3):
+        group[number].say(*(f"{number} {place:04}" for place in range(3000)))
+    group.note("told", group.until(lambda: all(len(node.chat) == 6000 for node in group.all()), 30, "six thousand lines told to all"))
+    for number in (2, 3):
+        wanted = [f"{number} {place:04}".encode() for place in range(3000)]
+        group.expect(all([payload for _, payload in node.chat if payload[:1] == wanted[0][:1]] == wanted for node in group.all()), f"the lines of {number} are not in order")
+    group.expect([node.installs + node.starts for node in group.all()] == before, "a view changed")
+
+
 @accident(3)
 def slow_network(group):
     """Each datagram takes 50 to 250 ms. One view of all, and what is said is told."""

@@ -87,6 +87,23 @@ class Faults:
                     node.start()
 
 
+def of_lines(chat):
+    """How many lines there are, how many of them are there twice, and how often a line of a node comes behind a later one of it."""
+    last, seen, twice, turned = {}, set(), 0, 0
+    for sender, payload in chat:
+        place, _, rest = payload.decode().partition(" ")
+        if not rest.startswith("in between"):
+            continue
+        node = sender.split(".")[0]
+        if place in seen:
+            twice += 1
+        elif int(place) < last.get(node, 0):
+            turned += 1
+        seen.add(place)
+        last[node] = max(last.get(node, 0), int(place))
+    return f"{len(seen)} lines, {twice} twice, {turned} turned"
+
+
 def run(group, kind, seed):
     """Three to seven nodes, thirty seconds of faults; then all are one view within fifteen seconds of the last fault, and are told what each says."""
     group.start()
@@ -111,4 +128,5 @@ def run(group, kind, seed):
             node.start()
     group.note("one view", group.one_view(within=TOGETHER))
     group.note("told", group.talk(word="afterwards"))
-    group.notes.append(f"{len(group.nodes)} nodes, {sum(node.starts for node in group.all())} starts, {sum(node.installs for node in group.all())} installs, {len(group[1].chat)} lines")
+    group.notes.append(of_lines(group[1].chat))
+    group.notes.append(f"{len(group.nodes)} nodes, {sum(node.starts for node in group.all())} starts, {sum(node.installs for node in group.all())} installs")
