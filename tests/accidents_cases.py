@@ -205,7 +205,7 @@ def parted_and_the_first_gone(group):
 
 @accident(3, options=("--long",))
 def parted_and_the_first_gone_without_words(group):
-    """The same without --find, nodes 2 and 3 alone: they seek each other, since each stood in the other's view."""
+    """The same without --find, nodes 2 and 3 alone: they seek each other, since each was in the other's view."""
     group[1].start()
     group.one_view(1)
     for number in (2, 3):
@@ -262,8 +262,23 @@ def sleeper_overwrites_nothing(group):
 
 @accident(3)
 def stranger_sends_a_merge(group):
-    """A MERGE with the counter 2^62 - 1, from elsewhere, from the address of a node that is listed, and of another group's. Nobody is blocked, and no view changes."""
+    """A MERGE with the counter 2^62 - 1 comes from elsewhere, and from the address of a listed node. Nobody is blocked, and no view changes."""
     group.come_together()
+    absurd_merges(group)
+
+
+@accident(3, options=("--long",))
+def stranger_sends_a_merge_without_words(group):
+    """The same without --find."""
+    group[1].start()
+    group.one_view(1)
+    for number in (2, 3):
+        group[number].start("--contact", "1.1")
+        group.one_view(*range(1, number + 1))
+    absurd_merges(group)
+
+
+def absurd_merges(group):
     views = [node.installs for node in group.all()]
     body = accidents_net.view(2**62 - 1, ["9.1"])
     listed = accidents_net.view(2**62 - 1, ["3.7"])
