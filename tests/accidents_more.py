@@ -272,6 +272,18 @@ def is_told(node, sought, stable):
     return node.seen() == wanted and time.time() - node.status.stat().st_mtime < 2
 
 
+@accident(3, silent=150)
+def status_of_a_blocked_node(group):
+    """Nothing goes from node 2 to node 1, and node 3 is started, with three seconds of silence: node 2 is blocked, and its status says so. One view when all is whole."""
+    group.come_together(1, 2)
+    group.net.cut([2], [1])
+    group[3].start()
+    group.until(lambda: group[2].seen().get("blocked") in ("2", "3"), 12, "the status of node 2 says that it is blocked")
+    group.net.heal()
+    group.note("one view", group.one_view(within=20))
+    group.talk()
+
+
 @accident(3)
 def flapping_network(group):
     """Node 3 is cut off for 0.7 s and heard for 0.5 s, in turn for twelve seconds. The others are told what they say; one view when it is over."""
