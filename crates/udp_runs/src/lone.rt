@@ -177,15 +177,14 @@ impl<'a, N: Net, C: Application> Lone<'a, N, C> {
         ensures drives { (group : List ℕ) → Quietly N.log N.failed C.meaning group self.old.member self.new.member }
         ensures speaks { self.new.teller.speaks ≡ self.old.teller.speaks }
     {
-        let count = match self.member.listen() {
-            Ok(count) => count,
+        let has_sent = self.send_lines()?;
+        match self.member.listen() {
+            Ok(count) => Ok(has_sent || count > 0),
             Err(error) => {
                 self.goes_on(Err(error))?;
-                return Ok(false);
+                Ok(false)
             }
-        };
-        let has_sent = self.send_lines()?;
-        Ok(has_sent || count >= RECEIVES)
+        }
     }
 
     // Writes what happened.
