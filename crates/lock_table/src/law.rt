@@ -42,7 +42,7 @@ pub fn in_turn()
 {}
 
 /// The law of moves: a command does what it says if the state has room and numbers are left. A free lock is granted to the member that asks for it. A member that asks for a
-/// held lock waits for it. A release removes its sender. A roll from the view's creator removes all that are not members of the view.
+/// held lock waits for it, if it does not stand there already. A release removes its sender. A roll from the view's creator removes all that are not members of the view.
 pub fn moves()
     ensures grants { FreeIsGranted }
     ensures waits { HeldIsWaitedFor }
