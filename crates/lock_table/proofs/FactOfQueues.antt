@@ -17,7 +17,7 @@ use Rattle.lock_table.proofs.FactOfHolders.{after-is-table}
 
 -- ---- a queue after a message
 
-queue-left : (keep : Address → Bool) (view : ViewId) (last : Token) (l : Lock) → option_map_or queue (left_to keep view last l).lock [] ≡ filter keep (queue l)
+pub queue-left : (keep : Address → Bool) (view : ViewId) (last : Token) (l : Lock) → option_map_or queue (left_to keep view last l).lock [] ≡ filter keep (queue l)
 queue-left keep view last l = by (keep l.holder) where
   by-first : (ps : List Address) → option_map_or queue (passed_on last (next_token view last) ps).lock [] ≡ ps
   by-first [] = refl

@@ -8,3 +8,4 @@ pub mod FactOfQueues
 pub mod FactOfTokens
 pub mod FactOfReleases
 pub mod FactOfOneMessage
+pub mod FactOfMoves

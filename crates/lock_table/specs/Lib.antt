@@ -3,6 +3,7 @@ pub mod Encoding
 pub mod Commands
 pub mod Meanings
 pub mod Turns
+pub mod Moves
 pub mod TokenLaws
 pub mod EncodingLaws
 pub mod TableLaws

@@ -10,6 +10,7 @@ ghost use Rattle.lock_table.specs.declared.command.Command.TheVariants.{Release,
 ghost use Rattle.lock_table.specs.Locks.{Lock, Table, IsTable, IsBelow, lock_of, queue};
 ghost use Rattle.lock_table.specs.Encoding.{table_encode, table_decode};
 ghost use Rattle.lock_table.specs.Commands.{IsCommand, command_bytes, command_of};
+ghost use Rattle.lock_table.specs.Moves.{FreeIsGranted, HeldIsWaitedFor, ReleasedIsLeft, RolledIsLeft};
 ghost use Rattle.lock_table.specs.Turns.{Message, IsMessage, after, after_all, queue_of, Grants, leaves, stays, comes, StandsOn};
 ghost use Rattle.limits.specs.declared.TheConstants.{STATE};
 
@@ -38,6 +39,15 @@ pub fn in_turn()
     ensures turns { (s : Table) (m : Message) (name : List ℕ) → IsTable s → (after s m ≡ s) ⊎ (queue_of name (after s m) ≡ filter (stays name m) (queue_of name s) ++ comes name (queue_of name s) m) }
     ensures grants { (s : Table) (m : Message) (name : List ℕ) (l : Lock) → IsTable s → Grants name m s l → queue l ≡ filter (stays name m) (queue_of name s) ++ comes name (queue_of name s) m }
     ensures stands_on { (s : Table) (messages : List Message) (name : List ℕ) (p : Address) → IsTable s → AllByRecursion IsMessage messages → stands_in p (queue_of name s) ≡ true → list_any (leaves name p) messages ≡ false → StandsOn p (queue_of name s) (queue_of name (after_all s messages)) }
+{}
+
+/// The law of moves: a command does what it says if the state has room and numbers are left. A free lock is granted to the member that asks for it. A member that asks for a
+/// held lock waits for it, if it does not stand there already. A release removes its sender. A roll from the view's creator removes all that are not members of the view.
+pub fn moves()
+    ensures grants { FreeIsGranted }
+    ensures waits { HeldIsWaitedFor }
+    ensures releases { ReleasedIsLeft }
+    ensures rolls { RolledIsLeft }
 {}
 
 /// The law of tokens: they rise along the messages, whichever locks are granted, and along the names of those that one message grants.

@@ -17,7 +17,8 @@ mod words;
 
 pub use command::Command;
 pub use law::{
-    in_turn, one_encoding, one_holder, one_spelling, release_by_another, roll_again, tokens_rise,
+    in_turn, moves, one_encoding, one_holder, one_spelling, release_by_another, roll_again,
+    tokens_rise,
 };
 use limits::MEMBERS;
 pub use lock::Lock;

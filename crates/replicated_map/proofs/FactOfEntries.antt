@@ -15,7 +15,7 @@ use Rattle.replicated_map.specs.MapLaws.{put_is_map, without_is_map}
 abbrev pub IsCountedMap : List (Entry (List ℕ)) → ℕ → Type 0
 IsCountedMap s n = IsMap s × (n ≡ map_size s)
 
-put-goes : (s : List (Entry (List ℕ))) (k v : List ℕ) → map_size (put k v s) ≤ STATE → put k v s ≡ put_within k v s
+pub put-goes : (s : List (Entry (List ℕ))) (k v : List ℕ) → map_size (put k v s) ≤ STATE → put k v s ≡ put_within k v s
 put-goes s k v fits = sym (cond-true (leb (map_size (put k v s)) STATE) (put k v s) s (le-leb _ _ fits))
 
 put-stays : (s : List (Entry (List ℕ))) (k v : List ℕ) → STATE < map_size (put k v s) → s ≡ put_within k v s

@@ -1,1 +1,2 @@
 pub mod FactOfEntries
+pub mod FactOfChanges

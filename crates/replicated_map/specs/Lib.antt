@@ -1,6 +1,7 @@
 pub mod Entries
 pub mod Encoding
 pub mod Commands
+pub mod Changes
 pub mod Meanings
 pub mod EncodingLaws
 pub mod MapLaws

@@ -15,7 +15,7 @@ mod words;
 
 pub use command::Command;
 use keyed_entries::KEY;
-pub use law::{one_encoding, one_spelling};
+pub use law::{one_encoding, one_spelling, replaces, sizes};
 pub use map::ReplicatedMap;
 pub use values::ValueBytes;
 

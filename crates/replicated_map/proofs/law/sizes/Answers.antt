@@ -1,0 +1,20 @@
+use Rattle.replicated_map.proofs.FactOfChanges.{put-fits, put-kept-out, replace-kept-out, new-key, new-value, removal}
+use Rattle.replicated_map.proofs.law.sizes.Goals as goal
+
+pub returns-clause-fits : goal.returns-clause-fits
+returns-clause-fits c = put-fits
+
+pub returns-clause-put_kept_out : goal.returns-clause-put_kept_out
+returns-clause-put_kept_out c = put-kept-out
+
+pub returns-clause-replace_kept_out : goal.returns-clause-replace_kept_out
+returns-clause-replace_kept_out c = replace-kept-out
+
+pub returns-clause-new_key : goal.returns-clause-new_key
+returns-clause-new_key c = new-key
+
+pub returns-clause-new_value : goal.returns-clause-new_value
+returns-clause-new_value c = new-value
+
+pub returns-clause-removal : goal.returns-clause-removal
+returns-clause-removal c = removal
